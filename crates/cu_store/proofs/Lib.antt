@@ -1,0 +1,2 @@
+mod Keys
+pub mod Writes
