@@ -1,0 +1,3 @@
+pub mod Dtype
+pub mod Wrap
+pub mod Element

@@ -1,0 +1,36 @@
+ghost use Rattle.std.specs.Prelude.{◌≡◌, ◌≢◌, ℕ, ℤ, ◌+◌, ◌*◌, ◌≤◌, ◌+ℤ◌, ◌*ℤ◌, List, ◌++◌, length, take, drop};
+ghost use Rattle.cu_num.specs.Dtype.{size_of, InRange, IsInteger};
+ghost use Rattle.cu_num.specs.Wrap.{wrapped, IsWrapOf};
+ghost use Rattle.cu_num.specs.Element.{element_at, element_bytes};
+ghost use Rattle.cu_num.specs.declared.types.Dtype.{Dtype};
+ghost use Rattle.cu_num.specs.declared.layout.Endian.{Endian};
+
+/// A wrapped number is the only number of the type that the standard allows, and a number of the type is wrapped to itself.
+pub fn wrap_law()
+    ensures allowed { (t : Dtype) (x : ℤ) → IsWrapOf t x (wrapped t x) }
+    ensures only { (t : Dtype) (x r : ℤ) → IsWrapOf t x r → r ≡ wrapped t x }
+    ensures range { (t : Dtype) (x : ℤ) → InRange t (wrapped t x) }
+    ensures identity { (t : Dtype) (x : ℤ) → InRange t x → wrapped t x ≡ x }
+{}
+
+/// Wrapping on the way to a sum or a product changes nothing.
+pub fn wrap_arithmetic_law()
+    ensures sum { (t : Dtype) (x y : ℤ) → IsInteger t → wrapped t (x +ℤ y) ≡ wrapped t (wrapped t x +ℤ wrapped t y) }
+    ensures product { (t : Dtype) (x y : ℤ) → wrapped t (x *ℤ y) ≡ wrapped t (wrapped t x *ℤ wrapped t y) }
+{}
+
+/// An element's bytes have the type's size, and what is read from them is the number that was written, wrapped.
+pub fn element_law()
+    ensures size { (e : Endian) (t : Dtype) (x : ℤ) → length (element_bytes e t x) ≡ size_of t }
+    ensures range { (e : Endian) (t : Dtype) (bytes : List ℕ) (at : ℕ) → InRange t (element_at e t bytes at) }
+    ensures read_back { (e : Endian) (t : Dtype) (x : ℤ) → InRange t x → element_at e t (element_bytes e t x) 0 ≡ x }
+    ensures own_bytes { (e : Endian) (t : Dtype) (bytes : List ℕ) (at : ℕ) → element_at e t bytes at ≡ element_at e t (take (size_of t) (drop (at * size_of t) bytes)) 0 }
+{}
+
+/// A write of one element leaves the number, wrapped, at its place, and each other element as it was.
+pub fn element_write_law()
+    ensures written { (e : Endian) (t : Dtype) (bytes : List ℕ) (at : ℕ) (x : ℤ) → at * size_of t + size_of t ≤ length bytes
+        → element_at e t (take (at * size_of t) bytes ++ element_bytes e t x ++ drop (at * size_of t + size_of t) bytes) at ≡ wrapped t x }
+    ensures others { (e : Endian) (t : Dtype) (bytes : List ℕ) (at other : ℕ) (x : ℤ) → other ≢ at → at * size_of t + size_of t ≤ length bytes
+        → element_at e t (take (at * size_of t) bytes ++ element_bytes e t x ++ drop (at * size_of t + size_of t) bytes) other ≡ element_at e t bytes other }
+{}

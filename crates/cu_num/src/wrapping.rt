@@ -1,0 +1,67 @@
+ghost use Rattle.std.specs.Prelude.{◌≡◌, ◌^◌, ◌≤◌, pos};
+ghost use Rattle.cu_num.specs.Wrap.{wrapped, IsWrapOf, residue, centred};
+
+use crate::types::Dtype;
+
+/// Two to the width.
+#[inline]
+fn power(width: u32) -> i128
+    requires { width ≤ 64 }
+    ensures value { result ≡ pos (2 ^ width) }
+    ensures bounded { 2 ^ width ≤ 2 ^ 64 }
+{
+    1 << width
+}
+
+/// The number below two to the width that is congruent to `x`.
+#[inline]
+pub(crate) fn unsigned(x: i128, width: u32) -> i128
+    requires { width ≤ 64 }
+    ensures { result ≡ pos (residue width x) }
+{
+    x.rem_euclid(power(width))
+}
+
+/// The number of the signed type of that width that is congruent to `x`.
+#[inline]
+fn signed(x: i128, width: u32) -> i128
+    requires least { 1 ≤ width }
+    requires greatest { width ≤ 64 }
+    ensures { result ≡ centred width (residue width x) }
+{
+    let modulus = power(width);
+    let low = unsigned(x, width);
+    if low < modulus / 2 {
+        low
+    } else {
+        low - modulus
+    }
+}
+
+/// `wrap`, by the type.
+#[inline]
+#[tactic(auto, unfolding(crate::specs::Wrap::wrapped))]
+fn wrap_by_type(t: Dtype, x: i128) -> i128
+    ensures { result ≡ wrapped t x }
+{
+    match t {
+        Dtype::Bool => i128::from(x != 0),
+        Dtype::Int8 => signed(x, 8),
+        Dtype::Int16 => signed(x, 16),
+        Dtype::Int32 => signed(x, 32),
+        Dtype::Int64 => signed(x, 64),
+        Dtype::Uint8 => unsigned(x, 8),
+        Dtype::Uint16 => unsigned(x, 16),
+        Dtype::Uint32 => unsigned(x, 32),
+        Dtype::Uint64 => unsigned(x, 64),
+    }
+}
+
+/// The number of type `t` that is congruent to `x` modulo two to the width; for a bool 0 for 0 and 1 otherwise.
+#[inline]
+pub fn wrap(t: Dtype, x: i128) -> i128
+    ensures value { result ≡ wrapped t x }
+    ensures congruent { IsWrapOf t x result }
+{
+    wrap_by_type(t, x)
+}
