@@ -1,0 +1,3 @@
+mod Example
+pub mod Joined
+pub mod Spelled
