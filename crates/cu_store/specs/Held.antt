@@ -44,6 +44,10 @@ Removes gone W (Some old) None = ⊥
 abbrev pub StayAmong : List Write → (List ℕ → List ℕ → Type 0) → Type 0
 StayAmong late W = (key bytes : List ℕ) → IsAmong late key bytes → W key bytes
 
+-- From what was held at some moment, these writes alone have landed, and what is late is among them.
+abbrev pub Follows : List Write → Option Contents → Option Contents → List Write → Type 0
+Follows writes entry held late = Lands (IsAmong writes) entry held × StayAmong late (IsAmong writes)
+
 -- only a put that failed is added to the late ones
 abbrev pub AddsOnlyFailed : {T : Type 0} → Result T DepotFault → List Write → List Write → Type 0
 AddsOnlyFailed (Ok x) old new = StayAmong new (IsAmong old)

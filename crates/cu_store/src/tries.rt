@@ -1,7 +1,7 @@
 //! Calls of a depot that are tried again where the store failed.
-ghost use Rattle.std.specs.Prelude.{◌≡◌, ◌+◌, ◌≤◌, OnOk, OnErr};
+ghost use Rattle.std.specs.Prelude.{◌≡◌, ◌+◌, ◌≤◌, List, Option, OnOk, OnErr};
 ghost use Rattle.cu_store.specs.Faults.{Caused, MadeUpTo};
-ghost use Rattle.cu_store.specs.Held.{IsAmong, OwnOrLate, Lands, Removes, StayAmong, Gets, Answers, Holds, IsGone};
+ghost use Rattle.cu_store.specs.Held.{Contents, Write, IsAmong, OwnOrLate, Lands, Follows, Removes, StayAmong, Gets, Answers, Holds, IsGone};
 
 use crate::{Depot, DepotFault, Got, Key};
 
@@ -16,6 +16,8 @@ pub fn get_tries<D: Depot>(
     ensures got { Gets (D.held depot.new) key.now buf.new result }
     ensures kept { Lands (IsAmong (D.late depot.old)) (D.held depot.old) (D.held depot.new) }
     ensures late { StayAmong (D.late depot.new) (IsAmong (D.late depot.old)) }
+    ensures follows { (writes : List Write) (entry : Option Contents)
+        → Follows writes entry (D.held depot.old) (D.late depot.old) → Follows writes entry (D.held depot.new) (D.late depot.new) }
     ensures cause { Caused (retries + 1) (D.faults depot.old) (D.faults depot.new) (D.lacks depot.new) result }
     ensures count { D.faults depot.old ≤ D.faults depot.new }
     ensures calls { MadeUpTo (retries + 1) (D.calls depot.old) (D.calls depot.new) }
@@ -36,6 +38,8 @@ pub fn has_tries<D: Depot>(depot: &mut D, key: &Key, retries: u32) -> Result<boo
     ensures answer { Answers (D.held depot.new) key.now result }
     ensures kept { Lands (IsAmong (D.late depot.old)) (D.held depot.old) (D.held depot.new) }
     ensures late { StayAmong (D.late depot.new) (IsAmong (D.late depot.old)) }
+    ensures follows { (writes : List Write) (entry : Option Contents)
+        → Follows writes entry (D.held depot.old) (D.late depot.old) → Follows writes entry (D.held depot.new) (D.late depot.new) }
     ensures cause { Caused (retries + 1) (D.faults depot.old) (D.faults depot.new) (D.lacks depot.new) result }
     ensures count { D.faults depot.old ≤ D.faults depot.new }
     ensures calls { MadeUpTo (retries + 1) (D.calls depot.old) (D.calls depot.new) }
@@ -61,6 +65,8 @@ pub fn put_tries<D: Depot>(
     ensures stored { OnOk result (Holds (D.held depot.new) key.now bytes.now) }
     ensures kept { Lands (OwnOrLate key.now bytes.now (D.late depot.old)) (D.held depot.old) (D.held depot.new) }
     ensures late { StayAmong (D.late depot.new) (OwnOrLate key.now bytes.now (D.late depot.old)) }
+    ensures follows { (writes : List Write) (entry : Option Contents) → IsAmong writes key.now bytes.now
+        → Follows writes entry (D.held depot.old) (D.late depot.old) → Follows writes entry (D.held depot.new) (D.late depot.new) }
     ensures cause { Caused (retries + 1) (D.faults depot.old) (D.faults depot.new) (D.lacks depot.new) result }
     ensures count { D.faults depot.old ≤ D.faults depot.new }
     ensures calls { MadeUpTo (retries + 1) (D.calls depot.old) (D.calls depot.new) }
