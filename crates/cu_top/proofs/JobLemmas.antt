@@ -1,0 +1,186 @@
+-- What stands in the depot while an addition runs.
+use Rattle.std.proofs.Common.{◌≡◌, ◌≢◌, ◌⊎◌, ℕ, zero, suc, ◌+◌, ◌*◌, ◌<◌, ◌≤◌, ◌^◌, List, [], ◌∷◌, ◌++◌, length, All, Option, Some, None, refl, sym, ap, ◌∙◌, subst, inl, inr, arith}
+use Rattle.std.proofs.Math.Nat.{eq-or-lt_of_le}
+use Rattle.std.proofs.lemmas.List.Elements.{All-from_recursion}
+use Rattle.cu_codec.proofs.KeyLaws.{same_chunk, chunk_not_metadata, chunk_is_key_of, metadata_is_key_of, one_name}
+use Rattle.cu_codec.specs.Names.{HasNoSlash, IsKeyOf}
+use Rattle.cu_num.specs.declared.layout.Encoding.TheVariants.{Plain}
+use Rattle.cu_num.specs.declared.layout.Sep.TheVariants.{Slash}
+use Rattle.cu_store.specs.Held.{Contents, Write, IsAmong, OwnOrLate, IsKeptAt, Lands, StayAmong, Follows, Holds}
+use Rattle.cu_zarr.specs.Key.{chunk_key_of, metadata_key_of}
+use Rattle.cu_zarr.specs.Metadata.{metadata_text}
+use Rattle.cu_top.specs.declared.job.Job.{Job}
+use Rattle.cu_top.specs.Job.{IsJob, layout_of, chunks_of, key_of_chunk, chunk_value, with_value, chunk_writes, plan_writes, IsArrayKey, IsQuiet, HasInputs, IsFree, IsStarted, IsLeft, IsComplete}
+
+-- ---- lists of writes
+
+pub among_front : (xs ys : List Write) (key bytes : List ℕ) → IsAmong xs key bytes → IsAmong (xs ++ ys) key bytes
+among_front [] ys key bytes among = absurd among
+among_front (x ∷ xs) ys key bytes (inl here) = inl here
+among_front (x ∷ xs) ys key bytes (inr there) = inr (among_front xs ys key bytes there)
+
+pub among_back : (xs ys : List Write) (key bytes : List ℕ) → IsAmong ys key bytes → IsAmong (xs ++ ys) key bytes
+among_back [] ys key bytes among = among
+among_back (x ∷ xs) ys key bytes among = inr (among_back xs ys key bytes among)
+
+pub among_either : (xs ys : List Write) (key bytes : List ℕ) → IsAmong (xs ++ ys) key bytes → IsAmong xs key bytes ⊎ IsAmong ys key bytes
+among_either [] ys key bytes among = inr among
+among_either (x ∷ xs) ys key bytes (inl here) = inl (inl here)
+among_either (x ∷ xs) ys key bytes (inr there) = elim (among_either xs ys key bytes there) [ inl front ↦ inl (inr front) | inr back ↦ inr back ]
+
+with_value_in : (key : List ℕ) (value : Option (List ℕ)) (writes : List Write) (bytes : List ℕ) → value ≡ Some bytes → IsAmong (with_value key value writes) key bytes
+with_value_in key None writes bytes e = cc
+with_value_in key (Some v) writes bytes e = inl (refl, cc)
+
+with_value_behind : (key : List ℕ) (value : Option (List ℕ)) (writes : List Write) (k bytes : List ℕ) → IsAmong writes k bytes → IsAmong (with_value key value writes) k bytes
+with_value_behind key None writes k bytes among = among
+with_value_behind key (Some v) writes k bytes among = inr among
+
+with_value_either : (key : List ℕ) (value : Option (List ℕ)) (writes : List Write) (k bytes : List ℕ) → IsAmong (with_value key value writes) k bytes
+  → ((k ≡ key) × (value ≡ Some bytes)) ⊎ IsAmong writes k bytes
+with_value_either key None writes k bytes among = inr among
+with_value_either key (Some v) writes k bytes (inl here) = inl (here.0, ap Some (sym here.1))
+with_value_either key (Some v) writes k bytes (inr there) = inr there
+
+le_of_lt_suc : (p n : ℕ) → p < suc n → p ≤ n
+le_of_lt_suc p n below = omega arith
+
+-- ---- the writes of a plan
+
+pub chunk_write_in : (job : Job) (entry : Contents) (n k : ℕ) (bytes : List ℕ) → k < n → chunk_value job entry k ≡ Some bytes
+  → IsAmong (chunk_writes job entry n) (key_of_chunk job.out k) bytes
+chunk_write_in job entry zero k bytes below value = absurd (omega arith)
+chunk_write_in job entry (suc n) k bytes below value =
+    elim (eq-or-lt_of_le (le_of_lt_suc k n below)) [
+      inl same ↦ subst (λ (j : ℕ). IsAmong (chunk_writes job entry (suc n)) (key_of_chunk job.out j) bytes) (sym same)
+        (with_value_in (key_of_chunk job.out n) (chunk_value job entry n) (chunk_writes job entry n) bytes (ap (chunk_value job entry) (sym same) ∙ value))
+    | inr earlier ↦ with_value_behind (key_of_chunk job.out n) (chunk_value job entry n) (chunk_writes job entry n) _ bytes (chunk_write_in job entry n k bytes earlier value) ]
+
+pub chunk_write_is : (job : Job) (entry : Contents) (n : ℕ) (key bytes : List ℕ) → IsAmong (chunk_writes job entry n) key bytes
+  → (k : ℕ) × (k < n) × (key ≡ key_of_chunk job.out k) × (chunk_value job entry k ≡ Some bytes)
+chunk_write_is job entry zero key bytes among = absurd among
+chunk_write_is job entry (suc n) key bytes among =
+    elim (with_value_either (key_of_chunk job.out n) (chunk_value job entry n) (chunk_writes job entry n) key bytes among) [
+      inl here ↦ (n, omega arith, here.0, here.1)
+    | inr there ↦ let (k, below, same, value) = chunk_write_is job entry n key bytes there in (k, omega (arith, below), same, value) ]
+
+-- one coordinate that a key can have
+small_coordinate : (k : ℕ) → k < 65536 → All (λ i. i < 2 ^ 64) (k ∷ [])
+small_coordinate k below = All-from_recursion (λ i. i < 2 ^ 64) (k ∷ []) (omega arith, tt)
+
+pub same_chunk_number : (name : List ℕ) (j k : ℕ) → j < 65536 → k < 65536 → key_of_chunk name j ≡ key_of_chunk name k → j ≡ k
+same_chunk_number name j k small_j small_k e =
+    let same : j ∷ [] ≡ k ∷ [] = same_chunk name (Plain Slash) (j ∷ []) (k ∷ []) (small_coordinate j small_j) (small_coordinate k small_k) refl e in
+    cc
+
+some_same : (a b : List ℕ) → Some a ≡ Some b → a ≡ b
+some_same a b e = cc
+
+-- A key of the plan has one value.
+pub one_value : (job : Job) (entry : Contents) (key a b : List ℕ) → IsJob job → IsAmong (plan_writes job entry) key a → IsAmong (plan_writes job entry) key b → a ≡ b
+one_value job entry key a b is_job (inl here) (inl there) = here.1 ∙ sym there.1
+one_value job entry key a b is_job (inl here) (inr there) =
+    let (k, below, same, value) = chunk_write_is job entry (chunks_of job) key b there in
+    absurd (chunk_not_metadata job.out (Plain Slash) (k ∷ []) (small_coordinate k (omega (arith, below, is_job.limits.chunks))) (sym same ∙ here.0))
+one_value job entry key a b is_job (inr here) (inl there) =
+    let (k, below, same, value) = chunk_write_is job entry (chunks_of job) key a here in
+    absurd (chunk_not_metadata job.out (Plain Slash) (k ∷ []) (small_coordinate k (omega (arith, below, is_job.limits.chunks))) (sym same ∙ there.0))
+one_value job entry key a b is_job (inr here) (inr there) =
+    let (j, below_j, same_j, value_j) = chunk_write_is job entry (chunks_of job) key a here in
+    let (k, below_k, same_k, value_k) = chunk_write_is job entry (chunks_of job) key b there in
+    let number : j ≡ k = same_chunk_number job.out j k (omega (arith, below_j, is_job.limits.chunks)) (omega (arith, below_k, is_job.limits.chunks)) (sym same_j ∙ same_k) in
+    some_same a b (sym value_j ∙ ap (chunk_value job entry) number ∙ value_k)
+
+-- a write of the plan is on a key of the output
+pub plan_write_key : (job : Job) (entry : Contents) (key bytes : List ℕ) → IsAmong (plan_writes job entry) key bytes → IsArrayKey job job.out key
+plan_write_key job entry key bytes (inl here) = inl here.0
+plan_write_key job entry key bytes (inr there) =
+    let (k, below, same, value) = chunk_write_is job entry (chunks_of job) key bytes there in inr (k, below, same)
+
+array_key_name : (job : Job) (name key : List ℕ) → IsArrayKey job name key → IsKeyOf name key
+array_key_name job name key (inl metadata) = subst (IsKeyOf name) (sym metadata) (metadata_is_key_of name)
+array_key_name job name key (inr (k, below, same)) = subst (IsKeyOf name) (sym same) (chunk_is_key_of name (Plain Slash) (k ∷ []))
+
+-- ---- a run that was started
+
+some_not_none : (v : Option (List ℕ)) (b : List ℕ) → v ≡ None → v ≡ Some b → ⊥
+some_not_none v b none some = cc
+
+-- a key of the plan isn't a key of an input: the input's metadata is held, and the output's isn't
+apart : (job : Job) (entry : Contents) (name : List ℕ) (held : List ℕ) (key : List ℕ) → HasNoSlash name → HasNoSlash job.out
+  → entry (metadata_key_of name) ≡ Some held → IsFree job entry → IsArrayKey job name key → IsArrayKey job job.out key → ⊥
+apart job entry name held key plain plain_out metadata free of_input of_out =
+    let same : name ≡ job.out = one_name name job.out key plain plain_out (array_key_name job name key of_input) (array_key_name job job.out key of_out) in
+    let there : entry (metadata_key_of job.out) ≡ Some held = subst (λ (n : List ℕ). entry (metadata_key_of n) ≡ Some held) same metadata in
+    some_not_none _ held (free (metadata_key_of job.out) (inl refl)) there
+
+input_apart : (job : Job) (entry : Contents) (key : List ℕ) → IsJob job → HasInputs job entry → IsFree job entry
+  → IsArrayKey job job.left key ⊎ IsArrayKey job job.right key → IsArrayKey job job.out key → ⊥
+input_apart job entry key is_job inputs free (inl left) of_out = apart job entry job.left _ key is_job.left is_job.out inputs.0 free left of_out
+input_apart job entry key is_job inputs free (inr right) of_out = apart job entry job.right _ key is_job.right is_job.out inputs.1 free right of_out
+
+input_landed : (job : Job) (entry held : Contents) (late : List Write) (key : List ℕ) → IsJob job → IsQuiet job entry late → HasInputs job entry → IsFree job entry
+  → IsArrayKey job job.left key ⊎ IsArrayKey job job.right key → IsKeptAt (IsAmong (plan_writes job entry ++ late)) entry held key → held key ≡ entry key
+input_landed job entry held late key is_job quiet inputs free of_input (inl same) = same
+input_landed job entry held late key is_job quiet inputs free of_input (inr (bytes, write, now)) =
+    elim (among_either (plan_writes job entry) late key bytes write) [
+      inl plan ↦ absurd (input_apart job entry key is_job inputs free of_input (plan_write_key job entry key bytes plan))
+    | inr landed ↦ now ∙ sym (quiet.inputs key bytes landed of_input) ]
+
+-- An input's key holds what it held when the call began.
+pub input_stays : (job : Job) (entry held : Contents) (late now_late : List Write) (key : List ℕ) → IsStarted job entry late (Some held) now_late
+  → IsArrayKey job job.left key ⊎ IsArrayKey job job.right key → held key ≡ entry key
+input_stays job entry held late now_late key started of_input =
+    input_landed job entry held late key started.is_job started.quiet started.inputs started.free of_input (started.follows.0 key)
+
+-- each write that may land on a key of the plan has its one value
+pub lands_value : (job : Job) (entry : Contents) (late : List Write) (key bytes : List ℕ) → IsQuiet job entry late → IsArrayKey job job.out key
+  → IsAmong (plan_writes job entry ++ late) key bytes → IsAmong (plan_writes job entry) key bytes
+lands_value job entry late key bytes quiet of_out write =
+    elim (among_either (plan_writes job entry) late key bytes write) [ inl plan ↦ plan | inr landed ↦ quiet.plan key bytes landed of_out ]
+
+left_at : (job : Job) (entry held : Contents) (late : List Write) (key : List ℕ) → IsQuiet job entry late → IsFree job entry → IsArrayKey job job.out key
+  → IsKeptAt (IsAmong (plan_writes job entry ++ late)) entry held key
+  → (held key ≡ None) ⊎ ((bytes : List ℕ) × IsAmong (plan_writes job entry) key bytes × (held key ≡ Some bytes))
+left_at job entry held late key quiet free of_out (inl same) = inl (same ∙ free key of_out)
+left_at job entry held late key quiet free of_out (inr (bytes, write, now)) = inr (bytes, lands_value job entry late key bytes quiet of_out write, now)
+
+-- Each key of the plan is absent or holds its one value.
+pub left_of_started : (job : Job) (entry held : Contents) (late now_late : List Write) → IsStarted job entry late (Some held) now_late → IsLeft job entry held
+left_of_started job entry held late now_late started key of_out =
+    left_at job entry held late key started.quiet started.free of_out (started.follows.0 key)
+
+stays_at : (job : Job) (entry held next : Contents) (late now_late : List Write) (own own_bytes key bytes : List ℕ) → IsStarted job entry late (Some held) now_late
+  → IsAmong (plan_writes job entry) own own_bytes → IsAmong (plan_writes job entry) key bytes → held key ≡ Some bytes
+  → IsKeptAt (OwnOrLate own own_bytes now_late) held next key → next key ≡ Some bytes
+stays_at job entry held next late now_late own own_bytes key bytes started own_write write holds (inl same) = same ∙ holds
+stays_at job entry held next late now_late own own_bytes key bytes started own_write write holds (inr (other, inl here, now)) =
+    let own_here : IsAmong (plan_writes job entry) key other = rw (here.0, here.1) own_write in
+    now ∙ ap Some (one_value job entry key other bytes started.is_job own_here write)
+stays_at job entry held next late now_late own own_bytes key bytes started own_write write holds (inr (other, inr landed, now)) =
+    let value = lands_value job entry late key other started.quiet (plan_write_key job entry key bytes write) (started.follows.1 key other landed) in
+    now ∙ ap Some (one_value job entry key other bytes started.is_job value write)
+
+-- A value of the plan that is held stays held through a write of the plan.
+pub value_stays : (job : Job) (entry : Contents) (late now_late : List Write) (held next : Option Contents) (own own_bytes key bytes : List ℕ)
+  → IsStarted job entry late held now_late → IsAmong (plan_writes job entry) own own_bytes → IsAmong (plan_writes job entry) key bytes
+  → Holds held key bytes → Lands (OwnOrLate own own_bytes now_late) held next → Holds next key bytes
+value_stays job entry late now_late None next own own_bytes key bytes started own_write write holds lands = absurd started.follows.0
+value_stays job entry late now_late (Some held) None own own_bytes key bytes started own_write write holds lands = tt
+value_stays job entry late now_late (Some held) (Some next) own own_bytes key bytes started own_write write holds lands =
+    stays_at job entry held next late now_late own own_bytes key bytes started own_write write holds (lands key)
+
+late_stays_at : (job : Job) (entry held next : Contents) (late now_late : List Write) (key bytes : List ℕ) → IsStarted job entry late (Some held) now_late
+  → IsAmong (plan_writes job entry) key bytes → held key ≡ Some bytes → IsKeptAt (IsAmong now_late) held next key → next key ≡ Some bytes
+late_stays_at job entry held next late now_late key bytes started write holds (inl same) = same ∙ holds
+late_stays_at job entry held next late now_late key bytes started write holds (inr (other, landed, now)) =
+    let value = lands_value job entry late key other started.quiet (plan_write_key job entry key bytes write) (started.follows.1 key other landed) in
+    now ∙ ap Some (one_value job entry key other bytes started.is_job value write)
+
+-- The same through a call that lands late puts alone.
+pub value_stays_late : (job : Job) (entry : Contents) (late now_late : List Write) (held next : Option Contents) (key bytes : List ℕ)
+  → IsStarted job entry late held now_late → IsAmong (plan_writes job entry) key bytes → Holds held key bytes → Lands (IsAmong now_late) held next → Holds next key bytes
+value_stays_late job entry late now_late None next key bytes started write holds lands = absurd started.follows.0
+value_stays_late job entry late now_late (Some held) None key bytes started write holds lands = tt
+value_stays_late job entry late now_late (Some held) (Some next) key bytes started write holds lands =
+    late_stays_at job entry held next late now_late key bytes started write holds (lands key)

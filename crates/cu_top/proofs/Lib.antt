@@ -1,0 +1,5 @@
+mod JobLemmas
+mod StatusLemmas
+mod StreamLemmas
+mod SpelledSums
+mod SumLemmas

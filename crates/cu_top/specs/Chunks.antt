@@ -1,0 +1,48 @@
+-- What is read of a chunk, and why a step of the run fails.
+use Rattle.std.specs.Prelude.{◌≡◌, ◌≢◌, ◌⊎◌, ℕ, ◌+◌, ◌*◌, ◌<◌, Bool, IsTrue, List, length, replicate, Option, Some, None, MatchOption}
+use Rattle.cu_store.specs.Faults.{Rose}
+use Rattle.cu_store.specs.Held.{Contents}
+use Rattle.cu_top.specs.declared.job.Job.{Job}
+use Rattle.cu_top.specs.declared.status.Status.{Status}
+use Rattle.cu_top.specs.declared.status.Status.TheVariants.{Done, BadWords, OverMemory, Exists, ReadFault, WriteFault, BadChunk, DepotFailed, NotBuilt, NoMemory}
+use Rattle.cu_top.specs.Job.{IsArrayKey}
+
+-- a chunk that is absent reads as zeros
+abbrev pub IsChunkOf : Option (List ℕ) → List ℕ → Type 0
+IsChunkOf None buf = buf ≡ replicate (length buf) 0
+IsChunkOf (Some bytes) buf = buf ≡ bytes
+
+abbrev pub ReadsChunk : Option Contents → List ℕ → List ℕ → Type 0
+ReadsChunk None key buf = Unit {0}
+ReadsChunk (Some held) key buf = IsChunkOf (held key) buf
+
+-- this key holds so many bytes, where the contents are told
+abbrev pub HoldsLength : Option Contents → List ℕ → ℕ → Type 0
+HoldsLength None key n = Unit {0}
+HoldsLength (Some held) key n = (bytes : List ℕ) × (held key ≡ Some bytes) × (length bytes ≡ n)
+
+-- A key fails only where three calls failed, the count risen in each; want of memory comes only of a depot that lacks.
+abbrev pub IsKeyFault : ℕ → ℕ → Bool → List ℕ → Status → Type 0
+IsKeyFault before after lacks key (DepotFailed failed) = (failed ≡ key) × Rose 3 before after
+IsKeyFault before after lacks key NoMemory = IsTrue lacks
+IsKeyFault before after lacks key Done = ⊥
+IsKeyFault before after lacks key (BadWords code) = ⊥
+IsKeyFault before after lacks key (OverMemory node need allowed) = ⊥
+IsKeyFault before after lacks key (Exists held) = ⊥
+IsKeyFault before after lacks key ReadFault = ⊥
+IsKeyFault before after lacks key WriteFault = ⊥
+IsKeyFault before after lacks key (BadChunk bad got want) = ⊥
+IsKeyFault before after lacks key (NotBuilt node) = ⊥
+
+-- A chunk is bad only where it holds `got` bytes, which aren't the bytes of a chunk.
+abbrev pub IsReadFault : ℕ → ℕ → Bool → Option Contents → List ℕ → ℕ → Status → Type 0
+IsReadFault before after lacks held key size (BadChunk bad got want) = (bad ≡ key) × (want ≡ size) × (got ≢ want) × HoldsLength held key got
+IsReadFault before after lacks held key size (DepotFailed failed) = (failed ≡ key) × Rose 3 before after
+IsReadFault before after lacks held key size NoMemory = IsTrue lacks
+IsReadFault before after lacks held key size Done = ⊥
+IsReadFault before after lacks held key size (BadWords code) = ⊥
+IsReadFault before after lacks held key size (OverMemory node need allowed) = ⊥
+IsReadFault before after lacks held key size (Exists exists) = ⊥
+IsReadFault before after lacks held key size ReadFault = ⊥
+IsReadFault before after lacks held key size WriteFault = ⊥
+IsReadFault before after lacks held key size (NotBuilt node) = ⊥
