@@ -1,5 +1,5 @@
 -- What stands in the depot while an addition runs.
-use Rattle.std.proofs.Common.{◌≡◌, ◌≢◌, ◌⊎◌, ℕ, zero, suc, ◌+◌, ◌*◌, ◌<◌, ◌≤◌, ◌^◌, List, [], ◌∷◌, ◌++◌, length, All, Option, Some, None, refl, sym, ap, ◌∙◌, subst, inl, inr, arith}
+use Rattle.std.proofs.Common.{◌≡◌, ◌≢◌, ◌⊎◌, ℕ, zero, suc, ◌+◌, ◌-◌, min, ◌*◌, ◌<◌, ◌≤◌, ◌^◌, List, [], ◌∷◌, ◌++◌, length, All, Option, Some, None, refl, sym, ap, ◌∙◌, subst, inl, inr, arith}
 use Rattle.std.proofs.Math.Nat.{eq-or-lt_of_le}
 use Rattle.std.proofs.lemmas.List.Elements.{All-from_recursion}
 use Rattle.cu_codec.proofs.KeyLaws.{same_chunk, chunk_not_metadata, chunk_is_key_of, metadata_is_key_of, one_name}
@@ -9,8 +9,12 @@ use Rattle.cu_num.specs.declared.layout.Sep.TheVariants.{Slash}
 use Rattle.cu_store.specs.Held.{Contents, Write, IsAmong, OwnOrLate, IsKeptAt, Lands, StayAmong, Follows, Holds}
 use Rattle.cu_zarr.specs.Key.{chunk_key_of, metadata_key_of}
 use Rattle.cu_zarr.specs.Metadata.{metadata_text}
+use Rattle.std.specs.Prelude.{Result, Ok, Err, OnOk}
+use Rattle.cu_top.proofs.SpelledSums.{chunk_value_is}
+use Rattle.cu_top.specs.Sums.{AreSums}
+use Rattle.cu_top.specs.Chunks.{IsChunkOf, ReadsChunk}
 use Rattle.cu_top.specs.declared.job.Job.{Job}
-use Rattle.cu_top.specs.Job.{IsJob, layout_of, chunks_of, key_of_chunk, chunk_value, with_value, chunk_writes, plan_writes, IsArrayKey, IsQuiet, HasInputs, IsFree, IsStarted, IsLeft, IsComplete}
+use Rattle.cu_top.specs.Job.{IsJob, layout_of, chunks_of, key_of_chunk, chunk_value, with_value, chunk_writes, plan_writes, IsArrayKey, IsQuiet, HasInputs, IsFree, IsStarted, IsLeft, IsComplete, StoresChunk}
 
 -- ---- lists of writes
 
@@ -37,7 +41,7 @@ with_value_behind key None writes k bytes among = among
 with_value_behind key (Some v) writes k bytes among = inr among
 
 with_value_either : (key : List ℕ) (value : Option (List ℕ)) (writes : List Write) (k bytes : List ℕ) → IsAmong (with_value key value writes) k bytes
-  → ((k ≡ key) × (value ≡ Some bytes)) ⊎ IsAmong writes k bytes
+    → ((k ≡ key) × (value ≡ Some bytes)) ⊎ IsAmong writes k bytes
 with_value_either key None writes k bytes among = inr among
 with_value_either key (Some v) writes k bytes (inl here) = inl (here.0, ap Some (sym here.1))
 with_value_either key (Some v) writes k bytes (inr there) = inr there
@@ -48,21 +52,23 @@ le_of_lt_suc p n below = omega arith
 -- ---- the writes of a plan
 
 pub chunk_write_in : (job : Job) (entry : Contents) (n k : ℕ) (bytes : List ℕ) → k < n → chunk_value job entry k ≡ Some bytes
-  → IsAmong (chunk_writes job entry n) (key_of_chunk job.out k) bytes
+    → IsAmong (chunk_writes job entry n) (key_of_chunk job.out k) bytes
 chunk_write_in job entry zero k bytes below value = absurd (omega arith)
 chunk_write_in job entry (suc n) k bytes below value =
     elim (eq-or-lt_of_le (le_of_lt_suc k n below)) [
-      inl same ↦ subst (λ (j : ℕ). IsAmong (chunk_writes job entry (suc n)) (key_of_chunk job.out j) bytes) (sym same)
-        (with_value_in (key_of_chunk job.out n) (chunk_value job entry n) (chunk_writes job entry n) bytes (ap (chunk_value job entry) (sym same) ∙ value))
-    | inr earlier ↦ with_value_behind (key_of_chunk job.out n) (chunk_value job entry n) (chunk_writes job entry n) _ bytes (chunk_write_in job entry n k bytes earlier value) ]
+      | inl same ↦ subst (λ (j : ℕ). IsAmong (chunk_writes job entry (suc n)) (key_of_chunk job.out j) bytes) (sym same)
+          (with_value_in (key_of_chunk job.out n) (chunk_value job entry n) (chunk_writes job entry n) bytes (ap (chunk_value job entry) (sym same) ∙ value))
+      | inr earlier ↦ with_value_behind (key_of_chunk job.out n) (chunk_value job entry n) (chunk_writes job entry n) _ bytes (chunk_write_in job entry n k bytes earlier value)
+    ]
 
 pub chunk_write_is : (job : Job) (entry : Contents) (n : ℕ) (key bytes : List ℕ) → IsAmong (chunk_writes job entry n) key bytes
-  → (k : ℕ) × (k < n) × (key ≡ key_of_chunk job.out k) × (chunk_value job entry k ≡ Some bytes)
+    → (k : ℕ) × (k < n) × (key ≡ key_of_chunk job.out k) × (chunk_value job entry k ≡ Some bytes)
 chunk_write_is job entry zero key bytes among = absurd among
 chunk_write_is job entry (suc n) key bytes among =
     elim (with_value_either (key_of_chunk job.out n) (chunk_value job entry n) (chunk_writes job entry n) key bytes among) [
-      inl here ↦ (n, omega arith, here.0, here.1)
-    | inr there ↦ let (k, below, same, value) = chunk_write_is job entry n key bytes there in (k, omega (arith, below), same, value) ]
+      | inl here ↦ (n, omega arith, here.0, here.1)
+      | inr there ↦ let (k, below, same, value) = chunk_write_is job entry n key bytes there in (k, omega (arith, below), same, value)
+    ]
 
 -- one coordinate that a key can have
 small_coordinate : (k : ℕ) → k < 65536 → All (λ i. i < 2 ^ 64) (k ∷ [])
@@ -78,6 +84,7 @@ some_same a b e = cc
 
 -- A key of the plan has one value.
 pub one_value : (job : Job) (entry : Contents) (key a b : List ℕ) → IsJob job → IsAmong (plan_writes job entry) key a → IsAmong (plan_writes job entry) key b → a ≡ b
+unfolding plan_writes
 one_value job entry key a b is_job (inl here) (inl there) = here.1 ∙ sym there.1
 one_value job entry key a b is_job (inl here) (inr there) =
     let (k, below, same, value) = chunk_write_is job entry (chunks_of job) key b there in
@@ -93,6 +100,7 @@ one_value job entry key a b is_job (inr here) (inr there) =
 
 -- a write of the plan is on a key of the output
 pub plan_write_key : (job : Job) (entry : Contents) (key bytes : List ℕ) → IsAmong (plan_writes job entry) key bytes → IsArrayKey job job.out key
+unfolding plan_writes
 plan_write_key job entry key bytes (inl here) = inl here.0
 plan_write_key job entry key bytes (inr there) =
     let (k, below, same, value) = chunk_write_is job entry (chunks_of job) key bytes there in inr (k, below, same)
@@ -108,40 +116,41 @@ some_not_none v b none some = cc
 
 -- a key of the plan isn't a key of an input: the input's metadata is held, and the output's isn't
 apart : (job : Job) (entry : Contents) (name : List ℕ) (held : List ℕ) (key : List ℕ) → HasNoSlash name → HasNoSlash job.out
-  → entry (metadata_key_of name) ≡ Some held → IsFree job entry → IsArrayKey job name key → IsArrayKey job job.out key → ⊥
+    → entry (metadata_key_of name) ≡ Some held → IsFree job entry → IsArrayKey job name key → IsArrayKey job job.out key → ⊥
 apart job entry name held key plain plain_out metadata free of_input of_out =
     let same : name ≡ job.out = one_name name job.out key plain plain_out (array_key_name job name key of_input) (array_key_name job job.out key of_out) in
     let there : entry (metadata_key_of job.out) ≡ Some held = subst (λ (n : List ℕ). entry (metadata_key_of n) ≡ Some held) same metadata in
     some_not_none _ held (free (metadata_key_of job.out) (inl refl)) there
 
 input_apart : (job : Job) (entry : Contents) (key : List ℕ) → IsJob job → HasInputs job entry → IsFree job entry
-  → IsArrayKey job job.left key ⊎ IsArrayKey job job.right key → IsArrayKey job job.out key → ⊥
-input_apart job entry key is_job inputs free (inl left) of_out = apart job entry job.left _ key is_job.left is_job.out inputs.0 free left of_out
-input_apart job entry key is_job inputs free (inr right) of_out = apart job entry job.right _ key is_job.right is_job.out inputs.1 free right of_out
+    → IsArrayKey job job.left key ⊎ IsArrayKey job job.right key → IsArrayKey job job.out key → ⊥
+input_apart job entry key is_job inputs free (inl left) of_out = apart job entry job.left _ key is_job.left.0 is_job.out.0 inputs.left free left of_out
+input_apart job entry key is_job inputs free (inr right) of_out = apart job entry job.right _ key is_job.right.0 is_job.out.0 inputs.right free right of_out
 
 input_landed : (job : Job) (entry held : Contents) (late : List Write) (key : List ℕ) → IsJob job → IsQuiet job entry late → HasInputs job entry → IsFree job entry
-  → IsArrayKey job job.left key ⊎ IsArrayKey job job.right key → IsKeptAt (IsAmong (plan_writes job entry ++ late)) entry held key → held key ≡ entry key
+    → IsArrayKey job job.left key ⊎ IsArrayKey job job.right key → IsKeptAt (IsAmong (plan_writes job entry ++ late)) entry held key → held key ≡ entry key
 input_landed job entry held late key is_job quiet inputs free of_input (inl same) = same
 input_landed job entry held late key is_job quiet inputs free of_input (inr (bytes, write, now)) =
     elim (among_either (plan_writes job entry) late key bytes write) [
-      inl plan ↦ absurd (input_apart job entry key is_job inputs free of_input (plan_write_key job entry key bytes plan))
-    | inr landed ↦ now ∙ sym (quiet.inputs key bytes landed of_input) ]
+      | inl plan ↦ absurd (input_apart job entry key is_job inputs free of_input (plan_write_key job entry key bytes plan))
+      | inr landed ↦ now ∙ sym (quiet.inputs key bytes landed of_input)
+    ]
 
 -- An input's key holds what it held when the call began.
 pub input_stays : (job : Job) (entry held : Contents) (late now_late : List Write) (key : List ℕ) → IsStarted job entry late (Some held) now_late
-  → IsArrayKey job job.left key ⊎ IsArrayKey job job.right key → held key ≡ entry key
+    → IsArrayKey job job.left key ⊎ IsArrayKey job job.right key → held key ≡ entry key
 input_stays job entry held late now_late key started of_input =
     input_landed job entry held late key started.is_job started.quiet started.inputs started.free of_input (started.follows.0 key)
 
 -- each write that may land on a key of the plan has its one value
 pub lands_value : (job : Job) (entry : Contents) (late : List Write) (key bytes : List ℕ) → IsQuiet job entry late → IsArrayKey job job.out key
-  → IsAmong (plan_writes job entry ++ late) key bytes → IsAmong (plan_writes job entry) key bytes
+    → IsAmong (plan_writes job entry ++ late) key bytes → IsAmong (plan_writes job entry) key bytes
 lands_value job entry late key bytes quiet of_out write =
     elim (among_either (plan_writes job entry) late key bytes write) [ inl plan ↦ plan | inr landed ↦ quiet.plan key bytes landed of_out ]
 
 left_at : (job : Job) (entry held : Contents) (late : List Write) (key : List ℕ) → IsQuiet job entry late → IsFree job entry → IsArrayKey job job.out key
-  → IsKeptAt (IsAmong (plan_writes job entry ++ late)) entry held key
-  → (held key ≡ None) ⊎ ((bytes : List ℕ) × IsAmong (plan_writes job entry) key bytes × (held key ≡ Some bytes))
+    → IsKeptAt (IsAmong (plan_writes job entry ++ late)) entry held key
+    → (held key ≡ None) ⊎ ((bytes : List ℕ) × IsAmong (plan_writes job entry) key bytes × (held key ≡ Some bytes))
 left_at job entry held late key quiet free of_out (inl same) = inl (same ∙ free key of_out)
 left_at job entry held late key quiet free of_out (inr (bytes, write, now)) = inr (bytes, lands_value job entry late key bytes quiet of_out write, now)
 
@@ -151,8 +160,8 @@ left_of_started job entry held late now_late started key of_out =
     left_at job entry held late key started.quiet started.free of_out (started.follows.0 key)
 
 stays_at : (job : Job) (entry held next : Contents) (late now_late : List Write) (own own_bytes key bytes : List ℕ) → IsStarted job entry late (Some held) now_late
-  → IsAmong (plan_writes job entry) own own_bytes → IsAmong (plan_writes job entry) key bytes → held key ≡ Some bytes
-  → IsKeptAt (OwnOrLate own own_bytes now_late) held next key → next key ≡ Some bytes
+    → IsAmong (plan_writes job entry) own own_bytes → IsAmong (plan_writes job entry) key bytes → held key ≡ Some bytes
+    → IsKeptAt (OwnOrLate own own_bytes now_late) held next key → next key ≡ Some bytes
 stays_at job entry held next late now_late own own_bytes key bytes started own_write write holds (inl same) = same ∙ holds
 stays_at job entry held next late now_late own own_bytes key bytes started own_write write holds (inr (other, inl here, now)) =
     let own_here : IsAmong (plan_writes job entry) key other = rw (here.0, here.1) own_write in
@@ -163,15 +172,15 @@ stays_at job entry held next late now_late own own_bytes key bytes started own_w
 
 -- A value of the plan that is held stays held through a write of the plan.
 pub value_stays : (job : Job) (entry : Contents) (late now_late : List Write) (held next : Option Contents) (own own_bytes key bytes : List ℕ)
-  → IsStarted job entry late held now_late → IsAmong (plan_writes job entry) own own_bytes → IsAmong (plan_writes job entry) key bytes
-  → Holds held key bytes → Lands (OwnOrLate own own_bytes now_late) held next → Holds next key bytes
+    → IsStarted job entry late held now_late → IsAmong (plan_writes job entry) own own_bytes → IsAmong (plan_writes job entry) key bytes
+    → Holds held key bytes → Lands (OwnOrLate own own_bytes now_late) held next → Holds next key bytes
 value_stays job entry late now_late None next own own_bytes key bytes started own_write write holds lands = absurd started.follows.0
 value_stays job entry late now_late (Some held) None own own_bytes key bytes started own_write write holds lands = tt
 value_stays job entry late now_late (Some held) (Some next) own own_bytes key bytes started own_write write holds lands =
     stays_at job entry held next late now_late own own_bytes key bytes started own_write write holds (lands key)
 
 late_stays_at : (job : Job) (entry held next : Contents) (late now_late : List Write) (key bytes : List ℕ) → IsStarted job entry late (Some held) now_late
-  → IsAmong (plan_writes job entry) key bytes → held key ≡ Some bytes → IsKeptAt (IsAmong now_late) held next key → next key ≡ Some bytes
+    → IsAmong (plan_writes job entry) key bytes → held key ≡ Some bytes → IsKeptAt (IsAmong now_late) held next key → next key ≡ Some bytes
 late_stays_at job entry held next late now_late key bytes started write holds (inl same) = same ∙ holds
 late_stays_at job entry held next late now_late key bytes started write holds (inr (other, landed, now)) =
     let value = lands_value job entry late key other started.quiet (plan_write_key job entry key bytes write) (started.follows.1 key other landed) in
@@ -179,8 +188,54 @@ late_stays_at job entry held next late now_late key bytes started write holds (i
 
 -- The same through a call that lands late puts alone.
 pub value_stays_late : (job : Job) (entry : Contents) (late now_late : List Write) (held next : Option Contents) (key bytes : List ℕ)
-  → IsStarted job entry late held now_late → IsAmong (plan_writes job entry) key bytes → Holds held key bytes → Lands (IsAmong now_late) held next → Holds next key bytes
+    → IsStarted job entry late held now_late → IsAmong (plan_writes job entry) key bytes → Holds held key bytes → Lands (IsAmong now_late) held next → Holds next key bytes
 value_stays_late job entry late now_late None next key bytes started write holds lands = absurd started.follows.0
 value_stays_late job entry late now_late (Some held) None key bytes started write holds lands = tt
 value_stays_late job entry late now_late (Some held) (Some next) key bytes started write holds lands =
     late_stays_at job entry held next late now_late key bytes started write holds (lands key)
+
+-- ---- the steps of the run
+
+-- the metadata is a write of the plan
+pub metadata_write : (job : Job) (entry : Contents) → IsAmong (plan_writes job entry) (metadata_key_of job.out) (metadata_text (layout_of job))
+unfolding plan_writes
+metadata_write job entry = inl (refl, refl)
+
+-- a chunk with its value is a write of the plan
+pub chunk_write : (job : Job) (entry : Contents) (k : ℕ) (bytes : List ℕ) → k < chunks_of job → chunk_value job entry k ≡ Some bytes
+  → IsAmong (plan_writes job entry) (key_of_chunk job.out k) bytes
+unfolding plan_writes
+chunk_write job entry k bytes below value = inr (chunk_write_in job entry (chunks_of job) k bytes below value)
+
+-- a call after which the same writes alone have landed
+pub started_then : (job : Job) (entry : Contents) (late now_late next_late : List Write) (held next : Option Contents) → IsStarted job entry late held now_late
+  → (Follows (plan_writes job entry ++ late) (Some entry) held now_late → Follows (plan_writes job entry ++ late) (Some entry) next next_late)
+  → IsStarted job entry late next next_late
+started_then job entry late now_late next_late held next started step =
+    record { is_job = started.is_job; quiet = started.quiet; inputs = started.inputs; free = started.free; follows = step started.follows }
+
+-- What is read of an input is what it held when the call began.
+pub reads_entry : (job : Job) (entry : Contents) (late now_late : List Write) (held : Option Contents) (key buf : List ℕ) → IsStarted job entry late held now_late
+  → IsArrayKey job job.left key ⊎ IsArrayKey job job.right key → ReadsChunk held key buf → IsChunkOf (entry key) buf
+reads_entry job entry late now_late None key buf started of_input reads = absurd started.follows.0
+reads_entry job entry late now_late (Some held) key buf started of_input reads =
+    subst (λ (v : Option (List ℕ)). IsChunkOf v buf) (input_stays job entry held late now_late key started of_input) reads
+
+-- where a value was stored under its key, its chunk is stored
+pub stores_chunk : {T E : Type 0} (result : Result T E) (job : Job) (entry : Contents) (held : Option Contents) (k : ℕ) (key bytes : List ℕ)
+  → chunk_value job entry k ≡ Some bytes → key ≡ key_of_chunk job.out k → OnOk result (Holds held key bytes) → OnOk result (StoresChunk job entry held k)
+stores_chunk (Ok x) job entry held k key bytes value same stored = (bytes, value, rw same at stored)
+stores_chunk (Err e) job entry held k key bytes value same stored = tt
+
+-- What is added of two chunks that were read is the chunk's value, and so a write of the plan.
+pub added_value : (job : Job) (entry : Contents) (late late1 late2 : List Write) (held1 held2 : Option Contents) (k inside : ℕ) (left_key right_key left right sums : List ℕ)
+  → k < chunks_of job → left_key ≡ key_of_chunk job.left k → right_key ≡ key_of_chunk job.right k
+  → IsStarted job entry late held1 late1 → IsStarted job entry late held2 late2
+  → ReadsChunk held1 left_key left → ReadsChunk held2 right_key right
+  → length left ≡ 4 * job.chunk → length right ≡ 4 * job.chunk → length sums ≡ 4 * job.chunk
+  → inside ≡ min job.chunk (job.elements - k * job.chunk) → AreSums inside left right job.chunk sums
+  → chunk_value job entry k ≡ Some sums
+added_value job entry late late1 late2 held1 held2 k inside left_key right_key left right sums below is_left_key is_right_key started1 started2 reads_left reads_right long_left long_right long edge are_sums =
+    let left_read = reads_entry job entry late late1 held1 left_key left started1 (inl (inr (k, below, is_left_key))) reads_left in
+    let right_read = reads_entry job entry late late2 held2 right_key right started2 (inr (inr (k, below, is_right_key))) reads_right in
+    chunk_value_is job entry k inside left right sums (rw is_left_key at left_read) (rw is_right_key at right_read) long_left long_right long edge are_sums

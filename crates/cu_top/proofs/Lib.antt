@@ -1,5 +1,12 @@
+mod ExpressionExample
+mod ExpressionLemmas
 mod JobLemmas
+mod MetadataLemmas
+mod NameLemmas
+mod SpelledSums
+mod StatusExample
 mod StatusLemmas
 mod StreamLemmas
-mod SpelledSums
 mod SumLemmas
+mod WordLemmas
+mod WordsExample

@@ -30,7 +30,7 @@ zero_element m p fits = rw (zero_bytes 4 (p * 4) m fits) refl
 
 -- the element at place p of a chunk that was read
 element_read : (n c i p : ℕ) (chunk : Option (List ℕ)) (buf : List ℕ) → IsChunkOf chunk buf → length buf ≡ 4 * c → p < c → i % c ≡ p
-  → element_in (one_axis n c) chunk (i ∷ []) ≡ Some (element_at Little Int32 buf p)
+    → element_in (one_axis n c) chunk (i ∷ []) ≡ Some (element_at Little Int32 buf p)
 element_read n c i p None buf is long below place =
     ap Some (sym (rw is (zero_element (length buf) p (omega (arith, long)))))
 element_read n c i p (Some bytes) buf is long below place =
@@ -49,9 +49,9 @@ in_chunk k c p n below =
 
 -- the element of the sum at that index
 sum_here : (job : Job) (entry : Contents) (k p : ℕ) (left right : List ℕ) → p < job.chunk
-  → IsChunkOf (entry (key_of_chunk job.left k)) left → IsChunkOf (entry (key_of_chunk job.right k)) right
-  → length left ≡ 4 * job.chunk → length right ≡ 4 * job.chunk
-  → sum_at job entry ((k * job.chunk + p / 1) ∷ []) ≡ Some (wrapped Int32 (element_at Little Int32 left p +ℤ element_at Little Int32 right p))
+    → IsChunkOf (entry (key_of_chunk job.left k)) left → IsChunkOf (entry (key_of_chunk job.right k)) right
+    → length left ≡ 4 * job.chunk → length right ≡ 4 * job.chunk
+    → sum_at job entry ((k * job.chunk + p / 1) ∷ []) ≡ Some (wrapped Int32 (element_at Little Int32 left p +ℤ element_at Little Int32 right p))
 sum_here job entry k p left right below is_left is_right long_left long_right =
     let (over, place) = in_chunk k job.chunk p job.elements below in
     let l = element_read job.elements job.chunk (k * job.chunk + p / 1) p (entry (key_of_chunk job.left k)) left is_left long_left below place in
@@ -60,10 +60,10 @@ sum_here job entry k p left right below is_left is_right long_left long_right =
 
 -- what stands at place p of the chunk
 part_here : (job : Job) (entry : Contents) (k p inside : ℕ) (left right : List ℕ) → p < job.chunk
-  → IsChunkOf (entry (key_of_chunk job.left k)) left → IsChunkOf (entry (key_of_chunk job.right k)) right
-  → length left ≡ 4 * job.chunk → length right ≡ 4 * job.chunk → inside ≡ min job.chunk (job.elements - k * job.chunk)
-  → (b : Bool) → b ≡ nat_lt (k * job.chunk + p / 1) job.elements
-  → option_map (element_bytes Little Int32) (padded (layout_of job) (sum_at job entry) (k ∷ []) p) ≡ Some (element_bytes Little Int32 (sum_in_chunk inside left right p))
+    → IsChunkOf (entry (key_of_chunk job.left k)) left → IsChunkOf (entry (key_of_chunk job.right k)) right
+    → length left ≡ 4 * job.chunk → length right ≡ 4 * job.chunk → inside ≡ min job.chunk (job.elements - k * job.chunk)
+    → (b : Bool) → b ≡ nat_lt (k * job.chunk + p / 1) job.elements
+    → option_map (element_bytes Little Int32) (padded (layout_of job) (sum_at job entry) (k ∷ []) p) ≡ Some (element_bytes Little Int32 (sum_in_chunk inside left right p))
 part_here job entry k p inside left right below is_left is_right long_left long_right edge true test =
     let inner : p < inside = omega (arith, ltb-true _ _ (sym test), edge, div-one p) in
     let sum = sum_here job entry k p left right below is_left is_right long_left long_right in
@@ -74,10 +74,10 @@ part_here job entry k p inside left right below is_left is_right long_left long_
 
 -- The chunk's value is the sums.
 pub chunk_value_is : (job : Job) (entry : Contents) (k inside : ℕ) (left right sums : List ℕ)
-  → IsChunkOf (entry (key_of_chunk job.left k)) left → IsChunkOf (entry (key_of_chunk job.right k)) right
-  → length left ≡ 4 * job.chunk → length right ≡ 4 * job.chunk → length sums ≡ 4 * job.chunk
-  → inside ≡ min job.chunk (job.elements - k * job.chunk)
-  → AreSums inside left right job.chunk sums → chunk_value job entry k ≡ Some sums
+    → IsChunkOf (entry (key_of_chunk job.left k)) left → IsChunkOf (entry (key_of_chunk job.right k)) right
+    → length left ≡ 4 * job.chunk → length right ≡ 4 * job.chunk → length sums ≡ 4 * job.chunk
+    → inside ≡ min job.chunk (job.elements - k * job.chunk)
+    → AreSums inside left right job.chunk sums → chunk_value job entry k ≡ Some sums
 chunk_value_is job entry k inside left right sums is_left is_right long_left long_right long edge are_sums =
     let whole : job.chunk * 1 * 4 ≡ length sums = omega (arith, long) in
     joined_by_place 4 (job.chunk * 1) _ sums (λ p below. let small : p < job.chunk = omega (arith, below) in part_here job entry k p inside left right small is_left is_right long_left long_right edge _ refl ∙ ap Some (sym (are_sums p small)))

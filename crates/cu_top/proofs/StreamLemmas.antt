@@ -14,7 +14,7 @@ within_rest bytes done more so_far bound =
     omega (arith, length-drop done bytes)
 
 pub wrote_more : (first mid new : Option (List ℕ)) (bytes : List ℕ) (done more : ℕ)
-  → WroteFront first mid bytes done → Appends mid new (take (length bytes - done) (drop done bytes)) (Ok more) → WroteFront first new bytes (done + more)
+    → WroteFront first mid bytes done → Appends mid new (take (length bytes - done) (drop done bytes)) (Ok more) → WroteFront first new bytes (done + more)
 wrote_more None None None bytes done more front appended = tt
 wrote_more (Some first) (Some mid) (Some new) bytes done more front appended =
     let piece = rw (rest_is bytes done) at appended in

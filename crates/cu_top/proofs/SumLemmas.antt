@@ -17,8 +17,8 @@ pub sum_is : (x y a b : ℤ) → x ≡ a → y ≡ b → InRange Int32 a → InR
 sum_is x y a b same_x same_y small_x small_y = omega (arith, ints)
 
 pub one_more : (inside place count : ℕ) (left right old : List ℕ) → length old ≡ 4 * count → place < count
-  → AreSums inside left right place old
-  → AreSums inside left right (place + 1) (take (place * 4) old ++ element_bytes Little Int32 (sum_in_chunk inside left right place) ++ drop (place * 4 + 4) old)
+    → AreSums inside left right place old
+    → AreSums inside left right (place + 1) (take (place * 4) old ++ element_bytes Little Int32 (sum_in_chunk inside left right place) ++ drop (place * 4 + 4) old)
 one_more inside place count left right old long below so_far =
     let own : List ℕ = element_bytes Little Int32 (sum_in_chunk inside left right place) in
     let fits : place * 4 + 4 ≤ length old = omega (arith, long) in

@@ -5,7 +5,7 @@ use Rattle.cu_store.specs.Held.{Contents}
 use Rattle.cu_top.specs.declared.job.Job.{Job}
 use Rattle.cu_top.specs.declared.status.Status.{Status}
 use Rattle.cu_top.specs.declared.status.Status.TheVariants.{Done, BadWords, OverMemory, Exists, ReadFault, WriteFault, BadChunk, DepotFailed, NotBuilt, NoMemory}
-use Rattle.cu_top.specs.Job.{IsArrayKey}
+use Rattle.cu_top.specs.Job.{chunks_of, key_of_chunk}
 
 -- a chunk that is absent reads as zeros
 abbrev pub IsChunkOf : Option (List ℕ) → List ℕ → Type 0
@@ -46,3 +46,20 @@ IsReadFault before after lacks held key size (Exists exists) = ⊥
 IsReadFault before after lacks held key size ReadFault = ⊥
 IsReadFault before after lacks held key size WriteFault = ⊥
 IsReadFault before after lacks held key size (NotBuilt node) = ⊥
+
+-- a chunk's key of an input, or a key of the output
+abbrev pub IsChunkKey : Job → List ℕ → List ℕ → Type 0
+IsChunkKey job name key = (k : ℕ) × (k < chunks_of job) × (key ≡ key_of_chunk name k)
+
+-- Why storing a chunk fails: a call for one of its keys, or an input's chunk of another length.
+abbrev pub IsChunkFault : Job → ℕ → ℕ → Bool → Option Contents → Status → Type 0
+IsChunkFault job before after lacks held (BadChunk bad got want) = (IsChunkKey job job.left bad ⊎ IsChunkKey job job.right bad) × (want ≡ 4 * job.chunk) × (got ≢ want) × HoldsLength held bad got
+IsChunkFault job before after lacks held (DepotFailed failed) = (IsChunkKey job job.left failed ⊎ IsChunkKey job job.right failed ⊎ IsChunkKey job job.out failed) × Rose 3 before after
+IsChunkFault job before after lacks held NoMemory = IsTrue lacks
+IsChunkFault job before after lacks held Done = ⊥
+IsChunkFault job before after lacks held (BadWords code) = ⊥
+IsChunkFault job before after lacks held (OverMemory node need allowed) = ⊥
+IsChunkFault job before after lacks held (Exists exists) = ⊥
+IsChunkFault job before after lacks held ReadFault = ⊥
+IsChunkFault job before after lacks held WriteFault = ⊥
+IsChunkFault job before after lacks held (NotBuilt node) = ⊥

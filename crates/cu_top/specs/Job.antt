@@ -1,5 +1,5 @@
 -- What one addition stores: its keys, and the one value of each.
-use Rattle.std.specs.Prelude.{◌≡◌, ◌⊎◌, ℕ, zero, suc, ◌+◌, ◌*◌, ◌<◌, ◌≤◌, ℤ, ◌+ℤ◌, List, [], ◌∷◌, ◌++◌, Option, Some, None, option_map, option_and_then, Result, Ok, Err}
+use Rattle.std.specs.Prelude.{◌≡◌, ◌⊎◌, ℕ, zero, suc, ◌+◌, ◌*◌, ◌<◌, ◌≤◌, ℤ, ◌+ℤ◌, List, [], ◌∷◌, ◌++◌, length, Option, Some, None, option_map, option_and_then, Result, Ok, Err}
 use Rattle.cu_num.specs.Wrap.{wrapped}
 use Rattle.cu_num.specs.declared.types.Dtype.TheVariants.{Int32}
 use Rattle.cu_num.specs.declared.layout.Encoding.TheVariants.{Plain}
@@ -20,11 +20,15 @@ layout_of job = one_axis job.elements job.chunk
 abbrev pub chunks_of : Job → ℕ
 chunks_of job = count_of job.elements job.chunk
 
+-- the name of an array: no slash in it, and short enough for its keys
+abbrev pub IsArrayName : List ℕ → Type 0
+IsArrayName name = HasNoSlash name × (length name ≤ 45)
+
 -- names of arrays, and sizes within the limits
 pub record IsJob (job : Job) : Type 0 where
-  pub left : HasNoSlash job.left
-  pub right : HasNoSlash job.right
-  pub out : HasNoSlash job.out
+  pub left : IsArrayName job.left
+  pub right : IsArrayName job.right
+  pub out : IsArrayName job.out
   pub limits : IsWithinLimits job.elements job.chunk
 
 -- the key of chunk k of the array with this name
@@ -54,7 +58,7 @@ chunk_writes job entry zero = []
 chunk_writes job entry (suc k) = with_value (key_of_chunk job.out k) (chunk_value job entry k) (chunk_writes job entry k)
 
 -- the one value of each key of the plan
-abbrev pub plan_writes : Job → Contents → List Write
+unfoldable pub plan_writes : Job → Contents → List Write
 plan_writes job entry = (metadata_key_of job.out, metadata_text (layout_of job)) ∷ chunk_writes job entry (chunks_of job)
 
 -- a key of the array with this name: its metadata or one of its chunks
@@ -67,8 +71,9 @@ pub record IsQuiet (job : Job) (entry : Contents) (late : List Write) : Type 0 w
   pub inputs : (key bytes : List ℕ) → IsAmong late key bytes → IsArrayKey job job.left key ⊎ IsArrayKey job job.right key → entry key ≡ Some bytes
 
 -- each input's metadata is held, with the text of these sizes
-abbrev pub HasInputs : Job → Contents → Type 0
-HasInputs job entry = (entry (metadata_key_of job.left) ≡ Some (metadata_text (layout_of job))) × (entry (metadata_key_of job.right) ≡ Some (metadata_text (layout_of job)))
+pub record HasInputs (job : Job) (entry : Contents) : Type 0 where
+  pub left : entry (metadata_key_of job.left) ≡ Some (metadata_text (layout_of job))
+  pub right : entry (metadata_key_of job.right) ≡ Some (metadata_text (layout_of job))
 
 -- no key of the plan is held
 abbrev pub IsFree : Job → Contents → Type 0
@@ -89,3 +94,11 @@ IsLeft job entry held = (key : List ℕ) → IsArrayKey job job.out key → (hel
 -- each key of the plan holds its one value
 abbrev pub IsComplete : Job → Contents → Contents → Type 0
 IsComplete job entry held = (key : List ℕ) → IsArrayKey job job.out key → (bytes : List ℕ) × IsAmong (plan_writes job entry) key bytes × (held key ≡ Some bytes)
+
+-- chunk k of the output has a value and holds it
+abbrev pub StoresChunk : Job → Contents → Option Contents → ℕ → Type 0
+StoresChunk job entry held k = (bytes : List ℕ) × (chunk_value job entry k ≡ Some bytes) × Holds held (key_of_chunk job.out k) bytes
+
+-- a value of the plan that was held is held
+abbrev pub ValuesStay : Job → Contents → Option Contents → Option Contents → Type 0
+ValuesStay job entry old new = (key bytes : List ℕ) → IsAmong (plan_writes job entry) key bytes → Holds old key bytes → Holds new key bytes

@@ -2,12 +2,18 @@
 #![tactic(auto)]
 
 mod chunks;
+mod expression;
 mod job;
+mod metadata;
 mod status;
 mod streams;
 mod sums;
-pub use chunks::read_chunk;
+mod words;
+
+pub use chunks::{put_value, read_chunk, store_chunk};
+pub use expression::{Addition, Name, NotAddition, read_addition};
 pub use job::Job;
+pub use metadata::{METADATA_BYTES, Sizes, longest, read_sizes, write_sizes};
 pub use status::{LineText, Status, number, status_line};
 pub use streams::{ReadRefused, read_all, write_all};
-pub use sums::add_chunk;
+pub use words::{Options, read_words};

@@ -59,7 +59,11 @@ pub fn status_line(status: &Status) -> LineText
     match status {
         Status::Done => {}
         Status::BadWords { code } => push_field(&mut line, "error 2 code=", *code as u64),
-        Status::OverMemory { node, need, allowed } => {
+        Status::OverMemory {
+            node,
+            need,
+            allowed,
+        } => {
             push_field(&mut line, "error 5 node=", *node as u64);
             push_field(&mut line, " need=", *need);
             push_field(&mut line, " allowed=", *allowed);

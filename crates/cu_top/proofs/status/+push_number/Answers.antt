@@ -7,13 +7,16 @@ pub push_number-requires : goal.push_number-requires
 push_number-requires t c = (omega (arith, c.decreases), front_fits c.args.line.now.bytes c.args.number 256 c.if-number-ge10.true c.ranges.number.fits c.requires)
 
 pub push-requires : goal.push-requires
-push-requires t c = (omega arith, elim c.if-number-ge10.branch [
-  then-number-ge10 w ↦ digit_fits c.args.line.now.bytes _ c.args.number 256 w.if-number-ge10.true c.ranges.number.fits (ap (λ l. l.bytes) w.line-is ∙ w.push_number.ensures) c.requires
-  | else-number-ge10 w ↦ one_digit_fits c.args.line.now.bytes _ c.args.number 256 (omega arith) (ap (λ l. l.bytes) w.line-is) c.requires
-])
+push-requires t c = (
+  omega arith,
+  elim c.if-number-ge10.branch [
+    | then-number-ge10 w ↦ digit_fits c.args.line.now.bytes _ c.args.number 256 w.if-number-ge10.true c.ranges.number.fits (ap (λ l. l.bytes) w.line-is ∙ w.push_number.ensures) c.requires
+    | else-number-ge10 w ↦ one_digit_fits c.args.line.now.bytes _ c.args.number 256 (omega arith) (ap (λ l. l.bytes) w.line-is) c.requires
+  ],
+)
 
 pub returns : goal.returns
 returns t c = c.push.ensures.bytes ∙ elim c.if-number-ge10.branch [
-  then-number-ge10 w ↦ digit_after c.args.line.now.bytes _ c.args.number w.if-number-ge10.true c.ranges.number.fits (ap (λ l. l.bytes) w.line-is ∙ w.push_number.ensures)
+  | then-number-ge10 w ↦ digit_after c.args.line.now.bytes _ c.args.number w.if-number-ge10.true c.ranges.number.fits (ap (λ l. l.bytes) w.line-is ∙ w.push_number.ensures)
   | else-number-ge10 w ↦ digit_alone c.args.line.now.bytes _ c.args.number (omega arith) (ap (λ l. l.bytes) w.line-is)
 ]

@@ -1,0 +1,45 @@
+-- Names, and what is read as an addition.
+use Rattle.std.proofs.Common.{◌≡◌, ℕ, ◌≤◌, ◌&&◌, Bool, true, false, List, length, nat_eq, nat_le, Option, Some, None, option_and_then, IsUtf8, refl, sym, subst, ◌∙◌, option_map, Result, Ok, Err, IfOk}
+use Rattle.std.specs.Option.{ok_or}
+use Rattle.std.specs.Str.{is_utf8}
+use Rattle.std.proofs.lemmas.Bool.{and_from, and_parts, le-leb}
+use Rattle.std.proofs.lemmas.Str.{IsUtf8-from_is_utf8, is_utf8-from_IsUtf8}
+use Rattle.serde_json.specs.Data.{Data}
+use Rattle.serde_json.specs.Find.{as_array, as_object}
+use Rattle.serde_json.specs.Read.{read}
+use Rattle.serde_json.specs.View.{items_view, members_view}
+use Rattle.serde_json.proofs.Views.{Entry, items_len-items_view, members_len-members_view}
+use Rattle.serde_json.specs.declared.value.Value.{Value}
+use Rattle.cu_top.specs.declared.expression.Addition.{Addition}
+use Rattle.cu_top.specs.declared.expression.NotAddition.{NotAddition}
+use Rattle.cu_top.specs.declared.expression.NotAddition.TheVariants.{Form}
+use Rattle.cu_top.proofs.NameLemmas.{addition_has_names}
+use Rattle.cu_top.specs.Expression.{Names, AreNames, names_of, is_list_of, is_object_of, when, addition_in, addition_of}
+
+pub list_counted : (d : Data) (items : List Value) (len count : ℕ) → Some (items_view items) ≡ as_array d → len ≡ length items → nat_eq len count ≡ is_list_of count d
+list_counted d items len count found is_len = rw (← found, items_len-items_view, is_len)
+
+pub object_counted : (d : Data) (members : List Entry) (len count : ℕ) → Some (members_view members) ≡ as_object d → len ≡ length members → nat_eq len count ≡ is_object_of count d
+object_counted d members len count found is_len = rw (← found, members_len-members_view, is_len)
+
+-- a text within the limit, of the value d
+pub addition_read : (text : List ℕ) (d : Data) → length text ≤ 1048576 → IsUtf8 text → read text ≡ Some d → addition_of text ≡ addition_in d
+addition_read text d short utf8 value =
+    let test : (nat_le (length text) 1048576 && is_utf8 text) ≡ true = and_from _ _ (le-leb _ _ short) (is_utf8-from_IsUtf8 text utf8) in
+    rw (test, value)
+
+none_when : (b : Bool) (o : Option Names) → (b ≡ true → ⊥) → option_and_then (λ _. o) (when b) ≡ None
+none_when true o refuted = absurd (refuted refl)
+none_when false o refuted = refl
+
+pub addition_refused : (text : List ℕ) → ¬ (IsUtf8 text) → addition_of text ≡ None
+addition_refused text refuted = none_when _ _ (λ e. refuted (IsUtf8-from_is_utf8 text (and_parts (nat_le (length text) 1048576) (is_utf8 text) e).1))
+
+pub named : (text : List ℕ) (result : Result Addition NotAddition) → IfOk result (λ a. addition_of text ≡ Some (names_of a)) → IfOk result (λ a. AreNames (names_of a))
+named text (Ok a) is = addition_has_names text (names_of a) is
+named text (Err e) is = tt
+
+pub addition_answered : (text : List ℕ) (d : Data) (found : Option Addition) (result : Result Addition NotAddition) → result ≡ ok_or found Form
+    → option_map names_of found ≡ addition_in d → addition_of text ≡ addition_in d → IfOk result (λ a. addition_of text ≡ Some (names_of a))
+addition_answered text d (Some a) result is found whole = subst (λ r. IfOk r (λ b. addition_of text ≡ Some (names_of b))) (sym is) (whole ∙ sym found)
+addition_answered text d None result is found whole = subst (λ r. IfOk r (λ b. addition_of text ≡ Some (names_of b))) (sym is) tt

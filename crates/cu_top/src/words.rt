@@ -1,0 +1,94 @@
+//! The words of the command line.
+ghost use Rattle.std.specs.Prelude.{◌≡◌, map, string_bytes};
+ghost use Rattle.cu_top.specs.Words.{memory_of, once, nothing_given, given_with, options_from, options_of};
+
+/// The most bytes that may be allowed or reserved: 2^40.
+const MOST_MEMORY: u64 = 1 << 40;
+
+/// The options of a command, in bytes.
+#[derive(Clone, Copy, Debug)]
+pub struct Options {
+    /// The memory that a task may take, the reserved memory among it.
+    pub allowed: u64,
+    /// The memory that is set aside for what isn't counted.
+    pub reserved: u64,
+}
+
+/// The numbers that were given so far.
+#[derive(Clone, Copy)]
+struct Given {
+    allowed: Option<u64>,
+    reserved: Option<u64>,
+}
+
+/// The options of the command `run`, which is the first word. Behind it stand any of the pairs `--allowed-mem N` and
+/// `--reserved-mem N`, each at most once. A refusal is 1 where the command is missing or unknown, and 2 where
+/// an option is unknown, has no value or is given twice, or where a number isn't one or isn't from 0 to 2^40.
+pub fn read_words(words: &[String]) -> Result<Options, u8>
+    ensures { result ≡ options_of (map string_bytes words.now) }
+{
+    match words {
+        [command, pairs @ ..] if command.as_str() == "run" => read_pairs(pairs).ok_or(2),
+        _ => Err(1),
+    }
+}
+
+fn read_pairs(words: &[String]) -> Option<Options>
+    ensures { result ≡ options_from nothing_given (map string_bytes words.now) }
+{
+    let mut given = Given {
+        allowed: None,
+        reserved: None,
+    };
+    let mut at = 0;
+    while at < words.len() {
+        if at + 1 == words.len() {
+            return None;
+        }
+        given = read_pair(given, words[at].as_str(), words[at + 1].as_str())?;
+        at += 2;
+    }
+    Some(Options {
+        allowed: given.allowed.unwrap_or(200_000_000),
+        reserved: given.reserved.unwrap_or(0),
+    })
+}
+
+fn read_pair(given: Given, name: &str, value: &str) -> Option<Given>
+    ensures { result ≡ given_with given name.now value.now }
+{
+    let Given { allowed, reserved } = given;
+    match name {
+        "--allowed-mem" => {
+            let allowed = Some(read_once(allowed, value)?);
+            Some(Given { allowed, reserved })
+        }
+        "--reserved-mem" => {
+            let reserved = Some(read_once(reserved, value)?);
+            Some(Given { allowed, reserved })
+        }
+        _ => None,
+    }
+}
+
+fn read_once(given: Option<u64>, value: &str) -> Option<u64>
+    ensures { result ≡ once given value.now }
+{
+    if given.is_some() {
+        return None;
+    }
+    read_memory(value)
+}
+
+/// A count of bytes.
+fn read_memory(text: &str) -> Option<u64>
+    ensures { result ≡ memory_of text.now }
+{
+    let Ok(number) = text.parse::<u64>() else {
+        return None;
+    };
+    if number > MOST_MEMORY {
+        return None;
+    }
+    Some(number)
+}
