@@ -1,5 +1,5 @@
 -- Different chunks have different keys: decimal digits are never a separator, and they tell their number.
-use Rattle.std.proofs.Common.{◌≡◌, ◌≢◌, ℕ, ◌+◌, ◌<◌, ◌≤◌, ◌^◌, List, [], ◌∷◌, ◌++◌, length, All, codes, refl, ap, sym, ◌∙◌, subst, arith}
+use Rattle.std.proofs.Common.{◌≡◌, ◌≢◌, ℕ, ◌<◌, ◌^◌, List, [], ◌∷◌, ◌++◌, length, All, codes, refl, sym, subst, arith}
 use Rattle.std.specs.Char.{digit_value}
 use Rattle.std.specs.Fmt.{decimal}
 use Rattle.std.specs.List.{AllByRecursion}
@@ -125,4 +125,4 @@ one_name name other key plain_name plain_other (r, of_name) (s, of_other) =
     let both : name ++ codes "/" ++ r ≡ other ++ codes "/" ++ s = cc in
     let parts : name ++ (codes "/" ++ r) ≡ other ++ (codes "/" ++ s) = rw (append_assoc, append_assoc) at both in
     (run_split P name other (codes "/" ++ r) (codes "/" ++ s) (recursion_from_All P name plain_name) (recursion_from_All P other plain_other)
-        (λ differs. differs refl) (λ differs. differs refl) parts).0
+    (λ differs. differs refl) (λ differs. differs refl) parts).0

@@ -14,5 +14,4 @@ pub fn keys_differ()
     ensures chunk_of_name { (name : List ℕ) (encoding : Way) (c : List ℕ) → IsKeyOf name (chunk_key_of name encoding c) }
     ensures metadata_of_name { (name : List ℕ) → IsKeyOf name (metadata_key_of name) }
     ensures names { (name other key : List ℕ) → HasNoSlash name → HasNoSlash other → IsKeyOf name key → IsKeyOf other key → name ≡ other }
-{
-}
+{}

@@ -1,10 +1,9 @@
+use crate::{chunk_key, keys_differ, metadata_key};
 use cu_num::{Encoding, Sep};
 use cu_shape::Dims;
 use cu_store::Key;
 use std::process::Abort;
 use std::test::Fail;
-
-use crate::{chunk_key, keys_differ, metadata_key};
 
 /// Asserts that the chunk at `coord` of the array `y` has this key.
 fn expect_key(rt: &impl Abort, encoding: Encoding, coord: &[u64], text: &str) -> Result<(), Fail> {
@@ -29,7 +28,11 @@ fn chunk_keys_of_the_standard(rt: HostRuntime) -> Result<(), Fail> {
         (Encoding::V2(Sep::Dot), &[7], "y/7"),
         (Encoding::V2(Sep::Dot), &[1, 23, 45], "y/1.23.45"),
         (Encoding::V2(Sep::Slash), &[], "y/0"),
-        (Encoding::V2(Sep::Slash), &[1048575, 0, 100], "y/1048575/0/100"),
+        (
+            Encoding::V2(Sep::Slash),
+            &[1048575, 0, 100],
+            "y/1048575/0/100",
+        ),
     ];
     for (encoding, coord, text) in table {
         expect_key(&rt, encoding, coord, text)?;

@@ -31,7 +31,7 @@ length-element_bytes e t x =
     length-in_order e (low_bytes (size_of t) (residue (8 * size_of t) (wrapped t x))) ∙ length-low_bytes (size_of t) (residue (8 * size_of t) (wrapped t x))
 
 -- an integer type has eight bits a byte
-width_is : (t : Dtype) → IsInteger t → width_of t ≡ 8 * size_of t
+pub width_is : (t : Dtype) → IsInteger t → width_of t ≡ 8 * size_of t
 width_is Bool h = absurd h
 width_is Int8 h = refl
 width_is Int16 h = refl

@@ -16,7 +16,7 @@ pub record Same (w : ℕ) (a b : ℤ) : Type 0 where
   pub k : ℕ
   pub sum : a +ℤ pos (j * 2 ^ w) ≡ b +ℤ pos (k * 2 ^ w)
 
-is_euclid : (w : ℕ) (z : ℤ) → residue w z ≡ unsigned_abs (int_rem_euclid z (pos (2 ^ w)))
+pub is_euclid : (w : ℕ) (z : ℤ) → residue w z ≡ unsigned_abs (int_rem_euclid z (pos (2 ^ w)))
 is_euclid w (pos n) = refl
 is_euclid w (negsuc n) = refl
 

@@ -1,5 +1,5 @@
 -- The laws of wrapping a number to an element type.
-use Rattle.std.proofs.Common.{◌≡◌, ℕ, ◌+◌, ◌-◌, ◌*◌, ◌^◌, ◌<◌, ◌↔◌, zero, suc, refl, sym, ap, ◌∙◌, arith, ℤ, pos, negsuc, neg_ℤ, ◌+ℤ◌, ◌-ℤ◌, ◌*ℤ◌, ◌≤ℤ◌}
+use Rattle.std.proofs.Common.{◌≡◌, ℕ, ◌+◌, ◌-◌, ◌*◌, ◌^◌, ◌<◌, ◌↔◌, zero, suc, refl, sym, ap, ◌∙◌, arith, inl, inr, ◌⊎◌, ◌≤◌, ℤ, pos, negsuc, neg_ℤ, ◌+ℤ◌, ◌-ℤ◌, ◌*ℤ◌, ◌≤ℤ◌}
 use Rattle.std.proofs.lemmas.Int.{ints}
 use lib.IntN.{zero-*ℤ, *ℤ-zero}
 use borrow.Author.Differences.{up, down, same_in, same_out, sum_is_lem, product_is}
@@ -134,6 +134,28 @@ by_class P b i Uint8 = i Uint8 tt
 by_class P b i Uint16 = i Uint16 tt
 by_class P b i Uint32 = i Uint32 tt
 by_class P b i Uint64 = i Uint64 tt
+
+pub bool_or_integer : (t : Dtype) → (t ≡ Bool) ⊎ IsInteger t
+bool_or_integer Bool = inl refl
+bool_or_integer Int8 = inr tt
+bool_or_integer Int16 = inr tt
+bool_or_integer Int32 = inr tt
+bool_or_integer Int64 = inr tt
+bool_or_integer Uint8 = inr tt
+bool_or_integer Uint16 = inr tt
+bool_or_integer Uint32 = inr tt
+bool_or_integer Uint64 = inr tt
+
+pub width_of-le : (t : Dtype) → width_of t ≤ 64
+width_of-le Bool = omega arith
+width_of-le Int8 = omega arith
+width_of-le Int16 = omega arith
+width_of-le Int32 = omega arith
+width_of-le Int64 = omega arith
+width_of-le Uint8 = omega arith
+width_of-le Uint16 = omega arith
+width_of-le Uint32 = omega arith
+width_of-le Uint64 = omega arith
 
 pub InRange-wrapped : (t : Dtype) (x : ℤ) → InRange t (wrapped t x)
 unfolding wrapped

@@ -1,5 +1,5 @@
 ghost use Rattle.std.specs.Prelude.{◌≡◌, ◌+◌, ◌*◌, ◌≤◌, ◌++◌, length, take, drop, pos};
-ghost use Rattle.cu_num.specs.Dtype.{size_of};
+ghost use Rattle.cu_num.specs.Dtype.{size_of, InRange};
 ghost use Rattle.cu_num.specs.Element.{element_at, element_bytes, number_of_bytes, IsSize};
 ghost use Rattle.cu_num.specs.Wrap.{residue, wrapped};
 
@@ -27,7 +27,8 @@ fn number(bytes: &[u8]) -> u64
 #[tactic(auto, unfolding(crate::specs::Element::element_at))]
 pub fn load(t: Dtype, bytes: &[u8], at: usize) -> i128
     requires { at * size_of t + size_of t ≤ length bytes.now }
-    ensures { result ≡ element_at Endian.Little t bytes.now at }
+    ensures value { result ≡ element_at Endian.Little t bytes.now at }
+    ensures range { InRange t result }
 {
     let size = size(t) as usize;
     let start = at * size;

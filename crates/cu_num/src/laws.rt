@@ -1,6 +1,8 @@
-ghost use Rattle.std.specs.Prelude.{◌≡◌, ◌≢◌, ℕ, ℤ, ◌+◌, ◌*◌, ◌≤◌, ◌+ℤ◌, ◌*ℤ◌, List, ◌++◌, length, take, drop};
+ghost use Rattle.std.specs.Prelude.{◌≡◌, ◌≢◌, ◌↔◌, Some, None, ℕ, ℤ, pos, ◌-ℤ◌, ◌+◌, ◌*◌, ◌≤◌, ◌+ℤ◌, ◌*ℤ◌, List, ◌++◌, length, take, drop};
 ghost use Rattle.cu_num.specs.Dtype.{size_of, InRange, IsInteger};
 ghost use Rattle.cu_num.specs.Wrap.{wrapped, IsWrapOf};
+ghost use Rattle.cu_num.specs.Promotion.{promotion, IsRefused};
+ghost use Rattle.cu_num.specs.Division.{floor_quotient, floor_remainder, IsFloorOf};
 ghost use Rattle.cu_num.specs.Element.{element_at, element_bytes};
 ghost use Rattle.cu_num.specs.declared.types.Dtype.{Dtype};
 ghost use Rattle.cu_num.specs.declared.layout.Endian.{Endian};
@@ -33,4 +35,20 @@ pub fn element_write_law()
         → element_at e t (take (at * size_of t) bytes ++ element_bytes e t x ++ drop (at * size_of t + size_of t) bytes) at ≡ wrapped t x }
     ensures others { (e : Endian) (t : Dtype) (bytes : List ℕ) (at other : ℕ) (x : ℤ) → other ≢ at → at * size_of t + size_of t ≤ length bytes
         → element_at e t (take (at * size_of t) bytes ++ element_bytes e t x ++ drop (at * size_of t + size_of t) bytes) other ≡ element_at e t bytes other }
+{}
+
+/// Promotion has no answer exactly for the refused pairs, does not depend on the order, leaves equal types alone,
+/// and its type has every number of the two types.
+pub fn promotion_law()
+    ensures refused { (a b : Dtype) → (promotion a b ≡ None) ↔ IsRefused a b }
+    ensures order { (a b : Dtype) → promotion a b ≡ promotion b a }
+    ensures equal { (t : Dtype) → promotion t t ≡ Some t }
+    ensures range { (a b t : Dtype) → promotion a b ≡ Some t → (x : ℤ) → InRange a x → InRange t x }
+{}
+
+/// The rounded quotient is the greatest whole number at most `x / y`, and the remainder is what it leaves; both are 0 where `y` is 0.
+pub fn floor_division_law()
+    ensures floor { (x y : ℤ) → y ≢ pos 0 → IsFloorOf x y (floor_quotient x y) }
+    ensures rest { (x y : ℤ) → y ≢ pos 0 → floor_remainder x y ≡ x -ℤ y *ℤ floor_quotient x y }
+    ensures by_zero { (x : ℤ) → (floor_quotient x (pos 0) ≡ pos 0) × (floor_remainder x (pos 0) ≡ pos 0) }
 {}

@@ -1,5 +1,5 @@
-ghost use Rattle.std.specs.Prelude.{◌≡◌};
-ghost use Rattle.cu_num.specs.Dtype.{size_of, is_signed};
+ghost use Rattle.std.specs.Prelude.{◌≡◌, ◌≤◌, ◌↔◌, IsTrue};
+ghost use Rattle.cu_num.specs.Dtype.{size_of, width_of, is_signed};
 
 /// The type of an array's elements (Python array API, data types).
 #[derive(Clone, Copy, Debug, PartialEq, Eq)]
@@ -43,4 +43,28 @@ pub(crate) fn is_signed_type(t: Dtype) -> bool
     ensures { result ≡ is_signed t }
 {
     matches!(t, Dtype::Int8 | Dtype::Int16 | Dtype::Int32 | Dtype::Int64)
+}
+
+/// Whether the type is `Bool`.
+#[inline]
+pub(crate) fn is_bool(t: Dtype) -> bool
+    ensures { IsTrue result ↔ (t ≡ Dtype.Bool) }
+{
+    matches!(t, Dtype::Bool)
+}
+
+/// The bits of an element's value: one for a bool, else eight a byte.
+#[inline]
+pub(crate) fn width(t: Dtype) -> u32
+    ensures value { result ≡ width_of t }
+    ensures least { 1 ≤ result }
+    ensures greatest { result ≤ 64 }
+{
+    match t {
+        Dtype::Bool => 1,
+        Dtype::Int8 | Dtype::Uint8 => 8,
+        Dtype::Int16 | Dtype::Uint16 => 16,
+        Dtype::Int32 | Dtype::Uint32 => 32,
+        Dtype::Int64 | Dtype::Uint64 => 64,
+    }
 }

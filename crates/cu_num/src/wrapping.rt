@@ -1,11 +1,12 @@
 ghost use Rattle.std.specs.Prelude.{◌≡◌, ◌^◌, ◌≤◌, pos};
+ghost use Rattle.cu_num.specs.Dtype.{InRange};
 ghost use Rattle.cu_num.specs.Wrap.{wrapped, IsWrapOf, residue, centred};
 
 use crate::types::Dtype;
 
 /// Two to the width.
 #[inline]
-fn power(width: u32) -> i128
+pub(crate) fn power(width: u32) -> i128
     requires { width ≤ 64 }
     ensures value { result ≡ pos (2 ^ width) }
     ensures bounded { 2 ^ width ≤ 2 ^ 64 }
@@ -19,7 +20,7 @@ pub(crate) fn unsigned(x: i128, width: u32) -> i128
     requires { width ≤ 64 }
     ensures { result ≡ pos (residue width x) }
 {
-    x.rem_euclid(power(width))
+    x & (power(width) - 1)
 }
 
 /// The number of the signed type of that width that is congruent to `x`.
@@ -62,6 +63,7 @@ fn wrap_by_type(t: Dtype, x: i128) -> i128
 pub fn wrap(t: Dtype, x: i128) -> i128
     ensures value { result ≡ wrapped t x }
     ensures congruent { IsWrapOf t x result }
+    ensures range { InRange t result }
 {
     wrap_by_type(t, x)
 }

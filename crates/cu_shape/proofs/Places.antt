@@ -1,9 +1,9 @@
 -- Places and indices of an array are told by one another.
 use Rattle.std.proofs.Common.{Bool, false, ◌&&◌, nat_lt, add-one, set, true, nat_eq, All, ◌≡◌, ℕ, ◌+◌, ◌*◌, ◌/◌, ◌%◌, ◌<◌, ◌≤◌, zero, suc, List, [], ◌∷◌, ◌++◌, length, get_or, take, drop, refl, ap, ◌∙◌, sym, arith}
-use Rattle.std.proofs.Math.Nat.{mod-eq_of_lt, div-lt_iff_lt-mul, div-div-eq-div-mul, mul_comm, le-mul_of_pos_right}
+use Rattle.std.proofs.Math.Nat.{div-lt_iff_lt-mul, div-div-eq-div-mul, mul_comm, le-mul_of_pos_right}
 use Rattle.std.proofs.Math.Arith.{mod-mul}
 use Rattle.std.proofs.lemmas.Nat.{div-mul-add, mod-mul-add, mul-add-lt, div_below, mod_below, div-add-mod'}
-use Rattle.std.proofs.lemmas.List.{length-take-le, append_assoc, set_at, drop_more, take_more, drop_all}
+use Rattle.std.proofs.lemmas.List.{length-take-le, append_assoc, set_at, drop_more, take_more}
 use Rattle.std.proofs.Math.Dec.{eqb-suc-zero}
 use Rattle.std.proofs.lemmas.Bool.{ltb-true, lt-ltb}
 use Rattle.std.specs.List.{list_any}

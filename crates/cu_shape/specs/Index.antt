@@ -1,5 +1,6 @@
 -- Places and indices of an array in row-major order, over plain lists of naturals.
-use Rattle.std.specs.Prelude.{ℕ, ◌+◌, ◌*◌, ◌/◌, ◌%◌, ◌<◌, ◌==◌, nat_lt, Bool, true, false, ◌&&◌, List, [], ◌∷◌, length, drop, ◌-◌, if◌then◌else◌}
+use Rattle.std.specs.Prelude.{ℕ, ◌+◌, ◌*◌, ◌/◌, ◌%◌, ◌<◌, ◌==◌, nat_lt, Bool, true, false, ◌&&◌, List, [], ◌∷◌, length, drop, map, ◌-◌, if◌then◌else◌}
+use Rattle.std.specs.List.{range_with_len}
 
 -- the number of elements of an array of these sizes; an array of rank 0 has one
 abbrev pub product : List ℕ → ℕ
@@ -31,26 +32,28 @@ abbrev pub index_at : List ℕ → ℕ → List ℕ
 index_at [] p = []
 index_at (n ∷ ns) p = p / product ns ∷ index_at ns (p % product ns)
 
--- axis by axis, as long as the shorter list: quotients, remainders, sums and products
+-- a function of two numbers, axis by axis, as long as the shorter list
+abbrev pub axis_by_axis : (ℕ → ℕ → ℕ) → List ℕ → List ℕ → List ℕ
+axis_by_axis f (i ∷ is) (j ∷ js) = f i j ∷ axis_by_axis f is js
+axis_by_axis f [] js = []
+axis_by_axis f (i ∷ is) [] = []
+
+-- quotients, remainders, sums and products axis by axis; the quotient by 0 is 0, and its remainder the number
 abbrev pub quotients : List ℕ → List ℕ → List ℕ
-quotients (i ∷ is) (c ∷ cs) = i / c ∷ quotients is cs
-quotients [] cs = []
-quotients (i ∷ is) [] = []
+quotients = axis_by_axis (λ i c. i / c)
 
 abbrev pub remainders : List ℕ → List ℕ → List ℕ
-remainders (i ∷ is) (c ∷ cs) = i % c ∷ remainders is cs
-remainders [] cs = []
-remainders (i ∷ is) [] = []
+remainders = axis_by_axis (λ i c. i % c)
 
 abbrev pub sums : List ℕ → List ℕ → List ℕ
-sums (i ∷ is) (j ∷ js) = (i + j) ∷ sums is js
-sums [] js = []
-sums (i ∷ is) [] = []
+sums = axis_by_axis (λ i j. i + j)
 
 abbrev pub products : List ℕ → List ℕ → List ℕ
-products (i ∷ is) (c ∷ cs) = (i * c) ∷ products is cs
-products [] cs = []
-products (i ∷ is) [] = []
+products = axis_by_axis (λ i c. i * c)
+
+-- the indices of an array in row-major order
+abbrev pub indices_of : List ℕ → List (List ℕ)
+indices_of ds = map (index_at ds) (range_with_len 0 (product ds))
 
 -- the index of an array that a result's index reads through broadcasting: the leading axes that the
 -- array lacks are dropped, and an axis of size 1 is read at 0 (Python array API, "Broadcasting")

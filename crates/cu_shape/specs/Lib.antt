@@ -1,3 +1,5 @@
+pub mod Broadcast
 pub mod Index
 pub mod Padded
 pub mod PaddedBack
+pub mod Slice

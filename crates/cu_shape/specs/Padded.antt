@@ -1,5 +1,5 @@
 -- A list of at most six numbers as an array of six: the numbers, and zeros behind.
-use Rattle.std.specs.Prelude.{◌≡◌, ℕ, ◌-◌, ◌≤◌, List, [], ◌++◌, length, drop, replicate}
+use Rattle.std.specs.Prelude.{◌≡◌, ℕ, ◌-◌, ◌≤◌, List, ◌++◌, length, drop, replicate}
 
 abbrev pub padded : List ℕ → List ℕ
 padded xs = xs ++ replicate (6 - length xs) 0

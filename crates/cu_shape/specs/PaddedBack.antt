@@ -1,6 +1,6 @@
 -- The fields of a `Dims` are told by its list.
-use Rattle.std.specs.Prelude.{◌≡◌, ℕ, ◌-◌, ◌≤◌, List, ◌++◌, take, drop, replicate, length, refl}
-use Rattle.std.proofs.Common.{◌∙◌, arith}
+use Rattle.std.specs.Prelude.{◌≡◌, ℕ, List, take, length}
+use Rattle.std.proofs.Common.{arith}
 use Rattle.std.proofs.lemmas.List.{length-take-le, take-append-drop}
 use Rattle.cu_shape.specs.declared.dims.Dims.TheInside.{Inside}
 use Rattle.cu_shape.specs.Padded.{padded, IsPadded}

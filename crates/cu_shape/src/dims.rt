@@ -1,9 +1,8 @@
-use std::marker::Model;
-
-use crate::fault::ShapeFault;
-
 ghost use Rattle.std.specs.Prelude.{◌≡◌, ◌≤◌, ◌<◌, ◌^◌, ◌↔◌, IsOk, IfOk, IfErr, IsSome, IfSome, length, slice_index, slice_set, All};
 ghost use Rattle.cu_shape.specs.Index.{product};
+
+use crate::fault::ShapeFault;
+use std::marker::Model;
 
 /// The most axes that an array has.
 const MOST_AXES: usize = 6;
@@ -71,7 +70,7 @@ impl Dims {
     }
 
     /// Replaces the number on an axis.
-    pub(crate) fn put(&mut self, axis: u32, number: u64)
+    pub fn put(&mut self, axis: u32, number: u64)
         requires { axis < length self.old }
         ensures { self.new ≡ slice_set self.old axis number }
     {

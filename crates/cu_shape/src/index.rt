@@ -1,7 +1,7 @@
-use crate::dims::Dims;
-
 ghost use Rattle.std.specs.Prelude.{◌≡◌, ◌<◌, ◌^◌};
 ghost use Rattle.cu_shape.specs.Index.{product, place_of, index_at, IsInside};
+
+use crate::dims::Dims;
 
 /// The place of an index in row-major order.
 pub fn place(dims: &Dims, idx: &Dims) -> u64

@@ -52,20 +52,21 @@ own_again key bytes late now stay k b (inr among) = stay k b among
 
 -- A call that lands late puts alone.
 pub follows_call : (writes late new_late : List Write) (entry held new_held : Option Contents)
-  → Lands (IsAmong late) held new_held → StayAmong new_late (IsAmong late)
-  → Follows writes entry held late → Follows writes entry new_held new_late
+    → Lands (IsAmong late) held new_held → StayAmong new_late (IsAmong late)
+    → Follows writes entry held late → Follows writes entry new_held new_late
 follows_call writes late new_late entry held new_held lands stay follows =
     (lands_then entry held new_held follows.1 follows.0 lands, λ key bytes among. follows.1 key bytes (stay key bytes among))
 
 own_within : (writes late : List Write) (key bytes : List ℕ) → IsAmong writes key bytes → StayAmong late (IsAmong writes)
-  → (k b : List ℕ) → OwnOrLate key bytes late k b → IsAmong writes k b
+    → (k b : List ℕ) → OwnOrLate key bytes late k b → IsAmong writes k b
 own_within writes late key bytes own stay k b (inl same) = rw (same.0, same.1) own
 own_within writes late key bytes own stay k b (inr among) = stay k b among
 
 -- A call that writes one of the writes.
 pub follows_put : (writes late new_late : List Write) (entry held new_held : Option Contents) (key bytes : List ℕ)
-  → Lands (OwnOrLate key bytes late) held new_held → StayAmong new_late (OwnOrLate key bytes late)
-  → IsAmong writes key bytes → Follows writes entry held late → Follows writes entry new_held new_late
-follows_put writes late new_late entry held new_held key bytes lands stay own follows =
-    (lands_then entry held new_held (own_within writes late key bytes own follows.1) follows.0 lands,
-     λ k b among. own_within writes late key bytes own follows.1 k b (stay k b among))
+    → Lands (OwnOrLate key bytes late) held new_held → StayAmong new_late (OwnOrLate key bytes late)
+    → IsAmong writes key bytes → Follows writes entry held late → Follows writes entry new_held new_late
+follows_put writes late new_late entry held new_held key bytes lands stay own follows = (
+  lands_then entry held new_held (own_within writes late key bytes own follows.1) follows.0 lands,
+  λ k b among. own_within writes late key bytes own follows.1 k b (stay k b among),
+)

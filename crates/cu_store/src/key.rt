@@ -1,5 +1,5 @@
 //! The names of stored values.
-ghost use Rattle.std.specs.Prelude.{◌≡◌, ◌<◌, ◌≤◌, length, MatchOption, IsUtf8};
+ghost use Rattle.std.specs.Prelude.{◌≡◌, ◌<◌, ◌≤◌, length, MatchOption, IsUtf8, IsTrue, ◌↔◌};
 
 use std::marker::Model;
 use std::str;
@@ -60,5 +60,12 @@ impl Key {
             Ok(text) => text,
             Err(_) => unreachable!(),
         }
+    }
+
+    /// Whether this is the other key.
+    pub fn is(&self, other: &Key) -> bool
+        ensures { IsTrue result ↔ (self.now ≡ other.now) }
+    {
+        self.text().as_bytes() == other.text().as_bytes()
     }
 }

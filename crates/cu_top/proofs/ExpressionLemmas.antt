@@ -24,6 +24,7 @@ object_counted d members len count found is_len = rw (← found, members_len-mem
 
 -- a text within the limit, of the value d
 pub addition_read : (text : List ℕ) (d : Data) → length text ≤ 1048576 → IsUtf8 text → read text ≡ Some d → addition_of text ≡ addition_in d
+unfolding addition_of
 addition_read text d short utf8 value =
     let test : (nat_le (length text) 1048576 && is_utf8 text) ≡ true = and_from _ _ (le-leb _ _ short) (is_utf8-from_IsUtf8 text utf8) in
     rw (test, value)
@@ -33,6 +34,7 @@ none_when true o refuted = absurd (refuted refl)
 none_when false o refuted = refl
 
 pub addition_refused : (text : List ℕ) → ¬ (IsUtf8 text) → addition_of text ≡ None
+unfolding addition_of
 addition_refused text refuted = none_when _ _ (λ e. refuted (IsUtf8-from_is_utf8 text (and_parts (nat_le (length text) 1048576) (is_utf8 text) e).1))
 
 pub named : (text : List ℕ) (result : Result Addition NotAddition) → IfOk result (λ a. addition_of text ≡ Some (names_of a)) → IfOk result (λ a. AreNames (names_of a))

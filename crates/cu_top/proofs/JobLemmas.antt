@@ -1,5 +1,5 @@
 -- What stands in the depot while an addition runs.
-use Rattle.std.proofs.Common.{◌≡◌, ◌≢◌, ◌⊎◌, ℕ, zero, suc, ◌+◌, ◌-◌, min, ◌*◌, ◌<◌, ◌≤◌, ◌^◌, List, [], ◌∷◌, ◌++◌, length, All, Option, Some, None, refl, sym, ap, ◌∙◌, subst, inl, inr, arith}
+use Rattle.std.proofs.Common.{◌≡◌, ◌≢◌, ◌⊎◌, ℕ, zero, suc, ◌+◌, ◌-◌, min, ◌*◌, ◌<◌, ◌≤◌, ◌^◌, List, [], ◌∷◌, ◌++◌, length, All, Option, Some, None, refl, sym, ap, ◌∙◌, subst, inl, inr, arith, below_more}
 use Rattle.std.proofs.Math.Nat.{eq-or-lt_of_le}
 use Rattle.std.proofs.lemmas.List.Elements.{All-from_recursion}
 use Rattle.cu_codec.proofs.KeyLaws.{same_chunk, chunk_not_metadata, chunk_is_key_of, metadata_is_key_of, one_name}
@@ -13,8 +13,9 @@ use Rattle.std.specs.Prelude.{Result, Ok, Err, OnOk}
 use Rattle.cu_top.proofs.SpelledSums.{chunk_value_is}
 use Rattle.cu_top.specs.Sums.{AreSums}
 use Rattle.cu_top.specs.Chunks.{IsChunkOf, ReadsChunk}
+use Rattle.cu_top.specs.Run.{Completes}
 use Rattle.cu_top.specs.declared.job.Job.{Job}
-use Rattle.cu_top.specs.Job.{IsJob, layout_of, chunks_of, key_of_chunk, chunk_value, with_value, chunk_writes, plan_writes, IsArrayKey, IsQuiet, HasInputs, IsFree, IsStarted, IsLeft, IsComplete, StoresChunk}
+use Rattle.cu_top.specs.Job.{IsJob, layout_of, chunks_of, key_of_chunk, chunk_value, with_value, chunk_writes, plan_writes, IsArrayKey, IsQuiet, HasInputs, IsFree, IsStarted, IsLeft, IsComplete, StoresChunk, StoresChunks, ValuesStay}
 
 -- ---- lists of writes
 
@@ -203,39 +204,64 @@ metadata_write job entry = inl (refl, refl)
 
 -- a chunk with its value is a write of the plan
 pub chunk_write : (job : Job) (entry : Contents) (k : ℕ) (bytes : List ℕ) → k < chunks_of job → chunk_value job entry k ≡ Some bytes
-  → IsAmong (plan_writes job entry) (key_of_chunk job.out k) bytes
+    → IsAmong (plan_writes job entry) (key_of_chunk job.out k) bytes
 unfolding plan_writes
 chunk_write job entry k bytes below value = inr (chunk_write_in job entry (chunks_of job) k bytes below value)
 
 -- a call after which the same writes alone have landed
 pub started_then : (job : Job) (entry : Contents) (late now_late next_late : List Write) (held next : Option Contents) → IsStarted job entry late held now_late
-  → (Follows (plan_writes job entry ++ late) (Some entry) held now_late → Follows (plan_writes job entry ++ late) (Some entry) next next_late)
-  → IsStarted job entry late next next_late
+    → (Follows (plan_writes job entry ++ late) (Some entry) held now_late → Follows (plan_writes job entry ++ late) (Some entry) next next_late)
+    → IsStarted job entry late next next_late
 started_then job entry late now_late next_late held next started step =
     record { is_job = started.is_job; quiet = started.quiet; inputs = started.inputs; free = started.free; follows = step started.follows }
 
 -- What is read of an input is what it held when the call began.
 pub reads_entry : (job : Job) (entry : Contents) (late now_late : List Write) (held : Option Contents) (key buf : List ℕ) → IsStarted job entry late held now_late
-  → IsArrayKey job job.left key ⊎ IsArrayKey job job.right key → ReadsChunk held key buf → IsChunkOf (entry key) buf
+    → IsArrayKey job job.left key ⊎ IsArrayKey job job.right key → ReadsChunk held key buf → IsChunkOf (entry key) buf
 reads_entry job entry late now_late None key buf started of_input reads = absurd started.follows.0
 reads_entry job entry late now_late (Some held) key buf started of_input reads =
     subst (λ (v : Option (List ℕ)). IsChunkOf v buf) (input_stays job entry held late now_late key started of_input) reads
 
 -- where a value was stored under its key, its chunk is stored
 pub stores_chunk : {T E : Type 0} (result : Result T E) (job : Job) (entry : Contents) (held : Option Contents) (k : ℕ) (key bytes : List ℕ)
-  → chunk_value job entry k ≡ Some bytes → key ≡ key_of_chunk job.out k → OnOk result (Holds held key bytes) → OnOk result (StoresChunk job entry held k)
+    → chunk_value job entry k ≡ Some bytes → key ≡ key_of_chunk job.out k → OnOk result (Holds held key bytes) → OnOk result (StoresChunk job entry held k)
 stores_chunk (Ok x) job entry held k key bytes value same stored = (bytes, value, rw same at stored)
 stores_chunk (Err e) job entry held k key bytes value same stored = tt
 
 -- What is added of two chunks that were read is the chunk's value, and so a write of the plan.
 pub added_value : (job : Job) (entry : Contents) (late late1 late2 : List Write) (held1 held2 : Option Contents) (k inside : ℕ) (left_key right_key left right sums : List ℕ)
-  → k < chunks_of job → left_key ≡ key_of_chunk job.left k → right_key ≡ key_of_chunk job.right k
-  → IsStarted job entry late held1 late1 → IsStarted job entry late held2 late2
-  → ReadsChunk held1 left_key left → ReadsChunk held2 right_key right
-  → length left ≡ 4 * job.chunk → length right ≡ 4 * job.chunk → length sums ≡ 4 * job.chunk
-  → inside ≡ min job.chunk (job.elements - k * job.chunk) → AreSums inside left right job.chunk sums
-  → chunk_value job entry k ≡ Some sums
+    → k < chunks_of job → left_key ≡ key_of_chunk job.left k → right_key ≡ key_of_chunk job.right k
+    → IsStarted job entry late held1 late1 → IsStarted job entry late held2 late2
+    → ReadsChunk held1 left_key left → ReadsChunk held2 right_key right
+    → length left ≡ 4 * job.chunk → length right ≡ 4 * job.chunk → length sums ≡ 4 * job.chunk
+    → inside ≡ min job.chunk (job.elements - k * job.chunk) → AreSums inside left right job.chunk sums
+    → chunk_value job entry k ≡ Some sums
 added_value job entry late late1 late2 held1 held2 k inside left_key right_key left right sums below is_left_key is_right_key started1 started2 reads_left reads_right long_left long_right long edge are_sums =
     let left_read = reads_entry job entry late late1 held1 left_key left started1 (inl (inr (k, below, is_left_key))) reads_left in
     let right_read = reads_entry job entry late late2 held2 right_key right started2 (inr (inr (k, below, is_right_key))) reads_right in
     chunk_value_is job entry k inside left right sums (rw is_left_key at left_read) (rw is_right_key at right_read) long_left long_right long edge are_sums
+
+-- a chunk that is stored stays stored
+pub stored_stays : (job : Job) (entry : Contents) (held next : Option Contents) (k : ℕ) → k < chunks_of job → ValuesStay job entry held next
+    → StoresChunk job entry held k → StoresChunk job entry next k
+stored_stays job entry held next k below stays (bytes, value, holds) = (bytes, value, stays (key_of_chunk job.out k) bytes (chunk_write job entry k bytes below value) holds)
+
+pub more_stored : (job : Job) (entry : Contents) (held next : Option Contents) (n : ℕ) → n < chunks_of job → ValuesStay job entry held next
+    → StoresChunks job entry held n → StoresChunk job entry next n → StoresChunks job entry next (n + 1)
+more_stored job entry held next n below stays so_far here =
+    below_more _ _ (λ k earlier. stored_stays job entry held next k (omega (arith, below, earlier)) stays (so_far k earlier)) here
+
+complete_at : (job : Job) (entry held : Contents) (key : List ℕ) → held (metadata_key_of job.out) ≡ Some (metadata_text (layout_of job))
+    → StoresChunks job entry (Some held) (chunks_of job) → IsArrayKey job job.out key → (bytes : List ℕ) × IsAmong (plan_writes job entry) key bytes × (held key ≡ Some bytes)
+complete_at job entry held key metadata chunks (inl same) =
+    (metadata_text (layout_of job), rw same (metadata_write job entry), rw same metadata)
+complete_at job entry held key metadata chunks (inr (k, below, same)) =
+    let (bytes, value, holds) = chunks k below in
+    (bytes, rw same (chunk_write job entry k bytes below value), rw same holds)
+
+-- the metadata and all chunks are the whole output
+pub completes : {T E : Type 0} (result : Result T E) (job : Job) (entry : Contents) (held : Option Contents)
+    → Holds held (metadata_key_of job.out) (metadata_text (layout_of job)) → OnOk result (StoresChunks job entry held (chunks_of job)) → OnOk result (Completes job entry held)
+completes (Err e) job entry held metadata chunks = tt
+completes (Ok x) job entry None metadata chunks = tt
+completes (Ok x) job entry (Some held) metadata chunks = λ key of_out. complete_at job entry held key metadata chunks of_out

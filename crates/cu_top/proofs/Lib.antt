@@ -1,12 +1,16 @@
+mod AskLemmas
 mod ExpressionExample
 mod ExpressionLemmas
+mod InputLemmas
 mod JobLemmas
 mod MetadataLemmas
+mod OptionLemmas
 mod NameLemmas
 mod SpelledSums
 mod StatusExample
 mod StatusLemmas
 mod StreamLemmas
 mod SumLemmas
+mod TopLemmas
 mod WordLemmas
 mod WordsExample

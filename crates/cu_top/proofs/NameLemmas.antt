@@ -92,6 +92,7 @@ addition_named value names e =
 
 -- the arrays of an addition have names
 pub addition_has_names : (text : List ℕ) (names : Names) → addition_of text ≡ Some names → AreNames names
+unfolding addition_of
 addition_has_names text names e =
     let test = some_when (nat_le (length text) 1048576 && is_utf8 text) _ names e in
     option_and_then_some _ (read text) names test.1 (λ value here is. addition_named value names is)

@@ -106,7 +106,7 @@ addition_in value = do
   Some (record { left = left.array; right = right.array; out = out })
 
 -- the addition that a text of at most 1048576 bytes says
-abbrev pub addition_of : List ℕ → Option Names
+unfoldable pub addition_of : List ℕ → Option Names
 addition_of text = do
   _ ← when (nat_le (length text) 1048576 && is_utf8 text)
   value ← read text

@@ -99,6 +99,10 @@ IsComplete job entry held = (key : List ℕ) → IsArrayKey job job.out key → 
 abbrev pub StoresChunk : Job → Contents → Option Contents → ℕ → Type 0
 StoresChunk job entry held k = (bytes : List ℕ) × (chunk_value job entry k ≡ Some bytes) × Holds held (key_of_chunk job.out k) bytes
 
+-- the chunks below n do
+abbrev pub StoresChunks : Job → Contents → Option Contents → ℕ → Type 0
+StoresChunks job entry held n = (k : ℕ) → k < n → StoresChunk job entry held k
+
 -- a value of the plan that was held is held
 abbrev pub ValuesStay : Job → Contents → Option Contents → Option Contents → Type 0
 ValuesStay job entry old new = (key bytes : List ℕ) → IsAmong (plan_writes job entry) key bytes → Holds old key bytes → Holds new key bytes

@@ -41,6 +41,6 @@ or_code (Some o) code = Ok o
 or_code None code = Err code
 
 -- The options of the command `run`. Code 1: the command is missing or unknown. Code 2: its options are wrong.
-abbrev pub options_of : List (List ℕ) → Result Options ℕ
+unfoldable pub options_of : List (List ℕ) → Result Options ℕ
 options_of [] = Err 1
 options_of (command ∷ words) = if bytes_eq command (codes "run") then or_code (options_from nothing_given words) 2 else Err 1

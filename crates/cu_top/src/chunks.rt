@@ -1,7 +1,7 @@
 //! The chunks of an addition: each is read, added and stored.
 ghost use Rattle.std.specs.Prelude.{◌≡◌, ℕ, ◌+◌, ◌*◌, ◌<◌, ◌≤◌, List, Option, Some, length, IfErr, OnOk};
 ghost use Rattle.cu_store.specs.Held.{Contents, Write, IsAmong, Lands, StayAmong, Follows, Holds, OwnOrLate};
-ghost use Rattle.cu_top.specs.Job.{IsJob, IsArrayName, IsStarted, key_of_chunk, chunk_value, chunks_of, StoresChunk, ValuesStay};
+ghost use Rattle.cu_top.specs.Job.{IsJob, IsArrayName, IsStarted, key_of_chunk, chunk_value, chunks_of, StoresChunk, StoresChunks, ValuesStay};
 ghost use Rattle.cu_top.specs.Chunks.{ReadsChunk, IsReadFault, IsKeyFault, IsChunkFault};
 
 use crate::Status;
@@ -48,7 +48,7 @@ pub fn read_chunk<D: Depot>(depot: &mut D, key: &Key, buf: &mut [u8]) -> Result<
 }
 
 /// The key of chunk `number` of the array with this name.
-fn key_of(name: &Key, number: u64) -> Key
+pub fn key_of(name: &Key, number: u64) -> Key
     requires name { IsArrayName name.now }
     requires number { number < 1048576 }
     ensures { result ≡ key_of_chunk name.now number }
@@ -108,4 +108,32 @@ pub fn store_chunk<D: Depot>(
     add_chunk(left, right, inside, job.chunk as usize, sums);
     let out_key = key_of(&job.out, number);
     put_value(depot, &out_key, sums)
+}
+
+/// Stores each chunk of the output.
+pub fn store_chunks<D: Depot>(
+    depot: &mut D,
+    job: &Job,
+    left: &mut [u8],
+    right: &mut [u8],
+    sums: &mut [u8],
+) -> Result<(), Status>
+    requires job { IsJob job.now }
+    requires left { length left.old ≡ 4 * job.now.chunk }
+    requires right { length right.old ≡ 4 * job.now.chunk }
+    requires sums { length sums.old ≡ 4 * job.now.chunk }
+    ensures started { (entry : Contents) (late : List Write)
+        → IsStarted job.now entry late (D.held depot.old) (D.late depot.old) → IsStarted job.now entry late (D.held depot.new) (D.late depot.new) }
+    ensures stored { (entry : Contents) (late : List Write)
+        → IsStarted job.now entry late (D.held depot.old) (D.late depot.old) → OnOk result (StoresChunks job.now entry (D.held depot.new) (chunks_of job.now)) }
+    ensures stays { (entry : Contents) (late : List Write)
+        → IsStarted job.now entry late (D.held depot.old) (D.late depot.old) → ValuesStay job.now entry (D.held depot.old) (D.held depot.new) }
+    ensures cause { IfErr result (IsChunkFault job.now (D.faults depot.old) (D.faults depot.new) (D.lacks depot.new) (D.held depot.new)) }
+    ensures count { D.faults depot.old ≤ D.faults depot.new }
+    ensures lacks { D.lacks depot.new ≡ D.lacks depot.old }
+{
+    for number in 0..job.chunks() {
+        store_chunk(depot, job, number, left, right, sums)?;
+    }
+    Ok(())
 }

@@ -51,6 +51,7 @@ struct Input {
 /// The addition that a text says. The text is a JSON object such as
 /// `{"nodes":[{"id":"a","op":"input","name":"a"},{"id":"b","op":"input","name":"b"},{"id":"s","op":"add","args":["a","b"]}],"out":"s","store_as":"y"}`:
 /// two inputs and their sum, of three different ids, and the name of the array that is made.
+#[tactic(auto, unfolding(crate::specs::Expression::addition_of))]
 pub fn read_addition(alloc: Global, text: &[u8]) -> Result<Addition, NotAddition>
     ensures ok { IfOk result (λ a. addition_of text.now ≡ Some (names_of a)) }
     ensures names { IfOk result (λ a. AreNames (names_of a)) }

@@ -94,7 +94,7 @@ fn push_key(line: &mut LineText, label: &str, key: &Key)
 }
 
 /// Appends a label and a number.
-fn push_field(line: &mut LineText, label: &str, number: u64)
+pub(crate) fn push_field(line: &mut LineText, label: &str, number: u64)
     requires { length line.old.bytes + length label.now + 20 ≤ 256 }
     ensures bytes { line.new.bytes ≡ line.old.bytes ++ label.now ++ decimal number }
     ensures len { length line.new.bytes ≤ length line.old.bytes + length label.now + 20 }

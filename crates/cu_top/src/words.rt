@@ -24,6 +24,7 @@ struct Given {
 /// The options of the command `run`, which is the first word. Behind it stand any of the pairs `--allowed-mem N` and
 /// `--reserved-mem N`, each at most once. A refusal is 1 where the command is missing or unknown, and 2 where
 /// an option is unknown, has no value or is given twice, or where a number isn't one or isn't from 0 to 2^40.
+#[tactic(auto, unfolding(crate::specs::Words::options_of))]
 pub fn read_words(words: &[String]) -> Result<Options, u8>
     ensures { result ≡ options_of (map string_bytes words.now) }
 {

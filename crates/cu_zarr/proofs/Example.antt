@@ -1,5 +1,5 @@
 -- The definitions on the first worked example: six int32 numbers in chunks of four.
-use Rattle.std.proofs.Common.{◌≡◌, ℕ, ◌+◌, ◌*◌, List, [], ◌∷◌, ◌++◌, Option, Some, None, refl, codes, pos, negsuc, ℤ}
+use Rattle.std.proofs.Common.{◌≡◌, ℕ, ◌+◌, ◌*◌, List, [], ◌∷◌, Option, Some, None, refl, codes, pos, negsuc, ℤ}
 use Rattle.cu_num.specs.declared.types.Dtype.TheVariants.{Int32}
 use Rattle.cu_num.specs.declared.layout.Encoding.TheVariants.{Plain, V2}
 use Rattle.cu_num.specs.declared.layout.Sep.TheVariants.{Slash, Dot}
@@ -7,7 +7,7 @@ use Rattle.cu_num.specs.declared.layout.Endian.TheVariants.{Little}
 use Rattle.cu_num.specs.Element.{element_at, element_bytes}
 use Rattle.cu_num.specs.Wrap.{wrapped}
 use Rattle.std.specs.Fmt.{digits}
-use Rattle.cu_zarr.specs.Key.{chunk_key_of, metadata_key_of}
+use Rattle.cu_zarr.specs.Key.{chunk_key_of}
 use Rattle.cu_zarr.specs.Layout.{ArrayLayout}
 use Rattle.cu_zarr.specs.Metadata.{metadata_text}
 use Rattle.cu_zarr.specs.Spelling.{spelled}

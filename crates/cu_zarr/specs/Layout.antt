@@ -1,5 +1,5 @@
 -- How an array is laid out (Zarr v3 core: data type, shape, regular chunk grid, chunk key encoding, fill value; codec "bytes": byte order).
-use Rattle.std.specs.Prelude.{◌≡◌, ℕ, ◌*◌, ℤ, List}
+use Rattle.std.specs.Prelude.{ℕ, ◌*◌, ℤ, List}
 use Rattle.cu_num.specs.Dtype.{size_of}
 use Rattle.cu_num.specs.declared.types.Dtype.{Dtype}
 use Rattle.cu_num.specs.declared.layout.Encoding.{Encoding}

@@ -83,5 +83,5 @@ fill_text Uint64 x = signed_decimal x
 -- the written metadata
 abbrev pub metadata_text : ArrayLayout → List ℕ
 metadata_text l = codes "{\"chunk_grid\":{\"configuration\":{\"chunk_shape\":" ++ number_list l.chunk ++ codes "},\"name\":\"regular\"},\"chunk_key_encoding\":"
-  ++ encoding_text l.encoding ++ codes ",\"codecs\":[" ++ codec_text l.dtype l.endian ++ codes "],\"data_type\":\"" ++ type_name l.dtype
-  ++ codes "\",\"fill_value\":" ++ fill_text l.dtype l.fill ++ codes ",\"node_type\":\"array\",\"shape\":" ++ number_list l.shape ++ codes ",\"zarr_format\":3}"
+    ++ encoding_text l.encoding ++ codes ",\"codecs\":[" ++ codec_text l.dtype l.endian ++ codes "],\"data_type\":\"" ++ type_name l.dtype
+    ++ codes "\",\"fill_value\":" ++ fill_text l.dtype l.fill ++ codes ",\"node_type\":\"array\",\"shape\":" ++ number_list l.shape ++ codes ",\"zarr_format\":3}"

@@ -1,5 +1,5 @@
 -- The bytes of a chunk (Zarr v3 core, "Regular grids"; the codec "bytes"): full length, row-major.
-use Rattle.std.specs.Prelude.{ℕ, zero, suc, ℤ, List, [], ◌++◌, Option, Some, None, option_map, option_and_then, if◌then◌else◌}
+use Rattle.std.specs.Prelude.{ℕ, zero, suc, ℤ, List, [], ◌++◌, Option, Some, option_map, option_and_then, if◌then◌else◌}
 use Rattle.cu_num.specs.Element.{element_bytes}
 use Rattle.cu_shape.specs.Index.{product, is_inside}
 use Rattle.cu_zarr.specs.Layout.{ArrayLayout, index_in_chunk}

@@ -1,4 +1,4 @@
-use Rattle.std.proofs.Common.{◌≡◌, ◌≤◌, ◌<◌, ℕ, ◌+◌, ◌*◌, ◌^◌, All, get_or, length, ◌∷◌, drop, arith}
+use Rattle.std.proofs.Common.{◌<◌, ℕ, ◌+◌, ◌*◌, ◌^◌, get_or, drop, arith}
 use Rattle.std.proofs.lemmas.List.{drop_more}
 use Rattle.std.proofs.lemmas.List.Elements.{All-drop}
 use Rattle.cu_shape.specs.Index.{product}
@@ -11,6 +11,6 @@ returns-then-size-count-clause-counted c =
     let k = c.loop-size.size-index in
     let whole = rw (drop_more ds k 0 (omega arith)) at c.loop-size.invariant.whole in
     let over : 2 ^ 40 < c.loop-size.count * (get_or ds k 0 * product (drop (k + 1) ds)) =
-        product_over c.loop-size.count (get_or ds k 0) (product (drop (k + 1) ds)) (2 ^ 40) c.loop-size.invariant.positive
-            (product_positive _ (All-drop (λ (n : ℕ). 0 < n) (k + 1) ds c.requires)) c.if-size-count.true in
+    product_over c.loop-size.count (get_or ds k 0) (product (drop (k + 1) ds)) (2 ^ 40) c.loop-size.invariant.positive
+    (product_positive _ (All-drop (λ (n : ℕ). 0 < n) (k + 1) ds c.requires)) c.if-size-count.true in
     (λ f. cc, λ f. absurd (omega arith))

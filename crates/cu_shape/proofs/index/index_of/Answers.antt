@@ -1,13 +1,13 @@
-use Rattle.std.proofs.Common.{◌≡◌, ◌≤◌, ◌<◌, ℕ, ◌+◌, ◌-◌, ◌*◌, ◌^◌, ◌/◌, ◌%◌, ◌∙◌, ap, get_or, length, drop, take, ◌++◌, arith, sym}
+use Rattle.std.proofs.Common.{◌≡◌, ◌≤◌, ◌-◌, ◌∙◌, ap, arith}
 use Rattle.std.proofs.Math.Nat.{mod-eq_of_lt}
-use Rattle.cu_shape.specs.Index.{product, place_of, index_at, IsInside}
-use Rattle.cu_shape.proofs.Places.{index_step, size_positive, index-inside}
+use Rattle.cu_shape.specs.Index.{index_at}
+use Rattle.cu_shape.proofs.Places.{index_step, index-inside}
 use Rattle.cu_shape.proofs.index.index_of.Goals as goal
 
 pub loop-axis-preserved : goal.loop-axis-preserved
 loop-axis-preserved c =
     let s = index_step c.args.dims.now c.loop-axis.index (c.loop-axis.axis - 1) c.loop-axis.axis c.loop-axis.rest c.at-size.result c.args.place
-        (omega arith) (omega arith) (omega arith) c.loop-axis.invariant.digits c.loop-axis.invariant.left c.at-size.ensures in
+    (omega arith) (omega arith) (omega arith) c.loop-axis.invariant.digits c.loop-axis.invariant.left c.at-size.ensures in
     record { digits = c.put.ensures ∙ s.0; left = s.1 }
 
 all_digits : (c : goal.After-loop-axis) → c.loop-axis.axis ≤ 0 → c.loop-axis.index ≡ index_at c.args.dims.now c.args.place

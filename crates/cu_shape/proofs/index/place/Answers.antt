@@ -1,6 +1,5 @@
-use Rattle.std.proofs.Common.{◌≡◌, ◌≤◌, ◌<◌, ℕ, ◌+◌, ◌*◌, ◌^◌, get_or, length, drop, arith}
+use Rattle.std.proofs.Common.{◌<◌, ◌+◌, ◌*◌, ◌^◌, arith}
 use Rattle.std.proofs.lemmas.List.{drop_all}
-use Rattle.cu_shape.specs.Index.{product, place_of}
 use Rattle.cu_shape.proofs.Places.{place_step, place-below, inside-length}
 use Rattle.cu_shape.proofs.index.place.Goals as goal
 

@@ -26,7 +26,7 @@ returns-clause-started g c entry late s =
     let s1 = started_then _ entry late _ _ _ _ s (c.read_chunk.ensures.follows (plan_writes c.args.job.now entry ++ late) (Some entry)) in
     let s2 = started_then _ entry late _ _ _ _ s1 (c.read_chunk-2.ensures.follows (plan_writes c.args.job.now entry ++ late) (Some entry)) in
     let value = added_value c.args.job.now entry late _ _ _ _ c.args.number c.min-inside.result c.key_of-left_key.result c.key_of-right_key.result c.read_chunk.new.buf c.read_chunk-2.new.buf c.add_chunk.new.sums
-        c.requires.number c.key_of-left_key.ensures c.key_of-right_key.ensures s1 s2 c.in_ok-read_chunk.ensures.read c.in_ok-read_chunk-2.ensures.read (omega arith) (omega arith) (omega arith) c.min-inside.ensures c.add_chunk.ensures in
+    c.requires.number c.key_of-left_key.ensures c.key_of-right_key.ensures s1 s2 c.in_ok-read_chunk.ensures.read c.in_ok-read_chunk-2.ensures.read (omega arith) (omega arith) (omega arith) c.min-inside.ensures c.add_chunk.ensures in
     let own = rw (← c.key_of-out_key.ensures) at (chunk_write c.args.job.now entry c.args.number c.add_chunk.new.sums c.requires.number value) in
     started_then _ entry late _ _ _ _ s2 (c.put_value.ensures.follows (plan_writes c.args.job.now entry ++ late) (Some entry) (among_front (plan_writes c.args.job.now entry) late _ _ own))
 
@@ -35,7 +35,7 @@ returns-clause-stored g c entry late s =
     let s1 = started_then _ entry late _ _ _ _ s (c.read_chunk.ensures.follows (plan_writes c.args.job.now entry ++ late) (Some entry)) in
     let s2 = started_then _ entry late _ _ _ _ s1 (c.read_chunk-2.ensures.follows (plan_writes c.args.job.now entry ++ late) (Some entry)) in
     let value = added_value c.args.job.now entry late _ _ _ _ c.args.number c.min-inside.result c.key_of-left_key.result c.key_of-right_key.result c.read_chunk.new.buf c.read_chunk-2.new.buf c.add_chunk.new.sums
-        c.requires.number c.key_of-left_key.ensures c.key_of-right_key.ensures s1 s2 c.in_ok-read_chunk.ensures.read c.in_ok-read_chunk-2.ensures.read (omega arith) (omega arith) (omega arith) c.min-inside.ensures c.add_chunk.ensures in
+    c.requires.number c.key_of-left_key.ensures c.key_of-right_key.ensures s1 s2 c.in_ok-read_chunk.ensures.read c.in_ok-read_chunk-2.ensures.read (omega arith) (omega arith) (omega arith) c.min-inside.ensures c.add_chunk.ensures in
     let own = rw (← c.key_of-out_key.ensures) at (chunk_write c.args.job.now entry c.args.number c.add_chunk.new.sums c.requires.number value) in
     stores_chunk c.put_value.result c.args.job.now entry (g.D.Depot.held c.put_value.new.depot) c.args.number c.key_of-out_key.result c.add_chunk.new.sums value c.key_of-out_key.ensures c.put_value.ensures.stored
 
@@ -44,7 +44,7 @@ returns-clause-stays g c entry late s key bytes write holds =
     let s1 = started_then _ entry late _ _ _ _ s (c.read_chunk.ensures.follows (plan_writes c.args.job.now entry ++ late) (Some entry)) in
     let s2 = started_then _ entry late _ _ _ _ s1 (c.read_chunk-2.ensures.follows (plan_writes c.args.job.now entry ++ late) (Some entry)) in
     let value = added_value c.args.job.now entry late _ _ _ _ c.args.number c.min-inside.result c.key_of-left_key.result c.key_of-right_key.result c.read_chunk.new.buf c.read_chunk-2.new.buf c.add_chunk.new.sums
-        c.requires.number c.key_of-left_key.ensures c.key_of-right_key.ensures s1 s2 c.in_ok-read_chunk.ensures.read c.in_ok-read_chunk-2.ensures.read (omega arith) (omega arith) (omega arith) c.min-inside.ensures c.add_chunk.ensures in
+    c.requires.number c.key_of-left_key.ensures c.key_of-right_key.ensures s1 s2 c.in_ok-read_chunk.ensures.read c.in_ok-read_chunk-2.ensures.read (omega arith) (omega arith) (omega arith) c.min-inside.ensures c.add_chunk.ensures in
     let own = rw (← c.key_of-out_key.ensures) at (chunk_write c.args.job.now entry c.args.number c.add_chunk.new.sums c.requires.number value) in
     let holds1 = value_stays_late _ entry late _ _ _ key bytes s write holds c.read_chunk.ensures.kept in
     let holds2 = value_stays_late _ entry late _ _ _ key bytes s1 write holds1 c.read_chunk-2.ensures.kept in

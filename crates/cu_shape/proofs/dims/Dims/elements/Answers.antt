@@ -1,4 +1,4 @@
-use Rattle.std.proofs.Common.{◌≡◌, ◌≤◌, sym, arith, refl, ℕ}
+use Rattle.std.proofs.Common.{◌≡◌, sym, arith, refl}
 use Rattle.cu_shape.specs.Index.{product}
 use Rattle.cu_shape.proofs.Places.{product_zero}
 use Rattle.cu_shape.proofs.dims.Dims.elements.Goals as goal

@@ -1,0 +1,5 @@
+pub mod Covers
+pub mod Meeting
+pub mod Parting
+pub mod Products
+pub mod Regions

@@ -1,0 +1,8 @@
+use Rattle.std.proofs.Common.{◌≡◌, ◌<◌, ℕ, ◌/◌, length, get_or}
+use Rattle.cu_grid.proofs.cover.corner.Given as goal
+
+abbrev pub invariant-loop-axis : goal.invariant-loop-axis
+invariant-loop-axis l = record {
+  ranks : length l.corner ≡ length l.index;
+  done : (k : ℕ) → k < l.axis → get_or l.corner k 0 ≡ get_or l.index k 0 / get_or l.chunk k 0;
+}

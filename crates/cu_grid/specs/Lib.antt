@@ -1,0 +1,4 @@
+pub mod Counts
+pub mod Cover
+pub mod Grid
+pub mod Limits

@@ -1,0 +1,5 @@
+mod EntryLemmas
+mod Examples
+mod Landings
+mod LateLemmas
+mod Lists

@@ -1,0 +1,5 @@
+pub mod Entries
+pub mod Late
+pub mod Memory
+pub mod Script
+pub mod Streams

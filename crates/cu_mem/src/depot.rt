@@ -1,0 +1,277 @@
+//! A depot in memory.
+ghost use Rattle.std.specs.Prelude.{◌≡◌, ◌≢◌, ◌≤◌, ◌↔◌, ◌++◌, ◌∷◌, [], ℕ, List, Option, Some, None, true, IsTrue, IsErr, OnOk, OnErr, length, take};
+ghost use Rattle.std.specs.Option.{option_copied};
+ghost use Rattle.cu_store.specs.Faults.{Caused, MadeOne};
+ghost use Rattle.cu_store.specs.Held.{IsAmong, OwnOrLate, Lands, Removes, StayAmong, AddsOnlyFailed, Gets, Answers, Holds, IsGone};
+
+use crate::entries::{Entry, bytes_of, store, take_away};
+use crate::late::{Waiting, land_due};
+use crate::script::{CallKind, Fate, Running, Script};
+use cu_store::{Depot, DepotFault, Got, Key, NoMemory};
+use std::alloc::Global;
+use std::marker::Model;
+
+/// A depot that keeps all that it holds in memory. It tells what it holds, and its calls fail where its script says so.
+#[derive(Drop)]
+pub struct MemDepot {
+    alloc: Global,
+    entries: Vec<Entry>,
+    late: Vec<Waiting>,
+    script: Running,
+    faults: u64,
+    calls: u64,
+}
+
+impl Model for MemDepot {
+    ghost use Rattle.std.specs.Prelude.{◌+◌, ◌≤◌, vec_len};
+    ghost use Rattle.std.specs.Vec.{vec_capacity};
+    ghost use Rattle.cu_mem.specs.Memory.{Memory};
+    ghost use Rattle.cu_mem.specs.Script.{progress};
+
+    ghost Value = { Memory };
+
+    ghost view = { λ d. record { entries = d.entries.items; late = d.late.items; script = progress d.script; faults = d.faults; calls = d.calls } };
+
+    // There is room to land each late put.
+    ghost invariant = { λ d. vec_len d.entries + vec_len d.late ≤ vec_capacity d.entries };
+}
+
+impl MemDepot {
+    ghost use Rattle.cu_mem.specs.Late.{writes_of};
+    ghost use Rattle.cu_mem.specs.Memory.{contents, Begins};
+    ghost use Rattle.cu_mem.specs.Script.{LandsOnce, started, fate};
+    ghost use Rattle.cu_store.specs.Faults.{last_count};
+    ghost use Rattle.std.specs.Prelude.{◌+◌, min};
+
+    /// An empty depot, whose calls fail where the script says so. A rule with a `land` has `times` 1.
+    pub fn make(alloc: Global, script: Script) -> MemDepot
+        requires { LandsOnce script.rules.items }
+        ensures empty { (key : List ℕ) → contents result key ≡ None }
+        ensures late { result.late ≡ [] }
+        ensures script { result.script ≡ started script }
+        ensures faults { result.faults ≡ 0 }
+        ensures calls { result.calls ≡ 0 }
+    {
+        MemDepot {
+            alloc,
+            entries: Vec::new(alloc),
+            late: Vec::new(alloc),
+            script: Running::start(script),
+            faults: 0,
+            calls: 0,
+        }
+    }
+
+    /// Stores these bytes under the key, in place of what was there. It isn't counted as a call, and no script lets it fail.
+    pub fn insert(&mut self, key: &Key, bytes: &[u8]) -> Result<(), NoMemory>
+        ensures stored { OnOk result (contents self.new key.now ≡ Some bytes.now) }
+        ensures others { (other : List ℕ) → other ≢ key.now → contents self.new other ≡ contents self.old other }
+        ensures refused { OnErr result (self.new ≡ self.old) }
+        ensures late { self.new.late ≡ self.old.late }
+        ensures script { self.new.script ≡ self.old.script }
+        ensures faults { self.new.faults ≡ self.old.faults }
+        ensures calls { self.new.calls ≡ self.old.calls }
+    {
+        let entry = Entry::copy(self.alloc, key, bytes)?;
+        match self.entries.reserve(self.late.len() + 1) {
+            Ok(()) => {}
+            Err(_) => return Err(NoMemory),
+        }
+        store(&mut self.entries, entry);
+        Ok(())
+    }
+
+    /// The bytes under a key, or `None` where it isn't held. It isn't counted as a call.
+    pub fn lookup(&self, key: &Key) -> Option<&[u8]>
+        ensures { option_copied result ≡ contents self.now key.now }
+    {
+        bytes_of(&self.entries, key)
+    }
+
+    /// How many calls of `Depot` were made. The count stops at the last value of a `u64`.
+    pub fn calls(&self) -> u64
+        ensures { result ≡ self.now.calls }
+    {
+        self.calls
+    }
+
+    /// From now on this script says which calls fail. Its counts begin at 0, and what is late stays late.
+    /// A rule with a `land` has `times` 1.
+    pub fn set_script(&mut self, script: Script)
+        requires { LandsOnce script.rules.items }
+        ensures { self.new ≡ record self.old { script = started script } }
+    {
+        self.script = Running::start(script);
+    }
+
+    /// What each call does first: it is counted, due late puts land, and the script says what becomes of it.
+    fn begin(&mut self, kind: CallKind, key: &Key) -> Fate
+        ensures fate { result ≡ fate self.old.script kind key.now }
+        ensures begun { Begins kind key.now self.old self.new }
+        ensures kept { Lands (IsAmong (writes_of self.old.late)) (Some (contents self.old)) (Some (contents self.new)) }
+        ensures late { StayAmong (writes_of self.new.late) (IsAmong (writes_of self.old.late)) }
+    {
+        self.calls = self.calls.saturating_add(1);
+        land_due(&mut self.entries, &mut self.late);
+        self.script.next(kind, key)
+    }
+
+    /// A fault, which is counted.
+    fn fault(&mut self) -> DepotFault
+        ensures fault { result ≡ DepotFault.Failed }
+        ensures raised { self.new ≡ record self.old { faults = min (self.old.faults + 1) last_count } }
+        ensures count { self.old.faults ≤ self.new.faults }
+    {
+        self.faults = self.faults.saturating_add(1);
+        DepotFault::Failed
+    }
+
+    /// Keeps a put that fails, so that it lands after so many further calls.
+    fn put_off(&mut self, key: &Key, bytes: &[u8], wait: u32) -> Result<(), NoMemory>
+        ensures kept { OnOk result (self.new ≡ record self.old { late = self.old.late ++ record { entry = (key.now, bytes.now); wait = wait } ∷ [] }) }
+        ensures refused { OnErr result (self.new ≡ self.old) }
+    {
+        let entry = Entry::copy(self.alloc, key, bytes)?;
+        match self.entries.reserve(self.late.len() + 1) {
+            Ok(()) => {}
+            Err(_) => return Err(NoMemory),
+        }
+        match self.late.push(Waiting { entry, wait }) {
+            Ok(()) => Ok(()),
+            Err(_) => Err(NoMemory),
+        }
+    }
+}
+
+/// Copies as many bytes as there is room for, and says how many there are.
+fn copy_front(bytes: &[u8], buf: &mut [u8]) -> u64
+    ensures all { result ≡ length bytes.now }
+    ensures copied { take (length bytes.now) buf.new ≡ take (length buf.new) bytes.now }
+{
+    let n = bytes.len().min(buf.len());
+    buf[..n].copy_from_slice(&bytes[..n]);
+    bytes.len() as u64
+}
+
+impl Depot for MemDepot {
+    ghost use Rattle.cu_mem.specs.Memory.{contents, OnlyLands, LandsAndSets, Raises, put_late};
+    ghost use Rattle.cu_mem.specs.Late.{waiting, writes_of};
+    ghost use Rattle.cu_mem.specs.Script.{fails, land, next};
+
+    ghost held = { λ m. Some (contents m) };
+
+    ghost late = { λ m. writes_of m.late };
+
+    ghost faults = { λ m. m.faults };
+
+    ghost calls = { λ m. m.calls };
+
+    ghost lacks = { λ m. true };
+
+    /// Copies as many bytes of the key's value as `buf` has room for, and says how long the value is.
+    /// It fails exactly where the script says so, and takes no memory.
+    fn get(&mut self, key: &Key, buf: &mut [u8]) -> Result<Got, DepotFault>
+        ensures got { Gets (Some (contents self.new)) key.now buf.new result }
+        ensures kept { Lands (IsAmong (writes_of self.old.late)) (Some (contents self.old)) (Some (contents self.new)) }
+        ensures late { StayAmong (writes_of self.new.late) (IsAmong (writes_of self.old.late)) }
+        ensures cause { Caused 1 self.old.faults self.new.faults true result }
+        ensures count { self.old.faults ≤ self.new.faults }
+        ensures calls { MadeOne self.old.calls self.new.calls }
+
+        ensures failed { (result ≡ Err DepotFault.Failed) ↔ IsTrue (fails self.old.script CallKind.Get key.now) }
+        ensures memory { result ≢ Err DepotFault.NoMemory }
+        ensures raised { Raises result self.old.faults self.new.faults }
+        ensures lands { OnlyLands self.old self.new }
+        ensures waits { self.new.late ≡ waiting self.old.late }
+        ensures script { self.new.script ≡ next self.old.script CallKind.Get key.now }
+    {
+        if let Fate::Fails(_) = self.begin(CallKind::Get, key) {
+            return Err(self.fault());
+        }
+        match bytes_of(&self.entries, key) {
+            None => Ok(Got::Absent),
+            Some(bytes) => Ok(Got::Held(copy_front(bytes, buf))),
+        }
+    }
+
+    /// Whether the key is held. It fails exactly where the script says so, and takes no memory.
+    fn has(&mut self, key: &Key) -> Result<bool, DepotFault>
+        ensures answer { Answers (Some (contents self.new)) key.now result }
+        ensures kept { Lands (IsAmong (writes_of self.old.late)) (Some (contents self.old)) (Some (contents self.new)) }
+        ensures late { StayAmong (writes_of self.new.late) (IsAmong (writes_of self.old.late)) }
+        ensures cause { Caused 1 self.old.faults self.new.faults true result }
+        ensures count { self.old.faults ≤ self.new.faults }
+        ensures calls { MadeOne self.old.calls self.new.calls }
+
+        ensures failed { (result ≡ Err DepotFault.Failed) ↔ IsTrue (fails self.old.script CallKind.Has key.now) }
+        ensures memory { result ≢ Err DepotFault.NoMemory }
+        ensures raised { Raises result self.old.faults self.new.faults }
+        ensures lands { OnlyLands self.old self.new }
+        ensures waits { self.new.late ≡ waiting self.old.late }
+        ensures script { self.new.script ≡ next self.old.script CallKind.Has key.now }
+    {
+        if let Fate::Fails(_) = self.begin(CallKind::Has, key) {
+            return Err(self.fault());
+        }
+        Ok(bytes_of(&self.entries, key).is_some())
+    }
+
+    /// Stores these bytes under the key, in place of what was there. Failed comes only where the script says so; there a put
+    /// that is to land later may want memory for its bytes, and nothing is late or counted as a fault where it has none.
+    fn put(&mut self, key: &Key, bytes: &[u8]) -> Result<(), DepotFault>
+        ensures stored { OnOk result (Holds (Some (contents self.new)) key.now bytes.now) }
+        ensures kept { Lands (OwnOrLate key.now bytes.now (writes_of self.old.late)) (Some (contents self.old)) (Some (contents self.new)) }
+        ensures kept_err { OnErr result (Lands (IsAmong (writes_of self.old.late)) (Some (contents self.old)) (Some (contents self.new))) }
+        ensures late { StayAmong (writes_of self.new.late) (OwnOrLate key.now bytes.now (writes_of self.old.late)) }
+        ensures late_unless_failed { AddsOnlyFailed result (writes_of self.old.late) (writes_of self.new.late) }
+        ensures cause { Caused 1 self.old.faults self.new.faults true result }
+        ensures count { self.old.faults ≤ self.new.faults }
+        ensures calls { MadeOne self.old.calls self.new.calls }
+
+        ensures failed { result ≡ Err DepotFault.Failed → IsTrue (fails self.old.script CallKind.Put key.now) }
+        ensures fails { IsTrue (fails self.old.script CallKind.Put key.now) → IsErr result }
+        ensures fails_for_good { IsTrue (fails self.old.script CallKind.Put key.now) → land self.old.script CallKind.Put key.now ≡ None → result ≡ Err DepotFault.Failed }
+        ensures raised { Raises result self.old.faults self.new.faults }
+        ensures lands { OnOk result (LandsAndSets key.now (Some bytes.now) self.old self.new) }
+        ensures lands_err { OnErr result (OnlyLands self.old self.new) }
+        ensures waits { self.new.late ≡ waiting self.old.late ++ put_late result (land self.old.script CallKind.Put key.now) key.now bytes.now }
+        ensures script { self.new.script ≡ next self.old.script CallKind.Put key.now }
+    {
+        match self.begin(CallKind::Put, key) {
+            Fate::Works => match self.insert(key, bytes) {
+                Ok(()) => Ok(()),
+                Err(NoMemory) => Err(DepotFault::NoMemory),
+            },
+            Fate::Fails(None) => Err(self.fault()),
+            Fate::Fails(Some(wait)) => match self.put_off(key, bytes, wait) {
+                Ok(()) => Err(self.fault()),
+                Err(NoMemory) => Err(DepotFault::NoMemory),
+            },
+        }
+    }
+
+    /// Makes the key absent. It fails exactly where the script says so, and takes no memory.
+    fn remove(&mut self, key: &Key) -> Result<(), DepotFault>
+        ensures gone { OnOk result (IsGone (Some (contents self.new)) key.now) }
+        ensures kept { Removes key.now (IsAmong (writes_of self.old.late)) (Some (contents self.old)) (Some (contents self.new)) }
+        ensures kept_err { OnErr result (Lands (IsAmong (writes_of self.old.late)) (Some (contents self.old)) (Some (contents self.new))) }
+        ensures late { StayAmong (writes_of self.new.late) (IsAmong (writes_of self.old.late)) }
+        ensures cause { Caused 1 self.old.faults self.new.faults true result }
+        ensures count { self.old.faults ≤ self.new.faults }
+        ensures calls { MadeOne self.old.calls self.new.calls }
+
+        ensures failed { (result ≡ Err DepotFault.Failed) ↔ IsTrue (fails self.old.script CallKind.Remove key.now) }
+        ensures memory { result ≢ Err DepotFault.NoMemory }
+        ensures raised { Raises result self.old.faults self.new.faults }
+        ensures lands { OnOk result (LandsAndSets key.now None self.old self.new) }
+        ensures lands_err { OnErr result (OnlyLands self.old self.new) }
+        ensures waits { self.new.late ≡ waiting self.old.late }
+        ensures script { self.new.script ≡ next self.old.script CallKind.Remove key.now }
+    {
+        if let Fate::Fails(_) = self.begin(CallKind::Remove, key) {
+            return Err(self.fault());
+        }
+        take_away(&mut self.entries, key);
+        Ok(())
+    }
+}

@@ -1,0 +1,26 @@
+-- Keys that were found absent.
+use Rattle.std.proofs.Common.{◌≡◌, ◌⊎◌, ℕ, ◌+◌, ◌<◌, List, Option, Some, None, refl, sym, ◌∙◌, subst, inl, inr, arith, below_more}
+use Rattle.cu_store.specs.Held.{Contents, Write, IsAmong, IsKeptAt, Lands, Follows, IsGone}
+use Rattle.cu_zarr.specs.Key.{metadata_key_of}
+use Rattle.cu_top.specs.Job.{IsArrayKey, IsFree, chunks_of, key_of_chunk}
+use Rattle.cu_top.specs.Run.{IsFreeBelow}
+use Rattle.cu_top.specs.declared.job.Job.{Job}
+
+kept_absent : (W : List ℕ → List ℕ → Type 0) (entry held : Contents) (key : List ℕ) → held key ≡ None → IsKeptAt W entry held key → entry key ≡ None
+kept_absent W entry held key gone (inl same) = sym same ∙ gone
+kept_absent W entry held key gone (inr (bytes, write, now)) = cc
+
+-- A key that is absent now was absent then, where writes alone have landed since.
+pub absent_at_entry : (writes late : List Write) (entry : Contents) (held : Option Contents) (key : List ℕ) → Follows writes (Some entry) held late → IsGone held key → entry key ≡ None
+absent_at_entry writes late entry None key follows gone = absurd follows.0
+absent_at_entry writes late entry (Some held) key follows gone = kept_absent (IsAmong writes) entry held key gone (follows.0 key)
+
+pub none_below : (job : Job) (entry : Contents) → entry (metadata_key_of job.out) ≡ None → IsFreeBelow job entry 0
+none_below job entry metadata = (metadata, λ k below. absurd (omega arith))
+
+pub one_more_free : (job : Job) (entry : Contents) (n : ℕ) → IsFreeBelow job entry n → entry (key_of_chunk job.out n) ≡ None → IsFreeBelow job entry (n + 1)
+one_more_free job entry n so_far here = (so_far.0, below_more _ _ so_far.1 here)
+
+pub all_free : (job : Job) (entry : Contents) (n : ℕ) → chunks_of job ≡ n → IsFreeBelow job entry n → IsFree job entry
+all_free job entry n all below key (inl metadata) = rw metadata below.0
+all_free job entry n all below key (inr (k, small, chunk)) = rw chunk (below.1 k (omega (arith, all, small)))

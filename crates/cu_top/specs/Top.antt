@@ -1,0 +1,193 @@
+-- What the call answers, when, and what it leaves.
+use Rattle.std.specs.Prelude.{◌≡◌, ◌≢◌, ◌⊎◌, ℕ, ◌+◌, ◌*◌, ◌<◌, ◌≤◌, List, length, Option, Some, None, Ok, Err}
+use Rattle.cu_store.specs.Faults.{Rose}
+use Rattle.cu_store.specs.Held.{Contents, Write, Follows}
+use Rattle.cu_zarr.specs.Key.{metadata_key_of}
+use Rattle.cu_top.specs.Chunks.{HoldsLength, IsChunkKey}
+use Rattle.cu_top.specs.Job.{IsArrayKey, IsQuiet, HasInputs, IsStarted, IsLeft, key_of_chunk}
+use Rattle.cu_top.specs.OneAxis.{IsWithinLimits}
+use Rattle.cu_top.specs.Run.{HasNames, IsRunKey, over_memory, IsInWay, IsFirstInWay, HasNoInputs, report_line, Completes}
+use Rattle.cu_top.specs.Streams.{WroteFront, ReadsAll}
+use Rattle.cu_top.specs.Expression.{Names as TextNames, addition_of}
+use Rattle.cu_top.specs.Words.{options_of}
+use Rattle.cu_top.specs.declared.job.Job.{Job}
+use Rattle.cu_top.specs.declared.job.Names.{Names as ArrayNames}
+use Rattle.cu_top.specs.declared.status.Status.{Status}
+use Rattle.cu_top.specs.declared.status.Status.TheVariants.{Done, BadWords, OverMemory, Exists, ReadFault, WriteFault, BadChunk, DepotFailed, NotBuilt, NoMemory}
+use Rattle.cu_top.specs.declared.words.Options.{Options}
+
+-- ---- a job that was accepted
+
+-- The arrays of these names have sizes within the limits, and the sum needs no more than is allowed. Where the contents are told
+-- and the premise holds, both inputs have the metadata of these sizes.
+pub record IsAccepted (names : ArrayNames) (options : Options) (old : Option Contents) (late : List Write) (job : Job) : Type 0 where
+  pub has_names : HasNames names job
+  pub limits : IsWithinLimits job.elements job.chunk
+  pub inputs : (entry : Contents) → old ≡ Some entry → IsQuiet job entry late → HasInputs job entry
+
+-- each key of the plan is absent or holds its one value, where the contents are told
+abbrev pub IsLeftIn : Job → Contents → Option Contents → Type 0
+IsLeftIn job entry None = Unit {0}
+IsLeftIn job entry (Some held) = IsLeft job entry held
+
+-- A run that was started, with a fact of the job and one of what is held: where the contents are told and the premise holds, only the
+-- plan's values and puts that were late have landed since the call began, on a depot in which no key of the plan was held.
+pub record IsRun (names : ArrayNames) (options : Options) (old new : Option Contents) (late now_late : List Write) (fact : Job → Type 0) (told : Job → Contents → Type 0) : Type 0 where
+  pub job : Job
+  pub accepted : IsAccepted names options old late job
+  pub fits : over_memory options job ≡ None
+  pub is_so : fact job
+  pub started : (entry : Contents) → old ≡ Some entry → IsQuiet job entry late → IsStarted job entry late new now_late
+  pub left : (entry : Contents) → old ≡ Some entry → IsQuiet job entry late → IsLeftIn job entry new
+  pub holds : (entry : Contents) → old ≡ Some entry → IsQuiet job entry late → told job entry
+
+abbrev pub Anything : Job → Contents → Type 0
+Anything job entry = Unit {0}
+
+-- the whole line of the report was written, or its front
+abbrev pub WroteLine : Options → Option (List ℕ) → Option (List ℕ) → Job → Type 0
+WroteLine options old new job = WroteFront old new (report_line options job) (length (report_line options job))
+
+abbrev pub WrotePart : Options → Option (List ℕ) → Option (List ℕ) → Job → Type 0
+WrotePart options old new job = (n : ℕ) × (n ≤ length (report_line options job)) × WroteFront old new (report_line options job) n
+
+-- an input's chunk holds `got` bytes and not those of a chunk
+abbrev pub IsBad : Option Contents → List ℕ → ℕ → ℕ → Job → Type 0
+IsBad held key got want job = (IsChunkKey job job.left key ⊎ IsChunkKey job job.right key) × (want ≡ 4 * job.chunk) × (got ≢ want) × HoldsLength held key got
+
+-- more is needed than is allowed
+pub record IsOver (names : ArrayNames) (options : Options) (old : Option Contents) (late : List Write) (node need : ℕ) : Type 0 where
+  pub job : Job
+  pub accepted : IsAccepted names options old late job
+  pub over : over_memory options job ≡ Some (node, need)
+
+-- a key of the plan is in the way, and is the first
+pub record IsBlocked (names : ArrayNames) (options : Options) (old new : Option Contents) (late : List Write) (key : List ℕ) : Type 0 where
+  pub job : Job
+  pub accepted : IsAccepted names options old late job
+  pub fits : over_memory options job ≡ None
+  pub in_way : IsInWay job new key
+  pub first : (entry : Contents) → old ≡ Some entry → IsFirstInWay job entry key
+
+-- the metadata or a chunk of one of the arrays
+abbrev pub IsKeyOfArray : List ℕ → List ℕ → Type 0
+IsKeyOfArray name key = (key ≡ metadata_key_of name) ⊎ ((k : ℕ) × (key ≡ key_of_chunk name k))
+
+abbrev pub IsNamedKey : ArrayNames → List ℕ → Type 0
+IsNamedKey names key = IsKeyOfArray names.left key ⊎ IsKeyOfArray names.right key ⊎ IsKeyOfArray names.out key
+
+-- ---- what carrying out a job that was accepted answers
+
+abbrev pub Carries : Job → Options → ℕ → ℕ → Option Contents → ℕ → ℕ → Option (List ℕ) → Option (List ℕ) → Status → Type 0
+Carries job options f g held v w old new Done = WroteLine options old new job
+Carries job options f g held v w old new WriteFault = Rose 1 v w × WrotePart options old new job
+Carries job options f g held v w old new (BadChunk key got want) = IsBad held key got want job
+Carries job options f g held v w old new (DepotFailed key) = IsRunKey job key × Rose 3 f g
+Carries job options f g held v w old new NoMemory = Unit {0}
+Carries job options f g held v w old new (BadWords code) = ⊥
+Carries job options f g held v w old new (OverMemory node need allowed) = ⊥
+Carries job options f g held v w old new (Exists key) = ⊥
+Carries job options f g held v w old new ReadFault = ⊥
+Carries job options f g held v w old new (NotBuilt node) = ⊥
+
+-- a fact of the answers after which the output is complete
+abbrev pub IfStored : Status → Type 0 → Type 0
+IfStored Done P = P
+IfStored WriteFault P = P
+IfStored (BadWords code) P = Unit {0}
+IfStored (OverMemory node need allowed) P = Unit {0}
+IfStored (Exists key) P = Unit {0}
+IfStored ReadFault P = Unit {0}
+IfStored (BadChunk key got want) P = Unit {0}
+IfStored (DepotFailed key) P = Unit {0}
+IfStored (NotBuilt node) P = Unit {0}
+IfStored NoMemory P = Unit {0}
+
+-- nothing was printed but by the report
+abbrev pub PrintsOnly : Status → Option (List ℕ) → Option (List ℕ) → Type 0
+PrintsOnly Done old new = Unit {0}
+PrintsOnly WriteFault old new = Unit {0}
+PrintsOnly (BadWords code) old new = new ≡ old
+PrintsOnly (OverMemory node need allowed) old new = new ≡ old
+PrintsOnly (Exists key) old new = new ≡ old
+PrintsOnly ReadFault old new = new ≡ old
+PrintsOnly (BadChunk key got want) old new = new ≡ old
+PrintsOnly (DepotFailed key) old new = new ≡ old
+PrintsOnly (NotBuilt node) old new = new ≡ old
+PrintsOnly NoMemory old new = new ≡ old
+
+-- ---- what preparing a job refuses
+
+abbrev pub Refuses : ArrayNames → Options → Option Contents → Option Contents → List Write → ℕ → ℕ → Status → Type 0
+Refuses names options old new late f g (OverMemory node need allowed) = (allowed ≡ options.allowed) × IsOver names options old late node need
+Refuses names options old new late f g (Exists key) = IsBlocked names options old new late key
+Refuses names options old new late f g (NotBuilt node) = (node ≡ 0) × ((entry : Contents) → old ≡ Some entry → HasNoInputs names entry late)
+Refuses names options old new late f g (DepotFailed key) = IsNamedKey names key × Rose 3 f g
+Refuses names options old new late f g NoMemory = Unit {0}
+Refuses names options old new late f g Done = ⊥
+Refuses names options old new late f g (BadWords code) = ⊥
+Refuses names options old new late f g ReadFault = ⊥
+Refuses names options old new late f g WriteFault = ⊥
+Refuses names options old new late f g (BadChunk key got want) = ⊥
+
+-- ---- what a run of named arrays answers, and what it leaves
+
+-- the depot holds what it held, but for late puts that landed
+abbrev pub IsUntouched : Option Contents → Option Contents → List Write → List Write → Type 0
+IsUntouched old new late now_late = Follows late old new now_late
+
+abbrev pub Ran : ArrayNames → Options → Option Contents → Option Contents → List Write → List Write → ℕ → ℕ → ℕ → ℕ → Option (List ℕ) → Option (List ℕ) → Status → Type 0
+Ran names options old new late now_late f g v w front back Done = IsRun names options old new late now_late (WroteLine options front back) (λ job entry. Completes job entry new)
+Ran names options old new late now_late f g v w front back WriteFault = Rose 1 v w × IsRun names options old new late now_late (WrotePart options front back) (λ job entry. Completes job entry new)
+Ran names options old new late now_late f g v w front back (BadChunk key got want) = IsRun names options old new late now_late (IsBad new key got want) Anything
+Ran names options old new late now_late f g v w front back (DepotFailed key) = IsNamedKey names key × Rose 3 f g × (IsUntouched old new late now_late ⊎ IsRun names options old new late now_late (λ job. Unit {0}) Anything)
+Ran names options old new late now_late f g v w front back NoMemory = IsUntouched old new late now_late ⊎ IsRun names options old new late now_late (λ job. Unit {0}) Anything
+Ran names options old new late now_late f g v w front back (OverMemory node need allowed) = IsUntouched old new late now_late × (allowed ≡ options.allowed) × IsOver names options old late node need
+Ran names options old new late now_late f g v w front back (Exists key) = IsUntouched old new late now_late × IsBlocked names options old new late key
+Ran names options old new late now_late f g v w front back (NotBuilt node) = IsUntouched old new late now_late × (node ≡ 0) × ((entry : Contents) → old ≡ Some entry → HasNoInputs names entry late)
+Ran names options old new late now_late f g v w front back (BadWords code) = ⊥
+Ran names options old new late now_late f g v w front back ReadFault = ⊥
+
+-- ---- the call
+
+-- the text that was read from the source: all that was left, or the first 1,048,577 bytes
+abbrev pub IsRead : Option (List ℕ) → Option (List ℕ) → List ℕ → Type 0
+IsRead = ReadsAll
+
+abbrev pub text_names : ArrayNames → TextNames
+text_names names = record { left = names.left; right = names.right; out = names.out }
+
+-- the words give these options, and the text that was read adds the arrays of these names
+pub record IsCalled (words : List (List ℕ)) (src next : Option (List ℕ)) (names : ArrayNames) (options : Options) : Type 0 where
+  pub words_give : options_of words ≡ Ok options
+  pub text : List ℕ
+  pub read : IsRead src next text
+  pub adds : addition_of text ≡ Some (text_names names)
+
+-- the call came to a run, which answers so
+pub record CameToRun (words : List (List ℕ)) (src next : Option (List ℕ)) (run : ArrayNames → Options → Type 0) : Type 0 where
+  pub names : ArrayNames
+  pub options : Options
+  pub called : IsCalled words src next names options
+  pub ran : run names options
+
+-- the words are accepted, and the text that was read is no addition
+pub record HasNoAddition (words : List (List ℕ)) (src next : Option (List ℕ)) : Type 0 where
+  pub options : Options
+  pub words_give : options_of words ≡ Ok options
+  pub text : List ℕ
+  pub read : IsRead src next text
+  pub none : addition_of text ≡ None
+
+-- the answers before a run, and those of a run
+abbrev pub Tells : List (List ℕ) → Option (List ℕ) → Option (List ℕ) → ℕ → ℕ → Option Contents → Option Contents → List Write → List Write → (ArrayNames → Options → Status → Type 0) → Status → Type 0
+Tells words src next t u old new late now_late run (BadWords code) = (options_of words ≡ Err code) × IsUntouched old new late now_late
+Tells words src next t u old new late now_late run ReadFault = Rose 1 t u × IsUntouched old new late now_late
+Tells words src next t u old new late now_late run NoMemory = IsUntouched old new late now_late ⊎ CameToRun words src next (λ names options. run names options NoMemory)
+Tells words src next t u old new late now_late run (NotBuilt node) = (node ≡ 0) × ((HasNoAddition words src next × IsUntouched old new late now_late) ⊎ CameToRun words src next (λ names options. run names options (NotBuilt node)))
+Tells words src next t u old new late now_late run Done = CameToRun words src next (λ names options. run names options Done)
+Tells words src next t u old new late now_late run (OverMemory node need allowed) = CameToRun words src next (λ names options. run names options (OverMemory node need allowed))
+Tells words src next t u old new late now_late run (Exists key) = CameToRun words src next (λ names options. run names options (Exists key))
+Tells words src next t u old new late now_late run WriteFault = CameToRun words src next (λ names options. run names options WriteFault)
+Tells words src next t u old new late now_late run (BadChunk key got want) = CameToRun words src next (λ names options. run names options (BadChunk key got want))
+Tells words src next t u old new late now_late run (DepotFailed key) = CameToRun words src next (λ names options. run names options (DepotFailed key))

@@ -1,0 +1,80 @@
+//! The memory of a run, and its report.
+ghost use Rattle.std.specs.Prelude.{◌≡◌, ℕ, ◌^◌, ◌≤◌, length, MatchOption, option_map, Some, None};
+ghost use Rattle.cu_top.specs.OneAxis.{IsWithinLimits};
+ghost use Rattle.cu_top.specs.Report.{Reports, TellsMemory};
+ghost use Rattle.cu_top.specs.Run.{need_of, over_memory, report_line};
+
+use crate::Status;
+use crate::job::Job;
+use crate::status::{LineText, push_field};
+use crate::streams::write_all;
+use crate::words::Options;
+use cu_store::Sink;
+
+/// The bytes that the instructions of a sum need: 512 for each of the two loads and the addition.
+const INSTRUCTION_BYTES: u64 = 1536;
+
+/// The bytes that the run needs: the reserved ones, a scratch chunk, a chunk of each input and one of the output, and
+/// those of the instructions.
+fn need(options: Options, job: &Job) -> u64
+    requires reserved { options.reserved ≤ 2 ^ 40 }
+    requires limits { IsWithinLimits job.now.elements job.now.chunk }
+    ensures { result ≡ need_of options job.now }
+{
+    options.reserved + 16 * job.chunk + INSTRUCTION_BYTES
+}
+
+/// The refusal where more is needed than is allowed: by an input, which needs the reserved bytes, or by the sum.
+pub fn check_memory(options: Options, job: &Job) -> Result<(), Status>
+    requires reserved { options.reserved ≤ 2 ^ 40 }
+    requires limits { IsWithinLimits job.now.elements job.now.chunk }
+    ensures { TellsMemory options.allowed (over_memory options job.now) result }
+{
+    let need = need(options, job);
+    let allowed = options.allowed;
+    if allowed < options.reserved {
+        return Err(Status::OverMemory {
+            node: 0,
+            need: options.reserved,
+            allowed,
+        });
+    }
+    if allowed < need {
+        return Err(Status::OverMemory {
+            node: 2,
+            need,
+            allowed,
+        });
+    }
+    Ok(())
+}
+
+/// The line that reports a run.
+#[tactic(auto, unfolding(crate::specs::Run::report_line))]
+fn report_text(options: Options, job: &Job) -> LineText
+    requires reserved { options.reserved ≤ 2 ^ 40 }
+    requires limits { IsWithinLimits job.now.elements job.now.chunk }
+    ensures { result.bytes ≡ report_line options job.now }
+{
+    let tasks = job.chunks();
+    let mut line = LineText::new();
+    push_field(&mut line, "ok ops=1 tasks=", tasks);
+    push_field(&mut line, " starts=", tasks);
+    push_field(&mut line, " failed=0 peak=", need(options, job));
+    line.push_str("\n");
+    line
+}
+
+/// Writes the report.
+pub fn report<W: Sink>(out: &mut W, options: Options, job: &Job) -> Status
+    requires reserved { options.reserved ≤ 2 ^ 40 }
+    requires limits { IsWithinLimits job.now.elements job.now.chunk }
+    ensures answer { Reports (W.written out.old) (W.written out.new) (report_line options job.now) (W.faults out.old) (W.faults out.new) result }
+    ensures count { W.faults out.old ≤ W.faults out.new }
+{
+    let line = report_text(options, job);
+    match write_all(out, line.as_bytes()) {
+        Ok(()) => Status::Done,
+        Err(_) => Status::WriteFault,
+    }
+}

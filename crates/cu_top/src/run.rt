@@ -1,0 +1,118 @@
+//! A run: what is checked before anything is stored, and what is stored then.
+ghost use Rattle.std.specs.Prelude.{◌≡◌, ℕ, ◌^◌, ◌≤◌, List, Option, Some, None, IfErr, IfOk};
+ghost use Rattle.cu_store.specs.Held.{Contents, Write, Follows};
+ghost use Rattle.cu_top.specs.Job.{IsJob, IsArrayName, IsQuiet, IsFree, IsStarted};
+ghost use Rattle.cu_top.specs.Run.{over_memory, Completes};
+ghost use Rattle.cu_top.specs.Top.{IsAccepted, Refuses, Carries, IfStored, PrintsOnly, Ran};
+
+use crate::Status;
+use crate::ask::ask_keys;
+use crate::inputs::read_inputs;
+use crate::job::{Job, Names};
+use crate::memory::{check_memory, report};
+use crate::metadata::{Sizes, write_sizes};
+use crate::output::store_output;
+use crate::words::Options;
+use cu_store::{Depot, Sink};
+use std::alloc::Global;
+
+/// Checks what can be refused before anything is stored: the inputs' metadata, the memory, and the keys in the way, in this order.
+pub fn prepare<D: Depot>(
+    alloc: Global,
+    options: Options,
+    names: &Names,
+    depot: &mut D,
+) -> Result<Job, Status>
+    requires left { IsArrayName names.now.left }
+    requires right { IsArrayName names.now.right }
+    requires out { IsArrayName names.now.out }
+    requires reserved { options.reserved ≤ 2 ^ 40 }
+    ensures accepted { IfOk result (IsAccepted names.now options (D.held depot.old) (D.late depot.old)) }
+    ensures job { IfOk result IsJob }
+    ensures fits { IfOk result (λ job. over_memory options job ≡ None) }
+    ensures free { (entry : Contents) → D.held depot.old ≡ Some entry → IfOk result (λ job. IsFree job entry) }
+    ensures refused { IfErr result (Refuses names.now options (D.held depot.old) (D.held depot.new) (D.late depot.old) (D.faults depot.old) (D.faults depot.new)) }
+    ensures follows { (writes : List Write) (entry : Option Contents)
+        → Follows writes entry (D.held depot.old) (D.late depot.old) → Follows writes entry (D.held depot.new) (D.late depot.new) }
+    ensures count { D.faults depot.old ≤ D.faults depot.new }
+{
+    let job = match read_inputs(alloc, depot, names) {
+        Ok(job) => job,
+        Err(status) => return Err(status),
+    };
+    if let Err(status) = check_memory(options, &job) {
+        return Err(status);
+    }
+    match ask_keys(depot, &job) {
+        Ok(()) => Ok(job),
+        Err(status) => Err(status),
+    }
+}
+
+/// Takes the buffers, stores the output and writes the report.
+pub fn carry_out<W: Sink, D: Depot>(
+    alloc: Global,
+    options: Options,
+    job: &Job,
+    out: &mut W,
+    depot: &mut D,
+) -> Status
+    requires job { IsJob job.now }
+    requires reserved { options.reserved ≤ 2 ^ 40 }
+    ensures answer { Carries job.now options (D.faults depot.old) (D.faults depot.new) (D.held depot.new) (W.faults out.old) (W.faults out.new) (W.written out.old) (W.written out.new) result }
+    ensures prints { PrintsOnly result (W.written out.old) (W.written out.new) }
+    ensures started { (entry : Contents) (late : List Write)
+        → IsStarted job.now entry late (D.held depot.old) (D.late depot.old) → IsStarted job.now entry late (D.held depot.new) (D.late depot.new) }
+    ensures stored { (entry : Contents) (late : List Write)
+        → IsStarted job.now entry late (D.held depot.old) (D.late depot.old) → IfStored result (Completes job.now entry (D.held depot.new)) }
+{
+    let size = (4 * job.chunk) as usize;
+    let sizes = Sizes {
+        length: job.elements,
+        chunk: job.chunk,
+    };
+    let Ok(metadata) = write_sizes(alloc, sizes) else {
+        return Status::NoMemory;
+    };
+    let Ok(mut left) = vec![in alloc; 0u8; size] else {
+        return Status::NoMemory;
+    };
+    let Ok(mut right) = vec![in alloc; 0u8; size] else {
+        return Status::NoMemory;
+    };
+    let Ok(mut sums) = vec![in alloc; 0u8; size] else {
+        return Status::NoMemory;
+    };
+    match store_output(
+        depot,
+        job,
+        metadata.as_bytes(),
+        &mut left,
+        &mut right,
+        &mut sums,
+    ) {
+        Ok(()) => report(out, options, job),
+        Err(status) => status,
+    }
+}
+
+/// Adds the arrays of these names.
+pub fn run<W: Sink, D: Depot>(
+    alloc: Global,
+    options: Options,
+    names: &Names,
+    out: &mut W,
+    depot: &mut D,
+) -> Status
+    requires left { IsArrayName names.now.left }
+    requires right { IsArrayName names.now.right }
+    requires out { IsArrayName names.now.out }
+    requires reserved { options.reserved ≤ 2 ^ 40 }
+    ensures answer { Ran names.now options (D.held depot.old) (D.held depot.new) (D.late depot.old) (D.late depot.new) (D.faults depot.old) (D.faults depot.new) (W.faults out.old) (W.faults out.new) (W.written out.old) (W.written out.new) result }
+    ensures prints { PrintsOnly result (W.written out.old) (W.written out.new) }
+{
+    match prepare(alloc, options, names, depot) {
+        Ok(job) => carry_out(alloc, options, &job, out, depot),
+        Err(status) => status,
+    }
+}
