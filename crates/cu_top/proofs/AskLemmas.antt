@@ -1,8 +1,8 @@
 -- Keys that were found absent.
-use Rattle.std.proofs.Common.{◌≡◌, ◌⊎◌, ℕ, ◌+◌, ◌<◌, List, Option, Some, None, refl, sym, ◌∙◌, subst, inl, inr, arith, below_more}
-use Rattle.cu_store.specs.Held.{Contents, Write, IsAmong, IsKeptAt, Lands, Follows, IsGone}
+use Rattle.std.proofs.Common.{◌≡◌, ℕ, ◌+◌, List, Option, Some, None, sym, ◌∙◌, inl, inr, arith, below_more}
+use Rattle.cu_store.specs.Held.{Contents, Write, IsAmong, IsKeptAt, Follows, IsGone}
 use Rattle.cu_zarr.specs.Key.{metadata_key_of}
-use Rattle.cu_top.specs.Job.{IsArrayKey, IsFree, chunks_of, key_of_chunk}
+use Rattle.cu_top.specs.Job.{IsFree, chunks_of, key_of_chunk}
 use Rattle.cu_top.specs.Run.{IsFreeBelow}
 use Rattle.cu_top.specs.declared.job.Job.{Job}
 

@@ -1,6 +1,6 @@
 -- What the metadata of the inputs was when the call began.
-use Rattle.std.proofs.Common.{◌≡◌, ◌⊎◌, ℕ, ◌≤◌, List, length, Option, Some, None, refl, sym, ap, ◌∙◌, subst, inl, inr, arith}
-use Rattle.cu_store.specs.Held.{Contents, Write, IsAmong, IsKeptAt, Lands, Follows}
+use Rattle.std.proofs.Common.{◌≡◌, ◌⊎◌, ℕ, ◌≤◌, List, length, Option, Some, None, sym, ap, ◌∙◌, subst, inl, inr}
+use Rattle.cu_store.specs.Held.{Contents, Write, IsAmong, IsKeptAt, Follows}
 use Rattle.cu_zarr.specs.Key.{metadata_key_of}
 use Rattle.cu_zarr.specs.Metadata.{metadata_text}
 use Rattle.cu_top.specs.Inputs.{HoldsText, HoldsNoText}

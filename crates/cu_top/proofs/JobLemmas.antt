@@ -1,13 +1,13 @@
 -- What stands in the depot while an addition runs.
-use Rattle.std.proofs.Common.{◌≡◌, ◌≢◌, ◌⊎◌, ℕ, zero, suc, ◌+◌, ◌-◌, min, ◌*◌, ◌<◌, ◌≤◌, ◌^◌, List, [], ◌∷◌, ◌++◌, length, All, Option, Some, None, refl, sym, ap, ◌∙◌, subst, inl, inr, arith, below_more}
+use Rattle.std.proofs.Common.{◌≡◌, ◌⊎◌, ℕ, zero, suc, ◌+◌, ◌-◌, min, ◌*◌, ◌<◌, ◌≤◌, ◌^◌, List, [], ◌∷◌, ◌++◌, length, All, Option, Some, None, refl, sym, ap, ◌∙◌, subst, inl, inr, arith, below_more}
 use Rattle.std.proofs.Math.Nat.{eq-or-lt_of_le}
 use Rattle.std.proofs.lemmas.List.Elements.{All-from_recursion}
 use Rattle.cu_codec.proofs.KeyLaws.{same_chunk, chunk_not_metadata, chunk_is_key_of, metadata_is_key_of, one_name}
 use Rattle.cu_codec.specs.Names.{HasNoSlash, IsKeyOf}
 use Rattle.cu_num.specs.declared.layout.Encoding.TheVariants.{Plain}
 use Rattle.cu_num.specs.declared.layout.Sep.TheVariants.{Slash}
-use Rattle.cu_store.specs.Held.{Contents, Write, IsAmong, OwnOrLate, IsKeptAt, Lands, StayAmong, Follows, Holds}
-use Rattle.cu_zarr.specs.Key.{chunk_key_of, metadata_key_of}
+use Rattle.cu_store.specs.Held.{Contents, Write, IsAmong, OwnOrLate, IsKeptAt, Lands, Follows, Holds}
+use Rattle.cu_zarr.specs.Key.{metadata_key_of}
 use Rattle.cu_zarr.specs.Metadata.{metadata_text}
 use Rattle.std.specs.Prelude.{Result, Ok, Err, OnOk}
 use Rattle.cu_top.proofs.SpelledSums.{chunk_value_is}
@@ -15,7 +15,7 @@ use Rattle.cu_top.specs.Sums.{AreSums}
 use Rattle.cu_top.specs.Chunks.{IsChunkOf, ReadsChunk}
 use Rattle.cu_top.specs.Run.{Completes}
 use Rattle.cu_top.specs.declared.job.Job.{Job}
-use Rattle.cu_top.specs.Job.{IsJob, layout_of, chunks_of, key_of_chunk, chunk_value, with_value, chunk_writes, plan_writes, IsArrayKey, IsQuiet, HasInputs, IsFree, IsStarted, IsLeft, IsComplete, StoresChunk, StoresChunks, ValuesStay}
+use Rattle.cu_top.specs.Job.{IsJob, layout_of, chunks_of, key_of_chunk, chunk_value, with_value, chunk_writes, plan_writes, IsArrayKey, IsQuiet, HasInputs, IsFree, IsStarted, IsLeft, StoresChunk, StoresChunks, ValuesStay}
 
 -- ---- lists of writes
 

@@ -1,23 +1,22 @@
 -- The sums of two chunks are the chunk that the plan spells.
-use Rattle.std.proofs.Common.{◌≡◌, ◌⊎◌, ℕ, zero, suc, ◌+◌, ◌-◌, ◌*◌, ◌/◌, ◌%◌, ◌<◌, ◌≤◌, min, ℤ, pos, ◌+ℤ◌, List, [], ◌∷◌, length, take, drop, replicate, Bool, true, false, nat_lt, nat_eq, Option, Some, None, option_map, option_and_then, refl, sym, ap, ◌∙◌, subst, inl, inr, arith, eq-eqb, lt-ltb}
+use Rattle.std.proofs.Common.{◌≡◌, ℕ, ◌+◌, ◌-◌, ◌*◌, ◌/◌, ◌%◌, ◌<◌, ◌≤◌, min, ℤ, pos, ◌+ℤ◌, List, [], ◌∷◌, length, take, drop, replicate, Bool, true, false, nat_lt, nat_eq, Option, Some, None, option_map, refl, sym, ap, ◌∙◌, arith, eq-eqb, lt-ltb}
 use Rattle.std.proofs.lemmas.Bool.{ltb-true, ltb-false, le-ltb}
 use Rattle.std.proofs.lemmas.Nat.{div-mul-add, mod-mul-add}
-use Rattle.std.proofs.lemmas.List.{drop-replicate, take-replicate, length-replicate}
-use Rattle.std.proofs.Math.Nat.{div-one, mul-one, add-zero}
+use Rattle.std.proofs.lemmas.List.{drop-replicate, take-replicate}
+use Rattle.std.proofs.Math.Nat.{div-one}
 use Rattle.std.proofs.Math.Seq.{take-length}
-use Rattle.cu_num.specs.Element.{element_at, element_bytes, bytes_at, number_of_bytes, in_order}
+use Rattle.cu_num.specs.Element.{element_at, element_bytes}
 use Rattle.cu_num.specs.Wrap.{wrapped}
 use Rattle.cu_num.specs.declared.types.Dtype.TheVariants.{Int32}
 use Rattle.cu_num.specs.declared.layout.Endian.TheVariants.{Little}
 use Rattle.cu_num.proofs.Wrapped.{wrapped-wrapped}
 use Rattle.cu_store.specs.Held.{Contents}
 use Rattle.cu_zarr.proofs.Joined.{joined_by_place}
-use Rattle.cu_zarr.specs.Layout.{index_in_chunk}
-use Rattle.cu_zarr.specs.Spelling.{joined, padded, spelled}
-use Rattle.cu_zarr.specs.Stored.{element_in, stored_element}
+use Rattle.cu_zarr.specs.Spelling.{padded}
+use Rattle.cu_zarr.specs.Stored.{element_in}
 use Rattle.cu_top.specs.Chunks.{IsChunkOf}
 use Rattle.cu_top.specs.declared.job.Job.{Job}
-use Rattle.cu_top.specs.Job.{layout_of, key_of_chunk, chunk_value, sum_at, wrapped_sum}
+use Rattle.cu_top.specs.Job.{layout_of, key_of_chunk, chunk_value, sum_at}
 use Rattle.cu_top.specs.OneAxis.{one_axis}
 use Rattle.cu_top.specs.Sums.{AreSums, sum_in_chunk}
 

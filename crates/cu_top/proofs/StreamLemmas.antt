@@ -1,5 +1,5 @@
 -- Pieces that are written one after another.
-use Rattle.std.proofs.Common.{◌≡◌, ℕ, ◌+◌, ◌-◌, ◌≤◌, List, ◌++◌, length, take, drop, Option, Some, None, Ok, refl, ◌∙◌, append_assoc, arith, length-drop}
+use Rattle.std.proofs.Common.{◌≡◌, ℕ, ◌+◌, ◌-◌, ◌≤◌, List, length, take, drop, Option, Some, None, Ok, refl, append_assoc, arith, length-drop}
 use Rattle.std.proofs.Math.Seq.{take-add, take-length}
 use Rattle.cu_store.specs.Streams.{Appends}
 use Rattle.cu_top.specs.Streams.{WroteFront}

@@ -1,10 +1,10 @@
 -- Sums of two chunks, place by place.
-use Rattle.std.proofs.Common.{◌≡◌, ◌⊎◌, ◌≢◌, ℕ, suc, ◌+◌, ◌*◌, ◌<◌, ◌≤◌, ℤ, ◌+ℤ◌, List, length, take, drop, ◌++◌, refl, ◌∙◌, ap, arith, subst, inl, inr, below_more}
+use Rattle.std.proofs.Common.{◌≡◌, ◌≢◌, ℕ, ◌+◌, ◌*◌, ◌<◌, ◌≤◌, ℤ, ◌+ℤ◌, List, length, take, drop, ◌++◌, ◌∙◌, arith, below_more}
 use Rattle.std.proofs.lemmas.Int.{ints}
 use mir.Syntax.{w128}
 use mir.Val.{SFits, to_z, of_z}
-use Rattle.cu_num.specs.Dtype.{InRange, size_of}
-use Rattle.cu_num.specs.Element.{element_at, element_bytes, bytes_at}
+use Rattle.cu_num.specs.Dtype.{InRange}
+use Rattle.cu_num.specs.Element.{element_bytes}
 use Rattle.cu_num.specs.declared.types.Dtype.TheVariants.{Int32}
 use Rattle.cu_num.specs.declared.layout.Endian.TheVariants.{Little}
 use Rattle.cu_num.proofs.ElementBytes.{length-element_bytes, bytes_at-written_at_same, bytes_at-written_at_other}

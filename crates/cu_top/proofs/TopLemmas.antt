@@ -1,5 +1,5 @@
 -- From the parts of a run to what the call answers.
-use Rattle.std.proofs.Common.{◌≡◌, ◌⊎◌, ℕ, ◌+◌, ◌≤◌, ◌++◌, List, Option, Some, None, Bool, refl, sym, ap, ◌∙◌, subst, inl, inr, arith}
+use Rattle.std.proofs.Common.{◌≡◌, ◌⊎◌, ℕ, ◌≤◌, ◌++◌, List, Option, Some, None, Bool, ap, ◌∙◌, inl, inr, arith}
 use Rattle.cu_top.proofs.JobLemmas.{among_back, left_of_started}
 use Rattle.cu_store.proofs.Writes.{lands_same, lands_more}
 use Rattle.cu_store.specs.Faults.{Rose}
@@ -7,7 +7,7 @@ use Rattle.cu_store.specs.Held.{Contents, Write, IsAmong, Follows}
 use Rattle.cu_zarr.specs.Key.{metadata_key_of}
 use Rattle.cu_top.specs.Job.{IsArrayKey, IsQuiet, IsStarted, plan_writes, key_of_chunk}
 use Rattle.cu_top.specs.Run.{HasNames, IsInputFault, IfNotBuilt, HasNoInputs, IsAskFault, IfExists, IsFirstInWay, over_memory, IsRunKey, Completes}
-use Rattle.cu_top.specs.Top.{IsAccepted, IsRun, IsOver, IsBlocked, IsKeyOfArray, IsNamedKey, Refuses, Ran, Carries, IfStored, WroteLine, WrotePart, IsBad, Anything, IsLeftIn}
+use Rattle.cu_top.specs.Top.{IsAccepted, IsRun, IsKeyOfArray, IsNamedKey, Refuses, Ran, Carries, IfStored, WroteLine, WrotePart, IsBad, Anything, IsLeftIn}
 use Rattle.cu_top.specs.declared.job.Job.{Job}
 use Rattle.cu_top.specs.declared.job.Names.{Names}
 use Rattle.cu_top.specs.declared.status.Status.{Status}
@@ -65,13 +65,14 @@ untouched_start late held = (lands_same (IsAmong late) held, λ key bytes among.
 
 -- what was late may still be, when a run starts
 pub more_writes : (job : Job) (entry : Contents) (late now_late : List Write) (held : Option Contents) → Follows late (Some entry) held now_late
-  → Follows (plan_writes job entry ++ late) (Some entry) held now_late
-more_writes job entry late now_late held follows =
-    (lands_more (Some entry) held (λ key bytes among. among_back (plan_writes job entry) late key bytes among) follows.0,
-     λ key bytes among. among_back (plan_writes job entry) late key bytes (follows.1 key bytes among))
+    → Follows (plan_writes job entry ++ late) (Some entry) held now_late
+more_writes job entry late now_late held follows = (
+  lands_more (Some entry) held (λ key bytes among. among_back (plan_writes job entry) late key bytes among) follows.0,
+  λ key bytes among. among_back (plan_writes job entry) late key bytes (follows.1 key bytes among),
+)
 
 pub ran_refused : (names : Names) (options : Options) (old new : Option Contents) (late now_late : List Write) (f g v w : ℕ) (front back : Option (List ℕ)) (status : Status)
-  → Refuses names options old new late f g status → Follows late old new now_late → Ran names options old new late now_late f g v w front back status
+    → Refuses names options old new late f g status → Follows late old new now_late → Ran names options old new late now_late f g v w front back status
 ran_refused names options old new late now_late f g v w front back (OverMemory node need allowed) refused untouched = (untouched, refused.0, refused.1)
 ran_refused names options old new late now_late f g v w front back (Exists key) refused untouched = (untouched, refused)
 ran_refused names options old new late now_late f g v w front back (NotBuilt node) refused untouched = (untouched, refused.0, refused.1)
@@ -88,9 +89,9 @@ left_in job entry late now_late None started = tt
 left_in job entry late now_late (Some held) started = left_of_started job entry held late now_late started
 
 is_run : (names : Names) (options : Options) (old new : Option Contents) (late now_late : List Write) (fact : Job → Type 0) (told : Job → Contents → Type 0) (job : Job)
-  → IsAccepted names options old late job → over_memory options job ≡ None → fact job
-  → ((entry : Contents) → old ≡ Some entry → IsQuiet job entry late → IsStarted job entry late new now_late)
-  → ((entry : Contents) → old ≡ Some entry → IsQuiet job entry late → told job entry) → IsRun names options old new late now_late fact told
+    → IsAccepted names options old late job → over_memory options job ≡ None → fact job
+    → ((entry : Contents) → old ≡ Some entry → IsQuiet job entry late → IsStarted job entry late new now_late)
+    → ((entry : Contents) → old ≡ Some entry → IsQuiet job entry late → told job entry) → IsRun names options old new late now_late fact told
 is_run names options old new late now_late fact told job accepted fits is_so started holds = record {
   job = job;
   accepted = accepted;
@@ -111,11 +112,11 @@ run_key names job key has (inr (inl left)) = inl (array_key job job.left names.l
 run_key names job key has (inr (inr right)) = inr (inl (array_key job job.right names.right key has.right right))
 
 pub ran_carried : (names : Names) (options : Options) (old new : Option Contents) (late now_late : List Write) (f h g v w : ℕ) (front back : Option (List ℕ)) (job : Job) (status : Status)
-  → Carries job options h g new v w front back status
-  → IsAccepted names options old late job → over_memory options job ≡ None → f ≤ h
-  → ((entry : Contents) → old ≡ Some entry → IsQuiet job entry late → IsStarted job entry late new now_late)
-  → ((entry : Contents) → old ≡ Some entry → IsQuiet job entry late → IfStored status (Completes job entry new))
-  → Ran names options old new late now_late f g v w front back status
+    → Carries job options h g new v w front back status
+    → IsAccepted names options old late job → over_memory options job ≡ None → f ≤ h
+    → ((entry : Contents) → old ≡ Some entry → IsQuiet job entry late → IsStarted job entry late new now_late)
+    → ((entry : Contents) → old ≡ Some entry → IsQuiet job entry late → IfStored status (Completes job entry new))
+    → Ran names options old new late now_late f g v w front back status
 ran_carried names options old new late now_late f h g v w front back job Done carried accepted fits earlier started stored =
     is_run names options old new late now_late (WroteLine options front back) (λ job entry. Completes job entry new) job accepted fits carried started stored
 ran_carried names options old new late now_late f h g v w front back job WriteFault carried accepted fits earlier started stored =

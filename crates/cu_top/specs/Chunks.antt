@@ -1,5 +1,5 @@
 -- What is read of a chunk, and why a step of the run fails.
-use Rattle.std.specs.Prelude.{◌≡◌, ◌≢◌, ◌⊎◌, ℕ, ◌+◌, ◌*◌, ◌<◌, Bool, IsTrue, List, length, replicate, Option, Some, None, MatchOption}
+use Rattle.std.specs.Prelude.{◌≡◌, ◌≢◌, ◌⊎◌, ℕ, ◌*◌, ◌<◌, Bool, IsTrue, List, length, replicate, Option, Some, None}
 use Rattle.cu_store.specs.Faults.{Rose}
 use Rattle.cu_store.specs.Held.{Contents}
 use Rattle.cu_top.specs.declared.job.Job.{Job}

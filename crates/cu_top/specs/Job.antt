@@ -1,5 +1,5 @@
 -- What one addition stores: its keys, and the one value of each.
-use Rattle.std.specs.Prelude.{◌≡◌, ◌⊎◌, ℕ, zero, suc, ◌+◌, ◌*◌, ◌<◌, ◌≤◌, ℤ, ◌+ℤ◌, List, [], ◌∷◌, ◌++◌, length, Option, Some, None, option_map, option_and_then, Result, Ok, Err}
+use Rattle.std.specs.Prelude.{◌≡◌, ◌⊎◌, ℕ, zero, suc, ◌<◌, ◌≤◌, ℤ, ◌+ℤ◌, List, [], ◌∷◌, ◌++◌, length, Option, Some, None, option_map, option_and_then}
 use Rattle.cu_num.specs.Wrap.{wrapped}
 use Rattle.cu_num.specs.declared.types.Dtype.TheVariants.{Int32}
 use Rattle.cu_num.specs.declared.layout.Encoding.TheVariants.{Plain}

@@ -1,13 +1,12 @@
 -- What a run answers, and what it leaves.
-use Rattle.std.specs.Prelude.{◌≡◌, ◌≢◌, ◌⊎◌, ℕ, ◌+◌, ◌*◌, ◌<◌, ◌≤◌, Bool, IsTrue, nat_lt, if◌then◌else◌, List, [], ◌∷◌, ◌++◌, length, codes, Option, Some, None}
+use Rattle.std.specs.Prelude.{◌≡◌, ◌≢◌, ◌⊎◌, ℕ, ◌+◌, ◌*◌, ◌<◌, Bool, IsTrue, nat_lt, if◌then◌else◌, List, [], ◌∷◌, ◌++◌, codes, Option, Some, None}
 use Rattle.std.specs.Fmt.{decimal}
 use Rattle.cu_store.specs.Faults.{Rose}
-use Rattle.cu_store.specs.Held.{Contents, Write, IsAmong, Follows}
+use Rattle.cu_store.specs.Held.{Contents, Write}
 use Rattle.cu_zarr.specs.Key.{metadata_key_of}
 use Rattle.cu_top.specs.Chunks.{HoldsLength, IsChunkKey}
-use Rattle.cu_top.specs.Job.{IsJob, IsArrayName, IsArrayKey, IsQuiet, HasInputs, IsFree, IsStarted, IsLeft, IsComplete, chunks_of, key_of_chunk}
+use Rattle.cu_top.specs.Job.{IsArrayKey, IsQuiet, HasInputs, IsComplete, chunks_of, key_of_chunk}
 use Rattle.cu_top.specs.OneAxis.{IsWithinLimits}
-use Rattle.cu_top.specs.Streams.{WroteFront}
 use Rattle.cu_top.specs.declared.job.Job.{Job}
 use Rattle.cu_top.specs.declared.job.Names.{Names as ArrayNames}
 use Rattle.cu_top.specs.declared.status.Status.{Status}

@@ -1,6 +1,5 @@
 -- Whole texts that are read and written.
-use Rattle.std.specs.Prelude.{◌≡◌, ◌⊎◌, ℕ, List, [], ◌++◌, length, take, Option, Some, None, Result, Ok, Err, Vec}
-use Rattle.std.specs.declared.alloc.Global.{Global}
+use Rattle.std.specs.Prelude.{◌≡◌, ◌⊎◌, ℕ, List, [], ◌++◌, length, take, Option, Some, None, Result, Ok, Err}
 use Rattle.cu_store.specs.Faults.{Rose}
 use Rattle.cu_top.specs.declared.streams.ReadRefused.{ReadRefused}
 use Rattle.cu_top.specs.declared.streams.ReadRefused.TheVariants.{Fault, NoMemory}

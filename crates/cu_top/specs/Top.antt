@@ -1,10 +1,10 @@
 -- What the call answers, when, and what it leaves.
-use Rattle.std.specs.Prelude.{◌≡◌, ◌≢◌, ◌⊎◌, ℕ, ◌+◌, ◌*◌, ◌<◌, ◌≤◌, List, length, Option, Some, None, Ok, Err}
+use Rattle.std.specs.Prelude.{◌≡◌, ◌≢◌, ◌⊎◌, ℕ, ◌*◌, ◌≤◌, List, length, Option, Some, None, Ok, Err}
 use Rattle.cu_store.specs.Faults.{Rose}
 use Rattle.cu_store.specs.Held.{Contents, Write, Follows}
 use Rattle.cu_zarr.specs.Key.{metadata_key_of}
 use Rattle.cu_top.specs.Chunks.{HoldsLength, IsChunkKey}
-use Rattle.cu_top.specs.Job.{IsArrayKey, IsQuiet, HasInputs, IsStarted, IsLeft, key_of_chunk}
+use Rattle.cu_top.specs.Job.{IsQuiet, HasInputs, IsStarted, IsLeft, key_of_chunk}
 use Rattle.cu_top.specs.OneAxis.{IsWithinLimits}
 use Rattle.cu_top.specs.Run.{HasNames, IsRunKey, over_memory, IsInWay, IsFirstInWay, HasNoInputs, report_line, Completes}
 use Rattle.cu_top.specs.Streams.{WroteFront, ReadsAll}

@@ -1,4 +1,4 @@
-use Rattle.std.proofs.Common.{◌≡◌, ◌∙◌, Some, sym, inl, inr, arith}
+use Rattle.std.proofs.Common.{◌≡◌, ◌∙◌, Some, inr, arith}
 use Rattle.cu_top.proofs.AskLemmas.{absent_at_entry, none_below, one_more_free, all_free}
 use Rattle.cu_top.specs.Job.{chunks_of}
 use Rattle.cu_top.proofs.ask.ask_keys.Goals as goal

@@ -1,4 +1,4 @@
-use Rattle.std.proofs.Common.{sym, rules}
+use Rattle.std.proofs.Common.{sym}
 use Rattle.cu_top.proofs.OptionLemmas.{options_bounded}
 use Rattle.cu_top.proofs.call.top.Goals as goal
 

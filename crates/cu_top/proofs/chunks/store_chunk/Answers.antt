@@ -1,7 +1,6 @@
-use Rattle.std.proofs.Common.{◌≡◌, ◌⊎◌, ◌++◌, ℕ, ◌<◌, List, Option, Some, None, inl, inr, refl, sym, subst, arith}
-use Rattle.cu_store.specs.Held.{Contents, Write, IsAmong, Follows, Holds}
-use Rattle.cu_top.proofs.JobLemmas.{among_front, stores_chunk, added_value, chunk_write, started_then, reads_entry, value_stays, value_stays_late}
-use Rattle.cu_top.specs.Job.{IsStarted, IsArrayKey, plan_writes, key_of_chunk, chunk_value}
+use Rattle.std.proofs.Common.{◌++◌, Some, arith}
+use Rattle.cu_top.proofs.JobLemmas.{among_front, stores_chunk, added_value, chunk_write, started_then, value_stays, value_stays_late}
+use Rattle.cu_top.specs.Job.{plan_writes}
 use Rattle.cu_top.proofs.chunks.store_chunk.Goals as goal
 
 pub returns-in_err-read_chunk-clause-started : goal.returns-in_err-read_chunk-clause-started

@@ -1,6 +1,6 @@
-use Rattle.std.proofs.Common.{◌≡◌, ◌∙◌, ◌<◌, arith, subst, sym, ℕ}
+use Rattle.std.proofs.Common.{◌∙◌, ◌<◌, arith}
 use Rattle.cu_top.proofs.JobLemmas.{more_stored}
-use Rattle.cu_top.specs.Job.{StoresChunks, chunks_of}
+use Rattle.cu_top.specs.Job.{chunks_of}
 use Rattle.cu_top.proofs.chunks.store_chunks.Goals as goal
 
 pub loop-number-preserved : goal.loop-number-preserved

@@ -1,5 +1,5 @@
 -- The run is started still, the chunks so far are stored, and no value was lost.
-use Rattle.std.proofs.Common.{◌≡◌, ◌≤◌, length, List}
+use Rattle.std.proofs.Common.{◌≡◌, ◌≤◌, List}
 use Rattle.cu_store.specs.Held.{Contents, Write}
 use Rattle.cu_top.specs.Job.{IsStarted, StoresChunks, ValuesStay}
 use Rattle.cu_top.proofs.chunks.store_chunks.Given as goal

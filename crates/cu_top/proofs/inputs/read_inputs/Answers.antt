@@ -1,7 +1,5 @@
-use Rattle.std.proofs.Common.{◌≡◌, List, ℕ, Some, Option, take, length, refl, sym, ap, ◌∙◌, rules, arith, true, false}
+use Rattle.std.proofs.Common.{Some, refl, arith}
 use Rattle.cu_top.proofs.InputLemmas.{no_left_at, no_right_at, texts_differ, no_sizes, has_inputs}
-use Rattle.cu_top.specs.Inputs.{HoldsText}
-use Rattle.cu_zarr.specs.Key.{metadata_key_of}
 use Rattle.cu_top.proofs.inputs.read_inputs.Goals as goal
 
 pub returns-in-Err-clause-missing : goal.returns-in-Err-clause-missing

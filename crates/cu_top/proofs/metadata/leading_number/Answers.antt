@@ -1,4 +1,4 @@
-use Rattle.std.proofs.Common.{◌≡◌, ℕ, Option, Some, None, length, sym, ◌∙◌}
+use Rattle.std.proofs.Common.{◌≡◌, Some, None, length, sym, ◌∙◌}
 use Rattle.std.specs.Fmt.{decimal}
 use Rattle.cu_top.proofs.MetadataLemmas.{bracket_behind_number, number_before_bracket}
 use Rattle.cu_top.proofs.metadata.leading_number.Goals as goal

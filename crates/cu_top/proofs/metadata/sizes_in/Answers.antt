@@ -1,5 +1,4 @@
-use Rattle.std.proofs.Common.{◌≡◌, ℕ, ◌+◌, Option, Some, None, length, sym, ◌∙◌, refl, ap, arith}
-use Rattle.std.specs.Fmt.{decimal}
+use Rattle.std.proofs.Common.{◌≡◌, ◌+◌, Some, None, length, ◌∙◌, refl, arith}
 use Rattle.cu_top.specs.declared.metadata.TheConstants.{FRONT}
 use Rattle.cu_top.proofs.MetadataLemmas.{metadata_first, metadata_second, behind_chunk, before_length, behind_length, length_before_length, same_read}
 use Rattle.cu_top.proofs.metadata.sizes_in.Goals as goal

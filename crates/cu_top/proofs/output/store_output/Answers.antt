@@ -1,4 +1,4 @@
-use Rattle.std.proofs.Common.{◌≡◌, ◌++◌, Some, refl}
+use Rattle.std.proofs.Common.{◌++◌, Some}
 use Rattle.cu_top.proofs.JobLemmas.{among_front, metadata_write, started_then, completes}
 use Rattle.cu_zarr.specs.Key.{metadata_key_of}
 use Rattle.cu_zarr.specs.Metadata.{metadata_text}

@@ -1,4 +1,4 @@
-use Rattle.std.proofs.Common.{◌≡◌, Some, None, arith, rules}
+use Rattle.std.proofs.Common.{◌≡◌, Some, None, rules}
 use Rattle.cu_top.proofs.TopLemmas.{follows_start, input_refused, ask_refused}
 use Rattle.cu_top.specs.Run.{over_memory}
 use Rattle.cu_top.specs.Top.{IsAccepted}

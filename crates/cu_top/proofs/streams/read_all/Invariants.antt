@@ -1,4 +1,4 @@
-use Rattle.std.proofs.Common.{◌≤◌, length, vec_len}
+use Rattle.std.proofs.Common.{◌≤◌, vec_len}
 use Rattle.cu_top.specs.Streams.{Took}
 use Rattle.cu_top.proofs.streams.read_all.Given as goal
 

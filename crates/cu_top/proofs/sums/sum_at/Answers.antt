@@ -1,4 +1,4 @@
-use Rattle.std.proofs.Common.{◌∙◌, refl, sym, nat_lt, true, lt-ltb, ◌≡◌}
+use Rattle.std.proofs.Common.{nat_lt, true, lt-ltb, ◌≡◌}
 use Rattle.cu_num.specs.declared.types.Dtype.TheVariants.{Int32}
 use Rattle.cu_num.specs.declared.layout.Endian.TheVariants.{Little}
 use Rattle.cu_num.proofs.ElementBytes.{InRange-element_at}
