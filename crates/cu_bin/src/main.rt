@@ -1,0 +1,49 @@
+//! `cubed DIR COMMAND OPTIONS`: arrays in a folder, computed by plans of small tasks.
+#![tactic(auto)]
+
+mod adapters;
+#[cfg(test)]
+mod tests;
+
+use adapters::{StdSink, StdSource};
+use cu_dir::DirDepot;
+use cu_top::{Status, number, status_line, top};
+use std::alloc::Global;
+use std::process::ExitCode;
+use std::rt::Env;
+use std::{env, io};
+
+/// The words after the program's path: the folder first, and then the command and its options.
+fn words_of(rt: &(impl Env + AllocGlobal), alloc: Global) -> io::Result<Vec<String>> {
+    let mut words = Vec::new(alloc);
+    for word in env::args(rt)?.skip(1) {
+        words.push(word)?;
+    }
+    Ok(words)
+}
+
+/// Prints the line of a refusal, and gives its number as the exit status.
+fn ended(rt: &impl Eprint, status: &Status) -> ExitCode {
+    let line = status_line(status);
+    if !line.is_empty() {
+        let _ = rt.eprintln(line.as_str());
+    }
+    ExitCode::from(number(status))
+}
+
+fn main(rt: HostRuntime) -> ExitCode {
+    let alloc = rt.alloc();
+    let Ok(words) = words_of(&rt, alloc) else {
+        return ended(&rt, &Status::NoMemory);
+    };
+    let [folder, command @ ..] = words.as_slice() else {
+        return ended(&rt, &Status::BadWords { code: 1 });
+    };
+    let Ok(mut depot) = DirDepot::make(&rt, alloc, folder.as_str()) else {
+        return ended(&rt, &Status::NoMemory);
+    };
+    let mut source = StdSource::make(&rt);
+    let mut sink = StdSink::make(&rt);
+    let status = top(alloc, command, &mut source, &mut sink, &mut depot);
+    ended(&rt, &status)
+}

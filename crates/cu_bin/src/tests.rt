@@ -1,0 +1,320 @@
+//! Runs of the whole call over depots in memory and over a folder.
+use cu_dir::DirDepot;
+use cu_mem::{CallKind, MemDepot, MemSink, MemSource, Rule, Script};
+use cu_store::{Depot, Got, Key};
+use cu_top::{Status, number, status_line, top};
+use std::alloc::{AllocError, Global};
+use std::fs;
+use std::test::Fail;
+
+/// The metadata of six int32 numbers in chunks of four.
+const METADATA: &str =
+    r#"{"chunk_grid":{"configuration":{"chunk_shape":[4]},"name":"regular"},"chunk_key_encoding":{"configuration":{"separator":"/"},"name":"default"},"codecs":[{"configuration":{"endian":"little"},"name":"bytes"}],"data_type":"int32","fill_value":0,"node_type":"array","shape":[6],"zarr_format":3}"#;
+
+/// The sum of the arrays `a` and `b`, stored as `y`.
+const ADDITION: &str =
+    r#"{"nodes":[{"id":"a","op":"input","name":"a"},{"id":"b","op":"input","name":"b"},{"id":"s","op":"add","args":["a","b"]}],"out":"s","store_as":"y"}"#;
+
+const REPORT: &str = "ok ops=1 tasks=2 starts=2 failed=0 peak=1600\n";
+
+/// 1 to 4, then 5 and 6.
+const LEFT: [[u8; 16]; 2] = [
+    [1, 0, 0, 0, 2, 0, 0, 0, 3, 0, 0, 0, 4, 0, 0, 0],
+    [5, 0, 0, 0, 6, 0, 0, 0, 0, 0, 0, 0, 0, 0, 0, 0],
+];
+
+/// 10 to 40, then 50 and 60.
+const RIGHT: [[u8; 16]; 2] = [
+    [10, 0, 0, 0, 20, 0, 0, 0, 30, 0, 0, 0, 40, 0, 0, 0],
+    [50, 0, 0, 0, 60, 0, 0, 0, 0, 0, 0, 0, 0, 0, 0, 0],
+];
+
+/// 11 to 44, then 55 and 66, and zeros past the edge.
+const SUMS: [[u8; 16]; 2] = [
+    [0x0b, 0, 0, 0, 0x16, 0, 0, 0, 0x21, 0, 0, 0, 0x2c, 0, 0, 0],
+    [0x37, 0, 0, 0, 0x42, 0, 0, 0, 0, 0, 0, 0, 0, 0, 0, 0],
+];
+
+fn named(text: &str) -> Result<Key, Fail> {
+    Ok(Key::make(text).ok_or("a key of at most 96 bytes")?)
+}
+
+/// A depot with both inputs.
+fn inputs(alloc: Global, script: Script) -> Result<MemDepot, Fail> {
+    let mut depot = MemDepot::make(alloc, script);
+    depot.insert(&named("a/zarr.json")?, METADATA.as_bytes())?;
+    depot.insert(&named("b/zarr.json")?, METADATA.as_bytes())?;
+    depot.insert(&named("a/c/0")?, &LEFT[0])?;
+    depot.insert(&named("a/c/1")?, &LEFT[1])?;
+    depot.insert(&named("b/c/0")?, &RIGHT[0])?;
+    depot.insert(&named("b/c/1")?, &RIGHT[1])?;
+    Ok(depot)
+}
+
+fn words(alloc: Global, texts: &[&str]) -> Result<Vec<String>, AllocError> {
+    let mut words = Vec::new(alloc);
+    for text in texts {
+        words.push(String::from_str(alloc, text)?)?;
+    }
+    Ok(words)
+}
+
+/// Runs the addition, allowed so many bytes.
+fn add(
+    alloc: Global,
+    allowed: &str,
+    out: &mut MemSink,
+    depot: &mut MemDepot,
+) -> Result<Status, Fail> {
+    let words = words(alloc, &["run", "--allowed-mem", allowed])?;
+    let mut source = MemSource::make(ADDITION.as_bytes().to_vec(alloc)?, None);
+    Ok(top(alloc, &words, &mut source, out, depot))
+}
+
+/// Whether the key is absent or holds this value.
+fn is_absent_or(depot: &MemDepot, key: &str, value: &[u8]) -> Result<bool, Fail> {
+    Ok(match depot.lookup(&named(key)?) {
+        None => true,
+        Some(held) => held == value,
+    })
+}
+
+/// Whether each key of the output is absent or holds its value.
+fn is_left(depot: &MemDepot) -> Result<bool, Fail> {
+    Ok(
+        is_absent_or(depot, "y/zarr.json", METADATA.as_bytes())?
+            && is_absent_or(depot, "y/c/0", &SUMS[0])?
+            && is_absent_or(depot, "y/c/1", &SUMS[1])?,
+    )
+}
+
+/// Whether the output is complete.
+fn is_complete(depot: &MemDepot) -> Result<bool, Fail> {
+    Ok(
+        depot.lookup(&named("y/zarr.json")?) == Some(METADATA.as_bytes())
+            && depot.lookup(&named("y/c/0")?) == Some(&SUMS[0])
+            && depot.lookup(&named("y/c/1")?) == Some(&SUMS[1]),
+    )
+}
+
+#[test]
+fn two_chunks_are_added(rt: HostRuntime) -> Result<(), Fail> {
+    let alloc = rt.alloc();
+    let mut depot = inputs(alloc, Script::none())?;
+    let mut out = MemSink::make(alloc, 1000, None)?;
+    let status = add(alloc, "1600", &mut out, &mut depot)?;
+    assert_eq!(rt; number(&status), 0);
+    assert_eq!(rt; status_line(&status).as_str(), "");
+    assert_eq!(rt; out.text(), REPORT.as_bytes());
+    assert!(rt; is_complete(&depot)?);
+    Ok(())
+}
+
+#[test]
+fn a_second_run_finds_the_output_in_its_way(rt: HostRuntime) -> Result<(), Fail> {
+    let alloc = rt.alloc();
+    let mut depot = inputs(alloc, Script::none())?;
+    let mut out = MemSink::make(alloc, 1000, None)?;
+    let _ = add(alloc, "1600", &mut out, &mut depot)?;
+    let status = add(alloc, "1600", &mut out, &mut depot)?;
+    assert_eq!(rt; status_line(&status).as_str(), "error 9 key=y/zarr.json");
+    let mut late = inputs(alloc, Script::none())?;
+    late.insert(&named("y/c/1")?, &SUMS[1])?;
+    let status = add(alloc, "1600", &mut out, &mut late)?;
+    assert_eq!(rt; status_line(&status).as_str(), "error 9 key=y/c/1");
+    assert!(rt; late.lookup(&named("y/zarr.json")?).is_none());
+    Ok(())
+}
+
+#[test]
+fn one_byte_less_is_too_little(rt: HostRuntime) -> Result<(), Fail> {
+    let alloc = rt.alloc();
+    let mut depot = inputs(alloc, Script::none())?;
+    let mut out = MemSink::make(alloc, 1000, None)?;
+    let status = add(alloc, "1599", &mut out, &mut depot)?;
+    assert_eq!(rt;
+        status_line(&status).as_str(),
+        "error 5 node=2 need=1600 allowed=1599"
+    );
+    assert!(rt; depot.lookup(&named("y/zarr.json")?).is_none());
+    assert_eq!(rt; out.text(), b"".as_slice());
+    Ok(())
+}
+
+#[test]
+fn an_unknown_command_is_refused(rt: HostRuntime) -> Result<(), Fail> {
+    let alloc = rt.alloc();
+    let mut depot = inputs(alloc, Script::none())?;
+    let mut out = MemSink::make(alloc, 1000, None)?;
+    let mut source = MemSource::make(ADDITION.as_bytes().to_vec(alloc)?, None);
+    let fly = words(alloc, &["fly"])?;
+    let status = top(alloc, &fly, &mut source, &mut out, &mut depot);
+    assert_eq!(rt; status_line(&status).as_str(), "error 2 code=1");
+    let twice = words(alloc, &["run", "--allowed-mem", "1", "--allowed-mem", "2"])?;
+    let status = top(alloc, &twice, &mut source, &mut out, &mut depot);
+    assert_eq!(rt; status_line(&status).as_str(), "error 2 code=2");
+    assert_eq!(rt; depot.calls(), 0);
+    Ok(())
+}
+
+#[test]
+fn a_failing_source_and_a_failing_sink(rt: HostRuntime) -> Result<(), Fail> {
+    let alloc = rt.alloc();
+    let mut depot = inputs(alloc, Script::none())?;
+    let run = words(alloc, &["run"])?;
+    let mut out = MemSink::make(alloc, 1000, None)?;
+    let mut source = MemSource::make(ADDITION.as_bytes().to_vec(alloc)?, Some(0));
+    let status = top(alloc, &run, &mut source, &mut out, &mut depot);
+    assert_eq!(rt; status_line(&status).as_str(), "error 11");
+    assert!(rt; depot.lookup(&named("y/zarr.json")?).is_none());
+    let mut small = MemSink::make(alloc, 10, None)?;
+    let status = add(alloc, "1600", &mut small, &mut depot)?;
+    assert_eq!(rt; status_line(&status).as_str(), "error 12");
+    assert_eq!(rt; small.text(), b"ok ops=1 t".as_slice());
+    assert!(rt; is_complete(&depot)?);
+    Ok(())
+}
+
+#[test]
+fn a_text_or_an_input_of_another_form_is_not_built(rt: HostRuntime) -> Result<(), Fail> {
+    let alloc = rt.alloc();
+    let mut depot = MemDepot::make(alloc, Script::none());
+    let mut out = MemSink::make(alloc, 1000, None)?;
+    let status = add(alloc, "1600", &mut out, &mut depot)?;
+    assert_eq!(rt; status_line(&status).as_str(), "error 19 node=0");
+    let run = words(alloc, &["run"])?;
+    let mut source = MemSource::make(b"{}".to_vec(alloc)?, None);
+    let mut full = inputs(alloc, Script::none())?;
+    let status = top(alloc, &run, &mut source, &mut out, &mut full);
+    assert_eq!(rt; status_line(&status).as_str(), "error 19 node=0");
+    Ok(())
+}
+
+#[test]
+fn a_chunk_cut_short_is_named(rt: HostRuntime) -> Result<(), Fail> {
+    let alloc = rt.alloc();
+    let mut depot = inputs(alloc, Script::none())?;
+    depot.insert(&named("a/c/0")?, &LEFT[0][..15])?;
+    let mut out = MemSink::make(alloc, 1000, None)?;
+    let status = add(alloc, "1600", &mut out, &mut depot)?;
+    assert_eq!(rt;
+        status_line(&status).as_str(),
+        "error 13 key=a/c/0 got=15 want=16"
+    );
+    assert!(rt; is_left(&depot)?);
+    Ok(())
+}
+
+/// The kinds of the twelve calls of a whole run, each with its number among the calls of its kind, and their keys.
+const CALLS: [(CallKind, u32, &str); 12] = [
+    (CallKind::Get, 0, "error 16 key=a/zarr.json"),
+    (CallKind::Get, 1, "error 16 key=b/zarr.json"),
+    (CallKind::Has, 0, "error 16 key=y/zarr.json"),
+    (CallKind::Has, 1, "error 16 key=y/c/0"),
+    (CallKind::Has, 2, "error 16 key=y/c/1"),
+    (CallKind::Put, 0, "error 16 key=y/zarr.json"),
+    (CallKind::Get, 2, "error 16 key=a/c/0"),
+    (CallKind::Get, 3, "error 16 key=b/c/0"),
+    (CallKind::Put, 1, "error 16 key=y/c/0"),
+    (CallKind::Get, 4, "error 16 key=a/c/1"),
+    (CallKind::Get, 5, "error 16 key=b/c/1"),
+    (CallKind::Put, 2, "error 16 key=y/c/1"),
+];
+
+/// Runs the addition over a depot with this script: whether it answers this line, and leaves each key absent or right;
+/// where the line is empty, whether the output is complete.
+fn ends_in(alloc: Global, script: Script, line: &str) -> Result<bool, Fail> {
+    let mut depot = inputs(alloc, script)?;
+    let mut out = MemSink::make(alloc, 1000, None)?;
+    let status = add(alloc, "1600", &mut out, &mut depot)?;
+    let left = if line.is_empty() {
+        is_complete(&depot)?
+    } else {
+        is_left(&depot)?
+    };
+    Ok(left && status_line(&status).as_str() == line)
+}
+
+#[test]
+fn each_call_may_fail_once(rt: HostRuntime) -> Result<(), Fail> {
+    for (call, skip, _) in CALLS {
+        let script = Script::one(Rule {
+            call,
+            key: None,
+            skip,
+            times: 1,
+            land: None,
+        });
+        assert!(rt; ends_in(rt.alloc(), script, "")?);
+    }
+    Ok(())
+}
+
+#[test]
+fn each_call_may_be_the_last(rt: HostRuntime) -> Result<(), Fail> {
+    let mut done = 0;
+    for (_, _, line) in CALLS {
+        let mut script = Script::none();
+        script.stop_after = Some(done);
+        assert!(rt; ends_in(rt.alloc(), script, line)?);
+        done += 1;
+    }
+    let mut script = Script::none();
+    script.stop_after = Some(12);
+    assert!(rt; ends_in(rt.alloc(), script, "")?);
+    Ok(())
+}
+
+#[test]
+fn a_late_put_spoils_nothing(rt: HostRuntime) -> Result<(), Fail> {
+    for land in 0..7u32 {
+        let script = Script::one(Rule {
+            call: CallKind::Put,
+            key: None,
+            skip: 1,
+            times: 1,
+            land: Some(land),
+        });
+        assert!(rt; ends_in(rt.alloc(), script, "")?);
+    }
+    Ok(())
+}
+
+/// Stores both inputs in a folder.
+fn store_inputs<D: Depot>(depot: &mut D) -> Result<bool, Fail> {
+    let stored = [
+        depot.put(&named("a/zarr.json")?, METADATA.as_bytes()),
+        depot.put(&named("b/zarr.json")?, METADATA.as_bytes()),
+        depot.put(&named("a/c/0")?, &LEFT[0]),
+        depot.put(&named("a/c/1")?, &LEFT[1]),
+        depot.put(&named("b/c/0")?, &RIGHT[0]),
+        depot.put(&named("b/c/1")?, &RIGHT[1]),
+    ];
+    Ok(stored.iter().all(|answer| answer.is_ok()))
+}
+
+/// Whether a depot holds these 16 bytes under the key.
+fn holds<D: Depot>(depot: &mut D, key: &str, value: &[u8; 16]) -> Result<bool, Fail> {
+    let mut buf = [0u8; 16];
+    Ok(depot.get(&named(key)?, &mut buf) == Ok(Got::Held(16)) && buf == *value)
+}
+
+#[test]
+fn two_chunks_are_added_in_a_folder(rt: HostRuntime) -> Result<(), Fail> {
+    let alloc = rt.alloc();
+    let _ = fs::remove_dir_all(&rt, "added_in_a_folder");
+    let mut depot = DirDepot::make(&rt, alloc, "added_in_a_folder")
+        .ok()
+        .ok_or("memory")?;
+    assert!(rt; store_inputs(&mut depot)?);
+    let run = words(alloc, &["run", "--allowed-mem", "1600"])?;
+    let mut source = MemSource::make(ADDITION.as_bytes().to_vec(alloc)?, None);
+    let mut out = MemSink::make(alloc, 1000, None)?;
+    let status = top(alloc, &run, &mut source, &mut out, &mut depot);
+    assert_eq!(rt; status_line(&status).as_str(), "");
+    assert_eq!(rt; out.text(), REPORT.as_bytes());
+    assert!(rt; holds(&mut depot, "y/c/0", &SUMS[0])?);
+    assert!(rt; holds(&mut depot, "y/c/1", &SUMS[1])?);
+    fs::remove_dir_all(&rt, "added_in_a_folder")?;
+    Ok(())
+}

@@ -1,0 +1,5 @@
+pub mod Depot
+pub mod Dir
+pub mod Files
+pub mod Names
+pub mod Tree

@@ -1,0 +1,17 @@
+//! A folder of files as a depot: the value under a key is the file at that path under the folder.
+//! The depot is proved over any tree of files. The tree of the system's files is the edge: it tells nothing of what it holds.
+#![tactic(auto)]
+
+mod depot;
+mod dir;
+mod host;
+mod names;
+mod tree;
+mod values;
+
+pub use depot::TreeDepot;
+pub use dir::DirDepot;
+pub use host::HostTree;
+pub use names::{is_file_key, is_made_of_names, is_name};
+pub use tree::Tree;
+pub use values::{get_value, has_value, key_path, new_path, put_value, remove_value};
