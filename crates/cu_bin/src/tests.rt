@@ -1,4 +1,6 @@
 //! Runs of the whole call over depots in memory and over a folder.
+ghost use Rattle.cu_mem.specs.Script.{LandsOnce};
+
 use cu_dir::DirDepot;
 use cu_mem::{CallKind, MemDepot, MemSink, MemSource, Rule, Script};
 use cu_store::{Depot, Got, Key};
@@ -40,7 +42,9 @@ fn named(text: &str) -> Result<Key, Fail> {
 }
 
 /// A depot with both inputs.
-fn inputs(alloc: Global, script: Script) -> Result<MemDepot, Fail> {
+fn inputs(alloc: Global, script: Script) -> Result<MemDepot, Fail>
+    requires { LandsOnce script.rules.items }
+{
     let mut depot = MemDepot::make(alloc, script);
     depot.insert(&named("a/zarr.json")?, METADATA.as_bytes())?;
     depot.insert(&named("b/zarr.json")?, METADATA.as_bytes())?;
@@ -223,7 +227,9 @@ const CALLS: [(CallKind, u32, &str); 12] = [
 
 /// Runs the addition over a depot with this script: whether it answers this line, and leaves each key absent or right;
 /// where the line is empty, whether the output is complete.
-fn ends_in(alloc: Global, script: Script, line: &str) -> Result<bool, Fail> {
+fn ends_in(alloc: Global, script: Script, line: &str) -> Result<bool, Fail>
+    requires { LandsOnce script.rules.items }
+{
     let mut depot = inputs(alloc, script)?;
     let mut out = MemSink::make(alloc, 1000, None)?;
     let status = add(alloc, "1600", &mut out, &mut depot)?;

@@ -1,4 +1,5 @@
 mod AskLemmas
+mod Completeness
 mod ExpressionExample
 mod ExpressionLemmas
 mod InputLemmas

@@ -26,7 +26,7 @@ input_key : (names : Names) (key : List ℕ) → (key ≡ metadata_key_of names.
 input_key names key (inl left) = inl (inl left)
 input_key names key (inr right) = inr (inl (inl right))
 
-out_key : (names : Names) (job : Job) (key : List ℕ) → HasNames names job → IsArrayKey job job.out key → IsNamedKey names key
+pub out_key : (names : Names) (job : Job) (key : List ℕ) → HasNames names job → IsArrayKey job job.out key → IsNamedKey names key
 out_key names job key has (inl metadata) = inr (inr (inl (metadata ∙ ap metadata_key_of has.out)))
 out_key names job key has (inr (k, below, same)) = inr (inr (inr (k, same ∙ ap (λ (n : List ℕ). key_of_chunk n k) has.out)))
 
@@ -106,7 +106,7 @@ array_key : (job : Job) (name other key : List ℕ) → name ≡ other → IsArr
 array_key job name other key same (inl metadata) = inl (metadata ∙ ap metadata_key_of same)
 array_key job name other key same (inr (k, below, chunk)) = inr (k, chunk ∙ ap (λ (n : List ℕ). key_of_chunk n k) same)
 
-run_key : (names : Names) (job : Job) (key : List ℕ) → HasNames names job → IsRunKey job key → IsNamedKey names key
+pub run_key : (names : Names) (job : Job) (key : List ℕ) → HasNames names job → IsRunKey job key → IsNamedKey names key
 run_key names job key has (inl out) = inr (inr (array_key job job.out names.out key has.out out))
 run_key names job key has (inr (inl left)) = inl (array_key job job.left names.left key has.left left)
 run_key names job key has (inr (inr right)) = inr (inl (array_key job job.right names.right key has.right right))

@@ -1,4 +1,5 @@
 pub mod Chunks
+pub mod Complete
 pub mod Expression
 pub mod Inputs
 pub mod Job

@@ -1,6 +1,6 @@
-use Rattle.std.proofs.Common.{sym}
-use Rattle.cu_top.proofs.OptionLemmas.{options_bounded}
+use Rattle.cu_top.proofs.Completeness.{served}
 use Rattle.cu_top.proofs.call.top.Goals as goal
 
-pub run-requires-clause-reserved : goal.run-requires-clause-reserved
-run-requires-clause-reserved g c = (options_bounded _ c.in-Ok.options (sym c.in-Ok.ensures)).1
+pub returns-clause-complete : goal.returns-clause-complete
+returns-clause-complete g c text entry told_src told premise source sink depot =
+    served _ _ _ text _ _ entry _ _ _ _ _ _ _ _ _ _ c.carry.result told_src told premise source sink depot c.carry.ensures.answer

@@ -1,0 +1,201 @@
+-- A run that is servable is served: each other answer has a cause that isn't there.
+use Rattle.std.proofs.Common.{◌≡◌, ◌⊎◌, ℕ, ◌<◌, ◌≤◌, ◌&&◌, Bool, true, false, nat_le, List, ◌++◌, length, Option, Some, None, Ok, Err, Result, option_and_then, refl, sym, ap, ◌∙◌, subst, inl, inr, arith, length-append}
+use Rattle.std.proofs.lemmas.Bool.{leb-true, and_parts}
+use Rattle.std.proofs.lemmas.List.{append-nil}
+use Rattle.std.specs.Prelude.{⊤}
+use Rattle.std.specs.Str.{is_utf8}
+use Rattle.cu_store.specs.Faults.{Rose}
+use Rattle.cu_store.specs.Held.{Contents, Write, IsAmong, IsKeptAt, Follows}
+use Rattle.cu_zarr.specs.Key.{metadata_key_of}
+use Rattle.cu_top.proofs.JobLemmas.{input_stays}
+use Rattle.cu_top.proofs.TopLemmas.{out_key, run_key}
+use Rattle.cu_top.specs.Chunks.{IsChunkKey}
+use Rattle.cu_top.specs.Complete.{IsServable, StoodStill, IsServed, IsWhole}
+use Rattle.cu_top.specs.Expression.{addition_of, when, Names as TextNames}
+use Rattle.cu_top.specs.Job.{IsArrayKey, IsQuiet, HasInputs, IsFree, IsStarted}
+use Rattle.cu_top.specs.OneAxis.{IsWithinLimits}
+use Rattle.cu_top.specs.Run.{HasNames, IsInWay, over_memory}
+use Rattle.cu_top.specs.Streams.{ReadsAll}
+use Rattle.cu_top.specs.Top.{IsBad, IsNamedKey, IsKeyOfArray, Ran, CameToRun, HasNoAddition, Tells, text_names}
+use Rattle.cu_top.specs.Words.{options_of}
+use Rattle.cu_top.specs.declared.job.Job.{Job}
+use Rattle.cu_top.specs.declared.job.Names.{Names}
+use Rattle.cu_top.specs.declared.status.Status.{Status}
+use Rattle.cu_top.specs.declared.status.Status.TheVariants.{Done, BadWords, OverMemory, Exists, ReadFault, WriteFault, BadChunk, DepotFailed, NotBuilt, NoMemory}
+use Rattle.cu_top.specs.declared.words.Options.{Options}
+
+-- ---- the text that was read is the text that was there
+
+when_true : (b : Bool) (f : ⊤ → Option TextNames) (n : TextNames) → option_and_then f (when b) ≡ Some n → b ≡ true
+when_true true f n e = refl
+when_true false f n e = cc
+
+addition_short : (text : List ℕ) (n : TextNames) → addition_of text ≡ Some n → length text ≤ 1048576
+unfolding addition_of
+addition_short text n e = leb-true _ _ (and_parts (nat_le (length text) 1048576) (is_utf8 text) (when_true (nat_le (length text) 1048576 && is_utf8 text) _ n e)).0
+
+text_is_left : (left text : List ℕ) (next : Option (List ℕ)) (n : TextNames) → ReadsAll (Some left) next text → addition_of left ≡ Some n → text ≡ left
+text_is_left left text None n read adds = absurd read.0
+text_is_left left text (Some rest) n (took, inl ended) adds = sym (took ∙ ap (λ (r : List ℕ). text ++ r) ended ∙ append-nil text)
+text_is_left left text (Some rest) n (took, inr long) adds =
+    let short = addition_short left n adds in
+    absurd (omega (arith, short, long, ap length took, length-append text rest))
+
+-- ---- the names and options are those that the premise has
+
+record AreSame (a b : Names) : Type 0 where
+  left : a.left ≡ b.left
+  right : a.right ≡ b.right
+  out : a.out ≡ b.out
+
+names_same : (a b : Names) → Some (text_names a) ≡ Some (text_names b) → AreSame a b
+names_same a b e =
+    let same : text_names a ≡ text_names b = cc in
+    record { left = ap (λ (n : TextNames). n.left) same; right = ap (λ (n : TextNames). n.right) same; out = ap (λ (n : TextNames). n.out) same }
+
+has_names : (a b : Names) (job : Job) → AreSame a b → HasNames a job → HasNames b job
+has_names a b job same has = record { left = has.left ∙ same.left; right = has.right ∙ same.right; out = has.out ∙ same.out }
+
+back_names : (a b : Names) (job : Job) → AreSame a b → HasNames b job → HasNames a job
+back_names a b job same has = record { left = has.left ∙ sym same.left; right = has.right ∙ sym same.right; out = has.out ∙ sym same.out }
+
+options_same : (a b : Options) → ◌≡◌ {A = Result Options ℕ} (Ok a) (Ok b) → a ≡ b
+options_same a b e = cc
+
+quiet : (names : Names) (job : Job) (entry : Contents) (late : List Write) → HasNames names job
+    → ((key bytes : List ℕ) → IsAmong late key bytes → IsNamedKey names key → ⊥) → IsQuiet job entry late
+quiet names job entry late has settled = record {
+  plan = λ key bytes among of_out. absurd (settled key bytes among (run_key names job key has (inl of_out)));
+  inputs = λ key bytes among of_input. absurd (settled key bytes among (run_key names job key has (inr of_input)));
+}
+
+-- ---- each other answer lacks its cause
+
+none_rose : (n before after : ℕ) → 0 < n → StoodStill before after → Rose n before after → ⊥
+none_rose n before after some still rose = omega (arith, still.0, still.1, rose, some)
+
+not_held : (key : List ℕ) (entry held : Contents) (late : List Write) (names : Names) → ((k b : List ℕ) → IsAmong late k b → IsNamedKey names k → ⊥) → IsNamedKey names key
+    → entry key ≡ None → (bytes : List ℕ) → held key ≡ Some bytes → IsKeptAt (IsAmong late) entry held key → ⊥
+not_held key entry held late names settled named free bytes there (inl same) = cc
+not_held key entry held late names settled named free bytes there (inr (b, landed, now)) = settled key b landed named
+
+not_in_way : (names : Names) (job : Job) (key : List ℕ) (entry : Contents) (new : Option Contents) (late now_late : List Write) → HasNames names job
+    → ((k b : List ℕ) → IsAmong late k b → IsNamedKey names k → ⊥) → HasInputs job entry → IsFree job entry → Follows late (Some entry) new now_late → IsInWay job new key → ⊥
+not_in_way names job key entry None late now_late has settled inputs free follows way = follows.0
+not_in_way names job key entry (Some held) late now_late has settled inputs free follows (of_out, inl (bytes, there)) =
+    not_held key entry held late names settled (out_key names job key has of_out) (free key of_out) bytes there (follows.0 key)
+not_in_way names job key entry (Some held) late now_late has settled inputs free follows (of_out, inr (inl left)) =
+    let gone : entry (metadata_key_of job.left) ≡ None = subst (λ (n : List ℕ). entry (metadata_key_of n) ≡ None) left (free (metadata_key_of job.out) (inl refl)) in
+    let there = inputs.left in cc
+not_in_way names job key entry (Some held) late now_late has settled inputs free follows (of_out, inr (inr right)) =
+    let gone : entry (metadata_key_of job.right) ≡ None = subst (λ (n : List ℕ). entry (metadata_key_of n) ≡ None) right (free (metadata_key_of job.out) (inl refl)) in
+    let there = inputs.right in cc
+
+chunk_array_key : (job : Job) (key : List ℕ) → IsChunkKey job job.left key ⊎ IsChunkKey job job.right key → IsArrayKey job job.left key ⊎ IsArrayKey job job.right key
+chunk_array_key job key (inl left) = inl (inr left)
+chunk_array_key job key (inr right) = inr (inr right)
+
+not_bad : (job : Job) (entry : Contents) (new : Option Contents) (late now_late : List Write) (key : List ℕ) (got want : ℕ) → IsStarted job entry late new now_late
+    → ((k : List ℕ) → IsChunkKey job job.left k ⊎ IsChunkKey job job.right k → IsWhole job entry k) → IsBad new key got want job → ⊥
+not_bad job entry None late now_late key got want started whole bad = started.follows.0
+not_bad job entry (Some held) late now_late key got want started whole (of_input, is_want, differ, (bytes, there, long)) =
+    let before : entry key ≡ Some bytes = sym (input_stays job entry held late now_late key started (chunk_array_key job key of_input)) ∙ there in
+    differ (sym long ∙ whole key of_input bytes before ∙ sym is_want)
+
+some_none : (n : TextNames) → ◌≡◌ {A = Option TextNames} (Some n) None → ⊥
+some_none n e = cc
+
+none_some : (j : Job) (options : Options) (p : ℕ × ℕ) → over_memory options j ≡ None → over_memory options j ≡ Some p → ⊥
+none_some j options p none some = none_or_some (over_memory options j) p none some
+  where
+    none_or_some : (v : Option (ℕ × ℕ)) (p : ℕ × ℕ) → v ≡ None → v ≡ Some p → ⊥
+    none_or_some v p none some = cc
+
+words_differ : (words : List (List ℕ)) (o : Options) (code : ℕ) → options_of words ≡ Ok o → options_of words ≡ Err code → ⊥
+words_differ words o code ok err = ok_or_err (options_of words) o code ok err
+  where
+    ok_or_err : (r : Result Options ℕ) (o : Options) (code : ℕ) → r ≡ Ok o → r ≡ Err code → ⊥
+    ok_or_err r o code ok err = cc
+
+array_back : (a b key : List ℕ) → a ≡ b → IsKeyOfArray b key → IsKeyOfArray a key
+array_back a b key same of_b = subst (λ (n : List ℕ). IsKeyOfArray n key) (sym same) of_b
+
+named_back : (a b : Names) (key : List ℕ) → AreSame a b → IsNamedKey b key → IsNamedKey a key
+named_back a b key same (inl left) = inl (array_back a.left b.left key same.left left)
+named_back a b key same (inr (inl right)) = inr (inl (array_back a.right b.right key same.right right))
+named_back a b key same (inr (inr out)) = inr (inr (array_back a.out b.out key same.out out))
+
+-- ---- the answers of a run
+
+served_run : (names : Names) (options : Options) (entry : Contents) (new : Option Contents) (late now_late : List Write) (f g v w : ℕ) (front back : Option (List ℕ)) (job : Job) (status : Status)
+    → ((key bytes : List ℕ) → IsAmong late key bytes → IsNamedKey names key → ⊥)
+    → HasNames names job → IsWithinLimits job.elements job.chunk → HasInputs job entry
+    → ((j : Job) → HasNames names j → HasInputs j entry → over_memory options j ≡ None)
+    → ((j : Job) → HasNames names j → HasInputs j entry → IsFree j entry)
+    → ((j : Job) → HasNames names j → HasInputs j entry → (key : List ℕ) → IsChunkKey j j.left key ⊎ IsChunkKey j j.right key → IsWhole j entry key)
+    → StoodStill f g → StoodStill v w
+    → Ran names options (Some entry) new late now_late f g v w front back status → IsServed status
+served_run names options entry new late now_late f g v w front back job Done settled has limits inputs fits free whole depot sink ran = tt
+served_run names options entry new late now_late f g v w front back job NoMemory settled has limits inputs fits free whole depot sink ran = tt
+served_run names options entry new late now_late f g v w front back job WriteFault settled has limits inputs fits free whole depot sink ran = none_rose 1 v w (omega arith) sink ran.0
+served_run names options entry new late now_late f g v w front back job (DepotFailed key) settled has limits inputs fits free whole depot sink ran = none_rose 3 f g (omega arith) depot ran.1
+served_run names options entry new late now_late f g v w front back job (NotBuilt node) settled has limits inputs fits free whole depot sink ran =
+    ran.2 entry refl job has limits (quiet names job entry late has settled) inputs
+served_run names options entry new late now_late f g v w front back job (OverMemory node need allowed) settled has limits inputs fits free whole depot sink ran =
+    let over = ran.2 in
+    let j_inputs = over.accepted.inputs entry refl (quiet names over.job entry late over.accepted.has_names settled) in
+    let none = fits over.job over.accepted.has_names j_inputs in
+    none_some over.job options _ none over.over
+served_run names options entry new late now_late f g v w front back job (Exists key) settled has limits inputs fits free whole depot sink ran =
+    let blocked = ran.1 in
+    let j_inputs = blocked.accepted.inputs entry refl (quiet names blocked.job entry late blocked.accepted.has_names settled) in
+    not_in_way names blocked.job key entry new late now_late blocked.accepted.has_names settled j_inputs (free blocked.job blocked.accepted.has_names j_inputs) ran.0 blocked.in_way
+served_run names options entry new late now_late f g v w front back job (BadChunk key got want) settled has limits inputs fits free whole depot sink ran =
+    let j_quiet = quiet names ran.job entry late ran.accepted.has_names settled in
+    let j_inputs = ran.accepted.inputs entry refl j_quiet in
+    not_bad ran.job entry new late now_late key got want (ran.started entry refl j_quiet) (whole ran.job ran.accepted.has_names j_inputs) ran.is_so
+served_run names options entry new late now_late f g v w front back job (BadWords code) settled has limits inputs fits free whole depot sink ran = ran
+served_run names options entry new late now_late f g v w front back job ReadFault settled has limits inputs fits free whole depot sink ran = ran
+
+-- what the premise says of the names and options that the call came to
+came : (words : List (List ℕ)) (left : List ℕ) (next : Option (List ℕ)) (entry : Contents) (new : Option Contents) (late now_late : List Write) (f g v w : ℕ) (front back : Option (List ℕ)) (status : Status)
+    → IsServable words left entry late → StoodStill f g → StoodStill v w
+    → CameToRun words (Some left) next (λ names options. Ran names options (Some entry) new late now_late f g v w front back status) → IsServed status
+came words left next entry new late now_late f g v w front back status premise depot sink arrived =
+    let same = names_same premise.names arrived.names (sym premise.adds ∙ ap addition_of (sym (text_is_left left arrived.called.text next (text_names premise.names) arrived.called.read premise.adds)) ∙ arrived.called.adds) in
+    let same_options : premise.options ≡ arrived.options = options_same premise.options arrived.options (sym premise.words_give ∙ arrived.called.words_give) in
+    served_run arrived.names arrived.options entry new late now_late f g v w front back premise.job status
+    (λ key bytes among named. premise.settled key bytes among (named_back premise.names arrived.names key same named))
+    (has_names premise.names arrived.names premise.job same premise.has_names) premise.limits premise.inputs
+    (λ j has inputs. subst (λ (o : Options). over_memory o j ≡ None) same_options (premise.fits j (back_names premise.names arrived.names j same has) inputs))
+    (λ j has inputs. premise.free j (back_names premise.names arrived.names j same has) inputs)
+    (λ j has inputs. premise.whole j (back_names premise.names arrived.names j same has) inputs)
+    depot sink arrived.ran
+
+no_addition : (words : List (List ℕ)) (left : List ℕ) (next : Option (List ℕ)) (entry : Contents) (late : List Write) → IsServable words left entry late → HasNoAddition words (Some left) next → ⊥
+no_addition words left next entry late premise none =
+    some_none (text_names premise.names) (sym premise.adds ∙ ap addition_of (sym (text_is_left left none.text next (text_names premise.names) none.read premise.adds)) ∙ none.none)
+
+told_served : (words : List (List ℕ)) (next : Option (List ℕ)) (left : List ℕ) (t u : ℕ) (entry : Contents) (new : Option Contents) (late now_late : List Write) (f g v w : ℕ) (front back : Option (List ℕ)) (status : Status)
+    → IsServable words left entry late → StoodStill t u → StoodStill v w → StoodStill f g
+    → Tells words (Some left) next t u (Some entry) new late now_late (λ names options. Ran names options (Some entry) new late now_late f g v w front back) status → IsServed status
+told_served words next left t u entry new late now_late f g v w front back Done premise source sink depot tells = tt
+told_served words next left t u entry new late now_late f g v w front back NoMemory premise source sink depot tells = tt
+told_served words next left t u entry new late now_late f g v w front back (BadWords code) premise source sink depot tells = words_differ words _ code premise.words_give tells.0
+told_served words next left t u entry new late now_late f g v w front back ReadFault premise source sink depot tells = none_rose 1 t u (omega arith) source tells.0
+told_served words next left t u entry new late now_late f g v w front back (OverMemory node need allowed) premise source sink depot tells = came words left next entry new late now_late f g v w front back (OverMemory node need allowed) premise depot sink tells
+told_served words next left t u entry new late now_late f g v w front back (Exists key) premise source sink depot tells = came words left next entry new late now_late f g v w front back (Exists key) premise depot sink tells
+told_served words next left t u entry new late now_late f g v w front back WriteFault premise source sink depot tells = came words left next entry new late now_late f g v w front back WriteFault premise depot sink tells
+told_served words next left t u entry new late now_late f g v w front back (BadChunk key got want) premise source sink depot tells = came words left next entry new late now_late f g v w front back (BadChunk key got want) premise depot sink tells
+told_served words next left t u entry new late now_late f g v w front back (DepotFailed key) premise source sink depot tells = came words left next entry new late now_late f g v w front back (DepotFailed key) premise depot sink tells
+told_served words next left t u entry new late now_late f g v w front back (NotBuilt node) premise source sink depot (zero, inl none) = no_addition words left next entry late premise none.0
+told_served words next left t u entry new late now_late f g v w front back (NotBuilt node) premise source sink depot (zero, inr run) = came words left next entry new late now_late f g v w front back (NotBuilt node) premise depot sink run
+
+-- Where all is accepted, nothing is in the way and no count of faults rises, the run is carried out, or memory is wanted.
+pub served : (words : List (List ℕ)) (src next : Option (List ℕ)) (left : List ℕ) (t u : ℕ) (entry : Contents) (old new : Option Contents) (late now_late : List Write) (f g v w : ℕ) (front back : Option (List ℕ)) (status : Status)
+    → src ≡ Some left → old ≡ Some entry → IsServable words left entry late → StoodStill t u → StoodStill v w → StoodStill f g
+    → Tells words src next t u old new late now_late (λ names options. Ran names options old new late now_late f g v w front back) status → IsServed status
+served words src next left t u entry old new late now_late f g v w front back status told_src told premise source sink depot tells =
+    told_served words next left t u entry new late now_late f g v w front back status premise source sink depot
+    (subst (λ (s : Option (List ℕ)). Tells words s next t u (Some entry) new late now_late (λ names options. Ran names options (Some entry) new late now_late f g v w front back) status) told_src
+    (subst (λ (o : Option Contents). Tells words src next t u o new late now_late (λ names options. Ran names options o new late now_late f g v w front back) status) told tells))
