@@ -9,6 +9,7 @@ use adapters::{StdSink, StdSource};
 use cu_dir::DirDepot;
 use cu_top::{Status, number, status_line, top};
 use std::alloc::Global;
+use std::io::ErrorKind;
 use std::process::ExitCode;
 use std::rt::Env;
 use std::{env, io};
@@ -33,8 +34,13 @@ fn ended(rt: &impl Eprint, status: &Status) -> ExitCode {
 
 fn main(rt: HostRuntime) -> ExitCode {
     let alloc = rt.alloc();
-    let Ok(words) = words_of(&rt, alloc) else {
-        return ended(&rt, &Status::NoMemory);
+    let words = match words_of(&rt, alloc) {
+        Ok(words) => words,
+        Err(error) if error.kind() == ErrorKind::OutOfMemory => {
+            return ended(&rt, &Status::NoMemory);
+        }
+        // A word that is no text.
+        Err(_) => return ended(&rt, &Status::BadWords { code: 2 }),
     };
     let [folder, command @ ..] = words.as_slice() else {
         return ended(&rt, &Status::BadWords { code: 1 });

@@ -258,12 +258,10 @@ fn each_call_may_fail_once(rt: HostRuntime) -> Result<(), Fail> {
 
 #[test]
 fn each_call_may_be_the_last(rt: HostRuntime) -> Result<(), Fail> {
-    let mut done = 0;
-    for (_, _, line) in CALLS {
+    for (done, (_, _, line)) in CALLS.iter().enumerate() {
         let mut script = Script::none();
-        script.stop_after = Some(done);
+        script.stop_after = Some(done as u64);
         assert!(rt; ends_in(rt.alloc(), script, line)?);
-        done += 1;
     }
     let mut script = Script::none();
     script.stop_after = Some(12);

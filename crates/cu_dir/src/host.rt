@@ -39,6 +39,10 @@ impl<H: Files + Drop> Tree for HostTree<H> {
     ghost files = { λ _. None };
 
     fn read(&mut self, path: &str, buf: &mut [u8]) -> io::Result<Got> {
+        // What is no file isn't opened: opening a pipe would wait for its other end.
+        if !self.has(path)? {
+            return Ok(Got::Absent);
+        }
         let mut file = match File::open(&self.rt, path) {
             Ok(file) => file,
             Err(error) if error.kind() == ErrorKind::NotFound => return Ok(Got::Absent),

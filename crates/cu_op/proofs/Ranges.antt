@@ -1,0 +1,250 @@
+-- Each value of a sound plan is a number of its array's type, where the inputs' are.
+use Rattle.std.proofs.Common.{◌≡◌, inl, inr, ℕ, ℤ, pos, zero, suc, ◌<◌, ◌+◌, ◌-◌, ◌==◌, Bool, true, false, List, [], ◌∷◌, ◌++◌, length, map, All, Contains, Option, None, Some, get_or, refl, ap, sym, ◌∙◌, subst, arith, if◌then◌else◌}
+use Rattle.std.specs.List.{slice_get, list_any, AllZip}
+use Rattle.std.specs.Option.{option_and_then, option_map}
+use Rattle.std.proofs.lemmas.Option.{slice_get-map, slice_get_within, get_or_from_slice_get, same_Some}
+use Rattle.std.proofs.lemmas.Bool.Decides.{eqb_tells}
+use Rattle.std.specs.Ordering.{int_eq}
+use Rattle.cu_num.specs.Dtype.{InRange}
+use Rattle.cu_num.specs.Promotion.{promotion}
+use Rattle.cu_num.specs.Scalar.{op1, op2, result_type1, result_type2, truth_number}
+use Rattle.cu_num.specs.Wrap.{wrapped}
+use Rattle.cu_num.specs.declared.types.Dtype.{Dtype}
+use Rattle.cu_num.specs.declared.types.Dtype.TheVariants as types
+use Rattle.cu_num.specs.declared.functions.Fn1.{Fn1}
+use Rattle.cu_num.specs.declared.functions.Fn1.TheVariants.{Negative, Positive, Abs, Square, Sign, BitwiseInvert, LogicalNot, Astype}
+use Rattle.cu_num.specs.declared.functions.Fn2.{Fn2}
+use Rattle.cu_num.specs.declared.functions.Fn2.TheVariants.{Add, Subtract, Multiply, FloorDivide, Remainder, BitwiseAnd, BitwiseOr, BitwiseXor, LeftShift, RightShift, Equal, NotEqual, Less, LessEqual, Greater, GreaterEqual, LogicalAnd, LogicalOr, LogicalXor}
+use Rattle.cu_num.specs.Element.{element_at}
+use Rattle.cu_num.specs.declared.layout.Endian.{Endian}
+use Rattle.cu_shape.specs.Index.{back, place_of, quotients, remainders}
+use Rattle.cu_zarr.specs.Key.{chunk_key_of}
+use Rattle.cu_zarr.specs.Layout.{ArrayLayout, chunk_bytes}
+use Rattle.cu_zarr.specs.Stored.{element_in}
+use Rattle.cu_op.specs.Layout.{IsArray}
+use Rattle.cu_op.specs.declared.kernel.Instr.{Instr}
+use Rattle.cu_op.specs.declared.kernel.Instr.TheVariants.{Load, Const, One, Two, Select}
+use Rattle.cu_op.specs.declared.layout.ArrayInfo.{ArrayInfo}
+use Rattle.cu_op.specs.declared.operation.Op.{Op}
+use Rattle.cu_op.specs.declared.operation.Op.TheVariants.{Map}
+use Rattle.cu_op.specs.declared.operation.Planned.{Planned}
+use Rattle.cu_op.specs.Arrays.{array_at, layout_at, no_array, grid_at, type_at, maker_at}
+use Rattle.cu_op.specs.Kernel.{selected, last_of, instruction_value, results_from, kernel_value}
+use Rattle.cu_op.specs.KernelTypes.{Operand, Typed, Literal, HaveType, Gives, KernelFits, LoadsTypes}
+use Rattle.cu_op.specs.Operation.{reads_of, writes_of, IsReadable, IsBefore, Fits}
+use Rattle.cu_op.specs.PlanView.{PlanView, operation_at}
+use Rattle.cu_op.specs.Sound.{Sound, IsOperation}
+use Rattle.cu_op.specs.Value.{Elements, loaded, rule, updated, values_after, plan_value, stored_inputs, HasTypes}
+use Rattle.cu_op.proofs.Values.{any_contains, contains_any, bool_cases}
+
+-- the laws of wrapping and of promotion
+abbrev pub Wraps : Type 0
+Wraps = (t : Dtype) (x : ℤ) → InRange t (wrapped t x)
+
+abbrev pub Promotes : Type 0
+Promotes = (a b t : Dtype) → promotion a b ≡ Some t → (x : ℤ) → InRange a x → InRange t x
+
+abbrev pub PromotesBoth : Type 0
+PromotesBoth = (a b t : Dtype) → promotion a b ≡ Some t → (x : ℤ) → InRange b x → InRange t x
+
+truth_range : (b : Bool) → InRange types.Bool (truth_number b)
+truth_range true = (omega arith, omega arith)
+truth_range false = (omega arith, omega arith)
+
+op1_range : Wraps → (f : Fn1) (t : Dtype) (x : ℤ) → InRange (result_type1 f t) (op1 f t x)
+op1_range w Negative t x = w t _
+op1_range w Positive t x = w t _
+op1_range w Abs t x = w t _
+op1_range w Square t x = w t _
+op1_range w Sign t x = w t _
+op1_range w BitwiseInvert t x = w t _
+op1_range w LogicalNot t x = truth_range _
+op1_range w Astype t x = w t _
+
+op2_range : Wraps → (f : Fn2) (t : Dtype) (x y : ℤ) → InRange (result_type2 f t) (op2 f t x y)
+op2_range w Add t x y = w t _
+op2_range w Subtract t x y = w t _
+op2_range w Multiply t x y = w t _
+op2_range w FloorDivide t x y = w t _
+op2_range w Remainder t x y = w t _
+op2_range w BitwiseAnd t x y = w t _
+op2_range w BitwiseOr t x y = w t _
+op2_range w BitwiseXor t x y = w t _
+op2_range w LeftShift t x y = w t _
+op2_range w RightShift t x y = w t _
+op2_range w Equal t x y = truth_range _
+op2_range w NotEqual t x y = truth_range _
+op2_range w Less t x y = truth_range _
+op2_range w LessEqual t x y = truth_range _
+op2_range w Greater t x y = truth_range _
+op2_range w GreaterEqual t x y = truth_range _
+op2_range w LogicalAnd t x y = truth_range _
+op2_range w LogicalOr t x y = truth_range _
+op2_range w LogicalXor t x y = truth_range _
+
+-- a number is one that an instruction gives
+abbrev Has : Operand → ℤ → Type 0
+Has (Typed t) x = InRange t x
+Has (Literal y) x = x ≡ y
+
+has_at : (rs : List Operand) (xs : List ℤ) (k : ℕ) (r : Operand) (x : ℤ) → AllZip Has rs xs → slice_get rs k ≡ Some r → slice_get xs k ≡ Some x → Has r x
+has_at [] xs k r x z er ex = cc
+has_at (s ∷ rs) [] k r x z er ex = cc
+has_at (s ∷ rs) (y ∷ xs) zero r x z er ex = let e : s ≡ r = same_Some s r er in let f : y ≡ x = same_Some y x ex in subst (λ (q : Operand). Has q x) e (subst (λ (v : ℤ). Has s v) f z.0)
+has_at (s ∷ rs) (y ∷ xs) (suc k) r x z er ex = has_at rs xs k r x z.1 er ex
+
+has_push : (rs : List Operand) (xs : List ℤ) (r : Operand) (x : ℤ) → AllZip Has rs xs → Has r x → AllZip Has (rs ++ r ∷ []) (xs ++ x ∷ [])
+has_push [] [] r x z h = (h, tt)
+has_push [] (y ∷ xs) r x z h = absurd z
+has_push (s ∷ rs) [] r x z h = absurd z
+has_push (s ∷ rs) (y ∷ xs) r x z h = (z.0, has_push rs xs r x z.1 h)
+
+-- of two arguments that have a type together, each number is one of the type
+joint_left : Promotes → (a b : Operand) (t : Dtype) (x : ℤ) → HaveType a b t → Has a x → InRange t x
+joint_left p (Typed a) (Typed b) t x h k = p a b t h x k
+joint_left p (Typed a) (Literal y) t x h k = subst (λ (d : Dtype). InRange d x) h.0 k
+joint_left p (Literal y) (Typed b) t x h k = subst (InRange t) (sym k) h.1
+joint_left p (Literal y) (Literal z) t x h k = absurd h
+
+joint_right : PromotesBoth → (a b : Operand) (t : Dtype) (x : ℤ) → HaveType a b t → Has b x → InRange t x
+joint_right p (Typed a) (Typed b) t x h k = p a b t h x k
+joint_right p (Typed a) (Literal y) t x h k = subst (InRange t) (sym k) h.1
+joint_right p (Literal y) (Typed b) t x h k = subst (λ (d : Dtype). InRange d x) h.0 k
+joint_right p (Literal y) (Literal z) t x h k = absurd h
+
+some_map : {A B : Type 0} (f : A → B) (o : Option A) (y : B) → option_map f o ≡ Some y → (x : A) × (o ≡ Some x) × (f x ≡ y)
+some_map f None y e = cc
+some_map f (Some x) y e = (x, refl, same_Some (f x) y e)
+
+some_then : {A B : Type 0} (f : A → Option B) (o : Option A) (y : B) → option_and_then f o ≡ Some y → (x : A) × (o ≡ Some x) × (f x ≡ Some y)
+some_then f None y e = cc
+some_then f (Some x) y e = (x, refl, e)
+
+selected_range : (t : Dtype) (s x y : ℤ) → InRange t x → InRange t y → InRange t (selected s x y)
+selected_range t s x y hx hy = elim (int_eq s (pos 1)) as (λ b. InRange t (if b then x else y)) [ true ↦ hx | false ↦ hy ]
+
+instruction_range : Wraps → Promotes → PromotesBoth → (i : Instr) (types : List Dtype) (rs : List Operand) (r : Operand) (load : ℕ → Option ℤ) (xs : List ℤ) (v : ℤ)
+    → Gives i types rs r → LoadsTypes types load → AllZip Has rs xs → instruction_value i load xs ≡ Some v → Has r v
+instruction_range w p q (Load k) types rs r load xs v (t, et, er) loads z e = subst (λ (o : Operand). Has o v) (sym er) (loads k t v et e)
+instruction_range w p q (Const x) types rs r load xs v er loads z e = subst (λ (o : Operand). Has o v) (sym er) (sym (same_Some x v e))
+instruction_range w p q (One f t a) types rs r load xs v (d, ea, arg, acc, er) loads z e =
+    let m = some_map (op1 f t) (slice_get xs a) v e in
+    subst (λ (o : Operand). Has o v) (sym er) (subst (InRange (result_type1 f t)) m.2 (op1_range w f t m.0))
+instruction_range w p q (Two f t a b) types rs r load xs v (x, y, ea, eb, have, acc, er) loads z e =
+    let m = some_then (λ u. option_map (op2 f t u) (slice_get xs b)) (slice_get xs a) v e in
+    let n = some_map (op2 f t m.0) (slice_get xs b) v m.2 in
+    subst (λ (o : Operand). Has o v) (sym er) (subst (InRange (result_type2 f t)) n.2 (op2_range w f t m.0 n.0))
+instruction_range w p q (Select c a b) types rs r load xs v (x, y, t, ec, ea, eb, have, er) loads z e =
+    let l = some_then (λ s. option_and_then (λ u. option_map (selected s u) (slice_get xs b)) (slice_get xs a)) (slice_get xs c) v e in
+    let m = some_then (λ u. option_map (selected l.0 u) (slice_get xs b)) (slice_get xs a) v l.2 in
+    let n = some_map (selected l.0 m.0) (slice_get xs b) v m.2 in
+    let left = joint_left p x y t m.0 have (has_at rs xs a x m.0 z ea m.1) in
+    let right = joint_right q x y t n.0 have (has_at rs xs b y n.0 z eb n.1) in
+    subst (λ (o : Operand). Has o v) (sym er) (subst (InRange t) n.2 (selected_range t l.0 m.0 n.0 left right))
+
+results_range : Wraps → Promotes → PromotesBoth → (code : List Instr) (types : List Dtype) (rs : List Operand) (t : Dtype) (load : ℕ → Option ℤ) (xs ys : List ℤ) (v : ℤ)
+    → KernelFits code types rs t → LoadsTypes types load → AllZip Has rs xs → results_from code load xs ≡ Some ys → last_of ys ≡ Some v → InRange t v
+results_range w p q [] types rs t load xs ys v fits loads z e l =
+    let same : xs ≡ ys = same_Some xs ys e in
+    let n : length rs ≡ length xs = length_has rs xs z in
+    has_at rs xs (length xs - 1) (Typed t) v z (subst (λ (m : ℕ). slice_get rs (m - 1) ≡ Some (Typed t)) n fits) (subst (λ (zs : List ℤ). last_of zs ≡ Some v) (sym same) l)
+  where
+    length_has : (rs : List Operand) (xs : List ℤ) → AllZip Has rs xs → length rs ≡ length xs
+    length_has [] [] z = refl
+    length_has [] (x ∷ xs) z = absurd z
+    length_has (r ∷ rs) [] z = absurd z
+    length_has (r ∷ rs) (x ∷ xs) z = ap suc (length_has rs xs z.1)
+results_range w p q (i ∷ is) types rs t load xs ys v (r, gives, fits) loads z e l =
+    let m = some_then (λ x. results_from is load (xs ++ x ∷ [])) (instruction_value i load xs) ys e in
+    let here = instruction_range w p q i types rs r load xs m.0 gives loads z m.1 in
+    results_range w p q is types (rs ++ r ∷ []) t load (xs ++ m.0 ∷ []) ys v fits loads (has_push rs xs r m.0 z here) m.2 l
+
+-- a kernel that fits gives numbers of its type
+pub kernel_range : Wraps → Promotes → PromotesBoth → (code : List Instr) (types : List Dtype) (t : Dtype) (load : ℕ → Option ℤ) (v : ℤ)
+    → KernelFits code types [] t → LoadsTypes types load → kernel_value code load ≡ Some v → InRange t v
+kernel_range w p q code types t load v fits loads e =
+    let m = some_then last_of (results_from code load []) v e in
+    results_range w p q code types [] t load [] m.0 v fits loads tt m.1 m.2
+
+-- the elements of the arrays that are given or made before operation n have their types
+abbrev TypedUpTo : List ArrayInfo → ℕ → Elements → Type 0
+TypedUpTo arrays n at = (a : ℕ) (idx : List ℕ) (x : ℤ) → IsReadable arrays n a → at a idx ≡ Some x → InRange (type_at arrays a) x
+
+rule_range : Wraps → Promotes → PromotesBoth → (op : Op) (arrays : List ArrayInfo) (n : ℕ) (at : Elements) (a : ℕ) (idx : List ℕ) (x : ℤ)
+    → All (IsReadable arrays n) (reads_of op) → Contains (writes_of op) a → Fits arrays op → TypedUpTo arrays n at → rule op arrays at a idx ≡ Some x → InRange (type_at arrays a) x
+rule_range w p q (Map kernel ins out) arrays n at a idx x reads (zero, l, e) fits typed v =
+    let same : out ≡ a = e in
+    subst (λ (b : ℕ). InRange (type_at arrays b) x) same
+    (kernel_range w p q kernel.code.items (map (type_at arrays) ins.items) (type_at arrays out) (loaded arrays ins.items at idx) x fits.kernel
+    (λ k t y et ey.
+    let m = some_then (λ b. at b (back (grid_at arrays b).shape idx)) (slice_get ins.items k) y ey in
+    let here = slice_get_within ins.items k m.0 m.1 in
+    let is_it : get_or ins.items k m.0 ≡ m.0 = get_or_from_slice_get ins.items k m.0 m.0 m.1 in
+    let readable : IsReadable arrays n m.0 = subst (IsReadable arrays n) is_it (reads k m.0 here) in
+    let f = some_map (type_at arrays) (slice_get ins.items k) t (sym (slice_get-map (type_at arrays) ins.items k) ∙ et) in
+    let same_input : f.0 ≡ m.0 = same_Some f.0 m.0 (sym f.1 ∙ m.1) in
+    let type_is : type_at arrays m.0 ≡ t = ap (type_at arrays) (sym same_input) ∙ f.2 in
+    subst (λ (d : Dtype). InRange d y) type_is (typed m.0 (back (grid_at arrays m.0).shape idx) y readable m.2))
+    v)
+rule_range w p q (Map kernel ins out) arrays n at a idx x reads (suc k, l, e) fits typed v = absurd (let b : suc k < 1 = l in omega arith)
+
+-- one operation more
+step_range : Wraps → Promotes → PromotesBoth → (o : Planned) (arrays : List ArrayInfo) (reserved n : ℕ) (at : Elements) → IsOperation arrays reserved n o → ((a : ℕ) → a < length arrays → maker_at arrays a ≡ Some n → Contains (writes_of o.op) a)
+    → TypedUpTo arrays n at → TypedUpTo arrays (n + 1) (updated o.op arrays at)
+step_range w p q o arrays reserved n at ok all typed a idx x readable v =
+    elim (bool_cases (list_any (λ b. b == a) (writes_of o.op))) [
+      | inl t ↦ rule_range w p q o.op arrays n at a idx x ok.reads (any_contains (writes_of o.op) a t) ok.fits typed (rw t at v)
+      | inr f ↦ typed a idx x (readable.0, earlier (maker_at arrays a) readable.1 (λ e. let c = contains_any (writes_of o.op) a (all a readable.0 e) in cc)) (rw f at v)
+    ]
+  where
+    earlier : (m : Option ℕ) → IsBefore m (n + 1) → (m ≡ Some n → ⊥) → IsBefore m n
+    earlier None h other = tt
+    earlier (Some k) h other = elim (eqb_tells k n) [ inl e ↦ absurd (other (ap Some e.1)) | inr e ↦ let d = e.1 in omega arith ]
+
+after_range : Wraps → Promotes → PromotesBoth → (os : List Planned) (arrays : List ArrayInfo) (reserved n : ℕ) (at : Elements)
+    → ((k : ℕ) → k < length os → IsOperation arrays reserved (n + k) (operation_at os k))
+    → ((k a : ℕ) → k < length os → a < length arrays → maker_at arrays a ≡ Some (n + k) → Contains (writes_of (operation_at os k).op) a)
+    → TypedUpTo arrays n at → TypedUpTo arrays (n + length os) (values_after os arrays at)
+after_range w p q [] arrays reserved n at ok all typed = subst (λ (m : ℕ). TypedUpTo arrays m at) (let e : n ≡ n + 0 = omega arith in e) typed
+after_range w p q (o ∷ os) arrays reserved n at ok all typed =
+    let first : IsOperation arrays reserved n o = subst (λ (m : ℕ). IsOperation arrays reserved m o) (let e : n + 0 ≡ n = omega arith in e) (ok 0 (omega arith)) in
+    let next = step_range w p q o arrays reserved n at first (λ a l e. all 0 a (omega arith) l (e ∙ ap Some (let f : n ≡ n + 0 = omega arith in f))) typed in
+    let rest = after_range w p q os arrays reserved (n + 1) (updated o.op arrays at)
+    (λ k l. subst (λ (m : ℕ). IsOperation arrays reserved m (operation_at os k)) (let e : n + suc k ≡ n + 1 + k = omega arith in e) (ok (suc k) (omega arith)))
+    (λ k a l b e. all (suc k) a (omega arith) b (e ∙ ap Some (let f : n + 1 + k ≡ n + suc k = omega arith in f))) next in
+    subst (λ (m : ℕ). TypedUpTo arrays m (values_after os arrays (updated o.op arrays at))) (let e : n + 1 + length os ≡ n + suc (length os) = omega arith in e) rest
+
+pub value_range : Wraps → Promotes → PromotesBoth → (p : PlanView) (env : Elements) → Sound p → HasTypes p.arrays env
+    → (a : ℕ) (idx : List ℕ) (x : ℤ) → a < length p.arrays → plan_value p env a idx ≡ Some x → InRange (type_at p.arrays a) x
+value_range w pl pr p env s typed a idx x l v =
+    after_range w pl pr p.ops p.arrays p.reserved 0 env
+    (λ k b. subst (λ (m : ℕ). IsOperation p.arrays p.reserved m (operation_at p.ops k)) (let e : k ≡ 0 + k = omega arith in e) (s.operations k b))
+    (λ k b h within e. (s.makers b k within (e ∙ ap Some (let f : 0 + k ≡ k = omega arith in f))).1)
+    (λ b i y readable e. typed b i y readable.0 (none_before (maker_at p.arrays b) readable.1) e)
+    a idx x (l, before_end (maker_at p.arrays a) (λ k e. (s.makers a k l e).0)) v
+  where
+    none_before : (m : Option ℕ) → IsBefore m 0 → m ≡ None
+    none_before None h = refl
+    none_before (Some k) h = absurd (omega arith)
+
+    before_end : (m : Option ℕ) → ((k : ℕ) → m ≡ Some k → k < length p.ops) → IsBefore m (0 + length p.ops)
+    before_end None h = tt
+    before_end (Some k) h = let b = h k refl in omega (arith, b)
+
+-- what a store holds of an array is a number of its type
+abbrev pub ReadsType : Type 0
+ReadsType = (e : Endian) (t : Dtype) (bytes : List ℕ) (at : ℕ) → InRange t (element_at e t bytes at)
+
+element_range : ReadsType → (l : ArrayLayout) (held : Option (List ℕ)) (idx : List ℕ) (x : ℤ) → InRange l.dtype l.fill → element_in l held idx ≡ Some x → InRange l.dtype x
+element_range r l None idx x fill e = subst (InRange l.dtype) (same_Some l.fill x e) fill
+element_range r l (Some bytes) idx x fill e =
+    elim (eqb_tells (length bytes) (chunk_bytes l)) [
+      | inl p ↦
+          let v : Some (element_at l.endian l.dtype bytes (place_of l.chunk (remainders idx l.chunk))) ≡ Some x = rw p.0 at e in
+          subst (InRange l.dtype) (same_Some _ x v) (r l.endian l.dtype bytes (place_of l.chunk (remainders idx l.chunk)))
+      | inr p ↦ let v = rw p.0 at e in cc
+    ]
+
+pub stored_range : ReadsType → (arrays : List ArrayInfo) (held : List ℕ → Option (List ℕ)) → All IsArray arrays → HasTypes arrays (stored_inputs arrays held)
+stored_range r arrays held ok a idx x within made e =
+    element_range r (layout_at arrays a) (held (chunk_key_of (array_at arrays a).prefix (layout_at arrays a).encoding (quotients idx (layout_at arrays a).chunk))) idx x (ok a no_array within).fill e

@@ -1,0 +1,120 @@
+-- The elements that an operation's rule reads lie in the chunks that its task reads.
+use Rattle.std.proofs.Common.{◌≡◌, ◌≢◌, ◌⊎◌, inl, inr, ℕ, zero, suc, ◌<◌, ◌-◌, ◌/◌, List, [], ◌∷◌, length, drop, All, Contains, Option, None, Some, refl, ap, sym, ◌∙◌, subst, arith}
+use Rattle.std.specs.List.{slice_get}
+use Rattle.std.specs.Option.{option_and_then}
+use Rattle.std.proofs.lemmas.Bool.Decides.{eqb_tells}
+use Rattle.std.proofs.lemmas.List.Elements.{All-contains, All-head, All-tail}
+use Rattle.std.proofs.lemmas.Option.{slice_get_within, get_or_from_slice_get}
+use Rattle.cu_shape.specs.Index.{IsInside, back_along, back, quotients}
+use Rattle.cu_shape.proofs.Axes.{length-axis_by_axis}
+use Rattle.cu_shape.proofs.Places.{inside-length}
+use Rattle.cu_grid.specs.Grid.{RegularGrid, IsGrid, IsCoordinate, IsInChunk}
+use Rattle.cu_op.specs.declared.layout.ArrayInfo.{ArrayInfo}
+use Rattle.cu_op.specs.declared.operation.Op.{Op}
+use Rattle.cu_op.specs.declared.operation.Op.TheVariants.{Map}
+use Rattle.cu_op.specs.Arrays.{grid_at}
+use Rattle.cu_op.specs.Operation.{reads_of, writes_of, IsAlignedAlong, IsAligned, IsReadable, IsMadeBy, Fits}
+use Rattle.cu_op.specs.Cells.{cell, task_coord, outputs_of, inputs_of, new_among, read_back}
+use Rattle.cu_op.specs.PlanView.{PlanView}
+use Rattle.cu_op.specs.Sound.{Sound}
+use Rattle.cu_op.specs.Value.{Elements, loaded, rule, ReadsAt}
+use Rattle.cu_op.proofs.Axes.{read_on, inside_drop, axes_drop}
+use Rattle.cu_op.proofs.Plans.{grid_ok}
+use Rattle.cu_op.proofs.Values.{same_kernel}
+use Rattle.cu_op.proofs.CellsOfTasks.{kept_contains, map_contains, same_coord, same_array}
+
+-- the rule depends on what it reads alone
+at_same : (arrays : List ArrayInfo) (ins : List ℕ) (at other : Elements) (idx : List ℕ) (k : ℕ) (o : Option ℕ) → ((a : ℕ) → o ≡ Some a → at a (back (grid_at arrays a).shape idx) ≡ other a (back (grid_at arrays a).shape idx))
+    → option_and_then (λ a. at a (back (grid_at arrays a).shape idx)) o ≡ option_and_then (λ a. other a (back (grid_at arrays a).shape idx)) o
+at_same arrays ins at other idx k None h = refl
+at_same arrays ins at other idx k (Some a) h = h a refl
+
+pub rule_reads : (op : Op) (arrays : List ArrayInfo) (at other : Elements) (array : ℕ) (idx : List ℕ)
+    → ((a : ℕ) (i : List ℕ) → ReadsAt op arrays idx a i → at a i ≡ other a i) → rule op arrays at array idx ≡ rule op arrays other array idx
+rule_reads (Map kernel ins out) arrays at other array idx h =
+    same_kernel kernel.code.items (loaded arrays ins.items at idx) (loaded arrays ins.items other idx)
+    (λ k. at_same arrays ins.items at other idx k (slice_get ins.items k)
+    (λ a e. h a (back (grid_at arrays a).shape idx) ((k, slice_get_within ins.items k a e, get_or_from_slice_get ins.items k a a e), refl)))
+
+-- an axis of an aligned argument: an index of the result is read inside the argument, in the chunk from which the result's chunk is read
+inside_on : (n c m d i : ℕ) → ((n ≡ m) × (c ≡ d)) ⊎ ((n ≡ 1) × (m ≢ 1)) → i < m → read_on n i < n
+inside_on n c m d i (inl same) h = elim (eqb_tells n 1) [ inl p ↦ let one = p.1 in rw p.0 (omega arith) | inr p ↦ let e = same.0 in rw p.0 (omega arith) ]
+inside_on n c m d i (inr stretched) h = elim (eqb_tells n 1) [ inl p ↦ let one = p.1 in rw p.0 (omega arith) | inr p ↦ absurd (p.1 stretched.0) ]
+
+zero_over : (c : ℕ) → 0 < c → 0 / c ≡ 0
+zero_over zero h = absurd (omega arith)
+zero_over (suc c) h = omega arith
+
+quotient_on : (n c m d i : ℕ) → 0 < c → ((n ≡ m) × (c ≡ d)) ⊎ ((n ≡ 1) × (m ≢ 1)) → read_on n i / c ≡ read_on n (i / d)
+quotient_on n c m d i positive (inl same) = elim (eqb_tells n 1) [ inl p ↦ rw (p.0) (zero_over c positive) | inr p ↦ rw p.0 (ap (λ x. i / x) same.1) ]
+quotient_on n c m d i positive (inr stretched) = elim (eqb_tells n 1) [ inl p ↦ rw (p.0) (zero_over c positive) | inr p ↦ absurd (p.1 stretched.0) ]
+
+-- both along the axes
+pub record ReadsInto (ns cs ds is : List ℕ) : Type 0 where
+  pub inside : IsInside ns (back_along ns is)
+  pub chunk : quotients (back_along ns is) cs ≡ back_along ns (quotients is ds)
+
+reads_along : (ns cs ms ds is : List ℕ) → All (λ c. 0 < c) cs → IsAlignedAlong ns cs ms ds → IsInside ms is → ReadsInto ns cs ds is
+reads_along [] [] [] [] [] positive a h = record { inside = tt; chunk = refl }
+reads_along [] [] [] [] (i ∷ is) positive a h = absurd h
+reads_along (n ∷ ns) (c ∷ cs) (m ∷ ms) (d ∷ ds) [] positive a h = absurd h
+reads_along (n ∷ ns) (c ∷ cs) (m ∷ ms) (d ∷ ds) (i ∷ is) positive a h =
+    let rest = reads_along ns cs ms ds is (All-tail (λ x. 0 < x) c cs positive) a.1 h.1 in
+    let q = quotient_on n c m d i (All-head (λ x. 0 < x) c cs positive) a.0 in
+    record { inside = (inside_on n c m d i a.0 h.0, rest.inside); chunk = cons_same _ _ _ _ q rest.chunk }
+  where
+    cons_same : (x y : ℕ) (xs ys : List ℕ) → x ≡ y → xs ≡ ys → x ∷ xs ≡ y ∷ ys
+    cons_same x y xs ys e f = cc
+reads_along [] [] [] (d ∷ ds) is positive a h = absurd a
+reads_along [] [] (m ∷ ms) ds is positive a h = absurd a
+reads_along [] (c ∷ cs) ms ds is positive a h = absurd a
+reads_along (n ∷ ns) [] ms ds is positive a h = absurd a
+reads_along (n ∷ ns) (c ∷ cs) [] ds is positive a h = absurd a
+reads_along (n ∷ ns) (c ∷ cs) (m ∷ ms) [] is positive a h = absurd a
+
+pub record ReadsFrom (g r : RegularGrid) (idx : List ℕ) : Type 0 where
+  pub inside : IsInside g.shape (back g.shape idx)
+  pub chunk : quotients (back g.shape idx) g.chunk ≡ back g.shape (quotients idx r.chunk)
+
+-- An index of the result is read inside an aligned argument, in the chunk from which the result's chunk is read.
+pub reads_from : (g r : RegularGrid) (idx : List ℕ) → IsGrid g → IsGrid r → IsAligned g r → IsInside r.shape idx → ReadsFrom g r idx
+reads_from g r idx okg okr a h =
+    let k = length r.shape - length g.shape in
+    let e : length idx ≡ length r.shape = inside-length r.shape idx h in
+    let along = reads_along g.shape g.chunk (drop k r.shape) (drop k r.chunk) (drop k idx) okg.positive a.axes (inside_drop k r.shape idx h) in
+    let n : length (quotients idx r.chunk) ≡ length idx = length-axis_by_axis (λ i c. i / c) idx r.chunk (e ∙ sym okr.ranks) in
+    let cut : drop k (quotients idx r.chunk) ≡ quotients (drop k idx) (drop k r.chunk) = axes_drop (λ i c. i / c) k idx r.chunk (e ∙ sym okr.ranks) in
+    let B : ℕ → List ℕ → List ℕ = λ m is. back_along g.shape (drop (m - length g.shape) is) in
+    let left : back g.shape idx ≡ back_along g.shape (drop k idx) = ap (λ m. B m idx) e in
+    let right : back g.shape (quotients idx r.chunk) ≡ back_along g.shape (drop k (quotients idx r.chunk)) = ap (λ m. B m (quotients idx r.chunk)) (n ∙ e) in
+    record {
+      inside = subst (IsInside g.shape) (sym left) along.inside;
+      chunk = ap (λ is. quotients is g.chunk) left ∙ along.chunk ∙ ap (back_along g.shape) (sym cut) ∙ sym right;
+    }
+
+-- what holds of each index of a chunk (the law of grids)
+abbrev pub PartedBy : Type 0
+PartedBy = (g : RegularGrid) (coord idx : List ℕ) → IsGrid g → IsCoordinate g coord → IsInChunk g coord idx → (coord ≡ quotients idx g.chunk) × IsInside g.shape idx
+
+pub reads_lie : PartedBy → (op : Op) (p : PlanView) (k task array a : ℕ) (coord idx i : List ℕ)
+    → Sound p → All (IsReadable p.arrays k) (reads_of op) → All (IsMadeBy p.arrays k) (writes_of op) → Fits p.arrays op
+    → IsCoordinate (grid_at p.arrays array) coord → Contains (outputs_of p.arrays op task) (cell array coord) → IsInChunk (grid_at p.arrays array) coord idx → ReadsAt op p.arrays idx a i
+    → IsInside (grid_at p.arrays a).shape i × Contains (inputs_of p.arrays op task) (cell a (quotients i (grid_at p.arrays a).chunk))
+reads_lie parted (Map kernel ins out) p k task array a coord idx i s reads made fits inside (zero, l, e) chunk (among, from) =
+    let same : out ≡ array = same_array _ _ e in
+    let there : task_coord p.arrays (Map kernel ins out) task ≡ coord = same_coord _ _ e in
+    let r = grid_at p.arrays out in
+    let g = grid_at p.arrays a in
+    let okr = grid_ok p out s (made 0 0 (omega arith)).0 in
+    let readable = All-contains (IsReadable p.arrays k) ins.items a reads among in
+    let okg = grid_ok p a s readable.0 in
+    let aligned = All-contains (λ b. IsAligned (grid_at p.arrays b) r) ins.items a fits.inputs among in
+    let coordinate : IsCoordinate r coord = subst (λ (b : ℕ). IsCoordinate (grid_at p.arrays b) coord) (sym same) inside in
+    let within : IsInChunk r coord idx = subst (λ (b : ℕ). IsInChunk (grid_at p.arrays b) coord idx) (sym same) chunk in
+    let part = parted r coord idx okr coordinate within in
+    let read = reads_from g r idx okg okr aligned part.1 in
+    let target : quotients i g.chunk ≡ back g.shape (task_coord p.arrays (Map kernel ins out) task) =
+    ap (λ is. quotients is g.chunk) from ∙ read.chunk ∙ ap (back g.shape) (sym part.0 ∙ sym there) in
+    let listed = map_contains (read_back p.arrays (task_coord p.arrays (Map kernel ins out) task)) (new_among ins.items []) a (kept_contains ins.items a among) in
+    (subst (IsInside g.shape) (sym from) read.inside, subst (λ (c : List ℕ). Contains (inputs_of p.arrays (Map kernel ins out) task) (cell a c)) (sym target) listed)
+reads_lie parted (Map kernel ins out) p k task array a coord idx i s reads made fits inside (suc j, l, e) chunk h = absurd (let w : suc j < 1 = l in omega arith)

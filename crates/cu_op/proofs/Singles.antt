@@ -1,0 +1,240 @@
+-- A plan of one map is sound, and the kernel of an addition fits.
+use Rattle.std.proofs.Common.{◌≡◌, ◌≢◌, inl, inr, ℕ, zero, suc, ◌<◌, ◌≤◌, ◌+◌, ◌-◌, ◌*◌, ◌^◌, List, [], ◌∷◌, ◌++◌, length, map, sum_by, drop, All, Contains, Option, None, Some, get_or, refl, ap, sym, ◌∙◌, subst, arith}
+use Rattle.std.proofs.lemmas.Bool.{cases_lt}
+use Rattle.std.proofs.Math.Nat.{mul-le-mul_left, mul-le-mul_right}
+use Rattle.std.proofs.lemmas.List.{get_or_append_left, get_or_at, length-append}
+use Rattle.std.proofs.lemmas.List.Elements.{All-append, All-cons, All-nil, All-head, All-tail}
+use Rattle.std.proofs.lemmas.List.Sums.{sum_by-append, sum_by-cons, sum_by-le}
+use Rattle.cu_num.specs.Dtype.{IsInteger, size_of}
+use Rattle.cu_num.specs.Promotion.{promotion}
+use Rattle.cu_num.specs.declared.types.Dtype.{Dtype}
+use Rattle.cu_num.specs.declared.types.Dtype.TheVariants as types
+use Rattle.cu_num.specs.declared.layout.Encoding.TheVariants.{Plain}
+use Rattle.cu_num.specs.declared.layout.Sep.TheVariants.{Slash}
+use Rattle.cu_num.specs.declared.functions.Fn2.TheVariants.{Add}
+use Rattle.cu_shape.specs.Index.{product}
+use Rattle.cu_grid.specs.Grid.{RegularGrid, IsGrid}
+use Rattle.cu_op.specs.declared.kernel.Instr.TheVariants.{Load, Two}
+use Rattle.cu_op.specs.declared.layout.ArrayInfo.{ArrayInfo}
+use Rattle.cu_op.specs.declared.operation.Op.{Op}
+use Rattle.cu_op.specs.declared.operation.Op.TheVariants.{Map}
+use Rattle.cu_op.specs.declared.operation.Planned.{Planned}
+use Rattle.cu_op.specs.Arrays.{array_at, grid_counts, grid_at, type_at, maker_at, chunk_room, chunk_count, no_array}
+use Rattle.cu_op.specs.Cells.{tasks_of}
+use Rattle.cu_op.specs.KernelTypes.{KernelFits, Typed}
+use Rattle.cu_op.specs.Layout.{IsArray}
+use Rattle.cu_op.specs.OneMap.{OneMap, Makes, addition_of, IsAlike, AddsAlike}
+use Rattle.cu_op.specs.Operation.{reads_of, writes_of, target_of, IsAlignedAlong, IsAligned, IsReadable, IsMadeBy, IsBefore}
+use Rattle.cu_op.specs.PlanView.{operation_at}
+use Rattle.cu_op.specs.Projection.{projection, greatest, instruction_count}
+use Rattle.cu_op.specs.Sound.{Sound, IsOperation, made_chunks, cells_by}
+use Rattle.cu_op.proofs.KeyTexts.{keys_differ}
+use Rattle.cu_op.proofs.Plans.{rooms_of}
+
+-- an array before the last, and the last
+at_input : (inputs : List ArrayInfo) (made : ArrayInfo) (a : ℕ) → a < length inputs → array_at (inputs ++ made ∷ []) a ≡ array_at inputs a
+at_input inputs made a h = get_or_append_left inputs (made ∷ []) no_array a h
+
+at_made : (inputs : List ArrayInfo) (made : ArrayInfo) → array_at (inputs ++ made ∷ []) (length inputs) ≡ made
+at_made inputs made = get_or_at inputs made [] no_array (length inputs) refl
+
+long : (inputs : List ArrayInfo) (made : ArrayInfo) → length (inputs ++ made ∷ []) ≡ length inputs + 1
+long inputs made = length-append inputs (made ∷ [])
+
+-- what is made is the last
+only_made : (inputs : List ArrayInfo) (made : ArrayInfo) (a : ℕ) → All (λ i. i.maker ≡ None) inputs → a < length (inputs ++ made ∷ []) → maker_at (inputs ++ made ∷ []) a ≢ None → a ≡ length inputs
+only_made inputs made a makers h some =
+    let n = long inputs made in
+    elim (cases_lt a (length inputs)) [
+      | inl l ↦ absurd (some (ap (λ (i : ArrayInfo). i.maker) (at_input inputs made a l) ∙ makers a no_array l))
+      | inr l ↦ omega (arith, n, h, l)
+    ]
+
+no_cells : (inputs : List ArrayInfo) → All (λ i. i.maker ≡ None) inputs → sum_by made_chunks inputs ≡ 0
+no_cells [] h = refl
+no_cells (i ∷ is) h =
+    let first : cells_by i.maker (chunk_count i) ≡ 0 = none_made i.maker (chunk_count i) (All-head (λ (x : ArrayInfo). x.maker ≡ None) i is h) in
+    let rest = no_cells is (All-tail (λ (x : ArrayInfo). x.maker ≡ None) i is h) in
+    sum_by-cons made_chunks i is ∙ (let e : cells_by i.maker (chunk_count i) + sum_by made_chunks is ≡ 0 = omega (arith, first, rest) in e)
+  where
+    none_made : (m : Option ℕ) (chunks : ℕ) → m ≡ None → cells_by m chunks ≡ 0
+    none_made None chunks e = refl
+    none_made (Some k) chunks e = cc
+
+cells_few : (inputs : List ArrayInfo) (made : ArrayInfo) → All (λ i. i.maker ≡ None) inputs → chunk_count made ≤ 65536 → sum_by made_chunks (inputs ++ made ∷ []) ≤ 262144
+cells_few inputs made makers few =
+    let whole = sum_by-append made_chunks inputs (made ∷ []) in
+    let none = no_cells inputs makers in
+    let one = at_most made.maker (chunk_count made) in
+    let last : sum_by made_chunks (made ∷ []) ≡ cells_by made.maker (chunk_count made) = omega arith in
+    omega (arith, whole, none, one, last, few)
+  where
+    at_most : (m : Option ℕ) (chunks : ℕ) → cells_by m chunks ≤ chunks
+    at_most None chunks = omega arith
+    at_most (Some k) chunks = omega arith
+
+-- the operation itself
+writes_last : (op : Op) (array : ℕ) → Makes op array → writes_of op ≡ array ∷ []
+writes_last (Map kernel ins out) array h = ap (λ a. a ∷ []) h
+
+tasks_last : (op : Op) (arrays : List ArrayInfo) (array : ℕ) → Makes op array → tasks_of arrays op ≡ chunk_count (array_at arrays array)
+tasks_last (Map kernel ins out) arrays array h = ap (λ a. chunk_count (array_at arrays a)) h
+
+readable_input : (inputs : List ArrayInfo) (made : ArrayInfo) (a : ℕ) → All (λ i. i.maker ≡ None) inputs → a < length inputs → IsReadable (inputs ++ made ∷ []) 0 a
+readable_input inputs made a makers h =
+    let n = long inputs made in
+    let none : maker_at (inputs ++ made ∷ []) a ≡ None = ap (λ (i : ArrayInfo). i.maker) (at_input inputs made a h) ∙ makers a no_array h in
+    (omega (arith, n, h), subst (λ (m : Option ℕ). IsBefore m 0) (sym none) tt)
+
+one_operation : (inputs : List ArrayInfo) (made : ArrayInfo) (o : Planned) (reserved : ℕ) → OneMap inputs made o.op → o.projected ≡ projection (inputs ++ made ∷ []) reserved o.op → o.projected < 2 ^ 64
+    → IsOperation (inputs ++ made ∷ []) reserved 0 o
+one_operation inputs made o reserved m projected room =
+    let n = long inputs made in
+    record {
+      reads = λ k d h. readable_input inputs made (get_or (reads_of o.op) k d) m.makers (m.reads k d h);
+      writes = subst (λ (ws : List ℕ). All (IsMadeBy (inputs ++ made ∷ []) 0) ws) (sym (writes_last o.op (length inputs) m.makes))
+          (All-cons (IsMadeBy (inputs ++ made ∷ []) 0) (length inputs) []
+          (omega (arith, n), ap (λ (i : ArrayInfo). i.maker) (at_made inputs made) ∙ m.maker) (All-nil (IsMadeBy (inputs ++ made ∷ []) 0)));
+      fits = m.fits;
+      projected = projected;
+      room = room;
+    }
+
+pub one_map_sound : (inputs : List ArrayInfo) (made : ArrayInfo) (o : Planned) (allowed reserved : ℕ) → OneMap inputs made o.op → o.projected ≡ projection (inputs ++ made ∷ []) reserved o.op → o.projected < 2 ^ 64
+    → Sound (record { arrays = inputs ++ made ∷ []; ops = o ∷ []; out = length inputs; allowed = allowed; reserved = reserved })
+one_map_sound inputs made o allowed reserved m projected room =
+    let n = long inputs made in
+    let arrays : List ArrayInfo = inputs ++ made ∷ [] in
+    let one = one_operation inputs made o reserved m projected room in
+    let ok = All-append IsArray inputs (made ∷ []) m.given (All-cons IsArray made [] m.result (All-nil IsArray)) in
+    let few = m.few in
+    record {
+      operations = single inputs made o reserved one;
+      makers = λ a k h e. let last : a ≡ length inputs = only_made inputs made a m.makers h (λ none. cc) in
+          let made_by : maker_at (inputs ++ made ∷ []) (length inputs) ≡ Some 0 = ap (λ (i : ArrayInfo). i.maker) (at_made inputs made) ∙ m.maker in
+          let is_k : maker_at (inputs ++ made ∷ []) (length inputs) ≡ Some k = subst (λ (b : ℕ). maker_at (inputs ++ made ∷ []) b ≡ Some k) last e in
+          let zero_is : 0 ≡ k = cc in
+          subst (λ (j : ℕ). (j < 1) × Contains (writes_of (operation_at (o ∷ []) j).op) a) zero_is
+          (omega arith, subst (λ (ws : List ℕ). Contains ws a) (sym (writes_last o.op (length inputs) m.makes)) (0, omega arith, sym last));
+      arrays = ok;
+      keys = keys_differ (inputs ++ made ∷ []) ok (record {
+        encodings = λ a h some. let last = only_made inputs made a m.makers h some in
+            subst (λ (b : ℕ). (array_at (inputs ++ made ∷ []) b).layout.encoding ≡ Plain Slash) (sym last) (ap (λ (i : ArrayInfo). i.layout.encoding) (at_made inputs made) ∙ m.encoding);
+        prefixes = λ a b ha hb sa sb e. only_made inputs made a m.makers ha sa ∙ sym (only_made inputs made b m.makers hb sb);
+      });
+      out = omega (arith, n);
+      array_count = omega (arith, n, few);
+      operation_count = omega arith;
+      input_chunks = λ a h none. elim (cases_lt a (length inputs)) [
+        | inl l ↦ subst (λ (i : ArrayInfo). chunk_count i ≤ 65536) (sym (at_input inputs made a l)) (m.given_chunks a no_array l)
+        | inr l ↦ let last : a ≡ length inputs = omega (arith, n, h, l) in
+            subst (λ (b : ℕ). chunk_count (array_at (inputs ++ made ∷ []) b) ≤ 65536) (sym last)
+            (subst (λ (i : ArrayInfo). chunk_count i ≤ 65536) (sym (at_made inputs made)) m.result_chunks)
+      ];
+      tasks =
+          let t = tasks_last o.op (inputs ++ made ∷ []) (length inputs) m.makes in
+          let e : chunk_count (array_at (inputs ++ made ∷ []) (length inputs)) ≡ chunk_count made = ap chunk_count (at_made inputs made) in
+          let r = m.result_chunks in
+          omega (arith, t, e, r);
+      cells = cells_few inputs made m.makers m.result_chunks;
+    }
+  where
+    single : (inputs : List ArrayInfo) (made : ArrayInfo) (o : Planned) (reserved : ℕ) → IsOperation (inputs ++ made ∷ []) reserved 0 o → (k : ℕ) → k < 1 → IsOperation (inputs ++ made ∷ []) reserved k (operation_at (o ∷ []) k)
+    single inputs made o reserved one zero h = one
+    single inputs made o reserved one (suc k) h = absurd (omega arith)
+
+-- an array is aligned to one of its own grid
+same_along : (ns cs : List ℕ) → length cs ≡ length ns → IsAlignedAlong ns cs ns cs
+same_along [] [] e = tt
+same_along [] (c ∷ cs) e = absurd (omega arith)
+same_along (n ∷ ns) [] e = absurd (omega arith)
+same_along (n ∷ ns) (c ∷ cs) e = (inl (refl, refl), same_along ns cs (omega arith))
+
+pub same_aligned : (g : RegularGrid) → IsGrid g → IsAligned g g
+same_aligned g ok =
+    let none : 0 ≡ length g.shape - length g.shape = omega arith in
+    record {
+      rank = omega arith;
+      axes = subst (λ (k : ℕ). IsAlignedAlong g.shape g.chunk (drop k g.shape) (drop k g.chunk)) none (same_along g.shape g.chunk ok.ranks);
+    }
+
+-- the kernel of an addition of two arrays of one integer type
+pub add_fits : (t : Dtype) → IsInteger t → promotion t t ≡ Some t → KernelFits (Load 0 ∷ Load 1 ∷ Two Add t 0 1 ∷ []) (t ∷ t ∷ []) [] t
+add_fits t h same =
+    (Typed t, (t, refl, refl), (Typed t, (t, refl, refl), (Typed t, (Typed t, Typed t, refl, refl, same, h, refl), refl)))
+
+-- an input of an addition, and its result
+alike_input : (inputs : List ArrayInfo) (made : ArrayInfo) (g : RegularGrid) (t : Dtype) (a : ℕ) → All (IsAlike g t) inputs → a < length inputs → IsAlike g t (array_at (inputs ++ made ∷ []) a)
+alike_input inputs made g t a given h = subst (IsAlike g t) (sym (at_input inputs made a h)) (given a no_array h)
+
+alike_made : (inputs : List ArrayInfo) (made : ArrayInfo) (g : RegularGrid) (t : Dtype) → IsAlike g t made → IsAlike g t (array_at (inputs ++ made ∷ []) (length inputs))
+alike_made inputs made g t ok = subst (IsAlike g t) (sym (at_made inputs made)) ok
+
+aligned_alike : (arrays : List ArrayInfo) (g : RegularGrid) (t : Dtype) (a out : ℕ) → IsAlike g t (array_at arrays a) → IsAlike g t (array_at arrays out) → IsAligned (grid_at arrays a) (grid_at arrays out)
+aligned_alike arrays g t a out p q =
+    subst (λ (r : RegularGrid). IsAligned (grid_at arrays a) r) (p.grid ∙ sym q.grid) (same_aligned (grid_at arrays a) p.array.grid)
+
+pub add_one_map : ((t : Dtype) → promotion t t ≡ Some t) → (inputs : List ArrayInfo) (made : ArrayInfo) (g : RegularGrid) (t : Dtype) (i j : ℕ) → AddsAlike inputs made g t i j → OneMap inputs made (addition_of t i j (length inputs))
+add_one_map stays inputs made g t i j h =
+    let arrays : List ArrayInfo = inputs ++ made ∷ [] in
+    let a = alike_input inputs made g t i h.given h.first in
+    let b = alike_input inputs made g t j h.given h.second in
+    let y = alike_made inputs made g t h.result in
+    let P : ℕ → Type 0 = λ x. IsAligned (grid_at (inputs ++ made ∷ []) x) (grid_at (inputs ++ made ∷ []) (length inputs)) in
+    let W : ℕ → Type 0 = λ x. x < length inputs in
+    record {
+      given = λ k d l. (h.given k d l).array;
+      result = h.result.array;
+      makers = h.makers;
+      maker = h.maker;
+      encoding = h.encoding;
+      given_chunks = λ k d l. subst (λ (r : RegularGrid). product (grid_counts r) ≤ 65536) (sym (h.given k d l).grid) h.few_chunks;
+      result_chunks = subst (λ (r : RegularGrid). product (grid_counts r) ≤ 65536) (sym h.result.grid) h.few_chunks;
+      few = h.few;
+      makes = refl;
+      reads = All-cons W i (j ∷ []) h.first (All-cons W j [] h.second (All-nil W));
+      fits = record {
+        inputs = All-cons P i (j ∷ []) (aligned_alike (inputs ++ made ∷ []) g t i (length inputs) a y) (All-cons P j [] (aligned_alike (inputs ++ made ∷ []) g t j (length inputs) b y) (All-nil P));
+        kernel = rw (a.dtype, b.dtype, y.dtype) (add_fits t h.integer (stays t));
+      };
+    }
+
+-- a chunk of an array has at most 2^43 bytes
+size_few : (t : Dtype) → size_of t ≤ 8
+size_few types.Bool = omega arith
+size_few types.Int8 = omega arith
+size_few types.Int16 = omega arith
+size_few types.Int32 = omega arith
+size_few types.Int64 = omega arith
+size_few types.Uint8 = omega arith
+size_few types.Uint16 = omega arith
+size_few types.Uint32 = omega arith
+size_few types.Uint64 = omega arith
+
+times_few : (n s : ℕ) → n ≤ 2 ^ 40 → s ≤ 8 → n * s ≤ 2 ^ 43
+times_few n s h k = let w : n * s ≤ n * 8 = mul-le-mul_left n k in omega arith
+
+pub room_few : (arrays : List ArrayInfo) (a : ℕ) → All IsArray arrays → a < length arrays → chunk_room arrays a ≤ 2 ^ 43
+room_few arrays a ok h = times_few (product (grid_at arrays a).chunk) (size_of (type_at arrays a)) (ok a no_array h).grid.chunk_elements (size_few (type_at arrays a))
+
+greatest_few : (f : ℕ → ℕ) (m : ℕ) (xs : List ℕ) → All (λ x. f x ≤ m) xs → greatest (map f xs) ≤ m
+greatest_few f m [] h = omega arith
+greatest_few f m (x ∷ xs) h =
+    let first = All-head (λ y. f y ≤ m) x xs h in
+    let rest = greatest_few f m xs (All-tail (λ y. f y ≤ m) x xs h) in
+    omega (arith, first, rest)
+
+-- the projection of an operation fits 64 bits
+pub projection_few : (op : Op) (arrays : List ArrayInfo) (reserved : ℕ) → All IsArray arrays → All (λ a. a < length arrays) (reads_of op) → target_of op < length arrays
+    → length (reads_of op) ≤ 8 → instruction_count op ≤ 32 → reserved ≤ 2 ^ 40 → projection arrays reserved op < 2 ^ 64
+projection_few op arrays reserved ok reads target ins code few =
+    let r = rooms_of op arrays in
+    let each : All (λ a. chunk_room arrays a ≤ 2 ^ 43) (reads_of op) = λ k d h. room_few arrays (get_or (reads_of op) k d) ok (reads k d h) in
+    let g = greatest_few (chunk_room arrays) (2 ^ 43) (reads_of op) each in
+    let s = sum_by-le (chunk_room arrays) (2 ^ 43) (reads_of op) each in
+    let w : length (reads_of op) * 2 ^ 43 ≤ 8 * 2 ^ 43 = mul-le-mul_right (2 ^ 43) ins in
+    let o = room_few arrays (target_of op) ok target in
+    let a = r.scratch in
+    let b = r.inputs in
+    let c = r.outputs in
+    omega (arith, g, s, w, o, a, b, c)

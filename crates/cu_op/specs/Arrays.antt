@@ -1,0 +1,46 @@
+-- The arrays of a plan by their numbers. Past the end stands an array that means nothing.
+use Rattle.std.specs.Prelude.{ℕ, pos, List, [], Option, None, slice_index_or}
+use Rattle.cu_num.specs.declared.types.Dtype.{Dtype}
+use Rattle.cu_num.specs.declared.types.Dtype.TheVariants.{Bool}
+use Rattle.cu_num.specs.declared.layout.Encoding.TheVariants.{Plain}
+use Rattle.cu_num.specs.declared.layout.Sep.TheVariants.{Slash}
+use Rattle.cu_num.specs.declared.layout.Endian.TheVariants.{Little}
+use Rattle.cu_shape.specs.Index.{product}
+use Rattle.cu_grid.specs.Counts.{counts_of}
+use Rattle.cu_grid.specs.Grid.{RegularGrid}
+use Rattle.cu_zarr.specs.Layout.{ArrayLayout, chunk_bytes}
+use Rattle.cu_op.specs.declared.layout.ArrayInfo.{ArrayInfo}
+use Rattle.cu_op.specs.Layout.{layout_view}
+
+abbrev pub no_array : ArrayInfo
+no_array = record {
+  prefix = [];
+  layout = record { dtype = Bool; grid = record { shape = []; chunk = [] }; encoding = Plain Slash; endian = Little; fill = pos 0 };
+  maker = None;
+}
+
+abbrev pub array_at : List ArrayInfo → ℕ → ArrayInfo
+array_at arrays a = slice_index_or arrays a no_array
+
+abbrev pub layout_at : List ArrayInfo → ℕ → ArrayLayout
+layout_at arrays a = layout_view (array_at arrays a).layout
+
+abbrev pub grid_at : List ArrayInfo → ℕ → RegularGrid
+grid_at arrays a = (array_at arrays a).layout.grid
+
+abbrev pub type_at : List ArrayInfo → ℕ → Dtype
+type_at arrays a = (array_at arrays a).layout.dtype
+
+abbrev pub maker_at : List ArrayInfo → ℕ → Option ℕ
+maker_at arrays a = (array_at arrays a).maker
+
+-- the bytes of a chunk of an array, also at the edge
+abbrev pub chunk_room : List ArrayInfo → ℕ → ℕ
+chunk_room arrays a = chunk_bytes (layout_at arrays a)
+
+-- how many chunks an array has on each axis, and in all
+abbrev pub grid_counts : RegularGrid → List ℕ
+grid_counts g = counts_of g.shape g.chunk
+
+abbrev pub chunk_count : ArrayInfo → ℕ
+chunk_count a = product (grid_counts a.layout.grid)

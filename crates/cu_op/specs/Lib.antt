@@ -1,0 +1,12 @@
+pub mod Arrays
+pub mod Cells
+pub mod Kernel
+pub mod KernelTypes
+pub mod Layout
+pub mod Operation
+pub mod PlanView
+pub mod Projection
+pub mod Sound
+pub mod Value
+pub mod Names
+pub mod OneMap

@@ -1,0 +1,72 @@
+ghost use Rattle.std.specs.Prelude.{◌≡◌, slice_get, OnSome, ◌<◌, ◌≤◌, length};
+ghost use Rattle.cu_op.specs.Operation.{reads_of, writes_of, target_of};
+ghost use Rattle.cu_op.specs.Projection.{instruction_count};
+
+use crate::kernel::Kernel;
+use arrayvec::ArrayVec;
+
+/// An operation of a plan. It names arrays by their numbers in the plan.
+#[derive(Drop)]
+pub enum Op {
+    /// Computes each element of `out` from the elements of `ins` that it reads through broadcasting.
+    Map {
+        /// What is computed.
+        kernel: Kernel,
+        /// The arrays that the kernel loads from, in the order in which it names them.
+        ins: ArrayVec<u32, 8>,
+        /// The array that is made.
+        out: u32,
+    },
+}
+
+impl Op {
+    /// The arrays that it reads, in order.
+    pub fn reads(&self) -> &[u32]
+        ensures arrays { result.now ≡ reads_of self.now }
+        ensures few { length result.now ≤ 8 }
+    {
+        match self {
+            Op::Map { ins, .. } => ins.as_slice(),
+        }
+    }
+
+    /// An array that it writes, by its place among them.
+    pub fn written(&self, at: u32) -> Option<u32>
+        ensures array { result ≡ slice_get (writes_of self.now) at }
+        ensures few { OnSome result (at < 2) }
+    {
+        match self {
+            Op::Map { out, .. } => { if at == 0 { Some(*out) } else { None } }
+        }
+    }
+
+    /// The array that its tasks go over: its result.
+    pub fn target(&self) -> u32
+        ensures { result ≡ target_of self.now }
+    {
+        match self {
+            Op::Map { out, .. } => *out,
+        }
+    }
+
+    /// The number of steps of its kernel.
+    pub fn steps(&self) -> u32
+        ensures count { result ≡ instruction_count self.now }
+        ensures few { result ≤ 32 }
+    {
+        match self {
+            Op::Map { kernel, .. } => kernel.code.len() as u32,
+        }
+    }
+}
+
+/// An operation as it stands in a plan.
+#[derive(Drop)]
+pub struct Planned {
+    /// The operation.
+    pub op: Op,
+    /// The number of the expression's node that it belongs to.
+    pub node: u32,
+    /// The bytes of memory that a worker needs for one of its tasks, those that are reserved counted.
+    pub projected: u64,
+}
