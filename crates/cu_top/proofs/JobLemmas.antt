@@ -72,7 +72,7 @@ chunk_write_is job entry (suc n) key bytes among =
     ]
 
 -- one coordinate that a key can have
-small_coordinate : (k : ℕ) → k < 65536 → All (λ i. i < 2 ^ 64) (k ∷ [])
+pub small_coordinate : (k : ℕ) → k < 65536 → All (λ i. i < 2 ^ 64) (k ∷ [])
 small_coordinate k below = All-from_recursion (λ i. i < 2 ^ 64) (k ∷ []) (omega arith, tt)
 
 pub same_chunk_number : (name : List ℕ) (j k : ℕ) → j < 65536 → k < 65536 → key_of_chunk name j ≡ key_of_chunk name k → j ≡ k

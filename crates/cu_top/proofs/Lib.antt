@@ -7,6 +7,7 @@ mod JobLemmas
 mod MetadataLemmas
 mod OptionLemmas
 mod NameLemmas
+mod OutputLemmas
 mod SpelledSums
 mod StatusExample
 mod StatusLemmas

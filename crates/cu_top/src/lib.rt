@@ -7,6 +7,7 @@ mod chunks;
 mod expression;
 mod inputs;
 mod job;
+mod laws;
 mod memory;
 mod metadata;
 mod output;
@@ -17,4 +18,5 @@ mod sums;
 mod words;
 
 pub use call::top;
+pub use laws::output_law;
 pub use status::{LineText, Status, number, status_line};
