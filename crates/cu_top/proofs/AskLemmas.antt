@@ -1,9 +1,12 @@
 -- Keys that were found absent.
-use Rattle.std.proofs.Common.{◌≡◌, ℕ, ◌+◌, List, Option, Some, None, sym, ◌∙◌, inl, inr, arith, below_more}
+use Rattle.std.proofs.Common.{◌≡◌, ℕ, ◌+◌, List, Option, Some, None, sym, ◌∙◌, inl, inr, arith, below_more, Bool, subst}
 use Rattle.cu_store.specs.Held.{Contents, Write, IsAmong, IsKeptAt, Follows, IsGone}
 use Rattle.cu_zarr.specs.Key.{metadata_key_of}
 use Rattle.cu_top.specs.Job.{IsFree, chunks_of, key_of_chunk}
-use Rattle.cu_top.specs.Run.{IsFreeBelow}
+use Rattle.cu_top.specs.Chunks.{IsKeyFault}
+use Rattle.cu_top.specs.Run.{IsFreeBelow, IfAsked}
+use Rattle.cu_top.specs.declared.status.Status.{Status}
+use Rattle.cu_top.specs.declared.status.Status.TheVariants.{Done, BadWords, OverMemory, Exists, ReadFault, WriteFault, BadChunk, DepotFailed, NotBuilt, NoMemory}
 use Rattle.cu_top.specs.declared.job.Job.{Job}
 
 kept_absent : (W : List ℕ → List ℕ → Type 0) (entry held : Contents) (key : List ℕ) → held key ≡ None → IsKeptAt W entry held key → entry key ≡ None
@@ -24,3 +27,16 @@ one_more_free job entry n so_far here = (so_far.0, below_more _ _ so_far.1 here)
 pub all_free : (job : Job) (entry : Contents) (n : ℕ) → chunks_of job ≡ n → IsFreeBelow job entry n → IsFree job entry
 all_free job entry n all below key (inl metadata) = rw metadata below.0
 all_free job entry n all below key (inr (k, small, chunk)) = rw chunk (below.1 k (omega (arith, all, small)))
+
+-- A call that fails for a key names this key.
+pub key_fault_asked : (before after : ℕ) (lacks : Bool) (key : List ℕ) (status : Status) (P : List ℕ → Type 0) → IsKeyFault before after lacks key status → P key → IfAsked status P
+key_fault_asked before after lacks key (DepotFailed failed) P fault here = subst P (sym fault.0) here
+key_fault_asked before after lacks key NoMemory P fault here = tt
+key_fault_asked before after lacks key Done P fault here = tt
+key_fault_asked before after lacks key (BadWords code) P fault here = tt
+key_fault_asked before after lacks key (OverMemory node need allowed) P fault here = tt
+key_fault_asked before after lacks key (Exists held) P fault here = absurd fault
+key_fault_asked before after lacks key ReadFault P fault here = tt
+key_fault_asked before after lacks key WriteFault P fault here = tt
+key_fault_asked before after lacks key (BadChunk bad got want) P fault here = tt
+key_fault_asked before after lacks key (NotBuilt node) P fault here = tt

@@ -8,15 +8,14 @@ use Rattle.cu_store.specs.Faults.{Rose}
 use Rattle.cu_store.specs.Held.{Contents, Write, IsAmong, IsKeptAt, Follows}
 use Rattle.cu_zarr.specs.Key.{metadata_key_of}
 use Rattle.cu_top.proofs.JobLemmas.{input_stays}
-use Rattle.cu_top.proofs.TopLemmas.{out_key, run_key}
 use Rattle.cu_top.specs.Chunks.{IsChunkKey}
 use Rattle.cu_top.specs.Complete.{IsServable, StoodStill, IsServed, IsWhole}
 use Rattle.cu_top.specs.Expression.{addition_of, when, Names as TextNames}
-use Rattle.cu_top.specs.Job.{IsArrayKey, IsQuiet, HasInputs, IsFree, IsStarted}
+use Rattle.cu_top.specs.Job.{IsArrayKey, HasInputs, IsFree, IsStarted, key_of_chunk}
 use Rattle.cu_top.specs.OneAxis.{IsWithinLimits}
-use Rattle.cu_top.specs.Run.{HasNames, IsInWay, over_memory}
+use Rattle.cu_top.specs.Run.{HasNames, IsMetadataKey, IsCalm, IsInWay, over_memory}
 use Rattle.cu_top.specs.Streams.{ReadsAll}
-use Rattle.cu_top.specs.Top.{IsBad, IsNamedKey, IsKeyOfArray, Ran, CameToRun, HasNoAddition, Tells, text_names}
+use Rattle.cu_top.specs.Top.{IsBad, IsKeyOfArray, Ran, CameToRun, HasNoAddition, Tells, text_names}
 use Rattle.cu_top.specs.Words.{options_of}
 use Rattle.cu_top.specs.declared.job.Job.{Job}
 use Rattle.cu_top.specs.declared.job.Names.{Names}
@@ -62,11 +61,33 @@ back_names a b job same has = record { left = has.left ∙ sym same.left; right 
 options_same : (a b : Options) → ◌≡◌ {A = Result Options ℕ} (Ok a) (Ok b) → a ≡ b
 options_same a b e = cc
 
-quiet : (names : Names) (job : Job) (entry : Contents) (late : List Write) → HasNames names job
-    → ((key bytes : List ℕ) → IsAmong late key bytes → IsNamedKey names key → ⊥) → IsQuiet job entry late
-quiet names job entry late has settled = record {
-  plan = λ key bytes among of_out. absurd (settled key bytes among (run_key names job key has (inl of_out)));
-  inputs = λ key bytes among of_input. absurd (settled key bytes among (run_key names job key has (inr of_input)));
+-- ---- the premise of a run
+
+-- a key of an array, of whatever sizes
+key_of_array : (job : Job) (name other key : List ℕ) → name ≡ other → IsArrayKey job name key → IsKeyOfArray other key
+key_of_array job name other key same (inl metadata) = inl (metadata ∙ ap metadata_key_of same)
+key_of_array job name other key same (inr (k, small, chunk)) = inr (k, chunk ∙ ap (λ (n : List ℕ). key_of_chunk n k) same)
+
+-- no put is late on the output, and each that is late on an input carries what is held
+record IsSettled (names : Names) (entry : Contents) (late : List Write) : Type 0 where
+  out : (key bytes : List ℕ) → IsAmong late key bytes → IsKeyOfArray names.out key → ⊥
+  inputs : (key bytes : List ℕ) → IsAmong late key bytes → IsKeyOfArray names.left key ⊎ IsKeyOfArray names.right key → entry key ≡ Some bytes
+
+metadata_of_input : (names : Names) (key : List ℕ) → IsMetadataKey names key → IsKeyOfArray names.left key ⊎ IsKeyOfArray names.right key
+metadata_of_input names key (inl left) = inl (inl left)
+metadata_of_input names key (inr right) = inr (inl right)
+
+key_of_input : (names : Names) (job : Job) (key : List ℕ) → HasNames names job → IsArrayKey job job.left key ⊎ IsArrayKey job job.right key → IsKeyOfArray names.left key ⊎ IsKeyOfArray names.right key
+key_of_input names job key has (inl left) = inl (key_of_array job job.left names.left key has.left left)
+key_of_input names job key has (inr right) = inr (key_of_array job job.right names.right key has.right right)
+
+is_calm : (names : Names) (entry : Contents) (late : List Write) → IsSettled names entry late → IsCalm names entry late
+is_calm names entry late settled = record {
+  metadata = λ key bytes among of_input. settled.inputs key bytes among (metadata_of_input names key of_input);
+  jobs = λ job has inputs. record {
+    plan = λ key bytes among of_out. absurd (settled.out key bytes among (key_of_array job job.out names.out key has.out of_out));
+    inputs = λ key bytes among of_input. settled.inputs key bytes among (key_of_input names job key has of_input);
+  };
 }
 
 -- ---- each other answer lacks its cause
@@ -74,16 +95,16 @@ quiet names job entry late has settled = record {
 none_rose : (n before after : ℕ) → 0 < n → StoodStill before after → Rose n before after → ⊥
 none_rose n before after some still rose = omega (arith, still.0, still.1, rose, some)
 
-not_held : (key : List ℕ) (entry held : Contents) (late : List Write) (names : Names) → ((k b : List ℕ) → IsAmong late k b → IsNamedKey names k → ⊥) → IsNamedKey names key
+not_held : (key : List ℕ) (entry held : Contents) (late : List Write) (names : Names) → IsSettled names entry late → IsKeyOfArray names.out key
     → entry key ≡ None → (bytes : List ℕ) → held key ≡ Some bytes → IsKeptAt (IsAmong late) entry held key → ⊥
 not_held key entry held late names settled named free bytes there (inl same) = cc
-not_held key entry held late names settled named free bytes there (inr (b, landed, now)) = settled key b landed named
+not_held key entry held late names settled named free bytes there (inr (b, landed, now)) = settled.out key b landed named
 
 not_in_way : (names : Names) (job : Job) (key : List ℕ) (entry : Contents) (new : Option Contents) (late now_late : List Write) → HasNames names job
-    → ((k b : List ℕ) → IsAmong late k b → IsNamedKey names k → ⊥) → HasInputs job entry → IsFree job entry → Follows late (Some entry) new now_late → IsInWay job new key → ⊥
+    → IsSettled names entry late → HasInputs job entry → IsFree job entry → Follows late (Some entry) new now_late → IsInWay job new key → ⊥
 not_in_way names job key entry None late now_late has settled inputs free follows way = follows.0
 not_in_way names job key entry (Some held) late now_late has settled inputs free follows (of_out, inl (bytes, there)) =
-    not_held key entry held late names settled (out_key names job key has of_out) (free key of_out) bytes there (follows.0 key)
+    not_held key entry held late names settled (key_of_array job job.out names.out key has.out of_out) (free key of_out) bytes there (follows.0 key)
 not_in_way names job key entry (Some held) late now_late has settled inputs free follows (of_out, inr (inl left)) =
     let gone : entry (metadata_key_of job.left) ≡ None = subst (λ (n : List ℕ). entry (metadata_key_of n) ≡ None) left (free (metadata_key_of job.out) (inl refl)) in
     let there = inputs.left in cc
@@ -120,15 +141,14 @@ words_differ words o code ok err = ok_or_err (options_of words) o code ok err
 array_back : (a b key : List ℕ) → a ≡ b → IsKeyOfArray b key → IsKeyOfArray a key
 array_back a b key same of_b = subst (λ (n : List ℕ). IsKeyOfArray n key) (sym same) of_b
 
-named_back : (a b : Names) (key : List ℕ) → AreSame a b → IsNamedKey b key → IsNamedKey a key
-named_back a b key same (inl left) = inl (array_back a.left b.left key same.left left)
-named_back a b key same (inr (inl right)) = inr (inl (array_back a.right b.right key same.right right))
-named_back a b key same (inr (inr out)) = inr (inr (array_back a.out b.out key same.out out))
+input_back : (a b : Names) (key : List ℕ) → AreSame a b → IsKeyOfArray b.left key ⊎ IsKeyOfArray b.right key → IsKeyOfArray a.left key ⊎ IsKeyOfArray a.right key
+input_back a b key same (inl left) = inl (array_back a.left b.left key same.left left)
+input_back a b key same (inr right) = inr (array_back a.right b.right key same.right right)
 
 -- ---- the answers of a run
 
 served_run : (names : Names) (options : Options) (entry : Contents) (new : Option Contents) (late now_late : List Write) (f g v w : ℕ) (front back : Option (List ℕ)) (job : Job) (status : Status)
-    → ((key bytes : List ℕ) → IsAmong late key bytes → IsNamedKey names key → ⊥)
+    → IsSettled names entry late
     → HasNames names job → IsWithinLimits job.elements job.chunk → HasInputs job entry
     → ((j : Job) → HasNames names j → HasInputs j entry → over_memory options j ≡ None)
     → ((j : Job) → HasNames names j → HasInputs j entry → IsFree j entry)
@@ -138,22 +158,22 @@ served_run : (names : Names) (options : Options) (entry : Contents) (new : Optio
 served_run names options entry new late now_late f g v w front back job Done settled has limits inputs fits free whole depot sink ran = tt
 served_run names options entry new late now_late f g v w front back job NoMemory settled has limits inputs fits free whole depot sink ran = tt
 served_run names options entry new late now_late f g v w front back job WriteFault settled has limits inputs fits free whole depot sink ran = none_rose 1 v w (omega arith) sink ran.0
-served_run names options entry new late now_late f g v w front back job (DepotFailed key) settled has limits inputs fits free whole depot sink ran = none_rose 3 f g (omega arith) depot ran.1
+served_run names options entry new late now_late f g v w front back job (DepotFailed key) settled has limits inputs fits free whole depot sink ran = none_rose 3 f g (omega arith) depot ran.0
 served_run names options entry new late now_late f g v w front back job (NotBuilt node) settled has limits inputs fits free whole depot sink ran =
-    ran.2 entry refl job has limits (quiet names job entry late has settled) inputs
+    ran.2 entry refl job has limits (is_calm names entry late settled).metadata inputs
 served_run names options entry new late now_late f g v w front back job (OverMemory node need allowed) settled has limits inputs fits free whole depot sink ran =
     let over = ran.2 in
-    let j_inputs = over.accepted.inputs entry refl (quiet names over.job entry late over.accepted.has_names settled) in
+    let j_inputs = over.accepted.inputs entry refl (is_calm names entry late settled).metadata in
     let none = fits over.job over.accepted.has_names j_inputs in
     none_some over.job options _ none over.over
 served_run names options entry new late now_late f g v w front back job (Exists key) settled has limits inputs fits free whole depot sink ran =
     let blocked = ran.1 in
-    let j_inputs = blocked.accepted.inputs entry refl (quiet names blocked.job entry late blocked.accepted.has_names settled) in
+    let j_inputs = blocked.accepted.inputs entry refl (is_calm names entry late settled).metadata in
     not_in_way names blocked.job key entry new late now_late blocked.accepted.has_names settled j_inputs (free blocked.job blocked.accepted.has_names j_inputs) ran.0 blocked.in_way
 served_run names options entry new late now_late f g v w front back job (BadChunk key got want) settled has limits inputs fits free whole depot sink ran =
-    let j_quiet = quiet names ran.job entry late ran.accepted.has_names settled in
-    let j_inputs = ran.accepted.inputs entry refl j_quiet in
-    not_bad ran.job entry new late now_late key got want (ran.started entry refl j_quiet) (whole ran.job ran.accepted.has_names j_inputs) ran.is_so
+    let calm = is_calm names entry late settled in
+    let j_inputs = ran.accepted.inputs entry refl calm.metadata in
+    not_bad ran.job entry new late now_late key got want (ran.started entry refl calm) (whole ran.job ran.accepted.has_names j_inputs) ran.is_so
 served_run names options entry new late now_late f g v w front back job (BadWords code) settled has limits inputs fits free whole depot sink ran = ran
 served_run names options entry new late now_late f g v w front back job ReadFault settled has limits inputs fits free whole depot sink ran = ran
 
@@ -165,7 +185,10 @@ came words left next entry new late now_late f g v w front back status premise d
     let same = names_same premise.names arrived.names (sym premise.adds ∙ ap addition_of (sym (text_is_left left arrived.called.text next (text_names premise.names) arrived.called.read premise.adds)) ∙ arrived.called.adds) in
     let same_options : premise.options ≡ arrived.options = options_same premise.options arrived.options (sym premise.words_give ∙ arrived.called.words_give) in
     served_run arrived.names arrived.options entry new late now_late f g v w front back premise.job status
-    (λ key bytes among named. premise.settled key bytes among (named_back premise.names arrived.names key same named))
+    (record {
+      out = λ key bytes among named. premise.settled key bytes among (array_back premise.names.out arrived.names.out key same.out named);
+      inputs = λ key bytes among named. premise.calm key bytes among (input_back premise.names arrived.names key same named);
+    })
     (has_names premise.names arrived.names premise.job same premise.has_names) premise.limits premise.inputs
     (λ j has inputs. subst (λ (o : Options). over_memory o j ≡ None) same_options (premise.fits j (back_names premise.names arrived.names j same has) inputs))
     (λ j has inputs. premise.free j (back_names premise.names arrived.names j same has) inputs)
@@ -182,7 +205,7 @@ told_served : (words : List (List ℕ)) (next : Option (List ℕ)) (left : List 
 told_served words next left t u entry new late now_late f g v w front back Done premise source sink depot tells = tt
 told_served words next left t u entry new late now_late f g v w front back NoMemory premise source sink depot tells = tt
 told_served words next left t u entry new late now_late f g v w front back (BadWords code) premise source sink depot tells = words_differ words _ code premise.words_give tells.0
-told_served words next left t u entry new late now_late f g v w front back ReadFault premise source sink depot tells = none_rose 1 t u (omega arith) source tells.0
+told_served words next left t u entry new late now_late f g v w front back ReadFault premise source sink depot tells = none_rose 1 t u (omega arith) source tells.1
 told_served words next left t u entry new late now_late f g v w front back (OverMemory node need allowed) premise source sink depot tells = came words left next entry new late now_late f g v w front back (OverMemory node need allowed) premise depot sink tells
 told_served words next left t u entry new late now_late f g v w front back (Exists key) premise source sink depot tells = came words left next entry new late now_late f g v w front back (Exists key) premise depot sink tells
 told_served words next left t u entry new late now_late f g v w front back WriteFault premise source sink depot tells = came words left next entry new late now_late f g v w front back WriteFault premise depot sink tells

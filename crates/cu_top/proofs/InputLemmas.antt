@@ -1,12 +1,12 @@
 -- What the metadata of the inputs was when the call began.
-use Rattle.std.proofs.Common.{◌≡◌, ◌⊎◌, ℕ, ◌≤◌, List, length, Option, Some, None, sym, ap, ◌∙◌, subst, inl, inr}
+use Rattle.std.proofs.Common.{◌≡◌, ℕ, ◌≤◌, List, length, Option, Some, None, sym, ap, ◌∙◌, subst, inl, inr, refl}
 use Rattle.cu_store.specs.Held.{Contents, Write, IsAmong, IsKeptAt, Follows}
 use Rattle.cu_zarr.specs.Key.{metadata_key_of}
 use Rattle.cu_zarr.specs.Metadata.{metadata_text}
 use Rattle.cu_top.specs.Inputs.{HoldsText, HoldsNoText}
-use Rattle.cu_top.specs.Job.{IsArrayKey, IsQuiet, HasInputs, layout_of}
+use Rattle.cu_top.specs.Job.{HasInputs, layout_of}
 use Rattle.cu_top.specs.OneAxis.{one_axis, IsWithinLimits}
-use Rattle.cu_top.specs.Run.{HasNames, IfNotBuilt, HasNoInputs}
+use Rattle.cu_top.specs.Run.{HasNames, IfNotBuilt, HasNoInputs, IsCalmMetadata, IsMetadataKey}
 use Rattle.cu_top.specs.declared.job.Job.{Job}
 use Rattle.cu_top.specs.declared.job.Names.{Names}
 use Rattle.cu_top.specs.declared.status.Status.{Status}
@@ -25,52 +25,46 @@ not_built (BadChunk key got want) step holds = tt
 not_built (DepotFailed key) step holds = tt
 not_built NoMemory step holds = tt
 
-same_input : (job : Job) (entry held : Contents) (late : List Write) (key : List ℕ) → IsQuiet job entry late
-    → IsArrayKey job job.left key ⊎ IsArrayKey job job.right key → IsKeptAt (IsAmong late) entry held key → held key ≡ entry key
-same_input job entry held late key quiet of_input (inl same) = same
-same_input job entry held late key quiet of_input (inr (bytes, landed, now)) = now ∙ sym (quiet.inputs key bytes landed of_input)
-
-left_key : (names : Names) (job : Job) → HasNames names job → IsArrayKey job job.left (metadata_key_of names.left) ⊎ IsArrayKey job job.right (metadata_key_of names.left)
-left_key names job has = inl (inl (ap metadata_key_of (sym has.left)))
-
-right_key : (names : Names) (job : Job) → HasNames names job → IsArrayKey job job.left (metadata_key_of names.right) ⊎ IsArrayKey job job.right (metadata_key_of names.right)
-right_key names job has = inr (inl (ap metadata_key_of (sym has.right)))
+same_input : (names : Names) (entry held : Contents) (late : List Write) (key : List ℕ) → IsCalmMetadata names entry late
+    → IsMetadataKey names key → IsKeptAt (IsAmong late) entry held key → held key ≡ entry key
+same_input names entry held late key calm of_input (inl same) = same
+same_input names entry held late key calm of_input (inr (bytes, landed, now)) = now ∙ sym (calm key bytes landed of_input)
 
 -- A text that is held was held then.
-text_before : (job : Job) (entry : Contents) (late now_late : List Write) (held : Option Contents) (key text : List ℕ) → IsQuiet job entry late
-    → IsArrayKey job job.left key ⊎ IsArrayKey job job.right key → Follows late (Some entry) held now_late → HoldsText held key text → entry key ≡ Some text
-text_before job entry late now_late None key text quiet of_input follows holds = absurd follows.0
-text_before job entry late now_late (Some held) key text quiet of_input follows holds = sym (same_input job entry held late key quiet of_input (follows.0 key)) ∙ holds
+text_before : (names : Names) (entry : Contents) (late now_late : List Write) (held : Option Contents) (key text : List ℕ) → IsCalmMetadata names entry late
+    → IsMetadataKey names key → Follows late (Some entry) held now_late → HoldsText held key text → entry key ≡ Some text
+text_before names entry late now_late None key text calm of_input follows holds = absurd follows.0
+text_before names entry late now_late (Some held) key text calm of_input follows holds = sym (same_input names entry held late key calm of_input (follows.0 key)) ∙ holds
 
-none_before : (job : Job) (entry : Contents) (late now_late : List Write) (held : Option Contents) (key text : List ℕ) (most : ℕ) → IsQuiet job entry late
-    → IsArrayKey job job.left key ⊎ IsArrayKey job job.right key → Follows late (Some entry) held now_late → HoldsNoText held key most → length text ≤ most → entry key ≡ Some text → ⊥
-none_before job entry late now_late None key text most quiet of_input follows none short there = absurd follows.0
-none_before job entry late now_late (Some held) key text most quiet of_input follows none short there =
-    none text short (same_input job entry held late key quiet of_input (follows.0 key) ∙ there)
+none_before : (names : Names) (entry : Contents) (late now_late : List Write) (held : Option Contents) (key text : List ℕ) (most : ℕ) → IsCalmMetadata names entry late
+    → IsMetadataKey names key → Follows late (Some entry) held now_late → HoldsNoText held key most → length text ≤ most → entry key ≡ Some text → ⊥
+none_before names entry late now_late None key text most calm of_input follows none short there = absurd follows.0
+none_before names entry late now_late (Some held) key text most calm of_input follows none short there =
+    none text short (same_input names entry held late key calm of_input (follows.0 key) ∙ there)
 
 pub no_left : (names : Names) (entry : Contents) (late now_late : List Write) (held : Option Contents) → Follows late (Some entry) held now_late
     → HoldsNoText held (metadata_key_of names.left) 309 → HasNoInputs names entry late
 no_left names entry late now_late held follows none job has limits quiet inputs =
-    none_before job entry late now_late held (metadata_key_of names.left) _ 309 quiet (left_key names job has) follows none (longest_metadata job.elements job.chunk limits) (subst (λ (n : List ℕ). entry (metadata_key_of n) ≡ Some (metadata_text (layout_of job))) has.left inputs.left)
+    none_before names entry late now_late held (metadata_key_of names.left) _ 309 quiet (inl refl) follows none (longest_metadata job.elements job.chunk limits) (subst (λ (n : List ℕ). entry (metadata_key_of n) ≡ Some (metadata_text (layout_of job))) has.left inputs.left)
 
 pub no_right : (names : Names) (entry : Contents) (late now_late : List Write) (held : Option Contents) → Follows late (Some entry) held now_late
     → HoldsNoText held (metadata_key_of names.right) 309 → HasNoInputs names entry late
 no_right names entry late now_late held follows none job has limits quiet inputs =
-    none_before job entry late now_late held (metadata_key_of names.right) _ 309 quiet (right_key names job has) follows none (longest_metadata job.elements job.chunk limits) (subst (λ (n : List ℕ). entry (metadata_key_of n) ≡ Some (metadata_text (layout_of job))) has.right inputs.right)
+    none_before names entry late now_late held (metadata_key_of names.right) _ 309 quiet (inr refl) follows none (longest_metadata job.elements job.chunk limits) (subst (λ (n : List ℕ). entry (metadata_key_of n) ≡ Some (metadata_text (layout_of job))) has.right inputs.right)
 
 some_same : (a b : List ℕ) → Some a ≡ Some b → a ≡ b
 some_same a b e = cc
 
-left_text : (names : Names) (entry : Contents) (late now_late : List Write) (held : Option Contents) (text : List ℕ) (job : Job) → HasNames names job → IsQuiet job entry late → HasInputs job entry
+left_text : (names : Names) (entry : Contents) (late now_late : List Write) (held : Option Contents) (text : List ℕ) (job : Job) → HasNames names job → IsCalmMetadata names entry late → HasInputs job entry
     → Follows late (Some entry) held now_late → HoldsText held (metadata_key_of names.left) text → text ≡ metadata_text (layout_of job)
 left_text names entry late now_late held text job has quiet inputs follows holds =
-    some_same _ _ (sym (text_before job entry late now_late held (metadata_key_of names.left) text quiet (left_key names job has) follows holds)
+    some_same _ _ (sym (text_before names entry late now_late held (metadata_key_of names.left) text quiet (inl refl) follows holds)
     ∙ subst (λ (n : List ℕ). entry (metadata_key_of n) ≡ Some (metadata_text (layout_of job))) has.left inputs.left)
 
-right_text : (names : Names) (entry : Contents) (late now_late : List Write) (held : Option Contents) (text : List ℕ) (job : Job) → HasNames names job → IsQuiet job entry late → HasInputs job entry
+right_text : (names : Names) (entry : Contents) (late now_late : List Write) (held : Option Contents) (text : List ℕ) (job : Job) → HasNames names job → IsCalmMetadata names entry late → HasInputs job entry
     → Follows late (Some entry) held now_late → HoldsText held (metadata_key_of names.right) text → text ≡ metadata_text (layout_of job)
 right_text names entry late now_late held text job has quiet inputs follows holds =
-    some_same _ _ (sym (text_before job entry late now_late held (metadata_key_of names.right) text quiet (right_key names job has) follows holds)
+    some_same _ _ (sym (text_before names entry late now_late held (metadata_key_of names.right) text quiet (inr refl) follows holds)
     ∙ subst (λ (n : List ℕ). entry (metadata_key_of n) ≡ Some (metadata_text (layout_of job))) has.right inputs.right)
 
 -- two texts that differ
@@ -90,10 +84,10 @@ no_sizes names entry late late1 held1 left follows1 holds1 none job has limits q
 pub has_inputs : (names : Names) (entry : Contents) (late late1 late2 : List Write) (held1 held2 : Option Contents) (left right : List ℕ) (job : Job)
     → Follows late (Some entry) held1 late1 → Follows late (Some entry) held2 late2
     → HoldsText held1 (metadata_key_of names.left) left → HoldsText held2 (metadata_key_of names.right) right → left ≡ right → left ≡ metadata_text (layout_of job)
-    → HasNames names job → IsQuiet job entry late → HasInputs job entry
+    → HasNames names job → IsCalmMetadata names entry late → HasInputs job entry
 has_inputs names entry late late1 late2 held1 held2 left right job follows1 follows2 holds1 holds2 same is has quiet = record {
-  left = subst (λ (n : List ℕ). entry (metadata_key_of n) ≡ Some (metadata_text (layout_of job))) (sym has.left) (text_before job entry late late1 held1 (metadata_key_of names.left) left quiet (left_key names job has) follows1 holds1 ∙ ap Some is);
-  right = subst (λ (n : List ℕ). entry (metadata_key_of n) ≡ Some (metadata_text (layout_of job))) (sym has.right) (text_before job entry late late2 held2 (metadata_key_of names.right) right quiet (right_key names job has) follows2 holds2 ∙ ap Some (sym same ∙ is));
+  left = subst (λ (n : List ℕ). entry (metadata_key_of n) ≡ Some (metadata_text (layout_of job))) (sym has.left) (text_before names entry late late1 held1 (metadata_key_of names.left) left quiet (inl refl) follows1 holds1 ∙ ap Some is);
+  right = subst (λ (n : List ℕ). entry (metadata_key_of n) ≡ Some (metadata_text (layout_of job))) (sym has.right) (text_before names entry late late2 held2 (metadata_key_of names.right) right quiet (inr refl) follows2 holds2 ∙ ap Some (sym same ∙ is));
 }
 
 -- the same, where the key and the room are what the code has

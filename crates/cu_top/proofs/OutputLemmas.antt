@@ -1,5 +1,5 @@
 -- The elements of a complete output are the sums.
-use Rattle.std.proofs.Common.{◌≡◌, ◌⊎◌, ℕ, suc, ◌+◌, ◌-◌, ◌*◌, ◌/◌, ◌%◌, ◌<◌, ◌≤◌, ℤ, ◌+ℤ◌, List, [], ◌∷◌, length, take, drop, Option, Some, None, option_map, option_and_then, refl, sym, ap, ◌∙◌, subst, inl, inr, arith}
+use Rattle.std.proofs.Common.{◌≡◌, ℕ, suc, ◌+◌, ◌-◌, ◌*◌, ◌/◌, ◌%◌, ◌<◌, ◌≤◌, ℤ, ◌+ℤ◌, List, [], ◌∷◌, length, Option, Some, None, option_map, refl, sym, ap, ◌∙◌, subst, inl, inr, arith}
 use Rattle.std.proofs.Math.Nat.{suc-mul}
 use Rattle.std.proofs.lemmas.Nat.{le-div, div-add-mod'}
 use Rattle.cu_codec.proofs.KeyLaws.{chunk_not_metadata}
@@ -20,9 +20,9 @@ use Rattle.cu_shape.proofs.Places.{test_from_inside}
 use Rattle.cu_zarr.specs.Layout.{index_in_chunk}
 use Rattle.cu_zarr.specs.Layout.{ArrayLayout}
 use Rattle.cu_zarr.specs.Spelling.{padded, spelled}
-use Rattle.cu_zarr.specs.Stored.{stored_element, element_in}
+use Rattle.cu_zarr.specs.Stored.{stored_element}
 use Rattle.cu_top.proofs.JobLemmas.{chunk_write_is, same_chunk_number, small_coordinate}
-use Rattle.cu_top.specs.Job.{IsJob, IsArrayKey, IsComplete, layout_of, chunks_of, key_of_chunk, chunk_value, plan_writes, sum_at, wrapped_sum}
+use Rattle.cu_top.specs.Job.{IsJob, IsComplete, layout_of, chunks_of, key_of_chunk, chunk_value, plan_writes, sum_at, wrapped_sum}
 use Rattle.cu_top.specs.OneAxis.{count_of}
 use Rattle.cu_top.specs.declared.job.Job.{Job}
 
@@ -31,7 +31,7 @@ part_length l None b e = cc
 part_length l (Some x) b e = let same : element_bytes l.endian l.dtype x ≡ b = cc in rw (← same) (length-element_bytes l.endian l.dtype x)
 
 padded_inside : (l : ArrayLayout) (f : List ℕ → Option ℤ) (coord idx : List ℕ) (p : ℕ) → index_in_chunk l coord p ≡ idx → IsInside l.shape idx
-  → padded l f coord p ≡ f idx
+    → padded l f coord p ≡ f idx
 padded_inside l f coord idx p here inside = rw (here, test_from_inside l.shape idx inside) refl
 
 mapped_some : (l : ArrayLayout) (v : Option ℤ) (b : List ℕ) → option_map (element_bytes l.endian l.dtype) v ≡ Some b → (x : ℤ) × (v ≡ Some x)

@@ -1,13 +1,13 @@
 -- From the parts of a run to what the call answers.
-use Rattle.std.proofs.Common.{◌≡◌, ◌⊎◌, ℕ, ◌≤◌, ◌++◌, List, Option, Some, None, Bool, ap, ◌∙◌, inl, inr, arith}
+use Rattle.std.proofs.Common.{◌≡◌, ℕ, ◌≤◌, ◌++◌, List, Option, Some, None, Err, Bool, inl, inr, arith, refl, sym, subst}
 use Rattle.cu_top.proofs.JobLemmas.{among_back, left_of_started}
 use Rattle.cu_store.proofs.Writes.{lands_same, lands_more}
 use Rattle.cu_store.specs.Faults.{Rose}
 use Rattle.cu_store.specs.Held.{Contents, Write, IsAmong, Follows}
-use Rattle.cu_zarr.specs.Key.{metadata_key_of}
-use Rattle.cu_top.specs.Job.{IsArrayKey, IsQuiet, IsStarted, plan_writes, key_of_chunk}
-use Rattle.cu_top.specs.Run.{HasNames, IsInputFault, IfNotBuilt, HasNoInputs, IsAskFault, IfExists, IsFirstInWay, over_memory, IsRunKey, Completes}
-use Rattle.cu_top.specs.Top.{IsAccepted, IsRun, IsKeyOfArray, IsNamedKey, Refuses, Ran, Carries, IfStored, WroteLine, WrotePart, IsBad, Anything, IsLeftIn}
+use Rattle.cu_top.specs.Job.{IsStarted, plan_writes}
+use Rattle.cu_top.specs.Report.{TellsMemory}
+use Rattle.cu_top.specs.Run.{IsInputFault, IfNotBuilt, HasNoInputs, IsAskFault, IfAsked, IfExists, IsFirstInWay, IsOwnFirst, IsApart, IsCalm, over_memory, IsRunKey, Completes}
+use Rattle.cu_top.specs.Top.{IsAccepted, IsRun, Refuses, Ran, Carries, IfStored, WroteLine, WrotePart, IsBad, Anything, IsLeftIn}
 use Rattle.cu_top.specs.declared.job.Job.{Job}
 use Rattle.cu_top.specs.declared.job.Names.{Names}
 use Rattle.cu_top.specs.declared.status.Status.{Status}
@@ -22,17 +22,9 @@ follows_start late entry held told =
 rose_earlier : (n before later after : ℕ) → before ≤ later → Rose n later after → Rose n before after
 rose_earlier n before later after earlier rose = omega arith
 
-input_key : (names : Names) (key : List ℕ) → (key ≡ metadata_key_of names.left) ⊎ (key ≡ metadata_key_of names.right) → IsNamedKey names key
-input_key names key (inl left) = inl (inl left)
-input_key names key (inr right) = inr (inl (inl right))
-
-pub out_key : (names : Names) (job : Job) (key : List ℕ) → HasNames names job → IsArrayKey job job.out key → IsNamedKey names key
-out_key names job key has (inl metadata) = inr (inr (inl (metadata ∙ ap metadata_key_of has.out)))
-out_key names job key has (inr (k, below, same)) = inr (inr (inr (k, same ∙ ap (λ (n : List ℕ). key_of_chunk n k) has.out)))
-
 pub input_refused : (names : Names) (options : Options) (old new : Option Contents) (late : List Write) (f g : ℕ) (status : Status)
     → IsInputFault names f g status → ((entry : Contents) → old ≡ Some entry → IfNotBuilt status (HasNoInputs names entry late)) → Refuses names options old new late f g status
-input_refused names options old new late f g (DepotFailed key) fault missing = (input_key names key fault.0, fault.1)
+input_refused names options old new late f g (DepotFailed key) fault missing = (fault.1, inl fault.0)
 input_refused names options old new late f g (NotBuilt node) fault missing = (fault, λ entry told. (missing entry told).1)
 input_refused names options old new late f g NoMemory fault missing = tt
 input_refused names options old new late f g Done fault missing = fault
@@ -43,21 +35,27 @@ input_refused names options old new late f g ReadFault fault missing = fault
 input_refused names options old new late f g WriteFault fault missing = fault
 input_refused names options old new late f g (BadChunk key got want) fault missing = fault
 
+pub memory_refused : (names : Names) (options : Options) (old new : Option Contents) (late : List Write) (f g : ℕ) (job : Job) (status : Status) (over : Option (ℕ × ℕ))
+    → IsAccepted names options old late job → over_memory options job ≡ over → TellsMemory options.allowed over (Err status) → Refuses names options old new late f g status
+memory_refused names options old new late f g job status None accepted is tells = absurd tells
+memory_refused names options old new late f g job status (Some over) accepted is tells =
+    subst (Refuses names options old new late f g) (sym tells) (refl, record { job = job; accepted = accepted; over = is })
+
 pub ask_refused : (names : Names) (options : Options) (old new : Option Contents) (late : List Write) (f h g : ℕ) (lacks : Bool) (job : Job) (status : Status)
     → IsAccepted names options old late job → over_memory options job ≡ None → f ≤ h → IsAskFault job h g lacks new status
-    → ((entry : Contents) → old ≡ Some entry → IfExists status (IsFirstInWay job entry)) → Refuses names options old new late f g status
-ask_refused names options old new late f h g lacks job (Exists key) accepted fits earlier fault first =
-    record { job = job; accepted = accepted; fits = fits; in_way = fault; first = first }
-ask_refused names options old new late f h g lacks job (DepotFailed key) accepted fits earlier fault first =
-    (out_key names job key accepted.has_names fault.0, rose_earlier 3 f h g earlier fault.1)
-ask_refused names options old new late f h g lacks job NoMemory accepted fits earlier fault first = tt
-ask_refused names options old new late f h g lacks job (NotBuilt node) accepted fits earlier fault first = absurd fault
-ask_refused names options old new late f h g lacks job Done accepted fits earlier fault first = fault
-ask_refused names options old new late f h g lacks job (BadWords code) accepted fits earlier fault first = fault
-ask_refused names options old new late f h g lacks job (OverMemory node need allowed) accepted fits earlier fault first = absurd fault
-ask_refused names options old new late f h g lacks job ReadFault accepted fits earlier fault first = fault
-ask_refused names options old new late f h g lacks job WriteFault accepted fits earlier fault first = fault
-ask_refused names options old new late f h g lacks job (BadChunk key got want) accepted fits earlier fault first = fault
+    → ((entry : Contents) → old ≡ Some entry → IfAsked status (IsFirstInWay job entry)) → IfExists status (IsOwnFirst job) → Refuses names options old new late f g status
+ask_refused names options old new late f h g lacks job (Exists key) accepted fits earlier fault first own =
+    record { job = job; accepted = accepted; fits = fits; in_way = fault; own = own; first = first }
+ask_refused names options old new late f h g lacks job (DepotFailed key) accepted fits earlier fault first own =
+    (rose_earlier 3 f h g earlier fault.1, inr (record { job = job; accepted = accepted; fits = fits; of_plan = fault.0; first = first }))
+ask_refused names options old new late f h g lacks job NoMemory accepted fits earlier fault first own = tt
+ask_refused names options old new late f h g lacks job (NotBuilt node) accepted fits earlier fault first own = absurd fault
+ask_refused names options old new late f h g lacks job Done accepted fits earlier fault first own = fault
+ask_refused names options old new late f h g lacks job (BadWords code) accepted fits earlier fault first own = fault
+ask_refused names options old new late f h g lacks job (OverMemory node need allowed) accepted fits earlier fault first own = absurd fault
+ask_refused names options old new late f h g lacks job ReadFault accepted fits earlier fault first own = fault
+ask_refused names options old new late f h g lacks job WriteFault accepted fits earlier fault first own = fault
+ask_refused names options old new late f h g lacks job (BadChunk key got want) accepted fits earlier fault first own = fault
 
 -- at any depot, told or not
 pub untouched_start : (late : List Write) (held : Option Contents) → Follows late held held late
@@ -76,7 +74,7 @@ pub ran_refused : (names : Names) (options : Options) (old new : Option Contents
 ran_refused names options old new late now_late f g v w front back (OverMemory node need allowed) refused untouched = (untouched, refused.0, refused.1)
 ran_refused names options old new late now_late f g v w front back (Exists key) refused untouched = (untouched, refused)
 ran_refused names options old new late now_late f g v w front back (NotBuilt node) refused untouched = (untouched, refused.0, refused.1)
-ran_refused names options old new late now_late f g v w front back (DepotFailed key) refused untouched = (refused.0, refused.1, inl untouched)
+ran_refused names options old new late now_late f g v w front back (DepotFailed key) refused untouched = (refused.0, inl (untouched, refused.1))
 ran_refused names options old new late now_late f g v w front back NoMemory refused untouched = inl untouched
 ran_refused names options old new late now_late f g v w front back Done refused untouched = absurd refused
 ran_refused names options old new late now_late f g v w front back (BadWords code) refused untouched = refused
@@ -89,46 +87,38 @@ left_in job entry late now_late None started = tt
 left_in job entry late now_late (Some held) started = left_of_started job entry held late now_late started
 
 is_run : (names : Names) (options : Options) (old new : Option Contents) (late now_late : List Write) (fact : Job → Type 0) (told : Job → Contents → Type 0) (job : Job)
-    → IsAccepted names options old late job → over_memory options job ≡ None → fact job
-    → ((entry : Contents) → old ≡ Some entry → IsQuiet job entry late → IsStarted job entry late new now_late)
-    → ((entry : Contents) → old ≡ Some entry → IsQuiet job entry late → told job entry) → IsRun names options old new late now_late fact told
-is_run names options old new late now_late fact told job accepted fits is_so started holds = record {
+    → IsAccepted names options old late job → over_memory options job ≡ None → IsApart job → fact job
+    → ((entry : Contents) → old ≡ Some entry → IsCalm names entry late → IsStarted job entry late new now_late)
+    → ((entry : Contents) → old ≡ Some entry → IsCalm names entry late → told job entry) → IsRun names options old new late now_late fact told
+is_run names options old new late now_late fact told job accepted fits apart is_so started holds = record {
   job = job;
   accepted = accepted;
   fits = fits;
+  apart = apart;
   is_so = is_so;
   started = started;
-  left = λ entry same quiet. left_in job entry late now_late new (started entry same quiet);
+  left = λ entry same calm. left_in job entry late now_late new (started entry same calm);
   holds = holds;
 }
 
-array_key : (job : Job) (name other key : List ℕ) → name ≡ other → IsArrayKey job name key → IsKeyOfArray other key
-array_key job name other key same (inl metadata) = inl (metadata ∙ ap metadata_key_of same)
-array_key job name other key same (inr (k, below, chunk)) = inr (k, chunk ∙ ap (λ (n : List ℕ). key_of_chunk n k) same)
-
-pub run_key : (names : Names) (job : Job) (key : List ℕ) → HasNames names job → IsRunKey job key → IsNamedKey names key
-run_key names job key has (inl out) = inr (inr (array_key job job.out names.out key has.out out))
-run_key names job key has (inr (inl left)) = inl (array_key job job.left names.left key has.left left)
-run_key names job key has (inr (inr right)) = inr (inl (array_key job job.right names.right key has.right right))
-
 pub ran_carried : (names : Names) (options : Options) (old new : Option Contents) (late now_late : List Write) (f h g v w : ℕ) (front back : Option (List ℕ)) (job : Job) (status : Status)
     → Carries job options h g new v w front back status
-    → IsAccepted names options old late job → over_memory options job ≡ None → f ≤ h
-    → ((entry : Contents) → old ≡ Some entry → IsQuiet job entry late → IsStarted job entry late new now_late)
-    → ((entry : Contents) → old ≡ Some entry → IsQuiet job entry late → IfStored status (Completes job entry new))
+    → IsAccepted names options old late job → over_memory options job ≡ None → IsApart job → f ≤ h
+    → ((entry : Contents) → old ≡ Some entry → IsCalm names entry late → IsStarted job entry late new now_late)
+    → ((entry : Contents) → old ≡ Some entry → IsCalm names entry late → IfStored status (Completes job entry new))
     → Ran names options old new late now_late f g v w front back status
-ran_carried names options old new late now_late f h g v w front back job Done carried accepted fits earlier started stored =
-    is_run names options old new late now_late (WroteLine options front back) (λ job entry. Completes job entry new) job accepted fits carried started stored
-ran_carried names options old new late now_late f h g v w front back job WriteFault carried accepted fits earlier started stored =
-    (carried.0, is_run names options old new late now_late (WrotePart options front back) (λ job entry. Completes job entry new) job accepted fits carried.1 started stored)
-ran_carried names options old new late now_late f h g v w front back job (BadChunk key got want) carried accepted fits earlier started stored =
-    is_run names options old new late now_late (IsBad new key got want) Anything job accepted fits carried started (λ entry same quiet. tt)
-ran_carried names options old new late now_late f h g v w front back job (DepotFailed key) carried accepted fits earlier started stored =
-    (run_key names job key accepted.has_names carried.0, rose_earlier 3 f h g earlier carried.1, inr (is_run names options old new late now_late (λ job. Unit {0}) Anything job accepted fits tt started (λ entry same quiet. tt)))
-ran_carried names options old new late now_late f h g v w front back job NoMemory carried accepted fits earlier started stored =
-    inr (is_run names options old new late now_late (λ job. Unit {0}) Anything job accepted fits tt started (λ entry same quiet. tt))
-ran_carried names options old new late now_late f h g v w front back job (OverMemory node need allowed) carried accepted fits earlier started stored = absurd carried
-ran_carried names options old new late now_late f h g v w front back job (Exists key) carried accepted fits earlier started stored = absurd carried
-ran_carried names options old new late now_late f h g v w front back job (NotBuilt node) carried accepted fits earlier started stored = absurd carried
-ran_carried names options old new late now_late f h g v w front back job (BadWords code) carried accepted fits earlier started stored = carried
-ran_carried names options old new late now_late f h g v w front back job ReadFault carried accepted fits earlier started stored = carried
+ran_carried names options old new late now_late f h g v w front back job Done carried accepted fits apart earlier started stored =
+    is_run names options old new late now_late (WroteLine options front back) (λ job entry. Completes job entry new) job accepted fits apart carried started stored
+ran_carried names options old new late now_late f h g v w front back job WriteFault carried accepted fits apart earlier started stored =
+    (carried.0, is_run names options old new late now_late (WrotePart options front back) (λ job entry. Completes job entry new) job accepted fits apart carried.1 started stored)
+ran_carried names options old new late now_late f h g v w front back job (BadChunk key got want) carried accepted fits apart earlier started stored =
+    is_run names options old new late now_late (IsBad new key got want) Anything job accepted fits apart carried started (λ entry same quiet. tt)
+ran_carried names options old new late now_late f h g v w front back job (DepotFailed key) carried accepted fits apart earlier started stored =
+    (rose_earlier 3 f h g earlier carried.1, inr (is_run names options old new late now_late (λ job. IsRunKey job key) Anything job accepted fits apart carried.0 started (λ entry same calm. tt)))
+ran_carried names options old new late now_late f h g v w front back job NoMemory carried accepted fits apart earlier started stored =
+    inr (is_run names options old new late now_late (λ job. Unit {0}) Anything job accepted fits apart tt started (λ entry same quiet. tt))
+ran_carried names options old new late now_late f h g v w front back job (OverMemory node need allowed) carried accepted fits apart earlier started stored = absurd carried
+ran_carried names options old new late now_late f h g v w front back job (Exists key) carried accepted fits apart earlier started stored = absurd carried
+ran_carried names options old new late now_late f h g v w front back job (NotBuilt node) carried accepted fits apart earlier started stored = absurd carried
+ran_carried names options old new late now_late f h g v w front back job (BadWords code) carried accepted fits apart earlier started stored = carried
+ran_carried names options old new late now_late f h g v w front back job ReadFault carried accepted fits apart earlier started stored = carried

@@ -7,7 +7,7 @@ use Rattle.cu_top.specs.Expression.{addition_of}
 use Rattle.cu_top.specs.Job.{HasInputs, IsFree}
 use Rattle.cu_top.specs.OneAxis.{IsWithinLimits}
 use Rattle.cu_top.specs.Run.{HasNames, over_memory}
-use Rattle.cu_top.specs.Top.{IsNamedKey, text_names}
+use Rattle.cu_top.specs.Top.{IsKeyOfArray, text_names}
 use Rattle.cu_top.specs.Words.{options_of}
 use Rattle.cu_top.specs.declared.job.Job.{Job}
 use Rattle.cu_top.specs.declared.job.Names.{Names as ArrayNames}
@@ -23,14 +23,16 @@ StoodStill before after = (after ≡ before) × (before < last_count)
 abbrev pub IsWhole : Job → Contents → List ℕ → Type 0
 IsWhole job entry key = (bytes : List ℕ) → entry key ≡ Some bytes → length bytes ≡ 4 * job.chunk
 
--- The words and the text are accepted, and so are the inputs; no put is late on a key of the three arrays. For the sizes that
+-- The words and the text are accepted, and so are the inputs; no put is late on a key of the output, and each that is late on a key of
+-- an input carries what is held there. For the sizes that
 -- both inputs have, no more is needed than is allowed, no key of the output is held, and each chunk of an input is absent or whole.
 pub record IsServable (words : List (List ℕ)) (left : List ℕ) (entry : Contents) (late : List Write) : Type 0 where
   pub options : Options
   pub words_give : options_of words ≡ Ok options
   pub names : ArrayNames
   pub adds : addition_of left ≡ Some (text_names names)
-  pub settled : (key bytes : List ℕ) → IsAmong late key bytes → IsNamedKey names key → ⊥
+  pub settled : (key bytes : List ℕ) → IsAmong late key bytes → IsKeyOfArray names.out key → ⊥
+  pub calm : (key bytes : List ℕ) → IsAmong late key bytes → IsKeyOfArray names.left key ⊎ IsKeyOfArray names.right key → entry key ≡ Some bytes
   pub job : Job
   pub has_names : HasNames names job
   pub limits : IsWithinLimits job.elements job.chunk

@@ -2,7 +2,7 @@
 use Rattle.std.specs.Prelude.{◌≡◌, ◌≢◌, ◌⊎◌, ℕ, ◌+◌, ◌*◌, ◌<◌, Bool, IsTrue, nat_lt, if◌then◌else◌, List, [], ◌∷◌, ◌++◌, codes, Option, Some, None}
 use Rattle.std.specs.Fmt.{decimal}
 use Rattle.cu_store.specs.Faults.{Rose}
-use Rattle.cu_store.specs.Held.{Contents, Write}
+use Rattle.cu_store.specs.Held.{Contents, Write, IsAmong}
 use Rattle.cu_zarr.specs.Key.{metadata_key_of}
 use Rattle.cu_top.specs.Chunks.{HoldsLength, IsChunkKey}
 use Rattle.cu_top.specs.Job.{IsArrayKey, IsQuiet, HasInputs, IsComplete, chunks_of, key_of_chunk}
@@ -64,6 +64,27 @@ IsAskFault job before after lacks held WriteFault = ⊥
 IsAskFault job before after lacks held (BadChunk bad got want) = ⊥
 IsAskFault job before after lacks held (NotBuilt node) = ⊥
 
+-- the output isn't an input
+abbrev pub IsApart : Job → Type 0
+IsApart job = (job.out ≡ job.left → ⊥) × (job.out ≡ job.right → ⊥)
+
+-- where the output is an input, the key in the way is its metadata's
+abbrev pub IsOwnFirst : Job → List ℕ → Type 0
+IsOwnFirst job key = (job.out ≡ job.left) ⊎ (job.out ≡ job.right) → key ≡ metadata_key_of job.out
+
+-- a fact of the key at which the asking ended
+abbrev pub IfAsked : Status → (List ℕ → Type 0) → Type 0
+IfAsked (Exists key) P = P key
+IfAsked (DepotFailed key) P = P key
+IfAsked Done P = Unit {0}
+IfAsked (BadWords code) P = Unit {0}
+IfAsked (OverMemory node need allowed) P = Unit {0}
+IfAsked ReadFault P = Unit {0}
+IfAsked WriteFault P = Unit {0}
+IfAsked (BadChunk key got want) P = Unit {0}
+IfAsked (NotBuilt node) P = Unit {0}
+IfAsked NoMemory P = Unit {0}
+
 -- a fact of the key in the way, where that is the answer
 abbrev pub IfExists : Status → (List ℕ → Type 0) → Type 0
 IfExists (Exists key) P = P key
@@ -105,9 +126,23 @@ IsInputFault names before after ReadFault = ⊥
 IsInputFault names before after WriteFault = ⊥
 IsInputFault names before after (BadChunk bad got want) = ⊥
 
+-- the metadata key of an input
+abbrev pub IsMetadataKey : ArrayNames → List ℕ → Type 0
+IsMetadataKey names key = (key ≡ metadata_key_of names.left) ⊎ (key ≡ metadata_key_of names.right)
+
+-- each put that is late on an input's metadata carries what is held there
+abbrev pub IsCalmMetadata : ArrayNames → Contents → List Write → Type 0
+IsCalmMetadata names entry late = (key bytes : List ℕ) → IsAmong late key bytes → IsMetadataKey names key → entry key ≡ Some bytes
+
+-- The premise of a run: no write of another content of an input, or of another value of the output, is still to land. It is said of
+-- the sizes that both inputs have.
+pub record IsCalm (names : ArrayNames) (entry : Contents) (late : List Write) : Type 0 where
+  pub metadata : IsCalmMetadata names entry late
+  pub jobs : (job : Job) → HasNames names job → HasInputs job entry → IsQuiet job entry late
+
 -- no array within the limits is what both inputs are, where the contents are told
 abbrev pub HasNoInputs : ArrayNames → Contents → List Write → Type 0
-HasNoInputs names entry late = (job : Job) → HasNames names job → IsWithinLimits job.elements job.chunk → IsQuiet job entry late → HasInputs job entry → ⊥
+HasNoInputs names entry late = (job : Job) → HasNames names job → IsWithinLimits job.elements job.chunk → IsCalmMetadata names entry late → HasInputs job entry → ⊥
 
 -- ---- the report
 

@@ -4,9 +4,9 @@ use Rattle.cu_store.specs.Faults.{Rose}
 use Rattle.cu_store.specs.Held.{Contents, Write, Follows}
 use Rattle.cu_zarr.specs.Key.{metadata_key_of}
 use Rattle.cu_top.specs.Chunks.{HoldsLength, IsChunkKey}
-use Rattle.cu_top.specs.Job.{IsQuiet, HasInputs, IsStarted, IsLeft, key_of_chunk}
+use Rattle.cu_top.specs.Job.{IsArrayKey, HasInputs, IsStarted, IsLeft, key_of_chunk}
 use Rattle.cu_top.specs.OneAxis.{IsWithinLimits}
-use Rattle.cu_top.specs.Run.{HasNames, IsRunKey, over_memory, IsInWay, IsFirstInWay, HasNoInputs, report_line, Completes}
+use Rattle.cu_top.specs.Run.{HasNames, IsRunKey, over_memory, IsInWay, IsFirstInWay, IsOwnFirst, IsApart, IsMetadataKey, IsCalmMetadata, IsCalm, HasNoInputs, report_line, Completes}
 use Rattle.cu_top.specs.Streams.{WroteFront, ReadsAll}
 use Rattle.cu_top.specs.Expression.{Names as TextNames, addition_of}
 use Rattle.cu_top.specs.Words.{options_of}
@@ -19,11 +19,11 @@ use Rattle.cu_top.specs.declared.words.Options.{Options}
 -- ---- a job that was accepted
 
 -- The arrays of these names have sizes within the limits, and the sum needs no more than is allowed. Where the contents are told
--- and the premise holds, both inputs have the metadata of these sizes.
+-- and no other metadata is late, both inputs have the metadata of these sizes.
 pub record IsAccepted (names : ArrayNames) (options : Options) (old : Option Contents) (late : List Write) (job : Job) : Type 0 where
   pub has_names : HasNames names job
   pub limits : IsWithinLimits job.elements job.chunk
-  pub inputs : (entry : Contents) → old ≡ Some entry → IsQuiet job entry late → HasInputs job entry
+  pub inputs : (entry : Contents) → old ≡ Some entry → IsCalmMetadata names entry late → HasInputs job entry
 
 -- each key of the plan is absent or holds its one value, where the contents are told
 abbrev pub IsLeftIn : Job → Contents → Option Contents → Type 0
@@ -37,9 +37,10 @@ pub record IsRun (names : ArrayNames) (options : Options) (old new : Option Cont
   pub accepted : IsAccepted names options old late job
   pub fits : over_memory options job ≡ None
   pub is_so : fact job
-  pub started : (entry : Contents) → old ≡ Some entry → IsQuiet job entry late → IsStarted job entry late new now_late
-  pub left : (entry : Contents) → old ≡ Some entry → IsQuiet job entry late → IsLeftIn job entry new
-  pub holds : (entry : Contents) → old ≡ Some entry → IsQuiet job entry late → told job entry
+  pub apart : IsApart job
+  pub started : (entry : Contents) → old ≡ Some entry → IsCalm names entry late → IsStarted job entry late new now_late
+  pub left : (entry : Contents) → old ≡ Some entry → IsCalm names entry late → IsLeftIn job entry new
+  pub holds : (entry : Contents) → old ≡ Some entry → IsCalm names entry late → told job entry
 
 abbrev pub Anything : Job → Contents → Type 0
 Anything job entry = Unit {0}
@@ -67,14 +68,20 @@ pub record IsBlocked (names : ArrayNames) (options : Options) (old new : Option 
   pub accepted : IsAccepted names options old late job
   pub fits : over_memory options job ≡ None
   pub in_way : IsInWay job new key
+  pub own : IsOwnFirst job key
+  pub first : (entry : Contents) → old ≡ Some entry → IsFirstInWay job entry key
+
+-- three calls for a key of the plan failed, and the keys before it were absent
+pub record IsAsked (names : ArrayNames) (options : Options) (old : Option Contents) (late : List Write) (key : List ℕ) : Type 0 where
+  pub job : Job
+  pub accepted : IsAccepted names options old late job
+  pub fits : over_memory options job ≡ None
+  pub of_plan : IsArrayKey job job.out key
   pub first : (entry : Contents) → old ≡ Some entry → IsFirstInWay job entry key
 
 -- the metadata or a chunk of one of the arrays
 abbrev pub IsKeyOfArray : List ℕ → List ℕ → Type 0
 IsKeyOfArray name key = (key ≡ metadata_key_of name) ⊎ ((k : ℕ) × (key ≡ key_of_chunk name k))
-
-abbrev pub IsNamedKey : ArrayNames → List ℕ → Type 0
-IsNamedKey names key = IsKeyOfArray names.left key ⊎ IsKeyOfArray names.right key ⊎ IsKeyOfArray names.out key
 
 -- ---- what carrying out a job that was accepted answers
 
@@ -122,7 +129,7 @@ abbrev pub Refuses : ArrayNames → Options → Option Contents → Option Conte
 Refuses names options old new late f g (OverMemory node need allowed) = (allowed ≡ options.allowed) × IsOver names options old late node need
 Refuses names options old new late f g (Exists key) = IsBlocked names options old new late key
 Refuses names options old new late f g (NotBuilt node) = (node ≡ 0) × ((entry : Contents) → old ≡ Some entry → HasNoInputs names entry late)
-Refuses names options old new late f g (DepotFailed key) = IsNamedKey names key × Rose 3 f g
+Refuses names options old new late f g (DepotFailed key) = Rose 3 f g × (IsMetadataKey names key ⊎ IsAsked names options old late key)
 Refuses names options old new late f g NoMemory = Unit {0}
 Refuses names options old new late f g Done = ⊥
 Refuses names options old new late f g (BadWords code) = ⊥
@@ -140,7 +147,7 @@ abbrev pub Ran : ArrayNames → Options → Option Contents → Option Contents 
 Ran names options old new late now_late f g v w front back Done = IsRun names options old new late now_late (WroteLine options front back) (λ job entry. Completes job entry new)
 Ran names options old new late now_late f g v w front back WriteFault = Rose 1 v w × IsRun names options old new late now_late (WrotePart options front back) (λ job entry. Completes job entry new)
 Ran names options old new late now_late f g v w front back (BadChunk key got want) = IsRun names options old new late now_late (IsBad new key got want) Anything
-Ran names options old new late now_late f g v w front back (DepotFailed key) = IsNamedKey names key × Rose 3 f g × (IsUntouched old new late now_late ⊎ IsRun names options old new late now_late (λ job. Unit {0}) Anything)
+Ran names options old new late now_late f g v w front back (DepotFailed key) = Rose 3 f g × ((IsUntouched old new late now_late × (IsMetadataKey names key ⊎ IsAsked names options old late key)) ⊎ IsRun names options old new late now_late (λ job. IsRunKey job key) Anything)
 Ran names options old new late now_late f g v w front back NoMemory = IsUntouched old new late now_late ⊎ IsRun names options old new late now_late (λ job. Unit {0}) Anything
 Ran names options old new late now_late f g v w front back (OverMemory node need allowed) = IsUntouched old new late now_late × (allowed ≡ options.allowed) × IsOver names options old late node need
 Ran names options old new late now_late f g v w front back (Exists key) = IsUntouched old new late now_late × IsBlocked names options old new late key
@@ -182,7 +189,7 @@ pub record HasNoAddition (words : List (List ℕ)) (src next : Option (List ℕ)
 -- the answers before a run, and those of a run
 abbrev pub Tells : List (List ℕ) → Option (List ℕ) → Option (List ℕ) → ℕ → ℕ → Option Contents → Option Contents → List Write → List Write → (ArrayNames → Options → Status → Type 0) → Status → Type 0
 Tells words src next t u old new late now_late run (BadWords code) = (options_of words ≡ Err code) × IsUntouched old new late now_late
-Tells words src next t u old new late now_late run ReadFault = Rose 1 t u × IsUntouched old new late now_late
+Tells words src next t u old new late now_late run ReadFault = ((options : Options) × (options_of words ≡ Ok options)) × Rose 1 t u × IsUntouched old new late now_late
 Tells words src next t u old new late now_late run NoMemory = IsUntouched old new late now_late ⊎ CameToRun words src next (λ names options. run names options NoMemory)
 Tells words src next t u old new late now_late run (NotBuilt node) = (node ≡ 0) × ((HasNoAddition words src next × IsUntouched old new late now_late) ⊎ CameToRun words src next (λ names options. run names options (NotBuilt node)))
 Tells words src next t u old new late now_late run Done = CameToRun words src next (λ names options. run names options Done)

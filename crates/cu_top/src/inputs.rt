@@ -1,10 +1,10 @@
 //! The metadata of the two inputs.
 ghost use Rattle.std.specs.Prelude.{◌≡◌, ℕ, ◌≤◌, List, Option, Some, IfErr, IfOk, take, length, string_bytes, true, false};
 ghost use Rattle.cu_store.specs.Held.{Contents, Write, Follows};
-ghost use Rattle.cu_top.specs.Job.{IsArrayName, IsQuiet, HasInputs};
+ghost use Rattle.cu_top.specs.Job.{IsArrayName, HasInputs};
 ghost use Rattle.cu_top.specs.OneAxis.{IsWithinLimits};
 ghost use Rattle.cu_top.specs.Inputs.{HoldsText, HoldsNoText, IsMetadataFault};
-ghost use Rattle.cu_top.specs.Run.{HasNames, IsInputFault, IfNotBuilt, HasNoInputs};
+ghost use Rattle.cu_top.specs.Run.{HasNames, IsInputFault, IfNotBuilt, HasNoInputs, IsCalmMetadata};
 
 use crate::Status;
 use crate::chunks::RETRIES;
@@ -49,7 +49,7 @@ pub fn read_inputs<D: Depot>(alloc: Global, depot: &mut D, names: &Names) -> Res
     ensures names { IfOk result (HasNames names.now) }
     ensures limits { IfOk result (λ job. IsWithinLimits job.elements job.chunk) }
     ensures inputs { (entry : Contents) (late : List Write) → Follows late (Some entry) (D.held depot.old) (D.late depot.old)
-        → IfOk result (λ job. IsQuiet job entry late → HasInputs job entry) }
+        → IfOk result (λ job. IsCalmMetadata names.now entry late → HasInputs job entry) }
     ensures missing { (entry : Contents) (late : List Write) → Follows late (Some entry) (D.held depot.old) (D.late depot.old)
         → IfErr result (λ status. IfNotBuilt status (HasNoInputs names.now entry late)) }
     ensures follows { (writes : List Write) (entry : Option Contents)

@@ -2,7 +2,7 @@
 ghost use Rattle.std.specs.Prelude.{◌≡◌, ℕ, ◌^◌, ◌≤◌, List, Option, Some, None, IfErr, IfOk};
 ghost use Rattle.cu_store.specs.Held.{Contents, Write, Follows};
 ghost use Rattle.cu_top.specs.Job.{IsJob, IsArrayName, IsQuiet, IsFree, IsStarted};
-ghost use Rattle.cu_top.specs.Run.{over_memory, Completes};
+ghost use Rattle.cu_top.specs.Run.{over_memory, Completes, IsApart};
 ghost use Rattle.cu_top.specs.Top.{IsAccepted, Refuses, Carries, IfStored, PrintsOnly, Ran};
 
 use crate::Status;
@@ -30,6 +30,7 @@ pub fn prepare<D: Depot>(
     ensures accepted { IfOk result (IsAccepted names.now options (D.held depot.old) (D.late depot.old)) }
     ensures job { IfOk result IsJob }
     ensures fits { IfOk result (λ job. over_memory options job ≡ None) }
+    ensures apart { IfOk result IsApart }
     ensures free { (entry : Contents) → D.held depot.old ≡ Some entry → IfOk result (λ job. IsFree job entry) }
     ensures refused { IfErr result (Refuses names.now options (D.held depot.old) (D.held depot.new) (D.late depot.old) (D.faults depot.old) (D.faults depot.new)) }
     ensures follows { (writes : List Write) (entry : Option Contents)

@@ -20,13 +20,13 @@ returns-then-not-same-clause-missing g c entry late follows =
     (refl, texts_differ c.args.names.now entry late _ _ _ _ _ _ follows1 follows2 left right (c.is_same-same.ensures.differ c.if-not-same.true))
 
 pub returns-in-Ok-Some-clause-inputs : goal.returns-in-Ok-Some-clause-inputs
-returns-in-Ok-Some-clause-inputs g c entry late follows quiet =
+returns-in-Ok-Some-clause-inputs g c entry late follows calm =
     let follows1 = c.read_metadata.ensures.follows late (Some entry) follows in
     let follows2 = c.read_metadata-2.ensures.follows late (Some entry) follows1 in
     let left = rw c.metadata_key-left_key.ensures at c.in-Ok.ensures.found in
     let right = rw c.metadata_key-right_key.ensures at c.in-Ok-read_metadata.ensures.found in
     let sizes = rw c.in-Ok-Some.field-0-is at c.in-Ok-Some.ensures in
-    has_inputs c.args.names.now entry late _ _ _ _ _ _ _ follows1 follows2 left right (c.is_same-same.ensures.same c.if-not-same.false) sizes.0 (record { left = refl; right = refl; out = refl }) quiet
+    has_inputs c.args.names.now entry late _ _ _ _ _ _ _ follows1 follows2 left right (c.is_same-same.ensures.same c.if-not-same.false) sizes.0 (record { left = refl; right = refl; out = refl }) calm
 
 pub returns-in-Ok-None-clause-missing : goal.returns-in-Ok-None-clause-missing
 returns-in-Ok-None-clause-missing g c entry late follows =

@@ -8,18 +8,18 @@ returns-in-Err-clause-answer g c =
 
 pub returns-in-Ok-clause-answer : goal.returns-in-Ok-clause-answer
 returns-in-Ok-clause-answer g c =
-    ran_carried c.args.names.now c.args.options _ _ _ _ _ _ _ _ _ _ _ c.in-Ok.job c.carry_out.result c.carry_out.ensures.answer c.in-Ok.ensures.accepted c.in-Ok.ensures.fits c.prepare.ensures.count
-    (λ entry same quiet. c.carry_out.ensures.started entry _ (record {
+    ran_carried c.args.names.now c.args.options _ _ _ _ _ _ _ _ _ _ _ c.in-Ok.job c.carry_out.result c.carry_out.ensures.answer c.in-Ok.ensures.accepted c.in-Ok.ensures.fits c.in-Ok.ensures.apart c.prepare.ensures.count
+    (λ entry same calm. c.carry_out.ensures.started entry _ (record {
       is_job = c.in-Ok.ensures.job;
-      quiet = quiet;
-      inputs = c.in-Ok.ensures.accepted.inputs entry same quiet;
+      quiet = calm.jobs c.in-Ok.job c.in-Ok.ensures.accepted.has_names (c.in-Ok.ensures.accepted.inputs entry same calm.metadata);
+      inputs = c.in-Ok.ensures.accepted.inputs entry same calm.metadata;
       free = c.in-Ok.ensures.free entry same;
       follows = more_writes c.in-Ok.job entry _ _ _ (c.prepare.ensures.follows _ (Some entry) (follows_start _ entry _ same));
     }))
-    (λ entry same quiet. c.carry_out.ensures.stored entry _ (record {
+    (λ entry same calm. c.carry_out.ensures.stored entry _ (record {
       is_job = c.in-Ok.ensures.job;
-      quiet = quiet;
-      inputs = c.in-Ok.ensures.accepted.inputs entry same quiet;
+      quiet = calm.jobs c.in-Ok.job c.in-Ok.ensures.accepted.has_names (c.in-Ok.ensures.accepted.inputs entry same calm.metadata);
+      inputs = c.in-Ok.ensures.accepted.inputs entry same calm.metadata;
       free = c.in-Ok.ensures.free entry same;
       follows = more_writes c.in-Ok.job entry _ _ _ (c.prepare.ensures.follows _ (Some entry) (follows_start _ entry _ same));
     }))
