@@ -1,11 +1,14 @@
-//! The keys of stored arrays.
+//! The keys of stored arrays, and the parts of chunks that lie in a region.
 #![tactic(auto)]
 
+mod boxes;
 mod keys;
 mod laws;
+mod parts;
 
 pub use keys::{chunk_key, metadata_key};
 pub use laws::keys_differ;
+pub use parts::{fill_with, lay_part, take_part};
 
 #[cfg(test)]
 mod tests;

@@ -1,5 +1,6 @@
-use crate::{chunk_key, keys_differ, metadata_key};
-use cu_num::{Encoding, Sep};
+use crate::{chunk_key, keys_differ, lay_part, metadata_key, take_part};
+use cu_grid::{Grid, Region};
+use cu_num::{Dtype, Encoding, Sep};
 use cu_shape::Dims;
 use cu_store::Key;
 use std::process::Abort;
@@ -46,5 +47,45 @@ fn metadata_beside_the_chunks(rt: HostRuntime) -> Result<(), Fail> {
     assert!(rt; name.text().len() <= 45);
     assert_eq!(rt; metadata_key(&name).text(), "in-1/zarr.json");
     keys_differ();
+    Ok(())
+}
+
+#[test]
+fn part_of_a_chunk_in_a_region(rt: HostRuntime) -> Result<(), Fail> {
+    let grid = Grid::make(Dims::make(&[5, 3])?, Dims::make(&[2, 2])?, 2)?;
+    let region = Region {
+        lo: Dims::make(&[1, 1])?,
+        hi: Dims::make(&[4, 3])?,
+    };
+    let coord = Dims::make(&[1, 0])?;
+    let mut out = [0u8; 12];
+    take_part(
+        &grid,
+        2,
+        &coord,
+        &[10, 1, 11, 1, 12, 1, 13, 1],
+        &region,
+        &mut out,
+    );
+    assert_eq!(rt; out, [0, 0, 0, 0, 11, 1, 0, 0, 13, 1, 0, 0]);
+    Ok(())
+}
+
+#[test]
+fn chunk_past_the_edge(rt: HostRuntime) -> Result<(), Fail> {
+    let grid = Grid::make(Dims::make(&[5, 3])?, Dims::make(&[2, 2])?, 2)?;
+    let coord = Dims::make(&[2, 1])?;
+    let region = grid.chunk_region(&coord);
+    let mut chunk = [7u8; 8];
+    lay_part(
+        &grid,
+        Dtype::Int16,
+        -2,
+        &coord,
+        &region,
+        &[14, 1],
+        &mut chunk,
+    );
+    assert_eq!(rt; chunk, [14, 1, 254, 255, 254, 255, 254, 255]);
     Ok(())
 }

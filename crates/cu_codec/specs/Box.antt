@@ -1,0 +1,40 @@
+-- Boxes of elements that stand in larger arrays, each array being row-major bytes (this project's own words).
+use Rattle.std.specs.Prelude.{◌≡◌, ◌≢◌, ℕ, ◌<◌, ◌≤◌, ◌^◌, List, [], ◌∷◌, length}
+use Rattle.cu_shape.specs.Index.{product, place_of, sums, IsInside}
+use Rattle.cu_shape.specs.Index.{remainders}
+use Rattle.cu_grid.specs.Counts.{IsWithin}
+use Rattle.cu_grid.specs.Grid.{RegularGrid, IsInChunk}
+use Rattle.cu_codec.specs.Parts.{part_at, differences}
+
+-- a box of these sizes stands in an array of this shape with its first index at `corner`
+pub record IsBox (sizes shape corner : List ℕ) : Type 0 where
+  pub corner_rank : length corner ≡ length sizes
+  pub shape_rank : length shape ≡ length sizes
+  pub inside : (i : List ℕ) → IsInside sizes i → IsInside shape (sums corner i)
+
+-- the box at `corner` of `new` is the box at `start` of `source`, and each other element is as before
+pub record IsCopied (size : ℕ) (sizes from start to corner source old new : List ℕ) : Type 0 where
+  pub copied : (i : List ℕ) → IsInside sizes i → part_at size new (place_of to (sums corner i)) ≡ part_at size source (place_of from (sums start i))
+  pub others : (q : ℕ) → q < product to → ((i : List ℕ) → IsInside sizes i → place_of to (sums corner i) ≢ q) → part_at size new q ≡ part_at size old q
+
+-- the elements of a box that stand together in a row: its size on the last axis
+abbrev pub run_length : List ℕ → ℕ
+run_length [] = 1
+run_length (n ∷ []) = n
+run_length (n ∷ m ∷ ns) = run_length (m ∷ ns)
+
+-- an index of the array that is index `i` of a box, which stands in a chunk and in a region
+pub record IsSame (g : RegularGrid) (coord lo hi sizes in_chunk in_region i idx : List ℕ) : Type 0 where
+  pub inside : IsInside sizes i
+  pub chunk : IsInChunk g coord idx
+  pub region : IsWithin lo hi idx
+  pub of_chunk : sums in_chunk i ≡ remainders idx g.chunk
+  pub of_region : sums in_region i ≡ differences idx lo
+
+-- the elements that a chunk and a region share are a box of these sizes, with its first index here in each
+pub record IsShared (g : RegularGrid) (coord lo hi sizes in_chunk in_region : List ℕ) : Type 0 where
+  pub box_chunk : IsBox sizes g.chunk in_chunk
+  pub box_region : IsBox sizes (differences hi lo) in_region
+  pub few : product sizes ≤ 2 ^ 40
+  pub all : (idx : List ℕ) → IsInChunk g coord idx → IsWithin lo hi idx → (i : List ℕ) × IsSame g coord lo hi sizes in_chunk in_region i idx
+  pub only : (i : List ℕ) → IsInside sizes i → (idx : List ℕ) × IsSame g coord lo hi sizes in_chunk in_region i idx

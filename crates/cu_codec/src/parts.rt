@@ -1,0 +1,155 @@
+//! The parts of chunks that lie in a region of an array.
+ghost use Rattle.std.specs.Prelude.{◌≡◌, ◌≤◌, ◌+◌, ◌*◌, ℕ, List, length, min, max};
+ghost use Rattle.cu_num.specs.Dtype.{size_of, InRange};
+ghost use Rattle.cu_num.specs.Element.{element_bytes};
+ghost use Rattle.cu_shape.specs.Index.{product, axis_by_axis};
+ghost use Rattle.cu_grid.specs.Counts.{IsRegion, IsWithin};
+ghost use Rattle.cu_grid.specs.Grid.{IsCoordinate, IsInChunk};
+ghost use Rattle.cu_num.specs.declared.layout.Endian.{Endian};
+ghost use Rattle.cu_codec.specs.Box.{IsShared};
+ghost use Rattle.cu_codec.specs.Parts.{part_at, differences, IsTaken, IsLaid};
+
+use crate::boxes::copy_box;
+use cu_grid::{Grid, Region};
+use cu_num::{Dtype, save};
+use cu_shape::Dims;
+
+/// Copies the elements of a chunk that lie in a region into the region's buffer. Elements have `size` bytes, and
+/// both are row-major. The buffer's other elements stay as they are.
+pub fn take_part(
+    grid: &Grid,
+    size: u64,
+    coord: &Dims,
+    chunk: &[u8],
+    region: &Region,
+    out: &mut [u8],
+)
+    requires coordinate { IsCoordinate grid.now coord.now }
+    requires region { IsRegion grid.now.shape region.now.lo region.now.hi }
+    requires chunk_length { length chunk.now ≡ product grid.now.chunk * size }
+    requires out_length { length out.old ≡ product (differences region.now.hi region.now.lo) * size }
+    ensures taken { IsTaken size grid.now.chunk coord.now region.now.lo region.now.hi chunk.now out.old out.new }
+{
+    let shared = shared(grid, coord, region);
+    copy_box(
+        size,
+        &shared.sizes,
+        grid.chunk(),
+        &shared.in_chunk,
+        chunk,
+        &shared.extents,
+        &shared.in_region,
+        out,
+    );
+}
+
+/// Writes a whole chunk, row-major and little-endian: each element inside the array from the region's buffer, which holds
+/// all of these, and the fill value past the array's edge.
+pub fn lay_part(
+    grid: &Grid,
+    t: Dtype,
+    fill: i128,
+    coord: &Dims,
+    region: &Region,
+    input: &[u8],
+    chunk: &mut [u8],
+)
+    requires coordinate { IsCoordinate grid.now coord.now }
+    requires region { IsRegion grid.now.shape region.now.lo region.now.hi }
+    requires whole { (idx : List ℕ) → IsInChunk grid.now coord.now idx → IsWithin region.now.lo region.now.hi idx }
+    requires fill { InRange t fill }
+    requires input_length { length input.now ≡ product (differences region.now.hi region.now.lo) * size_of t }
+    requires chunk_length { length chunk.old ≡ product grid.now.chunk * size_of t }
+    ensures laid { IsLaid grid.now t fill coord.now region.now.lo region.now.hi input.now chunk.new }
+{
+    let size = u64::from(cu_num::size(t));
+    let shared = shared(grid, coord, region);
+    fill_with(t, fill, chunk);
+    copy_box(
+        size,
+        &shared.sizes,
+        &shared.extents,
+        &shared.in_region,
+        input,
+        grid.chunk(),
+        &shared.in_chunk,
+        chunk,
+    );
+}
+
+/// The elements that a chunk and a region share.
+#[derive(Clone, Copy)]
+struct Common {
+    /// How many there are on each axis.
+    sizes: Dims,
+    /// The first of them, as an index of the chunk.
+    in_chunk: Dims,
+    /// The first of them, as an index of the region's buffer.
+    in_region: Dims,
+    /// The sizes of the region.
+    extents: Dims,
+}
+
+/// The elements that a chunk and a region share.
+fn shared(grid: &Grid, coord: &Dims, region: &Region) -> Common
+    requires coordinate { IsCoordinate grid.now coord.now }
+    requires region { IsRegion grid.now.shape region.now.lo region.now.hi }
+    ensures shared { IsShared grid.now coord.now region.now.lo region.now.hi result.sizes result.in_chunk result.in_region }
+    ensures extents { result.extents ≡ differences region.now.hi region.now.lo }
+{
+    let own = grid.chunk_region(coord);
+    let first = latest(&own.lo, &region.lo);
+    let last = earliest(&own.hi, &region.hi);
+    Common {
+        sizes: difference(&last, &first),
+        in_chunk: difference(&first, &own.lo),
+        in_region: difference(&first, &region.lo),
+        extents: difference(&region.hi, &region.lo),
+    }
+}
+
+/// Writes one number, wrapped to the type, as each element of little-endian bytes.
+pub fn fill_with(t: Dtype, fill: i128, bytes: &mut [u8])
+    ensures { (p : ℕ) → p * size_of t + size_of t ≤ length bytes.old → part_at (size_of t) bytes.new p ≡ element_bytes Endian.Little t fill }
+{
+    let count = bytes.len() / cu_num::size(t) as usize;
+    for at in 0..count {
+        save(t, fill, bytes, at);
+    }
+}
+
+/// How far `from` is above `to` on each axis, 0 where it isn't.
+fn difference(from: &Dims, to: &Dims) -> Dims
+    requires { length to.now ≡ length from.now }
+    ensures { result ≡ differences from.now to.now }
+{
+    let mut sizes = *from;
+    for axis in 0..from.rank() {
+        sizes.put(axis, from.at(axis).saturating_sub(to.at(axis)));
+    }
+    sizes
+}
+
+/// The greater number on each axis.
+fn latest(a: &Dims, b: &Dims) -> Dims
+    requires { length b.now ≡ length a.now }
+    ensures { result ≡ axis_by_axis max a.now b.now }
+{
+    let mut most = *a;
+    for axis in 0..a.rank() {
+        most.put(axis, a.at(axis).max(b.at(axis)));
+    }
+    most
+}
+
+/// The lesser number on each axis.
+fn earliest(a: &Dims, b: &Dims) -> Dims
+    requires { length b.now ≡ length a.now }
+    ensures { result ≡ axis_by_axis min a.now b.now }
+{
+    let mut least = *a;
+    for axis in 0..a.rank() {
+        least.put(axis, a.at(axis).min(b.at(axis)));
+    }
+    least
+}

@@ -1,0 +1,13 @@
+-- Reading a form: its value, or its first fault (this project's own words).
+use Rattle.std.specs.Prelude.{Bool, true, false, Result, Ok, Err, ⊤}
+
+-- the next step, where this one gave a value
+infixl 10 ◌>>=◌
+abbrev pub ◌>>=◌ : {A B E : Type 0} → Result A E → (A → Result B E) → Result B E
+(Ok x) >>= f = f x
+(Err e) >>= f = Err e
+
+-- a step that goes on where the test holds, and else is this fault
+abbrev pub check : {E : Type 0} → Bool → E → Result ⊤ E
+check true e = Ok tt
+check false e = Err e

@@ -1,0 +1,4 @@
+pub mod Counted
+pub mod Answered
+pub mod Assembled
+mod Example

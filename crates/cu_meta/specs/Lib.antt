@@ -1,0 +1,6 @@
+pub mod Fault
+pub mod Options
+pub mod Part
+pub mod Members
+pub mod Metadata
+pub mod Written

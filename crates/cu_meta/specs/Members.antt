@@ -1,0 +1,139 @@
+-- The members of an array's metadata (Zarr v3 core, "Array metadata"), each by itself; what is accepted is this project's choice.
+use Rattle.std.specs.Prelude.{ℕ, ◌&&◌, ◌||◌, ◌==◌, not, ℤ, pos, int_lt, List, codes, bytes_eq, is_some, is_none, Option, Some, None, option_map, option_and_then, unwrap_or, if◌then◌else◌}
+use Rattle.std.specs.Prelude.{Bool as Test, true, false}
+use Rattle.serde_json.specs.Data.{Data, Members}
+use Rattle.serde_json.specs.Find.{get, at, as_null, as_str, as_bool, as_array, as_object, as_number, as_integer}
+use Rattle.cu_num.specs.Dtype.{size_of, least, greatest}
+use Rattle.cu_num.specs.declared.types.Dtype.{Dtype}
+use Rattle.cu_num.specs.declared.types.Dtype.TheVariants.{Bool, Int8, Int16, Int32, Int64, Uint8, Uint16, Uint32, Uint64}
+use Rattle.cu_num.specs.declared.layout.Encoding.{Encoding}
+use Rattle.cu_num.specs.declared.layout.Encoding.TheVariants.{Plain, V2}
+use Rattle.cu_num.specs.declared.layout.Sep.{Sep}
+use Rattle.cu_num.specs.declared.layout.Sep.TheVariants.{Slash, Dot}
+use Rattle.cu_num.specs.declared.layout.Endian.{Endian}
+use Rattle.cu_num.specs.declared.layout.Endian.TheVariants.{Little, Big}
+use Rattle.cu_grid.specs.Grid.{RegularGrid}
+use Rattle.cu_grid.specs.Limits.{first_fault}
+use Rattle.cu_json.specs.Form.{is_text, is_list_of, each_item, each_member, naturals_of}
+use Rattle.cu_meta.specs.Options.{◌>>=◌, when}
+use Rattle.cu_meta.specs.Part.{is_part, is_part_of, name_of, setting, sets_nothing}
+
+-- the type of a name
+abbrev pub dtype_named : List ℕ → Option Dtype
+dtype_named name =
+    if bytes_eq name (codes "bool") then Some Bool
+    else if bytes_eq name (codes "int8") then Some Int8
+    else if bytes_eq name (codes "int16") then Some Int16
+    else if bytes_eq name (codes "int32") then Some Int32
+    else if bytes_eq name (codes "int64") then Some Int64
+    else if bytes_eq name (codes "uint8") then Some Uint8
+    else if bytes_eq name (codes "uint16") then Some Uint16
+    else if bytes_eq name (codes "uint32") then Some Uint32
+    else if bytes_eq name (codes "uint64") then Some Uint64
+    else None
+
+-- `data_type`: a part that sets nothing
+abbrev pub dtype_of : Data → Option Dtype
+dtype_of d = do
+  _ ← when (is_part d && sets_nothing d)
+  name ← name_of d
+  dtype_named name
+
+-- `shape` and `chunk_grid`: a regular grid within the limits
+abbrev pub grid_of : Dtype → Data → Data → Option RegularGrid
+grid_of t shape part = do
+  sizes ← naturals_of 6 shape
+  _ ← when (is_part_of (codes "regular") (codes "chunk_shape") part)
+  chunks ← setting (codes "chunk_shape") part
+  chunk ← naturals_of 6 chunks
+  _ ← when (is_none (first_fault sizes chunk (size_of t)))
+  Some (record { shape = sizes; chunk = chunk })
+
+-- the separator that is set, or else the usual one of the encoding
+abbrev pub separator_of : Sep → Option Data → Option Sep
+separator_of usual value =
+    if is_none value then Some usual
+    else if is_text (codes "/") value then Some Slash
+    else if is_text (codes ".") value then Some Dot
+    else None
+
+-- `chunk_key_encoding`
+abbrev pub encoding_of : Data → Option Encoding
+encoding_of part =
+    if is_part_of (codes "default") (codes "separator") part then option_map Plain (separator_of Slash (setting (codes "separator") part))
+    else if is_part_of (codes "v2") (codes "separator") part then option_map V2 (separator_of Dot (setting (codes "separator") part))
+    else None
+
+-- a number of the type
+abbrev pub within : Dtype → ℤ → Test
+within t x = not (int_lt x (least t)) && not (int_lt (greatest t) x)
+
+-- a truth value as a number
+abbrev pub truth : Test → ℤ
+truth true = pos 1
+truth false = pos 0
+
+-- an integer of the type
+abbrev pub whole_of : Dtype → Data → Option ℤ
+whole_of t d = do
+  number ← as_number d
+  x ← as_integer number
+  if within t x then Some x else None
+
+-- `fill_value`
+abbrev pub fill_of : Dtype → Data → Option ℤ
+fill_of Bool d = option_map truth (as_bool d)
+fill_of Int8 d = whole_of Int8 d
+fill_of Int16 d = whole_of Int16 d
+fill_of Int32 d = whole_of Int32 d
+fill_of Int64 d = whole_of Int64 d
+fill_of Uint8 d = whole_of Uint8 d
+fill_of Uint16 d = whole_of Uint16 d
+fill_of Uint32 d = whole_of Uint32 d
+fill_of Uint64 d = whole_of Uint64 d
+
+-- the byte order that is set; it may be left out for types of one byte, which are always little-endian
+abbrev pub endian_set : Dtype → Option Data → Option Endian
+endian_set t value =
+    if is_none value then (if size_of t == 1 then Some Little else None)
+    else if is_text (codes "little") value then Some Little
+    else if is_text (codes "big") value then Some (if size_of t == 1 then Little else Big)
+    else None
+
+-- `codecs`: the one codec that writes elements as bytes
+abbrev pub endian_of : Dtype → Data → Option Endian
+endian_of t codecs = do
+  _ ← when (is_list_of 1 codecs)
+  codec ← at 0 codecs
+  _ ← when (is_part_of (codes "bytes") (codes "endian") codec)
+  endian_set t (setting (codes "endian") codec)
+
+-- `attributes`: any object
+abbrev pub are_attributes : Option Data → Test
+are_attributes value = unwrap_or (option_map (λ d. is_some (as_object d)) value) true
+
+abbrev pub is_text_or_null : Data → Test
+is_text_or_null d = is_some (as_str d) || is_some (as_null d)
+
+-- `dimension_names`: null, or a text or null for each axis
+abbrev pub are_dimension_names : ℕ → Option Data → Test
+are_dimension_names rank value = unwrap_or (option_map (λ d. is_some (as_null d)
+    || (is_list_of rank d && unwrap_or (option_map (each_item is_text_or_null) (as_array d)) false)) value) true
+
+-- `storage_transformers`: none
+abbrev pub are_no_transformers : Option Data → Test
+are_no_transformers value = unwrap_or (option_map (λ d. is_list_of 0 d) value) true
+
+-- the name of one of the eleven members
+abbrev pub is_known : List ℕ → Test
+is_known k = bytes_eq k (codes "zarr_format") || bytes_eq k (codes "node_type") || bytes_eq k (codes "shape") || bytes_eq k (codes "data_type")
+    || bytes_eq k (codes "chunk_grid") || bytes_eq k (codes "chunk_key_encoding") || bytes_eq k (codes "fill_value") || bytes_eq k (codes "codecs")
+    || bytes_eq k (codes "attributes") || bytes_eq k (codes "dimension_names") || bytes_eq k (codes "storage_transformers")
+
+-- a member that says that a reader need not understand it
+abbrev pub may_be_passed_over : Data → Test
+may_be_passed_over d = unwrap_or (option_map not (option_and_then as_bool (get (codes "must_understand") d))) false
+
+-- each member is one of the eleven, or may be passed over
+abbrev pub are_understood : Members → Test
+are_understood ms = each_member (λ k d. is_known k || may_be_passed_over d) ms

@@ -1,0 +1,14 @@
+//! The metadata of a stored array: the file `zarr.json` of Zarr version 3, read and written.
+#![tactic(auto)]
+
+mod fault;
+mod members;
+mod part;
+mod read;
+#[cfg(test)]
+mod tests;
+mod write;
+
+pub use fault::{MetaFault, MetaRefused};
+pub use read::read_meta;
+pub use write::write_meta;

@@ -1,0 +1,308 @@
+//! The members of an array's metadata, each by itself.
+ghost use Rattle.std.specs.Prelude.{◌≡◌, ◌<◌, ◌≤◌, ◌&&◌, false, [], option_map, unwrap_or, length};
+ghost use Rattle.serde_json.specs.Find.{as_array};
+ghost use Rattle.serde_json.specs.View.{view, items_view, members_view};
+ghost use Rattle.cu_num.specs.Dtype.{size_of, least, greatest};
+ghost use Rattle.cu_json.specs.Form.{naturals_of, naturals_after, each_item, is_list_of};
+ghost use Rattle.cu_meta.specs.Members.{dtype_named, dtype_of, grid_of, separator_of, encoding_of, within, whole_of, fill_of, endian_set, endian_of, are_attributes, is_text_or_null, are_dimension_names, are_no_transformers, is_known, may_be_passed_over, are_understood};
+
+use crate::part::{is_part_of, is_plain_part, part_name, setting};
+use arrayvec::ArrayVec;
+use cu_grid::Grid;
+use cu_json::{is_list_of, is_text};
+use cu_num::{Dtype, Encoding, Endian, Sep, size};
+use cu_shape::Dims;
+use serde_json::{Map, Value};
+
+/// The most axes of an array.
+const MOST_AXES: usize = 6;
+
+fn dtype_named(name: &str) -> Option<Dtype>
+    ensures { result ≡ dtype_named name.now }
+{
+    match name {
+        "bool" => Some(Dtype::Bool),
+        "int8" => Some(Dtype::Int8),
+        "int16" => Some(Dtype::Int16),
+        "int32" => Some(Dtype::Int32),
+        "int64" => Some(Dtype::Int64),
+        "uint8" => Some(Dtype::Uint8),
+        "uint16" => Some(Dtype::Uint16),
+        "uint32" => Some(Dtype::Uint32),
+        "uint64" => Some(Dtype::Uint64),
+        _ => None,
+    }
+}
+
+/// The type that `data_type` names.
+pub(crate) fn dtype_in(value: &Value) -> Option<Dtype>
+    ensures { result ≡ dtype_of (view value.now) }
+{
+    if !is_plain_part(value) {
+        return None;
+    }
+    dtype_named(part_name(value)?)
+}
+
+/// The numbers of a list of at most six.
+fn sizes_in(value: &Value) -> Option<Dims>
+    ensures { result ≡ naturals_of 6 (view value.now) }
+{
+    let Some(items) = value.as_array() else {
+        return None;
+    };
+    if items.len() > MOST_AXES {
+        return None;
+    }
+    naturals(items)
+}
+
+fn naturals(items: &Vec<Value>) -> Option<Dims>
+    requires { length items.now.items ≤ 6 }
+    ensures { result ≡ naturals_after [] (items_view items.now.items) }
+{
+    let mut numbers = ArrayVec::<u64, 6>::new();
+    for item in items {
+        numbers.try_push(item.as_u64()?).ok()?;
+    }
+    Dims::make(numbers.as_slice()).ok()
+}
+
+/// The grid that `shape` and `chunk_grid` say.
+pub(crate) fn grid_in(dtype: Dtype, shape: &Value, part: &Value) -> Option<Grid>
+    ensures { result ≡ grid_of dtype (view shape.now) (view part.now) }
+{
+    let sizes = sizes_in(shape)?;
+    if !is_part_of(part, "regular", "chunk_shape") {
+        return None;
+    }
+    let chunk = sizes_in(setting(part, "chunk_shape")?)?;
+    Grid::make(sizes, chunk, item_size(dtype)).ok()
+}
+
+fn item_size(dtype: Dtype) -> u64
+    ensures value { result ≡ size_of dtype }
+    ensures positive { 0 < result }
+{
+    size(dtype)
+}
+
+fn separator_in(usual: Sep, value: Option<&Value>) -> Option<Sep>
+    ensures { result ≡ separator_of usual (option_map (λ v. view v.now) value.entry) }
+{
+    if value.is_none() {
+        return Some(usual);
+    }
+    if is_text(value, "/") {
+        return Some(Sep::Slash);
+    }
+    if is_text(value, ".") {
+        return Some(Sep::Dot);
+    }
+    None
+}
+
+/// The encoding that `chunk_key_encoding` names.
+pub(crate) fn encoding_in(part: &Value) -> Option<Encoding>
+    ensures { result ≡ encoding_of (view part.now) }
+{
+    if is_part_of(part, "default", "separator") {
+        let sep = separator_in(Sep::Slash, setting(part, "separator"))?;
+        return Some(Encoding::Plain(sep));
+    }
+    if is_part_of(part, "v2", "separator") {
+        let sep = separator_in(Sep::Dot, setting(part, "separator"))?;
+        return Some(Encoding::V2(sep));
+    }
+    None
+}
+
+/// The least number of a type.
+fn least(dtype: Dtype) -> i128
+    ensures { result ≡ least dtype }
+{
+    match dtype {
+        Dtype::Bool | Dtype::Uint8 | Dtype::Uint16 | Dtype::Uint32 | Dtype::Uint64 => 0,
+        Dtype::Int8 => i8::MIN as i128,
+        Dtype::Int16 => i16::MIN as i128,
+        Dtype::Int32 => i32::MIN as i128,
+        Dtype::Int64 => i64::MIN as i128,
+    }
+}
+
+/// The greatest number of a type.
+fn greatest(dtype: Dtype) -> i128
+    ensures { result ≡ greatest dtype }
+{
+    match dtype {
+        Dtype::Bool => 1,
+        Dtype::Int8 => i8::MAX as i128,
+        Dtype::Int16 => i16::MAX as i128,
+        Dtype::Int32 => i32::MAX as i128,
+        Dtype::Int64 => i64::MAX as i128,
+        Dtype::Uint8 => u8::MAX as i128,
+        Dtype::Uint16 => u16::MAX as i128,
+        Dtype::Uint32 => u32::MAX as i128,
+        Dtype::Uint64 => u64::MAX as i128,
+    }
+}
+
+fn is_within(dtype: Dtype, x: i128) -> bool
+    ensures { result ≡ within dtype x }
+{
+    !(x < least(dtype)) && !(greatest(dtype) < x)
+}
+
+fn whole_in(dtype: Dtype, value: &Value) -> Option<i128>
+    ensures { result ≡ whole_of dtype (view value.now) }
+{
+    let x = value.as_number()?.as_i128()?;
+    if is_within(dtype, x) { Some(x) } else { None }
+}
+
+/// The element that `fill_value` says.
+pub(crate) fn fill_in(dtype: Dtype, value: &Value) -> Option<i128>
+    ensures { result ≡ fill_of dtype (view value.now) }
+{
+    match dtype {
+        Dtype::Bool => match value.as_bool()? {
+            true => Some(1),
+            false => Some(0),
+        },
+        _ => whole_in(dtype, value),
+    }
+}
+
+fn endian_set(dtype: Dtype, value: Option<&Value>) -> Option<Endian>
+    ensures { result ≡ endian_set dtype (option_map (λ v. view v.now) value.entry) }
+{
+    if value.is_none() {
+        return if size(dtype) == 1 {
+            Some(Endian::Little)
+        } else {
+            None
+        };
+    }
+    if is_text(value, "little") {
+        return Some(Endian::Little);
+    }
+    if is_text(value, "big") {
+        return Some(if size(dtype) == 1 {
+            Endian::Little
+        } else {
+            Endian::Big
+        });
+    }
+    None
+}
+
+/// The byte order that `codecs` say.
+pub(crate) fn endian_in(dtype: Dtype, codecs: &Value) -> Option<Endian>
+    ensures { result ≡ endian_of dtype (view codecs.now) }
+{
+    if !is_list_of(codecs, 1) {
+        return None;
+    }
+    let codec = codecs.get(0)?;
+    if !is_part_of(codec, "bytes", "endian") {
+        return None;
+    }
+    endian_set(dtype, setting(codec, "endian"))
+}
+
+/// Whether `attributes` are absent or an object.
+pub(crate) fn are_attributes(value: Option<&Value>) -> bool
+    ensures { result ≡ are_attributes (option_map (λ v. view v.now) value.entry) }
+{
+    match value {
+        Some(found) => found.is_object(),
+        None => true,
+    }
+}
+
+fn is_text_or_null(value: &Value) -> bool
+    ensures { result ≡ is_text_or_null (view value.now) }
+{
+    value.is_string() || value.is_null()
+}
+
+fn are_texts_or_nulls(items: &Vec<Value>) -> bool
+    ensures { result ≡ each_item is_text_or_null (items_view items.now.items) }
+{
+    for item in items {
+        if !is_text_or_null(item) {
+            return false;
+        }
+    }
+    true
+}
+
+fn is_list_of_names(rank: u32, value: &Value) -> bool
+    ensures { result ≡ is_list_of rank (view value.now) && unwrap_or (option_map (each_item is_text_or_null) (as_array (view value.now))) false }
+{
+    if !is_list_of(value, rank as usize) {
+        return false;
+    }
+    match value.as_array() {
+        Some(items) => are_texts_or_nulls(items),
+        None => false,
+    }
+}
+
+/// Whether `dimension_names` are absent, null, or a text or null for each axis.
+pub(crate) fn are_dimension_names(rank: u32, value: Option<&Value>) -> bool
+    ensures { result ≡ are_dimension_names rank (option_map (λ v. view v.now) value.entry) }
+{
+    match value {
+        Some(found) => found.is_null() || is_list_of_names(rank, found),
+        None => true,
+    }
+}
+
+/// Whether `storage_transformers` are absent or an empty list.
+pub(crate) fn are_no_transformers(value: Option<&Value>) -> bool
+    ensures { result ≡ are_no_transformers (option_map (λ v. view v.now) value.entry) }
+{
+    match value {
+        Some(found) => is_list_of(found, 0),
+        None => true,
+    }
+}
+
+/// Whether this is the name of one of the eleven members.
+fn is_known(key: &str) -> bool
+    ensures { result ≡ is_known key.now }
+{
+    key == "zarr_format"
+        || key == "node_type"
+        || key == "shape"
+        || key == "data_type"
+        || key == "chunk_grid"
+        || key == "chunk_key_encoding"
+        || key == "fill_value"
+        || key == "codecs"
+        || key == "attributes"
+        || key == "dimension_names"
+        || key == "storage_transformers"
+}
+
+fn may_be_passed_over(value: &Value) -> bool
+    ensures { result ≡ may_be_passed_over (view value.now) }
+{
+    match value.get("must_understand") {
+        Some(found) => found.as_bool() == Some(false),
+        None => false,
+    }
+}
+
+/// Whether each member is one of the eleven, or may be passed over.
+pub(crate) fn are_understood(members: &Map<String, Value>) -> bool
+    ensures { result ≡ are_understood (members_view members.now.entries) }
+{
+    for (key, value) in members.iter() {
+        if !is_known(key.as_str()) && !may_be_passed_over(value) {
+            return false;
+        }
+    }
+    true
+}

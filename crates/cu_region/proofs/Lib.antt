@@ -1,0 +1,4 @@
+pub mod ByteElements
+pub mod SteadyKeys
+pub mod StoredReads
+pub mod StoredWrites

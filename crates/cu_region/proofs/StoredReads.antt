@@ -1,0 +1,106 @@
+-- What the bytes of a chunk say of the elements that are stored.
+use Rattle.std.proofs.Common.{◌≡◌, ◌⊎◌, ℕ, suc, ◌*◌, ◌<◌, ◌≤◌, List, ◌∷◌, length, Contains, Option, Some, None, true, nat_eq, refl, sym, ap, ◌∙◌, subst, inl, inr, arith, eq-eqb}
+use Rattle.std.proofs.lemmas.Nat.{mul-le}
+use Rattle.cu_num.specs.Dtype.{size_of, InRange}
+use Rattle.cu_num.specs.Element.{element_at}
+use Rattle.cu_num.specs.declared.layout.Endian.TheVariants.{Little}
+use Rattle.cu_num.proofs.ElementBytes.{element_at_same, element_at_own, element_at-element_bytes_in_range}
+use Rattle.cu_shape.specs.Index.{product, place_of, quotients, remainders}
+use Rattle.cu_shape.proofs.Places.{place-below}
+use Rattle.cu_grid.specs.Counts.{IsRegion, IsWithin}
+use Rattle.cu_grid.specs.Cover.{Meets}
+use Rattle.cu_grid.specs.Grid.{IsGrid}
+use Rattle.cu_grid.proofs.Parting.{has_coordinate, lies_within, inner_inside}
+use Rattle.cu_store.specs.Held.{Contents}
+use Rattle.cu_zarr.specs.Layout.{ArrayLayout, chunk_bytes}
+use Rattle.cu_zarr.specs.Stored.{element_in}
+use Rattle.cu_op.specs.Layout.{layout_view}
+use Rattle.cu_op.specs.declared.layout.ArrayInfo.{ArrayInfo}
+use Rattle.cu_codec.specs.Parts.{part_at, place_within, IsTaken}
+use Rattle.cu_codec.proofs.Taken.{region_in_array}
+use Rattle.cu_store.specs.declared.faults.TaskFault.{TaskFault}
+use Rattle.cu_store.specs.declared.faults.TaskFault.TheVariants.{Store, BadChunk, NoMemory}
+use Rattle.std.specs.Prelude.{Bool as Test}
+use Rattle.cu_region.specs.Reading.{key_at, IsChunkKey, bytes_of, IsChunkOf, ReadsChunk, IsStoredAt, ReadsPart, IsReadFault}
+use Rattle.cu_region.specs.Steady.{HoldSame}
+use Rattle.cu_region.proofs.SteadyKeys.{same_or_not, first_or_rest}
+
+-- an element of a chunk that was read
+element_read : (l : ArrayLayout) (v : Option (List ℕ)) (idx buf out : List ℕ) (q : ℕ)
+    → IsChunkOf l.dtype l.fill v buf → length buf ≡ chunk_bytes l → l.endian ≡ Little → InRange l.dtype l.fill
+    → place_of l.chunk (remainders idx l.chunk) < product l.chunk
+    → part_at (size_of l.dtype) out q ≡ part_at (size_of l.dtype) buf (place_of l.chunk (remainders idx l.chunk))
+    → element_in l v idx ≡ Some (element_at Little l.dtype out q)
+element_read l None idx buf out q chunk long little fits below same =
+    let p = place_of l.chunk (remainders idx l.chunk) in
+    let far : suc (place_of l.chunk (remainders idx l.chunk)) * size_of l.dtype ≤ product l.chunk * size_of l.dtype = mul-le _ (size_of l.dtype) (product l.chunk) (size_of l.dtype) below (omega arith) in
+    let bytes = chunk (place_of l.chunk (remainders idx l.chunk)) (omega arith) in
+    ap Some (sym (element_at_own Little l.dtype out q ∙ ap (λ own. element_at Little l.dtype own 0) (same ∙ bytes) ∙ element_at-element_bytes_in_range Little l.dtype l.fill fits))
+element_read l (Some bytes) idx buf out q chunk long little fits below same =
+    let test : nat_eq (length bytes) (chunk_bytes l) ≡ true = eq-eqb _ _ (ap length (sym chunk) ∙ long) in
+    rw (test, little) (ap Some (ap (λ b. element_at Little l.dtype b (place_of l.chunk (remainders idx l.chunk))) (sym chunk)
+    ∙ sym (element_at_same Little l.dtype out buf q (place_of l.chunk (remainders idx l.chunk)) same)))
+
+-- the chunk of an index of the region is one that the region meets
+pub meets_own : (info : ArrayInfo) (lo hi idx : List ℕ) → IsGrid info.layout.grid → IsRegion info.layout.grid.shape lo hi → IsWithin lo hi idx
+    → Meets info.layout.grid lo hi (quotients idx info.layout.grid.chunk)
+meets_own info lo hi idx ok region w =
+    let inside = region_in_array info.layout.grid.shape lo hi idx region w in
+    (has_coordinate info.layout.grid idx ok inside, (idx, w, lies_within info.layout.grid idx ok inside))
+
+pub reads_part : (info : ArrayInfo) (coord lo hi buf old new : List ℕ) (held : Option Contents) → IsGrid info.layout.grid → IsRegion info.layout.grid.shape lo hi
+    → ReadsChunk info.layout.dtype info.layout.fill held (key_at info coord) buf → length buf ≡ bytes_of info.layout
+    → info.layout.endian ≡ Little → InRange info.layout.dtype info.layout.fill
+    → IsTaken (size_of info.layout.dtype) info.layout.grid.chunk coord lo hi buf old new
+    → ReadsPart info coord lo hi held old new
+reads_part info coord lo hi buf old new held ok region chunk long little fits took = record {
+  stored = stored held chunk;
+  others = took.others;
+}
+  where
+    stored : (held : Option Contents) → ReadsChunk info.layout.dtype info.layout.fill held (key_at info coord) buf
+        → (idx : List ℕ) → IsWithin lo hi idx → quotients idx info.layout.grid.chunk ≡ coord → IsStoredAt info lo hi held new idx
+    stored None read idx w e = tt
+    stored (Some h) read idx w e =
+        let inside = region_in_array info.layout.grid.shape lo hi idx region w in
+        let own = subst (λ (x : List ℕ). IsChunkOf info.layout.dtype info.layout.fill (h (key_at info x)) buf) (sym e) read in
+        element_read (layout_view info.layout) (h (key_at info (quotients idx info.layout.grid.chunk))) idx buf new (place_within lo hi idx) own long little fits
+        (place-below info.layout.grid.chunk (remainders idx info.layout.grid.chunk) (inner_inside info.layout.grid idx ok inside))
+        (took.taken idx w e)
+
+-- an element that was read stays, where neither the key nor its place in the buffer changed
+stored_stays : (info : ArrayInfo) (lo hi idx old new : List ℕ) (a b : Option Contents) → IsGrid info.layout.grid → IsRegion info.layout.grid.shape lo hi → IsWithin lo hi idx
+    → HoldSame (IsChunkKey info lo hi) a b
+    → part_at (size_of info.layout.dtype) new (place_within lo hi idx) ≡ part_at (size_of info.layout.dtype) old (place_within lo hi idx)
+    → IsStoredAt info lo hi a old idx → IsStoredAt info lo hi b new idx
+stored_stays info lo hi idx old new None None ok region w same place stored = tt
+stored_stays info lo hi idx old new None (Some b) ok region w same place stored = absurd same
+stored_stays info lo hi idx old new (Some a) None ok region w same place stored = absurd same
+stored_stays info lo hi idx old new (Some a) (Some b) ok region w same place stored =
+    let key = key_at info (quotients idx info.layout.grid.chunk) in
+    let e = same (key_at info (quotients idx info.layout.grid.chunk)) (quotients idx info.layout.grid.chunk, meets_own info lo hi idx ok region w, refl) in
+    ap (λ v. element_in (layout_view info.layout) v idx) e ∙ stored
+    ∙ ap Some (sym (element_at_same Little info.layout.dtype new old (place_within lo hi idx) (place_within lo hi idx) place))
+
+-- each element of the region has its chunk among those that are left, or was read
+abbrev pub ReadsSoFar : ArrayInfo → List ℕ → List ℕ → Option Contents → List (List ℕ) → List ℕ → Type 0
+ReadsSoFar info lo hi held left out = (idx : List ℕ) → IsWithin lo hi idx → Contains left (quotients idx info.layout.grid.chunk) ⊎ IsStoredAt info lo hi held out idx
+
+pub reads_more : (info : ArrayInfo) (lo hi coord old new : List ℕ) (rest : List (List ℕ)) (a b : Option Contents)
+    → IsGrid info.layout.grid → IsRegion info.layout.grid.shape lo hi → HoldSame (IsChunkKey info lo hi) a b
+    → ReadsPart info coord lo hi b old new → ReadsSoFar info lo hi a (coord ∷ rest) old → ReadsSoFar info lo hi b rest new
+reads_more info lo hi coord old new rest a b ok region same part before idx w =
+    elim (same_or_not (quotients idx info.layout.grid.chunk) coord) [
+      | inl here ↦ inr (part.stored idx w here)
+      | inr apart ↦ elim (before idx w) [
+        | inl left ↦ elim (first_or_rest coord rest (quotients idx info.layout.grid.chunk) left) [ inl here ↦ absurd (apart here) | inr later ↦ inl later ]
+        | inr stored ↦ inr (stored_stays info lo hi idx old new a b ok region w same (part.others idx w apart) stored)
+      ]
+    ]
+
+-- a fault of one call among several
+pub fault_more : (before mid after : ℕ) (lacks : Test) (held : Option Contents) (K L : List ℕ → Type 0) (size : ℕ) (e : TaskFault) → before ≤ mid → ((key : List ℕ) → K key → L key)
+    → IsReadFault mid after lacks held K size e → IsReadFault before after lacks held L size e
+fault_more before mid after lacks held K L size Store count within cause = let c = cause in omega arith
+fault_more before mid after lacks held K L size (BadChunk key got want) count within cause = (within key cause.0, cause.1, cause.2, cause.3)
+fault_more before mid after lacks held K L size NoMemory count within cause = cause

@@ -1,0 +1,173 @@
+-- The bytes of a chunk that is laid out of a region are the chunk's spelling, and what is stored of a region stays.
+use Rattle.std.proofs.Common.{◌≡◌, ◌⊎◌, ℕ, ℤ, suc, ◌*◌, ◌^◌, ◌<◌, ◌≤◌, List, ◌∷◌, ◌++◌, length, take, All, Contains, Option, Some, None, Bool, true, false, option_map, refl, sym, ap, ◌∙◌, subst, inl, inr, arith}
+use Rattle.std.specs.Prelude.{if◌then◌else◌}
+use Rattle.std.proofs.lemmas.Nat.{mul-le}
+use Rattle.cu_num.specs.Dtype.{size_of}
+use Rattle.cu_num.specs.Element.{element_at, element_bytes}
+use Rattle.cu_num.specs.Wrap.{residue, wrapped}
+use Rattle.cu_num.specs.declared.types.Dtype.{Dtype}
+use Rattle.cu_num.specs.declared.layout.Endian.{Endian}
+use Rattle.cu_num.specs.declared.layout.Endian.TheVariants.{Little}
+use Rattle.cu_num.specs.Element.{low_bytes, in_order}
+use Rattle.cu_num.proofs.ElementBytes.{element_at_own, element_at-element_bytes}
+use Rattle.cu_num.proofs.Wrapped.{wrapped-wrapped}
+use Rattle.cu_shape.specs.Index.{product, index_at, is_inside}
+use Rattle.cu_shape.proofs.Places.{inside-length, inside_from_test, index-inside, place-below}
+use Rattle.cu_grid.specs.Counts.{IsWithin}
+use Rattle.cu_grid.specs.Cover.{Meets}
+use Rattle.cu_grid.specs.Grid.{RegularGrid, IsGrid, IsCoordinate, IsInChunk}
+use Rattle.cu_grid.proofs.Parting.{lies_within}
+use Rattle.cu_grid.proofs.Regions.{coordinate-length}
+use Rattle.cu_zarr.specs.Layout.{ArrayLayout}
+use Rattle.cu_zarr.specs.Spelling.{padded}
+use Rattle.cu_zarr.proofs.Joined.{joined_by_place}
+use Rattle.cu_op.specs.Layout.{layout_view}
+use Rattle.cu_op.specs.declared.layout.ArrayInfo.{ArrayInfo}
+use Rattle.cu_codec.specs.Parts.{part_at, place_within, differences, index_at_place, IsLaid}
+use Rattle.cu_codec.proofs.Shared.{within_sizes}
+use Rattle.cu_codec.proofs.Taken.{corner_parts}
+use Rattle.cu_region.specs.Reading.{key_at, bytes_of}
+use Rattle.std.specs.Prelude.{Bool as Test}
+use Rattle.std.proofs.lemmas.List.{take-append-le}
+use Rattle.cu_codec.proofs.KeyLaws.{same_chunk}
+use Rattle.cu_store.specs.Held.{Contents, Write, IsAmong, OwnOrLate, IsKeptAt, Lands, StayAmong, Follows, Holds}
+use Rattle.cu_store.proofs.Writes.{lands_then}
+use Rattle.cu_store.specs.declared.faults.TaskFault.{TaskFault}
+use Rattle.cu_store.specs.declared.faults.TaskFault.TheVariants.{Store, BadChunk, NoMemory}
+use Rattle.cu_region.proofs.SteadyKeys.{first_or_rest}
+use Rattle.cu_region.specs.Writing.{AreElements, buffer_element, chunk_value, IsOwnOrLate, LateIsOwn, StoresChunk, HasValues, IsWriteFault}
+
+wrapped_bytes : (e : Endian) (t : Dtype) (x : ℤ) → element_bytes e t (wrapped t x) ≡ element_bytes e t x
+unfolding element_bytes
+wrapped_bytes e t x = ap (λ y. in_order e (low_bytes (size_of t) (residue (8 * size_of t) y))) (wrapped-wrapped t x)
+
+-- an element that is the bytes of a number is written as it is read
+element_again : (t : Dtype) (bytes : List ℕ) (q : ℕ) (x : ℤ) → part_at (size_of t) bytes q ≡ element_bytes Little t x
+    → element_bytes Little t (element_at Little t bytes q) ≡ part_at (size_of t) bytes q
+element_again t bytes q x e =
+    ap (element_bytes Little t) (element_at_own Little t bytes q ∙ ap (λ own. element_at Little t own 0) e ∙ element_at-element_bytes Little t x)
+    ∙ wrapped_bytes Little t x ∙ sym e
+
+part_laid : (g : RegularGrid) (l : ArrayLayout) (coord lo hi input bytes : List ℕ) (p : ℕ) (b : Bool) → g.shape ≡ l.shape → g.chunk ≡ l.chunk
+    → is_inside g.shape (index_at_place g.chunk coord p) ≡ b → l.endian ≡ Little
+    → (b ≡ true → element_bytes Little l.dtype (element_at Little l.dtype input (place_within lo hi (index_at_place g.chunk coord p)))
+    ≡ part_at (size_of l.dtype) input (place_within lo hi (index_at_place g.chunk coord p)))
+    → part_at (size_of l.dtype) bytes p ≡ (if is_inside g.shape (index_at_place g.chunk coord p)
+    then part_at (size_of l.dtype) input (place_within lo hi (index_at_place g.chunk coord p)) else element_bytes Little l.dtype l.fill)
+    → option_map (element_bytes l.endian l.dtype) (if is_inside g.shape (index_at_place g.chunk coord p) then buffer_element l.dtype lo hi input (index_at_place g.chunk coord p) else Some l.fill)
+    ≡ Some (part_at (size_of l.dtype) bytes p)
+part_laid g l coord lo hi input bytes p true es ec test little again laid =
+    let laid_in = rw test at laid in
+    rw (test, little) (ap Some (again refl ∙ sym laid_in))
+part_laid g l coord lo hi input bytes p false es ec test little again laid =
+    let laid_out = rw test at laid in
+    rw (test, little) (ap Some (sym laid_out))
+
+pub laid_spelled : (info : ArrayInfo) (coord lo hi input bytes : List ℕ) → IsGrid info.layout.grid → IsCoordinate info.layout.grid coord
+    → ((idx : List ℕ) → IsInChunk info.layout.grid coord idx → IsWithin lo hi idx)
+    → info.layout.endian ≡ Little → length input ≡ product (differences hi lo) * size_of info.layout.dtype → AreElements info.layout.dtype input
+    → IsLaid info.layout.grid info.layout.dtype info.layout.fill coord lo hi input bytes
+    → chunk_value info lo hi input coord ≡ Some (take (bytes_of info.layout) bytes)
+laid_spelled info coord lo hi input bytes ok here whole little long elements laid =
+    joined_by_place (size_of info.layout.dtype) (product info.layout.grid.chunk)
+    (λ p. option_map (element_bytes info.layout.endian info.layout.dtype) (padded (layout_view info.layout) (buffer_element info.layout.dtype lo hi input) coord p)) bytes
+    (λ p below. part_laid info.layout.grid (layout_view info.layout) coord lo hi input bytes p (is_inside info.layout.grid.shape (index_at_place info.layout.grid.chunk coord p)) refl refl refl little
+    (again p below) (laid p below))
+  where
+    again : (p : ℕ) → p < product info.layout.grid.chunk → is_inside info.layout.grid.shape (index_at_place info.layout.grid.chunk coord p) ≡ true
+        → element_bytes Little info.layout.dtype (element_at Little info.layout.dtype input (place_within lo hi (index_at_place info.layout.grid.chunk coord p)))
+        ≡ part_at (size_of info.layout.dtype) input (place_within lo hi (index_at_place info.layout.grid.chunk coord p))
+    again p below test =
+        let g = info.layout.grid in
+        let inside = inside_from_test info.layout.grid.shape (index_at_place info.layout.grid.chunk coord p) test in
+        let rank : length coord ≡ length info.layout.grid.chunk = coordinate-length info.layout.grid coord ok here ∙ sym ok.ranks in
+        let parts = corner_parts coord info.layout.grid.chunk (index_at info.layout.grid.chunk p) rank (index-inside info.layout.grid.chunk p below) in
+        let own : IsInChunk info.layout.grid coord (index_at_place info.layout.grid.chunk coord p) =
+        subst (λ (x : List ℕ). IsInChunk info.layout.grid x (index_at_place info.layout.grid.chunk coord p)) parts.0 (lies_within info.layout.grid (index_at_place info.layout.grid.chunk coord p) ok inside) in
+        let w = whole (index_at_place info.layout.grid.chunk coord p) own in
+        let q = place_within lo hi (index_at_place info.layout.grid.chunk coord p) in
+        let low : place_within lo hi (index_at_place info.layout.grid.chunk coord p) < product (differences hi lo) =
+        place-below (differences hi lo) (differences (index_at_place info.layout.grid.chunk coord p) lo) (within_sizes lo hi (index_at_place info.layout.grid.chunk coord p) w) in
+        let far : suc (place_within lo hi (index_at_place info.layout.grid.chunk coord p)) * size_of info.layout.dtype ≤ product (differences hi lo) * size_of info.layout.dtype =
+        mul-le _ (size_of info.layout.dtype) (product (differences hi lo)) (size_of info.layout.dtype) low (omega arith) in
+        let (x, e) = elements (place_within lo hi (index_at_place info.layout.grid.chunk coord p)) (omega arith) in
+        element_again info.layout.dtype input (place_within lo hi (index_at_place info.layout.grid.chunk coord p)) x e
+
+pub value_front : (n : ℕ) (value : Option (List ℕ)) (chunk rest : List ℕ) → n ≤ length chunk → value ≡ Some (take n chunk) → value ≡ Some (take n (chunk ++ rest))
+value_front n value chunk rest fits e = e ∙ ap Some (sym (take-append-le n chunk rest fits))
+
+-- ---- several chunks, one after another
+
+small_more : (xs : List ℕ) → All (λ i. i < 1048576) xs → All (λ i. i < 2 ^ 64) xs
+small_more xs h = λ k d b. let e = h k d b in omega arith
+
+module _ (info : ArrayInfo) (lo hi input : List ℕ) (small : (coord : List ℕ) → Meets info.layout.grid lo hi coord → All (λ i. i < 1048576) coord) where
+  one_key : (c d : List ℕ) → Meets info.layout.grid lo hi c → Meets info.layout.grid lo hi d → key_at info c ≡ key_at info d → c ≡ d
+  one_key c d m n e =
+      let p = inside-length _ c m.0 in
+      let q = inside-length _ d n.0 in
+      same_chunk info.prefix info.layout.encoding c d (small_more c (small c m)) (small_more d (small d n)) (p ∙ sym q) e
+
+  -- what one of these writes puts on the key of a chunk of the region is its value
+  pub own_value : (late : List Write) (c bytes : List ℕ) → LateIsOwn info lo hi input late → Meets info.layout.grid lo hi c
+      → IsOwnOrLate info lo hi input late (key_at info c) bytes → chunk_value info lo hi input c ≡ Some bytes
+  own_value late c bytes premise m (inl own) =
+      let (d, n, e, value) = own in
+      ap (chunk_value info lo hi input) (one_key c d m n e) ∙ value
+  own_value late c bytes premise m (inr among) = premise c bytes m among
+
+  pub late_own_then : (late now_late : List Write) → LateIsOwn info lo hi input late → StayAmong now_late (IsOwnOrLate info lo hi input late) → LateIsOwn info lo hi input now_late
+  late_own_then late now_late premise stay c bytes m among = own_value late c bytes premise m (stay (key_at info c) bytes among)
+
+  chunk_stays_at : (late : List Write) (old new : Contents) (c bytes : List ℕ) → LateIsOwn info lo hi input late → Meets info.layout.grid lo hi c
+      → chunk_value info lo hi input c ≡ Some bytes → old (key_at info c) ≡ Some bytes
+      → IsKeptAt (IsOwnOrLate info lo hi input late) old new (key_at info c) → new (key_at info c) ≡ Some bytes
+  chunk_stays_at late old new c bytes premise m value holds (inl same) = same ∙ holds
+  chunk_stays_at late old new c bytes premise m value holds (inr (b, put, now)) =
+      now ∙ sym (own_value late c b premise m put) ∙ value
+
+  pub chunk_stays : (late : List Write) (old new : Option Contents) (c : List ℕ) → LateIsOwn info lo hi input late → Meets info.layout.grid lo hi c
+      → Lands (IsOwnOrLate info lo hi input late) old new → StoresChunk info lo hi input old c → StoresChunk info lo hi input new c
+  chunk_stays late None None c premise m lands (bytes, value, holds) = (bytes, value, tt)
+  chunk_stays late (Some old) (Some new) c premise m lands (bytes, value, holds) =
+      (bytes, value, chunk_stays_at late old new c bytes premise m value holds (lands (key_at info c)))
+  chunk_stays late None (Some new) c premise m lands (bytes, value, holds) = absurd lands
+  chunk_stays late (Some old) None c premise m lands (bytes, value, holds) = absurd lands
+
+  -- each chunk is among those that are left, or is stored
+  abbrev pub StoredSoFar : Option Contents → List (List ℕ) → Type 0
+  StoredSoFar held left = (c : List ℕ) → Meets info.layout.grid lo hi c → Contains left c ⊎ StoresChunk info lo hi input held c
+
+  pub stored_more : (late : List Write) (old new : Option Contents) (coord bytes : List ℕ) (rest : List (List ℕ)) → LateIsOwn info lo hi input late
+      → Lands (IsOwnOrLate info lo hi input late) old new → chunk_value info lo hi input coord ≡ Some bytes → Holds new (key_at info coord) bytes
+      → StoredSoFar old (coord ∷ rest) → StoredSoFar new rest
+  stored_more late old new coord bytes rest premise lands value holds before c m =
+      elim (before c m) [
+        | inl left ↦ elim (first_or_rest coord rest c left) [
+          | inl here ↦ inr (subst (λ (x : List ℕ). StoresChunk info lo hi input new x) (sym here) (bytes, value, holds))
+          | inr later ↦ inl later
+        ]
+        | inr stored ↦ inr (chunk_stays late old new c premise m lands stored)
+      ]
+
+-- the write of one chunk's value, after others
+pub own_within : (info : ArrayInfo) (lo hi input coord bytes : List ℕ) (late now_late : List Write) → Meets info.layout.grid lo hi coord → chunk_value info lo hi input coord ≡ Some bytes
+    → StayAmong now_late (IsOwnOrLate info lo hi input late) → (k b : List ℕ) → OwnOrLate (key_at info coord) bytes now_late k b → IsOwnOrLate info lo hi input late k b
+own_within info lo hi input coord bytes late now_late m value stay k b (inl own) = inl (coord, m, own.0, value ∙ ap Some (sym own.1))
+own_within info lo hi input coord bytes late now_late m value stay k b (inr among) = stay k b among
+
+pub follows_own : (info : ArrayInfo) (lo hi input : List ℕ) (writes late now_late : List Write) (entry held now : Option Contents) → HasValues info lo hi input writes
+    → Lands (IsOwnOrLate info lo hi input late) held now → StayAmong now_late (IsOwnOrLate info lo hi input late)
+    → Follows writes entry held late → Follows writes entry now now_late
+follows_own info lo hi input writes late now_late entry held now values lands stay follows =
+    (lands_then entry held now within follows.0 lands, λ k b among. within k b (stay k b among))
+  where
+    within : (k b : List ℕ) → IsOwnOrLate info lo hi input late k b → IsAmong writes k b
+    within k b (inl own) = values k b own
+    within k b (inr among) = follows.1 k b among
+
+-- a fault of one call among several
+pub write_fault_more : (before mid after : ℕ) (lacks : Test) (e : TaskFault) → before ≤ mid → IsWriteFault mid after lacks e → IsWriteFault before after lacks e
+write_fault_more before mid after lacks Store count cause = let c = cause in omega arith
+write_fault_more before mid after lacks (BadChunk key got want) count cause = absurd cause
+write_fault_more before mid after lacks NoMemory count cause = cause

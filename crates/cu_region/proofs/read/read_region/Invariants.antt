@@ -1,0 +1,18 @@
+use Rattle.std.proofs.Common.{◌≡◌, ◌≤◌, ℕ, List, Contains}
+use Rattle.cu_grid.specs.Cover.{Meets}
+use Rattle.cu_store.specs.Held.{IsAmong, Lands, StayAmong}
+use Rattle.cu_region.specs.Reading.{IsChunkKey}
+use Rattle.cu_region.specs.Steady.{IsSteady}
+use Rattle.cu_region.proofs.StoredReads.{ReadsSoFar}
+use Rattle.cu_region.proofs.read.read_region.Given as goal
+
+abbrev pub invariant-loop-coord : goal.invariant-loop-coord
+invariant-loop-coord g l = record {
+  left : (coord : List ℕ) → Contains l.coord-iterator coord → Meets l.info.layout.grid l.region.lo l.region.hi coord;
+  lands : Lands (IsAmong (g.D.Depot.late l.initial.depot)) (g.D.Depot.held l.initial.depot) (g.D.Depot.held l.depot);
+  late : StayAmong (g.D.Depot.late l.depot) (IsAmong (g.D.Depot.late l.initial.depot));
+  count : g.D.Depot.faults l.initial.depot ≤ g.D.Depot.faults l.depot;
+  lacks : g.D.Depot.lacks l.depot ≡ g.D.Depot.lacks l.initial.depot;
+  read : IsSteady (IsChunkKey l.info l.region.lo l.region.hi) (g.D.Depot.held l.initial.depot) (g.D.Depot.late l.initial.depot)
+      → ReadsSoFar l.info l.region.lo l.region.hi (g.D.Depot.held l.depot) l.coord-iterator l.out;
+}

@@ -1,0 +1,64 @@
+-- What is read of a stored array, and why a read fails (Zarr v3 core, "Regular grids", "Fill value").
+use Rattle.std.specs.Prelude.{◌≡◌, ◌≢◌, ℕ, ◌+◌, ◌*◌, ◌≤◌, ℤ, Bool, IsTrue, List, length, Option, Some, None}
+use Rattle.cu_num.specs.Dtype.{size_of}
+use Rattle.cu_num.specs.Element.{element_at, element_bytes}
+use Rattle.cu_num.specs.declared.types.Dtype.{Dtype}
+use Rattle.cu_num.specs.declared.layout.Endian.TheVariants.{Little}
+use Rattle.cu_shape.specs.Index.{product, quotients}
+use Rattle.cu_grid.specs.Counts.{IsWithin}
+use Rattle.cu_grid.specs.Cover.{Meets}
+use Rattle.cu_store.specs.Faults.{Rose}
+use Rattle.cu_store.specs.Held.{Contents}
+use Rattle.cu_store.specs.declared.faults.TaskFault.{TaskFault}
+use Rattle.cu_store.specs.declared.faults.TaskFault.TheVariants.{Store, BadChunk, NoMemory}
+use Rattle.cu_zarr.specs.Key.{chunk_key_of}
+use Rattle.cu_zarr.specs.Stored.{stored_element}
+use Rattle.cu_op.specs.Layout.{layout_view}
+use Rattle.cu_op.specs.declared.layout.ArrayInfo.{ArrayInfo}
+use Rattle.cu_op.specs.declared.layout.Layout.{Layout}
+use Rattle.cu_codec.specs.Parts.{part_at, place_within}
+use Rattle.cu_region.specs.Steady.{HoldsLength}
+
+-- the key of an array's chunk
+abbrev pub key_at : ArrayInfo → List ℕ → List ℕ
+key_at info coord = chunk_key_of info.prefix info.layout.encoding coord
+
+-- the keys of the chunks that share an element with a region
+abbrev pub IsChunkKey : ArrayInfo → List ℕ → List ℕ → List ℕ → Type 0
+IsChunkKey info lo hi key = (coord : List ℕ) × Meets info.layout.grid lo hi coord × (key ≡ key_at info coord)
+
+-- the bytes of a chunk
+abbrev pub bytes_of : Layout → ℕ
+bytes_of l = product l.grid.chunk * size_of l.dtype
+
+-- a chunk's bytes, with the fill value at each place of one that is absent
+abbrev pub IsChunkOf : Dtype → ℤ → Option (List ℕ) → List ℕ → Type 0
+IsChunkOf t fill None buf = (p : ℕ) → p * size_of t + size_of t ≤ length buf → part_at (size_of t) buf p ≡ element_bytes Little t fill
+IsChunkOf t fill (Some bytes) buf = buf ≡ bytes
+
+abbrev pub ReadsChunk : Dtype → ℤ → Option Contents → List ℕ → List ℕ → Type 0
+ReadsChunk t fill None key buf = Unit {0}
+ReadsChunk t fill (Some held) key buf = IsChunkOf t fill (held key) buf
+
+-- the buffer's element at this index is the stored one, where the contents are told
+abbrev pub IsStoredAt : ArrayInfo → List ℕ → List ℕ → Option Contents → List ℕ → List ℕ → Type 0
+IsStoredAt info lo hi None out idx = Unit {0}
+IsStoredAt info lo hi (Some held) out idx =
+    stored_element (layout_view info.layout) info.prefix held idx ≡ Some (element_at Little info.layout.dtype out (place_within lo hi idx))
+
+-- element by element, the buffer is what is stored of the region
+abbrev pub ReadsRegion : ArrayInfo → List ℕ → List ℕ → Option Contents → List ℕ → Type 0
+ReadsRegion info lo hi held out = (idx : List ℕ) → IsWithin lo hi idx → IsStoredAt info lo hi held out idx
+
+-- the same for the elements of one chunk, and the others are as before
+pub record ReadsPart (info : ArrayInfo) (coord lo hi : List ℕ) (held : Option Contents) (old new : List ℕ) : Type 0 where
+  pub stored : (idx : List ℕ) → IsWithin lo hi idx → quotients idx info.layout.grid.chunk ≡ coord → IsStoredAt info lo hi held new idx
+  pub others : (idx : List ℕ) → IsWithin lo hi idx → quotients idx info.layout.grid.chunk ≢ coord
+      → part_at (size_of info.layout.dtype) new (place_within lo hi idx) ≡ part_at (size_of info.layout.dtype) old (place_within lo hi idx)
+
+-- The store fails only where a call of it failed, the count risen in it. A chunk is bad only where its key, one of these,
+-- holds `got` bytes, which aren't the bytes of a chunk. Want of memory comes only of a store that lacks.
+abbrev pub IsReadFault : ℕ → ℕ → Bool → Option Contents → (List ℕ → Type 0) → ℕ → TaskFault → Type 0
+IsReadFault before after lacks held K size Store = Rose 1 before after
+IsReadFault before after lacks held K size (BadChunk key got want) = K key × (want ≡ size) × (got ≢ want) × HoldsLength held key got
+IsReadFault before after lacks held K size NoMemory = IsTrue lacks
