@@ -1,5 +1,5 @@
 //! Standard input and output as a source and a sink. Which bytes pass is told by no clause.
-ghost use Rattle.std.specs.Prelude.{ℕ, List, Option, None, length, ◌<◌, ◌≤◌, IfOk, OnErr};
+ghost use Rattle.std.specs.Prelude.{◌≡◌, ℕ, List, Option, None, length, ◌<◌, ◌≤◌, IfOk, OnErr};
 ghost use Rattle.cu_store.specs.Faults.{Rose};
 ghost use Rattle.cu_store.specs.Streams.{Takes, Appends};
 
@@ -15,7 +15,9 @@ pub struct StdSource<H: Input> {
 
 impl<H: Input> StdSource<H> {
     /// The standard input of this runtime, with no fault counted.
-    pub fn make(rt: &H) -> StdSource<H> {
+    pub fn make(rt: &H) -> StdSource<H>
+        ensures { result.faults ≡ 0 }
+    {
         StdSource {
             reader: rt.reader(),
             faults: 0,
@@ -48,7 +50,9 @@ pub struct StdSink<H: Print + Drop> {
 
 impl<H: Print + Drop> StdSink<H> {
     /// The standard output of this runtime, with no fault counted.
-    pub fn make(rt: H) -> StdSink<H> {
+    pub fn make(rt: H) -> StdSink<H>
+        ensures { result.faults ≡ 0 }
+    {
         StdSink { rt, faults: 0 }
     }
 }
