@@ -17,6 +17,12 @@ Caused n before after lacks (Ok x) = Unit {0}
 Caused n before after lacks (Err Failed) = Rose n before after
 Caused n before after lacks (Err NoMemory) = IsTrue lacks
 
+-- Failed comes only where all n calls were made.
+abbrev pub TriedAll : {T : Type 0} → ℕ → ℕ → ℕ → Result T DepotFault → Type 0
+TriedAll n before after (Ok x) = Unit {0}
+TriedAll n before after (Err Failed) = Rose n before after
+TriedAll n before after (Err NoMemory) = Unit {0}
+
 -- one call more
 abbrev pub MadeOne : ℕ → ℕ → Type 0
 MadeOne before after = after ≡ min (before + 1) last_count

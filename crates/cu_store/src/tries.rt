@@ -1,6 +1,6 @@
 //! Calls of a depot that are tried again where the store failed.
 ghost use Rattle.std.specs.Prelude.{◌≡◌, ◌+◌, ◌≤◌, List, Option, OnOk, OnErr};
-ghost use Rattle.cu_store.specs.Faults.{Caused, MadeUpTo};
+ghost use Rattle.cu_store.specs.Faults.{Caused, MadeUpTo, TriedAll};
 ghost use Rattle.cu_store.specs.Held.{Contents, Write, IsAmong, OwnOrLate, Lands, Follows, Removes, StayAmong, Gets, Answers, Holds, IsGone};
 
 use crate::{Depot, DepotFault, Got, Key};
@@ -21,6 +21,7 @@ pub fn get_tries<D: Depot>(
     ensures cause { Caused (retries + 1) (D.faults depot.old) (D.faults depot.new) (D.lacks depot.new) result }
     ensures count { D.faults depot.old ≤ D.faults depot.new }
     ensures calls { MadeUpTo (retries + 1) (D.calls depot.old) (D.calls depot.new) }
+    ensures tried { TriedAll (retries + 1) (D.calls depot.old) (D.calls depot.new) result }
     ensures lacks { D.lacks depot.new ≡ D.lacks depot.old }
 {
     for _ in 0..retries {
@@ -43,6 +44,7 @@ pub fn has_tries<D: Depot>(depot: &mut D, key: &Key, retries: u32) -> Result<boo
     ensures cause { Caused (retries + 1) (D.faults depot.old) (D.faults depot.new) (D.lacks depot.new) result }
     ensures count { D.faults depot.old ≤ D.faults depot.new }
     ensures calls { MadeUpTo (retries + 1) (D.calls depot.old) (D.calls depot.new) }
+    ensures tried { TriedAll (retries + 1) (D.calls depot.old) (D.calls depot.new) result }
     ensures lacks { D.lacks depot.new ≡ D.lacks depot.old }
 {
     for _ in 0..retries {
@@ -70,6 +72,7 @@ pub fn put_tries<D: Depot>(
     ensures cause { Caused (retries + 1) (D.faults depot.old) (D.faults depot.new) (D.lacks depot.new) result }
     ensures count { D.faults depot.old ≤ D.faults depot.new }
     ensures calls { MadeUpTo (retries + 1) (D.calls depot.old) (D.calls depot.new) }
+    ensures tried { TriedAll (retries + 1) (D.calls depot.old) (D.calls depot.new) result }
     ensures lacks { D.lacks depot.new ≡ D.lacks depot.old }
 {
     for _ in 0..retries {
@@ -91,6 +94,7 @@ pub fn remove_tries<D: Depot>(depot: &mut D, key: &Key, retries: u32) -> Result<
     ensures cause { Caused (retries + 1) (D.faults depot.old) (D.faults depot.new) (D.lacks depot.new) result }
     ensures count { D.faults depot.old ≤ D.faults depot.new }
     ensures calls { MadeUpTo (retries + 1) (D.calls depot.old) (D.calls depot.new) }
+    ensures tried { TriedAll (retries + 1) (D.calls depot.old) (D.calls depot.new) result }
     ensures lacks { D.lacks depot.new ≡ D.lacks depot.old }
 {
     for _ in 0..retries {

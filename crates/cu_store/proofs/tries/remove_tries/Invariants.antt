@@ -11,5 +11,6 @@ invariant-loop g l = record {
   rose : Rose l.counter (g.D.Depot.faults l.initial.depot) (g.D.Depot.faults l.depot);
   count : g.D.Depot.faults l.initial.depot ≤ g.D.Depot.faults l.depot;
   calls : (g.D.Depot.calls l.depot ≤ g.D.Depot.calls l.initial.depot + l.counter) × (g.D.Depot.calls l.initial.depot ≤ g.D.Depot.calls l.depot ⊎ last_count ≤ g.D.Depot.calls l.depot);
+  tried : Rose l.counter (g.D.Depot.calls l.initial.depot) (g.D.Depot.calls l.depot);
   lacks : g.D.Depot.lacks l.depot ≡ g.D.Depot.lacks l.initial.depot;
 }
