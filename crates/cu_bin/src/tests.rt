@@ -209,7 +209,8 @@ fn a_chunk_cut_short_is_named(rt: HostRuntime) -> Result<(), Fail> {
     Ok(())
 }
 
-/// The kinds of the twelve calls of a whole run, each with its number among the calls of its kind, and their keys.
+/// The kinds of the twelve calls of a whole run, each with its number among the calls of its kind, and what the run answers
+/// where this call and all later ones fail: a key outside of the tasks, and a task for each of its calls.
 const CALLS: [(CallKind, u32, &str); 12] = [
     (CallKind::Get, 0, "error 16 key=a/zarr.json"),
     (CallKind::Get, 1, "error 16 key=b/zarr.json"),
@@ -217,12 +218,12 @@ const CALLS: [(CallKind, u32, &str); 12] = [
     (CallKind::Has, 1, "error 16 key=y/c/0"),
     (CallKind::Has, 2, "error 16 key=y/c/1"),
     (CallKind::Put, 0, "error 16 key=y/zarr.json"),
-    (CallKind::Get, 2, "error 16 key=a/c/0"),
-    (CallKind::Get, 3, "error 16 key=b/c/0"),
-    (CallKind::Put, 1, "error 16 key=y/c/0"),
-    (CallKind::Get, 4, "error 16 key=a/c/1"),
-    (CallKind::Get, 5, "error 16 key=b/c/1"),
-    (CallKind::Put, 2, "error 16 key=y/c/1"),
+    (CallKind::Get, 2, "error 10 op=0 task=0"),
+    (CallKind::Get, 3, "error 10 op=0 task=0"),
+    (CallKind::Put, 1, "error 10 op=0 task=0"),
+    (CallKind::Get, 4, "error 10 op=0 task=1"),
+    (CallKind::Get, 5, "error 10 op=0 task=1"),
+    (CallKind::Put, 2, "error 10 op=0 task=1"),
 ];
 
 /// Runs the addition over a depot with this script: whether it answers this line, and leaves each key absent or right;
@@ -266,6 +267,174 @@ fn each_call_may_be_the_last(rt: HostRuntime) -> Result<(), Fail> {
     let mut script = Script::none();
     script.stop_after = Some(12);
     assert!(rt; ends_in(rt.alloc(), script, "")?);
+    Ok(())
+}
+
+#[test]
+fn failed_tries_of_a_task_are_counted(rt: HostRuntime) -> Result<(), Fail> {
+    let alloc = rt.alloc();
+    let table = [
+        (2u32, "", "ok ops=1 tasks=2 starts=4 failed=2 peak=1600\n"),
+        (3, "error 10 op=0 task=0", ""),
+    ];
+    for (times, line, printed) in table {
+        let script = Script::one(Rule {
+            call: CallKind::Put,
+            key: Some(named("y/c/0")?),
+            skip: 0,
+            times,
+            land: None,
+        });
+        let mut depot = inputs(alloc, script)?;
+        let mut out = MemSink::make(alloc, 1000, None)?;
+        let status = add(alloc, "1600", &mut out, &mut depot)?;
+        assert_eq!(rt; status_line(&status).as_str(), line);
+        assert_eq!(rt; out.text(), printed.as_bytes());
+        assert_eq!(rt; depot.lookup(&named("y/c/0")?).is_none(), times == 3);
+        assert!(rt; is_left(&depot)?);
+    }
+    Ok(())
+}
+
+/// The metadata of a 3 by 5 array of int16 in chunks of 2 by 4.
+const GRID: &str =
+    r#"{"chunk_grid":{"configuration":{"chunk_shape":[2,4]},"name":"regular"},"chunk_key_encoding":{"configuration":{"separator":"/"},"name":"default"},"codecs":[{"configuration":{"endian":"little"},"name":"bytes"}],"data_type":"int16","fill_value":0,"node_type":"array","shape":[3,5],"zarr_format":3}"#;
+
+/// The chunks of the numbers 1 to 15, row by row, with zeros past the edge.
+const COUNTED: [(&str, [u8; 16]); 4] = [
+    ("a/c/0/0", [1, 0, 2, 0, 3, 0, 4, 0, 6, 0, 7, 0, 8, 0, 9, 0]),
+    ("a/c/0/1", [5, 0, 0, 0, 0, 0, 0, 0, 10, 0, 0, 0, 0, 0, 0, 0]),
+    (
+        "a/c/1/0",
+        [11, 0, 12, 0, 13, 0, 14, 0, 0, 0, 0, 0, 0, 0, 0, 0],
+    ),
+    ("a/c/1/1", [15, 0, 0, 0, 0, 0, 0, 0, 0, 0, 0, 0, 0, 0, 0, 0]),
+];
+
+/// The same numbers with 100 added to each.
+const RAISED: [(&str, [u8; 16]); 4] = [
+    (
+        "y/c/0/0",
+        [
+            0x65, 0, 0x66, 0, 0x67, 0, 0x68, 0, 0x6a, 0, 0x6b, 0, 0x6c, 0, 0x6d, 0,
+        ],
+    ),
+    (
+        "y/c/0/1",
+        [0x69, 0, 0, 0, 0, 0, 0, 0, 0x6e, 0, 0, 0, 0, 0, 0, 0],
+    ),
+    (
+        "y/c/1/0",
+        [0x6f, 0, 0x70, 0, 0x71, 0, 0x72, 0, 0, 0, 0, 0, 0, 0, 0, 0],
+    ),
+    (
+        "y/c/1/1",
+        [0x73, 0, 0, 0, 0, 0, 0, 0, 0, 0, 0, 0, 0, 0, 0, 0],
+    ),
+];
+
+#[test]
+fn a_grid_of_two_axes_is_added(rt: HostRuntime) -> Result<(), Fail> {
+    let alloc = rt.alloc();
+    let mut depot = MemDepot::make(alloc, Script::none());
+    depot.insert(&named("a/zarr.json")?, GRID.as_bytes())?;
+    depot.insert(&named("b/zarr.json")?, GRID.as_bytes())?;
+    for (key, bytes) in COUNTED {
+        depot.insert(&named(key)?, &bytes)?;
+    }
+    for key in ["b/c/0/0", "b/c/0/1", "b/c/1/0", "b/c/1/1"] {
+        depot.insert(&named(key)?, &[100, 0].repeat(alloc, 8)?)?;
+    }
+    let mut out = MemSink::make(alloc, 1000, None)?;
+    let status = add(alloc, "1600", &mut out, &mut depot)?;
+    assert_eq!(rt; status_line(&status).as_str(), "");
+    assert_eq!(rt;
+        out.text(),
+        b"ok ops=1 tasks=4 starts=4 failed=0 peak=1600\n".as_slice()
+    );
+    assert_eq!(rt; depot.lookup(&named("y/zarr.json")?), Some(GRID.as_bytes()));
+    for (key, bytes) in RAISED {
+        assert_eq!(rt; depot.lookup(&named(key)?), Some(bytes.as_slice()));
+    }
+    Ok(())
+}
+
+/// The metadata of one number: its type, and its fill value.
+fn number_metadata(
+    alloc: Global,
+    dtype: &str,
+    fill: &str,
+    codec: &str,
+) -> Result<String, AllocError> {
+    format!(in alloc;
+        r#"{{"chunk_grid":{{"configuration":{{"chunk_shape":[]}},"name":"regular"}},"chunk_key_encoding":{{"configuration":{{"separator":"/"}},"name":"default"}},"codecs":[{codec}],"data_type":"{dtype}","fill_value":{fill},"node_type":"array","shape":[],"zarr_format":3}}"#
+    )
+}
+
+#[test]
+fn single_numbers_are_added_and_others_are_not_built(rt: HostRuntime) -> Result<(), Fail> {
+    let alloc = rt.alloc();
+    let plain = r#"{"name":"bytes"}"#;
+    let little = r#"{"configuration":{"endian":"little"},"name":"bytes"}"#;
+    let big = r#"{"configuration":{"endian":"big"},"name":"bytes"}"#;
+    // The absent chunk of `a` reads as its fill value, 200; with 100 it wraps to 44.
+    let table = [
+        (
+            "uint8",
+            "200",
+            plain,
+            "uint8",
+            plain,
+            "",
+            Some([44u8].as_slice()),
+        ),
+        (
+            "int8",
+            "-56",
+            plain,
+            "int8",
+            plain,
+            "",
+            Some([44u8].as_slice()),
+        ),
+        (
+            "uint8",
+            "200",
+            plain,
+            "int8",
+            plain,
+            "error 19 node=0",
+            None,
+        ),
+        (
+            "bool",
+            "true",
+            plain,
+            "bool",
+            plain,
+            "error 19 node=0",
+            None,
+        ),
+        ("int16", "1", big, "int16", big, "error 19 node=0", None),
+        ("int16", "1", little, "int16", big, "error 19 node=0", None),
+    ];
+    for (left, fill, left_codec, right, right_codec, line, value) in table {
+        let mut depot = MemDepot::make(alloc, Script::none());
+        let a = number_metadata(alloc, left, fill, left_codec)?;
+        let b = number_metadata(
+            alloc,
+            right,
+            if right == "bool" { "false" } else { "0" },
+            right_codec,
+        )?;
+        depot.insert(&named("a/zarr.json")?, a.as_bytes())?;
+        depot.insert(&named("b/zarr.json")?, b.as_bytes())?;
+        depot.insert(&named("b/c")?, &[100])?;
+        let mut out = MemSink::make(alloc, 1000, None)?;
+        let status = add(alloc, "2000", &mut out, &mut depot)?;
+        assert_eq!(rt; status_line(&status).as_str(), line);
+        assert_eq!(rt; depot.lookup(&named("y/c")?), value);
+    }
     Ok(())
 }
 

@@ -3,4 +3,5 @@ pub mod KeyLaws
 pub mod Numbers
 pub mod PartRuns
 pub mod Shared
+pub mod Swapped
 pub mod Taken

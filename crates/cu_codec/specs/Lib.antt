@@ -1,3 +1,4 @@
 pub mod Box
 pub mod Names
+pub mod Order
 pub mod Parts

@@ -1,4 +1,4 @@
-use crate::{chunk_key, keys_differ, lay_part, metadata_key, take_part};
+use crate::{chunk_key, keys_differ, lay_part, metadata_key, swap, swap_law, take_part};
 use cu_grid::{Grid, Region};
 use cu_num::{Dtype, Encoding, Sep};
 use cu_shape::Dims;
@@ -87,5 +87,34 @@ fn chunk_past_the_edge(rt: HostRuntime) -> Result<(), Fail> {
         &mut chunk,
     );
     assert_eq!(rt; chunk, [14, 1, 254, 255, 254, 255, 254, 255]);
+    Ok(())
+}
+
+// The expected bytes are those of the codec "bytes": the same numbers with their highest byte first.
+#[test]
+fn elements_in_the_other_byte_order(rt: HostRuntime) -> Result<(), Fail> {
+    let bytes = [1, 2, 3, 4, 5, 6, 7, 8, 9, 10, 11, 12, 13, 14, 15, 255];
+    let mut of_1 = bytes;
+    swap(1, &mut of_1);
+    assert_eq!(rt; of_1, bytes);
+    let mut of_2 = bytes;
+    swap(2, &mut of_2);
+    assert_eq!(rt;
+        of_2,
+        [2, 1, 4, 3, 6, 5, 8, 7, 10, 9, 12, 11, 14, 13, 255, 15]
+    );
+    let mut of_4 = bytes;
+    swap(4, &mut of_4);
+    assert_eq!(rt;
+        of_4,
+        [4, 3, 2, 1, 8, 7, 6, 5, 12, 11, 10, 9, 255, 15, 14, 13]
+    );
+    let mut of_8 = bytes;
+    swap(8, &mut of_8);
+    assert_eq!(rt;
+        of_8,
+        [8, 7, 6, 5, 4, 3, 2, 1, 255, 15, 14, 13, 12, 11, 10, 9]
+    );
+    swap_law();
     Ok(())
 }

@@ -3,6 +3,8 @@ use Rattle.std.proofs.Common.{Option, option_and_then, ◌≡◌, suc, ◌^◌, 
 use Rattle.json.specs.Token.{Token}
 use Rattle.json.specs.Lex.{tokens}
 use Rattle.json.specs.Print.{ArePrintable}
+pub use Rattle.json.specs.Print.{escape}
+unfoldable pub use Rattle.json.specs.Print.{escape_byte}
 use Rattle.json.specs.Json as json
 use Rattle.json.specs.Tree as tree
 use Rattle.json.specs.Tree.{json_tokens, items_tokens, members_tokens}

@@ -1,4 +1,12 @@
 pub mod Counted
 pub mod Answered
 pub mod Assembled
+pub mod LayoutData
+pub mod Sizes
+pub mod Fills
+pub mod Plain
+pub mod Bytes
+pub mod ReadBack
+pub mod Accepted
+pub mod MetaLaw
 mod Example

@@ -4,3 +4,4 @@ pub mod Part
 pub mod Members
 pub mod Metadata
 pub mod Written
+pub mod Storable

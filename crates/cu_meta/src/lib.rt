@@ -2,6 +2,7 @@
 #![tactic(auto)]
 
 mod fault;
+mod laws;
 mod members;
 mod part;
 mod read;
@@ -10,5 +11,6 @@ mod tests;
 mod write;
 
 pub use fault::{MetaFault, MetaRefused};
+pub use laws::meta_law;
 pub use read::read_meta;
 pub use write::write_meta;

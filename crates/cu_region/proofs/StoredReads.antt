@@ -1,9 +1,11 @@
 -- What the bytes of a chunk say of the elements that are stored.
-use Rattle.std.proofs.Common.{◌≡◌, ◌⊎◌, ℕ, suc, ◌*◌, ◌<◌, ◌≤◌, List, ◌∷◌, length, Contains, Option, Some, None, true, nat_eq, refl, sym, ap, ◌∙◌, subst, inl, inr, arith, eq-eqb}
+use Rattle.std.proofs.Common.{◌≡◌, ◌⊎◌, ℕ, suc, ◌+◌, ◌*◌, ◌<◌, ◌≤◌, List, ◌∷◌, length, Contains, Option, Some, None, true, nat_eq, refl, sym, ap, ◌∙◌, subst, inl, inr, arith, eq-eqb}
 use Rattle.std.proofs.lemmas.Nat.{mul-le}
 use Rattle.cu_num.specs.Dtype.{size_of, InRange}
 use Rattle.cu_num.specs.Element.{element_at}
-use Rattle.cu_num.specs.declared.layout.Endian.TheVariants.{Little}
+use Rattle.cu_num.specs.declared.types.Dtype.{Dtype}
+use Rattle.cu_num.specs.declared.layout.Endian.{Endian}
+use Rattle.cu_num.specs.declared.layout.Endian.TheVariants.{Little, Big}
 use Rattle.cu_num.proofs.ElementBytes.{element_at_same, element_at_own, element_at-element_bytes_in_range}
 use Rattle.cu_shape.specs.Index.{product, place_of, quotients, remainders}
 use Rattle.cu_shape.proofs.Places.{place-below}
@@ -12,34 +14,49 @@ use Rattle.cu_grid.specs.Cover.{Meets}
 use Rattle.cu_grid.specs.Grid.{IsGrid}
 use Rattle.cu_grid.proofs.Parting.{has_coordinate, lies_within, inner_inside}
 use Rattle.cu_store.specs.Held.{Contents}
-use Rattle.cu_zarr.specs.Layout.{ArrayLayout, chunk_bytes}
+use Rattle.cu_zarr.specs.Layout.{chunk_bytes}
 use Rattle.cu_zarr.specs.Stored.{element_in}
 use Rattle.cu_op.specs.Layout.{layout_view}
 use Rattle.cu_op.specs.declared.layout.ArrayInfo.{ArrayInfo}
+use Rattle.cu_op.specs.declared.layout.Layout.{Layout}
 use Rattle.cu_codec.specs.Parts.{part_at, place_within, IsTaken}
+use Rattle.cu_codec.proofs.Swapped.{little_reads_big}
 use Rattle.cu_codec.proofs.Taken.{region_in_array}
 use Rattle.cu_store.specs.declared.faults.TaskFault.{TaskFault}
 use Rattle.cu_store.specs.declared.faults.TaskFault.TheVariants.{Store, BadChunk, NoMemory}
 use Rattle.std.specs.Prelude.{Bool as Test}
-use Rattle.cu_region.specs.Reading.{key_at, IsChunkKey, bytes_of, IsChunkOf, ReadsChunk, IsStoredAt, ReadsPart, IsReadFault}
+use Rattle.cu_region.specs.Reading.{key_at, IsChunkKey, bytes_of, IsChunkOf, ReadsChunk, IsStoredAt, HasPart, ReadsPart, IsReadFault}
+use Rattle.cu_region.specs.Order.{IsReordered}
 use Rattle.cu_region.specs.Steady.{HoldSame}
 use Rattle.cu_region.proofs.SteadyKeys.{same_or_not, first_or_rest}
 
+-- the number that a reordered element is
+element_reordered : (e : Endian) (t : Dtype) (bytes buf out : List ℕ) (p q : ℕ) → IsReordered e (size_of t) bytes buf → p * size_of t + size_of t ≤ length buf
+    → part_at (size_of t) out q ≡ part_at (size_of t) buf p → element_at e t bytes p ≡ element_at Little t out q
+element_reordered Little t bytes buf out p q order fits same =
+    ap (λ b. element_at Little t b p) (sym order) ∙ sym (element_at_same Little t out buf q p same)
+element_reordered Big t bytes buf out p q order fits same =
+    let n = order.same_length in
+    sym (little_reads_big t bytes out p q (same ∙ order.reversed p (omega arith)))
+
+reordered_length : (e : Endian) (size : ℕ) (old new : List ℕ) → IsReordered e size old new → length new ≡ length old
+reordered_length Little size old new order = ap length order
+reordered_length Big size old new order = order.same_length
+
 -- an element of a chunk that was read
-element_read : (l : ArrayLayout) (v : Option (List ℕ)) (idx buf out : List ℕ) (q : ℕ)
-    → IsChunkOf l.dtype l.fill v buf → length buf ≡ chunk_bytes l → l.endian ≡ Little → InRange l.dtype l.fill
-    → place_of l.chunk (remainders idx l.chunk) < product l.chunk
-    → part_at (size_of l.dtype) out q ≡ part_at (size_of l.dtype) buf (place_of l.chunk (remainders idx l.chunk))
-    → element_in l v idx ≡ Some (element_at Little l.dtype out q)
-element_read l None idx buf out q chunk long little fits below same =
-    let p = place_of l.chunk (remainders idx l.chunk) in
-    let far : suc (place_of l.chunk (remainders idx l.chunk)) * size_of l.dtype ≤ product l.chunk * size_of l.dtype = mul-le _ (size_of l.dtype) (product l.chunk) (size_of l.dtype) below (omega arith) in
-    let bytes = chunk (place_of l.chunk (remainders idx l.chunk)) (omega arith) in
+element_read : (l : Layout) (v : Option (List ℕ)) (idx buf out : List ℕ) (q : ℕ)
+    → IsChunkOf l v buf → length buf ≡ bytes_of l → InRange l.dtype l.fill
+    → place_of l.grid.chunk (remainders idx l.grid.chunk) < product l.grid.chunk
+    → part_at (size_of l.dtype) out q ≡ part_at (size_of l.dtype) buf (place_of l.grid.chunk (remainders idx l.grid.chunk))
+    → element_in (layout_view l) v idx ≡ Some (element_at Little l.dtype out q)
+element_read l None idx buf out q chunk long fits below same =
+    let far : suc (place_of l.grid.chunk (remainders idx l.grid.chunk)) * size_of l.dtype ≤ product l.grid.chunk * size_of l.dtype = mul-le _ (size_of l.dtype) (product l.grid.chunk) (size_of l.dtype) below (omega arith) in
+    let bytes = chunk (place_of l.grid.chunk (remainders idx l.grid.chunk)) (omega arith) in
     ap Some (sym (element_at_own Little l.dtype out q ∙ ap (λ own. element_at Little l.dtype own 0) (same ∙ bytes) ∙ element_at-element_bytes_in_range Little l.dtype l.fill fits))
-element_read l (Some bytes) idx buf out q chunk long little fits below same =
-    let test : nat_eq (length bytes) (chunk_bytes l) ≡ true = eq-eqb _ _ (ap length (sym chunk) ∙ long) in
-    rw (test, little) (ap Some (ap (λ b. element_at Little l.dtype b (place_of l.chunk (remainders idx l.chunk))) (sym chunk)
-    ∙ sym (element_at_same Little l.dtype out buf q (place_of l.chunk (remainders idx l.chunk)) same)))
+element_read l (Some bytes) idx buf out q chunk long fits below same =
+    let far : suc (place_of l.grid.chunk (remainders idx l.grid.chunk)) * size_of l.dtype ≤ product l.grid.chunk * size_of l.dtype = mul-le _ (size_of l.dtype) (product l.grid.chunk) (size_of l.dtype) below (omega arith) in
+    let test : nat_eq (length bytes) (chunk_bytes (layout_view l)) ≡ true = eq-eqb _ _ (sym (reordered_length l.endian (size_of l.dtype) bytes buf chunk) ∙ long) in
+    rw test (ap Some (element_reordered l.endian l.dtype bytes buf out (place_of l.grid.chunk (remainders idx l.grid.chunk)) q chunk (omega arith) same))
 
 -- the chunk of an index of the region is one that the region meets
 pub meets_own : (info : ArrayInfo) (lo hi idx : List ℕ) → IsGrid info.layout.grid → IsRegion info.layout.grid.shape lo hi → IsWithin lo hi idx
@@ -49,22 +66,20 @@ meets_own info lo hi idx ok region w =
     (has_coordinate info.layout.grid idx ok inside, (idx, w, lies_within info.layout.grid idx ok inside))
 
 pub reads_part : (info : ArrayInfo) (coord lo hi buf old new : List ℕ) (held : Option Contents) → IsGrid info.layout.grid → IsRegion info.layout.grid.shape lo hi
-    → ReadsChunk info.layout.dtype info.layout.fill held (key_at info coord) buf → length buf ≡ bytes_of info.layout
-    → info.layout.endian ≡ Little → InRange info.layout.dtype info.layout.fill
+    → ReadsChunk info.layout held (key_at info coord) buf → length buf ≡ bytes_of info.layout → InRange info.layout.dtype info.layout.fill
     → IsTaken (size_of info.layout.dtype) info.layout.grid.chunk coord lo hi buf old new
     → ReadsPart info coord lo hi held old new
-reads_part info coord lo hi buf old new held ok region chunk long little fits took = record {
+reads_part info coord lo hi buf old new held ok region chunk long fits took = record {
   stored = stored held chunk;
   others = took.others;
 }
   where
-    stored : (held : Option Contents) → ReadsChunk info.layout.dtype info.layout.fill held (key_at info coord) buf
-        → (idx : List ℕ) → IsWithin lo hi idx → quotients idx info.layout.grid.chunk ≡ coord → IsStoredAt info lo hi held new idx
+    stored : (held : Option Contents) → ReadsChunk info.layout held (key_at info coord) buf → HasPart info coord lo hi held new
     stored None read idx w e = tt
     stored (Some h) read idx w e =
         let inside = region_in_array info.layout.grid.shape lo hi idx region w in
-        let own = subst (λ (x : List ℕ). IsChunkOf info.layout.dtype info.layout.fill (h (key_at info x)) buf) (sym e) read in
-        element_read (layout_view info.layout) (h (key_at info (quotients idx info.layout.grid.chunk))) idx buf new (place_within lo hi idx) own long little fits
+        let own = subst (λ (x : List ℕ). IsChunkOf info.layout (h (key_at info x)) buf) (sym e) read in
+        element_read info.layout (h (key_at info (quotients idx info.layout.grid.chunk))) idx buf new (place_within lo hi idx) own long fits
         (place-below info.layout.grid.chunk (remainders idx info.layout.grid.chunk) (inner_inside info.layout.grid idx ok inside))
         (took.taken idx w e)
 

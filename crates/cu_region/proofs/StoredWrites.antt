@@ -1,13 +1,13 @@
 -- The bytes of a chunk that is laid out of a region are the chunk's spelling, and what is stored of a region stays.
-use Rattle.std.proofs.Common.{◌≡◌, ◌⊎◌, ℕ, ℤ, suc, ◌*◌, ◌^◌, ◌<◌, ◌≤◌, List, ◌∷◌, ◌++◌, length, take, All, Contains, Option, Some, None, Bool, true, false, option_map, refl, sym, ap, ◌∙◌, subst, inl, inr, arith}
-use Rattle.std.specs.Prelude.{if◌then◌else◌}
+use Rattle.std.proofs.Common.{◌≡◌, ◌⊎◌, ℕ, ℤ, suc, ◌+◌, ◌*◌, ◌^◌, ◌<◌, ◌≤◌, List, ◌∷◌, ◌++◌, length, take, All, Contains, Option, Some, None, Bool, true, false, option_map, refl, sym, ap, ◌∙◌, subst, inl, inr, arith}
+use Rattle.std.specs.Prelude.{if◌then◌else◌, reverse}
 use Rattle.std.proofs.lemmas.Nat.{mul-le}
 use Rattle.cu_num.specs.Dtype.{size_of}
 use Rattle.cu_num.specs.Element.{element_at, element_bytes}
 use Rattle.cu_num.specs.Wrap.{residue, wrapped}
 use Rattle.cu_num.specs.declared.types.Dtype.{Dtype}
 use Rattle.cu_num.specs.declared.layout.Endian.{Endian}
-use Rattle.cu_num.specs.declared.layout.Endian.TheVariants.{Little}
+use Rattle.cu_num.specs.declared.layout.Endian.TheVariants.{Little, Big}
 use Rattle.cu_num.specs.Element.{low_bytes, in_order}
 use Rattle.cu_num.proofs.ElementBytes.{element_at_own, element_at-element_bytes}
 use Rattle.cu_num.proofs.Wrapped.{wrapped-wrapped}
@@ -25,10 +25,12 @@ use Rattle.cu_op.specs.Layout.{layout_view}
 use Rattle.cu_op.specs.declared.layout.ArrayInfo.{ArrayInfo}
 use Rattle.cu_codec.specs.Parts.{part_at, place_within, differences, index_at_place, IsLaid}
 use Rattle.cu_codec.proofs.Shared.{within_sizes}
+use Rattle.cu_codec.proofs.Swapped.{big_from_little}
 use Rattle.cu_codec.proofs.Taken.{corner_parts}
+use Rattle.cu_region.specs.Order.{IsReordered}
 use Rattle.cu_region.specs.Reading.{key_at, bytes_of}
 use Rattle.std.specs.Prelude.{Bool as Test}
-use Rattle.std.proofs.lemmas.List.{take-append-le}
+use Rattle.std.proofs.lemmas.List.{take-append-le, take_all}
 use Rattle.cu_codec.proofs.KeyLaws.{same_chunk}
 use Rattle.cu_store.specs.Held.{Contents, Write, IsAmong, OwnOrLate, IsKeptAt, Lands, StayAmong, Follows, Holds}
 use Rattle.cu_store.proofs.Writes.{lands_then}
@@ -48,32 +50,46 @@ element_again t bytes q x e =
     ap (element_bytes Little t) (element_at_own Little t bytes q ∙ ap (λ own. element_at Little t own 0) e ∙ element_at-element_bytes Little t x)
     ∙ wrapped_bytes Little t x ∙ sym e
 
-part_laid : (g : RegularGrid) (l : ArrayLayout) (coord lo hi input bytes : List ℕ) (p : ℕ) (b : Bool) → g.shape ≡ l.shape → g.chunk ≡ l.chunk
-    → is_inside g.shape (index_at_place g.chunk coord p) ≡ b → l.endian ≡ Little
+-- an element's bytes in the layout's order
+in_stored_order : (e : Endian) (t : Dtype) (x : ℤ) (old new : List ℕ) (p : ℕ) → IsReordered e (size_of t) old new → p * size_of t + size_of t ≤ length old
+    → part_at (size_of t) old p ≡ element_bytes Little t x → part_at (size_of t) new p ≡ element_bytes e t x
+in_stored_order Little t x old new p order fits is = ap (λ b. part_at (size_of t) b p) order ∙ is
+in_stored_order Big t x old new p order fits is = order.reversed p fits ∙ ap reverse is ∙ sym (big_from_little t x)
+
+part_laid : (g : RegularGrid) (l : ArrayLayout) (coord lo hi input old new : List ℕ) (p : ℕ) (b : Bool) → g.shape ≡ l.shape → g.chunk ≡ l.chunk
+    → is_inside g.shape (index_at_place g.chunk coord p) ≡ b
+    → ((x : ℤ) → part_at (size_of l.dtype) old p ≡ element_bytes Little l.dtype x → part_at (size_of l.dtype) new p ≡ element_bytes l.endian l.dtype x)
     → (b ≡ true → element_bytes Little l.dtype (element_at Little l.dtype input (place_within lo hi (index_at_place g.chunk coord p)))
     ≡ part_at (size_of l.dtype) input (place_within lo hi (index_at_place g.chunk coord p)))
-    → part_at (size_of l.dtype) bytes p ≡ (if is_inside g.shape (index_at_place g.chunk coord p)
+    → part_at (size_of l.dtype) old p ≡ (if is_inside g.shape (index_at_place g.chunk coord p)
     then part_at (size_of l.dtype) input (place_within lo hi (index_at_place g.chunk coord p)) else element_bytes Little l.dtype l.fill)
     → option_map (element_bytes l.endian l.dtype) (if is_inside g.shape (index_at_place g.chunk coord p) then buffer_element l.dtype lo hi input (index_at_place g.chunk coord p) else Some l.fill)
-    ≡ Some (part_at (size_of l.dtype) bytes p)
-part_laid g l coord lo hi input bytes p true es ec test little again laid =
+    ≡ Some (part_at (size_of l.dtype) new p)
+part_laid g l coord lo hi input old new p true es ec test order again laid =
     let laid_in = rw test at laid in
-    rw (test, little) (ap Some (again refl ∙ sym laid_in))
-part_laid g l coord lo hi input bytes p false es ec test little again laid =
+    rw test (ap Some (sym (order (element_at Little l.dtype input (place_within lo hi (index_at_place g.chunk coord p))) (laid_in ∙ sym (again refl)))))
+part_laid g l coord lo hi input old new p false es ec test order again laid =
     let laid_out = rw test at laid in
-    rw (test, little) (ap Some (sym laid_out))
+    rw test (ap Some (sym (order l.fill laid_out)))
 
-pub laid_spelled : (info : ArrayInfo) (coord lo hi input bytes : List ℕ) → IsGrid info.layout.grid → IsCoordinate info.layout.grid coord
+pub laid_spelled : (info : ArrayInfo) (coord lo hi input old new : List ℕ) → IsGrid info.layout.grid → IsCoordinate info.layout.grid coord
     → ((idx : List ℕ) → IsInChunk info.layout.grid coord idx → IsWithin lo hi idx)
-    → info.layout.endian ≡ Little → length input ≡ product (differences hi lo) * size_of info.layout.dtype → AreElements info.layout.dtype input
-    → IsLaid info.layout.grid info.layout.dtype info.layout.fill coord lo hi input bytes
-    → chunk_value info lo hi input coord ≡ Some (take (bytes_of info.layout) bytes)
-laid_spelled info coord lo hi input bytes ok here whole little long elements laid =
+    → length input ≡ product (differences hi lo) * size_of info.layout.dtype → AreElements info.layout.dtype input
+    → IsLaid info.layout.grid info.layout.dtype info.layout.fill coord lo hi input old → IsReordered info.layout.endian (size_of info.layout.dtype) old new
+    → length old ≡ bytes_of info.layout → length new ≡ bytes_of info.layout
+    → chunk_value info lo hi input coord ≡ Some new
+laid_spelled info coord lo hi input old new ok here whole long elements laid order size_old size_new =
     joined_by_place (size_of info.layout.dtype) (product info.layout.grid.chunk)
-    (λ p. option_map (element_bytes info.layout.endian info.layout.dtype) (padded (layout_view info.layout) (buffer_element info.layout.dtype lo hi input) coord p)) bytes
-    (λ p below. part_laid info.layout.grid (layout_view info.layout) coord lo hi input bytes p (is_inside info.layout.grid.shape (index_at_place info.layout.grid.chunk coord p)) refl refl refl little
-    (again p below) (laid p below))
+    (λ p. option_map (element_bytes info.layout.endian info.layout.dtype) (padded (layout_view info.layout) (buffer_element info.layout.dtype lo hi input) coord p)) new
+    (λ p below. part_laid info.layout.grid (layout_view info.layout) coord lo hi input old new p (is_inside info.layout.grid.shape (index_at_place info.layout.grid.chunk coord p)) refl refl refl
+    (λ x. in_stored_order info.layout.endian info.layout.dtype x old new p order (fits p below)) (again p below) (laid p below))
+    ∙ ap Some (take_all (bytes_of info.layout) new (omega arith))
   where
+    fits : (p : ℕ) → p < product info.layout.grid.chunk → p * size_of info.layout.dtype + size_of info.layout.dtype ≤ length old
+    fits p below =
+        let far : suc p * size_of info.layout.dtype ≤ product info.layout.grid.chunk * size_of info.layout.dtype = mul-le _ (size_of info.layout.dtype) (product info.layout.grid.chunk) (size_of info.layout.dtype) below (omega arith) in
+        omega arith
+
     again : (p : ℕ) → p < product info.layout.grid.chunk → is_inside info.layout.grid.shape (index_at_place info.layout.grid.chunk coord p) ≡ true
         → element_bytes Little info.layout.dtype (element_at Little info.layout.dtype input (place_within lo hi (index_at_place info.layout.grid.chunk coord p)))
         ≡ part_at (size_of info.layout.dtype) input (place_within lo hi (index_at_place info.layout.grid.chunk coord p))
@@ -93,8 +109,8 @@ laid_spelled info coord lo hi input bytes ok here whole little long elements lai
         let (x, e) = elements (place_within lo hi (index_at_place info.layout.grid.chunk coord p)) (omega arith) in
         element_again info.layout.dtype input (place_within lo hi (index_at_place info.layout.grid.chunk coord p)) x e
 
-pub value_front : (n : ℕ) (value : Option (List ℕ)) (chunk rest : List ℕ) → n ≤ length chunk → value ≡ Some (take n chunk) → value ≡ Some (take n (chunk ++ rest))
-value_front n value chunk rest fits e = e ∙ ap Some (sym (take-append-le n chunk rest fits))
+pub value_front : (n : ℕ) (value : Option (List ℕ)) (chunk rest : List ℕ) → length chunk ≡ n → value ≡ Some chunk → value ≡ Some (take n (chunk ++ rest))
+value_front n value chunk rest long e = e ∙ ap Some (sym (take-append-le n chunk rest (omega arith) ∙ take_all n chunk (omega arith)))
 
 -- ---- several chunks, one after another
 

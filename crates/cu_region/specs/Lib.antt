@@ -1,3 +1,5 @@
+pub mod Calls
+pub mod Order
 pub mod Reading
 pub mod Steady
 pub mod Writing

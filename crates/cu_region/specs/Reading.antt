@@ -1,12 +1,12 @@
 -- What is read of a stored array, and why a read fails (Zarr v3 core, "Regular grids", "Fill value").
-use Rattle.std.specs.Prelude.{◌≡◌, ◌≢◌, ℕ, ◌+◌, ◌*◌, ◌≤◌, ℤ, Bool, IsTrue, List, length, Option, Some, None}
+use Rattle.std.specs.Prelude.{◌≡◌, ◌≢◌, ℕ, ◌+◌, ◌*◌, ◌≤◌, Bool, IsTrue, List, length, Option, Some, None}
 use Rattle.cu_num.specs.Dtype.{size_of}
 use Rattle.cu_num.specs.Element.{element_at, element_bytes}
-use Rattle.cu_num.specs.declared.types.Dtype.{Dtype}
 use Rattle.cu_num.specs.declared.layout.Endian.TheVariants.{Little}
 use Rattle.cu_shape.specs.Index.{product, quotients}
 use Rattle.cu_grid.specs.Counts.{IsWithin}
 use Rattle.cu_grid.specs.Cover.{Meets}
+use Rattle.cu_grid.specs.Grid.{RegularGrid, IsInChunk}
 use Rattle.cu_store.specs.Faults.{Rose}
 use Rattle.cu_store.specs.Held.{Contents}
 use Rattle.cu_store.specs.declared.faults.TaskFault.{TaskFault}
@@ -17,6 +17,7 @@ use Rattle.cu_op.specs.Layout.{layout_view}
 use Rattle.cu_op.specs.declared.layout.ArrayInfo.{ArrayInfo}
 use Rattle.cu_op.specs.declared.layout.Layout.{Layout}
 use Rattle.cu_codec.specs.Parts.{part_at, place_within}
+use Rattle.cu_region.specs.Order.{IsReordered}
 use Rattle.cu_region.specs.Steady.{HoldsLength}
 
 -- the key of an array's chunk
@@ -31,14 +32,14 @@ IsChunkKey info lo hi key = (coord : List ℕ) × Meets info.layout.grid lo hi c
 abbrev pub bytes_of : Layout → ℕ
 bytes_of l = product l.grid.chunk * size_of l.dtype
 
--- a chunk's bytes, with the fill value at each place of one that is absent
-abbrev pub IsChunkOf : Dtype → ℤ → Option (List ℕ) → List ℕ → Type 0
-IsChunkOf t fill None buf = (p : ℕ) → p * size_of t + size_of t ≤ length buf → part_at (size_of t) buf p ≡ element_bytes Little t fill
-IsChunkOf t fill (Some bytes) buf = buf ≡ bytes
+-- a chunk's bytes, little-endian, with the fill value at each place of one that is absent
+abbrev pub IsChunkOf : Layout → Option (List ℕ) → List ℕ → Type 0
+IsChunkOf l None buf = (p : ℕ) → p * size_of l.dtype + size_of l.dtype ≤ length buf → part_at (size_of l.dtype) buf p ≡ element_bytes Little l.dtype l.fill
+IsChunkOf l (Some bytes) buf = IsReordered l.endian (size_of l.dtype) bytes buf
 
-abbrev pub ReadsChunk : Dtype → ℤ → Option Contents → List ℕ → List ℕ → Type 0
-ReadsChunk t fill None key buf = Unit {0}
-ReadsChunk t fill (Some held) key buf = IsChunkOf t fill (held key) buf
+abbrev pub ReadsChunk : Layout → Option Contents → List ℕ → List ℕ → Type 0
+ReadsChunk l None key buf = Unit {0}
+ReadsChunk l (Some held) key buf = IsChunkOf l (held key) buf
 
 -- the buffer's element at this index is the stored one, where the contents are told
 abbrev pub IsStoredAt : ArrayInfo → List ℕ → List ℕ → Option Contents → List ℕ → List ℕ → Type 0
@@ -50,9 +51,17 @@ IsStoredAt info lo hi (Some held) out idx =
 abbrev pub ReadsRegion : ArrayInfo → List ℕ → List ℕ → Option Contents → List ℕ → Type 0
 ReadsRegion info lo hi held out = (idx : List ℕ) → IsWithin lo hi idx → IsStoredAt info lo hi held out idx
 
--- the same for the elements of one chunk, and the others are as before
+-- the same for the elements of one chunk
+abbrev pub HasPart : ArrayInfo → List ℕ → List ℕ → List ℕ → Option Contents → List ℕ → Type 0
+HasPart info coord lo hi held out = (idx : List ℕ) → IsWithin lo hi idx → quotients idx info.layout.grid.chunk ≡ coord → IsStoredAt info lo hi held out idx
+
+-- the index lies in exactly one chunk that shares an element with the region
+abbrev pub HasOneChunk : RegularGrid → List ℕ → List ℕ → List ℕ → Type 0
+HasOneChunk g lo hi idx = (coord : List ℕ) × Meets g lo hi coord × IsInChunk g coord idx × ((other : List ℕ) → Meets g lo hi other → IsInChunk g other idx → other ≡ coord)
+
+-- the elements of one chunk were read, and the others are as before
 pub record ReadsPart (info : ArrayInfo) (coord lo hi : List ℕ) (held : Option Contents) (old new : List ℕ) : Type 0 where
-  pub stored : (idx : List ℕ) → IsWithin lo hi idx → quotients idx info.layout.grid.chunk ≡ coord → IsStoredAt info lo hi held new idx
+  pub stored : HasPart info coord lo hi held new
   pub others : (idx : List ℕ) → IsWithin lo hi idx → quotients idx info.layout.grid.chunk ≢ coord
       → part_at (size_of info.layout.dtype) new (place_within lo hi idx) ≡ part_at (size_of info.layout.dtype) old (place_within lo hi idx)
 

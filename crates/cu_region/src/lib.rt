@@ -5,6 +5,9 @@ mod laws;
 mod read;
 mod write;
 
-pub use laws::integers_are_elements;
+pub use laws::{chunks_make_regions, integers_are_elements, stored_regions_read_back};
 pub use read::read_region;
 pub use write::write_region;
+
+#[cfg(test)]
+mod tests;

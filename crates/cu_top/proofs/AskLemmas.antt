@@ -2,11 +2,11 @@
 use Rattle.std.proofs.Common.{◌≡◌, ℕ, ◌+◌, List, Option, Some, None, sym, ◌∙◌, inl, inr, arith, below_more, Bool, subst}
 use Rattle.cu_store.specs.Held.{Contents, Write, IsAmong, IsKeptAt, Follows, IsGone}
 use Rattle.cu_zarr.specs.Key.{metadata_key_of}
-use Rattle.cu_top.specs.Job.{IsFree, chunks_of, key_of_chunk}
-use Rattle.cu_top.specs.Chunks.{IsKeyFault}
+use Rattle.cu_top.specs.Job.{IsFree, chunks_of, key_of_chunk, out_array}
+use Rattle.cu_top.specs.Tasks.{IsKeyFault}
 use Rattle.cu_top.specs.Run.{IsFreeBelow, IfAsked}
 use Rattle.cu_top.specs.declared.status.Status.{Status}
-use Rattle.cu_top.specs.declared.status.Status.TheVariants.{Done, BadWords, OverMemory, Exists, ReadFault, WriteFault, BadChunk, DepotFailed, NotBuilt, NoMemory}
+use Rattle.cu_top.specs.declared.status.Status.TheVariants.{Done, BadWords, OverMemory, Exists, TaskFailed, ReadFault, WriteFault, BadChunk, DepotFailed, NotBuilt, NoMemory}
 use Rattle.cu_top.specs.declared.job.Job.{Job}
 
 kept_absent : (W : List ℕ → List ℕ → Type 0) (entry held : Contents) (key : List ℕ) → held key ≡ None → IsKeptAt W entry held key → entry key ≡ None
@@ -18,10 +18,10 @@ pub absent_at_entry : (writes late : List Write) (entry : Contents) (held : Opti
 absent_at_entry writes late entry None key follows gone = absurd follows.0
 absent_at_entry writes late entry (Some held) key follows gone = kept_absent (IsAmong writes) entry held key gone (follows.0 key)
 
-pub none_below : (job : Job) (entry : Contents) → entry (metadata_key_of job.out) ≡ None → IsFreeBelow job entry 0
+pub none_below : (job : Job) (entry : Contents) → entry (metadata_key_of job.names.out) ≡ None → IsFreeBelow job entry 0
 none_below job entry metadata = (metadata, λ k below. absurd (omega arith))
 
-pub one_more_free : (job : Job) (entry : Contents) (n : ℕ) → IsFreeBelow job entry n → entry (key_of_chunk job.out n) ≡ None → IsFreeBelow job entry (n + 1)
+pub one_more_free : (job : Job) (entry : Contents) (n : ℕ) → IsFreeBelow job entry n → entry (key_of_chunk (out_array job) n) ≡ None → IsFreeBelow job entry (n + 1)
 one_more_free job entry n so_far here = (so_far.0, below_more _ _ so_far.1 here)
 
 pub all_free : (job : Job) (entry : Contents) (n : ℕ) → chunks_of job ≡ n → IsFreeBelow job entry n → IsFree job entry
@@ -36,6 +36,7 @@ key_fault_asked before after lacks key Done P fault here = tt
 key_fault_asked before after lacks key (BadWords code) P fault here = tt
 key_fault_asked before after lacks key (OverMemory node need allowed) P fault here = tt
 key_fault_asked before after lacks key (Exists held) P fault here = absurd fault
+key_fault_asked before after lacks key (TaskFailed op task) P fault here = tt
 key_fault_asked before after lacks key ReadFault P fault here = tt
 key_fault_asked before after lacks key WriteFault P fault here = tt
 key_fault_asked before after lacks key (BadChunk bad got want) P fault here = tt

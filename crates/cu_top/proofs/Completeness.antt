@@ -7,20 +7,21 @@ use Rattle.std.specs.Str.{is_utf8}
 use Rattle.cu_store.specs.Faults.{Rose}
 use Rattle.cu_store.specs.Held.{Contents, Write, IsAmong, IsKeptAt, Follows}
 use Rattle.cu_zarr.specs.Key.{metadata_key_of}
+use Rattle.cu_op.specs.declared.layout.ArrayInfo.{ArrayInfo}
 use Rattle.cu_top.proofs.JobLemmas.{input_stays}
-use Rattle.cu_top.specs.Chunks.{IsChunkKey}
 use Rattle.cu_top.specs.Complete.{IsServable, StoodStill, IsServed, IsWhole}
 use Rattle.cu_top.specs.Expression.{addition_of, when, Names as TextNames}
-use Rattle.cu_top.specs.Job.{IsArrayKey, HasInputs, IsFree, IsStarted, key_of_chunk}
-use Rattle.cu_top.specs.OneAxis.{IsWithinLimits}
-use Rattle.cu_top.specs.Run.{HasNames, IsMetadataKey, IsCalm, IsInWay, over_memory}
+use Rattle.cu_top.specs.Job.{IsArrayKey, IsInputKey, IsInputChunk, IsPlanKey, HasInputs, IsFree, IsStarted, left_array, right_array, out_array, coord_of}
+use Rattle.cu_top.specs.Plan.{over_memory}
+use Rattle.cu_top.specs.Run.{HasNames, IsMetadataKey, IsCalm, IsInWay}
+use Rattle.cu_top.specs.Tasks.{IsBad}
 use Rattle.cu_top.specs.Streams.{ReadsAll}
-use Rattle.cu_top.specs.Top.{IsBad, IsKeyOfArray, Ran, CameToRun, HasNoAddition, Tells, text_names}
+use Rattle.cu_top.specs.Top.{IsKeyOfArray, Ran, CameToRun, HasNoAddition, Tells, text_names}
 use Rattle.cu_top.specs.Words.{options_of}
 use Rattle.cu_top.specs.declared.job.Job.{Job}
 use Rattle.cu_top.specs.declared.job.Names.{Names}
 use Rattle.cu_top.specs.declared.status.Status.{Status}
-use Rattle.cu_top.specs.declared.status.Status.TheVariants.{Done, BadWords, OverMemory, Exists, ReadFault, WriteFault, BadChunk, DepotFailed, NotBuilt, NoMemory}
+use Rattle.cu_top.specs.declared.status.Status.TheVariants.{Done, BadWords, OverMemory, Exists, TaskFailed, ReadFault, WriteFault, BadChunk, DepotFailed, NotBuilt, NoMemory}
 use Rattle.cu_top.specs.declared.words.Options.{Options}
 
 -- ---- the text that was read is the text that was there
@@ -42,31 +43,27 @@ text_is_left left text (Some rest) n (took, inr long) adds =
 
 -- ---- the names and options are those that the premise has
 
-record AreSame (a b : Names) : Type 0 where
-  left : a.left ≡ b.left
-  right : a.right ≡ b.right
-  out : a.out ≡ b.out
+some_names : (a b : TextNames) → ◌≡◌ {A = Option TextNames} (Some a) (Some b) → a ≡ b
+some_names a b e = cc
 
-names_same : (a b : Names) → Some (text_names a) ≡ Some (text_names b) → AreSame a b
-names_same a b e =
-    let same : text_names a ≡ text_names b = cc in
-    record { left = ap (λ (n : TextNames). n.left) same; right = ap (λ (n : TextNames). n.right) same; out = ap (λ (n : TextNames). n.out) same }
+abbrev names_again : TextNames → Names
+names_again n = record { left = n.left; right = n.right; out = n.out }
 
-has_names : (a b : Names) (job : Job) → AreSame a b → HasNames a job → HasNames b job
-has_names a b job same has = record { left = has.left ∙ same.left; right = has.right ∙ same.right; out = has.out ∙ same.out }
-
-back_names : (a b : Names) (job : Job) → AreSame a b → HasNames b job → HasNames a job
-back_names a b job same has = record { left = has.left ∙ sym same.left; right = has.right ∙ sym same.right; out = has.out ∙ sym same.out }
+names_same : (a b : Names) → Some (text_names a) ≡ Some (text_names b) → a ≡ b
+names_same a b e = ap names_again (some_names (text_names a) (text_names b) e)
 
 options_same : (a b : Options) → ◌≡◌ {A = Result Options ℕ} (Ok a) (Ok b) → a ≡ b
 options_same a b e = cc
 
 -- ---- the premise of a run
 
--- a key of an array, of whatever sizes
-key_of_array : (job : Job) (name other key : List ℕ) → name ≡ other → IsArrayKey job name key → IsKeyOfArray other key
-key_of_array job name other key same (inl metadata) = inl (metadata ∙ ap metadata_key_of same)
-key_of_array job name other key same (inr (k, small, chunk)) = inr (k, chunk ∙ ap (λ (n : List ℕ). key_of_chunk n k) same)
+-- a key of an array is one of the array with its name
+key_of_array : (a : ArrayInfo) (name key : List ℕ) → a.prefix ≡ name → IsArrayKey a key → IsKeyOfArray name key
+key_of_array a name key same own = subst (λ (n : List ℕ). IsKeyOfArray n key) same (named own)
+  where
+    named : IsArrayKey a key → IsKeyOfArray a.prefix key
+    named (inl metadata) = inl metadata
+    named (inr (k, small, chunk)) = inr (a.layout.encoding, coord_of a k, chunk)
 
 -- no put is late on the output, and each that is late on an input carries what is held
 record IsSettled (names : Names) (entry : Contents) (late : List Write) : Type 0 where
@@ -77,15 +74,18 @@ metadata_of_input : (names : Names) (key : List ℕ) → IsMetadataKey names key
 metadata_of_input names key (inl left) = inl (inl left)
 metadata_of_input names key (inr right) = inr (inl right)
 
-key_of_input : (names : Names) (job : Job) (key : List ℕ) → HasNames names job → IsArrayKey job job.left key ⊎ IsArrayKey job job.right key → IsKeyOfArray names.left key ⊎ IsKeyOfArray names.right key
-key_of_input names job key has (inl left) = inl (key_of_array job job.left names.left key has.left left)
-key_of_input names job key has (inr right) = inr (key_of_array job job.right names.right key has.right right)
+key_of_input : (names : Names) (job : Job) (key : List ℕ) → HasNames names job → IsInputKey job key → IsKeyOfArray names.left key ⊎ IsKeyOfArray names.right key
+key_of_input names job key has (inl left) = inl (key_of_array (left_array job) names.left key (ap (λ (n : Names). n.left) has) left)
+key_of_input names job key has (inr right) = inr (key_of_array (right_array job) names.right key (ap (λ (n : Names). n.right) has) right)
+
+key_of_plan : (names : Names) (job : Job) (key : List ℕ) → HasNames names job → IsPlanKey job key → IsKeyOfArray names.out key
+key_of_plan names job key has own = key_of_array (out_array job) names.out key (ap (λ (n : Names). n.out) has) own
 
 is_calm : (names : Names) (entry : Contents) (late : List Write) → IsSettled names entry late → IsCalm names entry late
 is_calm names entry late settled = record {
   metadata = λ key bytes among of_input. settled.inputs key bytes among (metadata_of_input names key of_input);
   jobs = λ job has inputs. record {
-    plan = λ key bytes among of_out. absurd (settled.out key bytes among (key_of_array job job.out names.out key has.out of_out));
+    plan = λ key bytes among of_out. absurd (settled.out key bytes among (key_of_plan names job key has of_out));
     inputs = λ key bytes among of_input. settled.inputs key bytes among (key_of_input names job key has of_input);
   };
 }
@@ -100,24 +100,26 @@ not_held : (key : List ℕ) (entry held : Contents) (late : List Write) (names :
 not_held key entry held late names settled named free bytes there (inl same) = cc
 not_held key entry held late names settled named free bytes there (inr (b, landed, now)) = settled.out key b landed named
 
+-- the metadata of an input is held, and that of the output isn't
+not_own : (job : Job) (entry : Contents) (name : List ℕ) (text : List ℕ) → IsFree job entry → job.names.out ≡ name → entry (metadata_key_of name) ≡ Some text → ⊥
+not_own job entry name text free same there =
+    let gone : entry (metadata_key_of name) ≡ None = subst (λ (n : List ℕ). entry (metadata_key_of n) ≡ None) same (free (metadata_key_of job.names.out) (inl refl)) in
+    cc
+
 not_in_way : (names : Names) (job : Job) (key : List ℕ) (entry : Contents) (new : Option Contents) (late now_late : List Write) → HasNames names job
     → IsSettled names entry late → HasInputs job entry → IsFree job entry → Follows late (Some entry) new now_late → IsInWay job new key → ⊥
 not_in_way names job key entry None late now_late has settled inputs free follows way = follows.0
 not_in_way names job key entry (Some held) late now_late has settled inputs free follows (of_out, inl (bytes, there)) =
-    not_held key entry held late names settled (key_of_array job job.out names.out key has.out of_out) (free key of_out) bytes there (follows.0 key)
-not_in_way names job key entry (Some held) late now_late has settled inputs free follows (of_out, inr (inl left)) =
-    let gone : entry (metadata_key_of job.left) ≡ None = subst (λ (n : List ℕ). entry (metadata_key_of n) ≡ None) left (free (metadata_key_of job.out) (inl refl)) in
-    let there = inputs.left in cc
-not_in_way names job key entry (Some held) late now_late has settled inputs free follows (of_out, inr (inr right)) =
-    let gone : entry (metadata_key_of job.right) ≡ None = subst (λ (n : List ℕ). entry (metadata_key_of n) ≡ None) right (free (metadata_key_of job.out) (inl refl)) in
-    let there = inputs.right in cc
+    not_held key entry held late names settled (key_of_plan names job key has of_out) (free key of_out) bytes there (follows.0 key)
+not_in_way names job key entry (Some held) late now_late has settled inputs free follows (of_out, inr (inl left)) = not_own job entry job.names.left inputs.left.0 free left inputs.left.1
+not_in_way names job key entry (Some held) late now_late has settled inputs free follows (of_out, inr (inr right)) = not_own job entry job.names.right inputs.right.0 free right inputs.right.1
 
-chunk_array_key : (job : Job) (key : List ℕ) → IsChunkKey job job.left key ⊎ IsChunkKey job job.right key → IsArrayKey job job.left key ⊎ IsArrayKey job job.right key
+chunk_array_key : (job : Job) (key : List ℕ) → IsInputChunk job key → IsInputKey job key
 chunk_array_key job key (inl left) = inl (inr left)
 chunk_array_key job key (inr right) = inr (inr right)
 
 not_bad : (job : Job) (entry : Contents) (new : Option Contents) (late now_late : List Write) (key : List ℕ) (got want : ℕ) → IsStarted job entry late new now_late
-    → ((k : List ℕ) → IsChunkKey job job.left k ⊎ IsChunkKey job job.right k → IsWhole job entry k) → IsBad new key got want job → ⊥
+    → ((k : List ℕ) → IsInputChunk job k → IsWhole job entry k) → IsBad new key got want job → ⊥
 not_bad job entry None late now_late key got want started whole bad = started.follows.0
 not_bad job entry (Some held) late now_late key got want started whole (of_input, is_want, differ, (bytes, there, long)) =
     let before : entry key ≡ Some bytes = sym (input_stays job entry held late now_late key started (chunk_array_key job key of_input)) ∙ there in
@@ -138,62 +140,51 @@ words_differ words o code ok err = ok_or_err (options_of words) o code ok err
     ok_or_err : (r : Result Options ℕ) (o : Options) (code : ℕ) → r ≡ Ok o → r ≡ Err code → ⊥
     ok_or_err r o code ok err = cc
 
-array_back : (a b key : List ℕ) → a ≡ b → IsKeyOfArray b key → IsKeyOfArray a key
-array_back a b key same of_b = subst (λ (n : List ℕ). IsKeyOfArray n key) (sym same) of_b
-
-input_back : (a b : Names) (key : List ℕ) → AreSame a b → IsKeyOfArray b.left key ⊎ IsKeyOfArray b.right key → IsKeyOfArray a.left key ⊎ IsKeyOfArray a.right key
-input_back a b key same (inl left) = inl (array_back a.left b.left key same.left left)
-input_back a b key same (inr right) = inr (array_back a.right b.right key same.right right)
-
 -- ---- the answers of a run
 
 served_run : (names : Names) (options : Options) (entry : Contents) (new : Option Contents) (late now_late : List Write) (f g v w : ℕ) (front back : Option (List ℕ)) (job : Job) (status : Status)
     → IsSettled names entry late
-    → HasNames names job → IsWithinLimits job.elements job.chunk → HasInputs job entry
+    → HasNames names job → job.right.dtype ≡ job.left.dtype → job.right.grid ≡ job.left.grid → HasInputs job entry
     → ((j : Job) → HasNames names j → HasInputs j entry → over_memory options j ≡ None)
     → ((j : Job) → HasNames names j → HasInputs j entry → IsFree j entry)
-    → ((j : Job) → HasNames names j → HasInputs j entry → (key : List ℕ) → IsChunkKey j j.left key ⊎ IsChunkKey j j.right key → IsWhole j entry key)
+    → ((j : Job) → HasNames names j → HasInputs j entry → (key : List ℕ) → IsInputChunk j key → IsWhole j entry key)
     → StoodStill f g → StoodStill v w
     → Ran names options (Some entry) new late now_late f g v w front back status → IsServed status
-served_run names options entry new late now_late f g v w front back job Done settled has limits inputs fits free whole depot sink ran = tt
-served_run names options entry new late now_late f g v w front back job NoMemory settled has limits inputs fits free whole depot sink ran = tt
-served_run names options entry new late now_late f g v w front back job WriteFault settled has limits inputs fits free whole depot sink ran = none_rose 1 v w (omega arith) sink ran.0
-served_run names options entry new late now_late f g v w front back job (DepotFailed key) settled has limits inputs fits free whole depot sink ran = none_rose 3 f g (omega arith) depot ran.0
-served_run names options entry new late now_late f g v w front back job (NotBuilt node) settled has limits inputs fits free whole depot sink ran =
-    ran.2 entry refl job has limits (is_calm names entry late settled).metadata inputs
-served_run names options entry new late now_late f g v w front back job (OverMemory node need allowed) settled has limits inputs fits free whole depot sink ran =
+served_run names options entry new late now_late f g v w front back job Done settled has dtype grid inputs fits free whole depot sink ran = tt
+served_run names options entry new late now_late f g v w front back job NoMemory settled has dtype grid inputs fits free whole depot sink ran = tt
+served_run names options entry new late now_late f g v w front back job WriteFault settled has dtype grid inputs fits free whole depot sink ran = none_rose 1 v w (omega arith) sink ran.0
+served_run names options entry new late now_late f g v w front back job (DepotFailed key) settled has dtype grid inputs fits free whole depot sink ran = none_rose 3 f g (omega arith) depot ran.0
+served_run names options entry new late now_late f g v w front back job (TaskFailed op task) settled has dtype grid inputs fits free whole depot sink ran = none_rose 3 f g (omega arith) depot ran.0
+served_run names options entry new late now_late f g v w front back job (NotBuilt node) settled has dtype grid inputs fits free whole depot sink ran =
+    ran.2 entry refl job has dtype grid (is_calm names entry late settled).metadata inputs
+served_run names options entry new late now_late f g v w front back job (OverMemory node need allowed) settled has dtype grid inputs fits free whole depot sink ran =
     let over = ran.2 in
     let j_inputs = over.accepted.inputs entry refl (is_calm names entry late settled).metadata in
     let none = fits over.job over.accepted.has_names j_inputs in
     none_some over.job options _ none over.over
-served_run names options entry new late now_late f g v w front back job (Exists key) settled has limits inputs fits free whole depot sink ran =
+served_run names options entry new late now_late f g v w front back job (Exists key) settled has dtype grid inputs fits free whole depot sink ran =
     let blocked = ran.1 in
     let j_inputs = blocked.accepted.inputs entry refl (is_calm names entry late settled).metadata in
     not_in_way names blocked.job key entry new late now_late blocked.accepted.has_names settled j_inputs (free blocked.job blocked.accepted.has_names j_inputs) ran.0 blocked.in_way
-served_run names options entry new late now_late f g v w front back job (BadChunk key got want) settled has limits inputs fits free whole depot sink ran =
+served_run names options entry new late now_late f g v w front back job (BadChunk key got want) settled has dtype grid inputs fits free whole depot sink ran =
     let calm = is_calm names entry late settled in
     let j_inputs = ran.accepted.inputs entry refl calm.metadata in
     not_bad ran.job entry new late now_late key got want (ran.started entry refl calm) (whole ran.job ran.accepted.has_names j_inputs) ran.is_so
-served_run names options entry new late now_late f g v w front back job (BadWords code) settled has limits inputs fits free whole depot sink ran = ran
-served_run names options entry new late now_late f g v w front back job ReadFault settled has limits inputs fits free whole depot sink ran = ran
+served_run names options entry new late now_late f g v w front back job (BadWords code) settled has dtype grid inputs fits free whole depot sink ran = ran
+served_run names options entry new late now_late f g v w front back job ReadFault settled has dtype grid inputs fits free whole depot sink ran = ran
 
 -- what the premise says of the names and options that the call came to
 came : (words : List (List ℕ)) (left : List ℕ) (next : Option (List ℕ)) (entry : Contents) (new : Option Contents) (late now_late : List Write) (f g v w : ℕ) (front back : Option (List ℕ)) (status : Status)
     → IsServable words left entry late → StoodStill f g → StoodStill v w
     → CameToRun words (Some left) next (λ names options. Ran names options (Some entry) new late now_late f g v w front back status) → IsServed status
 came words left next entry new late now_late f g v w front back status premise depot sink arrived =
-    let same = names_same premise.names arrived.names (sym premise.adds ∙ ap addition_of (sym (text_is_left left arrived.called.text next (text_names premise.names) arrived.called.read premise.adds)) ∙ arrived.called.adds) in
+    let same : premise.names ≡ arrived.names = names_same premise.names arrived.names (sym premise.adds ∙ ap addition_of (sym (text_is_left left arrived.called.text next (text_names premise.names) arrived.called.read premise.adds)) ∙ arrived.called.adds) in
     let same_options : premise.options ≡ arrived.options = options_same premise.options arrived.options (sym premise.words_give ∙ arrived.called.words_give) in
-    served_run arrived.names arrived.options entry new late now_late f g v w front back premise.job status
-    (record {
-      out = λ key bytes among named. premise.settled key bytes among (array_back premise.names.out arrived.names.out key same.out named);
-      inputs = λ key bytes among named. premise.calm key bytes among (input_back premise.names arrived.names key same named);
-    })
-    (has_names premise.names arrived.names premise.job same premise.has_names) premise.limits premise.inputs
-    (λ j has inputs. subst (λ (o : Options). over_memory o j ≡ None) same_options (premise.fits j (back_names premise.names arrived.names j same has) inputs))
-    (λ j has inputs. premise.free j (back_names premise.names arrived.names j same has) inputs)
-    (λ j has inputs. premise.whole j (back_names premise.names arrived.names j same has) inputs)
-    depot sink arrived.ran
+    served_run premise.names premise.options entry new late now_late f g v w front back premise.job status
+    (record { out = premise.settled; inputs = premise.calm })
+    premise.has_names premise.dtype premise.grid premise.inputs premise.fits premise.free premise.whole depot sink
+    (subst (λ (n : Names). Ran n premise.options (Some entry) new late now_late f g v w front back status) (sym same)
+    (subst (λ (o : Options). Ran arrived.names o (Some entry) new late now_late f g v w front back status) (sym same_options) arrived.ran))
 
 no_addition : (words : List (List ℕ)) (left : List ℕ) (next : Option (List ℕ)) (entry : Contents) (late : List Write) → IsServable words left entry late → HasNoAddition words (Some left) next → ⊥
 no_addition words left next entry late premise none =
@@ -208,6 +199,7 @@ told_served words next left t u entry new late now_late f g v w front back (BadW
 told_served words next left t u entry new late now_late f g v w front back ReadFault premise source sink depot tells = none_rose 1 t u (omega arith) source tells.1
 told_served words next left t u entry new late now_late f g v w front back (OverMemory node need allowed) premise source sink depot tells = came words left next entry new late now_late f g v w front back (OverMemory node need allowed) premise depot sink tells
 told_served words next left t u entry new late now_late f g v w front back (Exists key) premise source sink depot tells = came words left next entry new late now_late f g v w front back (Exists key) premise depot sink tells
+told_served words next left t u entry new late now_late f g v w front back (TaskFailed op task) premise source sink depot tells = came words left next entry new late now_late f g v w front back (TaskFailed op task) premise depot sink tells
 told_served words next left t u entry new late now_late f g v w front back WriteFault premise source sink depot tells = came words left next entry new late now_late f g v w front back WriteFault premise depot sink tells
 told_served words next left t u entry new late now_late f g v w front back (BadChunk key got want) premise source sink depot tells = came words left next entry new late now_late f g v w front back (BadChunk key got want) premise depot sink tells
 told_served words next left t u entry new late now_late f g v w front back (DepotFailed key) premise source sink depot tells = came words left next entry new late now_late f g v w front back (DepotFailed key) premise depot sink tells

@@ -1,21 +1,30 @@
 -- What stands in the depot while an addition runs.
-use Rattle.std.proofs.Common.{◌≡◌, ◌⊎◌, ℕ, zero, suc, ◌+◌, ◌-◌, min, ◌*◌, ◌<◌, ◌≤◌, ◌^◌, List, [], ◌∷◌, ◌++◌, length, All, Option, Some, None, refl, sym, ap, ◌∙◌, subst, inl, inr, arith, below_more}
+use Rattle.std.proofs.Common.{◌≡◌, ◌⊎◌, ℕ, zero, suc, ◌+◌, ◌<◌, ◌≤◌, ◌^◌, List, [], ◌∷◌, ◌++◌, length, All, Option, Some, None, refl, sym, ap, ◌∙◌, subst, inl, inr, arith, below_more, get_or}
+use Rattle.std.specs.Prelude.{Result, Ok, Err, OnOk, Bool, true, false, not, nat_lt, ◌==◌, ◌*◌, if◌then◌else◌}
+use Rattle.std.specs.List.{list_any}
 use Rattle.std.proofs.Math.Nat.{eq-or-lt_of_le}
-use Rattle.std.proofs.lemmas.List.Elements.{All-from_recursion}
+use Rattle.cu_shape.specs.Index.{product, index_at, place_of}
+use Rattle.cu_shape.proofs.Places.{index-inside, place-index, inside-length, length-index_at}
+use Rattle.cu_grid.specs.Grid.{RegularGrid}
+use Rattle.cu_grid.specs.Limits.{first_fault, IsWithinLimits}
+use Rattle.cu_grid.specs.Counts.{counts_of, at_least_one}
+use Rattle.cu_grid.specs.declared.fault.GridFault.TheVariants.{ZeroChunk, Rank, TooManyElements, TooManyChunks, ChunkTooLarge}
+use Rattle.cu_num.specs.Dtype.{size_of}
+use Rattle.cu_op.specs.declared.layout.Layout.{Layout}
+use Rattle.cu_top.specs.Inputs.{IsBuilt}
+use Rattle.cu_grid.proofs.Products.{size_within}
+use Rattle.cu_grid.proofs.Regions.{inside-at}
 use Rattle.cu_codec.proofs.KeyLaws.{same_chunk, chunk_not_metadata, chunk_is_key_of, metadata_is_key_of, one_name}
 use Rattle.cu_codec.specs.Names.{HasNoSlash, IsKeyOf}
 use Rattle.cu_num.specs.declared.layout.Encoding.TheVariants.{Plain}
 use Rattle.cu_num.specs.declared.layout.Sep.TheVariants.{Slash}
+use Rattle.cu_op.specs.Arrays.{grid_counts}
+use Rattle.cu_op.specs.declared.layout.ArrayInfo.{ArrayInfo}
 use Rattle.cu_store.specs.Held.{Contents, Write, IsAmong, OwnOrLate, IsKeptAt, Lands, Follows, Holds}
 use Rattle.cu_zarr.specs.Key.{metadata_key_of}
-use Rattle.cu_zarr.specs.Metadata.{metadata_text}
-use Rattle.std.specs.Prelude.{Result, Ok, Err, OnOk}
-use Rattle.cu_top.proofs.SpelledSums.{chunk_value_is}
-use Rattle.cu_top.specs.Sums.{AreSums}
-use Rattle.cu_top.specs.Chunks.{IsChunkOf, ReadsChunk}
 use Rattle.cu_top.specs.Run.{Completes}
 use Rattle.cu_top.specs.declared.job.Job.{Job}
-use Rattle.cu_top.specs.Job.{IsJob, layout_of, chunks_of, key_of_chunk, chunk_value, with_value, chunk_writes, plan_writes, IsArrayKey, IsQuiet, HasInputs, IsFree, IsStarted, IsLeft, StoresChunk, StoresChunks, ValuesStay}
+use Rattle.cu_top.specs.Job.{IsJob, left_array, right_array, out_array, chunks_of, coord_of, key_of_chunk, chunk_value, with_value, chunk_writes, plan_writes, out_metadata, IsArrayKey, IsInputKey, IsPlanKey, IsQuiet, HasInputs, IsFree, IsStarted, IsLeft, StoresChunk, StoresChunks, ValuesStay}
 
 -- ---- lists of writes
 
@@ -53,32 +62,76 @@ le_of_lt_suc p n below = omega arith
 -- ---- the writes of a plan
 
 pub chunk_write_in : (job : Job) (entry : Contents) (n k : ℕ) (bytes : List ℕ) → k < n → chunk_value job entry k ≡ Some bytes
-    → IsAmong (chunk_writes job entry n) (key_of_chunk job.out k) bytes
+    → IsAmong (chunk_writes job entry n) (key_of_chunk (out_array job) k) bytes
 chunk_write_in job entry zero k bytes below value = absurd (omega arith)
 chunk_write_in job entry (suc n) k bytes below value =
     elim (eq-or-lt_of_le (le_of_lt_suc k n below)) [
-      | inl same ↦ subst (λ (j : ℕ). IsAmong (chunk_writes job entry (suc n)) (key_of_chunk job.out j) bytes) (sym same)
-          (with_value_in (key_of_chunk job.out n) (chunk_value job entry n) (chunk_writes job entry n) bytes (ap (chunk_value job entry) (sym same) ∙ value))
-      | inr earlier ↦ with_value_behind (key_of_chunk job.out n) (chunk_value job entry n) (chunk_writes job entry n) _ bytes (chunk_write_in job entry n k bytes earlier value)
+      | inl same ↦ subst (λ (j : ℕ). IsAmong (chunk_writes job entry (suc n)) (key_of_chunk (out_array job) j) bytes) (sym same)
+          (with_value_in (key_of_chunk (out_array job) n) (chunk_value job entry n) (chunk_writes job entry n) bytes (ap (chunk_value job entry) (sym same) ∙ value))
+      | inr earlier ↦ with_value_behind (key_of_chunk (out_array job) n) (chunk_value job entry n) (chunk_writes job entry n) _ bytes (chunk_write_in job entry n k bytes earlier value)
     ]
 
 pub chunk_write_is : (job : Job) (entry : Contents) (n : ℕ) (key bytes : List ℕ) → IsAmong (chunk_writes job entry n) key bytes
-    → (k : ℕ) × (k < n) × (key ≡ key_of_chunk job.out k) × (chunk_value job entry k ≡ Some bytes)
+    → (k : ℕ) × (k < n) × (key ≡ key_of_chunk (out_array job) k) × (chunk_value job entry k ≡ Some bytes)
 chunk_write_is job entry zero key bytes among = absurd among
 chunk_write_is job entry (suc n) key bytes among =
-    elim (with_value_either (key_of_chunk job.out n) (chunk_value job entry n) (chunk_writes job entry n) key bytes among) [
+    elim (with_value_either (key_of_chunk (out_array job) n) (chunk_value job entry n) (chunk_writes job entry n) key bytes among) [
       | inl here ↦ (n, omega arith, here.0, here.1)
       | inr there ↦ let (k, below, same, value) = chunk_write_is job entry n key bytes there in (k, omega (arith, below), same, value)
     ]
 
--- one coordinate that a key can have
-pub small_coordinate : (k : ℕ) → k < 65536 → All (λ i. i < 2 ^ 64) (k ∷ [])
-small_coordinate k below = All-from_recursion (λ i. i < 2 ^ 64) (k ∷ []) (omega arith, tt)
+-- a grid without a fault is within the limits
+module _ {A : Type 0} where
+  unless : (b : Bool) (x : A) (rest : Option A) → (if b then Some x else rest) ≡ None → (b ≡ false) × (rest ≡ None)
+  unless true x rest e = cc
+  unless false x rest e = (refl, e)
 
-pub same_chunk_number : (name : List ℕ) (j k : ℕ) → j < 65536 → k < 65536 → key_of_chunk name j ≡ key_of_chunk name k → j ≡ k
-same_chunk_number name j k small_j small_k e =
-    let same : j ∷ [] ≡ k ∷ [] = same_chunk name (Plain Slash) (j ∷ []) (k ∷ []) (small_coordinate j small_j) (small_coordinate k small_k) refl e in
-    cc
+not_below : (m n : ℕ) → nat_lt m n ≡ false → n ≤ m
+not_below m n e = grind arith
+
+limits_of : (g : RegularGrid) (size : ℕ) → first_fault g.shape g.chunk size ≡ None → IsWithinLimits g size
+limits_of g size none =
+    let a = unless (list_any (λ c. c == 0) g.chunk) ZeroChunk _ none in
+    let b = unless (not (length g.shape == length g.chunk)) Rank _ a.1 in
+    let c = unless (nat_lt (2 ^ 40) (product (at_least_one g.shape))) TooManyElements _ b.1 in
+    let d = unless (nat_lt 65536 (product (at_least_one (counts_of g.shape g.chunk)))) TooManyChunks _ c.1 in
+    let e = unless (nat_lt (2 ^ 28) (product g.chunk * size)) ChunkTooLarge None d.1 in
+    record { elements = not_below _ _ c.0; chunks = not_below _ _ d.0; bytes = not_below _ _ e.0 }
+
+pub built_limits : (l : Layout) → IsBuilt l → IsWithinLimits l.grid (size_of l.dtype)
+built_limits l ok = limits_of l.grid (size_of l.dtype) ok.storable.grid
+
+-- the coordinate of a chunk is one that a key can have
+small_coord : (g : RegularGrid) (size k most : ℕ) → 65536 ≤ most → IsWithinLimits g size → k < product (grid_counts g) → All (λ i. i < most) (index_at (grid_counts g) k)
+small_coord g size k most large limits below a d within =
+    let inside = index-inside (grid_counts g) k below in
+    let long = inside-length (grid_counts g) (index_at (grid_counts g) k) inside in
+    let here : a < length (grid_counts g) = omega (arith, within, long) in
+    let there = inside-at (grid_counts g) (index_at (grid_counts g) k) a inside here in
+    let whole = size_within (grid_counts g) a here in
+    let chunks = limits.chunks in
+    let any = get_or_any (index_at (grid_counts g) k) a d within in
+    omega (arith, large, there, whole, chunks, any)
+  where
+    get_or_any : (xs : List ℕ) (n d : ℕ) → n < length xs → get_or xs n d ≡ get_or xs n 0
+    get_or_any [] n d h = absurd (omega arith)
+    get_or_any (x ∷ xs) zero d h = refl
+    get_or_any (x ∷ xs) (suc n) d h = get_or_any xs n d (omega arith)
+
+small_chunk : (job : Job) (k : ℕ) → IsJob job → k < chunks_of job → All (λ i. i < 2 ^ 64) (coord_of (out_array job) k)
+small_chunk job k is_job below = small_coord job.left.grid _ k (2 ^ 64) (omega arith) (built_limits job.left is_job.left) below
+
+pub small_place : (job : Job) (k : ℕ) → IsJob job → k < chunks_of job → All (λ i. i < 1048576) (coord_of (out_array job) k)
+small_place job k is_job below = small_coord job.left.grid _ k 1048576 (omega arith) (built_limits job.left is_job.left) below
+
+pub same_chunk_number : (job : Job) (j k : ℕ) → IsJob job → j < chunks_of job → k < chunks_of job → key_of_chunk (out_array job) j ≡ key_of_chunk (out_array job) k → j ≡ k
+same_chunk_number job j k is_job small_j small_k e =
+    let long : length (coord_of (out_array job) j) ≡ length (coord_of (out_array job) k) = length-index_at (grid_counts job.left.grid) j ∙ sym (length-index_at (grid_counts job.left.grid) k) in
+    let same = same_chunk job.names.out (Plain Slash) (coord_of (out_array job) j) (coord_of (out_array job) k) (small_chunk job j is_job small_j) (small_chunk job k is_job small_k) long e in
+    sym (place-index (grid_counts job.left.grid) j small_j) ∙ ap (place_of (grid_counts job.left.grid)) same ∙ place-index (grid_counts job.left.grid) k small_k
+
+chunk_apart : (job : Job) (k : ℕ) → IsJob job → k < chunks_of job → key_of_chunk (out_array job) k ≡ metadata_key_of job.names.out → ⊥
+chunk_apart job k is_job below e = chunk_not_metadata job.names.out (Plain Slash) (coord_of (out_array job) k) (small_chunk job k is_job below) e
 
 some_same : (a b : List ℕ) → Some a ≡ Some b → a ≡ b
 some_same a b e = cc
@@ -89,47 +142,55 @@ unfolding plan_writes
 one_value job entry key a b is_job (inl here) (inl there) = here.1 ∙ sym there.1
 one_value job entry key a b is_job (inl here) (inr there) =
     let (k, below, same, value) = chunk_write_is job entry (chunks_of job) key b there in
-    absurd (chunk_not_metadata job.out (Plain Slash) (k ∷ []) (small_coordinate k (omega (arith, below, is_job.limits.chunks))) (sym same ∙ here.0))
+    absurd (chunk_apart job k is_job below (sym same ∙ here.0))
 one_value job entry key a b is_job (inr here) (inl there) =
     let (k, below, same, value) = chunk_write_is job entry (chunks_of job) key a here in
-    absurd (chunk_not_metadata job.out (Plain Slash) (k ∷ []) (small_coordinate k (omega (arith, below, is_job.limits.chunks))) (sym same ∙ there.0))
+    absurd (chunk_apart job k is_job below (sym same ∙ there.0))
 one_value job entry key a b is_job (inr here) (inr there) =
     let (j, below_j, same_j, value_j) = chunk_write_is job entry (chunks_of job) key a here in
     let (k, below_k, same_k, value_k) = chunk_write_is job entry (chunks_of job) key b there in
-    let number : j ≡ k = same_chunk_number job.out j k (omega (arith, below_j, is_job.limits.chunks)) (omega (arith, below_k, is_job.limits.chunks)) (sym same_j ∙ same_k) in
+    let number : j ≡ k = same_chunk_number job j k is_job below_j below_k (sym same_j ∙ same_k) in
     some_same a b (sym value_j ∙ ap (chunk_value job entry) number ∙ value_k)
 
 -- a write of the plan is on a key of the output
-pub plan_write_key : (job : Job) (entry : Contents) (key bytes : List ℕ) → IsAmong (plan_writes job entry) key bytes → IsArrayKey job job.out key
+pub plan_write_key : (job : Job) (entry : Contents) (key bytes : List ℕ) → IsAmong (plan_writes job entry) key bytes → IsPlanKey job key
 unfolding plan_writes
 plan_write_key job entry key bytes (inl here) = inl here.0
 plan_write_key job entry key bytes (inr there) =
     let (k, below, same, value) = chunk_write_is job entry (chunks_of job) key bytes there in inr (k, below, same)
 
-array_key_name : (job : Job) (name key : List ℕ) → IsArrayKey job name key → IsKeyOf name key
-array_key_name job name key (inl metadata) = subst (IsKeyOf name) (sym metadata) (metadata_is_key_of name)
-array_key_name job name key (inr (k, below, same)) = subst (IsKeyOf name) (sym same) (chunk_is_key_of name (Plain Slash) (k ∷ []))
+array_key_name : (a : ArrayInfo) (key : List ℕ) → IsArrayKey a key → IsKeyOf a.prefix key
+array_key_name a key (inl metadata) = subst (IsKeyOf a.prefix) (sym metadata) (metadata_is_key_of a.prefix)
+array_key_name a key (inr (k, below, same)) = subst (IsKeyOf a.prefix) (sym same) (chunk_is_key_of a.prefix a.layout.encoding (coord_of a k))
+
+-- a chunk's write has its value
+pub written_chunk : (job : Job) (entry : Contents) (k : ℕ) (bytes : List ℕ) → IsJob job → k < chunks_of job → IsAmong (plan_writes job entry) (key_of_chunk (out_array job) k) bytes → chunk_value job entry k ≡ Some bytes
+unfolding plan_writes
+written_chunk job entry k bytes is_job below (inl metadata) = absurd (chunk_apart job k is_job below metadata.0)
+written_chunk job entry k bytes is_job below (inr among) =
+    let (j, small, same, value) = chunk_write_is job entry (chunks_of job) (key_of_chunk (out_array job) k) bytes among in
+    let number : k ≡ j = same_chunk_number job k j is_job below small same in
+    ap (chunk_value job entry) number ∙ value
 
 -- ---- a run that was started
 
-some_not_none : (v : Option (List ℕ)) (b : List ℕ) → v ≡ None → v ≡ Some b → ⊥
+pub some_not_none : (v : Option (List ℕ)) (b : List ℕ) → v ≡ None → v ≡ Some b → ⊥
 some_not_none v b none some = cc
 
 -- a key of the plan isn't a key of an input: the input's metadata is held, and the output's isn't
-apart : (job : Job) (entry : Contents) (name : List ℕ) (held : List ℕ) (key : List ℕ) → HasNoSlash name → HasNoSlash job.out
-    → entry (metadata_key_of name) ≡ Some held → IsFree job entry → IsArrayKey job name key → IsArrayKey job job.out key → ⊥
-apart job entry name held key plain plain_out metadata free of_input of_out =
-    let same : name ≡ job.out = one_name name job.out key plain plain_out (array_key_name job name key of_input) (array_key_name job job.out key of_out) in
-    let there : entry (metadata_key_of job.out) ≡ Some held = subst (λ (n : List ℕ). entry (metadata_key_of n) ≡ Some held) same metadata in
-    some_not_none _ held (free (metadata_key_of job.out) (inl refl)) there
+apart : (job : Job) (entry : Contents) (a : ArrayInfo) (held key : List ℕ) → HasNoSlash a.prefix → HasNoSlash job.names.out
+    → entry (metadata_key_of a.prefix) ≡ Some held → IsFree job entry → IsArrayKey a key → IsPlanKey job key → ⊥
+apart job entry a held key plain plain_out metadata free of_input of_out =
+    let same : a.prefix ≡ job.names.out = one_name a.prefix job.names.out key plain plain_out (array_key_name a key of_input) (array_key_name (out_array job) key of_out) in
+    let there : entry (metadata_key_of job.names.out) ≡ Some held = subst (λ (n : List ℕ). entry (metadata_key_of n) ≡ Some held) same metadata in
+    some_not_none _ held (free (metadata_key_of job.names.out) (inl refl)) there
 
-input_apart : (job : Job) (entry : Contents) (key : List ℕ) → IsJob job → HasInputs job entry → IsFree job entry
-    → IsArrayKey job job.left key ⊎ IsArrayKey job job.right key → IsArrayKey job job.out key → ⊥
-input_apart job entry key is_job inputs free (inl left) of_out = apart job entry job.left _ key is_job.left.0 is_job.out.0 inputs.left free left of_out
-input_apart job entry key is_job inputs free (inr right) of_out = apart job entry job.right _ key is_job.right.0 is_job.out.0 inputs.right free right of_out
+pub input_apart : (job : Job) (entry : Contents) (key : List ℕ) → IsJob job → HasInputs job entry → IsFree job entry → IsInputKey job key → IsPlanKey job key → ⊥
+input_apart job entry key is_job inputs free (inl left) of_out = apart job entry (left_array job) _ key is_job.names.left.0 is_job.names.out.0 inputs.left.1 free left of_out
+input_apart job entry key is_job inputs free (inr right) of_out = apart job entry (right_array job) _ key is_job.names.right.0 is_job.names.out.0 inputs.right.1 free right of_out
 
 input_landed : (job : Job) (entry held : Contents) (late : List Write) (key : List ℕ) → IsJob job → IsQuiet job entry late → HasInputs job entry → IsFree job entry
-    → IsArrayKey job job.left key ⊎ IsArrayKey job job.right key → IsKeptAt (IsAmong (plan_writes job entry ++ late)) entry held key → held key ≡ entry key
+    → IsInputKey job key → IsKeptAt (IsAmong (plan_writes job entry ++ late)) entry held key → held key ≡ entry key
 input_landed job entry held late key is_job quiet inputs free of_input (inl same) = same
 input_landed job entry held late key is_job quiet inputs free of_input (inr (bytes, write, now)) =
     elim (among_either (plan_writes job entry) late key bytes write) [
@@ -139,17 +200,17 @@ input_landed job entry held late key is_job quiet inputs free of_input (inr (byt
 
 -- An input's key holds what it held when the call began.
 pub input_stays : (job : Job) (entry held : Contents) (late now_late : List Write) (key : List ℕ) → IsStarted job entry late (Some held) now_late
-    → IsArrayKey job job.left key ⊎ IsArrayKey job job.right key → held key ≡ entry key
+    → IsInputKey job key → held key ≡ entry key
 input_stays job entry held late now_late key started of_input =
     input_landed job entry held late key started.is_job started.quiet started.inputs started.free of_input (started.follows.0 key)
 
 -- each write that may land on a key of the plan has its one value
-pub lands_value : (job : Job) (entry : Contents) (late : List Write) (key bytes : List ℕ) → IsQuiet job entry late → IsArrayKey job job.out key
+pub lands_value : (job : Job) (entry : Contents) (late : List Write) (key bytes : List ℕ) → IsQuiet job entry late → IsPlanKey job key
     → IsAmong (plan_writes job entry ++ late) key bytes → IsAmong (plan_writes job entry) key bytes
 lands_value job entry late key bytes quiet of_out write =
     elim (among_either (plan_writes job entry) late key bytes write) [ inl plan ↦ plan | inr landed ↦ quiet.plan key bytes landed of_out ]
 
-left_at : (job : Job) (entry held : Contents) (late : List Write) (key : List ℕ) → IsQuiet job entry late → IsFree job entry → IsArrayKey job job.out key
+left_at : (job : Job) (entry held : Contents) (late : List Write) (key : List ℕ) → IsQuiet job entry late → IsFree job entry → IsPlanKey job key
     → IsKeptAt (IsAmong (plan_writes job entry ++ late)) entry held key
     → (held key ≡ None) ⊎ ((bytes : List ℕ) × IsAmong (plan_writes job entry) key bytes × (held key ≡ Some bytes))
 left_at job entry held late key quiet free of_out (inl same) = inl (same ∙ free key of_out)
@@ -198,13 +259,13 @@ value_stays_late job entry late now_late (Some held) (Some next) key bytes start
 -- ---- the steps of the run
 
 -- the metadata is a write of the plan
-pub metadata_write : (job : Job) (entry : Contents) → IsAmong (plan_writes job entry) (metadata_key_of job.out) (metadata_text (layout_of job))
+pub own_metadata : (job : Job) (entry : Contents) → IsAmong (plan_writes job entry) (metadata_key_of job.names.out) (out_metadata job)
 unfolding plan_writes
-metadata_write job entry = inl (refl, refl)
+own_metadata job entry = inl (refl, refl)
 
 -- a chunk with its value is a write of the plan
 pub chunk_write : (job : Job) (entry : Contents) (k : ℕ) (bytes : List ℕ) → k < chunks_of job → chunk_value job entry k ≡ Some bytes
-    → IsAmong (plan_writes job entry) (key_of_chunk job.out k) bytes
+    → IsAmong (plan_writes job entry) (key_of_chunk (out_array job) k) bytes
 unfolding plan_writes
 chunk_write job entry k bytes below value = inr (chunk_write_in job entry (chunks_of job) k bytes below value)
 
@@ -215,53 +276,27 @@ pub started_then : (job : Job) (entry : Contents) (late now_late next_late : Lis
 started_then job entry late now_late next_late held next started step =
     record { is_job = started.is_job; quiet = started.quiet; inputs = started.inputs; free = started.free; follows = step started.follows }
 
--- What is read of an input is what it held when the call began.
-pub reads_entry : (job : Job) (entry : Contents) (late now_late : List Write) (held : Option Contents) (key buf : List ℕ) → IsStarted job entry late held now_late
-    → IsArrayKey job job.left key ⊎ IsArrayKey job job.right key → ReadsChunk held key buf → IsChunkOf (entry key) buf
-reads_entry job entry late now_late None key buf started of_input reads = absurd started.follows.0
-reads_entry job entry late now_late (Some held) key buf started of_input reads =
-    subst (λ (v : Option (List ℕ)). IsChunkOf v buf) (input_stays job entry held late now_late key started of_input) reads
-
--- where a value was stored under its key, its chunk is stored
-pub stores_chunk : {T E : Type 0} (result : Result T E) (job : Job) (entry : Contents) (held : Option Contents) (k : ℕ) (key bytes : List ℕ)
-    → chunk_value job entry k ≡ Some bytes → key ≡ key_of_chunk job.out k → OnOk result (Holds held key bytes) → OnOk result (StoresChunk job entry held k)
-stores_chunk (Ok x) job entry held k key bytes value same stored = (bytes, value, rw same at stored)
-stores_chunk (Err e) job entry held k key bytes value same stored = tt
-
--- What is added of two chunks that were read is the chunk's value, and so a write of the plan.
-pub added_value : (job : Job) (entry : Contents) (late late1 late2 : List Write) (held1 held2 : Option Contents) (k inside : ℕ) (left_key right_key left right sums : List ℕ)
-    → k < chunks_of job → left_key ≡ key_of_chunk job.left k → right_key ≡ key_of_chunk job.right k
-    → IsStarted job entry late held1 late1 → IsStarted job entry late held2 late2
-    → ReadsChunk held1 left_key left → ReadsChunk held2 right_key right
-    → length left ≡ 4 * job.chunk → length right ≡ 4 * job.chunk → length sums ≡ 4 * job.chunk
-    → inside ≡ min job.chunk (job.elements - k * job.chunk) → AreSums inside left right job.chunk sums
-    → chunk_value job entry k ≡ Some sums
-added_value job entry late late1 late2 held1 held2 k inside left_key right_key left right sums below is_left_key is_right_key started1 started2 reads_left reads_right long_left long_right long edge are_sums =
-    let left_read = reads_entry job entry late late1 held1 left_key left started1 (inl (inr (k, below, is_left_key))) reads_left in
-    let right_read = reads_entry job entry late late2 held2 right_key right started2 (inr (inr (k, below, is_right_key))) reads_right in
-    chunk_value_is job entry k inside left right sums (rw is_left_key at left_read) (rw is_right_key at right_read) long_left long_right long edge are_sums
-
 -- a chunk that is stored stays stored
 pub stored_stays : (job : Job) (entry : Contents) (held next : Option Contents) (k : ℕ) → k < chunks_of job → ValuesStay job entry held next
     → StoresChunk job entry held k → StoresChunk job entry next k
-stored_stays job entry held next k below stays (bytes, value, holds) = (bytes, value, stays (key_of_chunk job.out k) bytes (chunk_write job entry k bytes below value) holds)
+stored_stays job entry held next k below stays (bytes, value, holds) = (bytes, value, stays (key_of_chunk (out_array job) k) bytes (chunk_write job entry k bytes below value) holds)
 
 pub more_stored : (job : Job) (entry : Contents) (held next : Option Contents) (n : ℕ) → n < chunks_of job → ValuesStay job entry held next
     → StoresChunks job entry held n → StoresChunk job entry next n → StoresChunks job entry next (n + 1)
 more_stored job entry held next n below stays so_far here =
     below_more _ _ (λ k earlier. stored_stays job entry held next k (omega (arith, below, earlier)) stays (so_far k earlier)) here
 
-complete_at : (job : Job) (entry held : Contents) (key : List ℕ) → held (metadata_key_of job.out) ≡ Some (metadata_text (layout_of job))
-    → StoresChunks job entry (Some held) (chunks_of job) → IsArrayKey job job.out key → (bytes : List ℕ) × IsAmong (plan_writes job entry) key bytes × (held key ≡ Some bytes)
+complete_at : (job : Job) (entry held : Contents) (key : List ℕ) → held (metadata_key_of job.names.out) ≡ Some (out_metadata job)
+    → StoresChunks job entry (Some held) (chunks_of job) → IsPlanKey job key → (bytes : List ℕ) × IsAmong (plan_writes job entry) key bytes × (held key ≡ Some bytes)
 complete_at job entry held key metadata chunks (inl same) =
-    (metadata_text (layout_of job), rw same (metadata_write job entry), rw same metadata)
+    (out_metadata job, rw same (own_metadata job entry), rw same metadata)
 complete_at job entry held key metadata chunks (inr (k, below, same)) =
     let (bytes, value, holds) = chunks k below in
     (bytes, rw same (chunk_write job entry k bytes below value), rw same holds)
 
 -- the metadata and all chunks are the whole output
 pub completes : {T E : Type 0} (result : Result T E) (job : Job) (entry : Contents) (held : Option Contents)
-    → Holds held (metadata_key_of job.out) (metadata_text (layout_of job)) → OnOk result (StoresChunks job entry held (chunks_of job)) → OnOk result (Completes job entry held)
+    → Holds held (metadata_key_of job.names.out) (out_metadata job) → OnOk result (StoresChunks job entry held (chunks_of job)) → OnOk result (Completes job entry held)
 completes (Err e) job entry held metadata chunks = tt
 completes (Ok x) job entry None metadata chunks = tt
 completes (Ok x) job entry (Some held) metadata chunks = λ key of_out. complete_at job entry held key metadata chunks of_out

@@ -1,29 +1,25 @@
 -- The elements of a complete output are the sums.
-use Rattle.std.proofs.Common.{◌≡◌, ℕ, suc, ◌+◌, ◌-◌, ◌*◌, ◌/◌, ◌%◌, ◌<◌, ◌≤◌, ℤ, ◌+ℤ◌, List, [], ◌∷◌, length, Option, Some, None, option_map, refl, sym, ap, ◌∙◌, subst, inl, inr, arith}
-use Rattle.std.proofs.Math.Nat.{suc-mul}
-use Rattle.std.proofs.lemmas.Nat.{le-div, div-add-mod'}
-use Rattle.cu_codec.proofs.KeyLaws.{chunk_not_metadata}
+use Rattle.std.proofs.Common.{◌≡◌, ℕ, ◌<◌, ℤ, ◌+ℤ◌, List, length, Option, Some, None, option_map, refl, sym, ap, ◌∙◌, subst, inr}
 use Rattle.cu_num.specs.Dtype.{InRange, size_of}
 use Rattle.cu_num.specs.Element.{element_bytes}
 use Rattle.cu_num.specs.Wrap.{wrapped}
-use Rattle.cu_num.specs.declared.layout.Encoding.TheVariants.{Plain}
-use Rattle.cu_num.specs.declared.layout.Sep.TheVariants.{Slash}
-use Rattle.cu_num.specs.declared.types.Dtype.TheVariants.{Int32}
+use Rattle.cu_num.specs.declared.types.Dtype.{Dtype}
+use Rattle.cu_num.proofs.ElementBytes.{length-element_bytes}
 use Rattle.cu_num.proofs.Wrapped.{InRange-wrapped}
+use Rattle.cu_grid.proofs.Parting.{has_coordinate, inner_inside}
+use Rattle.cu_op.specs.Arrays.{grid_counts}
+use Rattle.cu_op.specs.Layout.{layout_view}
 use Rattle.cu_shape.specs.Index.{product, IsInside, place_of, quotients, remainders}
-use Rattle.cu_shape.proofs.Places.{place-below}
-use Rattle.cu_store.specs.Held.{Contents, IsAmong}
+use Rattle.cu_shape.proofs.Places.{place-below, index-place, inside-length, test_from_inside}
+use Rattle.cu_store.specs.Held.{Contents}
 use Rattle.cu_zarr.proofs.Joined.{joined_parts}
 use Rattle.cu_zarr.proofs.Spelled.{index_in_chunk_again, spelled_element}
-use Rattle.cu_num.proofs.ElementBytes.{length-element_bytes}
-use Rattle.cu_shape.proofs.Places.{test_from_inside}
-use Rattle.cu_zarr.specs.Layout.{index_in_chunk}
-use Rattle.cu_zarr.specs.Layout.{ArrayLayout}
+use Rattle.cu_zarr.specs.Layout.{ArrayLayout, index_in_chunk}
 use Rattle.cu_zarr.specs.Spelling.{padded, spelled}
-use Rattle.cu_zarr.specs.Stored.{stored_element}
-use Rattle.cu_top.proofs.JobLemmas.{chunk_write_is, same_chunk_number, small_coordinate}
-use Rattle.cu_top.specs.Job.{IsJob, IsComplete, layout_of, chunks_of, key_of_chunk, chunk_value, plan_writes, sum_at, wrapped_sum}
-use Rattle.cu_top.specs.OneAxis.{count_of}
+use Rattle.cu_zarr.specs.Stored.{element_in}
+use Rattle.cu_zarr.specs.Key.{chunk_key_of}
+use Rattle.cu_top.proofs.JobLemmas.{written_chunk}
+use Rattle.cu_top.specs.Job.{IsJob, IsComplete, left_array, right_array, out_array, made_layout, chunks_of, coord_of, key_of_chunk, sum_at, wrapped_sum, element_of}
 use Rattle.cu_top.specs.declared.job.Job.{Job}
 
 part_length : (l : ArrayLayout) (x : Option ℤ) (b : List ℕ) → option_map (element_bytes l.endian l.dtype) x ≡ Some b → length b ≡ size_of l.dtype
@@ -47,33 +43,29 @@ spelled_defined l f idx bytes e same in_chunk inside =
     let (x, is) = mapped_some l _ _ part in
     (x, sym (padded_inside l f (quotients idx l.chunk) idx (place_of l.chunk (remainders idx l.chunk)) (index_in_chunk_again l idx same in_chunk) inside) ∙ is)
 
-sum_in_range : (x y : Option ℤ) (z : ℤ) → wrapped_sum x y ≡ Some z → InRange Int32 z
-sum_in_range None y z e = cc
-sum_in_range (Some a) None z e = cc
-sum_in_range (Some a) (Some b) z e = let same : wrapped Int32 (a +ℤ b) ≡ z = cc in subst (InRange Int32) same (InRange-wrapped Int32 (a +ℤ b))
+sum_in_range : (t : Dtype) (x y : Option ℤ) (z : ℤ) → wrapped_sum t x y ≡ Some z → InRange t z
+sum_in_range t None y z e = cc
+sum_in_range t (Some a) None z e = cc
+sum_in_range t (Some a) (Some b) z e = let same : wrapped t (a +ℤ b) ≡ z = cc in subst (InRange t) same (InRange-wrapped t (a +ℤ b))
 
-chunk_of_element : (n c i : ℕ) → 1 ≤ c → i < n → i / c < count_of n c
-chunk_of_element n c i some below =
-    let corner : i / c * c + i % c ≡ i = div-add-mod' i c in
-    le-div (suc (i / c)) (n + (c - 1)) c some (rw suc-mul (omega (arith, corner)))
-
-written_chunk : (job : Job) (entry : Contents) (k : ℕ) (bytes : List ℕ) → IsJob job → k < chunks_of job → IsAmong (plan_writes job entry) (key_of_chunk job.out k) bytes → chunk_value job entry k ≡ Some bytes
-unfolding plan_writes
-written_chunk job entry k bytes is_job below (inl metadata) =
-    absurd (chunk_not_metadata job.out (Plain Slash) (k ∷ []) (small_coordinate k (omega (arith, below, is_job.limits.chunks))) metadata.0)
-written_chunk job entry k bytes is_job below (inr among) =
-    let (j, small, same, value) = chunk_write_is job entry (chunks_of job) (key_of_chunk job.out k) bytes among in
-    let number : k ≡ j = same_chunk_number job.out k j (omega (arith, below, is_job.limits.chunks)) (omega (arith, small, is_job.limits.chunks)) same in
-    ap (chunk_value job entry) number ∙ value
-
-pub output_elements : (job : Job) (entry held : Contents) (i : ℕ) → IsJob job → IsComplete job entry held → i < job.elements
-    → (x : ℤ) × (sum_at job entry (i ∷ []) ≡ Some x) × (stored_element (layout_of job) job.out held (i ∷ []) ≡ Some x)
-output_elements job entry held i is_job complete below =
-    let k : ℕ = i / job.chunk in
-    let in_count : i / job.chunk < chunks_of job = chunk_of_element job.elements job.chunk i is_job.limits.some below in
-    let (bytes, among, there) = complete (key_of_chunk job.out (i / job.chunk)) (inr (i / job.chunk, in_count, refl)) in
-    let value = written_chunk job entry (i / job.chunk) bytes is_job in_count among in
-    let in_chunk : i % job.chunk < job.chunk = omega (arith, is_job.limits.some) in
-    let (x, is) = spelled_defined (layout_of job) (sum_at job entry) (i ∷ []) bytes value refl (in_chunk, tt) (below, tt) in
-    let range = sum_in_range (stored_element (layout_of job) job.left entry (i ∷ [])) (stored_element (layout_of job) job.right entry (i ∷ [])) x is in
-    (x, is, rw there (spelled_element (layout_of job) (sum_at job entry) (i ∷ []) bytes x value refl (in_chunk, tt) (below, tt) is range))
+pub output_elements : (job : Job) (entry held : Contents) (idx : List ℕ) → IsJob job → IsComplete job entry held → IsInside job.left.grid.shape idx
+    → (x : ℤ) × (sum_at job entry idx ≡ Some x) × (element_of (out_array job) held idx ≡ Some x)
+output_elements job entry held idx ok complete inside =
+    let here = has_coordinate job.left.grid idx ok.left.grid inside in
+    let below : place_of (grid_counts job.left.grid) (quotients idx job.left.grid.chunk) < chunks_of job = place-below (grid_counts job.left.grid) (quotients idx job.left.grid.chunk) here in
+    let again : coord_of (out_array job) (place_of (grid_counts job.left.grid) (quotients idx job.left.grid.chunk)) ≡ quotients idx job.left.grid.chunk = index-place (grid_counts job.left.grid) (quotients idx job.left.grid.chunk) here in
+    let (bytes, among, there) = complete (key_of_chunk (out_array job) (place_of (grid_counts job.left.grid) (quotients idx job.left.grid.chunk))) (inr (place_of (grid_counts job.left.grid) (quotients idx job.left.grid.chunk), below, refl)) in
+    let value = written_chunk job entry (place_of (grid_counts job.left.grid) (quotients idx job.left.grid.chunk)) bytes ok below among in
+    let spells : spelled (layout_view (made_layout job.left)) (sum_at job entry) (quotients idx job.left.grid.chunk) ≡ Some bytes =
+    subst (λ (c : List ℕ). spelled (layout_view (made_layout job.left)) (sum_at job entry) c ≡ Some bytes) again value in
+    let stored : held (chunk_key_of job.names.out (made_layout job.left).encoding (quotients idx job.left.grid.chunk)) ≡ Some bytes =
+    subst (λ (c : List ℕ). held (chunk_key_of job.names.out (made_layout job.left).encoding c) ≡ Some bytes) again there in
+    let rank : length idx ≡ length job.left.grid.chunk = inside-length job.left.grid.shape idx inside ∙ sym ok.left.grid.ranks in
+    let inner = inner_inside job.left.grid idx ok.left.grid inside in
+    let (x, is) = spelled_defined (layout_view (made_layout job.left)) (sum_at job entry) idx bytes spells rank inner inside in
+    let range = sum_in_range job.left.dtype (element_of (left_array job) entry idx) (element_of (right_array job) entry idx) x is in (
+      x,
+      is,
+      ap (λ (v : Option (List ℕ)). element_in (layout_view (made_layout job.left)) v idx) stored
+          ∙ spelled_element (layout_view (made_layout job.left)) (sum_at job entry) idx bytes x spells rank inner inside is range,
+    )

@@ -2,7 +2,7 @@
 use Rattle.std.proofs.Common.{◌≡◌, [], codes, refl}
 use Rattle.std.specs.Fmt.{digits}
 use Rattle.cu_top.specs.Status.{line_of}
-use Rattle.cu_top.specs.declared.status.Status.TheVariants.{Done, BadWords, OverMemory, Exists, BadChunk, NotBuilt, NoMemory}
+use Rattle.cu_top.specs.declared.status.Status.TheVariants.{Done, BadWords, OverMemory, Exists, TaskFailed, BadChunk, NotBuilt, NoMemory}
 
 done : line_of Done ≡ []
 done = refl
@@ -17,6 +17,10 @@ one_byte_short = refl
 
 held : line_of (Exists (codes "y/zarr.json")) ≡ codes "error 9 key=y/zarr.json"
 held = refl
+
+last_task_failed : line_of (TaskFailed 0 65535) ≡ codes "error 10 op=0 task=65535"
+unfolding digits
+last_task_failed = refl
 
 short_chunk : line_of (BadChunk (codes "a/c/0") 15 16) ≡ codes "error 13 key=a/c/0 got=15 want=16"
 unfolding digits

@@ -1,17 +1,21 @@
 -- From the parts of a run to what the call answers.
-use Rattle.std.proofs.Common.{◌≡◌, ℕ, ◌≤◌, ◌++◌, List, Option, Some, None, Err, Bool, inl, inr, arith, refl, sym, subst}
+use Rattle.std.proofs.Common.{◌≡◌, ℕ, ◌<◌, ◌≤◌, ◌++◌, ◌∷◌, List, Option, Some, None, Result, Ok, Err, Bool, inl, inr, arith, refl, sym, subst}
+use Rattle.std.specs.Prelude.{OnOk}
 use Rattle.cu_top.proofs.JobLemmas.{among_back, left_of_started}
 use Rattle.cu_store.proofs.Writes.{lands_same, lands_more}
 use Rattle.cu_store.specs.Faults.{Rose}
 use Rattle.cu_store.specs.Held.{Contents, Write, IsAmong, Follows}
-use Rattle.cu_top.specs.Job.{IsStarted, plan_writes}
-use Rattle.cu_top.specs.Report.{TellsMemory}
-use Rattle.cu_top.specs.Run.{IsInputFault, IfNotBuilt, HasNoInputs, IsAskFault, IfAsked, IfExists, IsFirstInWay, IsOwnFirst, IsApart, IsCalm, over_memory, IsRunKey, Completes}
-use Rattle.cu_top.specs.Top.{IsAccepted, IsRun, Refuses, Ran, Carries, IfStored, WroteLine, WrotePart, IsBad, Anything, IsLeftIn}
+use Rattle.cu_top.specs.Job.{IsStarted, plan_writes, key_of_chunk, out_array, chunks_of}
+use Rattle.cu_top.specs.Plan.{over_memory}
+use Rattle.cu_top.specs.Report.{TellsMemory, Reports}
+use Rattle.cu_zarr.specs.Key.{metadata_key_of}
+use Rattle.cu_top.specs.Run.{IsInputFault, IfNotBuilt, HasNoInputs, IsAskFault, IfAsked, IfExists, IsFirstInWay, IsOwnFirst, IsApart, IsCalm, Completes, IfDepotFailed, IsStoreFault, metadata_write, report_line}
+use Rattle.cu_top.specs.Tasks.{IsBad}
+use Rattle.cu_top.specs.Top.{IsAccepted, IsRun, Refuses, Ran, IsCalled, Tells, Carries, IfStored, PrintsOnly, WroteLine, WrotePart, Anything, IsLeftIn}
 use Rattle.cu_top.specs.declared.job.Job.{Job}
 use Rattle.cu_top.specs.declared.job.Names.{Names}
 use Rattle.cu_top.specs.declared.status.Status.{Status}
-use Rattle.cu_top.specs.declared.status.Status.TheVariants.{Done, BadWords, OverMemory, Exists, ReadFault, WriteFault, BadChunk, DepotFailed, NotBuilt, NoMemory}
+use Rattle.cu_top.specs.declared.status.Status.TheVariants.{Done, BadWords, OverMemory, Exists, TaskFailed, ReadFault, WriteFault, BadChunk, DepotFailed, NotBuilt, NoMemory}
 use Rattle.cu_top.specs.declared.words.Options.{Options}
 
 -- when the call begins, nothing has landed since
@@ -31,6 +35,7 @@ input_refused names options old new late f g Done fault missing = fault
 input_refused names options old new late f g (BadWords code) fault missing = fault
 input_refused names options old new late f g (OverMemory node need allowed) fault missing = absurd fault
 input_refused names options old new late f g (Exists key) fault missing = absurd fault
+input_refused names options old new late f g (TaskFailed op task) fault missing = absurd fault
 input_refused names options old new late f g ReadFault fault missing = fault
 input_refused names options old new late f g WriteFault fault missing = fault
 input_refused names options old new late f g (BadChunk key got want) fault missing = fault
@@ -46,6 +51,7 @@ pub ask_refused : (names : Names) (options : Options) (old new : Option Contents
     → ((entry : Contents) → old ≡ Some entry → IfAsked status (IsFirstInWay job entry)) → IfExists status (IsOwnFirst job) → Refuses names options old new late f g status
 ask_refused names options old new late f h g lacks job (Exists key) accepted fits earlier fault first own =
     record { job = job; accepted = accepted; fits = fits; in_way = fault; own = own; first = first }
+ask_refused names options old new late f h g lacks job (TaskFailed op task) accepted fits earlier fault first own = absurd fault
 ask_refused names options old new late f h g lacks job (DepotFailed key) accepted fits earlier fault first own =
     (rose_earlier 3 f h g earlier fault.1, inr (record { job = job; accepted = accepted; fits = fits; of_plan = fault.0; first = first }))
 ask_refused names options old new late f h g lacks job NoMemory accepted fits earlier fault first own = tt
@@ -73,6 +79,7 @@ pub ran_refused : (names : Names) (options : Options) (old new : Option Contents
     → Refuses names options old new late f g status → Follows late old new now_late → Ran names options old new late now_late f g v w front back status
 ran_refused names options old new late now_late f g v w front back (OverMemory node need allowed) refused untouched = (untouched, refused.0, refused.1)
 ran_refused names options old new late now_late f g v w front back (Exists key) refused untouched = (untouched, refused)
+ran_refused names options old new late now_late f g v w front back (TaskFailed op task) refused untouched = absurd refused
 ran_refused names options old new late now_late f g v w front back (NotBuilt node) refused untouched = (untouched, refused.0, refused.1)
 ran_refused names options old new late now_late f g v w front back (DepotFailed key) refused untouched = (refused.0, inl (untouched, refused.1))
 ran_refused names options old new late now_late f g v w front back NoMemory refused untouched = inl untouched
@@ -101,24 +108,170 @@ is_run names options old new late now_late fact told job accepted fits apart is_
   holds = holds;
 }
 
+-- what is told of a run of which nothing more is known
+nothing_told : (old : Option Contents) (names : Names) (late : List Write) (job : Job) → (entry : Contents) → old ≡ Some entry → IsCalm names entry late → Anything job entry
+nothing_told old names late job entry same calm = tt
+
+line_earlier : (options : Options) (f h g : ℕ) (front back : Option (List ℕ)) (job : Job) → f ≤ h → WroteLine options h g front back job → WroteLine options f g front back job
+line_earlier options f h g front back job earlier (failed, rose, wrote) = (failed, rose_earlier failed f h g earlier rose, wrote)
+
+part_earlier : (options : Options) (f h g : ℕ) (front back : Option (List ℕ)) (job : Job) → f ≤ h → WrotePart options h g front back job → WrotePart options f g front back job
+part_earlier options f h g front back job earlier (failed, rose, wrote) = (failed, rose_earlier failed f h g earlier rose, wrote)
+
 pub ran_carried : (names : Names) (options : Options) (old new : Option Contents) (late now_late : List Write) (f h g v w : ℕ) (front back : Option (List ℕ)) (job : Job) (status : Status)
     → Carries job options h g new v w front back status
     → IsAccepted names options old late job → over_memory options job ≡ None → IsApart job → f ≤ h
     → ((entry : Contents) → old ≡ Some entry → IsCalm names entry late → IsStarted job entry late new now_late)
     → ((entry : Contents) → old ≡ Some entry → IsCalm names entry late → IfStored status (Completes job entry new))
+    → ((entry : Contents) → old ≡ Some entry → IfDepotFailed status (Follows (metadata_write job ∷ late) (Some entry) new now_late))
     → Ran names options old new late now_late f g v w front back status
-ran_carried names options old new late now_late f h g v w front back job Done carried accepted fits apart earlier started stored =
-    is_run names options old new late now_late (WroteLine options front back) (λ job entry. Completes job entry new) job accepted fits apart carried started stored
-ran_carried names options old new late now_late f h g v w front back job WriteFault carried accepted fits apart earlier started stored =
-    (carried.0, is_run names options old new late now_late (WrotePart options front back) (λ job entry. Completes job entry new) job accepted fits apart carried.1 started stored)
-ran_carried names options old new late now_late f h g v w front back job (BadChunk key got want) carried accepted fits apart earlier started stored =
-    is_run names options old new late now_late (IsBad new key got want) Anything job accepted fits apart carried started (λ entry same quiet. tt)
-ran_carried names options old new late now_late f h g v w front back job (DepotFailed key) carried accepted fits apart earlier started stored =
-    (rose_earlier 3 f h g earlier carried.1, inr (is_run names options old new late now_late (λ job. IsRunKey job key) Anything job accepted fits apart carried.0 started (λ entry same calm. tt)))
-ran_carried names options old new late now_late f h g v w front back job NoMemory carried accepted fits apart earlier started stored =
-    inr (is_run names options old new late now_late (λ job. Unit {0}) Anything job accepted fits apart tt started (λ entry same quiet. tt))
-ran_carried names options old new late now_late f h g v w front back job (OverMemory node need allowed) carried accepted fits apart earlier started stored = absurd carried
-ran_carried names options old new late now_late f h g v w front back job (Exists key) carried accepted fits apart earlier started stored = absurd carried
-ran_carried names options old new late now_late f h g v w front back job (NotBuilt node) carried accepted fits apart earlier started stored = absurd carried
-ran_carried names options old new late now_late f h g v w front back job (BadWords code) carried accepted fits apart earlier started stored = carried
-ran_carried names options old new late now_late f h g v w front back job ReadFault carried accepted fits apart earlier started stored = carried
+ran_carried names options old new late now_late f h g v w front back job Done carried accepted fits apart earlier started stored alone =
+    is_run names options old new late now_late (WroteLine options f g front back) (λ job entry. Completes job entry new) job accepted fits apart (line_earlier options f h g front back job earlier carried) started stored
+ran_carried names options old new late now_late f h g v w front back job WriteFault carried accepted fits apart earlier started stored alone =
+    (carried.0, is_run names options old new late now_late (WrotePart options f g front back) (λ job entry. Completes job entry new) job accepted fits apart (part_earlier options f h g front back job earlier carried.1) started stored)
+ran_carried names options old new late now_late f h g v w front back job (BadChunk key got want) carried accepted fits apart earlier started stored alone =
+    is_run names options old new late now_late (IsBad new key got want) Anything job accepted fits apart carried started (nothing_told old names late job)
+ran_carried names options old new late now_late f h g v w front back job (TaskFailed op task) carried accepted fits apart earlier started stored alone = (
+  rose_earlier 3 f h g earlier carried.2,
+  carried.0,
+  is_run names options old new late now_late (λ job. task < chunks_of job) (λ job entry. entry (key_of_chunk (out_array job) task) ≡ None) job accepted fits apart carried.1 started
+      (λ entry same calm. (started entry same calm).free (key_of_chunk (out_array job) task) (inr (task, carried.1, refl))),
+)
+ran_carried names options old new late now_late f h g v w front back job (DepotFailed key) carried accepted fits apart earlier started stored alone = (
+  rose_earlier 3 f h g earlier carried.1,
+  inr (is_run names options old new late now_late (λ job. key ≡ metadata_key_of job.names.out) (λ job entry. Follows (metadata_write job ∷ late) (Some entry) new now_late) job accepted fits apart carried.0 started
+      (λ entry same calm. alone entry same)),
+)
+ran_carried names options old new late now_late f h g v w front back job NoMemory carried accepted fits apart earlier started stored alone =
+    inr (is_run names options old new late now_late (λ job. Unit {0}) Anything job accepted fits apart tt started (nothing_told old names late job))
+ran_carried names options old new late now_late f h g v w front back job (OverMemory node need allowed) carried accepted fits apart earlier started stored alone = absurd carried
+ran_carried names options old new late now_late f h g v w front back job (Exists key) carried accepted fits apart earlier started stored alone = absurd carried
+ran_carried names options old new late now_late f h g v w front back job (NotBuilt node) carried accepted fits apart earlier started stored alone = absurd carried
+ran_carried names options old new late now_late f h g v w front back job (BadWords code) carried accepted fits apart earlier started stored alone = carried
+ran_carried names options old new late now_late f h g v w front back job ReadFault carried accepted fits apart earlier started stored alone = carried
+
+-- what was late may still be, when the metadata is stored
+pub metadata_first : (job : Job) (entry : Contents) (late now_late : List Write) (held : Option Contents) → Follows late (Some entry) held now_late
+    → Follows (metadata_write job ∷ late) (Some entry) held now_late
+metadata_first job entry late now_late held follows = (
+  lands_more (Some entry) held (λ key bytes among. inr among) follows.0,
+  λ key bytes among. inr (follows.1 key bytes among),
+)
+
+-- ---- carrying out a job
+
+module _ (job : Job) (options : Options) (f g v w : ℕ) (held : Option Contents) (old new : Option (List ℕ)) (failed : ℕ) where
+  pub carries_report : (status : Status) → Rose failed f g → Reports old new (report_line options job failed) v w status → Carries job options f g held v w old new status
+  carries_report Done rose told = (failed, rose, told)
+  carries_report WriteFault rose told = (told.0, (failed, rose, told.1))
+  carries_report (BadWords code) rose told = told
+  carries_report (OverMemory node need allowed) rose told = absurd told
+  carries_report (Exists key) rose told = absurd told
+  carries_report (TaskFailed op task) rose told = absurd told
+  carries_report ReadFault rose told = told
+  carries_report (BadChunk key got want) rose told = absurd told
+  carries_report (DepotFailed key) rose told = absurd told
+  carries_report (NotBuilt node) rose told = absurd told
+  carries_report NoMemory rose told = tt
+
+  pub prints_report : (status : Status) → Reports old new (report_line options job failed) v w status → PrintsOnly status old new
+  prints_report Done told = tt
+  prints_report WriteFault told = tt
+  prints_report (BadWords code) told = absurd told
+  prints_report (OverMemory node need allowed) told = absurd told
+  prints_report (Exists key) told = absurd told
+  prints_report (TaskFailed op task) told = absurd told
+  prints_report ReadFault told = absurd told
+  prints_report (BadChunk key got want) told = absurd told
+  prints_report (DepotFailed key) told = absurd told
+  prints_report (NotBuilt node) told = absurd told
+  prints_report NoMemory told = absurd told
+
+  pub alone_report : (status : Status) (P : Type 0) → Reports old new (report_line options job failed) v w status → IfDepotFailed status P
+  alone_report Done P told = tt
+  alone_report WriteFault P told = tt
+  alone_report (BadWords code) P told = tt
+  alone_report (OverMemory node need allowed) P told = tt
+  alone_report (Exists key) P told = tt
+  alone_report (TaskFailed op task) P told = tt
+  alone_report ReadFault P told = tt
+  alone_report (BadChunk key got want) P told = tt
+  alone_report (DepotFailed key) P told = absurd told
+  alone_report (NotBuilt node) P told = tt
+  alone_report NoMemory P told = tt
+
+pub if_stored : (status : Status) (P : Type 0) → P → IfStored status P
+if_stored Done P h = h
+if_stored WriteFault P h = h
+if_stored (BadWords code) P h = tt
+if_stored (OverMemory node need allowed) P h = tt
+if_stored (Exists key) P h = tt
+if_stored (TaskFailed op task) P h = tt
+if_stored ReadFault P h = tt
+if_stored (BadChunk key got want) P h = tt
+if_stored (DepotFailed key) P h = tt
+if_stored (NotBuilt node) P h = tt
+if_stored NoMemory P h = tt
+
+module _ (job : Job) (options : Options) (f g v w : ℕ) (held : Option Contents) (old : Option (List ℕ)) where
+  pub carries_fault : (status : Status) → IsStoreFault job f g held status → Carries job options f g held v w old old status
+  carries_fault (DepotFailed key) fault = fault
+  carries_fault (TaskFailed op task) fault = fault
+  carries_fault (BadChunk key got want) fault = fault
+  carries_fault NoMemory fault = tt
+  carries_fault Done fault = absurd fault
+  carries_fault (BadWords code) fault = fault
+  carries_fault (OverMemory node need allowed) fault = absurd fault
+  carries_fault (Exists key) fault = absurd fault
+  carries_fault ReadFault fault = fault
+  carries_fault WriteFault fault = absurd fault
+  carries_fault (NotBuilt node) fault = absurd fault
+
+  pub prints_fault : (status : Status) → IsStoreFault job f g held status → PrintsOnly status old old
+  prints_fault (DepotFailed key) fault = refl
+  prints_fault (TaskFailed op task) fault = refl
+  prints_fault (BadChunk key got want) fault = refl
+  prints_fault NoMemory fault = refl
+  prints_fault Done fault = tt
+  prints_fault (BadWords code) fault = refl
+  prints_fault (OverMemory node need allowed) fault = refl
+  prints_fault (Exists key) fault = refl
+  prints_fault ReadFault fault = refl
+  prints_fault WriteFault fault = tt
+  prints_fault (NotBuilt node) fault = refl
+
+  pub stored_fault : (status : Status) (P : Type 0) → IsStoreFault job f g held status → IfStored status P
+  stored_fault (DepotFailed key) P fault = tt
+  stored_fault (TaskFailed op task) P fault = tt
+  stored_fault (BadChunk key got want) P fault = tt
+  stored_fault NoMemory P fault = tt
+  stored_fault Done P fault = absurd fault
+  stored_fault (BadWords code) P fault = tt
+  stored_fault (OverMemory node need allowed) P fault = tt
+  stored_fault (Exists key) P fault = tt
+  stored_fault ReadFault P fault = tt
+  stored_fault WriteFault P fault = absurd fault
+  stored_fault (NotBuilt node) P fault = tt
+
+-- the output is complete where it was stored
+pub ok_holds : {T E : Type 0} (result : Result T E) (x : T) (P : Type 0) → result ≡ Ok x → OnOk result P → P
+ok_holds (Ok y) x P is h = h
+ok_holds (Err e) x P is h = cc
+
+-- ---- the call
+
+-- what a run answers, the call answers
+pub told_run : (words : List (List ℕ)) (src next : Option (List ℕ)) (t u : ℕ) (old new : Option Contents) (late now_late : List Write) (f g v w : ℕ) (front back : Option (List ℕ)) (names : Names) (options : Options) (status : Status)
+    → IsCalled words src next names options → Ran names options old new late now_late f g v w front back status
+    → Tells words src next t u old new late now_late (λ names options. Ran names options old new late now_late f g v w front back) status
+told_run words src next t u old new late now_late f g v w front back names options Done called ran = record { names = names; options = options; called = called; ran = ran }
+told_run words src next t u old new late now_late f g v w front back names options (OverMemory node need allowed) called ran = record { names = names; options = options; called = called; ran = ran }
+told_run words src next t u old new late now_late f g v w front back names options (Exists key) called ran = record { names = names; options = options; called = called; ran = ran }
+told_run words src next t u old new late now_late f g v w front back names options (TaskFailed op task) called ran = record { names = names; options = options; called = called; ran = ran }
+told_run words src next t u old new late now_late f g v w front back names options WriteFault called ran = record { names = names; options = options; called = called; ran = ran }
+told_run words src next t u old new late now_late f g v w front back names options (BadChunk key got want) called ran = record { names = names; options = options; called = called; ran = ran }
+told_run words src next t u old new late now_late f g v w front back names options (DepotFailed key) called ran = record { names = names; options = options; called = called; ran = ran }
+told_run words src next t u old new late now_late f g v w front back names options NoMemory called ran = inr (record { names = names; options = options; called = called; ran = ran })
+told_run words src next t u old new late now_late f g v w front back names options (NotBuilt node) called ran = (ran.1, inr (record { names = names; options = options; called = called; ran = ran }))
+told_run words src next t u old new late now_late f g v w front back names options (BadWords code) called ran = absurd ran
+told_run words src next t u old new late now_late f g v w front back names options ReadFault called ran = absurd ran

@@ -1,51 +1,107 @@
 -- What one addition stores: its keys, and the one value of each.
-use Rattle.std.specs.Prelude.{◌≡◌, ◌⊎◌, ℕ, zero, suc, ◌<◌, ◌≤◌, ℤ, ◌+ℤ◌, List, [], ◌∷◌, ◌++◌, length, Option, Some, None, option_map, option_and_then}
+use Rattle.std.specs.Prelude.{◌≡◌, ◌⊎◌, ℕ, zero, suc, ◌<◌, ◌≤◌, ℤ, pos, ◌+ℤ◌, List, [], ◌∷◌, ◌++◌, length, Option, Some, None, option_map, option_and_then}
 use Rattle.cu_num.specs.Wrap.{wrapped}
-use Rattle.cu_num.specs.declared.types.Dtype.TheVariants.{Int32}
+use Rattle.cu_num.specs.declared.types.Dtype.{Dtype}
 use Rattle.cu_num.specs.declared.layout.Encoding.TheVariants.{Plain}
 use Rattle.cu_num.specs.declared.layout.Sep.TheVariants.{Slash}
+use Rattle.cu_num.specs.declared.layout.Endian.TheVariants.{Little}
+use Rattle.cu_shape.specs.Index.{index_at}
 use Rattle.cu_codec.specs.Names.{HasNoSlash}
+use Rattle.cu_op.specs.Arrays.{grid_counts, chunk_count}
+use Rattle.cu_op.specs.Layout.{layout_view}
+use Rattle.cu_op.specs.declared.layout.ArrayInfo.{ArrayInfo}
+use Rattle.cu_op.specs.declared.layout.Layout.{Layout}
 use Rattle.cu_store.specs.Held.{Contents, Write, IsAmong, Follows, Holds}
 use Rattle.cu_zarr.specs.Key.{chunk_key_of, metadata_key_of}
-use Rattle.cu_zarr.specs.Layout.{ArrayLayout}
 use Rattle.cu_zarr.specs.Metadata.{metadata_text}
 use Rattle.cu_zarr.specs.Spelling.{spelled}
 use Rattle.cu_zarr.specs.Stored.{stored_element}
 use Rattle.cu_top.specs.declared.job.Job.{Job}
-use Rattle.cu_top.specs.OneAxis.{one_axis, count_of, IsWithinLimits}
-
-abbrev pub layout_of : Job → ArrayLayout
-layout_of job = one_axis job.elements job.chunk
-
-abbrev pub chunks_of : Job → ℕ
-chunks_of job = count_of job.elements job.chunk
+use Rattle.cu_top.specs.declared.job.Names.{Names}
+use Rattle.cu_top.specs.Inputs.{IsBuilt, IsMetadata}
 
 -- the name of an array: no slash in it, and short enough for its keys
 abbrev pub IsArrayName : List ℕ → Type 0
 IsArrayName name = HasNoSlash name × (length name ≤ 45)
 
--- names of arrays, and sizes within the limits
+pub record AreArrayNames (names : Names) : Type 0 where
+  pub left : IsArrayName names.left
+  pub right : IsArrayName names.right
+  pub out : IsArrayName names.out
+
+-- names of arrays, and two inputs of one type and one grid
 pub record IsJob (job : Job) : Type 0 where
-  pub left : IsArrayName job.left
-  pub right : IsArrayName job.right
-  pub out : IsArrayName job.out
-  pub limits : IsWithinLimits job.elements job.chunk
+  pub names : AreArrayNames job.names
+  pub left : IsBuilt job.left
+  pub right : IsBuilt job.right
+  pub dtype : job.right.dtype ≡ job.left.dtype
+  pub grid : job.right.grid ≡ job.left.grid
 
--- the key of chunk k of the array with this name
-abbrev pub key_of_chunk : List ℕ → ℕ → List ℕ
-key_of_chunk name k = chunk_key_of name (Plain Slash) (k ∷ [])
+-- ---- the arrays
 
--- the sum of two elements, wrapped once to 32 bits, where both are defined
-abbrev pub wrapped_sum : Option ℤ → Option ℤ → Option ℤ
-wrapped_sum x y = option_and_then (λ a. option_map (λ b. wrapped Int32 (a +ℤ b)) y) x
+-- the layout of a result: the inputs' type and grid, keys as `c/0`, the lower bytes first, fill value 0 (this project's own rule)
+abbrev pub made_layout : Layout → Layout
+made_layout l = record { dtype = l.dtype; grid = l.grid; encoding = Plain Slash; endian = Little; fill = pos 0 }
+
+abbrev pub left_array : Job → ArrayInfo
+left_array job = record { prefix = job.names.left; layout = job.left; maker = None }
+
+abbrev pub right_array : Job → ArrayInfo
+right_array job = record { prefix = job.names.right; layout = job.right; maker = None }
+
+abbrev pub out_array : Job → ArrayInfo
+out_array job = record { prefix = job.names.out; layout = made_layout job.left; maker = Some 0 }
+
+-- how many chunks each of them has
+abbrev pub chunks_of : Job → ℕ
+chunks_of job = chunk_count (out_array job)
+
+-- ---- keys
+
+-- the coordinate of chunk number k, row-major
+abbrev pub coord_of : ArrayInfo → ℕ → List ℕ
+coord_of a k = index_at (grid_counts a.layout.grid) k
+
+-- the key of chunk number k of the array
+abbrev pub key_of_chunk : ArrayInfo → ℕ → List ℕ
+key_of_chunk a k = chunk_key_of a.prefix a.layout.encoding (coord_of a k)
+
+-- the key of one of the array's chunks
+abbrev pub IsChunkKey : ArrayInfo → List ℕ → Type 0
+IsChunkKey a key = (k : ℕ) × (k < chunk_count a) × (key ≡ key_of_chunk a k)
+
+-- a key of the array: its metadata or one of its chunks
+abbrev pub IsArrayKey : ArrayInfo → List ℕ → Type 0
+IsArrayKey a key = (key ≡ metadata_key_of a.prefix) ⊎ IsChunkKey a key
+
+-- a key of one of the inputs, and that of a chunk of one of them
+abbrev pub IsInputKey : Job → List ℕ → Type 0
+IsInputKey job key = IsArrayKey (left_array job) key ⊎ IsArrayKey (right_array job) key
+
+abbrev pub IsInputChunk : Job → List ℕ → Type 0
+IsInputChunk job key = IsChunkKey (left_array job) key ⊎ IsChunkKey (right_array job) key
+
+-- a key of the plan: one of the output's
+abbrev pub IsPlanKey : Job → List ℕ → Type 0
+IsPlanKey job key = IsArrayKey (out_array job) key
+
+-- ---- values
+
+-- the sum of two elements, wrapped once to the type, where both are defined
+abbrev pub wrapped_sum : Dtype → Option ℤ → Option ℤ → Option ℤ
+wrapped_sum t x y = option_and_then (λ a. option_map (λ b. wrapped t (a +ℤ b)) y) x
+
+-- the element of an array in what is held
+abbrev pub element_of : ArrayInfo → Contents → List ℕ → Option ℤ
+element_of a held idx = stored_element (layout_view a.layout) a.prefix held idx
 
 -- the output's element at an index, by what the depot held when the call began
 abbrev pub sum_at : Job → Contents → List ℕ → Option ℤ
-sum_at job entry idx = wrapped_sum (stored_element (layout_of job) job.left entry idx) (stored_element (layout_of job) job.right entry idx)
+sum_at job entry idx = wrapped_sum job.left.dtype (element_of (left_array job) entry idx) (element_of (right_array job) entry idx)
 
--- the value of chunk k of the output
+-- the value of chunk number k of the output
 abbrev pub chunk_value : Job → Contents → ℕ → Option (List ℕ)
-chunk_value job entry k = spelled (layout_of job) (sum_at job entry) (k ∷ [])
+chunk_value job entry k = spelled (layout_view (made_layout job.left)) (sum_at job entry) (coord_of (out_array job) k)
 
 -- a write of this value in front, where there is one
 abbrev pub with_value : List ℕ → Option (List ℕ) → List Write → List Write
@@ -55,29 +111,35 @@ with_value key (Some bytes) writes = (key, bytes) ∷ writes
 -- the values of the chunks below k
 abbrev pub chunk_writes : Job → Contents → ℕ → List Write
 chunk_writes job entry zero = []
-chunk_writes job entry (suc k) = with_value (key_of_chunk job.out k) (chunk_value job entry k) (chunk_writes job entry k)
+chunk_writes job entry (suc k) = with_value (key_of_chunk (out_array job) k) (chunk_value job entry k) (chunk_writes job entry k)
+
+-- the text that is written as the output's metadata
+abbrev pub out_metadata : Job → List ℕ
+out_metadata job = metadata_text (layout_view (made_layout job.left))
 
 -- the one value of each key of the plan
 unfoldable pub plan_writes : Job → Contents → List Write
-plan_writes job entry = (metadata_key_of job.out, metadata_text (layout_of job)) ∷ chunk_writes job entry (chunks_of job)
+plan_writes job entry = (metadata_key_of job.names.out, out_metadata job) ∷ chunk_writes job entry (chunks_of job)
 
--- a key of the array with this name: its metadata or one of its chunks
-abbrev pub IsArrayKey : Job → List ℕ → List ℕ → Type 0
-IsArrayKey job name key = (key ≡ metadata_key_of name) ⊎ ((k : ℕ) × (k < chunks_of job) × (key ≡ key_of_chunk name k))
+-- ---- what is held
 
 -- the premise: no write of another plan, or of another content of an input, is still to land
 pub record IsQuiet (job : Job) (entry : Contents) (late : List Write) : Type 0 where
-  pub plan : (key bytes : List ℕ) → IsAmong late key bytes → IsArrayKey job job.out key → IsAmong (plan_writes job entry) key bytes
-  pub inputs : (key bytes : List ℕ) → IsAmong late key bytes → IsArrayKey job job.left key ⊎ IsArrayKey job job.right key → entry key ≡ Some bytes
+  pub plan : (key bytes : List ℕ) → IsAmong late key bytes → IsPlanKey job key → IsAmong (plan_writes job entry) key bytes
+  pub inputs : (key bytes : List ℕ) → IsAmong late key bytes → IsInputKey job key → entry key ≡ Some bytes
 
--- each input's metadata is held, with the text of these sizes
+-- the array with this name has metadata of this layout
+abbrev pub HasMetadata : Contents → List ℕ → Layout → Type 0
+HasMetadata entry name l = (text : List ℕ) × (entry (metadata_key_of name) ≡ Some text) × IsMetadata l text
+
+-- both inputs do
 pub record HasInputs (job : Job) (entry : Contents) : Type 0 where
-  pub left : entry (metadata_key_of job.left) ≡ Some (metadata_text (layout_of job))
-  pub right : entry (metadata_key_of job.right) ≡ Some (metadata_text (layout_of job))
+  pub left : HasMetadata entry job.names.left job.left
+  pub right : HasMetadata entry job.names.right job.right
 
 -- no key of the plan is held
 abbrev pub IsFree : Job → Contents → Type 0
-IsFree job entry = (key : List ℕ) → IsArrayKey job job.out key → entry key ≡ None
+IsFree job entry = (key : List ℕ) → IsPlanKey job key → entry key ≡ None
 
 -- A run that was started: since the call began, only the plan's values and puts that were late have landed.
 pub record IsStarted (job : Job) (entry : Contents) (late : List Write) (held : Option Contents) (now_late : List Write) : Type 0 where
@@ -89,15 +151,15 @@ pub record IsStarted (job : Job) (entry : Contents) (late : List Write) (held : 
 
 -- each key of the plan is absent or holds its one value
 abbrev pub IsLeft : Job → Contents → Contents → Type 0
-IsLeft job entry held = (key : List ℕ) → IsArrayKey job job.out key → (held key ≡ None) ⊎ ((bytes : List ℕ) × IsAmong (plan_writes job entry) key bytes × (held key ≡ Some bytes))
+IsLeft job entry held = (key : List ℕ) → IsPlanKey job key → (held key ≡ None) ⊎ ((bytes : List ℕ) × IsAmong (plan_writes job entry) key bytes × (held key ≡ Some bytes))
 
 -- each key of the plan holds its one value
 abbrev pub IsComplete : Job → Contents → Contents → Type 0
-IsComplete job entry held = (key : List ℕ) → IsArrayKey job job.out key → (bytes : List ℕ) × IsAmong (plan_writes job entry) key bytes × (held key ≡ Some bytes)
+IsComplete job entry held = (key : List ℕ) → IsPlanKey job key → (bytes : List ℕ) × IsAmong (plan_writes job entry) key bytes × (held key ≡ Some bytes)
 
--- chunk k of the output has a value and holds it
+-- chunk number k of the output has a value and holds it
 abbrev pub StoresChunk : Job → Contents → Option Contents → ℕ → Type 0
-StoresChunk job entry held k = (bytes : List ℕ) × (chunk_value job entry k ≡ Some bytes) × Holds held (key_of_chunk job.out k) bytes
+StoresChunk job entry held k = (bytes : List ℕ) × (chunk_value job entry k ≡ Some bytes) × Holds held (key_of_chunk (out_array job) k) bytes
 
 -- the chunks below n do
 abbrev pub StoresChunks : Job → Contents → Option Contents → ℕ → Type 0

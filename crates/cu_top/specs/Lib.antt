@@ -1,13 +1,12 @@
-pub mod Chunks
 pub mod Complete
 pub mod Expression
 pub mod Inputs
 pub mod Job
-pub mod OneAxis
+pub mod Plan
 pub mod Report
 pub mod Run
 pub mod Status
 pub mod Streams
-pub mod Sums
+pub mod Tasks
 pub mod Top
 pub mod Words

@@ -1,36 +1,21 @@
 -- What a run answers, and what it leaves.
-use Rattle.std.specs.Prelude.{◌≡◌, ◌≢◌, ◌⊎◌, ℕ, ◌+◌, ◌*◌, ◌<◌, Bool, IsTrue, nat_lt, if◌then◌else◌, List, [], ◌∷◌, ◌++◌, codes, Option, Some, None}
+use Rattle.std.specs.Prelude.{◌≡◌, ◌⊎◌, ℕ, ◌+◌, ◌<◌, Bool, IsTrue, List, [], ◌∷◌, ◌++◌, codes, Option, Some, None}
 use Rattle.std.specs.Fmt.{decimal}
 use Rattle.cu_store.specs.Faults.{Rose}
 use Rattle.cu_store.specs.Held.{Contents, Write, IsAmong}
 use Rattle.cu_zarr.specs.Key.{metadata_key_of}
-use Rattle.cu_top.specs.Chunks.{HoldsLength, IsChunkKey}
-use Rattle.cu_top.specs.Job.{IsArrayKey, IsQuiet, HasInputs, IsComplete, chunks_of, key_of_chunk}
-use Rattle.cu_top.specs.OneAxis.{IsWithinLimits}
+use Rattle.cu_top.specs.Job.{IsPlanKey, IsQuiet, HasInputs, IsComplete, chunks_of, key_of_chunk, out_array, out_metadata}
+use Rattle.cu_top.specs.Plan.{need_of}
+use Rattle.cu_top.specs.Tasks.{IsBad}
 use Rattle.cu_top.specs.declared.job.Job.{Job}
 use Rattle.cu_top.specs.declared.job.Names.{Names as ArrayNames}
 use Rattle.cu_top.specs.declared.status.Status.{Status}
-use Rattle.cu_top.specs.declared.status.Status.TheVariants.{Done, BadWords, OverMemory, Exists, ReadFault, WriteFault, BadChunk, DepotFailed, NotBuilt, NoMemory}
+use Rattle.cu_top.specs.declared.status.Status.TheVariants.{Done, BadWords, OverMemory, Exists, TaskFailed, ReadFault, WriteFault, BadChunk, DepotFailed, NotBuilt, NoMemory}
 use Rattle.cu_top.specs.declared.words.Options.{Options}
 
 -- the job adds the arrays of these names
-pub record HasNames (names : ArrayNames) (job : Job) : Type 0 where
-  pub left : job.left ≡ names.left
-  pub right : job.right ≡ names.right
-  pub out : job.out ≡ names.out
-
--- a key of one of the job's arrays
-abbrev pub IsRunKey : Job → List ℕ → Type 0
-IsRunKey job key = IsArrayKey job job.out key ⊎ IsArrayKey job job.left key ⊎ IsArrayKey job job.right key
-
--- ---- memory (this project's own rule): the reserved bytes, a scratch chunk, a chunk of each input and of the output, and 512 bytes for each of three instructions
-
-abbrev pub need_of : Options → Job → ℕ
-need_of options job = options.reserved + 16 * job.chunk + 1536
-
--- the node that needs more than is allowed, and its need: an input needs the reserved bytes alone
-abbrev pub over_memory : Options → Job → Option (ℕ × ℕ)
-over_memory options job = if nat_lt options.allowed options.reserved then Some (0, options.reserved) else (if nat_lt options.allowed (need_of options job) then Some (2, need_of options job) else None)
+abbrev pub HasNames : ArrayNames → Job → Type 0
+HasNames names job = job.names ≡ names
 
 -- ---- keys in the way
 
@@ -41,20 +26,21 @@ IsHeldIn (Some held) key = (bytes : List ℕ) × (held key ≡ Some bytes)
 
 -- the metadata and the chunks below n are absent
 abbrev pub IsFreeBelow : Job → Contents → ℕ → Type 0
-IsFreeBelow job entry n = (entry (metadata_key_of job.out) ≡ None) × ((k : ℕ) → k < n → entry (key_of_chunk job.out k) ≡ None)
+IsFreeBelow job entry n = (entry (metadata_key_of job.names.out) ≡ None) × ((k : ℕ) → k < n → entry (key_of_chunk (out_array job) k) ≡ None)
 
 -- The key is the first of the plan that is in the way: those before it were absent. The metadata of an output that is
 -- also an input counts as held.
 abbrev pub IsFirstInWay : Job → Contents → List ℕ → Type 0
-IsFirstInWay job entry key = (key ≡ metadata_key_of job.out) ⊎ ((k : ℕ) × (k < chunks_of job) × (key ≡ key_of_chunk job.out k) × IsFreeBelow job entry k)
+IsFirstInWay job entry key = (key ≡ metadata_key_of job.names.out) ⊎ ((k : ℕ) × (k < chunks_of job) × (key ≡ key_of_chunk (out_array job) k) × IsFreeBelow job entry k)
 
 abbrev pub IsInWay : Job → Option Contents → List ℕ → Type 0
-IsInWay job held key = IsArrayKey job job.out key × (IsHeldIn held key ⊎ (job.out ≡ job.left) ⊎ (job.out ≡ job.right))
+IsInWay job held key = IsPlanKey job key × (IsHeldIn held key ⊎ (job.names.out ≡ job.names.left) ⊎ (job.names.out ≡ job.names.right))
 
 -- why asking for the keys ends: one is in the way, or the calls for one failed
 abbrev pub IsAskFault : Job → ℕ → ℕ → Bool → Option Contents → Status → Type 0
 IsAskFault job before after lacks held (Exists key) = IsInWay job held key
-IsAskFault job before after lacks held (DepotFailed key) = IsArrayKey job job.out key × Rose 3 before after
+IsAskFault job before after lacks held (TaskFailed op task) = ⊥
+IsAskFault job before after lacks held (DepotFailed key) = IsPlanKey job key × Rose 3 before after
 IsAskFault job before after lacks held NoMemory = IsTrue lacks
 IsAskFault job before after lacks held Done = ⊥
 IsAskFault job before after lacks held (BadWords code) = ⊥
@@ -66,15 +52,16 @@ IsAskFault job before after lacks held (NotBuilt node) = ⊥
 
 -- the output isn't an input
 abbrev pub IsApart : Job → Type 0
-IsApart job = (job.out ≡ job.left → ⊥) × (job.out ≡ job.right → ⊥)
+IsApart job = (job.names.out ≡ job.names.left → ⊥) × (job.names.out ≡ job.names.right → ⊥)
 
 -- where the output is an input, the key in the way is its metadata's
 abbrev pub IsOwnFirst : Job → List ℕ → Type 0
-IsOwnFirst job key = (job.out ≡ job.left) ⊎ (job.out ≡ job.right) → key ≡ metadata_key_of job.out
+IsOwnFirst job key = (job.names.out ≡ job.names.left) ⊎ (job.names.out ≡ job.names.right) → key ≡ metadata_key_of job.names.out
 
 -- a fact of the key at which the asking ended
 abbrev pub IfAsked : Status → (List ℕ → Type 0) → Type 0
 IfAsked (Exists key) P = P key
+IfAsked (TaskFailed op task) P = Unit {0}
 IfAsked (DepotFailed key) P = P key
 IfAsked Done P = Unit {0}
 IfAsked (BadWords code) P = Unit {0}
@@ -88,6 +75,7 @@ IfAsked NoMemory P = Unit {0}
 -- a fact of the key in the way, where that is the answer
 abbrev pub IfExists : Status → (List ℕ → Type 0) → Type 0
 IfExists (Exists key) P = P key
+IfExists (TaskFailed op task) P = Unit {0}
 IfExists Done P = Unit {0}
 IfExists (BadWords code) P = Unit {0}
 IfExists (OverMemory node need allowed) P = Unit {0}
@@ -107,6 +95,7 @@ IfNotBuilt Done P = Unit {0}
 IfNotBuilt (BadWords code) P = Unit {0}
 IfNotBuilt (OverMemory node need allowed) P = Unit {0}
 IfNotBuilt (Exists key) P = Unit {0}
+IfNotBuilt (TaskFailed op task) P = Unit {0}
 IfNotBuilt ReadFault P = Unit {0}
 IfNotBuilt WriteFault P = Unit {0}
 IfNotBuilt (BadChunk key got want) P = Unit {0}
@@ -122,6 +111,7 @@ IsInputFault names before after Done = ⊥
 IsInputFault names before after (BadWords code) = ⊥
 IsInputFault names before after (OverMemory node need allowed) = ⊥
 IsInputFault names before after (Exists key) = ⊥
+IsInputFault names before after (TaskFailed op task) = ⊥
 IsInputFault names before after ReadFault = ⊥
 IsInputFault names before after WriteFault = ⊥
 IsInputFault names before after (BadChunk bad got want) = ⊥
@@ -140,15 +130,15 @@ pub record IsCalm (names : ArrayNames) (entry : Contents) (late : List Write) : 
   pub metadata : IsCalmMetadata names entry late
   pub jobs : (job : Job) → HasNames names job → HasInputs job entry → IsQuiet job entry late
 
--- no array within the limits is what both inputs are, where the contents are told
+-- no two layouts of one type and one grid are what both inputs have, where the contents are told
 abbrev pub HasNoInputs : ArrayNames → Contents → List Write → Type 0
-HasNoInputs names entry late = (job : Job) → HasNames names job → IsWithinLimits job.elements job.chunk → IsCalmMetadata names entry late → HasInputs job entry → ⊥
+HasNoInputs names entry late = (job : Job) → HasNames names job → job.right.dtype ≡ job.left.dtype → job.right.grid ≡ job.left.grid → IsCalmMetadata names entry late → HasInputs job entry → ⊥
 
 -- ---- the report
 
--- `ok ops=1 tasks=T starts=T failed=0 peak=P`, with a line feed
-unfoldable pub report_line : Options → Job → List ℕ
-report_line options job = codes "ok ops=1 tasks=" ++ decimal (chunks_of job) ++ codes " starts=" ++ decimal (chunks_of job) ++ codes " failed=0 peak=" ++ decimal (need_of options job) ++ 10 ∷ []
+-- `ok ops=1 tasks=T starts=S failed=F peak=P`, with a line feed: a task that failed is started once more
+unfoldable pub report_line : Options → Job → ℕ → List ℕ
+report_line options job failed = codes "ok ops=1 tasks=" ++ decimal (chunks_of job) ++ codes " starts=" ++ decimal (chunks_of job + failed) ++ codes " failed=" ++ decimal failed ++ codes " peak=" ++ decimal (need_of options job) ++ 10 ∷ []
 
 -- ---- storing the output
 
@@ -157,10 +147,11 @@ abbrev pub Completes : Job → Contents → Option Contents → Type 0
 Completes job entry None = Unit {0}
 Completes job entry (Some held) = IsComplete job entry held
 
--- why storing the output ends
+-- why storing the output ends: its metadata wasn't stored, or a task ended the run
 abbrev pub IsStoreFault : Job → ℕ → ℕ → Option Contents → Status → Type 0
-IsStoreFault job before after held (DepotFailed key) = IsRunKey job key × Rose 3 before after
-IsStoreFault job before after held (BadChunk bad got want) = (IsChunkKey job job.left bad ⊎ IsChunkKey job job.right bad) × (want ≡ 4 * job.chunk) × (got ≢ want) × HoldsLength held bad got
+IsStoreFault job before after held (DepotFailed key) = (key ≡ metadata_key_of job.names.out) × Rose 3 before after
+IsStoreFault job before after held (TaskFailed op task) = (op ≡ 0) × (task < chunks_of job) × Rose 3 before after
+IsStoreFault job before after held (BadChunk key got want) = IsBad held key got want job
 IsStoreFault job before after held NoMemory = Unit {0}
 IsStoreFault job before after held Done = ⊥
 IsStoreFault job before after held (BadWords code) = ⊥
@@ -169,3 +160,21 @@ IsStoreFault job before after held (Exists key) = ⊥
 IsStoreFault job before after held ReadFault = ⊥
 IsStoreFault job before after held WriteFault = ⊥
 IsStoreFault job before after held (NotBuilt node) = ⊥
+
+-- the output's metadata, as a write
+abbrev pub metadata_write : Job → Write
+metadata_write job = (metadata_key_of job.names.out, out_metadata job)
+
+-- A fact of the answer that a key's calls failed once the run was started: of the plan's keys the metadata alone was written.
+abbrev pub IfDepotFailed : Status → Type 0 → Type 0
+IfDepotFailed (DepotFailed key) P = P
+IfDepotFailed (TaskFailed op task) P = Unit {0}
+IfDepotFailed Done P = Unit {0}
+IfDepotFailed (BadWords code) P = Unit {0}
+IfDepotFailed (OverMemory node need allowed) P = Unit {0}
+IfDepotFailed (Exists key) P = Unit {0}
+IfDepotFailed ReadFault P = Unit {0}
+IfDepotFailed WriteFault P = Unit {0}
+IfDepotFailed (BadChunk bad got want) P = Unit {0}
+IfDepotFailed (NotBuilt node) P = Unit {0}
+IfDepotFailed NoMemory P = Unit {0}

@@ -1,28 +1,29 @@
 -- What the call answers, when, and what it leaves.
-use Rattle.std.specs.Prelude.{◌≡◌, ◌≢◌, ◌⊎◌, ℕ, ◌*◌, ◌≤◌, List, length, Option, Some, None, Ok, Err}
+use Rattle.std.specs.Prelude.{◌≡◌, ◌⊎◌, ℕ, ◌<◌, ◌≤◌, List, ◌∷◌, length, Option, Some, None, Ok, Err}
+use Rattle.cu_num.specs.declared.layout.Encoding.{Encoding}
 use Rattle.cu_store.specs.Faults.{Rose}
 use Rattle.cu_store.specs.Held.{Contents, Write, Follows}
-use Rattle.cu_zarr.specs.Key.{metadata_key_of}
-use Rattle.cu_top.specs.Chunks.{HoldsLength, IsChunkKey}
-use Rattle.cu_top.specs.Job.{IsArrayKey, HasInputs, IsStarted, IsLeft, key_of_chunk}
-use Rattle.cu_top.specs.OneAxis.{IsWithinLimits}
-use Rattle.cu_top.specs.Run.{HasNames, IsRunKey, over_memory, IsInWay, IsFirstInWay, IsOwnFirst, IsApart, IsMetadataKey, IsCalmMetadata, IsCalm, HasNoInputs, report_line, Completes}
+use Rattle.cu_zarr.specs.Key.{metadata_key_of, chunk_key_of}
+use Rattle.cu_top.specs.Job.{IsJob, IsPlanKey, HasInputs, IsStarted, IsLeft, chunks_of, key_of_chunk, out_array}
+use Rattle.cu_top.specs.Plan.{over_memory}
+use Rattle.cu_top.specs.Run.{HasNames, IsInWay, IsFirstInWay, IsOwnFirst, IsApart, IsMetadataKey, IsCalmMetadata, IsCalm, HasNoInputs, report_line, Completes, metadata_write}
+use Rattle.cu_top.specs.Tasks.{IsBad}
 use Rattle.cu_top.specs.Streams.{WroteFront, ReadsAll}
 use Rattle.cu_top.specs.Expression.{Names as TextNames, addition_of}
 use Rattle.cu_top.specs.Words.{options_of}
 use Rattle.cu_top.specs.declared.job.Job.{Job}
 use Rattle.cu_top.specs.declared.job.Names.{Names as ArrayNames}
 use Rattle.cu_top.specs.declared.status.Status.{Status}
-use Rattle.cu_top.specs.declared.status.Status.TheVariants.{Done, BadWords, OverMemory, Exists, ReadFault, WriteFault, BadChunk, DepotFailed, NotBuilt, NoMemory}
+use Rattle.cu_top.specs.declared.status.Status.TheVariants.{Done, BadWords, OverMemory, Exists, TaskFailed, ReadFault, WriteFault, BadChunk, DepotFailed, NotBuilt, NoMemory}
 use Rattle.cu_top.specs.declared.words.Options.{Options}
 
 -- ---- a job that was accepted
 
--- The arrays of these names have sizes within the limits, and the sum needs no more than is allowed. Where the contents are told
--- and no other metadata is late, both inputs have the metadata of these sizes.
+-- The job adds two arrays of one type and one grid. Where the contents are told and no other metadata is late, both inputs have the
+-- metadata of these layouts.
 pub record IsAccepted (names : ArrayNames) (options : Options) (old : Option Contents) (late : List Write) (job : Job) : Type 0 where
   pub has_names : HasNames names job
-  pub limits : IsWithinLimits job.elements job.chunk
+  pub is_job : IsJob job
   pub inputs : (entry : Contents) → old ≡ Some entry → IsCalmMetadata names entry late → HasInputs job entry
 
 -- each key of the plan is absent or holds its one value, where the contents are told
@@ -45,16 +46,12 @@ pub record IsRun (names : ArrayNames) (options : Options) (old new : Option Cont
 abbrev pub Anything : Job → Contents → Type 0
 Anything job entry = Unit {0}
 
--- the whole line of the report was written, or its front
-abbrev pub WroteLine : Options → Option (List ℕ) → Option (List ℕ) → Job → Type 0
-WroteLine options old new job = WroteFront old new (report_line options job) (length (report_line options job))
+-- the whole line of the report was written, or its front; each try that it counts as failed raised the count of the depot's faults
+abbrev pub WroteLine : Options → ℕ → ℕ → Option (List ℕ) → Option (List ℕ) → Job → Type 0
+WroteLine options f g old new job = (failed : ℕ) × Rose failed f g × WroteFront old new (report_line options job failed) (length (report_line options job failed))
 
-abbrev pub WrotePart : Options → Option (List ℕ) → Option (List ℕ) → Job → Type 0
-WrotePart options old new job = (n : ℕ) × (n ≤ length (report_line options job)) × WroteFront old new (report_line options job) n
-
--- an input's chunk holds `got` bytes and not those of a chunk
-abbrev pub IsBad : Option Contents → List ℕ → ℕ → ℕ → Job → Type 0
-IsBad held key got want job = (IsChunkKey job job.left key ⊎ IsChunkKey job job.right key) × (want ≡ 4 * job.chunk) × (got ≢ want) × HoldsLength held key got
+abbrev pub WrotePart : Options → ℕ → ℕ → Option (List ℕ) → Option (List ℕ) → Job → Type 0
+WrotePart options f g old new job = (failed : ℕ) × Rose failed f g × ((n : ℕ) × (n ≤ length (report_line options job failed)) × WroteFront old new (report_line options job failed) n)
 
 -- more is needed than is allowed
 pub record IsOver (names : ArrayNames) (options : Options) (old : Option Contents) (late : List Write) (node need : ℕ) : Type 0 where
@@ -76,20 +73,21 @@ pub record IsAsked (names : ArrayNames) (options : Options) (old : Option Conten
   pub job : Job
   pub accepted : IsAccepted names options old late job
   pub fits : over_memory options job ≡ None
-  pub of_plan : IsArrayKey job job.out key
+  pub of_plan : IsPlanKey job key
   pub first : (entry : Contents) → old ≡ Some entry → IsFirstInWay job entry key
 
--- the metadata or a chunk of one of the arrays
+-- the metadata or a chunk of the array with this name, however its keys are written
 abbrev pub IsKeyOfArray : List ℕ → List ℕ → Type 0
-IsKeyOfArray name key = (key ≡ metadata_key_of name) ⊎ ((k : ℕ) × (key ≡ key_of_chunk name k))
+IsKeyOfArray name key = (key ≡ metadata_key_of name) ⊎ ((encoding : Encoding) × (coord : List ℕ) × (key ≡ chunk_key_of name encoding coord))
 
 -- ---- what carrying out a job that was accepted answers
 
 abbrev pub Carries : Job → Options → ℕ → ℕ → Option Contents → ℕ → ℕ → Option (List ℕ) → Option (List ℕ) → Status → Type 0
-Carries job options f g held v w old new Done = WroteLine options old new job
-Carries job options f g held v w old new WriteFault = Rose 1 v w × WrotePart options old new job
+Carries job options f g held v w old new Done = WroteLine options f g old new job
+Carries job options f g held v w old new WriteFault = Rose 1 v w × WrotePart options f g old new job
 Carries job options f g held v w old new (BadChunk key got want) = IsBad held key got want job
-Carries job options f g held v w old new (DepotFailed key) = IsRunKey job key × Rose 3 f g
+Carries job options f g held v w old new (TaskFailed op task) = (op ≡ 0) × (task < chunks_of job) × Rose 3 f g
+Carries job options f g held v w old new (DepotFailed key) = (key ≡ metadata_key_of job.names.out) × Rose 3 f g
 Carries job options f g held v w old new NoMemory = Unit {0}
 Carries job options f g held v w old new (BadWords code) = ⊥
 Carries job options f g held v w old new (OverMemory node need allowed) = ⊥
@@ -104,6 +102,7 @@ IfStored WriteFault P = P
 IfStored (BadWords code) P = Unit {0}
 IfStored (OverMemory node need allowed) P = Unit {0}
 IfStored (Exists key) P = Unit {0}
+IfStored (TaskFailed op task) P = Unit {0}
 IfStored ReadFault P = Unit {0}
 IfStored (BadChunk key got want) P = Unit {0}
 IfStored (DepotFailed key) P = Unit {0}
@@ -117,6 +116,7 @@ PrintsOnly WriteFault old new = Unit {0}
 PrintsOnly (BadWords code) old new = new ≡ old
 PrintsOnly (OverMemory node need allowed) old new = new ≡ old
 PrintsOnly (Exists key) old new = new ≡ old
+PrintsOnly (TaskFailed op task) old new = new ≡ old
 PrintsOnly ReadFault old new = new ≡ old
 PrintsOnly (BadChunk key got want) old new = new ≡ old
 PrintsOnly (DepotFailed key) old new = new ≡ old
@@ -128,6 +128,7 @@ PrintsOnly NoMemory old new = new ≡ old
 abbrev pub Refuses : ArrayNames → Options → Option Contents → Option Contents → List Write → ℕ → ℕ → Status → Type 0
 Refuses names options old new late f g (OverMemory node need allowed) = (allowed ≡ options.allowed) × IsOver names options old late node need
 Refuses names options old new late f g (Exists key) = IsBlocked names options old new late key
+Refuses names options old new late f g (TaskFailed op task) = ⊥
 Refuses names options old new late f g (NotBuilt node) = (node ≡ 0) × ((entry : Contents) → old ≡ Some entry → HasNoInputs names entry late)
 Refuses names options old new late f g (DepotFailed key) = Rose 3 f g × (IsMetadataKey names key ⊎ IsAsked names options old late key)
 Refuses names options old new late f g NoMemory = Unit {0}
@@ -144,10 +145,11 @@ abbrev pub IsUntouched : Option Contents → Option Contents → List Write → 
 IsUntouched old new late now_late = Follows late old new now_late
 
 abbrev pub Ran : ArrayNames → Options → Option Contents → Option Contents → List Write → List Write → ℕ → ℕ → ℕ → ℕ → Option (List ℕ) → Option (List ℕ) → Status → Type 0
-Ran names options old new late now_late f g v w front back Done = IsRun names options old new late now_late (WroteLine options front back) (λ job entry. Completes job entry new)
-Ran names options old new late now_late f g v w front back WriteFault = Rose 1 v w × IsRun names options old new late now_late (WrotePart options front back) (λ job entry. Completes job entry new)
+Ran names options old new late now_late f g v w front back Done = IsRun names options old new late now_late (WroteLine options f g front back) (λ job entry. Completes job entry new)
+Ran names options old new late now_late f g v w front back WriteFault = Rose 1 v w × IsRun names options old new late now_late (WrotePart options f g front back) (λ job entry. Completes job entry new)
 Ran names options old new late now_late f g v w front back (BadChunk key got want) = IsRun names options old new late now_late (IsBad new key got want) Anything
-Ran names options old new late now_late f g v w front back (DepotFailed key) = Rose 3 f g × ((IsUntouched old new late now_late × (IsMetadataKey names key ⊎ IsAsked names options old late key)) ⊎ IsRun names options old new late now_late (λ job. IsRunKey job key) Anything)
+Ran names options old new late now_late f g v w front back (DepotFailed key) = Rose 3 f g × ((IsUntouched old new late now_late × (IsMetadataKey names key ⊎ IsAsked names options old late key)) ⊎ IsRun names options old new late now_late (λ job. key ≡ metadata_key_of job.names.out) (λ job entry. Follows (metadata_write job ∷ late) (Some entry) new now_late))
+Ran names options old new late now_late f g v w front back (TaskFailed op task) = Rose 3 f g × (op ≡ 0) × IsRun names options old new late now_late (λ job. task < chunks_of job) (λ job entry. entry (key_of_chunk (out_array job) task) ≡ None)
 Ran names options old new late now_late f g v w front back NoMemory = IsUntouched old new late now_late ⊎ IsRun names options old new late now_late (λ job. Unit {0}) Anything
 Ran names options old new late now_late f g v w front back (OverMemory node need allowed) = IsUntouched old new late now_late × (allowed ≡ options.allowed) × IsOver names options old late node need
 Ran names options old new late now_late f g v w front back (Exists key) = IsUntouched old new late now_late × IsBlocked names options old new late key
@@ -195,6 +197,7 @@ Tells words src next t u old new late now_late run (NotBuilt node) = (node ≡ 0
 Tells words src next t u old new late now_late run Done = CameToRun words src next (λ names options. run names options Done)
 Tells words src next t u old new late now_late run (OverMemory node need allowed) = CameToRun words src next (λ names options. run names options (OverMemory node need allowed))
 Tells words src next t u old new late now_late run (Exists key) = CameToRun words src next (λ names options. run names options (Exists key))
+Tells words src next t u old new late now_late run (TaskFailed op task) = CameToRun words src next (λ names options. run names options (TaskFailed op task))
 Tells words src next t u old new late now_late run WriteFault = CameToRun words src next (λ names options. run names options WriteFault)
 Tells words src next t u old new late now_late run (BadChunk key got want) = CameToRun words src next (λ names options. run names options (BadChunk key got want))
 Tells words src next t u old new late now_late run (DepotFailed key) = CameToRun words src next (λ names options. run names options (DepotFailed key))

@@ -1,39 +1,33 @@
 //! The keys that would be in the way of a run.
-ghost use Rattle.std.specs.Prelude.{◌≡◌, ◌⊎◌, ℕ, ◌≤◌, List, Option, Some, IfErr, OnOk, IfOk, true, false};
-ghost use Rattle.cu_store.specs.Held.{Contents, Write, Follows, IsGone};
-ghost use Rattle.cu_top.specs.Job.{IsJob, IsFree};
-ghost use Rattle.cu_top.specs.Chunks.{IsKeyFault};
-ghost use Rattle.cu_top.specs.Run.{IsHeldIn, IsFirstInWay, IsAskFault, IfAsked, IfExists, IsApart, IsOwnFirst};
+ghost use Rattle.std.specs.Prelude.{◌≡◌, ◌⊎◌, ℕ, ◌<◌, ◌≤◌, List, Option, Some, IfErr, OnOk, true, false};
+ghost use Rattle.cu_store.specs.Held.{Contents, Write, Follows};
+ghost use Rattle.cu_top.specs.Job.{IsJob, IsFree, chunks_of, key_of_chunk, out_array};
+ghost use Rattle.cu_top.specs.Run.{IsFirstInWay, IsAskFault, IfAsked, IfExists, IsApart, IsOwnFirst};
 
 use crate::Status;
-use crate::chunks::{RETRIES, key_of};
 use crate::job::Job;
-use cu_codec::metadata_key;
-use cu_store::{Depot, DepotFault, Key, has_tries};
-
-/// Whether a key is held.
-fn ask_key<D: Depot>(depot: &mut D, key: &Key) -> Result<bool, Status>
-    ensures absent { IfOk result (λ held. held ≡ false → IsGone (D.held depot.new) key.now) }
-    ensures held { IfOk result (λ held. held ≡ true → IsHeldIn (D.held depot.new) key.now) }
-    ensures follows { (writes : List Write) (entry : Option Contents)
-        → Follows writes entry (D.held depot.old) (D.late depot.old) → Follows writes entry (D.held depot.new) (D.late depot.new) }
-    ensures cause { IfErr result (IsKeyFault (D.faults depot.old) (D.faults depot.new) (D.lacks depot.new) key.now) }
-    ensures count { D.faults depot.old ≤ D.faults depot.new }
-    ensures lacks { D.lacks depot.new ≡ D.lacks depot.old }
-{
-    match has_tries(depot, key, RETRIES) {
-        Ok(held) => Ok(held),
-        Err(DepotFault::Failed) => Err(Status::DepotFailed { key: *key }),
-        Err(DepotFault::NoMemory) => Err(Status::NoMemory),
-    }
-}
+use crate::keys::ask_key;
+use cu_codec::{chunk_key, metadata_key};
+use cu_shape::index_of;
+use cu_store::{Depot, Key};
 
 /// Whether the output is one of the inputs.
 fn is_own_input(job: &Job) -> bool
-    ensures own { result ≡ true → (job.now.out ≡ job.now.left) ⊎ (job.now.out ≡ job.now.right) }
+    ensures own { result ≡ true → (job.now.names.out ≡ job.now.names.left) ⊎ (job.now.names.out ≡ job.now.names.right) }
     ensures apart { result ≡ false → IsApart job.now }
 {
-    job.out.is(&job.left) || job.out.is(&job.right)
+    job.names.out.is(&job.names.left) || job.names.out.is(&job.names.right)
+}
+
+/// The key of chunk `number` of the output, chunks counted row-major.
+fn key_of(job: &Job, number: u64) -> Key
+    requires job { IsJob job.now }
+    requires number { number < chunks_of job.now }
+    ensures { result ≡ key_of_chunk (out_array job.now) number }
+{
+    let made = job.made();
+    let coord = index_of(&made.grid.counts(), number);
+    chunk_key(&job.names.out, made.encoding, &coord)
 }
 
 /// Asks for the keys of the plan, the metadata first and then the chunks in order, and refuses the first that is held.
@@ -52,7 +46,7 @@ pub fn ask_keys<D: Depot>(depot: &mut D, job: &Job) -> Result<(), Status>
     ensures count { D.faults depot.old ≤ D.faults depot.new }
     ensures lacks { D.lacks depot.new ≡ D.lacks depot.old }
 {
-    let metadata = metadata_key(&job.out);
+    let metadata = metadata_key(&job.names.out);
     if is_own_input(job) {
         return Err(Status::Exists { key: metadata });
     }
@@ -64,7 +58,7 @@ pub fn ask_keys<D: Depot>(depot: &mut D, job: &Job) -> Result<(), Status>
         return Err(Status::Exists { key: metadata });
     }
     for number in 0..job.chunks() {
-        let key = key_of(&job.out, number);
+        let key = key_of(job, number);
         let is_held = match ask_key(depot, &key) {
             Ok(is_held) => is_held,
             Err(status) => return Err(status),

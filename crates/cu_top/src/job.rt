@@ -1,10 +1,12 @@
 //! An addition whose arrays are known.
 ghost use Rattle.std.specs.Prelude.{◌≡◌, ◌≤◌, true};
-ghost use Rattle.cu_top.specs.OneAxis.{IsWithinLimits, count_of};
+ghost use Rattle.cu_op.specs.Layout.{layout_view};
 ghost use Rattle.cu_top.specs.Expression.{is_name, AreNames, names_of};
-ghost use Rattle.cu_top.specs.Job.{IsArrayName};
+ghost use Rattle.cu_top.specs.Job.{IsArrayName, AreArrayNames, IsJob, left_array, right_array, out_array, chunks_of, made_layout};
 
 use crate::expression::{Addition, Name};
+use cu_num::{Encoding, Endian, Sep};
+use cu_op::{ArrayInfo, Layout};
 use cu_store::Key;
 
 /// The names of the two inputs and of the output of an addition.
@@ -15,25 +17,68 @@ pub struct Names {
     pub out: Key,
 }
 
-/// An addition of two arrays of one axis, of the same sizes: the names of the two inputs and of the output,
-/// the elements of each array, and the elements of a chunk.
+/// An addition of two arrays of one type and one grid: the names of its arrays, and the layout of each input.
 #[derive(Clone, Copy)]
 pub struct Job {
-    pub left: Key,
-    pub right: Key,
-    pub out: Key,
-    pub elements: u64,
-    pub chunk: u64,
+    pub names: Names,
+    pub left: Layout,
+    pub right: Layout,
 }
 
 impl Job {
+    /// The layout of the output: the inputs' type and grid, keys as `c/0`, the lower bytes first, and fill value 0.
+    pub fn made(&self) -> Layout
+        ensures { result ≡ made_layout self.now.left }
+    {
+        Layout {
+            dtype: self.left.dtype,
+            grid: self.left.grid,
+            encoding: Encoding::Plain(Sep::Slash),
+            endian: Endian::Little,
+            fill: 0,
+        }
+    }
+
+    /// The first input, as an array of the plan.
+    pub fn left_array(&self) -> ArrayInfo
+        ensures { result ≡ left_array self.now }
+    {
+        ArrayInfo {
+            prefix: self.names.left,
+            layout: self.left,
+            maker: None,
+        }
+    }
+
+    /// The second input, as an array of the plan.
+    pub fn right_array(&self) -> ArrayInfo
+        ensures { result ≡ right_array self.now }
+    {
+        ArrayInfo {
+            prefix: self.names.right,
+            layout: self.right,
+            maker: None,
+        }
+    }
+
+    /// The output, as an array of the plan.
+    pub fn out_array(&self) -> ArrayInfo
+        ensures { result ≡ out_array self.now }
+    {
+        ArrayInfo {
+            prefix: self.names.out,
+            layout: self.made(),
+            maker: Some(0),
+        }
+    }
+
     /// The chunks of each array.
     pub fn chunks(&self) -> u64
-        requires { IsWithinLimits self.now.elements self.now.chunk }
-        ensures count { result ≡ count_of self.now.elements self.now.chunk }
+        requires { IsJob self.now }
+        ensures count { result ≡ chunks_of self.now }
         ensures bound { result ≤ 65536 }
     {
-        (self.elements + (self.chunk - 1)) / self.chunk
+        self.left.grid.count()
     }
 }
 
@@ -55,9 +100,7 @@ pub fn names_in(addition: &Addition) -> Names
     ensures left { result.left ≡ addition.now.left.bytes }
     ensures right { result.right ≡ addition.now.right.bytes }
     ensures out { result.out ≡ addition.now.out.bytes }
-    ensures left_name { IsArrayName result.left }
-    ensures right_name { IsArrayName result.right }
-    ensures out_name { IsArrayName result.out }
+    ensures names { AreArrayNames result }
 {
     Names {
         left: key_of_name(&addition.left),

@@ -3,18 +3,18 @@
 
 mod ask;
 mod call;
-mod chunks;
 mod expression;
 mod inputs;
 mod job;
+mod keys;
 mod laws;
 mod memory;
-mod metadata;
 mod output;
+mod plan;
 mod run;
 mod status;
 mod streams;
-mod sums;
+mod tasks;
 mod words;
 
 pub use call::top;

@@ -1,8 +1,9 @@
 //! A run: what is checked before anything is stored, and what is stored then.
 ghost use Rattle.std.specs.Prelude.{◌≡◌, ℕ, ◌^◌, ◌≤◌, List, Option, Some, None, IfErr, IfOk};
-ghost use Rattle.cu_store.specs.Held.{Contents, Write, Follows};
-ghost use Rattle.cu_top.specs.Job.{IsJob, IsArrayName, IsQuiet, IsFree, IsStarted};
-ghost use Rattle.cu_top.specs.Run.{over_memory, Completes, IsApart};
+ghost use Rattle.cu_store.specs.Held.{Contents, Write, IsAmong, Follows};
+ghost use Rattle.cu_top.specs.Job.{IsJob, AreArrayNames, IsFree, IsStarted};
+ghost use Rattle.cu_top.specs.Plan.{over_memory};
+ghost use Rattle.cu_top.specs.Run.{Completes, IsApart, IfDepotFailed, metadata_write};
 ghost use Rattle.cu_top.specs.Top.{IsAccepted, Refuses, Carries, IfStored, PrintsOnly, Ran};
 
 use crate::Status;
@@ -10,9 +11,10 @@ use crate::ask::ask_keys;
 use crate::inputs::read_inputs;
 use crate::job::{Job, Names};
 use crate::memory::{check_memory, report};
-use crate::metadata::{Sizes, write_sizes};
 use crate::output::store_output;
+use crate::plan::{ROOM_WORDS, chunk_bytes, make_plan};
 use crate::words::Options;
+use cu_meta::write_meta;
 use cu_store::{Depot, Sink};
 use std::alloc::Global;
 
@@ -23,9 +25,7 @@ pub fn prepare<D: Depot>(
     names: &Names,
     depot: &mut D,
 ) -> Result<Job, Status>
-    requires left { IsArrayName names.now.left }
-    requires right { IsArrayName names.now.right }
-    requires out { IsArrayName names.now.out }
+    requires names { AreArrayNames names.now }
     requires reserved { options.reserved ≤ 2 ^ 40 }
     ensures accepted { IfOk result (IsAccepted names.now options (D.held depot.old) (D.late depot.old)) }
     ensures job { IfOk result IsJob }
@@ -50,7 +50,7 @@ pub fn prepare<D: Depot>(
     }
 }
 
-/// Takes the buffers, stores the output and writes the report.
+/// Makes the plan, takes the room of its tasks, stores the output and writes the report.
 pub fn carry_out<W: Sink, D: Depot>(
     alloc: Global,
     options: Options,
@@ -66,33 +66,24 @@ pub fn carry_out<W: Sink, D: Depot>(
         → IsStarted job.now entry late (D.held depot.old) (D.late depot.old) → IsStarted job.now entry late (D.held depot.new) (D.late depot.new) }
     ensures stored { (entry : Contents) (late : List Write)
         → IsStarted job.now entry late (D.held depot.old) (D.late depot.old) → IfStored result (Completes job.now entry (D.held depot.new)) }
+    ensures metadata_alone { (writes : List Write) (entry : Option Contents) → IsAmong writes (metadata_write job.now).0 (metadata_write job.now).1
+        → Follows writes entry (D.held depot.old) (D.late depot.old) → IfDepotFailed result (Follows writes entry (D.held depot.new) (D.late depot.new)) }
 {
-    let size = (4 * job.chunk) as usize;
-    let sizes = Sizes {
-        length: job.elements,
-        chunk: job.chunk,
-    };
-    let Ok(metadata) = write_sizes(alloc, sizes) else {
+    let Ok(plan) = make_plan(alloc, options, job) else {
         return Status::NoMemory;
     };
-    let Ok(mut left) = vec![in alloc; 0u8; size] else {
+    let Ok(metadata) = write_meta(alloc, &job.made()) else {
         return Status::NoMemory;
     };
-    let Ok(mut right) = vec![in alloc; 0u8; size] else {
+    let room = 4 * chunk_bytes(job) as usize;
+    let Ok(mut bytes) = vec![in alloc; 0u8; room] else {
         return Status::NoMemory;
     };
-    let Ok(mut sums) = vec![in alloc; 0u8; size] else {
+    let Ok(mut words) = vec![in alloc; 0u64; ROOM_WORDS] else {
         return Status::NoMemory;
     };
-    match store_output(
-        depot,
-        job,
-        metadata.as_bytes(),
-        &mut left,
-        &mut right,
-        &mut sums,
-    ) {
-        Ok(()) => report(out, options, job),
+    match store_output(depot, job, &metadata, &plan, &mut bytes, &mut words) {
+        Ok(failed) => report(out, options, job, failed),
         Err(status) => status,
     }
 }
@@ -105,9 +96,7 @@ pub fn run<W: Sink, D: Depot>(
     out: &mut W,
     depot: &mut D,
 ) -> Status
-    requires left { IsArrayName names.now.left }
-    requires right { IsArrayName names.now.right }
-    requires out { IsArrayName names.now.out }
+    requires names { AreArrayNames names.now }
     requires reserved { options.reserved ≤ 2 ^ 40 }
     ensures answer { Ran names.now options (D.held depot.old) (D.held depot.new) (D.late depot.old) (D.late depot.new) (D.faults depot.old) (D.faults depot.new) (W.faults out.old) (W.faults out.new) (W.written out.old) (W.written out.new) result }
     ensures prints { PrintsOnly result (W.written out.old) (W.written out.new) }

@@ -16,6 +16,8 @@ pub enum Status {
     OverMemory { node: u32, need: u64, allowed: u64 },
     /// 9: this key is held already.
     Exists { key: Key },
+    /// 10: all tries of this task of this operation failed.
+    TaskFailed { op: u32, task: u32 },
     /// 11: a read of the source failed.
     ReadFault,
     /// 12: a write to the sink failed.
@@ -42,6 +44,7 @@ pub fn number(status: &Status) -> u8
         Status::BadWords { .. } => 2,
         Status::OverMemory { .. } => 5,
         Status::Exists { .. } => 9,
+        Status::TaskFailed { .. } => 10,
         Status::ReadFault => 11,
         Status::WriteFault => 12,
         Status::BadChunk { .. } => 13,
@@ -69,6 +72,10 @@ pub fn status_line(status: &Status) -> LineText
             push_field(&mut line, " allowed=", *allowed);
         }
         Status::Exists { key } => push_key(&mut line, "error 9 key=", key),
+        Status::TaskFailed { op, task } => {
+            push_field(&mut line, "error 10 op=", *op as u64);
+            push_field(&mut line, " task=", *task as u64);
+        }
         Status::ReadFault => line.push_str("error 11"),
         Status::WriteFault => line.push_str("error 12"),
         Status::BadChunk { key, got, want } => {

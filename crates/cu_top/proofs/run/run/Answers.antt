@@ -1,5 +1,6 @@
-use Rattle.std.proofs.Common.{Some}
-use Rattle.cu_top.proofs.TopLemmas.{follows_start, untouched_start, more_writes, ran_refused, ran_carried}
+use Rattle.std.proofs.Common.{Some, ◌∷◌, inl, refl}
+use Rattle.cu_top.specs.Run.{metadata_write}
+use Rattle.cu_top.proofs.TopLemmas.{follows_start, untouched_start, more_writes, metadata_first, ran_refused, ran_carried}
 use Rattle.cu_top.proofs.run.run.Goals as goal
 
 pub returns-in-Err-clause-answer : goal.returns-in-Err-clause-answer
@@ -23,3 +24,5 @@ returns-in-Ok-clause-answer g c =
       free = c.in-Ok.ensures.free entry same;
       follows = more_writes c.in-Ok.job entry _ _ _ (c.prepare.ensures.follows _ (Some entry) (follows_start _ entry _ same));
     }))
+    (λ entry same. c.carry_out.ensures.metadata_alone (metadata_write c.in-Ok.job ∷ _) (Some entry) (inl (refl, refl))
+    (metadata_first c.in-Ok.job entry _ _ _ (c.prepare.ensures.follows _ (Some entry) (follows_start _ entry _ same))))

@@ -1,0 +1,5 @@
+pub mod SumPlaces
+pub mod Additions
+pub mod ChunkRegions
+pub mod Tasks
+pub mod Readiness

@@ -1,0 +1,99 @@
+-- What the tries of a task mean for the run.
+use Rattle.std.proofs.Common.{◌≡◌, ℕ, ◌+◌, ◌≤◌, Bool, Option, Some, Result, Ok, Err, IfErr, refl, subst, arith}
+use Rattle.cu_store.specs.Faults.{Rose}
+use Rattle.cu_store.specs.Held.{Contents}
+use Rattle.cu_store.specs.declared.faults.TaskFault.{TaskFault}
+use Rattle.cu_store.specs.declared.faults.TaskFault.TheVariants as fault
+use Rattle.cu_top.specs.Run.{IsStoreFault, IfDepotFailed}
+use Rattle.cu_top.specs.Tasks.{IsTryFault, IsTaskEnd, end_of}
+use Rattle.cu_top.specs.declared.job.Job.{Job}
+use Rattle.cu_top.specs.declared.status.Status.{Status}
+use Rattle.cu_top.specs.declared.status.Status.TheVariants.{Done, BadWords, OverMemory, Exists, TaskFailed, ReadFault, WriteFault, BadChunk, DepotFailed, NotBuilt, NoMemory}
+
+pub rose_then : (m n before between after : ℕ) → Rose m before between → Rose n between after → Rose (m + n) before after
+rose_then m n before between after first second = omega (arith, first, second)
+
+some_same : (a b : Status) → ◌≡◌ {A = Option Status} (Some a) (Some b) → a ≡ b
+some_same a b e = cc
+
+-- a fault that ends the run, and one after which the task is tried again
+pub ends_so : (job : Job) (first before after : ℕ) (lacks : Bool) (held : Option Contents) (f : TaskFault) (status : Status)
+    → end_of f ≡ Some status → IsTryFault job before after lacks held f → IsTaskEnd job first after lacks held status
+ends_so job first before after lacks held fault.Store status ends h = cc
+ends_so job first before after lacks held (fault.BadChunk key got want) status ends h = subst (IsTaskEnd job first after lacks held) (some_same (BadChunk key got want) status ends) h
+ends_so job first before after lacks held fault.NoMemory status ends h = subst (IsTaskEnd job first after lacks held) (some_same NoMemory status ends) h
+
+pub tried_again : (job : Job) (before after : ℕ) (lacks : Bool) (held : Option Contents) (f : TaskFault)
+    → ((status : Status) → end_of f ≡ Some status → ⊥) → IsTryFault job before after lacks held f → Rose 1 before after
+tried_again job before after lacks held fault.Store again h = h
+tried_again job before after lacks held (fault.BadChunk key got want) again h = absurd (again (BadChunk key got want) refl)
+tried_again job before after lacks held fault.NoMemory again h = absurd (again NoMemory refl)
+
+-- the same since an earlier moment
+pub end_earlier : (job : Job) (first before after : ℕ) (lacks : Bool) (held : Option Contents) (status : Status) → first ≤ before
+    → IsTaskEnd job before after lacks held status → IsTaskEnd job first after lacks held status
+end_earlier job first before after lacks held (TaskFailed op task) earlier h = (h.0, h.1, omega (arith, earlier, h.2))
+end_earlier job first before after lacks held (BadChunk key got want) earlier h = h
+end_earlier job first before after lacks held NoMemory earlier h = h
+end_earlier job first before after lacks held Done earlier h = h
+end_earlier job first before after lacks held (BadWords code) earlier h = h
+end_earlier job first before after lacks held (OverMemory node need allowed) earlier h = h
+end_earlier job first before after lacks held (Exists key) earlier h = h
+end_earlier job first before after lacks held ReadFault earlier h = h
+end_earlier job first before after lacks held WriteFault earlier h = h
+end_earlier job first before after lacks held (DepotFailed key) earlier h = h
+end_earlier job first before after lacks held (NotBuilt node) earlier h = h
+
+-- ---- what storing the output answers
+
+pub if_depot_failed : (status : Status) (P : Type 0) → P → IfDepotFailed status P
+if_depot_failed (DepotFailed key) P h = h
+if_depot_failed (TaskFailed op task) P h = tt
+if_depot_failed (BadChunk key got want) P h = tt
+if_depot_failed NoMemory P h = tt
+if_depot_failed Done P h = tt
+if_depot_failed (BadWords code) P h = tt
+if_depot_failed (OverMemory node need allowed) P h = tt
+if_depot_failed (Exists key) P h = tt
+if_depot_failed ReadFault P h = tt
+if_depot_failed WriteFault P h = tt
+if_depot_failed (NotBuilt node) P h = tt
+
+no_depot_failed : (job : Job) (before after : ℕ) (lacks : Bool) (held : Option Contents) (status : Status) (P : Type 0)
+    → IsTaskEnd job before after lacks held status → IfDepotFailed status P
+no_depot_failed job before after lacks held (DepotFailed key) P h = absurd h
+no_depot_failed job before after lacks held (TaskFailed op task) P h = tt
+no_depot_failed job before after lacks held (BadChunk key got want) P h = tt
+no_depot_failed job before after lacks held NoMemory P h = tt
+no_depot_failed job before after lacks held Done P h = tt
+no_depot_failed job before after lacks held (BadWords code) P h = tt
+no_depot_failed job before after lacks held (OverMemory node need allowed) P h = tt
+no_depot_failed job before after lacks held (Exists key) P h = tt
+no_depot_failed job before after lacks held ReadFault P h = tt
+no_depot_failed job before after lacks held WriteFault P h = tt
+no_depot_failed job before after lacks held (NotBuilt node) P h = tt
+
+-- no task answers that a key failed
+pub tasks_alone : {T : Type 0} (result : Result T Status) (job : Job) (before after : ℕ) (lacks : Bool) (held : Option Contents) (P : Type 0)
+    → IfErr result (IsTaskEnd job before after lacks held) → IfErr result (λ status. IfDepotFailed status P)
+tasks_alone (Ok x) job before after lacks held P h = tt
+tasks_alone (Err status) job before after lacks held P h = no_depot_failed job before after lacks held status P h
+
+store_fault : (job : Job) (first before after : ℕ) (lacks : Bool) (held : Option Contents) (status : Status) → first ≤ before
+    → IsTaskEnd job before after lacks held status → IsStoreFault job first after held status
+store_fault job first before after lacks held (TaskFailed op task) earlier h = (h.0, h.1, omega (arith, earlier, h.2))
+store_fault job first before after lacks held (BadChunk key got want) earlier h = h
+store_fault job first before after lacks held NoMemory earlier h = tt
+store_fault job first before after lacks held Done earlier h = h
+store_fault job first before after lacks held (BadWords code) earlier h = h
+store_fault job first before after lacks held (OverMemory node need allowed) earlier h = absurd h
+store_fault job first before after lacks held (Exists key) earlier h = absurd h
+store_fault job first before after lacks held ReadFault earlier h = h
+store_fault job first before after lacks held WriteFault earlier h = h
+store_fault job first before after lacks held (DepotFailed key) earlier h = absurd h
+store_fault job first before after lacks held (NotBuilt node) earlier h = absurd h
+
+pub tasks_fault : {T : Type 0} (result : Result T Status) (job : Job) (first before after : ℕ) (lacks : Bool) (held : Option Contents) → first ≤ before
+    → IfErr result (IsTaskEnd job before after lacks held) → IfErr result (IsStoreFault job first after held)
+tasks_fault (Ok x) job first before after lacks held earlier h = tt
+tasks_fault (Err status) job first before after lacks held earlier h = store_fault job first before after lacks held status earlier h

@@ -1,0 +1,22 @@
+-- Each try so far failed, and raised the count; the run is started still, and no value was lost.
+use Rattle.std.proofs.Common.{◌≡◌, ◌≤◌, List}
+use Rattle.cu_store.specs.Faults.{Rose}
+use Rattle.cu_store.specs.Held.{Contents, Write}
+use Rattle.cu_top.specs.Job.{IsStarted, ValuesStay}
+use Rattle.cu_top.specs.Plan.{plan_of}
+use Rattle.cu_top.specs.declared.job.Job.{Job}
+use Rattle.cu_top.specs.declared.words.Options.{Options}
+use Rattle.cu_top.proofs.tasks.finish_task.Given as goal
+
+abbrev pub invariant-loop-failed : goal.invariant-loop-failed
+invariant-loop-failed g l = record {
+  started : (options : Options) (job : Job) (entry : Contents) (late : List Write) → l.plan ≡ plan_of options job
+      → IsStarted job entry late (g.D.Depot.held l.initial.depot) (g.D.Depot.late l.initial.depot)
+      → IsStarted job entry late (g.D.Depot.held l.depot) (g.D.Depot.late l.depot);
+  stays : (options : Options) (job : Job) (entry : Contents) (late : List Write) → l.plan ≡ plan_of options job
+      → IsStarted job entry late (g.D.Depot.held l.initial.depot) (g.D.Depot.late l.initial.depot)
+      → ValuesStay job entry (g.D.Depot.held l.initial.depot) (g.D.Depot.held l.depot);
+  rose : Rose l.failed (g.D.Depot.faults l.initial.depot) (g.D.Depot.faults l.depot);
+  count : g.D.Depot.faults l.initial.depot ≤ g.D.Depot.faults l.depot;
+  lacks : g.D.Depot.lacks l.depot ≡ g.D.Depot.lacks l.initial.depot;
+}

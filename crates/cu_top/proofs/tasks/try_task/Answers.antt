@@ -1,0 +1,28 @@
+use Rattle.std.proofs.Common.{sym, subst}
+use Rattle.cu_op.specs.PlanView.{PlanView}
+use Rattle.cu_task.specs.Task.{op_of, IsAddition}
+use Rattle.cu_top.proofs.PlanLemmas.{is_addition, task_below, started_after, stored_after, values_stay, try_fault_of}
+use Rattle.cu_top.proofs.tasks.try_task.Goals as goal
+
+pub run_task-requires-clause-adds : goal.run_task-requires-clause-adds
+run_task-requires-clause-adds g c =
+    let (options, job, ok, same) = c.requires.plan in
+    subst (λ (p : PlanView). IsAddition p.arrays (op_of p 0)) (sym same) (is_addition job ok)
+
+pub returns-clause-started : goal.returns-clause-started
+returns-clause-started g c options job entry late same s =
+    started_after options job c.args.task entry late _ _ _ _ (task_below _ options job c.args.task same c.requires.task) s (rw same at c.run_task.ensures.follows)
+
+pub returns-clause-stored : goal.returns-clause-stored
+returns-clause-stored g c options job entry late same s =
+    stored_after options job c.args.task entry late c.run_task.result _ _ _ (task_below _ options job c.args.task same c.requires.task) s (rw same at c.run_task.ensures.stored)
+
+pub returns-clause-stays : goal.returns-clause-stays
+returns-clause-stays g c options job entry late same s =
+    let below = task_below _ options job c.args.task same c.requires.task in
+    let after = started_after options job c.args.task entry late _ _ _ _ below s (rw same at c.run_task.ensures.follows) in
+    values_stay options job c.args.task s.is_job below entry late _ _ _ _ after c.run_task.ensures.kept
+
+pub returns-clause-cause : goal.returns-clause-cause
+returns-clause-cause g c options job same ok =
+    try_fault_of c.run_task.result options job c.args.task ok (task_below _ options job c.args.task same c.requires.task) _ _ _ _ (rw same at c.run_task.ensures.cause)

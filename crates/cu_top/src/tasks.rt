@@ -1,0 +1,129 @@
+//! The tasks of a run: each is tried until it ends, and its failed tries are counted.
+ghost use Rattle.std.specs.Prelude.{◌≡◌, ℕ, ◌+◌, ◌*◌, ◌<◌, ◌≤◌, List, Some, length, IfErr, IfOk, OnOk};
+ghost use Rattle.cu_op.specs.Cells.{tasks_of};
+ghost use Rattle.cu_op.specs.Projection.{projection};
+ghost use Rattle.cu_store.specs.Held.{Contents, Write};
+ghost use Rattle.cu_task.specs.Task.{op_of};
+ghost use Rattle.cu_top.specs.Job.{IsJob, IsStarted, StoresChunk, StoresChunks, ValuesStay, chunks_of};
+ghost use Rattle.cu_top.specs.Plan.{plan_of};
+ghost use Rattle.cu_top.specs.Tasks.{IsPlanned, IsTryFault, IsTaskEnd, CountsFailed, end_of};
+ghost use Rattle.cu_top.specs.declared.job.Job.{Job as Addition};
+ghost use Rattle.cu_top.specs.declared.words.Options.{Options as Numbers};
+
+use crate::Status;
+use crate::keys::RETRIES;
+use cu_op::{Plan, tasks};
+use cu_store::{Depot, TaskFault};
+use cu_task::run_task;
+
+/// One try of a task.
+fn try_task<D: Depot>(
+    depot: &mut D,
+    plan: &Plan,
+    task: u32,
+    bytes: &mut [u8],
+    words: &mut [u64],
+) -> Result<(), TaskFault>
+    requires plan { IsPlanned plan.now }
+    requires task { task < tasks_of plan.now.arrays (op_of plan.now 0) }
+    requires words { length words.old ≡ 192 }
+    requires room { plan.now.reserved + length bytes.old + 8 * length words.old ≡ projection plan.now.arrays plan.now.reserved (op_of plan.now 0) }
+    ensures started { (options : Numbers) (job : Addition) (entry : Contents) (late : List Write) → plan.now ≡ plan_of options job
+        → IsStarted job entry late (D.held depot.old) (D.late depot.old) → IsStarted job entry late (D.held depot.new) (D.late depot.new) }
+    ensures stored { (options : Numbers) (job : Addition) (entry : Contents) (late : List Write) → plan.now ≡ plan_of options job
+        → IsStarted job entry late (D.held depot.old) (D.late depot.old) → OnOk result (StoresChunk job entry (D.held depot.new) task) }
+    ensures stays { (options : Numbers) (job : Addition) (entry : Contents) (late : List Write) → plan.now ≡ plan_of options job
+        → IsStarted job entry late (D.held depot.old) (D.late depot.old) → ValuesStay job entry (D.held depot.old) (D.held depot.new) }
+    ensures cause { (options : Numbers) (job : Addition) → plan.now ≡ plan_of options job → IsJob job
+        → IfErr result (IsTryFault job (D.faults depot.old) (D.faults depot.new) (D.lacks depot.new) (D.held depot.new)) }
+    ensures count { D.faults depot.old ≤ D.faults depot.new }
+    ensures lacks { D.lacks depot.new ≡ D.lacks depot.old }
+{
+    run_task(depot, plan, 0, task, bytes, words)
+}
+
+/// What a run answers whose task met this fault, and none where the task is tried again.
+fn end_of(fault: &TaskFault) -> Option<Status>
+    ensures { result ≡ end_of fault.now }
+{
+    match fault {
+        TaskFault::Store => None,
+        TaskFault::BadChunk { key, got, want } => Some(Status::BadChunk {
+            key: *key,
+            got: *got,
+            want: *want,
+        }),
+        TaskFault::NoMemory => Some(Status::NoMemory),
+    }
+}
+
+/// Runs a task, again where the store failed, and says how many tries failed.
+fn finish_task<D: Depot>(
+    depot: &mut D,
+    plan: &Plan,
+    task: u32,
+    bytes: &mut [u8],
+    words: &mut [u64],
+) -> Result<u32, Status>
+    requires plan { IsPlanned plan.now }
+    requires task { task < tasks_of plan.now.arrays (op_of plan.now 0) }
+    requires words { length words.old ≡ 192 }
+    requires room { plan.now.reserved + length bytes.old + 8 * length words.old ≡ projection plan.now.arrays plan.now.reserved (op_of plan.now 0) }
+    ensures started { (options : Numbers) (job : Addition) (entry : Contents) (late : List Write) → plan.now ≡ plan_of options job
+        → IsStarted job entry late (D.held depot.old) (D.late depot.old) → IsStarted job entry late (D.held depot.new) (D.late depot.new) }
+    ensures stored { (options : Numbers) (job : Addition) (entry : Contents) (late : List Write) → plan.now ≡ plan_of options job
+        → IsStarted job entry late (D.held depot.old) (D.late depot.old) → OnOk result (StoresChunk job entry (D.held depot.new) task) }
+    ensures stays { (options : Numbers) (job : Addition) (entry : Contents) (late : List Write) → plan.now ≡ plan_of options job
+        → IsStarted job entry late (D.held depot.old) (D.late depot.old) → ValuesStay job entry (D.held depot.old) (D.held depot.new) }
+    ensures cause { (options : Numbers) (job : Addition) → plan.now ≡ plan_of options job → IsJob job
+        → IfErr result (IsTaskEnd job (D.faults depot.old) (D.faults depot.new) (D.lacks depot.new) (D.held depot.new)) }
+    ensures failed { CountsFailed (D.faults depot.old) (D.faults depot.new) result }
+    ensures few { IfOk result (λ failed. failed ≤ 2) }
+    ensures count { D.faults depot.old ≤ D.faults depot.new }
+    ensures lacks { D.lacks depot.new ≡ D.lacks depot.old }
+{
+    for failed in 0..RETRIES + 1 {
+        match try_task(depot, plan, task, bytes, words) {
+            Ok(()) => return Ok(failed),
+            Err(fault) => {
+                if let Some(status) = end_of(&fault) {
+                    return Err(status);
+                }
+            }
+        }
+    }
+    Err(Status::TaskFailed { op: 0, task })
+}
+
+/// Runs each task of the plan, in order, in the room that is lent to each, and says how many tries failed.
+pub fn run_tasks<D: Depot>(
+    depot: &mut D,
+    plan: &Plan,
+    bytes: &mut [u8],
+    words: &mut [u64],
+) -> Result<u64, Status>
+    requires plan { IsPlanned plan.now }
+    requires words { length words.old ≡ 192 }
+    requires room { plan.now.reserved + length bytes.old + 8 * length words.old ≡ projection plan.now.arrays plan.now.reserved (op_of plan.now 0) }
+    ensures started { (options : Numbers) (job : Addition) (entry : Contents) (late : List Write) → plan.now ≡ plan_of options job
+        → IsStarted job entry late (D.held depot.old) (D.late depot.old) → IsStarted job entry late (D.held depot.new) (D.late depot.new) }
+    ensures stored { (options : Numbers) (job : Addition) (entry : Contents) (late : List Write) → plan.now ≡ plan_of options job
+        → IsStarted job entry late (D.held depot.old) (D.late depot.old) → OnOk result (StoresChunks job entry (D.held depot.new) (chunks_of job)) }
+    ensures stays { (options : Numbers) (job : Addition) (entry : Contents) (late : List Write) → plan.now ≡ plan_of options job
+        → IsStarted job entry late (D.held depot.old) (D.late depot.old) → ValuesStay job entry (D.held depot.old) (D.held depot.new) }
+    ensures cause { (options : Numbers) (job : Addition) → plan.now ≡ plan_of options job → IsJob job
+        → IfErr result (IsTaskEnd job (D.faults depot.old) (D.faults depot.new) (D.lacks depot.new) (D.held depot.new)) }
+    ensures failed { CountsFailed (D.faults depot.old) (D.faults depot.new) result }
+    ensures few { IfOk result (λ failed. failed ≤ 131072) }
+    ensures count { D.faults depot.old ≤ D.faults depot.new }
+    ensures lacks { D.lacks depot.new ≡ D.lacks depot.old }
+{
+    let mut failed = 0;
+    for task in 0..tasks(plan, 0) {
+        match finish_task(depot, plan, task, bytes, words) {
+            Ok(more) => failed += u64::from(more),
+            Err(status) => return Err(status),
+        }
+    }
+    Ok(failed)
+}
