@@ -180,12 +180,12 @@ fn a_failing_source_and_a_failing_sink(rt: HostRuntime) -> Result<(), Fail> {
 }
 
 #[test]
-fn a_text_or_an_input_of_another_form_is_not_built(rt: HostRuntime) -> Result<(), Fail> {
+fn an_absent_input_is_named_and_another_form_is_not_built(rt: HostRuntime) -> Result<(), Fail> {
     let alloc = rt.alloc();
     let mut depot = MemDepot::make(alloc, Script::none());
     let mut out = MemSink::make(alloc, 1000, None)?;
     let status = add(alloc, "1600", &mut out, &mut depot)?;
-    assert_eq!(rt; status_line(&status).as_str(), "error 19 node=0");
+    assert_eq!(rt; status_line(&status).as_str(), "error 8 name=a");
     let run = words(alloc, &["run"])?;
     let mut source = MemSource::make(b"{}".to_vec(alloc)?, None);
     let mut full = inputs(alloc, Script::none())?;
@@ -244,15 +244,27 @@ fn ends_in(alloc: Global, script: Script, line: &str) -> Result<bool, Fail>
 
 #[test]
 fn each_call_may_fail_once(rt: HostRuntime) -> Result<(), Fail> {
-    for (call, skip, _) in CALLS {
+    for (number, (call, skip, _)) in CALLS.iter().enumerate() {
         let script = Script::one(Rule {
-            call,
+            call: *call,
             key: None,
-            skip,
+            skip: *skip,
             times: 1,
             land: None,
         });
-        assert!(rt; ends_in(rt.alloc(), script, "")?);
+        let alloc = rt.alloc();
+        let mut depot = inputs(alloc, script)?;
+        let mut out = MemSink::make(alloc, 1000, None)?;
+        let status = add(alloc, "1600", &mut out, &mut depot)?;
+        assert_eq!(rt; number(&status), 0);
+        assert!(rt; is_complete(&depot)?);
+        // A call outside of the tasks is tried again by itself, and one of a task with its task.
+        let printed = if number < 6 {
+            REPORT
+        } else {
+            "ok ops=1 tasks=2 starts=3 failed=1 peak=1600\n"
+        };
+        assert_eq!(rt; out.text(), printed.as_bytes());
     }
     Ok(())
 }
@@ -359,7 +371,7 @@ fn a_grid_of_two_axes_is_added(rt: HostRuntime) -> Result<(), Fail> {
     Ok(())
 }
 
-/// The metadata of one number: its type, and its fill value.
+/// The metadata of one number: its type, its fill value and its codec.
 fn number_metadata(
     alloc: Global,
     dtype: &str,
@@ -371,70 +383,133 @@ fn number_metadata(
     )
 }
 
+const PLAIN: &str = r#"{"name":"bytes"}"#;
+
+const LITTLE: &str = r#"{"configuration":{"endian":"little"},"name":"bytes"}"#;
+
+const BIG: &str = r#"{"configuration":{"endian":"big"},"name":"bytes"}"#;
+
 #[test]
 fn single_numbers_are_added_and_others_are_not_built(rt: HostRuntime) -> Result<(), Fail> {
     let alloc = rt.alloc();
-    let plain = r#"{"name":"bytes"}"#;
-    let little = r#"{"configuration":{"endian":"little"},"name":"bytes"}"#;
-    let big = r#"{"configuration":{"endian":"big"},"name":"bytes"}"#;
-    // The absent chunk of `a` reads as its fill value, 200; with 100 it wraps to 44.
+    // The absent chunk of `a` reads as its fill value.
     let table = [
         (
             "uint8",
             "200",
-            plain,
+            PLAIN,
             "uint8",
-            plain,
+            PLAIN,
+            [100, 0],
+            1,
             "",
-            Some([44u8].as_slice()),
+            [44, 0],
         ),
         (
             "int8",
             "-56",
-            plain,
+            PLAIN,
             "int8",
-            plain,
+            PLAIN,
+            [100, 0],
+            1,
             "",
-            Some([44u8].as_slice()),
+            [44, 0],
         ),
+        ("int16", "258", LITTLE, "int16", BIG, [1, 2], 2, "", [4, 2]),
         (
             "uint8",
             "200",
-            plain,
+            PLAIN,
             "int8",
-            plain,
+            PLAIN,
+            [100, 0],
+            1,
             "error 19 node=0",
-            None,
+            [0, 0],
         ),
         (
             "bool",
             "true",
-            plain,
+            PLAIN,
             "bool",
-            plain,
+            PLAIN,
+            [1, 0],
+            1,
             "error 19 node=0",
-            None,
+            [0, 0],
         ),
-        ("int16", "1", big, "int16", big, "error 19 node=0", None),
-        ("int16", "1", little, "int16", big, "error 19 node=0", None),
+        (
+            "int16",
+            "1",
+            BIG,
+            "int16",
+            BIG,
+            [1, 2],
+            1,
+            "error 13 key=b/c got=1 want=2",
+            [0, 0],
+        ),
+        (
+            "int16",
+            "1",
+            PLAIN,
+            "int16",
+            BIG,
+            [1, 2],
+            2,
+            "error 7 name=a code=8",
+            [0, 0],
+        ),
     ];
-    for (left, fill, left_codec, right, right_codec, line, value) in table {
+    for (left, fill, left_codec, right, right_codec, bytes, count, line, sum) in table {
         let mut depot = MemDepot::make(alloc, Script::none());
+        let zero = if right == "bool" { "false" } else { "0" };
         let a = number_metadata(alloc, left, fill, left_codec)?;
-        let b = number_metadata(
-            alloc,
-            right,
-            if right == "bool" { "false" } else { "0" },
-            right_codec,
-        )?;
+        let b = number_metadata(alloc, right, zero, right_codec)?;
         depot.insert(&named("a/zarr.json")?, a.as_bytes())?;
         depot.insert(&named("b/zarr.json")?, b.as_bytes())?;
-        depot.insert(&named("b/c")?, &[100])?;
+        depot.insert(
+            &named("b/c")?,
+            if count == 1 { &bytes[..1] } else { &bytes },
+        )?;
         let mut out = MemSink::make(alloc, 1000, None)?;
         let status = add(alloc, "2000", &mut out, &mut depot)?;
         assert_eq!(rt; status_line(&status).as_str(), line);
+        let stored = if count == 1 { &sum[..1] } else { &sum };
+        let value = if line.is_empty() { Some(stored) } else { None };
         assert_eq!(rt; depot.lookup(&named("y/c")?), value);
     }
+    Ok(())
+}
+
+/// An array of four int16 numbers in chunks of two, the higher bytes first, with fill value -1.
+const BIG_PAIRS: &str =
+    r#"{"zarr_format":3,"node_type":"array","shape":[4],"data_type":"int16","chunk_grid":{"name":"regular","configuration":{"chunk_shape":[2]}},"chunk_key_encoding":"v2","fill_value":-1,"codecs":[{"name":"bytes","configuration":{"endian":"big"}}],"attributes":{}}"#;
+
+/// The array `x` added to itself, stored as `y`.
+const DOUBLING: &str =
+    r#"{"nodes":[{"id":"a","op":"input","name":"x"},{"id":"b","op":"input","name":"x"},{"id":"s","op":"add","args":["a","b"]}],"out":"s","store_as":"y"}"#;
+
+#[test]
+fn one_input_of_another_layout_is_added_to_itself(rt: HostRuntime) -> Result<(), Fail> {
+    let alloc = rt.alloc();
+    let mut depot = MemDepot::make(alloc, Script::none());
+    depot.insert(&named("x/zarr.json")?, BIG_PAIRS.as_bytes())?;
+    depot.insert(&named("x/0")?, &[1, 2, 0xff, 0xfe])?;
+    let run = words(alloc, &["run"])?;
+    let mut source = MemSource::make(DOUBLING.as_bytes().to_vec(alloc)?, None);
+    let mut out = MemSink::make(alloc, 1000, None)?;
+    let status = top(alloc, &run, &mut source, &mut out, &mut depot);
+    assert_eq!(rt; status_line(&status).as_str(), "");
+    assert_eq!(rt;
+        depot.lookup(&named("y/c/0")?),
+        Some([4, 2, 0xfc, 0xff].as_slice())
+    );
+    assert_eq!(rt;
+        depot.lookup(&named("y/c/1")?),
+        Some([0xfe, 0xff, 0xfe, 0xff].as_slice())
+    );
     Ok(())
 }
 

@@ -6,7 +6,7 @@ use Rattle.cu_top.specs.Job.{IsFree, chunks_of, key_of_chunk, out_array}
 use Rattle.cu_top.specs.Tasks.{IsKeyFault}
 use Rattle.cu_top.specs.Run.{IsFreeBelow, IfAsked}
 use Rattle.cu_top.specs.declared.status.Status.{Status}
-use Rattle.cu_top.specs.declared.status.Status.TheVariants.{Done, BadWords, OverMemory, Exists, TaskFailed, ReadFault, WriteFault, BadChunk, DepotFailed, NotBuilt, NoMemory}
+use Rattle.cu_top.specs.declared.status.Status.TheVariants.{Done, BadWords, OverMemory, BadMeta, NoArray, Exists, TaskFailed, ReadFault, WriteFault, BadChunk, DepotFailed, NotBuilt, NoMemory}
 use Rattle.cu_top.specs.declared.job.Job.{Job}
 
 kept_absent : (W : List ℕ → List ℕ → Type 0) (entry held : Contents) (key : List ℕ) → held key ≡ None → IsKeptAt W entry held key → entry key ≡ None
@@ -36,6 +36,8 @@ key_fault_asked before after lacks key Done P fault here = tt
 key_fault_asked before after lacks key (BadWords code) P fault here = tt
 key_fault_asked before after lacks key (OverMemory node need allowed) P fault here = tt
 key_fault_asked before after lacks key (Exists held) P fault here = absurd fault
+key_fault_asked before after lacks key (BadMeta name code) P fault here = tt
+key_fault_asked before after lacks key (NoArray name) P fault here = tt
 key_fault_asked before after lacks key (TaskFailed op task) P fault here = tt
 key_fault_asked before after lacks key ReadFault P fault here = tt
 key_fault_asked before after lacks key WriteFault P fault here = tt

@@ -1,5 +1,5 @@
 -- A run that is servable is served: each other answer has a cause that isn't there.
-use Rattle.std.proofs.Common.{◌≡◌, ◌⊎◌, ℕ, ◌<◌, ◌≤◌, ◌&&◌, Bool, true, false, nat_le, List, ◌++◌, length, Option, Some, None, Ok, Err, Result, option_and_then, refl, sym, ap, ◌∙◌, subst, inl, inr, arith, length-append}
+use Rattle.std.proofs.Common.{◌≡◌, ℕ, ◌<◌, ◌≤◌, ◌&&◌, Bool, true, false, nat_le, List, ◌++◌, length, Option, Some, None, Ok, Err, Result, option_and_then, refl, sym, ap, ◌∙◌, subst, inl, inr, arith, length-append}
 use Rattle.std.proofs.lemmas.Bool.{leb-true, and_parts}
 use Rattle.std.proofs.lemmas.List.{append-nil}
 use Rattle.std.specs.Prelude.{⊤}
@@ -7,21 +7,22 @@ use Rattle.std.specs.Str.{is_utf8}
 use Rattle.cu_store.specs.Faults.{Rose}
 use Rattle.cu_store.specs.Held.{Contents, Write, IsAmong, IsKeptAt, Follows}
 use Rattle.cu_zarr.specs.Key.{metadata_key_of}
-use Rattle.cu_op.specs.declared.layout.ArrayInfo.{ArrayInfo}
+use Rattle.cu_top.proofs.InputLemmas.{one_job, not_refused, refused_before}
 use Rattle.cu_top.proofs.JobLemmas.{input_stays}
 use Rattle.cu_top.specs.Complete.{IsServable, StoodStill, IsServed, IsWhole}
 use Rattle.cu_top.specs.Expression.{addition_of, when, Names as TextNames}
-use Rattle.cu_top.specs.Job.{IsArrayKey, IsInputKey, IsInputChunk, IsPlanKey, HasInputs, IsFree, IsStarted, left_array, right_array, out_array, coord_of}
+use Rattle.cu_top.specs.Inputs.{AreAddable, HoldsRefused}
+use Rattle.cu_top.specs.Job.{IsInputKey, IsInputChunk, IsPlanKey, IsQuiet, HasInputs, IsFree, IsStarted}
 use Rattle.cu_top.specs.Plan.{over_memory}
-use Rattle.cu_top.specs.Run.{HasNames, IsMetadataKey, IsCalm, IsInWay}
-use Rattle.cu_top.specs.Tasks.{IsBad}
+use Rattle.cu_top.specs.Run.{HasNames, IsMetadataKey, IsCalm, IsInWay, IsRefusedInput, IsMissingInput, AreUnlike}
 use Rattle.cu_top.specs.Streams.{ReadsAll}
-use Rattle.cu_top.specs.Top.{IsKeyOfArray, Ran, CameToRun, HasNoAddition, Tells, text_names}
+use Rattle.cu_top.specs.Tasks.{IsBad}
+use Rattle.cu_top.specs.Top.{IsAccepted, Ran, CameToRun, HasNoAddition, Tells, text_names}
 use Rattle.cu_top.specs.Words.{options_of}
 use Rattle.cu_top.specs.declared.job.Job.{Job}
 use Rattle.cu_top.specs.declared.job.Names.{Names}
 use Rattle.cu_top.specs.declared.status.Status.{Status}
-use Rattle.cu_top.specs.declared.status.Status.TheVariants.{Done, BadWords, OverMemory, Exists, TaskFailed, ReadFault, WriteFault, BadChunk, DepotFailed, NotBuilt, NoMemory}
+use Rattle.cu_top.specs.declared.status.Status.TheVariants.{Done, BadWords, OverMemory, BadMeta, NoArray, Exists, TaskFailed, ReadFault, WriteFault, BadChunk, DepotFailed, NotBuilt, NoMemory}
 use Rattle.cu_top.specs.declared.words.Options.{Options}
 
 -- ---- the text that was read is the text that was there
@@ -57,37 +58,24 @@ options_same a b e = cc
 
 -- ---- the premise of a run
 
--- a key of an array is one of the array with its name
-key_of_array : (a : ArrayInfo) (name key : List ℕ) → a.prefix ≡ name → IsArrayKey a key → IsKeyOfArray name key
-key_of_array a name key same own = subst (λ (n : List ℕ). IsKeyOfArray n key) same (named own)
-  where
-    named : IsArrayKey a key → IsKeyOfArray a.prefix key
-    named (inl metadata) = inl metadata
-    named (inr (k, small, chunk)) = inr (a.layout.encoding, coord_of a k, chunk)
+-- no put is late on the output of the job, and each that is late on an input carries what is held
+record IsSettled (job : Job) (entry : Contents) (late : List Write) : Type 0 where
+  out : (key bytes : List ℕ) → IsAmong late key bytes → IsPlanKey job key → ⊥
+  inputs : (key bytes : List ℕ) → IsAmong late key bytes → IsInputKey job key → entry key ≡ Some bytes
 
--- no put is late on the output, and each that is late on an input carries what is held
-record IsSettled (names : Names) (entry : Contents) (late : List Write) : Type 0 where
-  out : (key bytes : List ℕ) → IsAmong late key bytes → IsKeyOfArray names.out key → ⊥
-  inputs : (key bytes : List ℕ) → IsAmong late key bytes → IsKeyOfArray names.left key ⊎ IsKeyOfArray names.right key → entry key ≡ Some bytes
+metadata_of_input : (names : Names) (job : Job) (key : List ℕ) → HasNames names job → IsMetadataKey names key → IsInputKey job key
+metadata_of_input names job key has (inl left) = inl (inl (left ∙ ap (λ (n : Names). metadata_key_of n.left) (sym has)))
+metadata_of_input names job key has (inr right) = inr (inl (right ∙ ap (λ (n : Names). metadata_key_of n.right) (sym has)))
 
-metadata_of_input : (names : Names) (key : List ℕ) → IsMetadataKey names key → IsKeyOfArray names.left key ⊎ IsKeyOfArray names.right key
-metadata_of_input names key (inl left) = inl (inl left)
-metadata_of_input names key (inr right) = inr (inl right)
-
-key_of_input : (names : Names) (job : Job) (key : List ℕ) → HasNames names job → IsInputKey job key → IsKeyOfArray names.left key ⊎ IsKeyOfArray names.right key
-key_of_input names job key has (inl left) = inl (key_of_array (left_array job) names.left key (ap (λ (n : Names). n.left) has) left)
-key_of_input names job key has (inr right) = inr (key_of_array (right_array job) names.right key (ap (λ (n : Names). n.right) has) right)
-
-key_of_plan : (names : Names) (job : Job) (key : List ℕ) → HasNames names job → IsPlanKey job key → IsKeyOfArray names.out key
-key_of_plan names job key has own = key_of_array (out_array job) names.out key (ap (λ (n : Names). n.out) has) own
-
-is_calm : (names : Names) (entry : Contents) (late : List Write) → IsSettled names entry late → IsCalm names entry late
-is_calm names entry late settled = record {
-  metadata = λ key bytes among of_input. settled.inputs key bytes among (metadata_of_input names key of_input);
-  jobs = λ job has inputs. record {
-    plan = λ key bytes among of_out. absurd (settled.out key bytes among (key_of_plan names job key has of_out));
-    inputs = λ key bytes among of_input. settled.inputs key bytes among (key_of_input names job key has of_input);
-  };
+is_calm : (names : Names) (job : Job) (entry : Contents) (late : List Write) → HasNames names job → HasInputs job entry → IsSettled job entry late → IsCalm names entry late
+is_calm names job entry late has inputs settled = record {
+  metadata = λ key bytes among of_input. settled.inputs key bytes among (metadata_of_input names job key has of_input);
+  jobs = λ other other_has other_inputs.
+      let same : job ≡ other = one_job names entry job other has other_has inputs other_inputs in
+      subst (λ (x : Job). IsQuiet x entry late) same (record {
+        plan = λ key bytes among of_out. absurd (settled.out key bytes among of_out);
+        inputs = settled.inputs;
+      });
 }
 
 -- ---- each other answer lacks its cause
@@ -95,10 +83,10 @@ is_calm names entry late settled = record {
 none_rose : (n before after : ℕ) → 0 < n → StoodStill before after → Rose n before after → ⊥
 none_rose n before after some still rose = omega (arith, still.0, still.1, rose, some)
 
-not_held : (key : List ℕ) (entry held : Contents) (late : List Write) (names : Names) → IsSettled names entry late → IsKeyOfArray names.out key
+not_held : (key : List ℕ) (entry held : Contents) (late : List Write) (job : Job) → IsSettled job entry late → IsPlanKey job key
     → entry key ≡ None → (bytes : List ℕ) → held key ≡ Some bytes → IsKeptAt (IsAmong late) entry held key → ⊥
-not_held key entry held late names settled named free bytes there (inl same) = cc
-not_held key entry held late names settled named free bytes there (inr (b, landed, now)) = settled.out key b landed named
+not_held key entry held late job settled of_out free bytes there (inl same) = cc
+not_held key entry held late job settled of_out free bytes there (inr (b, landed, now)) = settled.out key b landed of_out
 
 -- the metadata of an input is held, and that of the output isn't
 not_own : (job : Job) (entry : Contents) (name : List ℕ) (text : List ℕ) → IsFree job entry → job.names.out ≡ name → entry (metadata_key_of name) ≡ Some text → ⊥
@@ -106,13 +94,13 @@ not_own job entry name text free same there =
     let gone : entry (metadata_key_of name) ≡ None = subst (λ (n : List ℕ). entry (metadata_key_of n) ≡ None) same (free (metadata_key_of job.names.out) (inl refl)) in
     cc
 
-not_in_way : (names : Names) (job : Job) (key : List ℕ) (entry : Contents) (new : Option Contents) (late now_late : List Write) → HasNames names job
-    → IsSettled names entry late → HasInputs job entry → IsFree job entry → Follows late (Some entry) new now_late → IsInWay job new key → ⊥
-not_in_way names job key entry None late now_late has settled inputs free follows way = follows.0
-not_in_way names job key entry (Some held) late now_late has settled inputs free follows (of_out, inl (bytes, there)) =
-    not_held key entry held late names settled (key_of_plan names job key has of_out) (free key of_out) bytes there (follows.0 key)
-not_in_way names job key entry (Some held) late now_late has settled inputs free follows (of_out, inr (inl left)) = not_own job entry job.names.left inputs.left.0 free left inputs.left.1
-not_in_way names job key entry (Some held) late now_late has settled inputs free follows (of_out, inr (inr right)) = not_own job entry job.names.right inputs.right.0 free right inputs.right.1
+not_in_way : (job : Job) (key : List ℕ) (entry : Contents) (new : Option Contents) (late now_late : List Write)
+    → IsSettled job entry late → HasInputs job entry → IsFree job entry → Follows late (Some entry) new now_late → IsInWay job new key → ⊥
+not_in_way job key entry None late now_late settled inputs free follows way = follows.0
+not_in_way job key entry (Some held) late now_late settled inputs free follows (of_out, inl (bytes, there)) =
+    not_held key entry held late job settled of_out (free key of_out) bytes there (follows.0 key)
+not_in_way job key entry (Some held) late now_late settled inputs free follows (of_out, inr (inl left)) = not_own job entry job.names.left inputs.left.0 free left inputs.left.1
+not_in_way job key entry (Some held) late now_late settled inputs free follows (of_out, inr (inr right)) = not_own job entry job.names.right inputs.right.0 free right inputs.right.1
 
 chunk_array_key : (job : Job) (key : List ℕ) → IsInputChunk job key → IsInputKey job key
 chunk_array_key job key (inl left) = inl (inr left)
@@ -140,38 +128,74 @@ words_differ words o code ok err = ok_or_err (options_of words) o code ok err
     ok_or_err : (r : Result Options ℕ) (o : Options) (code : ℕ) → r ≡ Ok o → r ≡ Err code → ⊥
     ok_or_err r o code ok err = cc
 
+-- what an input has as its metadata isn't absent
+not_missing : (names : Names) (job : Job) (entry : Contents) (name : List ℕ) → HasNames names job → HasInputs job entry → IsMissingInput names (Some entry) name → ⊥
+not_missing names job entry name has inputs (inl left, gone) =
+    absent (entry (metadata_key_of job.names.left)) inputs.left.0 inputs.left.1 (subst (λ (n : List ℕ). entry (metadata_key_of n) ≡ None) (left ∙ ap (λ (n : Names). n.left) (sym has)) gone)
+  where
+    absent : (v : Option (List ℕ)) (text : List ℕ) → v ≡ Some text → v ≡ None → ⊥
+    absent v text some none = cc
+not_missing names job entry name has inputs (inr right, gone) =
+    absent (entry (metadata_key_of job.names.right)) inputs.right.0 inputs.right.1 (subst (λ (n : List ℕ). entry (metadata_key_of n) ≡ None) (right ∙ ap (λ (n : Names). n.right) (sym has)) gone)
+  where
+    absent : (v : Option (List ℕ)) (text : List ℕ) → v ≡ Some text → v ≡ None → ⊥
+    absent v text some none = cc
+
+not_refused_input : (names : Names) (job : Job) (entry : Contents) (name : List ℕ) (code : ℕ) → HasNames names job → HasInputs job entry → IsRefusedInput names (Some entry) name code → ⊥
+not_refused_input names job entry name code has inputs (inl left, refused) =
+    not_refused entry (metadata_key_of job.names.left) job.left code inputs.left (subst (λ (n : List ℕ). HoldsRefused (Some entry) (metadata_key_of n) code) (left ∙ ap (λ (n : Names). n.left) (sym has)) refused)
+not_refused_input names job entry name code has inputs (inr right, refused) =
+    not_refused entry (metadata_key_of job.names.right) job.right code inputs.right (subst (λ (n : List ℕ). HoldsRefused (Some entry) (metadata_key_of n) code) (right ∙ ap (λ (n : Names). n.right) (sym has)) refused)
+
+refused_then : (names : Names) (entry : Contents) (late now_late : List Write) (new : Option Contents) (name : List ℕ) (code : ℕ) → IsCalm names entry late → Follows late (Some entry) new now_late
+    → IsRefusedInput names new name code → IsRefusedInput names (Some entry) name code
+refused_then names entry late now_late new name code calm follows (inl left, refused) =
+    (inl left, refused_before names entry late now_late new (metadata_key_of name) code calm.metadata (inl (ap metadata_key_of left)) follows refused)
+refused_then names entry late now_late new name code calm follows (inr right, refused) =
+    (inr right, refused_before names entry late now_late new (metadata_key_of name) code calm.metadata (inr (ap metadata_key_of right)) follows refused)
+
+-- two inputs that can be added aren't unlike
+not_unlike : (names : Names) (job : Job) (entry : Contents) (late : List Write) → HasNames names job → AreAddable job.left job.right → HasInputs job entry → IsCalm names entry late
+    → AreUnlike names entry late → ⊥
+not_unlike names job entry late has alike inputs calm unlike =
+    let (left, right, held_left, held_right, differ) = unlike calm.metadata in
+    let same : record { names = names; left = left; right = right } ≡ job = one_job names entry (record { names = names; left = left; right = right }) job refl has (record { left = held_left; right = held_right }) inputs in
+    differ (subst (λ (x : Job). AreAddable x.left x.right) (sym same) alike)
+
 -- ---- the answers of a run
 
-served_run : (names : Names) (options : Options) (entry : Contents) (new : Option Contents) (late now_late : List Write) (f g v w : ℕ) (front back : Option (List ℕ)) (job : Job) (status : Status)
-    → IsSettled names entry late
-    → HasNames names job → job.right.dtype ≡ job.left.dtype → job.right.grid ≡ job.left.grid → HasInputs job entry
-    → ((j : Job) → HasNames names j → HasInputs j entry → over_memory options j ≡ None)
-    → ((j : Job) → HasNames names j → HasInputs j entry → IsFree j entry)
-    → ((j : Job) → HasNames names j → HasInputs j entry → (key : List ℕ) → IsInputChunk j key → IsWhole j entry key)
-    → StoodStill f g → StoodStill v w
-    → Ran names options (Some entry) new late now_late f g v w front back status → IsServed status
-served_run names options entry new late now_late f g v w front back job Done settled has dtype grid inputs fits free whole depot sink ran = tt
-served_run names options entry new late now_late f g v w front back job NoMemory settled has dtype grid inputs fits free whole depot sink ran = tt
-served_run names options entry new late now_late f g v w front back job WriteFault settled has dtype grid inputs fits free whole depot sink ran = none_rose 1 v w (omega arith) sink ran.0
-served_run names options entry new late now_late f g v w front back job (DepotFailed key) settled has dtype grid inputs fits free whole depot sink ran = none_rose 3 f g (omega arith) depot ran.0
-served_run names options entry new late now_late f g v w front back job (TaskFailed op task) settled has dtype grid inputs fits free whole depot sink ran = none_rose 3 f g (omega arith) depot ran.0
-served_run names options entry new late now_late f g v w front back job (NotBuilt node) settled has dtype grid inputs fits free whole depot sink ran =
-    ran.2 entry refl job has dtype grid (is_calm names entry late settled).metadata inputs
-served_run names options entry new late now_late f g v w front back job (OverMemory node need allowed) settled has dtype grid inputs fits free whole depot sink ran =
-    let over = ran.2 in
-    let j_inputs = over.accepted.inputs entry refl (is_calm names entry late settled).metadata in
-    let none = fits over.job over.accepted.has_names j_inputs in
-    none_some over.job options _ none over.over
-served_run names options entry new late now_late f g v w front back job (Exists key) settled has dtype grid inputs fits free whole depot sink ran =
-    let blocked = ran.1 in
-    let j_inputs = blocked.accepted.inputs entry refl (is_calm names entry late settled).metadata in
-    not_in_way names blocked.job key entry new late now_late blocked.accepted.has_names settled j_inputs (free blocked.job blocked.accepted.has_names j_inputs) ran.0 blocked.in_way
-served_run names options entry new late now_late f g v w front back job (BadChunk key got want) settled has dtype grid inputs fits free whole depot sink ran =
-    let calm = is_calm names entry late settled in
-    let j_inputs = ran.accepted.inputs entry refl calm.metadata in
-    not_bad ran.job entry new late now_late key got want (ran.started entry refl calm) (whole ran.job ran.accepted.has_names j_inputs) ran.is_so
-served_run names options entry new late now_late f g v w front back job (BadWords code) settled has dtype grid inputs fits free whole depot sink ran = ran
-served_run names options entry new late now_late f g v w front back job ReadFault settled has dtype grid inputs fits free whole depot sink ran = ran
+module _ (names : Names) (options : Options) (entry : Contents) (new : Option Contents) (late now_late : List Write) (f g v w : ℕ) (front back : Option (List ℕ)) (job : Job)
+    (settled : IsSettled job entry late) (has : HasNames names job) (alike : AreAddable job.left job.right) (inputs : HasInputs job entry) (fits : over_memory options job ≡ None) (free : IsFree job entry)
+    (whole : (key : List ℕ) → IsInputChunk job key → IsWhole job entry key) (depot : StoodStill f g) (sink : StoodStill v w) where
+  calm : IsCalm names entry late
+  calm = is_calm names job entry late has inputs settled
+
+  -- the job that was accepted is the one that the premise has
+  same_job : (other : Job) → IsAccepted names options (Some entry) late other → job ≡ other
+  same_job other accepted = one_job names entry job other has accepted.has_names inputs (accepted.inputs entry refl calm.metadata)
+
+  served_run : (status : Status) → Ran names options (Some entry) new late now_late f g v w front back status → IsServed status
+  served_run Done ran = tt
+  served_run NoMemory ran = tt
+  served_run WriteFault ran = none_rose 1 v w (omega arith) sink ran.0
+  served_run (DepotFailed key) ran = none_rose 3 f g (omega arith) depot ran.0
+  served_run (TaskFailed op task) ran = none_rose 3 f g (omega arith) depot ran.0
+  served_run (BadMeta name code) ran = not_refused_input names job entry name.bytes code has inputs (refused_then names entry late now_late new name.bytes code calm ran.0 ran.1)
+  served_run (NoArray name) ran = not_missing names job entry name.bytes has inputs ran.1
+  served_run (NotBuilt node) ran = not_unlike names job entry late has alike inputs calm (ran.2 entry refl)
+  served_run (OverMemory node need allowed) ran =
+      let over = ran.2 in
+      none_some over.job options (node, need) (subst (λ (x : Job). over_memory options x ≡ None) (same_job over.job over.accepted) fits) over.over
+  served_run (Exists key) ran =
+      let blocked = ran.1 in
+      let same = same_job blocked.job blocked.accepted in
+      not_in_way job key entry new late now_late settled inputs free ran.0 (subst (λ (x : Job). IsInWay x new key) (sym same) blocked.in_way)
+  served_run (BadChunk key got want) ran =
+      let same = same_job ran.job ran.accepted in
+      not_bad job entry new late now_late key got want (subst (λ (x : Job). IsStarted x entry late new now_late) (sym same) (ran.started entry refl calm)) whole
+      (subst (λ (x : Job). IsBad new key got want x) (sym same) ran.is_so)
+  served_run (BadWords code) ran = ran
+  served_run ReadFault ran = ran
 
 -- what the premise says of the names and options that the call came to
 came : (words : List (List ℕ)) (left : List ℕ) (next : Option (List ℕ)) (entry : Contents) (new : Option Contents) (late now_late : List Write) (f g v w : ℕ) (front back : Option (List ℕ)) (status : Status)
@@ -180,9 +204,9 @@ came : (words : List (List ℕ)) (left : List ℕ) (next : Option (List ℕ)) (e
 came words left next entry new late now_late f g v w front back status premise depot sink arrived =
     let same : premise.names ≡ arrived.names = names_same premise.names arrived.names (sym premise.adds ∙ ap addition_of (sym (text_is_left left arrived.called.text next (text_names premise.names) arrived.called.read premise.adds)) ∙ arrived.called.adds) in
     let same_options : premise.options ≡ arrived.options = options_same premise.options arrived.options (sym premise.words_give ∙ arrived.called.words_give) in
-    served_run premise.names premise.options entry new late now_late f g v w front back premise.job status
+    served_run premise.names premise.options entry new late now_late f g v w front back premise.job
     (record { out = premise.settled; inputs = premise.calm })
-    premise.has_names premise.dtype premise.grid premise.inputs premise.fits premise.free premise.whole depot sink
+    premise.has_names premise.alike premise.inputs premise.fits premise.free premise.whole depot sink status
     (subst (λ (n : Names). Ran n premise.options (Some entry) new late now_late f g v w front back status) (sym same)
     (subst (λ (o : Options). Ran arrived.names o (Some entry) new late now_late f g v w front back status) (sym same_options) arrived.ran))
 
@@ -199,6 +223,8 @@ told_served words next left t u entry new late now_late f g v w front back (BadW
 told_served words next left t u entry new late now_late f g v w front back ReadFault premise source sink depot tells = none_rose 1 t u (omega arith) source tells.1
 told_served words next left t u entry new late now_late f g v w front back (OverMemory node need allowed) premise source sink depot tells = came words left next entry new late now_late f g v w front back (OverMemory node need allowed) premise depot sink tells
 told_served words next left t u entry new late now_late f g v w front back (Exists key) premise source sink depot tells = came words left next entry new late now_late f g v w front back (Exists key) premise depot sink tells
+told_served words next left t u entry new late now_late f g v w front back (BadMeta name code) premise source sink depot tells = came words left next entry new late now_late f g v w front back (BadMeta name code) premise depot sink tells
+told_served words next left t u entry new late now_late f g v w front back (NoArray name) premise source sink depot tells = came words left next entry new late now_late f g v w front back (NoArray name) premise depot sink tells
 told_served words next left t u entry new late now_late f g v w front back (TaskFailed op task) premise source sink depot tells = came words left next entry new late now_late f g v w front back (TaskFailed op task) premise depot sink tells
 told_served words next left t u entry new late now_late f g v w front back WriteFault premise source sink depot tells = came words left next entry new late now_late f g v w front back WriteFault premise depot sink tells
 told_served words next left t u entry new late now_late f g v w front back (BadChunk key got want) premise source sink depot tells = came words left next entry new late now_late f g v w front back (BadChunk key got want) premise depot sink tells

@@ -1,29 +1,25 @@
 -- What the metadata of the inputs was when the call began.
-use Rattle.std.proofs.Common.{◌≡◌, Bool, true, false, true≢false, ℕ, suc, ◌<◌, [], ◌∷◌, get_or, arith, List, length, Option, Some, None, Result, Ok, Err, sym, ap, ◌∙◌, subst, inl, inr, refl}
-use Rattle.cu_store.specs.Held.{Contents, Write, IsAmong, IsKeptAt, Follows, Gets}
+use Rattle.std.proofs.Common.{◌≡◌, Bool, true, false, true≢false, ℕ, suc, ◌<◌, ◌≤◌, [], ◌∷◌, get_or, arith, List, length, take, Option, Some, None, Result, Ok, Err, sym, ap, ◌∙◌, subst, inl, inr, refl}
+use Rattle.std.proofs.lemmas.List.{take_all}
+use Rattle.cu_grid.specs.Grid.{IsGrid}
+use Rattle.cu_meta.proofs.Answered.{read_too_long}
+use Rattle.cu_meta.proofs.Accepted.{read_accepted}
+use Rattle.cu_meta.specs.Fault.{Fault, too_long}
+use Rattle.cu_meta.specs.Metadata.{read_metadata}
+use Rattle.cu_op.specs.Layout.{layout_view}
+use Rattle.cu_op.specs.declared.layout.Layout.{Layout}
+use Rattle.cu_store.specs.Faults.{Rose}
+use Rattle.cu_store.specs.Held.{Contents, Write, IsAmong, IsKeptAt, Follows, Gets, IsGone}
 use Rattle.cu_store.specs.declared.depot.Got.TheVariants.{Absent, Held}
 use Rattle.cu_zarr.specs.Key.{metadata_key_of}
 use Rattle.cu_zarr.specs.Layout.{ArrayLayout}
-use Rattle.cu_meta.specs.Fault.{Fault, too_long}
-use Rattle.cu_meta.specs.Metadata.{read_metadata}
-use Rattle.cu_meta.proofs.Answered.{read_too_long}
-use Rattle.cu_meta.proofs.MetaLaw.{read_back}
-use Rattle.cu_meta.proofs.Accepted.{read_accepted}
-use Rattle.cu_grid.specs.Grid.{IsGrid}
-use Rattle.cu_num.specs.Dtype.{IsInteger}
-use Rattle.cu_num.specs.declared.layout.Encoding.TheVariants.{Plain}
-use Rattle.cu_num.specs.declared.layout.Sep.TheVariants.{Slash}
-use Rattle.cu_num.specs.declared.layout.Endian.TheVariants.{Little}
-use Rattle.cu_zarr.specs.Metadata.{metadata_text}
-use Rattle.cu_op.specs.Layout.{layout_view}
-use Rattle.cu_op.specs.declared.layout.Layout.{Layout}
-use Rattle.cu_top.specs.Inputs.{IsMetadata, HoldsLayout, HoldsNoLayout}
+use Rattle.cu_top.specs.Inputs.{IsInput, AreAddable, IsMetadata, HoldsText, HoldsLayout, HoldsRefused, IsMetadataFault, code_of}
 use Rattle.cu_top.specs.Job.{HasInputs}
-use Rattle.cu_top.specs.Run.{HasNames, IfNotBuilt, HasNoInputs, IsCalmMetadata, IsMetadataKey}
+use Rattle.cu_top.specs.Run.{HasNames, IfNotBuilt, AreUnlike, IsCalmMetadata, IsMetadataKey, IsInputFault}
 use Rattle.cu_top.specs.declared.job.Job.{Job}
 use Rattle.cu_top.specs.declared.job.Names.{Names}
 use Rattle.cu_top.specs.declared.status.Status.{Status}
-use Rattle.cu_top.specs.declared.status.Status.TheVariants.{Done, BadWords, OverMemory, Exists, TaskFailed, ReadFault, WriteFault, BadChunk, DepotFailed, NotBuilt, NoMemory}
+use Rattle.cu_top.specs.declared.status.Status.TheVariants.{Done, BadWords, OverMemory, BadMeta, NoArray, Exists, TaskFailed, ReadFault, WriteFault, BadChunk, DepotFailed, NotBuilt, NoMemory}
 
 pub not_built : (status : Status) {P Q : Type 0} → (P → Q) → IfNotBuilt status P → IfNotBuilt status Q
 not_built (NotBuilt node) step holds = (holds.0, step holds.1)
@@ -31,6 +27,8 @@ not_built Done step holds = tt
 not_built (BadWords code) step holds = tt
 not_built (OverMemory node need allowed) step holds = tt
 not_built (Exists key) step holds = tt
+not_built (BadMeta name code) step holds = tt
+not_built (NoArray name) step holds = tt
 not_built (TaskFailed op task) step holds = tt
 not_built ReadFault step holds = tt
 not_built WriteFault step holds = tt
@@ -38,42 +36,24 @@ not_built (BadChunk key got want) step holds = tt
 not_built (DepotFailed key) step holds = tt
 not_built NoMemory step holds = tt
 
-same_input : (names : Names) (entry held : Contents) (late : List Write) (key : List ℕ) → IsCalmMetadata names entry late
+pub same_input : (names : Names) (entry held : Contents) (late : List Write) (key : List ℕ) → IsCalmMetadata names entry late
     → IsMetadataKey names key → IsKeptAt (IsAmong late) entry held key → held key ≡ entry key
 same_input names entry held late key calm of_input (inl same) = same
 same_input names entry held late key calm of_input (inr (bytes, landed, now)) = now ∙ sym (calm key bytes landed of_input)
 
 -- A layout that is held was held then.
-layout_before : (names : Names) (entry : Contents) (late now_late : List Write) (held : Option Contents) (key : List ℕ) (l : Layout) → IsCalmMetadata names entry late
+pub layout_before : (names : Names) (entry : Contents) (late now_late : List Write) (held : Option Contents) (key : List ℕ) (l : Layout) → IsCalmMetadata names entry late
     → IsMetadataKey names key → Follows late (Some entry) held now_late → HoldsLayout held key l → HoldsLayout (Some entry) key l
 layout_before names entry late now_late None key l calm of_input follows holds = absurd follows.0
 layout_before names entry late now_late (Some held) key l calm of_input follows (text, there, says) =
     (text, sym (same_input names entry held late key calm of_input (follows.0 key)) ∙ there, says)
 
-none_before : (names : Names) (entry : Contents) (late now_late : List Write) (held : Option Contents) (key : List ℕ) (l : Layout) → IsCalmMetadata names entry late
-    → IsMetadataKey names key → Follows late (Some entry) held now_late → HoldsNoLayout held key → HoldsLayout (Some entry) key l → ⊥
-none_before names entry late now_late None key l calm of_input follows none there = absurd follows.0
-none_before names entry late now_late (Some held) key l calm of_input follows none (text, there, says) =
-    none l text (same_input names entry held late key calm of_input (follows.0 key) ∙ there) says
-
-left_key : (names : Names) (job : Job) (entry : Contents) → HasNames names job → HasInputs job entry → HoldsLayout (Some entry) (metadata_key_of names.left) job.left
-left_key names job entry has inputs = subst (λ (n : Names). HoldsLayout (Some entry) (metadata_key_of n.left) job.left) has inputs.left
-
-right_key : (names : Names) (job : Job) (entry : Contents) → HasNames names job → HasInputs job entry → HoldsLayout (Some entry) (metadata_key_of names.right) job.right
-right_key names job entry has inputs = subst (λ (n : Names). HoldsLayout (Some entry) (metadata_key_of n.right) job.right) has inputs.right
-
--- An input without such metadata: the keys are what the code has.
-pub no_left : (names : Names) (entry : Contents) (late now_late : List Write) (held : Option Contents) (key : List ℕ) (status : Status)
-    → key ≡ metadata_key_of names.left → Follows late (Some entry) held now_late → IfNotBuilt status (HoldsNoLayout held key) → IfNotBuilt status (HasNoInputs names entry late)
-no_left names entry late now_late held key status is_key follows missing =
-    not_built status (λ none job has dtype grid calm inputs.
-    none_before names entry late now_late held (metadata_key_of names.left) job.left calm (inl refl) follows (rw is_key at none) (left_key names job entry has inputs)) missing
-
-pub no_right : (names : Names) (entry : Contents) (late now_late : List Write) (held : Option Contents) (key : List ℕ) (status : Status)
-    → key ≡ metadata_key_of names.right → Follows late (Some entry) held now_late → IfNotBuilt status (HoldsNoLayout held key) → IfNotBuilt status (HasNoInputs names entry late)
-no_right names entry late now_late held key status is_key follows missing =
-    not_built status (λ none job has dtype grid calm inputs.
-    none_before names entry late now_late held (metadata_key_of names.right) job.right calm (inr refl) follows (rw is_key at none) (right_key names job entry has inputs)) missing
+-- Bytes that are refused were refused then.
+pub refused_before : (names : Names) (entry : Contents) (late now_late : List Write) (held : Option Contents) (key : List ℕ) (code : ℕ) → IsCalmMetadata names entry late
+    → IsMetadataKey names key → Follows late (Some entry) held now_late → HoldsRefused held key code → HoldsRefused (Some entry) key code
+refused_before names entry late now_late None key code calm of_input follows holds = absurd follows.0
+refused_before names entry late now_late (Some held) key code calm of_input follows (text, reason, there, says, is_code) =
+    (text, reason, sym (same_input names entry held late key calm of_input (follows.0 key)) ∙ there, says, is_code)
 
 -- ---- a text has one layout
 
@@ -83,51 +63,45 @@ ok_same a b e = cc
 abbrev layout_again : ArrayLayout → Layout
 layout_again v = record { dtype = v.dtype; grid = record { shape = v.shape; chunk = v.chunk }; encoding = v.encoding; endian = v.endian; fill = v.fill }
 
--- the written text is read back
-reads_as : (text : List ℕ) (l : Layout) → IsMetadata l text → read_metadata text ≡ Ok (layout_view l)
-reads_as text l says = ap read_metadata says.written ∙ read_back (layout_view l) says.built.storable
-
 one_layout : (text : List ℕ) (l m : Layout) → IsMetadata l text → IsMetadata m text → l ≡ m
-one_layout text l m one other = ap layout_again (ok_same (layout_view l) (layout_view m) (sym (reads_as text l one) ∙ reads_as text m other))
+one_layout text l m one other = ap layout_again (ok_same (layout_view l) (layout_view m) (sym one.reads ∙ other.reads))
 
 some_same : (a b : List ℕ) → Some a ≡ Some b → a ≡ b
 some_same a b e = cc
 
-one_held : (entry : Contents) (key : List ℕ) (l m : Layout) → HoldsLayout (Some entry) key l → HoldsLayout (Some entry) key m → l ≡ m
+pub one_held : (entry : Contents) (key : List ℕ) (l m : Layout) → HoldsLayout (Some entry) key l → HoldsLayout (Some entry) key m → l ≡ m
 one_held entry key l m (text, there, says) (other, here, means) =
     one_layout text l m says (subst (IsMetadata m) (some_same other text (sym here ∙ there)) means)
 
--- Two inputs that aren't alike.
-pub not_alike : (names : Names) (entry : Contents) (late late1 late2 : List Write) (held1 held2 : Option Contents) (key other : List ℕ) (left right : Layout)
-    → key ≡ metadata_key_of names.left → other ≡ metadata_key_of names.right → Follows late (Some entry) held1 late1 → Follows late (Some entry) held2 late2
-    → HoldsLayout held1 key left → HoldsLayout held2 other right → ((right.dtype ≡ left.dtype) × (right.grid ≡ left.grid) → ⊥) → HasNoInputs names entry late
-not_alike names entry late late1 late2 held1 held2 key other left right is_key is_other follows1 follows2 holds1 holds2 differ job has dtype grid calm inputs =
-    let one = one_held entry (metadata_key_of names.left) left job.left (layout_before names entry late late1 held1 (metadata_key_of names.left) left calm (inl refl) follows1 (rw is_key at holds1)) (left_key names job entry has inputs) in
-    let two = one_held entry (metadata_key_of names.right) right job.right (layout_before names entry late late2 held2 (metadata_key_of names.right) right calm (inr refl) follows2 (rw is_other at holds2)) (right_key names job entry has inputs) in
-    differ (ap (λ (l : Layout). l.dtype) two ∙ dtype ∙ sym (ap (λ (l : Layout). l.dtype) one), ap (λ (l : Layout). l.grid) two ∙ grid ∙ sym (ap (λ (l : Layout). l.grid) one))
+ok_or_err : (r : Result ArrayLayout Fault) (v : ArrayLayout) (f : Fault) → r ≡ Ok v → r ≡ Err f → ⊥
+ok_or_err r v f ok err = cc
+
+-- what is held as metadata isn't refused
+pub not_refused : (entry : Contents) (key : List ℕ) (l : Layout) (code : ℕ) → HoldsLayout (Some entry) key l → HoldsRefused (Some entry) key code → ⊥
+not_refused entry key l code (text, there, says) (other, reason, here, refused, is_code) =
+    ok_or_err (read_metadata text) (layout_view l) reason says.reads (subst (λ (t : List ℕ). read_metadata t ≡ Err reason) (some_same other text (sym here ∙ there)) refused)
+
+-- Two inputs that can't be added.
+pub unlike : (names : Names) (entry : Contents) (late late1 late2 : List Write) (held1 held2 : Option Contents) (left right : Layout)
+    → Follows late (Some entry) held1 late1 → Follows late (Some entry) held2 late2
+    → HoldsLayout held1 (metadata_key_of names.left) left → HoldsLayout held2 (metadata_key_of names.right) right → (AreAddable left right → ⊥) → AreUnlike names entry late
+unlike names entry late late1 late2 held1 held2 left right follows1 follows2 holds1 holds2 differ calm = (
+  left,
+  right,
+  layout_before names entry late late1 held1 (metadata_key_of names.left) left calm (inl refl) follows1 holds1,
+  layout_before names entry late late2 held2 (metadata_key_of names.right) right calm (inr refl) follows2 holds2,
+  differ,
+)
 
 -- What was read of both inputs is what they had.
-pub had_inputs : (names : Names) (entry : Contents) (late late1 late2 : List Write) (held1 held2 : Option Contents) (key other : List ℕ) (left right : Layout)
-    → key ≡ metadata_key_of names.left → other ≡ metadata_key_of names.right → Follows late (Some entry) held1 late1 → Follows late (Some entry) held2 late2
-    → HoldsLayout held1 key left → HoldsLayout held2 other right → IsCalmMetadata names entry late → HasInputs (record { names = names; left = left; right = right }) entry
-had_inputs names entry late late1 late2 held1 held2 key other left right is_key is_other follows1 follows2 holds1 holds2 calm = record {
-  left = layout_before names entry late late1 held1 (metadata_key_of names.left) left calm (inl refl) follows1 (rw is_key at holds1);
-  right = layout_before names entry late late2 held2 (metadata_key_of names.right) right calm (inr refl) follows2 (rw is_other at holds2);
+pub had_inputs : (names : Names) (entry : Contents) (late late1 late2 : List Write) (held1 held2 : Option Contents) (left right : Layout)
+    → Follows late (Some entry) held1 late1 → Follows late (Some entry) held2 late2
+    → HoldsLayout held1 (metadata_key_of names.left) left → HoldsLayout held2 (metadata_key_of names.right) right → IsCalmMetadata names entry late
+    → HasInputs (record { names = names; left = left; right = right }) entry
+had_inputs names entry late late1 late2 held1 held2 left right follows1 follows2 holds1 holds2 calm = record {
+  left = layout_before names entry late late1 held1 (metadata_key_of names.left) left calm (inl refl) follows1 holds1;
+  right = layout_before names entry late late2 held2 (metadata_key_of names.right) right calm (inr refl) follows2 holds2;
 }
-
--- ---- what isn't such a metadata
-
-pub other_layout : (text : List ℕ) (l m : Layout) → read_metadata text ≡ Ok (layout_view l) → IsMetadata m text → m ≡ l
-other_layout text l m reads says = ap layout_again (ok_same (layout_view m) (layout_view l) (sym (reads_as text m says) ∙ reads))
-
-pub refused_text : (text : List ℕ) (f : Fault) (m : Layout) → read_metadata text ≡ Err f → IsMetadata m text → ⊥
-refused_text text f m refused says = ok_or_err (read_metadata text) (layout_view m) f (reads_as text m says) refused
-  where
-    ok_or_err : (r : Result ArrayLayout Fault) (v : ArrayLayout) (f : Fault) → r ≡ Ok v → r ≡ Err f → ⊥
-    ok_or_err r v f ok err = cc
-
-pub too_long_text : (text : List ℕ) (m : Layout) → 1048576 < length text → IsMetadata m text → ⊥
-too_long_text text m long says = refused_text text too_long m (read_too_long text long) says
 
 -- ---- lists of sizes
 
@@ -140,29 +114,92 @@ same_sizes (x ∷ xs) (y ∷ ys) long at =
     let rest : ys ≡ xs = same_sizes xs ys (omega arith) (λ k below. at (suc k) (omega arith)) in
     rw (first, rest) refl
 
--- ---- a key that holds no such metadata
+-- ---- what is read of one input
 
-pub absent_none : (held : Option Contents) (key buf : List ℕ) → Gets held key buf (Ok Absent) → HoldsNoLayout held key
-absent_none None key buf got = tt
-absent_none (Some held) key buf got = λ l text there says. some_or_none (held key) text there got
-  where
-    some_or_none : (v : Option (List ℕ)) (text : List ℕ) → v ≡ Some text → v ≡ None → ⊥
-    some_or_none v text some none = cc
+pub gone_of : (held : Option Contents) (key buf : List ℕ) → Gets held key buf (Ok Absent) → IsGone held key
+gone_of None key buf got = tt
+gone_of (Some held) key buf got = got
 
-pub long_none : (held : Option Contents) (key buf : List ℕ) (n : ℕ) → Gets held key buf (Ok (Held n)) → 1048576 < n → HoldsNoLayout held key
-long_none None key buf n got long = tt
-long_none (Some held) key buf n (bytes, here, is_n, front) long = λ l text there says.
-    let same : text ≡ bytes = some_same text bytes (sym there ∙ here) in
-    too_long_text text l (rw same (omega (arith, is_n, long))) says
+pub long_refused : (held : Option Contents) (key buf : List ℕ) (n : ℕ) → Gets held key buf (Ok (Held n)) → 1048576 < n → HoldsRefused held key 10
+long_refused None key buf n got long = tt
+long_refused (Some held) key buf n (bytes, here, is_n, front) long = (bytes, too_long, here, read_too_long bytes (omega (arith, is_n, long)), refl)
+
+-- the bytes that were got are what the key holds
+pub got_text : (held : Option Contents) (key buf : List ℕ) (n : ℕ) → Gets held key buf (Ok (Held n)) → n ≤ length buf → HoldsText held key (take n buf)
+got_text None key buf n got room = tt
+got_text (Some held) key buf n (bytes, here, is_n, front) room =
+    let whole : take (length buf) bytes ≡ bytes = take_all (length buf) bytes (omega (arith, is_n, room)) in
+    here ∙ ap Some (sym (front ∙ whole))
+
+pub holds_layout : (held : Option Contents) (key text : List ℕ) (l : Layout) → HoldsText held key text → IsGrid l.grid → read_metadata text ≡ Ok (layout_view l) → HoldsLayout held key l
+holds_layout None key text l holds grid reads = tt
+holds_layout (Some held) key text l holds grid reads = (text, holds, record { grid = grid; reads = reads })
+
+pub holds_refused : (held : Option Contents) (key text : List ℕ) (reason : Fault) (code : ℕ) → HoldsText held key text → read_metadata text ≡ Err reason → code ≡ code_of reason → HoldsRefused held key code
+holds_refused None key text reason code holds reads is_code = tt
+holds_refused (Some held) key text reason code holds reads is_code = (text, reason, holds, reads, is_code)
+
+pub is_input : (text : List ℕ) (l : Layout) → read_metadata text ≡ Ok (layout_view l) → IsGrid l.grid → IsInput l
+is_input text l reads grid = record { grid = grid; storable = read_accepted text (layout_view l) reads }
+
+-- ---- of the inputs
+
+pub left_fault : (names : Names) (before after : ℕ) (held : Option Contents) (status : Status) → IsMetadataFault before after held names.left status → IsInputFault names before after held status
+left_fault names before after held (DepotFailed key) h = (inl h.0, h.1)
+left_fault names before after held (BadMeta name code) h = (inl h.0, subst (λ (n : List ℕ). HoldsRefused held (metadata_key_of n) code) (sym h.0) h.1)
+left_fault names before after held (NoArray name) h = (inl h.0, subst (λ (n : List ℕ). IsGone held (metadata_key_of n)) (sym h.0) h.1)
+left_fault names before after held NoMemory h = tt
+left_fault names before after held (NotBuilt node) h = absurd h
+left_fault names before after held Done h = h
+left_fault names before after held (BadWords code) h = h
+left_fault names before after held (OverMemory node need allowed) h = absurd h
+left_fault names before after held (Exists key) h = absurd h
+left_fault names before after held (TaskFailed op task) h = absurd h
+left_fault names before after held ReadFault h = h
+left_fault names before after held WriteFault h = h
+left_fault names before after held (BadChunk key got want) h = absurd h
+
+pub right_fault : (names : Names) (first before after : ℕ) (held : Option Contents) (status : Status) → first ≤ before → IsMetadataFault before after held names.right status → IsInputFault names first after held status
+right_fault names first before after held (DepotFailed key) earlier h = (inr h.0, (let rose : Rose 3 before after = h.1 in omega (arith, rose, earlier)))
+right_fault names first before after held (BadMeta name code) earlier h = (inr h.0, subst (λ (n : List ℕ). HoldsRefused held (metadata_key_of n) code) (sym h.0) h.1)
+right_fault names first before after held (NoArray name) earlier h = (inr h.0, subst (λ (n : List ℕ). IsGone held (metadata_key_of n)) (sym h.0) h.1)
+right_fault names first before after held NoMemory earlier h = tt
+right_fault names first before after held (NotBuilt node) earlier h = absurd h
+right_fault names first before after held Done earlier h = h
+right_fault names first before after held (BadWords code) earlier h = h
+right_fault names first before after held (OverMemory node need allowed) earlier h = absurd h
+right_fault names first before after held (Exists key) earlier h = absurd h
+right_fault names first before after held (TaskFailed op task) earlier h = absurd h
+right_fault names first before after held ReadFault earlier h = h
+right_fault names first before after held WriteFault earlier h = h
+right_fault names first before after held (BadChunk key got want) earlier h = absurd h
+
+-- no read of one input answers that something isn't built
+pub never_unlike : (before after : ℕ) (held : Option Contents) (name : List ℕ) (status : Status) (P : Type 0) → IsMetadataFault before after held name status → IfNotBuilt status P
+never_unlike before after held name (NotBuilt node) P h = absurd h
+never_unlike before after held name (DepotFailed key) P h = tt
+never_unlike before after held name (BadMeta refused code) P h = tt
+never_unlike before after held name (NoArray missing) P h = tt
+never_unlike before after held name NoMemory P h = tt
+never_unlike before after held name Done P h = tt
+never_unlike before after held name (BadWords code) P h = tt
+never_unlike before after held name (OverMemory node need allowed) P h = tt
+never_unlike before after held name (Exists key) P h = tt
+never_unlike before after held name (TaskFailed op task) P h = tt
+never_unlike before after held name ReadFault P h = tt
+never_unlike before after held name WriteFault P h = tt
+never_unlike before after held name (BadChunk key got want) P h = tt
 
 pub true_or_false : (b : Bool) → b ≡ true → b ≡ false → ⊥
 true_or_false b holds fails = true≢false (sym holds ∙ fails)
 
--- ---- the metadata of a layout that was read
+-- ---- the job that has these inputs
 
-pub is_metadata : (text : List ℕ) (l : Layout) → read_metadata text ≡ Ok (layout_view l) → IsGrid l.grid
-    → IsInteger l.dtype × (l.encoding ≡ Plain Slash) × (l.endian ≡ Little) → text ≡ metadata_text (layout_view l) → IsMetadata l text
-is_metadata text l reads grid added written = record {
-  built = record { integer = added.0; grid = grid; storable = read_accepted text (layout_view l) reads; encoding = added.1; endian = added.2 };
-  written = written;
-}
+pub one_job : (names : Names) (entry : Contents) (a b : Job) → HasNames names a → HasNames names b → HasInputs a entry → HasInputs b entry → a ≡ b
+one_job names entry a b has other inputs held =
+    let same : a.names ≡ b.names = has ∙ sym other in
+    let left : a.left ≡ b.left = one_held entry (metadata_key_of b.names.left) a.left b.left (subst (λ (n : Names). HoldsLayout (Some entry) (metadata_key_of n.left) a.left) same inputs.left) held.left in
+    let right : a.right ≡ b.right = one_held entry (metadata_key_of b.names.right) a.right b.right (subst (λ (n : Names). HoldsLayout (Some entry) (metadata_key_of n.right) a.right) same inputs.right) held.right in
+    ap (λ (n : Names). record { names = n; left = a.left; right = a.right }) same
+    ∙ ap (λ (l : Layout). record { names = b.names; left = l; right = a.right }) left
+    ∙ ap (λ (l : Layout). record { names = b.names; left = b.left; right = l }) right

@@ -11,7 +11,7 @@ use Rattle.cu_grid.specs.Counts.{counts_of, at_least_one}
 use Rattle.cu_grid.specs.declared.fault.GridFault.TheVariants.{ZeroChunk, Rank, TooManyElements, TooManyChunks, ChunkTooLarge}
 use Rattle.cu_num.specs.Dtype.{size_of}
 use Rattle.cu_op.specs.declared.layout.Layout.{Layout}
-use Rattle.cu_top.specs.Inputs.{IsBuilt}
+use Rattle.cu_top.specs.Inputs.{IsInput}
 use Rattle.cu_grid.proofs.Products.{size_within}
 use Rattle.cu_grid.proofs.Regions.{inside-at}
 use Rattle.cu_codec.proofs.KeyLaws.{same_chunk, chunk_not_metadata, chunk_is_key_of, metadata_is_key_of, one_name}
@@ -82,11 +82,11 @@ chunk_write_is job entry (suc n) key bytes among =
 
 -- a grid without a fault is within the limits
 module _ {A : Type 0} where
-  unless : (b : Bool) (x : A) (rest : Option A) → (if b then Some x else rest) ≡ None → (b ≡ false) × (rest ≡ None)
+  pub unless : (b : Bool) (x : A) (rest : Option A) → (if b then Some x else rest) ≡ None → (b ≡ false) × (rest ≡ None)
   unless true x rest e = cc
   unless false x rest e = (refl, e)
 
-not_below : (m n : ℕ) → nat_lt m n ≡ false → n ≤ m
+pub not_below : (m n : ℕ) → nat_lt m n ≡ false → n ≤ m
 not_below m n e = grind arith
 
 limits_of : (g : RegularGrid) (size : ℕ) → first_fault g.shape g.chunk size ≡ None → IsWithinLimits g size
@@ -98,7 +98,7 @@ limits_of g size none =
     let e = unless (nat_lt (2 ^ 28) (product g.chunk * size)) ChunkTooLarge None d.1 in
     record { elements = not_below _ _ c.0; chunks = not_below _ _ d.0; bytes = not_below _ _ e.0 }
 
-pub built_limits : (l : Layout) → IsBuilt l → IsWithinLimits l.grid (size_of l.dtype)
+pub built_limits : (l : Layout) → IsInput l → IsWithinLimits l.grid (size_of l.dtype)
 built_limits l ok = limits_of l.grid (size_of l.dtype) ok.storable.grid
 
 -- the coordinate of a chunk is one that a key can have

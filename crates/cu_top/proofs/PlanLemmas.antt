@@ -1,7 +1,7 @@
 -- The plan of an addition: it is sound, its room is what is needed, and the values of its tasks are those of the output's chunks.
-use Rattle.std.proofs.Common.{◌≡◌, ◌⊎◌, ℕ, zero, suc, ◌+◌, ◌*◌, ◌<◌, ◌≤◌, ◌^◌, max, ℤ, pos, Bool, true, false, List, [], ◌∷◌, ◌++◌, length, All, Contains, Option, Some, None, option_map, Result, Ok, Err, IfErr, refl, sym, ap, ◌∙◌, subst, inl, inr, arith}
+use Rattle.std.proofs.Common.{◌≡◌, ◌⊎◌, ℕ, zero, suc, ◌+◌, ◌*◌, ◌<◌, ◌≤◌, ◌^◌, max, ℤ, pos, Bool, true, false, List, [], ◌∷◌, ◌++◌, length, All, Contains, Option, Some, None, option_map, Result, Ok, Err, IfOk, IfErr, refl, sym, ap, ◌∙◌, subst, inl, inr, arith}
 use Rattle.std.proofs.lemmas.Int.{ints}
-use Rattle.std.specs.Prelude.{OnOk}
+use Rattle.std.specs.Prelude.{OnOk, nat_lt, if◌then◌else◌}
 use Rattle.std.proofs.lemmas.List.Elements.{All-cons, All-nil}
 use Rattle.cu_num.specs.Dtype.{InRange}
 use Rattle.cu_num.specs.Element.{element_bytes}
@@ -35,11 +35,11 @@ use Rattle.cu_zarr.specs.Layout.{ArrayLayout, index_in_chunk}
 use Rattle.cu_zarr.specs.Spelling.{joined, padded, spelled}
 use Rattle.cu_zarr.specs.Stored.{element_in}
 use Rattle.cu_top.specs.Job.{IsJob, IsStarted, left_array, right_array, out_array, made_layout, chunks_of, coord_of, key_of_chunk, chunk_value, plan_writes, sum_at, wrapped_sum, element_of, IsChunkKey, IsInputKey, IsInputChunk, IsPlanKey, StoresChunk, ValuesStay}
-use Rattle.cu_top.specs.Plan.{plan_arrays, plan_op, plan_of, room_of, entry_elements}
+use Rattle.cu_top.specs.Plan.{plan_arrays, plan_op, plan_of, room_of, need_of, over_memory, IsLentWithin, entry_elements}
 use Rattle.cu_top.specs.Tasks.{IsTryFault}
 use Rattle.cu_top.specs.declared.job.Job.{Job}
 use Rattle.cu_top.specs.declared.words.Options.{Options}
-use Rattle.cu_top.proofs.JobLemmas.{among_front, among_either, input_stays, input_apart, lands_value, left_of_started, one_value, plan_write_key, written_chunk, chunk_write, some_not_none, started_then, built_limits}
+use Rattle.cu_top.proofs.JobLemmas.{among_front, among_either, input_stays, input_apart, lands_value, left_of_started, one_value, plan_write_key, written_chunk, chunk_write, some_not_none, started_then, built_limits, unless, not_below}
 
 -- ---- the arrays
 
@@ -54,22 +54,25 @@ zero_fits types.Uint16 = omega (arith, ints)
 zero_fits types.Uint32 = omega (arith, ints)
 zero_fits types.Uint64 = omega (arith, ints)
 
+shorter : {n : ℕ} → n ≤ 32 → n ≤ 45
+shorter h = omega (arith, h)
+
 module _ (job : Job) (ok : IsJob job) where
   left_alike : IsAlike job.left.grid job.left.dtype (left_array job)
-  left_alike = record { array = record { short = ok.names.left.1; grid = ok.left.grid; fill = ok.left.storable.fill }; grid = refl; dtype = refl }
+  left_alike = record { array = record { short = shorter ok.names.left.1; grid = ok.left.grid; fill = ok.left.storable.fill }; grid = refl; dtype = refl }
 
   right_alike : IsAlike job.left.grid job.left.dtype (right_array job)
-  right_alike = record { array = record { short = ok.names.right.1; grid = ok.right.grid; fill = ok.right.storable.fill }; grid = ok.grid; dtype = ok.dtype }
+  right_alike = record { array = record { short = shorter ok.names.right.1; grid = ok.right.grid; fill = ok.right.storable.fill }; grid = ok.alike.grid; dtype = ok.alike.dtype }
 
   out_alike : IsAlike job.left.grid job.left.dtype (out_array job)
-  out_alike = record { array = record { short = ok.names.out.1; grid = ok.left.grid; fill = zero_fits job.left.dtype }; grid = refl; dtype = refl }
+  out_alike = record { array = record { short = shorter ok.names.out.1; grid = ok.left.grid; fill = zero_fits job.left.dtype }; grid = refl; dtype = refl }
 
   few_chunks : chunks_of job ≤ 65536
   few_chunks = (let most = product_within (grid_counts job.left.grid) in let limit = (built_limits job.left ok.left).chunks in omega (arith, most, limit))
 
   pub adds_alike : AddsAlike (left_array job ∷ right_array job ∷ []) (out_array job) job.left.grid job.left.dtype 0 1
   adds_alike = record {
-    integer = ok.left.integer;
+    integer = ok.alike.integer;
     few_chunks = few_chunks;
     given = All-cons (IsAlike job.left.grid job.left.dtype) (left_array job) (right_array job ∷ []) left_alike
         (All-cons (IsAlike job.left.grid job.left.dtype) (right_array job) [] right_alike (All-nil (IsAlike job.left.grid job.left.dtype)));
@@ -96,12 +99,12 @@ module _ (job : Job) (ok : IsJob job) where
       operation = refl;
       dtype = refl;
       first = record { grid = refl; dtype = refl };
-      second = record { grid = ok.grid; dtype = ok.dtype };
+      second = record { grid = ok.alike.grid; dtype = ok.alike.dtype };
     },
   )
 
   right_room : chunk_room (plan_arrays job) 1 ≡ room_of job
-  right_room = rw (ok.grid, ok.dtype) refl
+  right_room = rw (ok.alike.grid, ok.alike.dtype) refl
 
   -- the projection is what is needed
   pub plan_room : (reserved : ℕ) → projection (plan_arrays job) reserved (plan_op job) ≡ reserved + 4 * room_of job + 1536
@@ -138,7 +141,7 @@ value_is : (options : Options) (job : Job) (entry : Contents) (idx : List ℕ) �
     → plan_value (plan_of options job) (entry_elements job entry) 2 idx ≡ sum_at job entry idx
 value_is options job entry idx ok inside =
     let left : back job.left.grid.shape idx ≡ idx = back_inside job.left.grid.shape idx inside in
-    let right : back job.right.grid.shape idx ≡ idx = subst (λ (g : RegularGrid). back g.shape idx ≡ idx) (sym ok.grid) left in
+    let right : back job.right.grid.shape idx ≡ idx = subst (λ (g : RegularGrid). back g.shape idx ≡ idx) (sym ok.alike.grid) left in
     kernel_is job.left.dtype (loaded (plan_arrays job) (0 ∷ 1 ∷ []) (entry_elements job entry) idx) (element_of (left_array job) entry idx) (element_of (right_array job) entry idx)
     (ap (element_of (left_array job) entry) left) (ap (element_of (right_array job) entry) right)
 
@@ -174,11 +177,11 @@ module _ (options : Options) (job : Job) (task : ℕ) (ok : IsJob job) (below : 
   coordinate = index-inside (grid_counts job.left.grid) task below
 
   right_coord : back job.right.grid.shape (coord_of (out_array job) task) ≡ coord_of (right_array job) task
-  right_coord = subst (λ (g : RegularGrid). back g.shape (index_at (grid_counts job.left.grid) task) ≡ index_at (grid_counts g) task) (sym ok.grid)
+  right_coord = subst (λ (g : RegularGrid). back g.shape (index_at (grid_counts job.left.grid) task) ≡ index_at (grid_counts g) task) (sym ok.alike.grid)
       (back_coord job.left.grid (coord_of (out_array job) task) ok.left.grid coordinate)
 
   right_below : task < chunk_count (right_array job)
-  right_below = subst (λ (g : RegularGrid). task < product (grid_counts g)) (sym ok.grid) below
+  right_below = subst (λ (g : RegularGrid). task < product (grid_counts g)) (sym ok.alike.grid) below
 
   -- the chunks that a task reads are those of the inputs
   input_cell_key : (c : Cell) → Contains (inputs_of (plan_arrays job) (plan_op job) task) c → IsInputChunk job (key_of (plan_arrays job) c)
@@ -227,7 +230,7 @@ module _ (options : Options) (job : Job) (task : ℕ) (ok : IsJob job) (below : 
         ap (λ (v : Option (List ℕ)). element_in (layout_view a.layout) v idx) (same _ (own_key a idx grid inside))
 
     right_inside : (idx : List ℕ) → IsInside job.left.grid.shape idx → IsInside job.right.grid.shape (back job.right.grid.shape idx)
-    right_inside idx inside = subst (λ (g : RegularGrid). IsInside g.shape (back g.shape idx)) (sym ok.grid)
+    right_inside idx inside = subst (λ (g : RegularGrid). IsInside g.shape (back g.shape idx)) (sym ok.alike.grid)
         (subst (IsInside job.left.grid.shape) (sym (back_inside job.left.grid.shape idx inside)) inside)
 
     inputs_same : (idx i : List ℕ) (a : ℕ) → IsInChunk job.left.grid (coord_of (out_array job) task) idx → ReadsAt (plan_op job) (plan_arrays job) idx a i
@@ -352,3 +355,16 @@ plan_sound job ok o allowed reserved sound addition is_op is_projected few =
     let room = room_few job ok in
     sound (left_array job ∷ right_array job ∷ []) (out_array job) o allowed reserved (subst (OneMap (left_array job ∷ right_array job ∷ []) (out_array job)) (sym is_op) one)
     (is_projected ∙ ap (projection (plan_arrays job) reserved) (sym is_op)) (omega (arith, is_projected, need, room, few))
+
+-- where no node needs more than is allowed, the plan's projection is at most that
+pub lent_within : (options : Options) (job : Job) → IsJob job → over_memory options job ≡ None → IsLentWithin options job
+lent_within options job ok fits =
+    let first = unless (nat_lt options.allowed options.reserved) (0, options.reserved) (if nat_lt options.allowed (need_of options job) then Some (2, need_of options job) else None) fits in
+    let second = unless (nat_lt options.allowed (need_of options job)) (2, need_of options job) None first.1 in
+    (plan_room job ok options.reserved, not_below options.allowed (need_of options job) second.0)
+
+-- the tries that failed, by the chunks of the output
+pub few_failed : {E : Type 0} (result : Result ℕ E) (p : PlanView) (options : Options) (job : Job) → p ≡ plan_of options job
+    → IfOk result (λ failed. failed ≤ 2 * tasks_of p.arrays (op_of p 0)) → IfOk result (λ failed. failed ≤ 2 * chunks_of job)
+few_failed (Ok n) p options job same few = subst (λ (q : PlanView). n ≤ 2 * tasks_of q.arrays (op_of q 0)) same few
+few_failed (Err e) p options job same few = tt

@@ -1,14 +1,14 @@
 -- What the tries of a task mean for the run.
-use Rattle.std.proofs.Common.{◌≡◌, ℕ, ◌+◌, ◌≤◌, Bool, Option, Some, Result, Ok, Err, IfErr, refl, subst, arith}
+use Rattle.std.proofs.Common.{◌≡◌, ℕ, ◌+◌, ◌≤◌, Bool, List, Option, Some, Result, Ok, Err, IfErr, refl, subst, arith}
 use Rattle.cu_store.specs.Faults.{Rose}
 use Rattle.cu_store.specs.Held.{Contents}
 use Rattle.cu_store.specs.declared.faults.TaskFault.{TaskFault}
 use Rattle.cu_store.specs.declared.faults.TaskFault.TheVariants as fault
-use Rattle.cu_top.specs.Run.{IsStoreFault, IfDepotFailed}
-use Rattle.cu_top.specs.Tasks.{IsTryFault, IsTaskEnd, end_of}
+use Rattle.cu_top.specs.Run.{IsStoreFault, IfDepotFailed, IfTaskFailed, IfTaskEnded}
+use Rattle.cu_top.specs.Tasks.{IsKeyFault, IsTryFault, IsTaskEnd, end_of}
 use Rattle.cu_top.specs.declared.job.Job.{Job}
 use Rattle.cu_top.specs.declared.status.Status.{Status}
-use Rattle.cu_top.specs.declared.status.Status.TheVariants.{Done, BadWords, OverMemory, Exists, TaskFailed, ReadFault, WriteFault, BadChunk, DepotFailed, NotBuilt, NoMemory}
+use Rattle.cu_top.specs.declared.status.Status.TheVariants.{Done, BadWords, OverMemory, BadMeta, NoArray, Exists, TaskFailed, ReadFault, WriteFault, BadChunk, DepotFailed, NotBuilt, NoMemory}
 
 pub rose_then : (m n before between after : ℕ) → Rose m before between → Rose n between after → Rose (m + n) before after
 rose_then m n before between after first second = omega (arith, first, second)
@@ -32,6 +32,8 @@ tried_again job before after lacks held fault.NoMemory again h = absurd (again N
 -- the same since an earlier moment
 pub end_earlier : (job : Job) (first before after : ℕ) (lacks : Bool) (held : Option Contents) (status : Status) → first ≤ before
     → IsTaskEnd job before after lacks held status → IsTaskEnd job first after lacks held status
+end_earlier job first before after lacks held (BadMeta name code) earlier h = absurd h
+end_earlier job first before after lacks held (NoArray name) earlier h = absurd h
 end_earlier job first before after lacks held (TaskFailed op task) earlier h = (h.0, h.1, omega (arith, earlier, h.2))
 end_earlier job first before after lacks held (BadChunk key got want) earlier h = h
 end_earlier job first before after lacks held NoMemory earlier h = h
@@ -48,6 +50,8 @@ end_earlier job first before after lacks held (NotBuilt node) earlier h = h
 
 pub if_depot_failed : (status : Status) (P : Type 0) → P → IfDepotFailed status P
 if_depot_failed (DepotFailed key) P h = h
+if_depot_failed (BadMeta name code) P h = tt
+if_depot_failed (NoArray name) P h = tt
 if_depot_failed (TaskFailed op task) P h = tt
 if_depot_failed (BadChunk key got want) P h = tt
 if_depot_failed NoMemory P h = tt
@@ -62,6 +66,8 @@ if_depot_failed (NotBuilt node) P h = tt
 no_depot_failed : (job : Job) (before after : ℕ) (lacks : Bool) (held : Option Contents) (status : Status) (P : Type 0)
     → IsTaskEnd job before after lacks held status → IfDepotFailed status P
 no_depot_failed job before after lacks held (DepotFailed key) P h = absurd h
+no_depot_failed job before after lacks held (BadMeta name code) P h = tt
+no_depot_failed job before after lacks held (NoArray name) P h = tt
 no_depot_failed job before after lacks held (TaskFailed op task) P h = tt
 no_depot_failed job before after lacks held (BadChunk key got want) P h = tt
 no_depot_failed job before after lacks held NoMemory P h = tt
@@ -81,6 +87,8 @@ tasks_alone (Err status) job before after lacks held P h = no_depot_failed job b
 
 store_fault : (job : Job) (first before after : ℕ) (lacks : Bool) (held : Option Contents) (status : Status) → first ≤ before
     → IsTaskEnd job before after lacks held status → IsStoreFault job first after held status
+store_fault job first before after lacks held (BadMeta name code) earlier h = absurd h
+store_fault job first before after lacks held (NoArray name) earlier h = absurd h
 store_fault job first before after lacks held (TaskFailed op task) earlier h = (h.0, h.1, omega (arith, earlier, h.2))
 store_fault job first before after lacks held (BadChunk key got want) earlier h = h
 store_fault job first before after lacks held NoMemory earlier h = tt
@@ -97,3 +105,44 @@ pub tasks_fault : {T : Type 0} (result : Result T Status) (job : Job) (first bef
     → IfErr result (IsTaskEnd job before after lacks held) → IfErr result (IsStoreFault job first after held)
 tasks_fault (Ok x) job first before after lacks held earlier h = tt
 tasks_fault (Err status) job first before after lacks held earlier h = store_fault job first before after lacks held status earlier h
+
+-- a fault that ends the run at once names no task
+pub names_none : (f : TaskFault) (status : Status) (P : ℕ → ℕ → Type 0) → end_of f ≡ Some status → IfTaskFailed status P
+names_none fault.Store status P ends = cc
+names_none (fault.BadChunk key got want) status P ends = subst (λ (s : Status). IfTaskFailed s P) (some_same (BadChunk key got want) status ends) tt
+names_none fault.NoMemory status P ends = subst (λ (s : Status). IfTaskFailed s P) (some_same NoMemory status ends) tt
+
+if_task_ended : (status : Status) (P : Type 0) → P → IfTaskEnded status P
+if_task_ended (TaskFailed op task) P h = h
+if_task_ended (BadChunk key got want) P h = h
+if_task_ended (DepotFailed key) P h = tt
+if_task_ended NoMemory P h = tt
+if_task_ended Done P h = tt
+if_task_ended (BadWords code) P h = tt
+if_task_ended (OverMemory node need allowed) P h = tt
+if_task_ended (BadMeta name code) P h = tt
+if_task_ended (NoArray name) P h = tt
+if_task_ended (Exists key) P h = tt
+if_task_ended ReadFault P h = tt
+if_task_ended WriteFault P h = tt
+if_task_ended (NotBuilt node) P h = tt
+
+pub tasks_ended : {T : Type 0} (result : Result T Status) (P : Type 0) → P → IfErr result (λ status. IfTaskEnded status P)
+tasks_ended (Ok x) P h = tt
+tasks_ended (Err status) P h = if_task_ended status P h
+
+-- a key's failure ends no task
+pub key_ended : (before after : ℕ) (lacks : Bool) (key : List ℕ) (status : Status) (P : Type 0) → IsKeyFault before after lacks key status → IfTaskEnded status P
+key_ended before after lacks key (DepotFailed failed) P h = tt
+key_ended before after lacks key NoMemory P h = tt
+key_ended before after lacks key (TaskFailed op task) P h = absurd h
+key_ended before after lacks key (BadChunk bad got want) P h = absurd h
+key_ended before after lacks key Done P h = tt
+key_ended before after lacks key (BadWords code) P h = tt
+key_ended before after lacks key (OverMemory node need allowed) P h = tt
+key_ended before after lacks key (BadMeta name code) P h = tt
+key_ended before after lacks key (NoArray name) P h = tt
+key_ended before after lacks key (Exists held) P h = tt
+key_ended before after lacks key ReadFault P h = tt
+key_ended before after lacks key WriteFault P h = tt
+key_ended before after lacks key (NotBuilt node) P h = tt

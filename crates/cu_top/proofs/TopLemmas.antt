@@ -1,21 +1,22 @@
 -- From the parts of a run to what the call answers.
-use Rattle.std.proofs.Common.{◌≡◌, ℕ, ◌<◌, ◌≤◌, ◌++◌, ◌∷◌, List, Option, Some, None, Result, Ok, Err, Bool, inl, inr, arith, refl, sym, subst}
+use Rattle.std.proofs.Common.{◌≡◌, ◌⊎◌, ℕ, ◌*◌, ◌<◌, ◌≤◌, ◌++◌, ◌∷◌, List, Option, Some, None, Result, Ok, Err, Bool, inl, inr, arith, refl, sym, ◌∙◌, subst}
 use Rattle.std.specs.Prelude.{OnOk}
+use Rattle.cu_top.proofs.PlanLemmas.{lent_within}
 use Rattle.cu_top.proofs.JobLemmas.{among_back, left_of_started}
 use Rattle.cu_store.proofs.Writes.{lands_same, lands_more}
 use Rattle.cu_store.specs.Faults.{Rose}
-use Rattle.cu_store.specs.Held.{Contents, Write, IsAmong, Follows}
+use Rattle.cu_store.specs.Held.{Contents, Write, IsAmong, Lands, Follows, IsGone}
 use Rattle.cu_top.specs.Job.{IsStarted, plan_writes, key_of_chunk, out_array, chunks_of}
 use Rattle.cu_top.specs.Plan.{over_memory}
 use Rattle.cu_top.specs.Report.{TellsMemory, Reports}
 use Rattle.cu_zarr.specs.Key.{metadata_key_of}
-use Rattle.cu_top.specs.Run.{IsInputFault, IfNotBuilt, HasNoInputs, IsAskFault, IfAsked, IfExists, IsFirstInWay, IsOwnFirst, IsApart, IsCalm, Completes, IfDepotFailed, IsStoreFault, metadata_write, report_line}
+use Rattle.cu_top.specs.Run.{IsInputFault, IfNotBuilt, AreUnlike, IsAskFault, IfAsked, IfExists, IsFirstInWay, IsOwnFirst, IsApart, IsCalm, Completes, IfDepotFailed, IfTaskEnded, IsStoreFault, metadata_write, report_line}
 use Rattle.cu_top.specs.Tasks.{IsBad}
-use Rattle.cu_top.specs.Top.{IsAccepted, IsRun, Refuses, Ran, IsCalled, Tells, Carries, IfStored, PrintsOnly, WroteLine, WrotePart, Anything, IsLeftIn}
+use Rattle.cu_top.specs.Top.{IsAccepted, IsRun, Refuses, Ran, IsCalled, Tells, Carries, IfStored, PrintsOnly, WroteLine, WrotePart, Anything, IsLeftIn, HasOutMetadata}
 use Rattle.cu_top.specs.declared.job.Job.{Job}
 use Rattle.cu_top.specs.declared.job.Names.{Names}
 use Rattle.cu_top.specs.declared.status.Status.{Status}
-use Rattle.cu_top.specs.declared.status.Status.TheVariants.{Done, BadWords, OverMemory, Exists, TaskFailed, ReadFault, WriteFault, BadChunk, DepotFailed, NotBuilt, NoMemory}
+use Rattle.cu_top.specs.declared.status.Status.TheVariants.{Done, BadWords, OverMemory, BadMeta, NoArray, Exists, TaskFailed, ReadFault, WriteFault, BadChunk, DepotFailed, NotBuilt, NoMemory}
 use Rattle.cu_top.specs.declared.words.Options.{Options}
 
 -- when the call begins, nothing has landed since
@@ -26,19 +27,31 @@ follows_start late entry held told =
 rose_earlier : (n before later after : ℕ) → before ≤ later → Rose n later after → Rose n before after
 rose_earlier n before later after earlier rose = omega arith
 
+-- what is absent now was absent before, where writes alone have landed
+gone_before : (W : List ℕ → List ℕ → Type 0) (old new : Option Contents) (key : List ℕ) → Lands W old new → IsGone new key → IsGone old key
+gone_before W None new key lands gone = tt
+gone_before W (Some old) None key lands gone = absurd lands
+gone_before W (Some old) (Some new) key lands gone = before (old key) (new key) (lands key) gone
+  where
+    before : (a b : Option (List ℕ)) → (b ≡ a) ⊎ ((bytes : List ℕ) × W key bytes × (b ≡ Some bytes)) → b ≡ None → a ≡ None
+    before a b (inl same) none = sym same ∙ none
+    before a b (inr (bytes, write, now)) none = cc
+
 pub input_refused : (names : Names) (options : Options) (old new : Option Contents) (late : List Write) (f g : ℕ) (status : Status)
-    → IsInputFault names f g status → ((entry : Contents) → old ≡ Some entry → IfNotBuilt status (HasNoInputs names entry late)) → Refuses names options old new late f g status
-input_refused names options old new late f g (DepotFailed key) fault missing = (fault.1, inl fault.0)
-input_refused names options old new late f g (NotBuilt node) fault missing = (fault, λ entry told. (missing entry told).1)
-input_refused names options old new late f g NoMemory fault missing = tt
-input_refused names options old new late f g Done fault missing = fault
-input_refused names options old new late f g (BadWords code) fault missing = fault
-input_refused names options old new late f g (OverMemory node need allowed) fault missing = absurd fault
-input_refused names options old new late f g (Exists key) fault missing = absurd fault
-input_refused names options old new late f g (TaskFailed op task) fault missing = absurd fault
-input_refused names options old new late f g ReadFault fault missing = fault
-input_refused names options old new late f g WriteFault fault missing = fault
-input_refused names options old new late f g (BadChunk key got want) fault missing = fault
+    → IsInputFault names f g new status → Lands (IsAmong late) old new → ((entry : Contents) → old ≡ Some entry → IfNotBuilt status (AreUnlike names entry late)) → Refuses names options old new late f g status
+input_refused names options old new late f g (DepotFailed key) fault lands unlike = (fault.1, inl fault.0)
+input_refused names options old new late f g (BadMeta name code) fault lands unlike = fault
+input_refused names options old new late f g (NoArray name) fault lands unlike = (fault.0, gone_before (IsAmong late) old new (metadata_key_of name.bytes) lands fault.1)
+input_refused names options old new late f g (NotBuilt node) fault lands unlike = (fault, λ entry told. (unlike entry told).1)
+input_refused names options old new late f g NoMemory fault lands unlike = tt
+input_refused names options old new late f g Done fault lands unlike = fault
+input_refused names options old new late f g (BadWords code) fault lands unlike = fault
+input_refused names options old new late f g (OverMemory node need allowed) fault lands unlike = absurd fault
+input_refused names options old new late f g (Exists key) fault lands unlike = absurd fault
+input_refused names options old new late f g (TaskFailed op task) fault lands unlike = absurd fault
+input_refused names options old new late f g ReadFault fault lands unlike = fault
+input_refused names options old new late f g WriteFault fault lands unlike = fault
+input_refused names options old new late f g (BadChunk key got want) fault lands unlike = fault
 
 pub memory_refused : (names : Names) (options : Options) (old new : Option Contents) (late : List Write) (f g : ℕ) (job : Job) (status : Status) (over : Option (ℕ × ℕ))
     → IsAccepted names options old late job → over_memory options job ≡ over → TellsMemory options.allowed over (Err status) → Refuses names options old new late f g status
@@ -51,6 +64,8 @@ pub ask_refused : (names : Names) (options : Options) (old new : Option Contents
     → ((entry : Contents) → old ≡ Some entry → IfAsked status (IsFirstInWay job entry)) → IfExists status (IsOwnFirst job) → Refuses names options old new late f g status
 ask_refused names options old new late f h g lacks job (Exists key) accepted fits earlier fault first own =
     record { job = job; accepted = accepted; fits = fits; in_way = fault; own = own; first = first }
+ask_refused names options old new late f h g lacks job (BadMeta name code) accepted fits earlier fault first own = absurd fault
+ask_refused names options old new late f h g lacks job (NoArray name) accepted fits earlier fault first own = absurd fault
 ask_refused names options old new late f h g lacks job (TaskFailed op task) accepted fits earlier fault first own = absurd fault
 ask_refused names options old new late f h g lacks job (DepotFailed key) accepted fits earlier fault first own =
     (rose_earlier 3 f h g earlier fault.1, inr (record { job = job; accepted = accepted; fits = fits; of_plan = fault.0; first = first }))
@@ -79,6 +94,8 @@ pub ran_refused : (names : Names) (options : Options) (old new : Option Contents
     → Refuses names options old new late f g status → Follows late old new now_late → Ran names options old new late now_late f g v w front back status
 ran_refused names options old new late now_late f g v w front back (OverMemory node need allowed) refused untouched = (untouched, refused.0, refused.1)
 ran_refused names options old new late now_late f g v w front back (Exists key) refused untouched = (untouched, refused)
+ran_refused names options old new late now_late f g v w front back (BadMeta name code) refused untouched = (untouched, refused)
+ran_refused names options old new late now_late f g v w front back (NoArray name) refused untouched = (untouched, refused)
 ran_refused names options old new late now_late f g v w front back (TaskFailed op task) refused untouched = absurd refused
 ran_refused names options old new late now_late f g v w front back (NotBuilt node) refused untouched = (untouched, refused.0, refused.1)
 ran_refused names options old new late now_late f g v w front back (DepotFailed key) refused untouched = (refused.0, inl (untouched, refused.1))
@@ -101,6 +118,7 @@ is_run names options old new late now_late fact told job accepted fits apart is_
   job = job;
   accepted = accepted;
   fits = fits;
+  room = lent_within options job accepted.is_job fits;
   apart = apart;
   is_so = is_so;
   started = started;
@@ -113,10 +131,10 @@ nothing_told : (old : Option Contents) (names : Names) (late : List Write) (job 
 nothing_told old names late job entry same calm = tt
 
 line_earlier : (options : Options) (f h g : ℕ) (front back : Option (List ℕ)) (job : Job) → f ≤ h → WroteLine options h g front back job → WroteLine options f g front back job
-line_earlier options f h g front back job earlier (failed, rose, wrote) = (failed, rose_earlier failed f h g earlier rose, wrote)
+line_earlier options f h g front back job earlier (failed, rose, few, wrote) = (failed, rose_earlier failed f h g earlier rose, few, wrote)
 
 part_earlier : (options : Options) (f h g : ℕ) (front back : Option (List ℕ)) (job : Job) → f ≤ h → WrotePart options h g front back job → WrotePart options f g front back job
-part_earlier options f h g front back job earlier (failed, rose, wrote) = (failed, rose_earlier failed f h g earlier rose, wrote)
+part_earlier options f h g front back job earlier (failed, rose, few, wrote) = (failed, rose_earlier failed f h g earlier rose, few, wrote)
 
 pub ran_carried : (names : Names) (options : Options) (old new : Option Contents) (late now_late : List Write) (f h g v w : ℕ) (front back : Option (List ℕ)) (job : Job) (status : Status)
     → Carries job options h g new v w front back status
@@ -124,31 +142,34 @@ pub ran_carried : (names : Names) (options : Options) (old new : Option Contents
     → ((entry : Contents) → old ≡ Some entry → IsCalm names entry late → IsStarted job entry late new now_late)
     → ((entry : Contents) → old ≡ Some entry → IsCalm names entry late → IfStored status (Completes job entry new))
     → ((entry : Contents) → old ≡ Some entry → IfDepotFailed status (Follows (metadata_write job ∷ late) (Some entry) new now_late))
+    → ((entry : Contents) → old ≡ Some entry → IsCalm names entry late → IfTaskEnded status (HasOutMetadata new job entry))
     → Ran names options old new late now_late f g v w front back status
-ran_carried names options old new late now_late f h g v w front back job Done carried accepted fits apart earlier started stored alone =
+ran_carried names options old new late now_late f h g v w front back job Done carried accepted fits apart earlier started stored alone has =
     is_run names options old new late now_late (WroteLine options f g front back) (λ job entry. Completes job entry new) job accepted fits apart (line_earlier options f h g front back job earlier carried) started stored
-ran_carried names options old new late now_late f h g v w front back job WriteFault carried accepted fits apart earlier started stored alone =
+ran_carried names options old new late now_late f h g v w front back job WriteFault carried accepted fits apart earlier started stored alone has =
     (carried.0, is_run names options old new late now_late (WrotePart options f g front back) (λ job entry. Completes job entry new) job accepted fits apart (part_earlier options f h g front back job earlier carried.1) started stored)
-ran_carried names options old new late now_late f h g v w front back job (BadChunk key got want) carried accepted fits apart earlier started stored alone =
-    is_run names options old new late now_late (IsBad new key got want) Anything job accepted fits apart carried started (nothing_told old names late job)
-ran_carried names options old new late now_late f h g v w front back job (TaskFailed op task) carried accepted fits apart earlier started stored alone = (
+ran_carried names options old new late now_late f h g v w front back job (BadChunk key got want) carried accepted fits apart earlier started stored alone has =
+    is_run names options old new late now_late (IsBad new key got want) (HasOutMetadata new) job accepted fits apart carried started has
+ran_carried names options old new late now_late f h g v w front back job (BadMeta name code) carried accepted fits apart earlier started stored alone has = absurd carried
+ran_carried names options old new late now_late f h g v w front back job (NoArray name) carried accepted fits apart earlier started stored alone has = absurd carried
+ran_carried names options old new late now_late f h g v w front back job (TaskFailed op task) carried accepted fits apart earlier started stored alone has = (
   rose_earlier 3 f h g earlier carried.2,
   carried.0,
-  is_run names options old new late now_late (λ job. task < chunks_of job) (λ job entry. entry (key_of_chunk (out_array job) task) ≡ None) job accepted fits apart carried.1 started
-      (λ entry same calm. (started entry same calm).free (key_of_chunk (out_array job) task) (inr (task, carried.1, refl))),
+  is_run names options old new late now_late (λ job. task < chunks_of job) (λ job entry. (entry (key_of_chunk (out_array job) task) ≡ None) × HasOutMetadata new job entry) job accepted fits apart carried.1 started
+      (λ entry same calm. ((started entry same calm).free (key_of_chunk (out_array job) task) (inr (task, carried.1, refl)), has entry same calm)),
 )
-ran_carried names options old new late now_late f h g v w front back job (DepotFailed key) carried accepted fits apart earlier started stored alone = (
+ran_carried names options old new late now_late f h g v w front back job (DepotFailed key) carried accepted fits apart earlier started stored alone has = (
   rose_earlier 3 f h g earlier carried.1,
   inr (is_run names options old new late now_late (λ job. key ≡ metadata_key_of job.names.out) (λ job entry. Follows (metadata_write job ∷ late) (Some entry) new now_late) job accepted fits apart carried.0 started
       (λ entry same calm. alone entry same)),
 )
-ran_carried names options old new late now_late f h g v w front back job NoMemory carried accepted fits apart earlier started stored alone =
+ran_carried names options old new late now_late f h g v w front back job NoMemory carried accepted fits apart earlier started stored alone has =
     inr (is_run names options old new late now_late (λ job. Unit {0}) Anything job accepted fits apart tt started (nothing_told old names late job))
-ran_carried names options old new late now_late f h g v w front back job (OverMemory node need allowed) carried accepted fits apart earlier started stored alone = absurd carried
-ran_carried names options old new late now_late f h g v w front back job (Exists key) carried accepted fits apart earlier started stored alone = absurd carried
-ran_carried names options old new late now_late f h g v w front back job (NotBuilt node) carried accepted fits apart earlier started stored alone = absurd carried
-ran_carried names options old new late now_late f h g v w front back job (BadWords code) carried accepted fits apart earlier started stored alone = carried
-ran_carried names options old new late now_late f h g v w front back job ReadFault carried accepted fits apart earlier started stored alone = carried
+ran_carried names options old new late now_late f h g v w front back job (OverMemory node need allowed) carried accepted fits apart earlier started stored alone has = absurd carried
+ran_carried names options old new late now_late f h g v w front back job (Exists key) carried accepted fits apart earlier started stored alone has = absurd carried
+ran_carried names options old new late now_late f h g v w front back job (NotBuilt node) carried accepted fits apart earlier started stored alone has = absurd carried
+ran_carried names options old new late now_late f h g v w front back job (BadWords code) carried accepted fits apart earlier started stored alone has = carried
+ran_carried names options old new late now_late f h g v w front back job ReadFault carried accepted fits apart earlier started stored alone has = carried
 
 -- what was late may still be, when the metadata is stored
 pub metadata_first : (job : Job) (entry : Contents) (late now_late : List Write) (held : Option Contents) → Follows late (Some entry) held now_late
@@ -161,18 +182,20 @@ metadata_first job entry late now_late held follows = (
 -- ---- carrying out a job
 
 module _ (job : Job) (options : Options) (f g v w : ℕ) (held : Option Contents) (old new : Option (List ℕ)) (failed : ℕ) where
-  pub carries_report : (status : Status) → Rose failed f g → Reports old new (report_line options job failed) v w status → Carries job options f g held v w old new status
-  carries_report Done rose told = (failed, rose, told)
-  carries_report WriteFault rose told = (told.0, (failed, rose, told.1))
-  carries_report (BadWords code) rose told = told
-  carries_report (OverMemory node need allowed) rose told = absurd told
-  carries_report (Exists key) rose told = absurd told
-  carries_report (TaskFailed op task) rose told = absurd told
-  carries_report ReadFault rose told = told
-  carries_report (BadChunk key got want) rose told = absurd told
-  carries_report (DepotFailed key) rose told = absurd told
-  carries_report (NotBuilt node) rose told = absurd told
-  carries_report NoMemory rose told = tt
+  pub carries_report : (status : Status) → Rose failed f g → failed ≤ 2 * chunks_of job → Reports old new (report_line options job failed) v w status → Carries job options f g held v w old new status
+  carries_report Done rose few told = (failed, rose, few, told)
+  carries_report WriteFault rose few told = (told.0, (failed, rose, few, told.1))
+  carries_report (BadWords code) rose few told = told
+  carries_report (OverMemory node need allowed) rose few told = absurd told
+  carries_report (Exists key) rose few told = absurd told
+  carries_report (BadMeta name code) rose few told = absurd told
+  carries_report (NoArray name) rose few told = absurd told
+  carries_report (TaskFailed op task) rose few told = absurd told
+  carries_report ReadFault rose few told = told
+  carries_report (BadChunk key got want) rose few told = absurd told
+  carries_report (DepotFailed key) rose few told = absurd told
+  carries_report (NotBuilt node) rose few told = absurd told
+  carries_report NoMemory rose few told = tt
 
   pub prints_report : (status : Status) → Reports old new (report_line options job failed) v w status → PrintsOnly status old new
   prints_report Done told = tt
@@ -180,6 +203,8 @@ module _ (job : Job) (options : Options) (f g v w : ℕ) (held : Option Contents
   prints_report (BadWords code) told = absurd told
   prints_report (OverMemory node need allowed) told = absurd told
   prints_report (Exists key) told = absurd told
+  prints_report (BadMeta name code) told = absurd told
+  prints_report (NoArray name) told = absurd told
   prints_report (TaskFailed op task) told = absurd told
   prints_report ReadFault told = absurd told
   prints_report (BadChunk key got want) told = absurd told
@@ -193,6 +218,8 @@ module _ (job : Job) (options : Options) (f g v w : ℕ) (held : Option Contents
   alone_report (BadWords code) P told = tt
   alone_report (OverMemory node need allowed) P told = tt
   alone_report (Exists key) P told = tt
+  alone_report (BadMeta name code) P told = tt
+  alone_report (NoArray name) P told = tt
   alone_report (TaskFailed op task) P told = tt
   alone_report ReadFault P told = tt
   alone_report (BadChunk key got want) P told = tt
@@ -200,12 +227,30 @@ module _ (job : Job) (options : Options) (f g v w : ℕ) (held : Option Contents
   alone_report (NotBuilt node) P told = tt
   alone_report NoMemory P told = tt
 
+pub ended_report : (job : Job) (options : Options) (v w : ℕ) (old new : Option (List ℕ)) (failed : ℕ) (status : Status) (P : Type 0)
+    → Reports old new (report_line options job failed) v w status → IfTaskEnded status P
+ended_report job options v w old new failed Done P told = tt
+ended_report job options v w old new failed WriteFault P told = tt
+ended_report job options v w old new failed (BadWords code) P told = tt
+ended_report job options v w old new failed (OverMemory node need allowed) P told = tt
+ended_report job options v w old new failed (BadMeta name code) P told = tt
+ended_report job options v w old new failed (NoArray name) P told = tt
+ended_report job options v w old new failed (Exists key) P told = tt
+ended_report job options v w old new failed (TaskFailed op task) P told = absurd told
+ended_report job options v w old new failed ReadFault P told = tt
+ended_report job options v w old new failed (BadChunk key got want) P told = absurd told
+ended_report job options v w old new failed (DepotFailed key) P told = tt
+ended_report job options v w old new failed (NotBuilt node) P told = tt
+ended_report job options v w old new failed NoMemory P told = tt
+
 pub if_stored : (status : Status) (P : Type 0) → P → IfStored status P
 if_stored Done P h = h
 if_stored WriteFault P h = h
 if_stored (BadWords code) P h = tt
 if_stored (OverMemory node need allowed) P h = tt
 if_stored (Exists key) P h = tt
+if_stored (BadMeta name code) P h = tt
+if_stored (NoArray name) P h = tt
 if_stored (TaskFailed op task) P h = tt
 if_stored ReadFault P h = tt
 if_stored (BadChunk key got want) P h = tt
@@ -216,6 +261,8 @@ if_stored NoMemory P h = tt
 module _ (job : Job) (options : Options) (f g v w : ℕ) (held : Option Contents) (old : Option (List ℕ)) where
   pub carries_fault : (status : Status) → IsStoreFault job f g held status → Carries job options f g held v w old old status
   carries_fault (DepotFailed key) fault = fault
+  carries_fault (BadMeta name code) fault = absurd fault
+  carries_fault (NoArray name) fault = absurd fault
   carries_fault (TaskFailed op task) fault = fault
   carries_fault (BadChunk key got want) fault = fault
   carries_fault NoMemory fault = tt
@@ -229,6 +276,8 @@ module _ (job : Job) (options : Options) (f g v w : ℕ) (held : Option Contents
 
   pub prints_fault : (status : Status) → IsStoreFault job f g held status → PrintsOnly status old old
   prints_fault (DepotFailed key) fault = refl
+  prints_fault (BadMeta name code) fault = refl
+  prints_fault (NoArray name) fault = refl
   prints_fault (TaskFailed op task) fault = refl
   prints_fault (BadChunk key got want) fault = refl
   prints_fault NoMemory fault = refl
@@ -242,6 +291,8 @@ module _ (job : Job) (options : Options) (f g v w : ℕ) (held : Option Contents
 
   pub stored_fault : (status : Status) (P : Type 0) → IsStoreFault job f g held status → IfStored status P
   stored_fault (DepotFailed key) P fault = tt
+  stored_fault (BadMeta name code) P fault = tt
+  stored_fault (NoArray name) P fault = tt
   stored_fault (TaskFailed op task) P fault = tt
   stored_fault (BadChunk key got want) P fault = tt
   stored_fault NoMemory P fault = tt
@@ -267,6 +318,8 @@ pub told_run : (words : List (List ℕ)) (src next : Option (List ℕ)) (t u : �
 told_run words src next t u old new late now_late f g v w front back names options Done called ran = record { names = names; options = options; called = called; ran = ran }
 told_run words src next t u old new late now_late f g v w front back names options (OverMemory node need allowed) called ran = record { names = names; options = options; called = called; ran = ran }
 told_run words src next t u old new late now_late f g v w front back names options (Exists key) called ran = record { names = names; options = options; called = called; ran = ran }
+told_run words src next t u old new late now_late f g v w front back names options (BadMeta name code) called ran = record { names = names; options = options; called = called; ran = ran }
+told_run words src next t u old new late now_late f g v w front back names options (NoArray name) called ran = record { names = names; options = options; called = called; ran = ran }
 told_run words src next t u old new late now_late f g v w front back names options (TaskFailed op task) called ran = record { names = names; options = options; called = called; ran = ran }
 told_run words src next t u old new late now_late f g v w front back names options WriteFault called ran = record { names = names; options = options; called = called; ran = ran }
 told_run words src next t u old new late now_late f g v w front back names options (BadChunk key got want) called ran = record { names = names; options = options; called = called; ran = ran }

@@ -18,24 +18,23 @@ use Rattle.cu_zarr.specs.Spelling.{spelled}
 use Rattle.cu_zarr.specs.Stored.{stored_element}
 use Rattle.cu_top.specs.declared.job.Job.{Job}
 use Rattle.cu_top.specs.declared.job.Names.{Names}
-use Rattle.cu_top.specs.Inputs.{IsBuilt, IsMetadata}
+use Rattle.cu_top.specs.Inputs.{IsInput, AreAddable, IsMetadata}
 
--- the name of an array: no slash in it, and short enough for its keys
+-- the name of an array: no slash in it, and at most 32 bytes
 abbrev pub IsArrayName : List ℕ → Type 0
-IsArrayName name = HasNoSlash name × (length name ≤ 45)
+IsArrayName name = HasNoSlash name × (length name ≤ 32)
 
 pub record AreArrayNames (names : Names) : Type 0 where
   pub left : IsArrayName names.left
   pub right : IsArrayName names.right
   pub out : IsArrayName names.out
 
--- names of arrays, and two inputs of one type and one grid
+-- names of arrays, and two inputs that can be added
 pub record IsJob (job : Job) : Type 0 where
   pub names : AreArrayNames job.names
-  pub left : IsBuilt job.left
-  pub right : IsBuilt job.right
-  pub dtype : job.right.dtype ≡ job.left.dtype
-  pub grid : job.right.grid ≡ job.left.grid
+  pub left : IsInput job.left
+  pub right : IsInput job.right
+  pub alike : AreAddable job.left job.right
 
 -- ---- the arrays
 

@@ -1,8 +1,9 @@
 -- The plan of an addition: its three arrays, and the one map that adds.
-use Rattle.std.specs.Prelude.{ℕ, ◌+◌, ◌*◌, nat_lt, if◌then◌else◌, List, [], ◌∷◌, Option, Some, None}
+use Rattle.std.specs.Prelude.{◌≡◌, ◌≤◌, ℕ, ◌+◌, ◌*◌, nat_lt, if◌then◌else◌, List, [], ◌∷◌, Option, Some, None}
 use Rattle.cu_op.specs.Layout.{layout_view}
 use Rattle.cu_op.specs.OneMap.{addition_of}
 use Rattle.cu_op.specs.PlanView.{PlanView}
+use Rattle.cu_op.specs.Projection.{projection}
 use Rattle.cu_op.specs.Value.{Elements, stored_inputs}
 use Rattle.cu_op.specs.declared.layout.ArrayInfo.{ArrayInfo}
 use Rattle.cu_op.specs.declared.operation.Op.{Op}
@@ -47,3 +48,7 @@ plan_of options job = record {
 -- the elements of the inputs, by what the depot held when the call began
 abbrev pub entry_elements : Job → Contents → Elements
 entry_elements job entry = stored_inputs (plan_arrays job) entry
+
+-- the projection of the plan's tasks is the need, and at most what is allowed
+abbrev pub IsLentWithin : Options → Job → Type 0
+IsLentWithin options job = (projection (plan_arrays job) options.reserved (plan_op job) ≡ need_of options job) × (need_of options job ≤ options.allowed)

@@ -3,7 +3,7 @@ use Rattle.std.specs.Prelude.{◌≡◌, ℕ, ◌≤◌, List, length, Option, S
 use Rattle.cu_store.specs.Faults.{Rose}
 use Rattle.cu_top.specs.Streams.{WroteFront}
 use Rattle.cu_top.specs.declared.status.Status.{Status}
-use Rattle.cu_top.specs.declared.status.Status.TheVariants.{Done, BadWords, OverMemory, Exists, TaskFailed, ReadFault, WriteFault, BadChunk, DepotFailed, NotBuilt, NoMemory}
+use Rattle.cu_top.specs.declared.status.Status.TheVariants.{Done, BadWords, OverMemory, BadMeta, NoArray, Exists, TaskFailed, ReadFault, WriteFault, BadChunk, DepotFailed, NotBuilt, NoMemory}
 
 -- a refusal exactly where a node needs more, with its need and what is allowed
 abbrev pub TellsMemory : ℕ → Option (ℕ × ℕ) → Result (Unit {0}) Status → Type 0
@@ -19,6 +19,8 @@ Reports old new line before after WriteFault = Rose 1 before after × ((n : ℕ)
 Reports old new line before after (BadWords code) = ⊥
 Reports old new line before after (OverMemory node need allowed) = ⊥
 Reports old new line before after (Exists key) = ⊥
+Reports old new line before after (BadMeta name code) = ⊥
+Reports old new line before after (NoArray name) = ⊥
 Reports old new line before after (TaskFailed op task) = ⊥
 Reports old new line before after ReadFault = ⊥
 Reports old new line before after (BadChunk bad got want) = ⊥

@@ -2,15 +2,17 @@
 use Rattle.std.specs.Prelude.{◌≡◌, ◌⊎◌, ℕ, ◌+◌, ◌<◌, Bool, IsTrue, List, [], ◌∷◌, ◌++◌, codes, Option, Some, None}
 use Rattle.std.specs.Fmt.{decimal}
 use Rattle.cu_store.specs.Faults.{Rose}
-use Rattle.cu_store.specs.Held.{Contents, Write, IsAmong}
+use Rattle.cu_store.specs.Held.{Contents, Write, IsAmong, IsGone}
 use Rattle.cu_zarr.specs.Key.{metadata_key_of}
-use Rattle.cu_top.specs.Job.{IsPlanKey, IsQuiet, HasInputs, IsComplete, chunks_of, key_of_chunk, out_array, out_metadata}
+use Rattle.cu_op.specs.declared.layout.Layout.{Layout}
+use Rattle.cu_top.specs.Inputs.{AreAddable, HoldsRefused}
+use Rattle.cu_top.specs.Job.{HasMetadata, IsPlanKey, IsQuiet, HasInputs, IsComplete, chunks_of, key_of_chunk, out_array, out_metadata}
 use Rattle.cu_top.specs.Plan.{need_of}
 use Rattle.cu_top.specs.Tasks.{IsBad}
 use Rattle.cu_top.specs.declared.job.Job.{Job}
 use Rattle.cu_top.specs.declared.job.Names.{Names as ArrayNames}
 use Rattle.cu_top.specs.declared.status.Status.{Status}
-use Rattle.cu_top.specs.declared.status.Status.TheVariants.{Done, BadWords, OverMemory, Exists, TaskFailed, ReadFault, WriteFault, BadChunk, DepotFailed, NotBuilt, NoMemory}
+use Rattle.cu_top.specs.declared.status.Status.TheVariants.{Done, BadWords, OverMemory, BadMeta, NoArray, Exists, TaskFailed, ReadFault, WriteFault, BadChunk, DepotFailed, NotBuilt, NoMemory}
 use Rattle.cu_top.specs.declared.words.Options.{Options}
 
 -- the job adds the arrays of these names
@@ -39,6 +41,8 @@ IsInWay job held key = IsPlanKey job key × (IsHeldIn held key ⊎ (job.names.ou
 -- why asking for the keys ends: one is in the way, or the calls for one failed
 abbrev pub IsAskFault : Job → ℕ → ℕ → Bool → Option Contents → Status → Type 0
 IsAskFault job before after lacks held (Exists key) = IsInWay job held key
+IsAskFault job before after lacks held (BadMeta name code) = ⊥
+IsAskFault job before after lacks held (NoArray name) = ⊥
 IsAskFault job before after lacks held (TaskFailed op task) = ⊥
 IsAskFault job before after lacks held (DepotFailed key) = IsPlanKey job key × Rose 3 before after
 IsAskFault job before after lacks held NoMemory = IsTrue lacks
@@ -61,6 +65,8 @@ IsOwnFirst job key = (job.names.out ≡ job.names.left) ⊎ (job.names.out ≡ j
 -- a fact of the key at which the asking ended
 abbrev pub IfAsked : Status → (List ℕ → Type 0) → Type 0
 IfAsked (Exists key) P = P key
+IfAsked (BadMeta name code) P = Unit {0}
+IfAsked (NoArray name) P = Unit {0}
 IfAsked (TaskFailed op task) P = Unit {0}
 IfAsked (DepotFailed key) P = P key
 IfAsked Done P = Unit {0}
@@ -75,6 +81,8 @@ IfAsked NoMemory P = Unit {0}
 -- a fact of the key in the way, where that is the answer
 abbrev pub IfExists : Status → (List ℕ → Type 0) → Type 0
 IfExists (Exists key) P = P key
+IfExists (BadMeta name code) P = Unit {0}
+IfExists (NoArray name) P = Unit {0}
 IfExists (TaskFailed op task) P = Unit {0}
 IfExists Done P = Unit {0}
 IfExists (BadWords code) P = Unit {0}
@@ -95,6 +103,8 @@ IfNotBuilt Done P = Unit {0}
 IfNotBuilt (BadWords code) P = Unit {0}
 IfNotBuilt (OverMemory node need allowed) P = Unit {0}
 IfNotBuilt (Exists key) P = Unit {0}
+IfNotBuilt (BadMeta name code) P = Unit {0}
+IfNotBuilt (NoArray name) P = Unit {0}
 IfNotBuilt (TaskFailed op task) P = Unit {0}
 IfNotBuilt ReadFault P = Unit {0}
 IfNotBuilt WriteFault P = Unit {0}
@@ -102,19 +112,33 @@ IfNotBuilt (BadChunk key got want) P = Unit {0}
 IfNotBuilt (DepotFailed key) P = Unit {0}
 IfNotBuilt NoMemory P = Unit {0}
 
+-- this is the name of one of the inputs
+abbrev pub IsInputName : ArrayNames → List ℕ → Type 0
+IsInputName names name = (name ≡ names.left) ⊎ (name ≡ names.right)
+
+-- the metadata of this input is held, and is refused with this code
+abbrev pub IsRefusedInput : ArrayNames → Option Contents → List ℕ → ℕ → Type 0
+IsRefusedInput names held name code = IsInputName names name × HoldsRefused held (metadata_key_of name) code
+
+-- this input has no metadata
+abbrev pub IsMissingInput : ArrayNames → Option Contents → List ℕ → Type 0
+IsMissingInput names held name = IsInputName names name × IsGone held (metadata_key_of name)
+
 -- why reading the metadata of the inputs ends
-abbrev pub IsInputFault : ArrayNames → ℕ → ℕ → Status → Type 0
-IsInputFault names before after (DepotFailed key) = ((key ≡ metadata_key_of names.left) ⊎ (key ≡ metadata_key_of names.right)) × Rose 3 before after
-IsInputFault names before after (NotBuilt node) = node ≡ 0
-IsInputFault names before after NoMemory = Unit {0}
-IsInputFault names before after Done = ⊥
-IsInputFault names before after (BadWords code) = ⊥
-IsInputFault names before after (OverMemory node need allowed) = ⊥
-IsInputFault names before after (Exists key) = ⊥
-IsInputFault names before after (TaskFailed op task) = ⊥
-IsInputFault names before after ReadFault = ⊥
-IsInputFault names before after WriteFault = ⊥
-IsInputFault names before after (BadChunk bad got want) = ⊥
+abbrev pub IsInputFault : ArrayNames → ℕ → ℕ → Option Contents → Status → Type 0
+IsInputFault names before after held (DepotFailed key) = ((key ≡ metadata_key_of names.left) ⊎ (key ≡ metadata_key_of names.right)) × Rose 3 before after
+IsInputFault names before after held (BadMeta name code) = IsRefusedInput names held name.bytes code
+IsInputFault names before after held (NoArray name) = IsMissingInput names held name.bytes
+IsInputFault names before after held (NotBuilt node) = node ≡ 0
+IsInputFault names before after held NoMemory = Unit {0}
+IsInputFault names before after held Done = ⊥
+IsInputFault names before after held (BadWords code) = ⊥
+IsInputFault names before after held (OverMemory node need allowed) = ⊥
+IsInputFault names before after held (Exists key) = ⊥
+IsInputFault names before after held (TaskFailed op task) = ⊥
+IsInputFault names before after held ReadFault = ⊥
+IsInputFault names before after held WriteFault = ⊥
+IsInputFault names before after held (BadChunk bad got want) = ⊥
 
 -- the metadata key of an input
 abbrev pub IsMetadataKey : ArrayNames → List ℕ → Type 0
@@ -130,9 +154,9 @@ pub record IsCalm (names : ArrayNames) (entry : Contents) (late : List Write) : 
   pub metadata : IsCalmMetadata names entry late
   pub jobs : (job : Job) → HasNames names job → HasInputs job entry → IsQuiet job entry late
 
--- no two layouts of one type and one grid are what both inputs have, where the contents are told
-abbrev pub HasNoInputs : ArrayNames → Contents → List Write → Type 0
-HasNoInputs names entry late = (job : Job) → HasNames names job → job.right.dtype ≡ job.left.dtype → job.right.grid ≡ job.left.grid → IsCalmMetadata names entry late → HasInputs job entry → ⊥
+-- both inputs have metadata, of layouts that can't be added, where the contents are told
+abbrev pub AreUnlike : ArrayNames → Contents → List Write → Type 0
+AreUnlike names entry late = IsCalmMetadata names entry late → (left : Layout) × (right : Layout) × HasMetadata entry names.left left × HasMetadata entry names.right right × (AreAddable left right → ⊥)
 
 -- ---- the report
 
@@ -150,6 +174,8 @@ Completes job entry (Some held) = IsComplete job entry held
 -- why storing the output ends: its metadata wasn't stored, or a task ended the run
 abbrev pub IsStoreFault : Job → ℕ → ℕ → Option Contents → Status → Type 0
 IsStoreFault job before after held (DepotFailed key) = (key ≡ metadata_key_of job.names.out) × Rose 3 before after
+IsStoreFault job before after held (BadMeta name code) = ⊥
+IsStoreFault job before after held (NoArray name) = ⊥
 IsStoreFault job before after held (TaskFailed op task) = (op ≡ 0) × (task < chunks_of job) × Rose 3 before after
 IsStoreFault job before after held (BadChunk key got want) = IsBad held key got want job
 IsStoreFault job before after held NoMemory = Unit {0}
@@ -161,6 +187,38 @@ IsStoreFault job before after held ReadFault = ⊥
 IsStoreFault job before after held WriteFault = ⊥
 IsStoreFault job before after held (NotBuilt node) = ⊥
 
+-- a fact of the task that an answer names
+abbrev pub IfTaskFailed : Status → (ℕ → ℕ → Type 0) → Type 0
+IfTaskFailed (TaskFailed op task) P = P op task
+IfTaskFailed (DepotFailed key) P = Unit {0}
+IfTaskFailed Done P = Unit {0}
+IfTaskFailed (BadWords code) P = Unit {0}
+IfTaskFailed (OverMemory node need allowed) P = Unit {0}
+IfTaskFailed (BadMeta name code) P = Unit {0}
+IfTaskFailed (NoArray name) P = Unit {0}
+IfTaskFailed (Exists key) P = Unit {0}
+IfTaskFailed ReadFault P = Unit {0}
+IfTaskFailed WriteFault P = Unit {0}
+IfTaskFailed (BadChunk bad got want) P = Unit {0}
+IfTaskFailed (NotBuilt node) P = Unit {0}
+IfTaskFailed NoMemory P = Unit {0}
+
+-- a fact of the answers that a task gives
+abbrev pub IfTaskEnded : Status → Type 0 → Type 0
+IfTaskEnded (TaskFailed op task) P = P
+IfTaskEnded (BadChunk bad got want) P = P
+IfTaskEnded (DepotFailed key) P = Unit {0}
+IfTaskEnded Done P = Unit {0}
+IfTaskEnded (BadWords code) P = Unit {0}
+IfTaskEnded (OverMemory node need allowed) P = Unit {0}
+IfTaskEnded (BadMeta name code) P = Unit {0}
+IfTaskEnded (NoArray name) P = Unit {0}
+IfTaskEnded (Exists key) P = Unit {0}
+IfTaskEnded ReadFault P = Unit {0}
+IfTaskEnded WriteFault P = Unit {0}
+IfTaskEnded (NotBuilt node) P = Unit {0}
+IfTaskEnded NoMemory P = Unit {0}
+
 -- the output's metadata, as a write
 abbrev pub metadata_write : Job → Write
 metadata_write job = (metadata_key_of job.names.out, out_metadata job)
@@ -168,6 +226,8 @@ metadata_write job = (metadata_key_of job.names.out, out_metadata job)
 -- A fact of the answer that a key's calls failed once the run was started: of the plan's keys the metadata alone was written.
 abbrev pub IfDepotFailed : Status → Type 0 → Type 0
 IfDepotFailed (DepotFailed key) P = P
+IfDepotFailed (BadMeta name code) P = Unit {0}
+IfDepotFailed (NoArray name) P = Unit {0}
 IfDepotFailed (TaskFailed op task) P = Unit {0}
 IfDepotFailed Done P = Unit {0}
 IfDepotFailed (BadWords code) P = Unit {0}

@@ -5,7 +5,7 @@ use Rattle.cu_store.specs.Held.{Contents}
 use Rattle.cu_region.specs.Steady.{HoldsLength}
 use Rattle.cu_top.specs.declared.job.Job.{Job}
 use Rattle.cu_top.specs.declared.status.Status.{Status}
-use Rattle.cu_top.specs.declared.status.Status.TheVariants.{Done, BadWords, OverMemory, Exists, TaskFailed, ReadFault, WriteFault, BadChunk, DepotFailed, NotBuilt, NoMemory}
+use Rattle.cu_top.specs.declared.status.Status.TheVariants.{Done, BadWords, OverMemory, BadMeta, NoArray, Exists, TaskFailed, ReadFault, WriteFault, BadChunk, DepotFailed, NotBuilt, NoMemory}
 use Rattle.cu_top.specs.Job.{chunks_of, IsInputChunk}
 use Rattle.cu_top.specs.Job.{IsJob}
 use Rattle.cu_top.specs.Plan.{room_of, plan_of}
@@ -22,6 +22,8 @@ IsKeyFault before after lacks key Done = ⊥
 IsKeyFault before after lacks key (BadWords code) = ⊥
 IsKeyFault before after lacks key (OverMemory node need allowed) = ⊥
 IsKeyFault before after lacks key (Exists held) = ⊥
+IsKeyFault before after lacks key (BadMeta name code) = ⊥
+IsKeyFault before after lacks key (NoArray name) = ⊥
 IsKeyFault before after lacks key (TaskFailed op task) = ⊥
 IsKeyFault before after lacks key ReadFault = ⊥
 IsKeyFault before after lacks key WriteFault = ⊥
@@ -48,8 +50,10 @@ end_of fault.Store = None
 end_of (fault.BadChunk key got want) = Some (BadChunk key got want)
 end_of fault.NoMemory = Some NoMemory
 
--- Why a task ends the run: three tries of it failed, the count risen in each, or a chunk of an input has another length.
+-- Why a task ends the run: its tries were used up, the count risen by three at least, or a chunk of an input has another length.
 abbrev pub IsTaskEnd : Job → ℕ → ℕ → Bool → Option Contents → Status → Type 0
+IsTaskEnd job before after lacks held (BadMeta name code) = ⊥
+IsTaskEnd job before after lacks held (NoArray name) = ⊥
 IsTaskEnd job before after lacks held (TaskFailed op task) = (op ≡ 0) × (task < chunks_of job) × Rose 3 before after
 IsTaskEnd job before after lacks held (BadChunk key got want) = IsBad held key got want job
 IsTaskEnd job before after lacks held NoMemory = IsTrue lacks

@@ -1,12 +1,11 @@
 -- What the call answers, when, and what it leaves.
-use Rattle.std.specs.Prelude.{◌≡◌, ◌⊎◌, ℕ, ◌<◌, ◌≤◌, List, ◌∷◌, length, Option, Some, None, Ok, Err}
-use Rattle.cu_num.specs.declared.layout.Encoding.{Encoding}
+use Rattle.std.specs.Prelude.{◌≡◌, ◌⊎◌, ℕ, ◌*◌, ◌<◌, ◌≤◌, List, ◌∷◌, length, Option, Some, None, Ok, Err}
 use Rattle.cu_store.specs.Faults.{Rose}
-use Rattle.cu_store.specs.Held.{Contents, Write, Follows}
-use Rattle.cu_zarr.specs.Key.{metadata_key_of, chunk_key_of}
-use Rattle.cu_top.specs.Job.{IsJob, IsPlanKey, HasInputs, IsStarted, IsLeft, chunks_of, key_of_chunk, out_array}
-use Rattle.cu_top.specs.Plan.{over_memory}
-use Rattle.cu_top.specs.Run.{HasNames, IsInWay, IsFirstInWay, IsOwnFirst, IsApart, IsMetadataKey, IsCalmMetadata, IsCalm, HasNoInputs, report_line, Completes, metadata_write}
+use Rattle.cu_store.specs.Held.{Contents, Write, Follows, Holds}
+use Rattle.cu_zarr.specs.Key.{metadata_key_of}
+use Rattle.cu_top.specs.Job.{IsJob, IsPlanKey, HasInputs, IsStarted, IsLeft, chunks_of, key_of_chunk, out_array, out_metadata}
+use Rattle.cu_top.specs.Plan.{over_memory, IsLentWithin}
+use Rattle.cu_top.specs.Run.{HasNames, IsInWay, IsFirstInWay, IsOwnFirst, IsApart, IsMetadataKey, IsCalmMetadata, IsCalm, AreUnlike, IsRefusedInput, IsMissingInput, report_line, Completes, metadata_write}
 use Rattle.cu_top.specs.Tasks.{IsBad}
 use Rattle.cu_top.specs.Streams.{WroteFront, ReadsAll}
 use Rattle.cu_top.specs.Expression.{Names as TextNames, addition_of}
@@ -14,7 +13,7 @@ use Rattle.cu_top.specs.Words.{options_of}
 use Rattle.cu_top.specs.declared.job.Job.{Job}
 use Rattle.cu_top.specs.declared.job.Names.{Names as ArrayNames}
 use Rattle.cu_top.specs.declared.status.Status.{Status}
-use Rattle.cu_top.specs.declared.status.Status.TheVariants.{Done, BadWords, OverMemory, Exists, TaskFailed, ReadFault, WriteFault, BadChunk, DepotFailed, NotBuilt, NoMemory}
+use Rattle.cu_top.specs.declared.status.Status.TheVariants.{Done, BadWords, OverMemory, BadMeta, NoArray, Exists, TaskFailed, ReadFault, WriteFault, BadChunk, DepotFailed, NotBuilt, NoMemory}
 use Rattle.cu_top.specs.declared.words.Options.{Options}
 
 -- ---- a job that was accepted
@@ -37,21 +36,27 @@ pub record IsRun (names : ArrayNames) (options : Options) (old new : Option Cont
   pub job : Job
   pub accepted : IsAccepted names options old late job
   pub fits : over_memory options job ≡ None
+  pub room : IsLentWithin options job
   pub is_so : fact job
   pub apart : IsApart job
   pub started : (entry : Contents) → old ≡ Some entry → IsCalm names entry late → IsStarted job entry late new now_late
   pub left : (entry : Contents) → old ≡ Some entry → IsCalm names entry late → IsLeftIn job entry new
   pub holds : (entry : Contents) → old ≡ Some entry → IsCalm names entry late → told job entry
 
+-- the output's metadata is held
+abbrev pub HasOutMetadata : Option Contents → Job → Contents → Type 0
+HasOutMetadata held job entry = Holds held (metadata_key_of job.names.out) (out_metadata job)
+
 abbrev pub Anything : Job → Contents → Type 0
 Anything job entry = Unit {0}
 
--- the whole line of the report was written, or its front; each try that it counts as failed raised the count of the depot's faults
+-- The whole line of the report was written, or its front. Each try that it counts as failed raised the count of the depot's faults, and
+-- a task that was finished had at most two of them.
 abbrev pub WroteLine : Options → ℕ → ℕ → Option (List ℕ) → Option (List ℕ) → Job → Type 0
-WroteLine options f g old new job = (failed : ℕ) × Rose failed f g × WroteFront old new (report_line options job failed) (length (report_line options job failed))
+WroteLine options f g old new job = (failed : ℕ) × Rose failed f g × (failed ≤ 2 * chunks_of job) × WroteFront old new (report_line options job failed) (length (report_line options job failed))
 
 abbrev pub WrotePart : Options → ℕ → ℕ → Option (List ℕ) → Option (List ℕ) → Job → Type 0
-WrotePart options f g old new job = (failed : ℕ) × Rose failed f g × ((n : ℕ) × (n ≤ length (report_line options job failed)) × WroteFront old new (report_line options job failed) n)
+WrotePart options f g old new job = (failed : ℕ) × Rose failed f g × (failed ≤ 2 * chunks_of job) × ((n : ℕ) × (n ≤ length (report_line options job failed)) × WroteFront old new (report_line options job failed) n)
 
 -- more is needed than is allowed
 pub record IsOver (names : ArrayNames) (options : Options) (old : Option Contents) (late : List Write) (node need : ℕ) : Type 0 where
@@ -68,7 +73,7 @@ pub record IsBlocked (names : ArrayNames) (options : Options) (old new : Option 
   pub own : IsOwnFirst job key
   pub first : (entry : Contents) → old ≡ Some entry → IsFirstInWay job entry key
 
--- three calls for a key of the plan failed, and the keys before it were absent
+-- a key of the plan, of which those before it were absent
 pub record IsAsked (names : ArrayNames) (options : Options) (old : Option Contents) (late : List Write) (key : List ℕ) : Type 0 where
   pub job : Job
   pub accepted : IsAccepted names options old late job
@@ -76,16 +81,14 @@ pub record IsAsked (names : ArrayNames) (options : Options) (old : Option Conten
   pub of_plan : IsPlanKey job key
   pub first : (entry : Contents) → old ≡ Some entry → IsFirstInWay job entry key
 
--- the metadata or a chunk of the array with this name, however its keys are written
-abbrev pub IsKeyOfArray : List ℕ → List ℕ → Type 0
-IsKeyOfArray name key = (key ≡ metadata_key_of name) ⊎ ((encoding : Encoding) × (coord : List ℕ) × (key ≡ chunk_key_of name encoding coord))
-
 -- ---- what carrying out a job that was accepted answers
 
 abbrev pub Carries : Job → Options → ℕ → ℕ → Option Contents → ℕ → ℕ → Option (List ℕ) → Option (List ℕ) → Status → Type 0
 Carries job options f g held v w old new Done = WroteLine options f g old new job
 Carries job options f g held v w old new WriteFault = Rose 1 v w × WrotePart options f g old new job
 Carries job options f g held v w old new (BadChunk key got want) = IsBad held key got want job
+Carries job options f g held v w old new (BadMeta name code) = ⊥
+Carries job options f g held v w old new (NoArray name) = ⊥
 Carries job options f g held v w old new (TaskFailed op task) = (op ≡ 0) × (task < chunks_of job) × Rose 3 f g
 Carries job options f g held v w old new (DepotFailed key) = (key ≡ metadata_key_of job.names.out) × Rose 3 f g
 Carries job options f g held v w old new NoMemory = Unit {0}
@@ -102,6 +105,8 @@ IfStored WriteFault P = P
 IfStored (BadWords code) P = Unit {0}
 IfStored (OverMemory node need allowed) P = Unit {0}
 IfStored (Exists key) P = Unit {0}
+IfStored (BadMeta name code) P = Unit {0}
+IfStored (NoArray name) P = Unit {0}
 IfStored (TaskFailed op task) P = Unit {0}
 IfStored ReadFault P = Unit {0}
 IfStored (BadChunk key got want) P = Unit {0}
@@ -116,6 +121,8 @@ PrintsOnly WriteFault old new = Unit {0}
 PrintsOnly (BadWords code) old new = new ≡ old
 PrintsOnly (OverMemory node need allowed) old new = new ≡ old
 PrintsOnly (Exists key) old new = new ≡ old
+PrintsOnly (BadMeta name code) old new = new ≡ old
+PrintsOnly (NoArray name) old new = new ≡ old
 PrintsOnly (TaskFailed op task) old new = new ≡ old
 PrintsOnly ReadFault old new = new ≡ old
 PrintsOnly (BadChunk key got want) old new = new ≡ old
@@ -128,8 +135,10 @@ PrintsOnly NoMemory old new = new ≡ old
 abbrev pub Refuses : ArrayNames → Options → Option Contents → Option Contents → List Write → ℕ → ℕ → Status → Type 0
 Refuses names options old new late f g (OverMemory node need allowed) = (allowed ≡ options.allowed) × IsOver names options old late node need
 Refuses names options old new late f g (Exists key) = IsBlocked names options old new late key
+Refuses names options old new late f g (BadMeta name code) = IsRefusedInput names new name.bytes code
+Refuses names options old new late f g (NoArray name) = IsMissingInput names old name.bytes
 Refuses names options old new late f g (TaskFailed op task) = ⊥
-Refuses names options old new late f g (NotBuilt node) = (node ≡ 0) × ((entry : Contents) → old ≡ Some entry → HasNoInputs names entry late)
+Refuses names options old new late f g (NotBuilt node) = (node ≡ 0) × ((entry : Contents) → old ≡ Some entry → AreUnlike names entry late)
 Refuses names options old new late f g (DepotFailed key) = Rose 3 f g × (IsMetadataKey names key ⊎ IsAsked names options old late key)
 Refuses names options old new late f g NoMemory = Unit {0}
 Refuses names options old new late f g Done = ⊥
@@ -147,13 +156,15 @@ IsUntouched old new late now_late = Follows late old new now_late
 abbrev pub Ran : ArrayNames → Options → Option Contents → Option Contents → List Write → List Write → ℕ → ℕ → ℕ → ℕ → Option (List ℕ) → Option (List ℕ) → Status → Type 0
 Ran names options old new late now_late f g v w front back Done = IsRun names options old new late now_late (WroteLine options f g front back) (λ job entry. Completes job entry new)
 Ran names options old new late now_late f g v w front back WriteFault = Rose 1 v w × IsRun names options old new late now_late (WrotePart options f g front back) (λ job entry. Completes job entry new)
-Ran names options old new late now_late f g v w front back (BadChunk key got want) = IsRun names options old new late now_late (IsBad new key got want) Anything
+Ran names options old new late now_late f g v w front back (BadChunk key got want) = IsRun names options old new late now_late (IsBad new key got want) (HasOutMetadata new)
 Ran names options old new late now_late f g v w front back (DepotFailed key) = Rose 3 f g × ((IsUntouched old new late now_late × (IsMetadataKey names key ⊎ IsAsked names options old late key)) ⊎ IsRun names options old new late now_late (λ job. key ≡ metadata_key_of job.names.out) (λ job entry. Follows (metadata_write job ∷ late) (Some entry) new now_late))
-Ran names options old new late now_late f g v w front back (TaskFailed op task) = Rose 3 f g × (op ≡ 0) × IsRun names options old new late now_late (λ job. task < chunks_of job) (λ job entry. entry (key_of_chunk (out_array job) task) ≡ None)
+Ran names options old new late now_late f g v w front back (BadMeta name code) = IsUntouched old new late now_late × IsRefusedInput names new name.bytes code
+Ran names options old new late now_late f g v w front back (NoArray name) = IsUntouched old new late now_late × IsMissingInput names old name.bytes
+Ran names options old new late now_late f g v w front back (TaskFailed op task) = Rose 3 f g × (op ≡ 0) × IsRun names options old new late now_late (λ job. task < chunks_of job) (λ job entry. (entry (key_of_chunk (out_array job) task) ≡ None) × HasOutMetadata new job entry)
 Ran names options old new late now_late f g v w front back NoMemory = IsUntouched old new late now_late ⊎ IsRun names options old new late now_late (λ job. Unit {0}) Anything
 Ran names options old new late now_late f g v w front back (OverMemory node need allowed) = IsUntouched old new late now_late × (allowed ≡ options.allowed) × IsOver names options old late node need
 Ran names options old new late now_late f g v w front back (Exists key) = IsUntouched old new late now_late × IsBlocked names options old new late key
-Ran names options old new late now_late f g v w front back (NotBuilt node) = IsUntouched old new late now_late × (node ≡ 0) × ((entry : Contents) → old ≡ Some entry → HasNoInputs names entry late)
+Ran names options old new late now_late f g v w front back (NotBuilt node) = IsUntouched old new late now_late × (node ≡ 0) × ((entry : Contents) → old ≡ Some entry → AreUnlike names entry late)
 Ran names options old new late now_late f g v w front back (BadWords code) = ⊥
 Ran names options old new late now_late f g v w front back ReadFault = ⊥
 
@@ -197,6 +208,8 @@ Tells words src next t u old new late now_late run (NotBuilt node) = (node ≡ 0
 Tells words src next t u old new late now_late run Done = CameToRun words src next (λ names options. run names options Done)
 Tells words src next t u old new late now_late run (OverMemory node need allowed) = CameToRun words src next (λ names options. run names options (OverMemory node need allowed))
 Tells words src next t u old new late now_late run (Exists key) = CameToRun words src next (λ names options. run names options (Exists key))
+Tells words src next t u old new late now_late run (BadMeta name code) = CameToRun words src next (λ names options. run names options (BadMeta name code))
+Tells words src next t u old new late now_late run (NoArray name) = CameToRun words src next (λ names options. run names options (NoArray name))
 Tells words src next t u old new late now_late run (TaskFailed op task) = CameToRun words src next (λ names options. run names options (TaskFailed op task))
 Tells words src next t u old new late now_late run WriteFault = CameToRun words src next (λ names options. run names options WriteFault)
 Tells words src next t u old new late now_late run (BadChunk key got want) = CameToRun words src next (λ names options. run names options (BadChunk key got want))

@@ -1,21 +1,21 @@
 //! The metadata of the two inputs.
-ghost use Rattle.std.specs.Prelude.{◌≡◌, ◌↔◌, ℕ, ◌≤◌, List, Option, Some, IfErr, IfOk, IsTrue, length, MatchOption, true, false};
-ghost use Rattle.cu_op.specs.declared.layout.Layout.{Layout as ArrayLayout};
+ghost use Rattle.std.specs.Prelude.{◌≡◌, ℕ, ◌≤◌, List, Option, Some, IfErr, IfOk, IsTrue, length};
+ghost use Rattle.cu_meta.specs.Fault.{fault_view};
 ghost use Rattle.cu_num.specs.Dtype.{IsInteger};
-ghost use Rattle.cu_num.specs.declared.layout.Encoding.TheVariants.{Plain as DefaultEncoding};
-ghost use Rattle.cu_num.specs.declared.layout.Sep.TheVariants.{Slash};
-ghost use Rattle.cu_num.specs.declared.layout.Endian.TheVariants.{Little};
 ghost use Rattle.cu_store.specs.Held.{Contents, Write, Follows};
-ghost use Rattle.cu_top.specs.Job.{AreArrayNames, IsJob, HasInputs};
-ghost use Rattle.cu_top.specs.Inputs.{IsBuilt, IsMetadata, HoldsLayout, HoldsNoLayout, IsMetadataFault};
-ghost use Rattle.cu_top.specs.Run.{HasNames, IsInputFault, IfNotBuilt, HasNoInputs, IsCalmMetadata};
+ghost use Rattle.cu_zarr.specs.Key.{metadata_key_of};
+ghost use Rattle.cu_top.specs.Job.{AreArrayNames, IsArrayName, IsJob, HasInputs};
+ghost use Rattle.cu_top.specs.Inputs.{IsInput, AreAddable, HoldsLayout, IsMetadataFault, code_of};
+ghost use Rattle.cu_top.specs.Run.{HasNames, IsInputFault, IfNotBuilt, AreUnlike, IsCalmMetadata};
 
 use crate::Status;
+use crate::expression::Name;
 use crate::job::{Job, Names};
 use crate::keys::RETRIES;
+use arrayvec::ArrayString;
 use cu_codec::metadata_key;
-use cu_meta::{MetaRefused, read_meta, write_meta};
-use cu_num::{Dtype, Encoding, Endian, Sep};
+use cu_meta::{MetaFault, MetaRefused, read_meta};
+use cu_num::Dtype;
 use cu_op::Layout;
 use cu_shape::Dims;
 use cu_store::{Depot, DepotFault, Got, Key, NoMemory, get_tries};
@@ -24,84 +24,83 @@ use std::alloc::Global;
 /// The most bytes of an array's metadata. One more is read, to tell a longer text.
 const METADATA_BYTES: usize = 1_048_576;
 
-/// Whether an array of this layout can be added today: an integer type, keys as `c/0`, and the lower bytes first.
-fn is_added(layout: &Layout) -> bool
-    ensures yes { IsTrue result → IsInteger layout.now.dtype × (layout.now.encoding ≡ DefaultEncoding Slash) × (layout.now.endian ≡ Little) }
-    ensures no { IsBuilt layout.now → IsTrue result }
+/// The code of a reason for which metadata isn't accepted.
+fn code_of(fault: &MetaFault) -> u8
+    ensures { result ≡ code_of (fault_view fault.now) }
 {
-    let Layout {
-        dtype,
-        encoding,
-        endian,
-        ..
-    } = layout;
-    !matches!(dtype, Dtype::Bool)
-        && matches!(encoding, Encoding::Plain(Sep::Slash))
-        && matches!(endian, Endian::Little)
-}
-
-/// Whether two texts are the same.
-fn is_same(left: &[u8], right: &[u8]) -> bool
-    ensures same { result ≡ true → left.now ≡ right.now }
-    ensures differ { result ≡ false → left.now ≡ right.now → ⊥ }
-{
-    left == right
-}
-
-/// The layout that a text of metadata says, where it is one that can be added today and the text is the one that is written for it.
-fn layout_in(alloc: Global, text: &[u8]) -> Result<Option<Layout>, NoMemory>
-    ensures { IfOk result (λ found. MatchOption found ((l : ArrayLayout) → IsMetadata l text.now → ⊥) (λ l. IsMetadata l text.now)) }
-{
-    let layout = match read_meta(alloc, text) {
-        Ok(layout) => layout,
-        Err(MetaRefused::Fault(_)) => return Ok(None),
-        Err(MetaRefused::NoMemory) => return Err(NoMemory),
-    };
-    if !is_added(&layout) {
-        return Ok(None);
-    }
-    let _shape = layout.grid.shape();
-    let written = write_meta(alloc, &layout)?;
-    if is_same(&written, text) {
-        Ok(Some(layout))
-    } else {
-        Ok(None)
+    match fault {
+        MetaFault::Json => 1,
+        MetaFault::Format => 2,
+        MetaFault::Field(_) => 3,
+        MetaFault::BadDtype => 4,
+        MetaFault::BadGrid => 5,
+        MetaFault::KeyEncoding => 6,
+        MetaFault::Fill => 7,
+        MetaFault::Codec => 8,
+        MetaFault::Unknown => 9,
+        MetaFault::TooLong => 10,
+        MetaFault::Other => 11,
     }
 }
 
-/// The layout of the array whose metadata has this key. `buf` has room for the longest text.
+/// The name of an array, as an answer has it.
+fn name_of(name: &Key) -> Name
+    requires { IsArrayName name.now }
+    ensures { result.bytes ≡ name.now }
+{
+    match ArrayString::<32>::from(name.text()) {
+        Ok(name) => name,
+        Err(_) => unreachable!(),
+    }
+}
+
+/// The layout of the array with this name, by its metadata. `buf` has room for the longest text.
 fn read_layout<D: Depot>(
     alloc: Global,
     depot: &mut D,
-    key: &Key,
+    name: &Key,
     buf: &mut [u8],
 ) -> Result<Layout, Status>
+    requires name { IsArrayName name.now }
     requires room { length buf.old ≡ 1048577 }
     ensures room { length buf.new ≡ 1048577 }
-    ensures built { IfOk result IsBuilt }
-    ensures found { IfOk result (HoldsLayout (D.held depot.new) key.now) }
-    ensures missing { IfErr result (λ status. IfNotBuilt status (HoldsNoLayout (D.held depot.new) key.now)) }
+    ensures input { IfOk result IsInput }
+    ensures found { IfOk result (HoldsLayout (D.held depot.new) (metadata_key_of name.now)) }
     ensures follows { (writes : List Write) (entry : Option Contents)
         → Follows writes entry (D.held depot.old) (D.late depot.old) → Follows writes entry (D.held depot.new) (D.late depot.new) }
-    ensures cause { IfErr result (IsMetadataFault (D.faults depot.old) (D.faults depot.new) key.now) }
+    ensures cause { IfErr result (IsMetadataFault (D.faults depot.old) (D.faults depot.new) (D.held depot.new) name.now) }
     ensures count { D.faults depot.old ≤ D.faults depot.new }
     ensures lacks { D.lacks depot.new ≡ D.lacks depot.old }
 {
-    let len = match get_tries(depot, key, buf, RETRIES) {
-        Ok(Got::Absent) => return Err(Status::NotBuilt { node: 0 }),
+    let key = metadata_key(name);
+    let len = match get_tries(depot, &key, buf, RETRIES) {
+        Ok(Got::Absent) => {
+            return Err(Status::NoArray {
+                name: name_of(name),
+            });
+        }
         Ok(Got::Held(len)) => {
             if len > METADATA_BYTES as u64 {
-                return Err(Status::NotBuilt { node: 0 });
+                return Err(Status::BadMeta {
+                    name: name_of(name),
+                    code: code_of(&MetaFault::TooLong),
+                });
             }
             len as usize
         }
-        Err(DepotFault::Failed) => return Err(Status::DepotFailed { key: *key }),
+        Err(DepotFault::Failed) => return Err(Status::DepotFailed { key }),
         Err(DepotFault::NoMemory) => return Err(Status::NoMemory),
     };
-    match layout_in(alloc, &buf[..len]) {
-        Ok(Some(layout)) => Ok(layout),
-        Ok(None) => Err(Status::NotBuilt { node: 0 }),
-        Err(NoMemory) => Err(Status::NoMemory),
+    match read_meta(alloc, &buf[..len]) {
+        Ok(layout) => {
+            let _shape = layout.grid.shape();
+            Ok(layout)
+        }
+        Err(MetaRefused::Fault(fault)) => Err(Status::BadMeta {
+            name: name_of(name),
+            code: code_of(&fault),
+        }),
+        Err(MetaRefused::NoMemory) => Err(Status::NoMemory),
     }
 }
 
@@ -121,12 +120,13 @@ fn are_same(left: &Dims, right: &Dims) -> bool
     true
 }
 
-/// Whether two arrays have one type, one shape and one chunk shape.
-fn are_alike(left: &Layout, right: &Layout) -> bool
-    ensures yes { IsTrue result → (right.now.dtype ≡ left.now.dtype) × (right.now.grid ≡ left.now.grid) }
-    ensures no { (right.now.dtype ≡ left.now.dtype) × (right.now.grid ≡ left.now.grid) → IsTrue result }
+/// Whether two arrays can be added: they have one integer type, one shape and one chunk shape.
+fn are_addable(left: &Layout, right: &Layout) -> bool
+    ensures yes { IsTrue result → AreAddable left.now right.now }
+    ensures no { AreAddable left.now right.now → IsTrue result }
 {
-    right.dtype == left.dtype
+    !matches!(left.dtype, Dtype::Bool)
+        && right.dtype == left.dtype
         && are_same(left.grid.shape(), right.grid.shape())
         && are_same(left.grid.chunk(), right.grid.chunk())
 }
@@ -141,35 +141,33 @@ fn zeros(alloc: Global, len: usize) -> Result<Vec<u8>, NoMemory>
     }
 }
 
-/// Reads the metadata of both inputs, which must have one type, one shape and one chunk shape.
+/// Reads the metadata of both inputs, which must have one integer type, one shape and one chunk shape.
 pub fn read_inputs<D: Depot>(alloc: Global, depot: &mut D, names: &Names) -> Result<Job, Status>
     requires { AreArrayNames names.now }
     ensures names { IfOk result (HasNames names.now) }
     ensures job { IfOk result IsJob }
     ensures inputs { (entry : Contents) (late : List Write) → Follows late (Some entry) (D.held depot.old) (D.late depot.old)
         → IfOk result (λ job. IsCalmMetadata names.now entry late → HasInputs job entry) }
-    ensures missing { (entry : Contents) (late : List Write) → Follows late (Some entry) (D.held depot.old) (D.late depot.old)
-        → IfErr result (λ status. IfNotBuilt status (HasNoInputs names.now entry late)) }
+    ensures unlike { (entry : Contents) (late : List Write) → Follows late (Some entry) (D.held depot.old) (D.late depot.old)
+        → IfErr result (λ status. IfNotBuilt status (AreUnlike names.now entry late)) }
     ensures follows { (writes : List Write) (entry : Option Contents)
         → Follows writes entry (D.held depot.old) (D.late depot.old) → Follows writes entry (D.held depot.new) (D.late depot.new) }
-    ensures cause { IfErr result (IsInputFault names.now (D.faults depot.old) (D.faults depot.new)) }
+    ensures cause { IfErr result (IsInputFault names.now (D.faults depot.old) (D.faults depot.new) (D.held depot.new)) }
     ensures count { D.faults depot.old ≤ D.faults depot.new }
     ensures lacks { D.lacks depot.new ≡ D.lacks depot.old }
 {
     let Ok(mut buf) = zeros(alloc, METADATA_BYTES + 1) else {
         return Err(Status::NoMemory);
     };
-    let left_key = metadata_key(&names.left);
-    let left = match read_layout(alloc, depot, &left_key, &mut buf) {
+    let left = match read_layout(alloc, depot, &names.left, &mut buf) {
         Ok(layout) => layout,
         Err(status) => return Err(status),
     };
-    let right_key = metadata_key(&names.right);
-    let right = match read_layout(alloc, depot, &right_key, &mut buf) {
+    let right = match read_layout(alloc, depot, &names.right, &mut buf) {
         Ok(layout) => layout,
         Err(status) => return Err(status),
     };
-    if !are_alike(&left, &right) {
+    if !are_addable(&left, &right) {
         return Err(Status::NotBuilt { node: 0 });
     }
     Ok(Job {

@@ -3,9 +3,10 @@ ghost use Rattle.std.specs.Prelude.{◌≡◌, ℕ, ◌+◌, ◌*◌, ◌≤◌,
 ghost use Rattle.cu_op.specs.Projection.{projection};
 ghost use Rattle.cu_store.specs.Held.{Contents, Write, IsAmong, Follows};
 ghost use Rattle.cu_task.specs.Task.{op_of};
-ghost use Rattle.cu_top.specs.Job.{IsJob, IsStarted, out_metadata};
+ghost use Rattle.cu_top.specs.Job.{IsJob, IsStarted, chunks_of, out_metadata};
 ghost use Rattle.cu_top.specs.Plan.{plan_of};
-ghost use Rattle.cu_top.specs.Run.{Completes, IsStoreFault, IfDepotFailed, metadata_write};
+ghost use Rattle.cu_top.specs.Run.{Completes, IsStoreFault, IfDepotFailed, IfTaskEnded, metadata_write};
+ghost use Rattle.cu_top.specs.Top.{HasOutMetadata};
 ghost use Rattle.cu_top.specs.Tasks.{CountsFailed};
 ghost use Rattle.cu_top.specs.declared.words.Options.{Options as Numbers};
 
@@ -38,9 +39,11 @@ pub fn store_output<D: Depot>(
         → IsStarted job.now entry late (D.held depot.old) (D.late depot.old) → OnOk result (Completes job.now entry (D.held depot.new)) }
     ensures metadata_alone { (writes : List Write) (entry : Option Contents) → IsAmong writes (metadata_write job.now).0 (metadata_write job.now).1
         → Follows writes entry (D.held depot.old) (D.late depot.old) → IfErr result (λ status. IfDepotFailed status (Follows writes entry (D.held depot.new) (D.late depot.new))) }
+    ensures metadata_held { (entry : Contents) (late : List Write)
+        → IsStarted job.now entry late (D.held depot.old) (D.late depot.old) → IfErr result (λ status. IfTaskEnded status (HasOutMetadata (D.held depot.new) job.now entry)) }
     ensures cause { IfErr result (IsStoreFault job.now (D.faults depot.old) (D.faults depot.new) (D.held depot.new)) }
     ensures failed { CountsFailed (D.faults depot.old) (D.faults depot.new) result }
-    ensures few { IfOk result (λ failed. failed ≤ 131072) }
+    ensures few { IfOk result (λ failed. failed ≤ 2 * chunks_of job.now) }
     ensures count { D.faults depot.old ≤ D.faults depot.new }
     ensures lacks { D.lacks depot.new ≡ D.lacks depot.old }
 {

@@ -3,8 +3,8 @@ ghost use Rattle.std.specs.Prelude.{◌≡◌, ℕ, ◌^◌, ◌≤◌, List, Op
 ghost use Rattle.cu_store.specs.Held.{Contents, Write, IsAmong, Follows};
 ghost use Rattle.cu_top.specs.Job.{IsJob, AreArrayNames, IsFree, IsStarted};
 ghost use Rattle.cu_top.specs.Plan.{over_memory};
-ghost use Rattle.cu_top.specs.Run.{Completes, IsApart, IfDepotFailed, metadata_write};
-ghost use Rattle.cu_top.specs.Top.{IsAccepted, Refuses, Carries, IfStored, PrintsOnly, Ran};
+ghost use Rattle.cu_top.specs.Run.{Completes, IsApart, IfDepotFailed, IfTaskEnded, metadata_write};
+ghost use Rattle.cu_top.specs.Top.{HasOutMetadata, IsAccepted, Refuses, Carries, IfStored, PrintsOnly, Ran};
 
 use crate::Status;
 use crate::ask::ask_keys;
@@ -68,6 +68,8 @@ pub fn carry_out<W: Sink, D: Depot>(
         → IsStarted job.now entry late (D.held depot.old) (D.late depot.old) → IfStored result (Completes job.now entry (D.held depot.new)) }
     ensures metadata_alone { (writes : List Write) (entry : Option Contents) → IsAmong writes (metadata_write job.now).0 (metadata_write job.now).1
         → Follows writes entry (D.held depot.old) (D.late depot.old) → IfDepotFailed result (Follows writes entry (D.held depot.new) (D.late depot.new)) }
+    ensures metadata_held { (entry : Contents) (late : List Write)
+        → IsStarted job.now entry late (D.held depot.old) (D.late depot.old) → IfTaskEnded result (HasOutMetadata (D.held depot.new) job.now entry) }
 {
     let Ok(plan) = make_plan(alloc, options, job) else {
         return Status::NoMemory;

@@ -2,6 +2,7 @@
 ghost use Rattle.std.specs.Prelude.{◌≡◌, ◌+◌, ◌≤◌, ◌++◌, length, codes, decimal};
 ghost use Rattle.cu_top.specs.Status.{number_of, line_of};
 
+use crate::expression::Name;
 use arrayvec::ArrayString;
 use cu_store::Key;
 
@@ -14,9 +15,13 @@ pub enum Status {
     BadWords { code: u8 },
     /// 5: this node needs `need` bytes, and `allowed` are allowed.
     OverMemory { node: u32, need: u64, allowed: u64 },
+    /// 7: the metadata of this array isn't accepted, for the reason with this code (1 to 10, in the order of `MetaFault`).
+    BadMeta { name: Name, code: u8 },
+    /// 8: no array of this name is stored: its metadata is absent.
+    NoArray { name: Name },
     /// 9: this key is held already.
     Exists { key: Key },
-    /// 10: all tries of this task of this operation failed.
+    /// 10: the tries of this task of this operation are used up.
     TaskFailed { op: u32, task: u32 },
     /// 11: a read of the source failed.
     ReadFault,
@@ -43,6 +48,8 @@ pub fn number(status: &Status) -> u8
         Status::Done => 0,
         Status::BadWords { .. } => 2,
         Status::OverMemory { .. } => 5,
+        Status::BadMeta { .. } => 7,
+        Status::NoArray { .. } => 8,
         Status::Exists { .. } => 9,
         Status::TaskFailed { .. } => 10,
         Status::ReadFault => 11,
@@ -71,6 +78,11 @@ pub fn status_line(status: &Status) -> LineText
             push_field(&mut line, " need=", *need);
             push_field(&mut line, " allowed=", *allowed);
         }
+        Status::BadMeta { name, code } => {
+            push_name(&mut line, "error 7 name=", name);
+            push_field(&mut line, " code=", *code as u64);
+        }
+        Status::NoArray { name } => push_name(&mut line, "error 8 name=", name),
         Status::Exists { key } => push_key(&mut line, "error 9 key=", key),
         Status::TaskFailed { op, task } => {
             push_field(&mut line, "error 10 op=", *op as u64);
@@ -98,6 +110,16 @@ fn push_key(line: &mut LineText, label: &str, key: &Key)
 {
     line.push_str(label);
     line.push_str(key.text());
+}
+
+/// Appends a label and a name.
+fn push_name(line: &mut LineText, label: &str, name: &Name)
+    requires { length line.old.bytes + length label.now + 32 ≤ 256 }
+    ensures bytes { line.new.bytes ≡ line.old.bytes ++ label.now ++ name.now.bytes }
+    ensures len { length line.new.bytes ≤ length line.old.bytes + length label.now + 32 }
+{
+    line.push_str(label);
+    line.push_str(name.as_str());
 }
 
 /// Appends a label and a number.

@@ -6,6 +6,7 @@ ghost use Rattle.cu_store.specs.Held.{Contents, Write};
 ghost use Rattle.cu_task.specs.Task.{op_of};
 ghost use Rattle.cu_top.specs.Job.{IsJob, IsStarted, StoresChunk, StoresChunks, ValuesStay, chunks_of};
 ghost use Rattle.cu_top.specs.Plan.{plan_of};
+ghost use Rattle.cu_top.specs.Run.{IfTaskFailed};
 ghost use Rattle.cu_top.specs.Tasks.{IsPlanned, IsTryFault, IsTaskEnd, CountsFailed, end_of};
 ghost use Rattle.cu_top.specs.declared.job.Job.{Job as Addition};
 ghost use Rattle.cu_top.specs.declared.words.Options.{Options as Numbers};
@@ -79,6 +80,7 @@ fn finish_task<D: Depot>(
         → IfErr result (IsTaskEnd job (D.faults depot.old) (D.faults depot.new) (D.lacks depot.new) (D.held depot.new)) }
     ensures failed { CountsFailed (D.faults depot.old) (D.faults depot.new) result }
     ensures few { IfOk result (λ failed. failed ≤ 2) }
+    ensures named { IfErr result (λ status. IfTaskFailed status (λ op named. named ≡ task)) }
     ensures count { D.faults depot.old ≤ D.faults depot.new }
     ensures lacks { D.lacks depot.new ≡ D.lacks depot.old }
 {
@@ -114,7 +116,7 @@ pub fn run_tasks<D: Depot>(
     ensures cause { (options : Numbers) (job : Addition) → plan.now ≡ plan_of options job → IsJob job
         → IfErr result (IsTaskEnd job (D.faults depot.old) (D.faults depot.new) (D.lacks depot.new) (D.held depot.new)) }
     ensures failed { CountsFailed (D.faults depot.old) (D.faults depot.new) result }
-    ensures few { IfOk result (λ failed. failed ≤ 131072) }
+    ensures few { IfOk result (λ failed. failed ≤ 2 * tasks_of plan.now.arrays (op_of plan.now 0)) }
     ensures count { D.faults depot.old ≤ D.faults depot.new }
     ensures lacks { D.lacks depot.new ≡ D.lacks depot.old }
 {

@@ -1,9 +1,9 @@
-use Rattle.cu_top.proofs.TopLemmas.{carries_report, prints_report, alone_report, if_stored, carries_fault, prints_fault, stored_fault}
+use Rattle.cu_top.proofs.TopLemmas.{carries_report, prints_report, alone_report, ended_report, if_stored, carries_fault, prints_fault, stored_fault}
 use Rattle.cu_top.proofs.run.carry_out.Goals as goal
 
 pub returns-in-Ok-store_output-clause-answer : goal.returns-in-Ok-store_output-clause-answer
 returns-in-Ok-store_output-clause-answer g c =
-    carries_report c.args.job.now c.args.options _ _ _ _ _ _ _ c.in-Ok-store_output.failed c.report.result c.in-Ok-store_output.ensures.failed c.report.ensures.answer
+    carries_report c.args.job.now c.args.options _ _ _ _ _ _ _ c.in-Ok-store_output.failed c.report.result c.in-Ok-store_output.ensures.failed c.in-Ok-store_output.ensures.few c.report.ensures.answer
 
 pub returns-in-Ok-store_output-clause-prints : goal.returns-in-Ok-store_output-clause-prints
 returns-in-Ok-store_output-clause-prints g c =
@@ -25,3 +25,7 @@ returns-clause-prints g c = prints_fault c.args.job.now c.args.options _ _ 0 0 _
 
 pub returns-clause-stored : goal.returns-clause-stored
 returns-clause-stored g c entry late s = stored_fault c.args.job.now c.args.options _ _ 0 0 _ (g.W.Sink.written c.args.out.now) c.in-Err.status _ c.in-Err.ensures.cause
+
+pub returns-in-Ok-store_output-clause-metadata_held : goal.returns-in-Ok-store_output-clause-metadata_held
+returns-in-Ok-store_output-clause-metadata_held g c entry late s =
+    ended_report c.args.job.now c.args.options _ _ _ _ c.in-Ok-store_output.failed c.report.result _ c.report.ensures.answer

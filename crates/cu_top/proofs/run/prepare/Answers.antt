@@ -1,13 +1,13 @@
 use Rattle.std.proofs.Common.{◌≡◌, Some, None, refl, rules}
-use Rattle.cu_top.proofs.TopLemmas.{follows_start, input_refused, memory_refused, ask_refused}
+use Rattle.cu_top.proofs.TopLemmas.{follows_start, untouched_start, input_refused, memory_refused, ask_refused}
 use Rattle.cu_top.specs.Plan.{over_memory}
 use Rattle.cu_top.specs.Top.{IsAccepted}
 use Rattle.cu_top.proofs.run.prepare.Goals as goal
 
 pub returns-in-Err-clause-refused : goal.returns-in-Err-clause-refused
 returns-in-Err-clause-refused g c =
-    input_refused c.args.names.now c.args.options _ _ _ _ _ c.in-Err.status c.in-Err.ensures.cause
-    (λ entry told. c.in-Err.ensures.missing entry _ (follows_start _ entry _ told))
+    input_refused c.args.names.now c.args.options _ _ _ _ _ c.in-Err.status c.in-Err.ensures.cause (c.read_inputs.ensures.follows _ _ (untouched_start _ _)).0
+    (λ entry told. c.in-Err.ensures.unlike entry _ (follows_start _ entry _ told))
 
 pub returns-in-Err-check_memory-clause-refused : goal.returns-in-Err-check_memory-clause-refused
 returns-in-Err-check_memory-clause-refused g c =

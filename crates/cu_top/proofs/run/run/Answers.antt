@@ -26,3 +26,10 @@ returns-in-Ok-clause-answer g c =
     }))
     (λ entry same. c.carry_out.ensures.metadata_alone (metadata_write c.in-Ok.job ∷ _) (Some entry) (inl (refl, refl))
     (metadata_first c.in-Ok.job entry _ _ _ (c.prepare.ensures.follows _ (Some entry) (follows_start _ entry _ same))))
+    (λ entry same calm. c.carry_out.ensures.metadata_held entry _ (record {
+      is_job = c.in-Ok.ensures.job;
+      quiet = calm.jobs c.in-Ok.job c.in-Ok.ensures.accepted.has_names (c.in-Ok.ensures.accepted.inputs entry same calm.metadata);
+      inputs = c.in-Ok.ensures.accepted.inputs entry same calm.metadata;
+      free = c.in-Ok.ensures.free entry same;
+      follows = more_writes c.in-Ok.job entry _ _ _ (c.prepare.ensures.follows _ (Some entry) (follows_start _ entry _ same));
+    }))

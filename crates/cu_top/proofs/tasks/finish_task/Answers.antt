@@ -1,5 +1,5 @@
 use Rattle.std.proofs.Common.{◌∙◌, arith, sym}
-use Rattle.cu_top.proofs.TaskLemmas.{rose_then, ends_so, tried_again}
+use Rattle.cu_top.proofs.TaskLemmas.{rose_then, ends_so, tried_again, names_none}
 use Rattle.cu_top.proofs.tasks.finish_task.Goals as goal
 
 pub returns-in-Ok-clause-started : goal.returns-in-Ok-clause-started
@@ -40,3 +40,6 @@ loop-failed-preserved g c = let (options, job, ok, same) = c.requires.plan in re
   count = omega (arith, c.try_task.ensures.count);
   lacks = c.try_task.ensures.lacks ∙ c.loop-failed.invariant.lacks;
 }
+
+pub returns-in-Some-clause-named : goal.returns-in-Some-clause-named
+returns-in-Some-clause-named g c = names_none c.in-Err.fault c.in-Some.status _ (sym c.end_of.ensures ∙ c.in-Some.is)
