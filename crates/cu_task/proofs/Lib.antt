@@ -3,3 +3,4 @@ pub mod Additions
 pub mod ChunkRegions
 pub mod Tasks
 pub mod Readiness
+pub mod TaskCalls

@@ -1,5 +1,5 @@
 //! Sums of stored arrays, a region at a time.
-ghost use Rattle.std.specs.Prelude.{◌≡◌, ℕ, ◌*◌, ◌<◌, ◌≤◌, List, Option, Some, All, length, IfErr, OnOk};
+ghost use Rattle.std.specs.Prelude.{◌≡◌, ℕ, ◌+◌, ◌*◌, ◌<◌, ◌≤◌, List, Option, Some, All, length, IfErr, OnOk};
 ghost use Rattle.cu_num.specs.Dtype.{size_of};
 ghost use Rattle.cu_shape.specs.Index.{product};
 ghost use Rattle.cu_grid.specs.Counts.{IsRegion};
@@ -7,6 +7,7 @@ ghost use Rattle.cu_grid.specs.Cover.{Meets};
 ghost use Rattle.cu_store.specs.Held.{Contents, Write, IsAmong, Lands, StayAmong, Follows};
 ghost use Rattle.cu_codec.specs.Parts.{differences};
 ghost use Rattle.cu_op.specs.Layout.{IsArray};
+ghost use Rattle.cu_region.specs.Calls.{chunks_met, Made};
 ghost use Rattle.cu_region.specs.Reading.{bytes_of, IsReadFault};
 ghost use Rattle.cu_region.specs.Writing.{HasWholeChunks};
 ghost use Rattle.cu_task.specs.Addition.{Values, IsReady, IsInputKey, StoresValues, HasChunks, IsMadeOrLate, IsLike};
@@ -17,7 +18,8 @@ use cu_op::ArrayInfo;
 use cu_region::{read_region, write_region};
 use cu_store::{Depot, TaskFault};
 
-/// Adds a region of two stored arrays, and writes the chunks of the result, which lie whole in the region.
+/// Adds a region of two stored arrays, and writes the chunks of the result, which lie whole in the region. It makes at
+/// most one call of the depot for each chunk of the three arrays that shares an element with the region.
 pub(crate) fn add_region<D: Depot>(
     depot: &mut D,
     left: &ArrayInfo,
@@ -53,6 +55,8 @@ pub(crate) fn add_region<D: Depot>(
     ensures cause { IfErr result (IsReadFault (D.faults depot.old) (D.faults depot.new) (D.lacks depot.new) (D.held depot.new)
         (IsInputKey left.now right.now region.now.lo region.now.hi) (bytes_of made.now.layout)) }
     ensures count { D.faults depot.old ≤ D.faults depot.new }
+    ensures calls { D.calls depot.new ≤ D.calls depot.old + 3 * chunks_met made.now.layout.grid region.now.lo region.now.hi }
+    ensures calls_all { OnOk result (Made (3 * chunks_met made.now.layout.grid region.now.lo region.now.hi) (D.calls depot.old) (D.calls depot.new)) }
     ensures lacks { D.lacks depot.new ≡ D.lacks depot.old }
 {
     read_region(depot, left, region, first, scratch)?;

@@ -13,6 +13,7 @@ ghost use Rattle.cu_op.specs.Projection.{projection, instruction_count};
 ghost use Rattle.cu_op.specs.Arrays.{type_at};
 ghost use Rattle.cu_op.specs.Sound.{Sound};
 ghost use Rattle.cu_op.specs.Value.{Elements};
+ghost use Rattle.cu_region.specs.Calls.{chunks_met, Made};
 ghost use Rattle.cu_region.specs.Reading.{bytes_of, IsReadFault};
 ghost use Rattle.cu_region.specs.Writing.{HasWholeChunks};
 ghost use Rattle.cu_task.specs.Addition.{Values, IsReady, IsInputKey, StoresValues, HasChunks, IsMadeOrLate, IsLike};
@@ -33,7 +34,8 @@ use cu_store::{Depot, TaskFault};
 ///
 /// Where the inputs are in place, no late put changes one, and each on a chunk that the task writes carries that chunk's value:
 /// after `Ok` each chunk that it writes holds its value, and after a fault what it held or its value. At any end each other key
-/// holds what it held or what a late put left.
+/// holds what it held or what a late put left. It makes at most three calls of the depot, one for each chunk that it reads or
+/// stores, and after `Ok` exactly three, as far as the count of calls goes.
 ///
 /// `Store`: a call of the depot failed. `BadChunk`: a chunk that the task reads is held with another number of bytes than a
 /// chunk has. `NoMemory`: the depot lacked memory.
@@ -63,6 +65,8 @@ pub fn run_task<D: Depot>(
     ensures cause { IfErr result (IsTaskFault (D.faults depot.old) (D.faults depot.new) (D.lacks depot.new) (D.held depot.new)
         plan.now.arrays (op_of plan.now op) task) }
     ensures count { D.faults depot.old ≤ D.faults depot.new }
+    ensures calls { D.calls depot.new ≤ D.calls depot.old + 3 }
+    ensures calls_all { OnOk result (Made 3 (D.calls depot.old) (D.calls depot.new)) }
     ensures lacks { D.lacks depot.new ≡ D.lacks depot.old }
 {
     let _kernel = words;
@@ -102,6 +106,8 @@ fn run_addition<D: Depot>(
     ensures cause { IfErr result (IsTaskFault (D.faults depot.old) (D.faults depot.new) (D.lacks depot.new) (D.held depot.new)
         plan.now.arrays (op_of plan.now op) task) }
     ensures count { D.faults depot.old ≤ D.faults depot.new }
+    ensures calls { D.calls depot.new ≤ D.calls depot.old + 3 }
+    ensures calls_all { OnOk result (Made 3 (D.calls depot.old) (D.calls depot.new)) }
     ensures lacks { D.lacks depot.new ≡ D.lacks depot.old }
 {
     let made = plan.array(out);
@@ -158,6 +164,8 @@ fn add_in_room<D: Depot>(
     ensures cause { IfErr result (IsReadFault (D.faults depot.old) (D.faults depot.new) (D.lacks depot.new) (D.held depot.new)
         (IsInputKey left.now right.now region.now.lo region.now.hi) (bytes_of made.now.layout)) }
     ensures count { D.faults depot.old ≤ D.faults depot.new }
+    ensures calls { D.calls depot.new ≤ D.calls depot.old + 3 * chunks_met made.now.layout.grid region.now.lo region.now.hi }
+    ensures calls_all { OnOk result (Made (3 * chunks_met made.now.layout.grid region.now.lo region.now.hi) (D.calls depot.old) (D.calls depot.new)) }
     ensures lacks { D.lacks depot.new ≡ D.lacks depot.old }
 {
     let (scratch, rest) = bytes.split_at_mut(rooms.scratch);

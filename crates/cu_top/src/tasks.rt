@@ -38,6 +38,7 @@ fn try_task<D: Depot>(
     ensures cause { (options : Numbers) (job : Addition) → plan.now ≡ plan_of options job → IsJob job
         → IfErr result (IsTryFault job (D.faults depot.old) (D.faults depot.new) (D.lacks depot.new) (D.held depot.new)) }
     ensures count { D.faults depot.old ≤ D.faults depot.new }
+    ensures calls { D.calls depot.new ≤ D.calls depot.old + 3 }
     ensures lacks { D.lacks depot.new ≡ D.lacks depot.old }
 {
     run_task(depot, plan, 0, task, bytes, words)
@@ -81,6 +82,8 @@ fn finish_task<D: Depot>(
     ensures failed { CountsFailed (D.faults depot.old) (D.faults depot.new) result }
     ensures few { IfOk result (λ failed. failed ≤ 2) }
     ensures named { IfErr result (λ status. IfTaskFailed status (λ op named. named ≡ task)) }
+    ensures calls { D.calls depot.new ≤ D.calls depot.old + 9 }
+    ensures tries { IfOk result (λ failed. D.calls depot.new ≤ D.calls depot.old + 3 * (failed + 1)) }
     ensures count { D.faults depot.old ≤ D.faults depot.new }
     ensures lacks { D.lacks depot.new ≡ D.lacks depot.old }
 {

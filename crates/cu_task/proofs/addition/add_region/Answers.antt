@@ -1,15 +1,17 @@
-use Rattle.std.proofs.Common.{◌≡◌, ℕ, List, Option, Some, sym, ◌∙◌, subst, inl, inr}
+use Rattle.std.proofs.Common.{◌≡◌, ℕ, List, Option, Some, sym, ap, ◌∙◌, subst, inl, inr}
 use Rattle.cu_grid.specs.Counts.{IsRegion, IsWithin}
 use Rattle.cu_grid.specs.Cover.{Meets}
 use Rattle.cu_grid.specs.Grid.{RegularGrid}
 use Rattle.cu_store.specs.Held.{Contents, IsAmong, Lands, StayAmong}
 use Rattle.cu_store.proofs.Writes.{lands_then, lands_more}
+use Rattle.cu_region.specs.Calls.{chunks_met}
 use Rattle.cu_region.specs.Reading.{IsChunkKey, ReadsRegion}
 use Rattle.cu_region.specs.Steady.{IsSteady, HoldSame}
 use Rattle.cu_region.specs.Writing.{buffer_element, chunk_value}
 use Rattle.cu_region.proofs.SteadyKeys.{hold_same, steady_then}
 use Rattle.cu_task.specs.Addition.{Values, IsReady, IsInputKey, bytes_for}
 use Rattle.cu_task.proofs.Additions.{reads_before, same_fewer, steady_fewer, sum_values, bytes_same, late_own, stores_values, has_values, made_or_late, on_ok_more}
+use Rattle.cu_task.proofs.TaskCalls.{after_one, after_two, after_three, all_three}
 use Rattle.cu_task.proofs.addition.add_region.Given
 use Rattle.cu_task.proofs.addition.add_region.Goals as goal
 
@@ -86,3 +88,34 @@ pub returns-clause-late : goal.returns-clause-late
 returns-clause-late g c key bytes among =
     made_or_late c.args.made.now c.args.region.now.lo c.args.region.now.hi c.add_regions.new.out (g.D.Depot.late c.args.depot.now) (g.D.Depot.late c.read_region-2.new.depot) (stay g c)
     key bytes (c.write_region.ensures.late key bytes among)
+
+pub returns-in_err-read_region-clause-calls : goal.returns-in_err-read_region-clause-calls
+returns-in_err-read_region-clause-calls g c =
+    after_one (chunks_met c.args.left.now.layout.grid c.args.region.now.lo c.args.region.now.hi) (chunks_met c.args.made.now.layout.grid c.args.region.now.lo c.args.region.now.hi)
+    (g.D.Depot.calls c.args.depot.now) (g.D.Depot.calls c.read_region.new.depot) (ap (λ (x : RegularGrid). chunks_met x c.args.region.now.lo c.args.region.now.hi) c.requires.left_like.grid) c.read_region.ensures.calls
+
+pub returns-in_err-read_region-2-clause-calls : goal.returns-in_err-read_region-2-clause-calls
+returns-in_err-read_region-2-clause-calls g c =
+    after_two (chunks_met c.args.left.now.layout.grid c.args.region.now.lo c.args.region.now.hi) (chunks_met c.args.right.now.layout.grid c.args.region.now.lo c.args.region.now.hi) (chunks_met c.args.made.now.layout.grid c.args.region.now.lo c.args.region.now.hi)
+    (g.D.Depot.calls c.args.depot.now) (g.D.Depot.calls c.read_region.new.depot) (g.D.Depot.calls c.read_region-2.new.depot)
+    (ap (λ (x : RegularGrid). chunks_met x c.args.region.now.lo c.args.region.now.hi) c.requires.left_like.grid)
+    (ap (λ (x : RegularGrid). chunks_met x c.args.region.now.lo c.args.region.now.hi) c.requires.right_like.grid)
+    c.read_region.ensures.calls c.read_region-2.ensures.calls
+
+pub returns-clause-calls : goal.returns-clause-calls
+returns-clause-calls g c =
+    after_three (chunks_met c.args.left.now.layout.grid c.args.region.now.lo c.args.region.now.hi) (chunks_met c.args.right.now.layout.grid c.args.region.now.lo c.args.region.now.hi) (chunks_met c.args.made.now.layout.grid c.args.region.now.lo c.args.region.now.hi)
+    (g.D.Depot.calls c.args.depot.now) (g.D.Depot.calls c.read_region.new.depot) (g.D.Depot.calls c.read_region-2.new.depot) (g.D.Depot.calls c.write_region.new.depot)
+    (ap (λ (x : RegularGrid). chunks_met x c.args.region.now.lo c.args.region.now.hi) c.requires.left_like.grid)
+    (ap (λ (x : RegularGrid). chunks_met x c.args.region.now.lo c.args.region.now.hi) c.requires.right_like.grid)
+    c.read_region.ensures.calls c.read_region-2.ensures.calls c.write_region.ensures.calls
+
+pub returns-clause-calls_all : goal.returns-clause-calls_all
+returns-clause-calls_all g c =
+    on_ok_more c.write_region.result
+    (all_three (chunks_met c.args.left.now.layout.grid c.args.region.now.lo c.args.region.now.hi) (chunks_met c.args.right.now.layout.grid c.args.region.now.lo c.args.region.now.hi) (chunks_met c.args.made.now.layout.grid c.args.region.now.lo c.args.region.now.hi)
+    (g.D.Depot.calls c.args.depot.now) (g.D.Depot.calls c.read_region.new.depot) (g.D.Depot.calls c.read_region-2.new.depot) (g.D.Depot.calls c.write_region.new.depot)
+    (ap (λ (x : RegularGrid). chunks_met x c.args.region.now.lo c.args.region.now.hi) c.requires.left_like.grid)
+    (ap (λ (x : RegularGrid). chunks_met x c.args.region.now.lo c.args.region.now.hi) c.requires.right_like.grid)
+    c.in_ok-read_region.ensures.calls_all c.in_ok-read_region-2.ensures.calls_all)
+    c.write_region.ensures.calls_all

@@ -1,10 +1,14 @@
 use Rattle.std.proofs.Common.{◌≡◌, refl, arith}
 use Rattle.cu_store.proofs.Writes.{lands_more}
-use Rattle.cu_op.specs.Arrays.{type_at}
+use Rattle.cu_op.specs.Arrays.{grid_at, type_at}
+use Rattle.cu_op.specs.Cells.{task_coord}
 use Rattle.cu_op.specs.Value.{plan_value}
+use Rattle.cu_region.specs.Calls.{chunks_met}
+use Rattle.cu_task.specs.Task.{op_of}
 use Rattle.cu_task.proofs.Additions.{on_ok_more}
 use Rattle.cu_task.proofs.Readiness.{ready_after}
-use Rattle.cu_task.proofs.Tasks.{task_lo, task_hi, region_is, first_array, second_array, out_array, task_whole, task_small, scratch_enough, task_ready, holds_cells, has_chunks, output_or_late, task_fault, if_err_more}
+use Rattle.cu_task.proofs.TaskCalls.{meets_one_chunk, at_most_three, made_three}
+use Rattle.cu_task.proofs.Tasks.{task_lo, task_hi, region_is, out_grid, coordinate, first_array, second_array, out_array, task_whole, task_small, scratch_enough, task_ready, holds_cells, has_chunks, output_or_late, task_fault, if_err_more}
 use Rattle.cu_task.proofs.run.run_addition.Given
 use Rattle.cu_task.proofs.run.run_addition.Goals as goal
 
@@ -96,3 +100,23 @@ returns-clause-ready g c env held now e en ready apart =
     ready_after c.args.plan.now c.args.op c.args.task c.requires.sound c.requires.operation c.requires.task env held now
     (g.D.Depot.late c.args.depot.now) (g.D.Depot.late c.add_in_room.new.depot) ready apart kept (returns-clause-late g c)
     (λ writes entry has before. follows writes entry refl ready has before)
+
+module _ (g : Given.Over) (c : goal.After-slice_known-2-1 g) where
+  one_chunk : chunks_met (grid_at c.args.plan.now.arrays c.args.out) (task_lo c.args.plan.now c.args.op c.args.task c.args.out) (task_hi c.args.plan.now c.args.op c.args.task c.args.out) ≡ 1
+  one_chunk = meets_one_chunk (grid_at c.args.plan.now.arrays c.args.out) (task_coord c.args.plan.now.arrays (op_of c.args.plan.now c.args.op) c.args.task)
+      (out_grid c.args.plan.now c.args.op c.args.task c.args.first c.args.second c.args.out c.requires.sound c.requires.operation c.requires.task c.requires.adds)
+      (coordinate c.args.plan.now c.args.op c.args.task c.args.first c.args.second c.args.out c.requires.sound c.requires.operation c.requires.task c.requires.adds)
+
+pub returns-clause-calls : goal.returns-clause-calls
+returns-clause-calls g c =
+    let calls = rw (c.array-made.ensures.array, (part_after g c).0, (part_after g c).1) at c.add_in_room.ensures.calls in
+    at_most_three (chunks_met (grid_at c.args.plan.now.arrays c.args.out) (task_lo c.args.plan.now c.args.op c.args.task c.args.out) (task_hi c.args.plan.now c.args.op c.args.task c.args.out))
+    (g.D.Depot.calls c.args.depot.now) (g.D.Depot.calls c.add_in_room.new.depot) (one_chunk g c) calls
+
+pub returns-clause-calls_all : goal.returns-clause-calls_all
+returns-clause-calls_all g c =
+    let all = rw (c.array-made.ensures.array, (part_after g c).0, (part_after g c).1) at c.add_in_room.ensures.calls_all in
+    on_ok_more c.add_in_room.result
+    (made_three (chunks_met (grid_at c.args.plan.now.arrays c.args.out) (task_lo c.args.plan.now c.args.op c.args.task c.args.out) (task_hi c.args.plan.now c.args.op c.args.task c.args.out))
+    (g.D.Depot.calls c.args.depot.now) (g.D.Depot.calls c.add_in_room.new.depot) (one_chunk g c))
+    all

@@ -38,6 +38,7 @@ loop-failed-preserved g c = let (options, job, ok, same) = c.requires.plan in re
   rose = rose_then c.loop-failed.failed 1 _ _ _ c.loop-failed.invariant.rose
       (tried_again job _ _ _ _ c.in-Err.fault (λ status e. c.in_default.not-Some status (c.end_of.ensures ∙ e)) (c.in-Err.ensures.cause options job same ok));
   count = omega (arith, c.try_task.ensures.count);
+  calls = omega (arith, c.try_task.ensures.calls, c.loop-failed.invariant.calls);
   lacks = c.try_task.ensures.lacks ∙ c.loop-failed.invariant.lacks;
 }
 

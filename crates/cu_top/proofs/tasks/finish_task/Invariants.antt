@@ -1,5 +1,5 @@
 -- Each try so far failed, and raised the count; the run is started still, and no value was lost.
-use Rattle.std.proofs.Common.{◌≡◌, ◌≤◌, List}
+use Rattle.std.proofs.Common.{◌≡◌, ◌+◌, ◌*◌, ◌≤◌, List}
 use Rattle.cu_store.specs.Faults.{Rose}
 use Rattle.cu_store.specs.Held.{Contents, Write}
 use Rattle.cu_top.specs.Job.{IsStarted, ValuesStay}
@@ -18,5 +18,6 @@ invariant-loop-failed g l = record {
       → ValuesStay job entry (g.D.Depot.held l.initial.depot) (g.D.Depot.held l.depot);
   rose : Rose l.failed (g.D.Depot.faults l.initial.depot) (g.D.Depot.faults l.depot);
   count : g.D.Depot.faults l.initial.depot ≤ g.D.Depot.faults l.depot;
+  calls : g.D.Depot.calls l.depot ≤ g.D.Depot.calls l.initial.depot + 3 * l.failed;
   lacks : g.D.Depot.lacks l.depot ≡ g.D.Depot.lacks l.initial.depot;
 }
