@@ -1,5 +1,6 @@
 #!/usr/bin/env python3
-"""Adds two int32 arrays of 2^24 elements in chunks of 2^18, with the program and with NumPy, over the same chunk files.
+"""Adds two int32 arrays of 2^24 elements in chunks of 2^18, with the program and with NumPy, over the same chunk files;
+and two of 2^22 elements in 16,384 chunks of 1 KiB with the program alone, for the cost of a task beside its bytes.
 
   add.py [--program FILE] [--dir FOLDER].. [--runs N]
 
@@ -20,6 +21,7 @@ import time
 
 ELEMENTS, CHUNK = 1 << 24, 1 << 18
 CHUNKS, CHUNK_BYTES = ELEMENTS // CHUNK, 4 * CHUNK
+SMALL_TASKS, SMALL = 1 << 14, 1 << 8
 HERE = os.path.dirname(os.path.abspath(__file__))
 GNU_TIME = "/usr/bin/time"
 OUTPUTS = {"cubed": "y", "numpy": "z"}
@@ -155,12 +157,36 @@ def measure_sync(folder, rounds):
     print(f"  {CHUNKS} chunks written alone: {least[True]:.3f} s with the sync, {least[False]:.3f} s without")
 
 
+def measure_small(program, parent, rounds):
+    """What a small task costs: its time in the program and in the system."""
+    with tempfile.TemporaryDirectory(dir=parent, prefix="cubed-bench-") as folder:
+        for name, number in (("a", 1), ("b", 10)):
+            os.makedirs(os.path.join(folder, name, "c"))
+            with open(os.path.join(folder, name, "zarr.json"), "w") as file:
+                file.write(METADATA.replace(str(ELEMENTS), str(SMALL_TASKS * SMALL)).replace(str(CHUNK), str(SMALL)))
+            for chunk in range(SMALL_TASKS):
+                with open(os.path.join(folder, name, "c", str(chunk)), "wb") as file:
+                    file.write(array.array("I", [number] * SMALL).tobytes())
+        runs = []
+        for _ in range(rounds):
+            shutil.rmtree(os.path.join(folder, "y"), ignore_errors=True)
+            os.sync()
+            runs.append(timed([program, folder, "run"], EXPRESSION))
+        taken, said, told = min(runs)
+        print(f"  {SMALL_TASKS} tasks of {4 * SMALL} bytes: {taken:.3f} s, {1e6 * taken / SMALL_TASKS:.1f} us a task", end="")
+        if told:
+            user, system = (1e6 * float(part) / SMALL_TASKS for part in told[:2])
+            print(f" (processor: {user:.1f} us in the program, {system:.1f} us in the system)", end="")
+        print(f": {said}")
+
+
 def measure_in(parent, program, rounds):
     with tempfile.TemporaryDirectory(dir=parent, prefix="cubed-bench-") as folder:
         make_inputs(folder)
         print(f"in {os.path.dirname(folder)}, load {os.getloadavg()[0]:.1f}:")
         measure(program, folder, rounds)
         measure_sync(folder, rounds)
+    measure_small(program, parent, min(rounds, 3))
 
 
 def main():

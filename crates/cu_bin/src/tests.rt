@@ -244,7 +244,7 @@ fn ends_in(alloc: Global, script: Script, line: &str) -> Result<bool, Fail>
 
 #[test]
 fn each_call_may_fail_once(rt: HostRuntime) -> Result<(), Fail> {
-    for (number, (call, skip, _)) in CALLS.iter().enumerate() {
+    for (place, (call, skip, _)) in CALLS.iter().enumerate() {
         let script = Script::one(Rule {
             call: *call,
             key: None,
@@ -259,7 +259,7 @@ fn each_call_may_fail_once(rt: HostRuntime) -> Result<(), Fail> {
         assert_eq!(rt; number(&status), 0);
         assert!(rt; is_complete(&depot)?);
         // A call outside of the tasks is tried again by itself, and one of a task with its task.
-        let printed = if number < 6 {
+        let printed = if place < 6 {
             REPORT
         } else {
             "ok ops=1 tasks=2 starts=3 failed=1 peak=1600\n"
@@ -305,6 +305,36 @@ fn failed_tries_of_a_task_are_counted(rt: HostRuntime) -> Result<(), Fail> {
         assert_eq!(rt; depot.lookup(&named("y/c/0")?).is_none(), times == 3);
         assert!(rt; is_left(&depot)?);
     }
+    Ok(())
+}
+
+// The puts of both chunks fail twice each: three failures hinder only the task whose tries they are.
+#[test]
+fn each_task_has_its_own_tries(rt: HostRuntime) -> Result<(), Fail> {
+    let alloc = rt.alloc();
+    let mut script = Script::one(Rule {
+        call: CallKind::Put,
+        key: None,
+        skip: 1,
+        times: 2,
+        land: None,
+    });
+    script.rules.push(Rule {
+        call: CallKind::Put,
+        key: None,
+        skip: 4,
+        times: 2,
+        land: None,
+    });
+    let mut depot = inputs(alloc, script)?;
+    let mut out = MemSink::make(alloc, 1000, None)?;
+    let status = add(alloc, "1600", &mut out, &mut depot)?;
+    assert_eq!(rt; number(&status), 0);
+    assert_eq!(rt;
+        out.text(),
+        b"ok ops=1 tasks=2 starts=6 failed=4 peak=1600\n".as_slice()
+    );
+    assert!(rt; is_complete(&depot)?);
     Ok(())
 }
 
