@@ -338,6 +338,33 @@ fn each_task_has_its_own_tries(rt: HostRuntime) -> Result<(), Fail> {
     Ok(())
 }
 
+#[test]
+fn tries_are_as_many_as_the_words_say(rt: HostRuntime) -> Result<(), Fail> {
+    let alloc = rt.alloc();
+    let table = [
+        ("0", 1u32, "error 10 op=0 task=0", ""),
+        ("3", 3, "", "ok ops=1 tasks=2 starts=5 failed=3 peak=1600\n"),
+        ("9", 0, "error 2 code=2", ""),
+    ];
+    for (retries, times, line, printed) in table {
+        let script = Script::one(Rule {
+            call: CallKind::Put,
+            key: Some(named("y/c/0")?),
+            skip: 0,
+            times,
+            land: None,
+        });
+        let mut depot = inputs(alloc, script)?;
+        let mut out = MemSink::make(alloc, 1000, None)?;
+        let run = words(alloc, &["run", "--retries", retries])?;
+        let mut source = MemSource::make(ADDITION.as_bytes().to_vec(alloc)?, None);
+        let status = top(alloc, &run, &mut source, &mut out, &mut depot);
+        assert_eq!(rt; status_line(&status).as_str(), line);
+        assert_eq!(rt; out.text(), printed.as_bytes());
+    }
+    Ok(())
+}
+
 /// The metadata of a 3 by 5 array of int16 in chunks of 2 by 4.
 const GRID: &str =
     r#"{"chunk_grid":{"configuration":{"chunk_shape":[2,4]},"name":"regular"},"chunk_key_encoding":{"configuration":{"separator":"/"},"name":"default"},"codecs":[{"configuration":{"endian":"little"},"name":"bytes"}],"data_type":"int16","fill_value":0,"node_type":"array","shape":[3,5],"zarr_format":3}"#;

@@ -34,8 +34,8 @@ use cu_store::{Depot, TaskFault};
 ///
 /// Where the inputs are in place, no late put changes one, and each on a chunk that the task writes carries that chunk's value:
 /// after `Ok` each chunk that it writes holds its value, and after a fault what it held or its value. At any end each other key
-/// holds what it held or what a late put left. It makes at most three calls of the depot, one for each chunk that it reads or
-/// stores, and after `Ok` exactly three, as far as the count of calls goes.
+/// holds what it held or what a late put left. It makes at most three calls of the depot, one for each of the two inputs and one
+/// for the chunk that it stores, and after `Ok` exactly three, as far as the count of calls goes.
 ///
 /// `Store`: a call of the depot failed. `BadChunk`: a chunk that the task reads is held with another number of bytes than a
 /// chunk has. `NoMemory`: the depot lacked memory.

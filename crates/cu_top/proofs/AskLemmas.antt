@@ -29,17 +29,17 @@ all_free job entry n all below key (inl metadata) = rw metadata below.0
 all_free job entry n all below key (inr (k, small, chunk)) = rw chunk (below.1 k (omega (arith, all, small)))
 
 -- A call that fails for a key names this key.
-pub key_fault_asked : (before after : ℕ) (lacks : Bool) (key : List ℕ) (status : Status) (P : List ℕ → Type 0) → IsKeyFault before after lacks key status → P key → IfAsked status P
-key_fault_asked before after lacks key (DepotFailed failed) P fault here = subst P (sym fault.0) here
-key_fault_asked before after lacks key NoMemory P fault here = tt
-key_fault_asked before after lacks key Done P fault here = tt
-key_fault_asked before after lacks key (BadWords code) P fault here = tt
-key_fault_asked before after lacks key (OverMemory node need allowed) P fault here = tt
-key_fault_asked before after lacks key (Exists held) P fault here = absurd fault
-key_fault_asked before after lacks key (BadMeta name code) P fault here = tt
-key_fault_asked before after lacks key (NoArray name) P fault here = tt
-key_fault_asked before after lacks key (TaskFailed op task) P fault here = tt
-key_fault_asked before after lacks key ReadFault P fault here = tt
-key_fault_asked before after lacks key WriteFault P fault here = tt
-key_fault_asked before after lacks key (BadChunk bad got want) P fault here = tt
-key_fault_asked before after lacks key (NotBuilt node) P fault here = tt
+pub key_fault_asked : (tries : ℕ) (before after : ℕ) (lacks : Bool) (key : List ℕ) (status : Status) (P : List ℕ → Type 0) → IsKeyFault tries before after lacks key status → P key → IfAsked status P
+key_fault_asked tries before after lacks key (DepotFailed failed) P fault here = subst P (sym fault.0) here
+key_fault_asked tries before after lacks key NoMemory P fault here = tt
+key_fault_asked tries before after lacks key Done P fault here = tt
+key_fault_asked tries before after lacks key (BadWords code) P fault here = tt
+key_fault_asked tries before after lacks key (OverMemory node need allowed) P fault here = tt
+key_fault_asked tries before after lacks key (Exists held) P fault here = absurd fault
+key_fault_asked tries before after lacks key (BadMeta name code) P fault here = tt
+key_fault_asked tries before after lacks key (NoArray name) P fault here = tt
+key_fault_asked tries before after lacks key (TaskFailed op task) P fault here = tt
+key_fault_asked tries before after lacks key ReadFault P fault here = tt
+key_fault_asked tries before after lacks key WriteFault P fault here = tt
+key_fault_asked tries before after lacks key (BadChunk bad got want) P fault here = tt
+key_fault_asked tries before after lacks key (NotBuilt node) P fault here = tt

@@ -1,5 +1,5 @@
 -- A run that is servable is served: each other answer has a cause that isn't there.
-use Rattle.std.proofs.Common.{◌≡◌, ℕ, ◌<◌, ◌≤◌, ◌&&◌, Bool, true, false, nat_le, List, ◌++◌, length, Option, Some, None, Ok, Err, Result, option_and_then, refl, sym, ap, ◌∙◌, subst, inl, inr, arith, length-append}
+use Rattle.std.proofs.Common.{◌≡◌, ℕ, ◌+◌, ◌<◌, ◌≤◌, ◌&&◌, Bool, true, false, nat_le, List, ◌++◌, length, Option, Some, None, Ok, Err, Result, option_and_then, refl, sym, ap, ◌∙◌, subst, inl, inr, arith, length-append}
 use Rattle.std.proofs.lemmas.Bool.{leb-true, and_parts}
 use Rattle.std.proofs.lemmas.List.{append-nil}
 use Rattle.std.specs.Prelude.{⊤}
@@ -178,8 +178,8 @@ module _ (names : Names) (options : Options) (entry : Contents) (new : Option Co
   served_run Done ran = tt
   served_run NoMemory ran = tt
   served_run WriteFault ran = none_rose 1 v w (omega arith) sink ran.0
-  served_run (DepotFailed key) ran = none_rose 3 f g (omega arith) depot ran.0
-  served_run (TaskFailed op task) ran = none_rose 3 f g (omega arith) depot ran.0
+  served_run (DepotFailed key) ran = none_rose (options.retries + 1) f g (omega arith) depot ran.0
+  served_run (TaskFailed op task) ran = none_rose (options.retries + 1) f g (omega arith) depot ran.0
   served_run (BadMeta name code) ran = not_refused_input names job entry name.bytes code has inputs (refused_then names entry late now_late new name.bytes code calm ran.0 ran.1)
   served_run (NoArray name) ran = not_missing names job entry name.bytes has inputs ran.1
   served_run (NotBuilt node) ran = not_unlike names job entry late has alike inputs calm (ran.2 entry refl)

@@ -8,7 +8,6 @@ use Rattle.cu_meta.specs.Fault.{Fault, too_long}
 use Rattle.cu_meta.specs.Metadata.{read_metadata}
 use Rattle.cu_op.specs.Layout.{layout_view}
 use Rattle.cu_op.specs.declared.layout.Layout.{Layout}
-use Rattle.cu_store.specs.Faults.{Rose}
 use Rattle.cu_store.specs.Held.{Contents, Write, IsAmong, IsKeptAt, Follows, Gets, IsGone}
 use Rattle.cu_store.specs.declared.depot.Got.TheVariants.{Absent, Held}
 use Rattle.cu_zarr.specs.Key.{metadata_key_of}
@@ -144,51 +143,51 @@ is_input text l reads grid = record { grid = grid; storable = read_accepted text
 
 -- ---- of the inputs
 
-pub left_fault : (names : Names) (before after : ℕ) (held : Option Contents) (status : Status) → IsMetadataFault before after held names.left status → IsInputFault names before after held status
-left_fault names before after held (DepotFailed key) h = (inl h.0, h.1)
-left_fault names before after held (BadMeta name code) h = (inl h.0, subst (λ (n : List ℕ). HoldsRefused held (metadata_key_of n) code) (sym h.0) h.1)
-left_fault names before after held (NoArray name) h = (inl h.0, subst (λ (n : List ℕ). IsGone held (metadata_key_of n)) (sym h.0) h.1)
-left_fault names before after held NoMemory h = tt
-left_fault names before after held (NotBuilt node) h = absurd h
-left_fault names before after held Done h = h
-left_fault names before after held (BadWords code) h = h
-left_fault names before after held (OverMemory node need allowed) h = absurd h
-left_fault names before after held (Exists key) h = absurd h
-left_fault names before after held (TaskFailed op task) h = absurd h
-left_fault names before after held ReadFault h = h
-left_fault names before after held WriteFault h = h
-left_fault names before after held (BadChunk key got want) h = absurd h
+pub left_fault : (tries : ℕ) (names : Names) (before after : ℕ) (held : Option Contents) (status : Status) → IsMetadataFault tries before after held names.left status → IsInputFault tries names before after held status
+left_fault tries names before after held (DepotFailed key) h = (inl h.0, h.1)
+left_fault tries names before after held (BadMeta name code) h = (inl h.0, subst (λ (n : List ℕ). HoldsRefused held (metadata_key_of n) code) (sym h.0) h.1)
+left_fault tries names before after held (NoArray name) h = (inl h.0, subst (λ (n : List ℕ). IsGone held (metadata_key_of n)) (sym h.0) h.1)
+left_fault tries names before after held NoMemory h = tt
+left_fault tries names before after held (NotBuilt node) h = absurd h
+left_fault tries names before after held Done h = h
+left_fault tries names before after held (BadWords code) h = h
+left_fault tries names before after held (OverMemory node need allowed) h = absurd h
+left_fault tries names before after held (Exists key) h = absurd h
+left_fault tries names before after held (TaskFailed op task) h = absurd h
+left_fault tries names before after held ReadFault h = h
+left_fault tries names before after held WriteFault h = h
+left_fault tries names before after held (BadChunk key got want) h = absurd h
 
-pub right_fault : (names : Names) (first before after : ℕ) (held : Option Contents) (status : Status) → first ≤ before → IsMetadataFault before after held names.right status → IsInputFault names first after held status
-right_fault names first before after held (DepotFailed key) earlier h = (inr h.0, (let rose : Rose 3 before after = h.1 in omega (arith, rose, earlier)))
-right_fault names first before after held (BadMeta name code) earlier h = (inr h.0, subst (λ (n : List ℕ). HoldsRefused held (metadata_key_of n) code) (sym h.0) h.1)
-right_fault names first before after held (NoArray name) earlier h = (inr h.0, subst (λ (n : List ℕ). IsGone held (metadata_key_of n)) (sym h.0) h.1)
-right_fault names first before after held NoMemory earlier h = tt
-right_fault names first before after held (NotBuilt node) earlier h = absurd h
-right_fault names first before after held Done earlier h = h
-right_fault names first before after held (BadWords code) earlier h = h
-right_fault names first before after held (OverMemory node need allowed) earlier h = absurd h
-right_fault names first before after held (Exists key) earlier h = absurd h
-right_fault names first before after held (TaskFailed op task) earlier h = absurd h
-right_fault names first before after held ReadFault earlier h = h
-right_fault names first before after held WriteFault earlier h = h
-right_fault names first before after held (BadChunk key got want) earlier h = absurd h
+pub right_fault : (tries : ℕ) (names : Names) (first before after : ℕ) (held : Option Contents) (status : Status) → first ≤ before → IsMetadataFault tries before after held names.right status → IsInputFault tries names first after held status
+right_fault tries names first before after held (DepotFailed key) earlier h = (inr h.0, omega (arith, h.1, earlier))
+right_fault tries names first before after held (BadMeta name code) earlier h = (inr h.0, subst (λ (n : List ℕ). HoldsRefused held (metadata_key_of n) code) (sym h.0) h.1)
+right_fault tries names first before after held (NoArray name) earlier h = (inr h.0, subst (λ (n : List ℕ). IsGone held (metadata_key_of n)) (sym h.0) h.1)
+right_fault tries names first before after held NoMemory earlier h = tt
+right_fault tries names first before after held (NotBuilt node) earlier h = absurd h
+right_fault tries names first before after held Done earlier h = h
+right_fault tries names first before after held (BadWords code) earlier h = h
+right_fault tries names first before after held (OverMemory node need allowed) earlier h = absurd h
+right_fault tries names first before after held (Exists key) earlier h = absurd h
+right_fault tries names first before after held (TaskFailed op task) earlier h = absurd h
+right_fault tries names first before after held ReadFault earlier h = h
+right_fault tries names first before after held WriteFault earlier h = h
+right_fault tries names first before after held (BadChunk key got want) earlier h = absurd h
 
 -- no read of one input answers that something isn't built
-pub never_unlike : (before after : ℕ) (held : Option Contents) (name : List ℕ) (status : Status) (P : Type 0) → IsMetadataFault before after held name status → IfNotBuilt status P
-never_unlike before after held name (NotBuilt node) P h = absurd h
-never_unlike before after held name (DepotFailed key) P h = tt
-never_unlike before after held name (BadMeta refused code) P h = tt
-never_unlike before after held name (NoArray missing) P h = tt
-never_unlike before after held name NoMemory P h = tt
-never_unlike before after held name Done P h = tt
-never_unlike before after held name (BadWords code) P h = tt
-never_unlike before after held name (OverMemory node need allowed) P h = tt
-never_unlike before after held name (Exists key) P h = tt
-never_unlike before after held name (TaskFailed op task) P h = tt
-never_unlike before after held name ReadFault P h = tt
-never_unlike before after held name WriteFault P h = tt
-never_unlike before after held name (BadChunk key got want) P h = tt
+pub never_unlike : (tries : ℕ) (before after : ℕ) (held : Option Contents) (name : List ℕ) (status : Status) (P : Type 0) → IsMetadataFault tries before after held name status → IfNotBuilt status P
+never_unlike tries before after held name (NotBuilt node) P h = absurd h
+never_unlike tries before after held name (DepotFailed key) P h = tt
+never_unlike tries before after held name (BadMeta refused code) P h = tt
+never_unlike tries before after held name (NoArray missing) P h = tt
+never_unlike tries before after held name NoMemory P h = tt
+never_unlike tries before after held name Done P h = tt
+never_unlike tries before after held name (BadWords code) P h = tt
+never_unlike tries before after held name (OverMemory node need allowed) P h = tt
+never_unlike tries before after held name (Exists key) P h = tt
+never_unlike tries before after held name (TaskFailed op task) P h = tt
+never_unlike tries before after held name ReadFault P h = tt
+never_unlike tries before after held name WriteFault P h = tt
+never_unlike tries before after held name (BadChunk key got want) P h = tt
 
 pub true_or_false : (b : Bool) → b ≡ true → b ≡ false → ⊥
 true_or_false b holds fails = true≢false (sym holds ∙ fails)

@@ -364,7 +364,7 @@ lent_within options job ok fits =
     (plan_room job ok options.reserved, not_below options.allowed (need_of options job) second.0)
 
 -- the tries that failed, by the chunks of the output
-pub few_failed : {E : Type 0} (result : Result ℕ E) (p : PlanView) (options : Options) (job : Job) → p ≡ plan_of options job
-    → IfOk result (λ failed. failed ≤ 2 * tasks_of p.arrays (op_of p 0)) → IfOk result (λ failed. failed ≤ 2 * chunks_of job)
-few_failed (Ok n) p options job same few = subst (λ (q : PlanView). n ≤ 2 * tasks_of q.arrays (op_of q 0)) same few
-few_failed (Err e) p options job same few = tt
+pub few_failed : {E : Type 0} (retries : ℕ) (result : Result ℕ E) (p : PlanView) (options : Options) (job : Job) → p ≡ plan_of options job
+    → IfOk result (λ failed. failed ≤ retries * tasks_of p.arrays (op_of p 0)) → IfOk result (λ failed. failed ≤ retries * chunks_of job)
+few_failed retries (Ok n) p options job same few = subst (λ (q : PlanView). n ≤ retries * tasks_of q.arrays (op_of q 0)) same few
+few_failed retries (Err e) p options job same few = tt

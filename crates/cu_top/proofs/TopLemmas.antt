@@ -1,5 +1,5 @@
 -- From the parts of a run to what the call answers.
-use Rattle.std.proofs.Common.{◌≡◌, ◌⊎◌, ℕ, ◌*◌, ◌<◌, ◌≤◌, ◌++◌, ◌∷◌, List, Option, Some, None, Result, Ok, Err, Bool, inl, inr, arith, refl, sym, ◌∙◌, subst}
+use Rattle.std.proofs.Common.{◌≡◌, ◌⊎◌, ℕ, ◌+◌, ◌*◌, ◌<◌, ◌≤◌, ◌++◌, ◌∷◌, List, Option, Some, None, Result, Ok, Err, Bool, inl, inr, arith, refl, sym, ◌∙◌, subst}
 use Rattle.std.specs.Prelude.{OnOk}
 use Rattle.cu_top.proofs.PlanLemmas.{lent_within}
 use Rattle.cu_top.proofs.JobLemmas.{among_back, left_of_started}
@@ -38,7 +38,7 @@ gone_before W (Some old) (Some new) key lands gone = before (old key) (new key) 
     before a b (inr (bytes, write, now)) none = cc
 
 pub input_refused : (names : Names) (options : Options) (old new : Option Contents) (late : List Write) (f g : ℕ) (status : Status)
-    → IsInputFault names f g new status → Lands (IsAmong late) old new → ((entry : Contents) → old ≡ Some entry → IfNotBuilt status (AreUnlike names entry late)) → Refuses names options old new late f g status
+    → IsInputFault (options.retries + 1) names f g new status → Lands (IsAmong late) old new → ((entry : Contents) → old ≡ Some entry → IfNotBuilt status (AreUnlike names entry late)) → Refuses names options old new late f g status
 input_refused names options old new late f g (DepotFailed key) fault lands unlike = (fault.1, inl fault.0)
 input_refused names options old new late f g (BadMeta name code) fault lands unlike = fault
 input_refused names options old new late f g (NoArray name) fault lands unlike = (fault.0, gone_before (IsAmong late) old new (metadata_key_of name.bytes) lands fault.1)
@@ -60,7 +60,7 @@ memory_refused names options old new late f g job status (Some over) accepted is
     subst (Refuses names options old new late f g) (sym tells) (refl, record { job = job; accepted = accepted; over = is })
 
 pub ask_refused : (names : Names) (options : Options) (old new : Option Contents) (late : List Write) (f h g : ℕ) (lacks : Bool) (job : Job) (status : Status)
-    → IsAccepted names options old late job → over_memory options job ≡ None → f ≤ h → IsAskFault job h g lacks new status
+    → IsAccepted names options old late job → over_memory options job ≡ None → f ≤ h → IsAskFault (options.retries + 1) job h g lacks new status
     → ((entry : Contents) → old ≡ Some entry → IfAsked status (IsFirstInWay job entry)) → IfExists status (IsOwnFirst job) → Refuses names options old new late f g status
 ask_refused names options old new late f h g lacks job (Exists key) accepted fits earlier fault first own =
     record { job = job; accepted = accepted; fits = fits; in_way = fault; own = own; first = first }
@@ -68,7 +68,7 @@ ask_refused names options old new late f h g lacks job (BadMeta name code) accep
 ask_refused names options old new late f h g lacks job (NoArray name) accepted fits earlier fault first own = absurd fault
 ask_refused names options old new late f h g lacks job (TaskFailed op task) accepted fits earlier fault first own = absurd fault
 ask_refused names options old new late f h g lacks job (DepotFailed key) accepted fits earlier fault first own =
-    (rose_earlier 3 f h g earlier fault.1, inr (record { job = job; accepted = accepted; fits = fits; of_plan = fault.0; first = first }))
+    (rose_earlier (options.retries + 1) f h g earlier fault.1, inr (record { job = job; accepted = accepted; fits = fits; of_plan = fault.0; first = first }))
 ask_refused names options old new late f h g lacks job NoMemory accepted fits earlier fault first own = tt
 ask_refused names options old new late f h g lacks job (NotBuilt node) accepted fits earlier fault first own = absurd fault
 ask_refused names options old new late f h g lacks job Done accepted fits earlier fault first own = fault
@@ -153,13 +153,13 @@ ran_carried names options old new late now_late f h g v w front back job (BadChu
 ran_carried names options old new late now_late f h g v w front back job (BadMeta name code) carried accepted fits apart earlier started stored alone has = absurd carried
 ran_carried names options old new late now_late f h g v w front back job (NoArray name) carried accepted fits apart earlier started stored alone has = absurd carried
 ran_carried names options old new late now_late f h g v w front back job (TaskFailed op task) carried accepted fits apart earlier started stored alone has = (
-  rose_earlier 3 f h g earlier carried.2,
+  rose_earlier (options.retries + 1) f h g earlier carried.2,
   carried.0,
   is_run names options old new late now_late (λ job. task < chunks_of job) (λ job entry. (entry (key_of_chunk (out_array job) task) ≡ None) × HasOutMetadata new job entry) job accepted fits apart carried.1 started
       (λ entry same calm. ((started entry same calm).free (key_of_chunk (out_array job) task) (inr (task, carried.1, refl)), has entry same calm)),
 )
 ran_carried names options old new late now_late f h g v w front back job (DepotFailed key) carried accepted fits apart earlier started stored alone has = (
-  rose_earlier 3 f h g earlier carried.1,
+  rose_earlier (options.retries + 1) f h g earlier carried.1,
   inr (is_run names options old new late now_late (λ job. key ≡ metadata_key_of job.names.out) (λ job entry. Follows (metadata_write job ∷ late) (Some entry) new now_late) job accepted fits apart carried.0 started
       (λ entry same calm. alone entry same)),
 )
@@ -182,7 +182,7 @@ metadata_first job entry late now_late held follows = (
 -- ---- carrying out a job
 
 module _ (job : Job) (options : Options) (f g v w : ℕ) (held : Option Contents) (old new : Option (List ℕ)) (failed : ℕ) where
-  pub carries_report : (status : Status) → Rose failed f g → failed ≤ 2 * chunks_of job → Reports old new (report_line options job failed) v w status → Carries job options f g held v w old new status
+  pub carries_report : (status : Status) → Rose failed f g → failed ≤ options.retries * chunks_of job → Reports old new (report_line options job failed) v w status → Carries job options f g held v w old new status
   carries_report Done rose few told = (failed, rose, few, told)
   carries_report WriteFault rose few told = (told.0, (failed, rose, few, told.1))
   carries_report (BadWords code) rose few told = told
@@ -259,7 +259,7 @@ if_stored (NotBuilt node) P h = tt
 if_stored NoMemory P h = tt
 
 module _ (job : Job) (options : Options) (f g v w : ℕ) (held : Option Contents) (old : Option (List ℕ)) where
-  pub carries_fault : (status : Status) → IsStoreFault job f g held status → Carries job options f g held v w old old status
+  pub carries_fault : (status : Status) → IsStoreFault (options.retries + 1) job f g held status → Carries job options f g held v w old old status
   carries_fault (DepotFailed key) fault = fault
   carries_fault (BadMeta name code) fault = absurd fault
   carries_fault (NoArray name) fault = absurd fault
@@ -274,7 +274,7 @@ module _ (job : Job) (options : Options) (f g v w : ℕ) (held : Option Contents
   carries_fault WriteFault fault = absurd fault
   carries_fault (NotBuilt node) fault = absurd fault
 
-  pub prints_fault : (status : Status) → IsStoreFault job f g held status → PrintsOnly status old old
+  pub prints_fault : (status : Status) → IsStoreFault (options.retries + 1) job f g held status → PrintsOnly status old old
   prints_fault (DepotFailed key) fault = refl
   prints_fault (BadMeta name code) fault = refl
   prints_fault (NoArray name) fault = refl
@@ -289,7 +289,7 @@ module _ (job : Job) (options : Options) (f g v w : ℕ) (held : Option Contents
   prints_fault WriteFault fault = tt
   prints_fault (NotBuilt node) fault = refl
 
-  pub stored_fault : (status : Status) (P : Type 0) → IsStoreFault job f g held status → IfStored status P
+  pub stored_fault : (status : Status) (P : Type 0) → IsStoreFault (options.retries + 1) job f g held status → IfStored status P
   stored_fault (DepotFailed key) P fault = tt
   stored_fault (BadMeta name code) P fault = tt
   stored_fault (NoArray name) P fault = tt

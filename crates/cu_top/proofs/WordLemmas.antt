@@ -1,10 +1,10 @@
 -- What `parse` reads as a `u64`, in the words of the command line.
-use Rattle.std.proofs.Common.{◌≡◌, ℕ, ◌<◌, ◌≤◌, ◌^◌, Bool, true, false, ◌&&◌, cond, List, length, Option, Some, None, nat_lt, nat_le, [], ◌∷◌, ◌+◌, zero, suc, drop, get_or, map, String, Global, string_bytes, refl, sym, ◌∙◌, ap, drop-cons, option_and_then, arith}
+use Rattle.std.proofs.Common.{◌≡◌, ℕ, ◌<◌, ◌≤◌, ◌^◌, Bool, true, false, ◌&&◌, cond, List, length, Option, Some, None, nat_lt, nat_le, [], ◌∷◌, ◌+◌, zero, suc, drop, get_or, map, String, Global, string_bytes, refl, sym, ◌∙◌, ap, drop-cons, option_and_then, if◌then◌else◌, arith}
 use Rattle.std.specs.Str.{all_ascii_digits}
 use Rattle.std.specs.Str.Parse.{IsNumeral, without_leading_plus, digits_value}
 use Rattle.std.proofs.lemmas.Bool.{and_from, and_parts, le-leb, leb-true, lt-ltb, ltb-true}
 use Rattle.std.proofs.lemmas.Str.Parse.{IsNumeralModel, numerals_by_value, tells_all_ascii_digits}
-use Rattle.cu_top.specs.Words.{is_number, memory_of, given_with, options_from}
+use Rattle.cu_top.specs.Words.{is_number, given_with, options_from}
 use Rattle.cu_top.specs.declared.words.Given.{Given}
 use Rattle.cu_top.specs.declared.words.Options.{Options}
 
@@ -25,18 +25,20 @@ none_where : (b : Bool) (v : ℕ) → (b ≡ true → ⊥) → None ≡ cond b (
 none_where true v refuted = absurd (refuted refl)
 none_where false v refuted = refl
 
--- a number in its range
-pub memory_read : (text : List ℕ) (n : ℕ) → IsNumeral 10 (without_leading_plus text) → n ≡ digits_value 10 (without_leading_plus text) → n ≤ 2 ^ 40 → Some n ≡ memory_of text
-memory_read text n h e within =
-    let inside : digits_value 10 (without_leading_plus text) ≤ 2 ^ 40 = omega arith in
+-- a number up to a bound that a `u64` can be
+pub number_read : (most : ℕ) (text : List ℕ) (n : ℕ) → IsNumeral 10 (without_leading_plus text) → n ≡ digits_value 10 (without_leading_plus text) → n ≤ most
+    → Some n ≡ (if is_number text && nat_le (digits_value 10 (without_leading_plus text)) most then Some (digits_value 10 (without_leading_plus text)) else None)
+number_read most text n h e within =
+    let inside : digits_value 10 (without_leading_plus text) ≤ most = omega (arith, e, within) in
     some_where _ n _ (and_from _ _ (test_from_numeral _ h) (le-leb _ _ inside)) e
 
 -- no number, or one past every `u64`
-pub memory_refused : (text : List ℕ) → ¬ (IsNumeral 10 (without_leading_plus text) × (digits_value 10 (without_leading_plus text) < 2 ^ 64)) → None ≡ memory_of text
-memory_refused text refuted = none_where _ _ (λ e.
-    let parts = and_parts (is_number text) (nat_le (digits_value 10 (without_leading_plus text)) (2 ^ 40)) e in
-    let within : digits_value 10 (without_leading_plus text) ≤ 2 ^ 40 = leb-true _ _ parts.1 in
-    refuted (numeral_from_test _ parts.0, omega arith))
+pub number_refused : (most : ℕ) (text : List ℕ) → most < 2 ^ 64 → ¬ (IsNumeral 10 (without_leading_plus text) × (digits_value 10 (without_leading_plus text) < 2 ^ 64))
+    → None ≡ (if is_number text && nat_le (digits_value 10 (without_leading_plus text)) most then Some (digits_value 10 (without_leading_plus text)) else None)
+number_refused most text small refuted = none_where _ _ (λ e.
+    let parts = and_parts (is_number text) (nat_le (digits_value 10 (without_leading_plus text)) most) e in
+    let within : digits_value 10 (without_leading_plus text) ≤ most = leb-true _ _ parts.1 in
+    refuted (numeral_from_test _ parts.0, omega (arith, within, small)))
 
 -- the last word stands alone
 pub one_left : (words : List (String Global)) (at : ℕ) (given : Given) → at + 1 ≡ length words → options_from given (map string_bytes (drop at words)) ≡ None

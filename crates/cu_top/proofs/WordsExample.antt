@@ -2,19 +2,19 @@
 use Rattle.std.proofs.Common.{◌≡◌, [], ◌∷◌, codes, Ok, Err, refl}
 use Rattle.cu_top.specs.Words.{options_of}
 
-allowed : options_of (codes "run" ∷ codes "--allowed-mem" ∷ codes "1600" ∷ []) ≡ Ok (record { allowed = 1600; reserved = 0 })
+allowed : options_of (codes "run" ∷ codes "--allowed-mem" ∷ codes "1600" ∷ []) ≡ Ok (record { allowed = 1600; reserved = 0; retries = 2 })
 unfolding options_of
 allowed = refl
 
-defaults : options_of (codes "run" ∷ []) ≡ Ok (record { allowed = 200000000; reserved = 0 })
+defaults : options_of (codes "run" ∷ []) ≡ Ok (record { allowed = 200000000; reserved = 0; retries = 2 })
 unfolding options_of
 defaults = refl
 
-both : options_of (codes "run" ∷ codes "--reserved-mem" ∷ codes "+7" ∷ codes "--allowed-mem" ∷ codes "01" ∷ []) ≡ Ok (record { allowed = 1; reserved = 7 })
+both : options_of (codes "run" ∷ codes "--reserved-mem" ∷ codes "+7" ∷ codes "--allowed-mem" ∷ codes "01" ∷ []) ≡ Ok (record { allowed = 1; reserved = 7; retries = 2 })
 unfolding options_of
 both = refl
 
-most : options_of (codes "run" ∷ codes "--allowed-mem" ∷ codes "1099511627776" ∷ []) ≡ Ok (record { allowed = 1099511627776; reserved = 0 })
+most : options_of (codes "run" ∷ codes "--allowed-mem" ∷ codes "1099511627776" ∷ []) ≡ Ok (record { allowed = 1099511627776; reserved = 0; retries = 2 })
 unfolding options_of
 most = refl
 
@@ -49,3 +49,11 @@ no_number = refl
 empty_number : options_of (codes "run" ∷ codes "--allowed-mem" ∷ codes "+" ∷ []) ≡ Err 2
 unfolding options_of
 empty_number = refl
+
+retried : options_of (codes "run" ∷ codes "--retries" ∷ codes "8" ∷ []) ≡ Ok (record { allowed = 200000000; reserved = 0; retries = 8 })
+unfolding options_of
+retried = refl
+
+retried_too_often : options_of (codes "run" ∷ codes "--retries" ∷ codes "9" ∷ []) ≡ Err 2
+unfolding options_of
+retried_too_often = refl

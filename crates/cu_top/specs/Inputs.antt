@@ -59,17 +59,17 @@ HoldsRefused None key code = Unit {0}
 HoldsRefused (Some held) key code = (text : List ℕ) × (reason : Fault) × (held key ≡ Some text) × (read_metadata text ≡ Err reason) × (code ≡ code_of reason)
 
 -- why reading the metadata of the array with this name ends
-abbrev pub IsMetadataFault : ℕ → ℕ → Option Contents → List ℕ → Status → Type 0
-IsMetadataFault before after held name (DepotFailed failed) = (failed ≡ metadata_key_of name) × Rose 3 before after
-IsMetadataFault before after held name (BadMeta refused code) = (refused.bytes ≡ name) × HoldsRefused held (metadata_key_of name) code
-IsMetadataFault before after held name (NoArray missing) = (missing.bytes ≡ name) × IsGone held (metadata_key_of name)
-IsMetadataFault before after held name NoMemory = Unit {0}
-IsMetadataFault before after held name (NotBuilt node) = ⊥
-IsMetadataFault before after held name Done = ⊥
-IsMetadataFault before after held name (BadWords code) = ⊥
-IsMetadataFault before after held name (OverMemory node need allowed) = ⊥
-IsMetadataFault before after held name (Exists held_key) = ⊥
-IsMetadataFault before after held name (TaskFailed op task) = ⊥
-IsMetadataFault before after held name ReadFault = ⊥
-IsMetadataFault before after held name WriteFault = ⊥
-IsMetadataFault before after held name (BadChunk bad got want) = ⊥
+abbrev pub IsMetadataFault : ℕ → ℕ → ℕ → Option Contents → List ℕ → Status → Type 0
+IsMetadataFault tries before after held name (DepotFailed failed) = (failed ≡ metadata_key_of name) × Rose tries before after
+IsMetadataFault tries before after held name (BadMeta refused code) = (refused.bytes ≡ name) × HoldsRefused held (metadata_key_of name) code
+IsMetadataFault tries before after held name (NoArray missing) = (missing.bytes ≡ name) × IsGone held (metadata_key_of name)
+IsMetadataFault tries before after held name NoMemory = Unit {0}
+IsMetadataFault tries before after held name (NotBuilt node) = ⊥
+IsMetadataFault tries before after held name Done = ⊥
+IsMetadataFault tries before after held name (BadWords code) = ⊥
+IsMetadataFault tries before after held name (OverMemory node need allowed) = ⊥
+IsMetadataFault tries before after held name (Exists held_key) = ⊥
+IsMetadataFault tries before after held name (TaskFailed op task) = ⊥
+IsMetadataFault tries before after held name ReadFault = ⊥
+IsMetadataFault tries before after held name WriteFault = ⊥
+IsMetadataFault tries before after held name (BadChunk bad got want) = ⊥

@@ -39,20 +39,20 @@ abbrev pub IsInWay : Job → Option Contents → List ℕ → Type 0
 IsInWay job held key = IsPlanKey job key × (IsHeldIn held key ⊎ (job.names.out ≡ job.names.left) ⊎ (job.names.out ≡ job.names.right))
 
 -- why asking for the keys ends: one is in the way, or the calls for one failed
-abbrev pub IsAskFault : Job → ℕ → ℕ → Bool → Option Contents → Status → Type 0
-IsAskFault job before after lacks held (Exists key) = IsInWay job held key
-IsAskFault job before after lacks held (BadMeta name code) = ⊥
-IsAskFault job before after lacks held (NoArray name) = ⊥
-IsAskFault job before after lacks held (TaskFailed op task) = ⊥
-IsAskFault job before after lacks held (DepotFailed key) = IsPlanKey job key × Rose 3 before after
-IsAskFault job before after lacks held NoMemory = IsTrue lacks
-IsAskFault job before after lacks held Done = ⊥
-IsAskFault job before after lacks held (BadWords code) = ⊥
-IsAskFault job before after lacks held (OverMemory node need allowed) = ⊥
-IsAskFault job before after lacks held ReadFault = ⊥
-IsAskFault job before after lacks held WriteFault = ⊥
-IsAskFault job before after lacks held (BadChunk bad got want) = ⊥
-IsAskFault job before after lacks held (NotBuilt node) = ⊥
+abbrev pub IsAskFault : ℕ → Job → ℕ → ℕ → Bool → Option Contents → Status → Type 0
+IsAskFault tries job before after lacks held (Exists key) = IsInWay job held key
+IsAskFault tries job before after lacks held (BadMeta name code) = ⊥
+IsAskFault tries job before after lacks held (NoArray name) = ⊥
+IsAskFault tries job before after lacks held (TaskFailed op task) = ⊥
+IsAskFault tries job before after lacks held (DepotFailed key) = IsPlanKey job key × Rose tries before after
+IsAskFault tries job before after lacks held NoMemory = IsTrue lacks
+IsAskFault tries job before after lacks held Done = ⊥
+IsAskFault tries job before after lacks held (BadWords code) = ⊥
+IsAskFault tries job before after lacks held (OverMemory node need allowed) = ⊥
+IsAskFault tries job before after lacks held ReadFault = ⊥
+IsAskFault tries job before after lacks held WriteFault = ⊥
+IsAskFault tries job before after lacks held (BadChunk bad got want) = ⊥
+IsAskFault tries job before after lacks held (NotBuilt node) = ⊥
 
 -- the output isn't an input
 abbrev pub IsApart : Job → Type 0
@@ -125,20 +125,20 @@ abbrev pub IsMissingInput : ArrayNames → Option Contents → List ℕ → Type
 IsMissingInput names held name = IsInputName names name × IsGone held (metadata_key_of name)
 
 -- why reading the metadata of the inputs ends
-abbrev pub IsInputFault : ArrayNames → ℕ → ℕ → Option Contents → Status → Type 0
-IsInputFault names before after held (DepotFailed key) = ((key ≡ metadata_key_of names.left) ⊎ (key ≡ metadata_key_of names.right)) × Rose 3 before after
-IsInputFault names before after held (BadMeta name code) = IsRefusedInput names held name.bytes code
-IsInputFault names before after held (NoArray name) = IsMissingInput names held name.bytes
-IsInputFault names before after held (NotBuilt node) = node ≡ 0
-IsInputFault names before after held NoMemory = Unit {0}
-IsInputFault names before after held Done = ⊥
-IsInputFault names before after held (BadWords code) = ⊥
-IsInputFault names before after held (OverMemory node need allowed) = ⊥
-IsInputFault names before after held (Exists key) = ⊥
-IsInputFault names before after held (TaskFailed op task) = ⊥
-IsInputFault names before after held ReadFault = ⊥
-IsInputFault names before after held WriteFault = ⊥
-IsInputFault names before after held (BadChunk bad got want) = ⊥
+abbrev pub IsInputFault : ℕ → ArrayNames → ℕ → ℕ → Option Contents → Status → Type 0
+IsInputFault tries names before after held (DepotFailed key) = ((key ≡ metadata_key_of names.left) ⊎ (key ≡ metadata_key_of names.right)) × Rose tries before after
+IsInputFault tries names before after held (BadMeta name code) = IsRefusedInput names held name.bytes code
+IsInputFault tries names before after held (NoArray name) = IsMissingInput names held name.bytes
+IsInputFault tries names before after held (NotBuilt node) = node ≡ 0
+IsInputFault tries names before after held NoMemory = Unit {0}
+IsInputFault tries names before after held Done = ⊥
+IsInputFault tries names before after held (BadWords code) = ⊥
+IsInputFault tries names before after held (OverMemory node need allowed) = ⊥
+IsInputFault tries names before after held (Exists key) = ⊥
+IsInputFault tries names before after held (TaskFailed op task) = ⊥
+IsInputFault tries names before after held ReadFault = ⊥
+IsInputFault tries names before after held WriteFault = ⊥
+IsInputFault tries names before after held (BadChunk bad got want) = ⊥
 
 -- the metadata key of an input
 abbrev pub IsMetadataKey : ArrayNames → List ℕ → Type 0
@@ -172,20 +172,20 @@ Completes job entry None = Unit {0}
 Completes job entry (Some held) = IsComplete job entry held
 
 -- why storing the output ends: its metadata wasn't stored, or a task ended the run
-abbrev pub IsStoreFault : Job → ℕ → ℕ → Option Contents → Status → Type 0
-IsStoreFault job before after held (DepotFailed key) = (key ≡ metadata_key_of job.names.out) × Rose 3 before after
-IsStoreFault job before after held (BadMeta name code) = ⊥
-IsStoreFault job before after held (NoArray name) = ⊥
-IsStoreFault job before after held (TaskFailed op task) = (op ≡ 0) × (task < chunks_of job) × Rose 3 before after
-IsStoreFault job before after held (BadChunk key got want) = IsBad held key got want job
-IsStoreFault job before after held NoMemory = Unit {0}
-IsStoreFault job before after held Done = ⊥
-IsStoreFault job before after held (BadWords code) = ⊥
-IsStoreFault job before after held (OverMemory node need allowed) = ⊥
-IsStoreFault job before after held (Exists key) = ⊥
-IsStoreFault job before after held ReadFault = ⊥
-IsStoreFault job before after held WriteFault = ⊥
-IsStoreFault job before after held (NotBuilt node) = ⊥
+abbrev pub IsStoreFault : ℕ → Job → ℕ → ℕ → Option Contents → Status → Type 0
+IsStoreFault tries job before after held (DepotFailed key) = (key ≡ metadata_key_of job.names.out) × Rose tries before after
+IsStoreFault tries job before after held (BadMeta name code) = ⊥
+IsStoreFault tries job before after held (NoArray name) = ⊥
+IsStoreFault tries job before after held (TaskFailed op task) = (op ≡ 0) × (task < chunks_of job) × Rose tries before after
+IsStoreFault tries job before after held (BadChunk key got want) = IsBad held key got want job
+IsStoreFault tries job before after held NoMemory = Unit {0}
+IsStoreFault tries job before after held Done = ⊥
+IsStoreFault tries job before after held (BadWords code) = ⊥
+IsStoreFault tries job before after held (OverMemory node need allowed) = ⊥
+IsStoreFault tries job before after held (Exists key) = ⊥
+IsStoreFault tries job before after held ReadFault = ⊥
+IsStoreFault tries job before after held WriteFault = ⊥
+IsStoreFault tries job before after held (NotBuilt node) = ⊥
 
 -- a fact of the task that an answer names
 abbrev pub IfTaskFailed : Status → (ℕ → ℕ → Type 0) → Type 0

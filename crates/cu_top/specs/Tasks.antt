@@ -14,21 +14,21 @@ use Rattle.cu_op.specs.PlanView.{PlanView}
 use Rattle.cu_store.specs.declared.faults.TaskFault.{TaskFault}
 use Rattle.cu_store.specs.declared.faults.TaskFault.TheVariants as fault
 
--- A key fails only where three calls failed, the count risen in each; want of memory comes only of a depot that lacks.
-abbrev pub IsKeyFault : ℕ → ℕ → Bool → List ℕ → Status → Type 0
-IsKeyFault before after lacks key (DepotFailed failed) = (failed ≡ key) × Rose 3 before after
-IsKeyFault before after lacks key NoMemory = IsTrue lacks
-IsKeyFault before after lacks key Done = ⊥
-IsKeyFault before after lacks key (BadWords code) = ⊥
-IsKeyFault before after lacks key (OverMemory node need allowed) = ⊥
-IsKeyFault before after lacks key (Exists held) = ⊥
-IsKeyFault before after lacks key (BadMeta name code) = ⊥
-IsKeyFault before after lacks key (NoArray name) = ⊥
-IsKeyFault before after lacks key (TaskFailed op task) = ⊥
-IsKeyFault before after lacks key ReadFault = ⊥
-IsKeyFault before after lacks key WriteFault = ⊥
-IsKeyFault before after lacks key (BadChunk bad got want) = ⊥
-IsKeyFault before after lacks key (NotBuilt node) = ⊥
+-- A key fails only where so many calls failed, the count risen in each; want of memory comes only of a depot that lacks.
+abbrev pub IsKeyFault : ℕ → ℕ → ℕ → Bool → List ℕ → Status → Type 0
+IsKeyFault tries before after lacks key (DepotFailed failed) = (failed ≡ key) × Rose tries before after
+IsKeyFault tries before after lacks key NoMemory = IsTrue lacks
+IsKeyFault tries before after lacks key Done = ⊥
+IsKeyFault tries before after lacks key (BadWords code) = ⊥
+IsKeyFault tries before after lacks key (OverMemory node need allowed) = ⊥
+IsKeyFault tries before after lacks key (Exists held) = ⊥
+IsKeyFault tries before after lacks key (BadMeta name code) = ⊥
+IsKeyFault tries before after lacks key (NoArray name) = ⊥
+IsKeyFault tries before after lacks key (TaskFailed op task) = ⊥
+IsKeyFault tries before after lacks key ReadFault = ⊥
+IsKeyFault tries before after lacks key WriteFault = ⊥
+IsKeyFault tries before after lacks key (BadChunk bad got want) = ⊥
+IsKeyFault tries before after lacks key (NotBuilt node) = ⊥
 
 -- an input's chunk holds `got` bytes and not those of a chunk
 abbrev pub IsBad : Option Contents → List ℕ → ℕ → ℕ → Job → Type 0
@@ -50,21 +50,21 @@ end_of fault.Store = None
 end_of (fault.BadChunk key got want) = Some (BadChunk key got want)
 end_of fault.NoMemory = Some NoMemory
 
--- Why a task ends the run: its tries were used up, the count risen by three at least, or a chunk of an input has another length.
-abbrev pub IsTaskEnd : Job → ℕ → ℕ → Bool → Option Contents → Status → Type 0
-IsTaskEnd job before after lacks held (BadMeta name code) = ⊥
-IsTaskEnd job before after lacks held (NoArray name) = ⊥
-IsTaskEnd job before after lacks held (TaskFailed op task) = (op ≡ 0) × (task < chunks_of job) × Rose 3 before after
-IsTaskEnd job before after lacks held (BadChunk key got want) = IsBad held key got want job
-IsTaskEnd job before after lacks held NoMemory = IsTrue lacks
-IsTaskEnd job before after lacks held Done = ⊥
-IsTaskEnd job before after lacks held (BadWords code) = ⊥
-IsTaskEnd job before after lacks held (OverMemory node need allowed) = ⊥
-IsTaskEnd job before after lacks held (Exists exists) = ⊥
-IsTaskEnd job before after lacks held ReadFault = ⊥
-IsTaskEnd job before after lacks held WriteFault = ⊥
-IsTaskEnd job before after lacks held (DepotFailed failed) = ⊥
-IsTaskEnd job before after lacks held (NotBuilt node) = ⊥
+-- Why a task ends the run: its tries were used up, the count risen by so many at least, or a chunk of an input has another length.
+abbrev pub IsTaskEnd : ℕ → Job → ℕ → ℕ → Bool → Option Contents → Status → Type 0
+IsTaskEnd tries job before after lacks held (BadMeta name code) = ⊥
+IsTaskEnd tries job before after lacks held (NoArray name) = ⊥
+IsTaskEnd tries job before after lacks held (TaskFailed op task) = (op ≡ 0) × (task < chunks_of job) × Rose tries before after
+IsTaskEnd tries job before after lacks held (BadChunk key got want) = IsBad held key got want job
+IsTaskEnd tries job before after lacks held NoMemory = IsTrue lacks
+IsTaskEnd tries job before after lacks held Done = ⊥
+IsTaskEnd tries job before after lacks held (BadWords code) = ⊥
+IsTaskEnd tries job before after lacks held (OverMemory node need allowed) = ⊥
+IsTaskEnd tries job before after lacks held (Exists exists) = ⊥
+IsTaskEnd tries job before after lacks held ReadFault = ⊥
+IsTaskEnd tries job before after lacks held WriteFault = ⊥
+IsTaskEnd tries job before after lacks held (DepotFailed failed) = ⊥
+IsTaskEnd tries job before after lacks held (NotBuilt node) = ⊥
 
 -- each failed try raised the count
 abbrev pub CountsFailed : ℕ → ℕ → Result ℕ Status → Type 0

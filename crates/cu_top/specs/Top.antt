@@ -1,5 +1,5 @@
 -- What the call answers, when, and what it leaves.
-use Rattle.std.specs.Prelude.{◌≡◌, ◌⊎◌, ℕ, ◌*◌, ◌<◌, ◌≤◌, List, ◌∷◌, length, Option, Some, None, Ok, Err}
+use Rattle.std.specs.Prelude.{◌≡◌, ◌⊎◌, ℕ, ◌+◌, ◌*◌, ◌<◌, ◌≤◌, List, ◌∷◌, length, Option, Some, None, Ok, Err}
 use Rattle.cu_store.specs.Faults.{Rose}
 use Rattle.cu_store.specs.Held.{Contents, Write, Follows, Holds}
 use Rattle.cu_zarr.specs.Key.{metadata_key_of}
@@ -51,12 +51,12 @@ abbrev pub Anything : Job → Contents → Type 0
 Anything job entry = Unit {0}
 
 -- The whole line of the report was written, or its front. Each try that it counts as failed raised the count of the depot's faults, and
--- a task that was finished had at most two of them.
+-- a task that was finished had at most as many of them as it is tried again.
 abbrev pub WroteLine : Options → ℕ → ℕ → Option (List ℕ) → Option (List ℕ) → Job → Type 0
-WroteLine options f g old new job = (failed : ℕ) × Rose failed f g × (failed ≤ 2 * chunks_of job) × WroteFront old new (report_line options job failed) (length (report_line options job failed))
+WroteLine options f g old new job = (failed : ℕ) × Rose failed f g × (failed ≤ options.retries * chunks_of job) × WroteFront old new (report_line options job failed) (length (report_line options job failed))
 
 abbrev pub WrotePart : Options → ℕ → ℕ → Option (List ℕ) → Option (List ℕ) → Job → Type 0
-WrotePart options f g old new job = (failed : ℕ) × Rose failed f g × (failed ≤ 2 * chunks_of job) × ((n : ℕ) × (n ≤ length (report_line options job failed)) × WroteFront old new (report_line options job failed) n)
+WrotePart options f g old new job = (failed : ℕ) × Rose failed f g × (failed ≤ options.retries * chunks_of job) × ((n : ℕ) × (n ≤ length (report_line options job failed)) × WroteFront old new (report_line options job failed) n)
 
 -- more is needed than is allowed
 pub record IsOver (names : ArrayNames) (options : Options) (old : Option Contents) (late : List Write) (node need : ℕ) : Type 0 where
@@ -89,8 +89,8 @@ Carries job options f g held v w old new WriteFault = Rose 1 v w × WrotePart op
 Carries job options f g held v w old new (BadChunk key got want) = IsBad held key got want job
 Carries job options f g held v w old new (BadMeta name code) = ⊥
 Carries job options f g held v w old new (NoArray name) = ⊥
-Carries job options f g held v w old new (TaskFailed op task) = (op ≡ 0) × (task < chunks_of job) × Rose 3 f g
-Carries job options f g held v w old new (DepotFailed key) = (key ≡ metadata_key_of job.names.out) × Rose 3 f g
+Carries job options f g held v w old new (TaskFailed op task) = (op ≡ 0) × (task < chunks_of job) × Rose (options.retries + 1) f g
+Carries job options f g held v w old new (DepotFailed key) = (key ≡ metadata_key_of job.names.out) × Rose (options.retries + 1) f g
 Carries job options f g held v w old new NoMemory = Unit {0}
 Carries job options f g held v w old new (BadWords code) = ⊥
 Carries job options f g held v w old new (OverMemory node need allowed) = ⊥
@@ -139,7 +139,7 @@ Refuses names options old new late f g (BadMeta name code) = IsRefusedInput name
 Refuses names options old new late f g (NoArray name) = IsMissingInput names old name.bytes
 Refuses names options old new late f g (TaskFailed op task) = ⊥
 Refuses names options old new late f g (NotBuilt node) = (node ≡ 0) × ((entry : Contents) → old ≡ Some entry → AreUnlike names entry late)
-Refuses names options old new late f g (DepotFailed key) = Rose 3 f g × (IsMetadataKey names key ⊎ IsAsked names options old late key)
+Refuses names options old new late f g (DepotFailed key) = Rose (options.retries + 1) f g × (IsMetadataKey names key ⊎ IsAsked names options old late key)
 Refuses names options old new late f g NoMemory = Unit {0}
 Refuses names options old new late f g Done = ⊥
 Refuses names options old new late f g (BadWords code) = ⊥
@@ -157,10 +157,10 @@ abbrev pub Ran : ArrayNames → Options → Option Contents → Option Contents 
 Ran names options old new late now_late f g v w front back Done = IsRun names options old new late now_late (WroteLine options f g front back) (λ job entry. Completes job entry new)
 Ran names options old new late now_late f g v w front back WriteFault = Rose 1 v w × IsRun names options old new late now_late (WrotePart options f g front back) (λ job entry. Completes job entry new)
 Ran names options old new late now_late f g v w front back (BadChunk key got want) = IsRun names options old new late now_late (IsBad new key got want) (HasOutMetadata new)
-Ran names options old new late now_late f g v w front back (DepotFailed key) = Rose 3 f g × ((IsUntouched old new late now_late × (IsMetadataKey names key ⊎ IsAsked names options old late key)) ⊎ IsRun names options old new late now_late (λ job. key ≡ metadata_key_of job.names.out) (λ job entry. Follows (metadata_write job ∷ late) (Some entry) new now_late))
+Ran names options old new late now_late f g v w front back (DepotFailed key) = Rose (options.retries + 1) f g × ((IsUntouched old new late now_late × (IsMetadataKey names key ⊎ IsAsked names options old late key)) ⊎ IsRun names options old new late now_late (λ job. key ≡ metadata_key_of job.names.out) (λ job entry. Follows (metadata_write job ∷ late) (Some entry) new now_late))
 Ran names options old new late now_late f g v w front back (BadMeta name code) = IsUntouched old new late now_late × IsRefusedInput names new name.bytes code
 Ran names options old new late now_late f g v w front back (NoArray name) = IsUntouched old new late now_late × IsMissingInput names old name.bytes
-Ran names options old new late now_late f g v w front back (TaskFailed op task) = Rose 3 f g × (op ≡ 0) × IsRun names options old new late now_late (λ job. task < chunks_of job) (λ job entry. (entry (key_of_chunk (out_array job) task) ≡ None) × HasOutMetadata new job entry)
+Ran names options old new late now_late f g v w front back (TaskFailed op task) = Rose (options.retries + 1) f g × (op ≡ 0) × IsRun names options old new late now_late (λ job. task < chunks_of job) (λ job entry. (entry (key_of_chunk (out_array job) task) ≡ None) × HasOutMetadata new job entry)
 Ran names options old new late now_late f g v w front back NoMemory = IsUntouched old new late now_late ⊎ IsRun names options old new late now_late (λ job. Unit {0}) Anything
 Ran names options old new late now_late f g v w front back (OverMemory node need allowed) = IsUntouched old new late now_late × (allowed ≡ options.allowed) × IsOver names options old late node need
 Ran names options old new late now_late f g v w front back (Exists key) = IsUntouched old new late now_late × IsBlocked names options old new late key

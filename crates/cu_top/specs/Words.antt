@@ -13,25 +13,30 @@ is_number text = nat_lt 0 (length (without_leading_plus text)) && all_ascii_digi
 abbrev pub memory_of : List ℕ → Option ℕ
 memory_of text = if is_number text && nat_le (digits_value 10 (without_leading_plus text)) (2 ^ 40) then Some (digits_value 10 (without_leading_plus text)) else None
 
+-- how often a call or a task is tried again: a number up to 8
+abbrev pub retries_of : List ℕ → Option ℕ
+retries_of text = if is_number text && nat_le (digits_value 10 (without_leading_plus text)) 8 then Some (digits_value 10 (without_leading_plus text)) else None
+
 -- before the first option
 abbrev pub nothing_given : Given
-nothing_given = record { allowed = None; reserved = None }
+nothing_given = record { allowed = None; reserved = None; retries = None }
 
 -- an option's value, where the option wasn't given before
-abbrev pub once : Option ℕ → List ℕ → Option ℕ
-once None text = memory_of text
-once (Some n) text = None
+abbrev pub once : Option ℕ → Option ℕ → Option ℕ
+once None value = value
+once (Some n) value = None
 
 -- what is given once one more option has this value; None where the option is unknown or was given before
 abbrev pub given_with : Given → List ℕ → List ℕ → Option Given
 given_with given name value =
-    if bytes_eq name (codes "--allowed-mem") then option_map (λ n. record { allowed = Some n; reserved = given.reserved }) (once given.allowed value)
-    else if bytes_eq name (codes "--reserved-mem") then option_map (λ n. record { allowed = given.allowed; reserved = Some n }) (once given.reserved value)
+    if bytes_eq name (codes "--allowed-mem") then option_map (λ n. record { allowed = Some n; reserved = given.reserved; retries = given.retries }) (once given.allowed (memory_of value))
+    else if bytes_eq name (codes "--reserved-mem") then option_map (λ n. record { allowed = given.allowed; reserved = Some n; retries = given.retries }) (once given.reserved (memory_of value))
+    else if bytes_eq name (codes "--retries") then option_map (λ n. record { allowed = given.allowed; reserved = given.reserved; retries = Some n }) (once given.retries (retries_of value))
     else None
 
--- the options of the pairs that follow what was given; by default 200000000 bytes are allowed and none are reserved
+-- the options of the pairs that follow what was given; by default 200000000 bytes are allowed, none are reserved, and calls and tasks are tried again twice
 abbrev pub options_from : Given → List (List ℕ) → Option Options
-options_from given [] = Some (record { allowed = unwrap_or given.allowed 200000000; reserved = unwrap_or given.reserved 0 })
+options_from given [] = Some (record { allowed = unwrap_or given.allowed 200000000; reserved = unwrap_or given.reserved 0; retries = unwrap_or given.retries 2 })
 options_from given (name ∷ []) = None
 options_from given (name ∷ value ∷ more) = option_and_then (λ g. options_from g more) (given_with given name value)
 

@@ -1,5 +1,5 @@
 //! The keys that would be in the way of a run.
-ghost use Rattle.std.specs.Prelude.{◌≡◌, ◌⊎◌, ℕ, ◌<◌, ◌≤◌, List, Option, Some, IfErr, OnOk, true, false};
+ghost use Rattle.std.specs.Prelude.{◌≡◌, ◌⊎◌, ℕ, ◌+◌, ◌<◌, ◌≤◌, List, Option, Some, IfErr, OnOk, true, false};
 ghost use Rattle.cu_store.specs.Held.{Contents, Write, Follows};
 ghost use Rattle.cu_top.specs.Job.{IsJob, IsFree, chunks_of, key_of_chunk, out_array};
 ghost use Rattle.cu_top.specs.Run.{IsFirstInWay, IsAskFault, IfAsked, IfExists, IsApart, IsOwnFirst};
@@ -32,7 +32,7 @@ fn key_of(job: &Job, number: u64) -> Key
 
 /// Asks for the keys of the plan, the metadata first and then the chunks in order, and refuses the first that is held.
 /// The metadata of an output that is also an input counts as held.
-pub fn ask_keys<D: Depot>(depot: &mut D, job: &Job) -> Result<(), Status>
+pub fn ask_keys<D: Depot>(depot: &mut D, job: &Job, retries: u32) -> Result<(), Status>
     requires { IsJob job.now }
     ensures free { (writes : List Write) (entry : Contents)
         → Follows writes (Some entry) (D.held depot.old) (D.late depot.old) → OnOk result (IsFree job.now entry) }
@@ -42,7 +42,7 @@ pub fn ask_keys<D: Depot>(depot: &mut D, job: &Job) -> Result<(), Status>
     ensures own { IfErr result (λ status. IfExists status (IsOwnFirst job.now)) }
     ensures follows { (writes : List Write) (entry : Option Contents)
         → Follows writes entry (D.held depot.old) (D.late depot.old) → Follows writes entry (D.held depot.new) (D.late depot.new) }
-    ensures cause { IfErr result (IsAskFault job.now (D.faults depot.old) (D.faults depot.new) (D.lacks depot.new) (D.held depot.new)) }
+    ensures cause { IfErr result (IsAskFault (retries + 1) job.now (D.faults depot.old) (D.faults depot.new) (D.lacks depot.new) (D.held depot.new)) }
     ensures count { D.faults depot.old ≤ D.faults depot.new }
     ensures lacks { D.lacks depot.new ≡ D.lacks depot.old }
 {
@@ -50,7 +50,7 @@ pub fn ask_keys<D: Depot>(depot: &mut D, job: &Job) -> Result<(), Status>
     if is_own_input(job) {
         return Err(Status::Exists { key: metadata });
     }
-    let held = match ask_key(depot, &metadata) {
+    let held = match ask_key(depot, &metadata, retries) {
         Ok(held) => held,
         Err(status) => return Err(status),
     };
@@ -59,7 +59,7 @@ pub fn ask_keys<D: Depot>(depot: &mut D, job: &Job) -> Result<(), Status>
     }
     for number in 0..job.chunks() {
         let key = key_of(job, number);
-        let is_held = match ask_key(depot, &key) {
+        let is_held = match ask_key(depot, &key, retries) {
             Ok(is_held) => is_held,
             Err(status) => return Err(status),
         };

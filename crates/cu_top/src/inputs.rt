@@ -1,5 +1,5 @@
 //! The metadata of the two inputs.
-ghost use Rattle.std.specs.Prelude.{◌≡◌, ℕ, ◌≤◌, List, Option, Some, IfErr, IfOk, IsTrue, length};
+ghost use Rattle.std.specs.Prelude.{◌≡◌, ℕ, ◌+◌, ◌≤◌, List, Option, Some, IfErr, IfOk, IsTrue, length};
 ghost use Rattle.cu_meta.specs.Fault.{fault_view};
 ghost use Rattle.cu_num.specs.Dtype.{IsInteger};
 ghost use Rattle.cu_store.specs.Held.{Contents, Write, Follows};
@@ -11,7 +11,6 @@ ghost use Rattle.cu_top.specs.Run.{HasNames, IsInputFault, IfNotBuilt, AreUnlike
 use crate::Status;
 use crate::expression::Name;
 use crate::job::{Job, Names};
-use crate::keys::RETRIES;
 use arrayvec::ArrayString;
 use cu_codec::metadata_key;
 use cu_meta::{MetaFault, MetaRefused, read_meta};
@@ -59,6 +58,7 @@ fn read_layout<D: Depot>(
     alloc: Global,
     depot: &mut D,
     name: &Key,
+    retries: u32,
     buf: &mut [u8],
 ) -> Result<Layout, Status>
     requires name { IsArrayName name.now }
@@ -68,12 +68,12 @@ fn read_layout<D: Depot>(
     ensures found { IfOk result (HoldsLayout (D.held depot.new) (metadata_key_of name.now)) }
     ensures follows { (writes : List Write) (entry : Option Contents)
         → Follows writes entry (D.held depot.old) (D.late depot.old) → Follows writes entry (D.held depot.new) (D.late depot.new) }
-    ensures cause { IfErr result (IsMetadataFault (D.faults depot.old) (D.faults depot.new) (D.held depot.new) name.now) }
+    ensures cause { IfErr result (IsMetadataFault (retries + 1) (D.faults depot.old) (D.faults depot.new) (D.held depot.new) name.now) }
     ensures count { D.faults depot.old ≤ D.faults depot.new }
     ensures lacks { D.lacks depot.new ≡ D.lacks depot.old }
 {
     let key = metadata_key(name);
-    let len = match get_tries(depot, &key, buf, RETRIES) {
+    let len = match get_tries(depot, &key, buf, retries) {
         Ok(Got::Absent) => {
             return Err(Status::NoArray {
                 name: name_of(name),
@@ -142,7 +142,12 @@ fn zeros(alloc: Global, len: usize) -> Result<Vec<u8>, NoMemory>
 }
 
 /// Reads the metadata of both inputs, which must have one integer type, one shape and one chunk shape.
-pub fn read_inputs<D: Depot>(alloc: Global, depot: &mut D, names: &Names) -> Result<Job, Status>
+pub fn read_inputs<D: Depot>(
+    alloc: Global,
+    depot: &mut D,
+    names: &Names,
+    retries: u32,
+) -> Result<Job, Status>
     requires { AreArrayNames names.now }
     ensures names { IfOk result (HasNames names.now) }
     ensures job { IfOk result IsJob }
@@ -152,18 +157,18 @@ pub fn read_inputs<D: Depot>(alloc: Global, depot: &mut D, names: &Names) -> Res
         → IfErr result (λ status. IfNotBuilt status (AreUnlike names.now entry late)) }
     ensures follows { (writes : List Write) (entry : Option Contents)
         → Follows writes entry (D.held depot.old) (D.late depot.old) → Follows writes entry (D.held depot.new) (D.late depot.new) }
-    ensures cause { IfErr result (IsInputFault names.now (D.faults depot.old) (D.faults depot.new) (D.held depot.new)) }
+    ensures cause { IfErr result (IsInputFault (retries + 1) names.now (D.faults depot.old) (D.faults depot.new) (D.held depot.new)) }
     ensures count { D.faults depot.old ≤ D.faults depot.new }
     ensures lacks { D.lacks depot.new ≡ D.lacks depot.old }
 {
     let Ok(mut buf) = zeros(alloc, METADATA_BYTES + 1) else {
         return Err(Status::NoMemory);
     };
-    let left = match read_layout(alloc, depot, &names.left, &mut buf) {
+    let left = match read_layout(alloc, depot, &names.left, retries, &mut buf) {
         Ok(layout) => layout,
         Err(status) => return Err(status),
     };
-    let right = match read_layout(alloc, depot, &names.right, &mut buf) {
+    let right = match read_layout(alloc, depot, &names.right, retries, &mut buf) {
         Ok(layout) => layout,
         Err(status) => return Err(status),
     };

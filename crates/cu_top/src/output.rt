@@ -25,12 +25,14 @@ pub fn store_output<D: Depot>(
     job: &Job,
     metadata: &[u8],
     plan: &Plan,
+    retries: u32,
     bytes: &mut [u8],
     words: &mut [u64],
 ) -> Result<u64, Status>
     requires job { IsJob job.now }
     requires metadata { metadata.now ≡ out_metadata job.now }
     requires plan { (options : Numbers) × (plan.now ≡ plan_of options job.now) }
+    requires retries { retries ≤ 8 }
     requires words { length words.old ≡ 192 }
     requires room { plan.now.reserved + length bytes.old + 8 * length words.old ≡ projection plan.now.arrays plan.now.reserved (op_of plan.now 0) }
     ensures started { (entry : Contents) (late : List Write)
@@ -41,15 +43,15 @@ pub fn store_output<D: Depot>(
         → Follows writes entry (D.held depot.old) (D.late depot.old) → IfErr result (λ status. IfDepotFailed status (Follows writes entry (D.held depot.new) (D.late depot.new))) }
     ensures metadata_held { (entry : Contents) (late : List Write)
         → IsStarted job.now entry late (D.held depot.old) (D.late depot.old) → IfErr result (λ status. IfTaskEnded status (HasOutMetadata (D.held depot.new) job.now entry)) }
-    ensures cause { IfErr result (IsStoreFault job.now (D.faults depot.old) (D.faults depot.new) (D.held depot.new)) }
+    ensures cause { IfErr result (IsStoreFault (retries + 1) job.now (D.faults depot.old) (D.faults depot.new) (D.held depot.new)) }
     ensures failed { CountsFailed (D.faults depot.old) (D.faults depot.new) result }
-    ensures few { IfOk result (λ failed. failed ≤ 2 * chunks_of job.now) }
+    ensures few { IfOk result (λ failed. failed ≤ retries * chunks_of job.now) }
     ensures count { D.faults depot.old ≤ D.faults depot.new }
     ensures lacks { D.lacks depot.new ≡ D.lacks depot.old }
 {
     let key = metadata_key(&job.names.out);
-    match put_value(depot, &key, metadata) {
-        Ok(()) => run_tasks(depot, plan, bytes, words),
+    match put_value(depot, &key, metadata, retries) {
+        Ok(()) => run_tasks(depot, plan, retries, bytes, words),
         Err(status) => Err(status),
     }
 }

@@ -27,6 +27,7 @@ pub fn prepare<D: Depot>(
 ) -> Result<Job, Status>
     requires names { AreArrayNames names.now }
     requires reserved { options.reserved ≤ 2 ^ 40 }
+    requires retries { options.retries ≤ 8 }
     ensures accepted { IfOk result (IsAccepted names.now options (D.held depot.old) (D.late depot.old)) }
     ensures job { IfOk result IsJob }
     ensures fits { IfOk result (λ job. over_memory options job ≡ None) }
@@ -37,14 +38,14 @@ pub fn prepare<D: Depot>(
         → Follows writes entry (D.held depot.old) (D.late depot.old) → Follows writes entry (D.held depot.new) (D.late depot.new) }
     ensures count { D.faults depot.old ≤ D.faults depot.new }
 {
-    let job = match read_inputs(alloc, depot, names) {
+    let job = match read_inputs(alloc, depot, names, options.retries) {
         Ok(job) => job,
         Err(status) => return Err(status),
     };
     if let Err(status) = check_memory(options, &job) {
         return Err(status);
     }
-    match ask_keys(depot, &job) {
+    match ask_keys(depot, &job, options.retries) {
         Ok(()) => Ok(job),
         Err(status) => Err(status),
     }
@@ -60,6 +61,7 @@ pub fn carry_out<W: Sink, D: Depot>(
 ) -> Status
     requires job { IsJob job.now }
     requires reserved { options.reserved ≤ 2 ^ 40 }
+    requires retries { options.retries ≤ 8 }
     ensures answer { Carries job.now options (D.faults depot.old) (D.faults depot.new) (D.held depot.new) (W.faults out.old) (W.faults out.new) (W.written out.old) (W.written out.new) result }
     ensures prints { PrintsOnly result (W.written out.old) (W.written out.new) }
     ensures started { (entry : Contents) (late : List Write)
@@ -84,7 +86,15 @@ pub fn carry_out<W: Sink, D: Depot>(
     let Ok(mut words) = vec![in alloc; 0u64; ROOM_WORDS] else {
         return Status::NoMemory;
     };
-    match store_output(depot, job, &metadata, &plan, &mut bytes, &mut words) {
+    match store_output(
+        depot,
+        job,
+        &metadata,
+        &plan,
+        options.retries,
+        &mut bytes,
+        &mut words,
+    ) {
         Ok(failed) => report(out, options, job, failed),
         Err(status) => status,
     }
@@ -100,6 +110,7 @@ pub fn run<W: Sink, D: Depot>(
 ) -> Status
     requires names { AreArrayNames names.now }
     requires reserved { options.reserved ≤ 2 ^ 40 }
+    requires retries { options.retries ≤ 8 }
     ensures answer { Ran names.now options (D.held depot.old) (D.held depot.new) (D.late depot.old) (D.late depot.new) (D.faults depot.old) (D.faults depot.new) (W.faults out.old) (W.faults out.new) (W.written out.old) (W.written out.new) result }
     ensures prints { PrintsOnly result (W.written out.old) (W.written out.new) }
 {

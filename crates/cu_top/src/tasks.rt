@@ -12,7 +12,6 @@ ghost use Rattle.cu_top.specs.declared.job.Job.{Job as Addition};
 ghost use Rattle.cu_top.specs.declared.words.Options.{Options as Numbers};
 
 use crate::Status;
-use crate::keys::RETRIES;
 use cu_op::{Plan, tasks};
 use cu_store::{Depot, TaskFault};
 use cu_task::run_task;
@@ -64,9 +63,11 @@ fn finish_task<D: Depot>(
     depot: &mut D,
     plan: &Plan,
     task: u32,
+    retries: u32,
     bytes: &mut [u8],
     words: &mut [u64],
 ) -> Result<u32, Status>
+    requires retries { retries ≤ 8 }
     requires plan { IsPlanned plan.now }
     requires task { task < tasks_of plan.now.arrays (op_of plan.now 0) }
     requires words { length words.old ≡ 192 }
@@ -78,16 +79,16 @@ fn finish_task<D: Depot>(
     ensures stays { (options : Numbers) (job : Addition) (entry : Contents) (late : List Write) → plan.now ≡ plan_of options job
         → IsStarted job entry late (D.held depot.old) (D.late depot.old) → ValuesStay job entry (D.held depot.old) (D.held depot.new) }
     ensures cause { (options : Numbers) (job : Addition) → plan.now ≡ plan_of options job → IsJob job
-        → IfErr result (IsTaskEnd job (D.faults depot.old) (D.faults depot.new) (D.lacks depot.new) (D.held depot.new)) }
+        → IfErr result (IsTaskEnd (retries + 1) job (D.faults depot.old) (D.faults depot.new) (D.lacks depot.new) (D.held depot.new)) }
     ensures failed { CountsFailed (D.faults depot.old) (D.faults depot.new) result }
-    ensures few { IfOk result (λ failed. failed ≤ 2) }
+    ensures few { IfOk result (λ failed. failed ≤ retries) }
     ensures named { IfErr result (λ status. IfTaskFailed status (λ op named. named ≡ task)) }
-    ensures calls { D.calls depot.new ≤ D.calls depot.old + 9 }
+    ensures calls { D.calls depot.new ≤ D.calls depot.old + 3 * (retries + 1) }
     ensures tries { IfOk result (λ failed. D.calls depot.new ≤ D.calls depot.old + 3 * (failed + 1)) }
     ensures count { D.faults depot.old ≤ D.faults depot.new }
     ensures lacks { D.lacks depot.new ≡ D.lacks depot.old }
 {
-    for failed in 0..RETRIES + 1 {
+    for failed in 0..retries + 1 {
         match try_task(depot, plan, task, bytes, words) {
             Ok(()) => return Ok(failed),
             Err(fault) => {
@@ -104,9 +105,11 @@ fn finish_task<D: Depot>(
 pub fn run_tasks<D: Depot>(
     depot: &mut D,
     plan: &Plan,
+    retries: u32,
     bytes: &mut [u8],
     words: &mut [u64],
 ) -> Result<u64, Status>
+    requires retries { retries ≤ 8 }
     requires plan { IsPlanned plan.now }
     requires words { length words.old ≡ 192 }
     requires room { plan.now.reserved + length bytes.old + 8 * length words.old ≡ projection plan.now.arrays plan.now.reserved (op_of plan.now 0) }
@@ -117,15 +120,15 @@ pub fn run_tasks<D: Depot>(
     ensures stays { (options : Numbers) (job : Addition) (entry : Contents) (late : List Write) → plan.now ≡ plan_of options job
         → IsStarted job entry late (D.held depot.old) (D.late depot.old) → ValuesStay job entry (D.held depot.old) (D.held depot.new) }
     ensures cause { (options : Numbers) (job : Addition) → plan.now ≡ plan_of options job → IsJob job
-        → IfErr result (IsTaskEnd job (D.faults depot.old) (D.faults depot.new) (D.lacks depot.new) (D.held depot.new)) }
+        → IfErr result (IsTaskEnd (retries + 1) job (D.faults depot.old) (D.faults depot.new) (D.lacks depot.new) (D.held depot.new)) }
     ensures failed { CountsFailed (D.faults depot.old) (D.faults depot.new) result }
-    ensures few { IfOk result (λ failed. failed ≤ 2 * tasks_of plan.now.arrays (op_of plan.now 0)) }
+    ensures few { IfOk result (λ failed. failed ≤ retries * tasks_of plan.now.arrays (op_of plan.now 0)) }
     ensures count { D.faults depot.old ≤ D.faults depot.new }
     ensures lacks { D.lacks depot.new ≡ D.lacks depot.old }
 {
     let mut failed = 0;
     for task in 0..tasks(plan, 0) {
-        match finish_task(depot, plan, task, bytes, words) {
+        match finish_task(depot, plan, task, retries, bytes, words) {
             Ok(more) => failed += u64::from(more),
             Err(status) => return Err(status),
         }

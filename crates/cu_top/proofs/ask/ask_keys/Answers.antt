@@ -15,7 +15,7 @@ loop-number-init g c = record {
 
 pub returns-in-Err-ask_key-clause-first : goal.returns-in-Err-ask_key-clause-first
 returns-in-Err-ask_key-clause-first g c writes entry follows =
-    key_fault_asked _ _ _ c.key_of-key.result c.in-Err-ask_key.status (IsFirstInWay c.args.job.now entry) c.in-Err-ask_key.ensures.cause
+    key_fault_asked _ _ _ _ c.key_of-key.result c.in-Err-ask_key.status (IsFirstInWay c.args.job.now entry) c.in-Err-ask_key.ensures.cause
     (inr (c.loop-number.number, omega (arith, c.chunks-number-end.ensures.count), c.key_of-key.ensures, c.loop-number.invariant.free writes entry follows))
 
 pub returns-then-is_held-clause-first : goal.returns-then-is_held-clause-first

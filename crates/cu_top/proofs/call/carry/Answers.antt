@@ -16,3 +16,6 @@ returns-clause-answer g c =
       adds = rw (c.names_in-names.ensures.left, c.names_in-names.ensures.right, c.names_in-names.ensures.out) (rw c.deref.ensures.value at c.in-Ok-read_addition.ensures.ok);
     })
     c.run.ensures.answer
+
+pub run-requires-clause-retries : goal.run-requires-clause-retries
+run-requires-clause-retries g c = (options_bounded _ c.in-Ok.options (sym c.in-Ok.ensures)).2

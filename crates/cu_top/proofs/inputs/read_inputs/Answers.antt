@@ -3,16 +3,16 @@ use Rattle.cu_top.proofs.InputLemmas.{unlike, had_inputs, left_fault, right_faul
 use Rattle.cu_top.proofs.inputs.read_inputs.Goals as goal
 
 pub returns-in-Err-clause-unlike : goal.returns-in-Err-clause-unlike
-returns-in-Err-clause-unlike g c entry late follows = never_unlike _ _ _ _ c.in-Err.status _ c.in-Err.ensures.cause
+returns-in-Err-clause-unlike g c entry late follows = never_unlike _ _ _ _ _ c.in-Err.status _ c.in-Err.ensures.cause
 
 pub returns-in-Err-clause-cause : goal.returns-in-Err-clause-cause
-returns-in-Err-clause-cause g c = left_fault c.args.names.now _ _ _ c.in-Err.status c.in-Err.ensures.cause
+returns-in-Err-clause-cause g c = left_fault _ c.args.names.now _ _ _ c.in-Err.status c.in-Err.ensures.cause
 
 pub returns-in-Err-read_layout-clause-unlike : goal.returns-in-Err-read_layout-clause-unlike
-returns-in-Err-read_layout-clause-unlike g c entry late follows = never_unlike _ _ _ _ c.in-Err-read_layout.status _ c.in-Err-read_layout.ensures.cause
+returns-in-Err-read_layout-clause-unlike g c entry late follows = never_unlike _ _ _ _ _ c.in-Err-read_layout.status _ c.in-Err-read_layout.ensures.cause
 
 pub returns-in-Err-read_layout-clause-cause : goal.returns-in-Err-read_layout-clause-cause
-returns-in-Err-read_layout-clause-cause g c = right_fault c.args.names.now _ _ _ _ c.in-Err-read_layout.status c.read_layout.ensures.count c.in-Err-read_layout.ensures.cause
+returns-in-Err-read_layout-clause-cause g c = right_fault _ c.args.names.now _ _ _ _ c.in-Err-read_layout.status c.read_layout.ensures.count c.in-Err-read_layout.ensures.cause
 
 pub returns-then-not-are_addable-clause-unlike : goal.returns-then-not-are_addable-clause-unlike
 returns-then-not-are_addable-clause-unlike g c entry late follows =

@@ -27,11 +27,11 @@ returns-in-Ok-clause-complete g c entry late s =
 
 pub returns-in-Ok-clause-metadata_alone : goal.returns-in-Ok-clause-metadata_alone
 returns-in-Ok-clause-metadata_alone g c writes entry among follows =
-    tasks_alone c.run_tasks.result c.args.job.now _ _ _ _ _ (c.run_tasks.ensures.cause c.requires.plan.0 c.args.job.now c.requires.plan.1 c.requires.job)
+    tasks_alone _ c.run_tasks.result c.args.job.now _ _ _ _ _ (c.run_tasks.ensures.cause c.requires.plan.0 c.args.job.now c.requires.plan.1 c.requires.job)
 
 pub returns-in-Ok-clause-cause : goal.returns-in-Ok-clause-cause
 returns-in-Ok-clause-cause g c =
-    tasks_fault c.run_tasks.result c.args.job.now _ _ _ _ _ c.put_value.ensures.count (c.run_tasks.ensures.cause c.requires.plan.0 c.args.job.now c.requires.plan.1 c.requires.job)
+    tasks_fault _ c.run_tasks.result c.args.job.now _ _ _ _ _ c.put_value.ensures.count (c.run_tasks.ensures.cause c.requires.plan.0 c.args.job.now c.requires.plan.1 c.requires.job)
 
 pub returns-in-Err-clause-metadata_alone : goal.returns-in-Err-clause-metadata_alone
 returns-in-Err-clause-metadata_alone g c writes entry among follows =
@@ -46,7 +46,7 @@ returns-in-Ok-clause-metadata_held g c entry late s =
     (c.run_tasks.ensures.stays c.requires.plan.0 c.args.job.now entry late c.requires.plan.1 s1 (metadata_key_of c.args.job.now.names.out) (out_metadata c.args.job.now) (own_metadata c.args.job.now entry) stored)
 
 pub returns-in-Err-clause-metadata_held : goal.returns-in-Err-clause-metadata_held
-returns-in-Err-clause-metadata_held g c entry late s = key_ended _ _ _ _ c.in-Err.status _ c.in-Err.ensures.cause
+returns-in-Err-clause-metadata_held g c entry late s = key_ended _ _ _ _ _ c.in-Err.status _ c.in-Err.ensures.cause
 
 pub returns-in-Ok-clause-few : goal.returns-in-Ok-clause-few
-returns-in-Ok-clause-few g c = few_failed c.run_tasks.result c.args.plan.now c.requires.plan.0 c.args.job.now c.requires.plan.1 c.run_tasks.ensures.few
+returns-in-Ok-clause-few g c = few_failed c.args.retries c.run_tasks.result c.args.plan.now c.requires.plan.0 c.args.job.now c.requires.plan.1 c.run_tasks.ensures.few

@@ -26,7 +26,7 @@ returns-in-Some-clause-stays g c options job entry late same s key bytes write h
 
 pub returns-in-Some-clause-cause : goal.returns-in-Some-clause-cause
 returns-in-Some-clause-cause g c options job same ok =
-    ends_so job _ _ _ _ _ c.in-Err.fault c.in-Some.status (sym c.end_of.ensures ∙ c.in-Some.is) (c.in-Err.ensures.cause options job same ok)
+    ends_so _ job _ _ _ _ _ c.in-Err.fault c.in-Some.status (sym c.end_of.ensures ∙ c.in-Some.is) (c.in-Err.ensures.cause options job same ok)
 
 pub loop-failed-preserved : goal.loop-failed-preserved
 loop-failed-preserved g c = let (options, job, ok, same) = c.requires.plan in record {

@@ -2,7 +2,7 @@ use Rattle.std.proofs.Common.{◌∙◌, ◌≡◌, arith}
 use Rattle.cu_top.specs.Job.{chunks_of}
 use Rattle.cu_top.proofs.JobLemmas.{more_stored}
 use Rattle.cu_top.proofs.PlanLemmas.{all_tasks}
-use Rattle.cu_top.proofs.TaskLemmas.{rose_then, end_earlier}
+use Rattle.cu_top.proofs.TaskLemmas.{rose_then, end_earlier, few_more}
 use Rattle.cu_top.proofs.tasks.run_tasks.Goals as goal
 
 pub returns-in-Err-clause-started : goal.returns-in-Err-clause-started
@@ -16,7 +16,7 @@ returns-in-Err-clause-stays g c options job entry late same s key bytes write ho
 
 pub returns-in-Err-clause-cause : goal.returns-in-Err-clause-cause
 returns-in-Err-clause-cause g c options job same ok =
-    end_earlier job _ _ _ _ _ c.in-Err.status c.loop-task.invariant.count (c.in-Err.ensures.cause options job same ok)
+    end_earlier _ job _ _ _ _ _ c.in-Err.status c.loop-task.invariant.count (c.in-Err.ensures.cause options job same ok)
 
 pub loop-task-preserved : goal.loop-task-preserved
 loop-task-preserved g c = record {
@@ -30,7 +30,7 @@ loop-task-preserved g c = record {
       c.finish_task.ensures.stays options job entry late same (c.loop-task.invariant.started options job entry late same s) key bytes write
       (c.loop-task.invariant.stays options job entry late same s key bytes write holds);
   rose = rw c.from-failed.ensures (rose_then c.loop-task.failed c.in-Ok.more _ _ _ c.loop-task.invariant.rose c.in-Ok.ensures.failed);
-  few = omega (arith, c.from-failed.ensures, c.in-Ok.ensures.few, c.loop-task.invariant.few);
+  few = few_more c.args.retries c.loop-task.task c.loop-task.failed c.from-failed.result c.loop-task.invariant.few (omega (arith, c.from-failed.ensures, c.in-Ok.ensures.few, c.loop-task.invariant.few));
   count = omega (arith, c.finish_task.ensures.count);
   lacks = c.finish_task.ensures.lacks ∙ c.loop-task.invariant.lacks;
 }

@@ -20,7 +20,7 @@ invariant-loop-task g l = record {
       → IsStarted job entry late (g.D.Depot.held l.initial.depot) (g.D.Depot.late l.initial.depot)
       → ValuesStay job entry (g.D.Depot.held l.initial.depot) (g.D.Depot.held l.depot);
   rose : Rose l.failed (g.D.Depot.faults l.initial.depot) (g.D.Depot.faults l.depot);
-  few : l.failed ≤ 2 * l.task;
+  few : l.failed ≤ l.retries * l.task;
   count : g.D.Depot.faults l.initial.depot ≤ g.D.Depot.faults l.depot;
   lacks : g.D.Depot.lacks l.depot ≡ g.D.Depot.lacks l.initial.depot;
 }
