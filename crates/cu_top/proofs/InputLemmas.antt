@@ -14,7 +14,7 @@ use Rattle.cu_zarr.specs.Key.{metadata_key_of}
 use Rattle.cu_zarr.specs.Layout.{ArrayLayout}
 use Rattle.cu_top.specs.Inputs.{IsInput, AreAddable, IsMetadata, HoldsText, HoldsLayout, HoldsRefused, IsMetadataFault, code_of}
 use Rattle.cu_top.specs.Job.{HasInputs}
-use Rattle.cu_top.specs.Run.{HasNames, IfNotBuilt, AreUnlike, IsCalmMetadata, IsMetadataKey, IsInputFault}
+use Rattle.cu_top.specs.Run.{HasNames, IfNotBuilt, AreUnlike, IsCalmMetadata, IsMetadataKey, IsInputFault, IfInput, IsInOrder}
 use Rattle.cu_top.specs.declared.job.Job.{Job}
 use Rattle.cu_top.specs.declared.job.Names.{Names}
 use Rattle.cu_top.specs.declared.status.Status.{Status}
@@ -202,3 +202,41 @@ one_job names entry a b has other inputs held =
     ap (λ (n : Names). record { names = n; left = a.left; right = a.right }) same
     ∙ ap (λ (l : Layout). record { names = b.names; left = l; right = a.right }) left
     ∙ ap (λ (l : Layout). record { names = b.names; left = b.left; right = l }) right
+
+-- ---- the inputs' order
+
+pub first_turn : (tries : ℕ) (names : Names) (entry : Contents) (late : List Write) (before after : ℕ) (held : Option Contents) (status : Status)
+    → IsMetadataFault tries before after held names.left status → IfInput status (IsInOrder names entry late)
+first_turn tries names entry late before after held (BadMeta name code) h = inl h.0
+first_turn tries names entry late before after held (NoArray name) h = inl h.0
+first_turn tries names entry late before after held (DepotFailed key) h = tt
+first_turn tries names entry late before after held NoMemory h = tt
+first_turn tries names entry late before after held (NotBuilt node) h = tt
+first_turn tries names entry late before after held Done h = tt
+first_turn tries names entry late before after held (BadWords code) h = tt
+first_turn tries names entry late before after held (OverMemory node need allowed) h = tt
+first_turn tries names entry late before after held (Exists key) h = tt
+first_turn tries names entry late before after held (TaskFailed op task) h = tt
+first_turn tries names entry late before after held ReadFault h = tt
+first_turn tries names entry late before after held WriteFault h = tt
+first_turn tries names entry late before after held (BadChunk key got want) h = tt
+
+if_input : (status : Status) (P : List ℕ → Type 0) → ((name : List ℕ) → P name) → IfInput status P
+if_input (BadMeta name code) P h = h name.bytes
+if_input (NoArray name) P h = h name.bytes
+if_input (DepotFailed key) P h = tt
+if_input NoMemory P h = tt
+if_input (NotBuilt node) P h = tt
+if_input Done P h = tt
+if_input (BadWords code) P h = tt
+if_input (OverMemory node need allowed) P h = tt
+if_input (Exists key) P h = tt
+if_input (TaskFailed op task) P h = tt
+if_input ReadFault P h = tt
+if_input WriteFault P h = tt
+if_input (BadChunk key got want) P h = tt
+
+pub second_turn : (names : Names) (entry : Contents) (late late1 : List Write) (held1 : Option Contents) (left : Layout) (status : Status)
+    → Follows late (Some entry) held1 late1 → HoldsLayout held1 (metadata_key_of names.left) left → IfInput status (IsInOrder names entry late)
+second_turn names entry late late1 held1 left status follows holds =
+    if_input status (IsInOrder names entry late) (λ name. inr (λ calm. (left, layout_before names entry late late1 held1 (metadata_key_of names.left) left calm (inl refl) follows holds)))

@@ -10,7 +10,7 @@ use Rattle.cu_top.specs.Job.{IsStarted, plan_writes, key_of_chunk, out_array, ch
 use Rattle.cu_top.specs.Plan.{over_memory}
 use Rattle.cu_top.specs.Report.{TellsMemory, Reports}
 use Rattle.cu_zarr.specs.Key.{metadata_key_of}
-use Rattle.cu_top.specs.Run.{IsInputFault, IfNotBuilt, AreUnlike, IsAskFault, IfAsked, IfExists, IsFirstInWay, IsOwnFirst, IsApart, IsCalm, Completes, IfDepotFailed, IfTaskEnded, IsStoreFault, metadata_write, report_line}
+use Rattle.cu_top.specs.Run.{IsInputFault, IfNotBuilt, IfInput, IsInOrder, AreUnlike, IsAskFault, IfAsked, IfExists, IsFirstInWay, IsOwnFirst, IsApart, IsCalm, Completes, IfDepotFailed, IfTaskEnded, IsStoreFault, metadata_write, report_line}
 use Rattle.cu_top.specs.Tasks.{IsBad}
 use Rattle.cu_top.specs.Top.{IsAccepted, IsRun, Refuses, Ran, IsCalled, Tells, Carries, IfStored, PrintsOnly, WroteLine, WrotePart, Anything, IsLeftIn, HasOutMetadata}
 use Rattle.cu_top.specs.declared.job.Job.{Job}
@@ -38,20 +38,21 @@ gone_before W (Some old) (Some new) key lands gone = before (old key) (new key) 
     before a b (inr (bytes, write, now)) none = cc
 
 pub input_refused : (names : Names) (options : Options) (old new : Option Contents) (late : List Write) (f g : ℕ) (status : Status)
-    → IsInputFault (options.retries + 1) names f g new status → Lands (IsAmong late) old new → ((entry : Contents) → old ≡ Some entry → IfNotBuilt status (AreUnlike names entry late)) → Refuses names options old new late f g status
-input_refused names options old new late f g (DepotFailed key) fault lands unlike = (fault.1, inl fault.0)
-input_refused names options old new late f g (BadMeta name code) fault lands unlike = fault
-input_refused names options old new late f g (NoArray name) fault lands unlike = (fault.0, gone_before (IsAmong late) old new (metadata_key_of name.bytes) lands fault.1)
-input_refused names options old new late f g (NotBuilt node) fault lands unlike = (fault, λ entry told. (unlike entry told).1)
-input_refused names options old new late f g NoMemory fault lands unlike = tt
-input_refused names options old new late f g Done fault lands unlike = fault
-input_refused names options old new late f g (BadWords code) fault lands unlike = fault
-input_refused names options old new late f g (OverMemory node need allowed) fault lands unlike = absurd fault
-input_refused names options old new late f g (Exists key) fault lands unlike = absurd fault
-input_refused names options old new late f g (TaskFailed op task) fault lands unlike = absurd fault
-input_refused names options old new late f g ReadFault fault lands unlike = fault
-input_refused names options old new late f g WriteFault fault lands unlike = fault
-input_refused names options old new late f g (BadChunk key got want) fault lands unlike = fault
+    → IsInputFault (options.retries + 1) names f g new status → Lands (IsAmong late) old new → ((entry : Contents) → old ≡ Some entry → IfNotBuilt status (AreUnlike names entry late))
+    → ((entry : Contents) → old ≡ Some entry → IfInput status (IsInOrder names entry late)) → Refuses names options old new late f g status
+input_refused names options old new late f g (DepotFailed key) fault lands unlike order = (fault.1, inl fault.0)
+input_refused names options old new late f g (BadMeta name code) fault lands unlike order = (fault, order)
+input_refused names options old new late f g (NoArray name) fault lands unlike order = ((fault.0, gone_before (IsAmong late) old new (metadata_key_of name.bytes) lands fault.1), order)
+input_refused names options old new late f g (NotBuilt node) fault lands unlike order = (fault, λ entry told. (unlike entry told).1)
+input_refused names options old new late f g NoMemory fault lands unlike order = tt
+input_refused names options old new late f g Done fault lands unlike order = fault
+input_refused names options old new late f g (BadWords code) fault lands unlike order = fault
+input_refused names options old new late f g (OverMemory node need allowed) fault lands unlike order = absurd fault
+input_refused names options old new late f g (Exists key) fault lands unlike order = absurd fault
+input_refused names options old new late f g (TaskFailed op task) fault lands unlike order = absurd fault
+input_refused names options old new late f g ReadFault fault lands unlike order = fault
+input_refused names options old new late f g WriteFault fault lands unlike order = fault
+input_refused names options old new late f g (BadChunk key got want) fault lands unlike order = fault
 
 pub memory_refused : (names : Names) (options : Options) (old new : Option Contents) (late : List Write) (f g : ℕ) (job : Job) (status : Status) (over : Option (ℕ × ℕ))
     → IsAccepted names options old late job → over_memory options job ≡ over → TellsMemory options.allowed over (Err status) → Refuses names options old new late f g status
@@ -94,8 +95,8 @@ pub ran_refused : (names : Names) (options : Options) (old new : Option Contents
     → Refuses names options old new late f g status → Follows late old new now_late → Ran names options old new late now_late f g v w front back status
 ran_refused names options old new late now_late f g v w front back (OverMemory node need allowed) refused untouched = (untouched, refused.0, refused.1)
 ran_refused names options old new late now_late f g v w front back (Exists key) refused untouched = (untouched, refused)
-ran_refused names options old new late now_late f g v w front back (BadMeta name code) refused untouched = (untouched, refused)
-ran_refused names options old new late now_late f g v w front back (NoArray name) refused untouched = (untouched, refused)
+ran_refused names options old new late now_late f g v w front back (BadMeta name code) refused untouched = (untouched, refused.0, refused.1)
+ran_refused names options old new late now_late f g v w front back (NoArray name) refused untouched = (untouched, refused.0, refused.1)
 ran_refused names options old new late now_late f g v w front back (TaskFailed op task) refused untouched = absurd refused
 ran_refused names options old new late now_late f g v w front back (NotBuilt node) refused untouched = (untouched, refused.0, refused.1)
 ran_refused names options old new late now_late f g v w front back (DepotFailed key) refused untouched = (refused.0, inl (untouched, refused.1))

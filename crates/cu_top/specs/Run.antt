@@ -112,6 +112,14 @@ IfNotBuilt (BadChunk key got want) P = Unit {0}
 IfNotBuilt (DepotFailed key) P = Unit {0}
 IfNotBuilt NoMemory P = Unit {0}
 
+-- the metadata key of an input
+abbrev pub IsMetadataKey : ArrayNames → List ℕ → Type 0
+IsMetadataKey names key = (key ≡ metadata_key_of names.left) ⊎ (key ≡ metadata_key_of names.right)
+
+-- each put that is late on an input's metadata carries what is held there
+abbrev pub IsCalmMetadata : ArrayNames → Contents → List Write → Type 0
+IsCalmMetadata names entry late = (key bytes : List ℕ) → IsAmong late key bytes → IsMetadataKey names key → entry key ≡ Some bytes
+
 -- this is the name of one of the inputs
 abbrev pub IsInputName : ArrayNames → List ℕ → Type 0
 IsInputName names name = (name ≡ names.left) ⊎ (name ≡ names.right)
@@ -123,6 +131,26 @@ IsRefusedInput names held name code = IsInputName names name × HoldsRefused hel
 -- this input has no metadata
 abbrev pub IsMissingInput : ArrayNames → Option Contents → List ℕ → Type 0
 IsMissingInput names held name = IsInputName names name × IsGone held (metadata_key_of name)
+
+-- Inputs are read in their order: this is the first one's name, or the first one had metadata when the call began.
+abbrev pub IsInOrder : ArrayNames → Contents → List Write → List ℕ → Type 0
+IsInOrder names entry late name = (name ≡ names.left) ⊎ (IsCalmMetadata names entry late → (l : Layout) × HasMetadata entry names.left l)
+
+-- a fact of the name of the input that is missing or refused
+abbrev pub IfInput : Status → (List ℕ → Type 0) → Type 0
+IfInput (BadMeta name code) P = P name.bytes
+IfInput (NoArray name) P = P name.bytes
+IfInput Done P = Unit {0}
+IfInput (BadWords code) P = Unit {0}
+IfInput (OverMemory node need allowed) P = Unit {0}
+IfInput (Exists key) P = Unit {0}
+IfInput (TaskFailed op task) P = Unit {0}
+IfInput ReadFault P = Unit {0}
+IfInput WriteFault P = Unit {0}
+IfInput (BadChunk bad got want) P = Unit {0}
+IfInput (DepotFailed key) P = Unit {0}
+IfInput (NotBuilt node) P = Unit {0}
+IfInput NoMemory P = Unit {0}
 
 -- why reading the metadata of the inputs ends
 abbrev pub IsInputFault : ℕ → ArrayNames → ℕ → ℕ → Option Contents → Status → Type 0
@@ -139,14 +167,6 @@ IsInputFault tries names before after held (TaskFailed op task) = ⊥
 IsInputFault tries names before after held ReadFault = ⊥
 IsInputFault tries names before after held WriteFault = ⊥
 IsInputFault tries names before after held (BadChunk bad got want) = ⊥
-
--- the metadata key of an input
-abbrev pub IsMetadataKey : ArrayNames → List ℕ → Type 0
-IsMetadataKey names key = (key ≡ metadata_key_of names.left) ⊎ (key ≡ metadata_key_of names.right)
-
--- each put that is late on an input's metadata carries what is held there
-abbrev pub IsCalmMetadata : ArrayNames → Contents → List Write → Type 0
-IsCalmMetadata names entry late = (key bytes : List ℕ) → IsAmong late key bytes → IsMetadataKey names key → entry key ≡ Some bytes
 
 -- The premise of a run: no write of another content of an input, or of another value of the output, is still to land. It is said of
 -- the sizes that both inputs have.

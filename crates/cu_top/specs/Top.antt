@@ -5,7 +5,7 @@ use Rattle.cu_store.specs.Held.{Contents, Write, Follows, Holds}
 use Rattle.cu_zarr.specs.Key.{metadata_key_of}
 use Rattle.cu_top.specs.Job.{IsJob, IsPlanKey, HasInputs, IsStarted, IsLeft, chunks_of, key_of_chunk, out_array, out_metadata}
 use Rattle.cu_top.specs.Plan.{over_memory, IsLentWithin}
-use Rattle.cu_top.specs.Run.{HasNames, IsInWay, IsFirstInWay, IsOwnFirst, IsApart, IsMetadataKey, IsCalmMetadata, IsCalm, AreUnlike, IsRefusedInput, IsMissingInput, report_line, Completes, metadata_write}
+use Rattle.cu_top.specs.Run.{HasNames, IsInWay, IsFirstInWay, IsOwnFirst, IsApart, IsMetadataKey, IsCalmMetadata, IsCalm, AreUnlike, IsInOrder, IsRefusedInput, IsMissingInput, report_line, Completes, metadata_write}
 use Rattle.cu_top.specs.Tasks.{IsBad}
 use Rattle.cu_top.specs.Streams.{WroteFront, ReadsAll}
 use Rattle.cu_top.specs.Expression.{Names as TextNames, addition_of}
@@ -130,13 +130,17 @@ PrintsOnly (DepotFailed key) old new = new ≡ old
 PrintsOnly (NotBuilt node) old new = new ≡ old
 PrintsOnly NoMemory old new = new ≡ old
 
+-- the inputs before the one with this name had metadata, where the contents are told
+abbrev pub IsTurn : ArrayNames → Option Contents → List Write → List ℕ → Type 0
+IsTurn names old late name = (entry : Contents) → old ≡ Some entry → IsInOrder names entry late name
+
 -- ---- what preparing a job refuses
 
 abbrev pub Refuses : ArrayNames → Options → Option Contents → Option Contents → List Write → ℕ → ℕ → Status → Type 0
 Refuses names options old new late f g (OverMemory node need allowed) = (allowed ≡ options.allowed) × IsOver names options old late node need
 Refuses names options old new late f g (Exists key) = IsBlocked names options old new late key
-Refuses names options old new late f g (BadMeta name code) = IsRefusedInput names new name.bytes code
-Refuses names options old new late f g (NoArray name) = IsMissingInput names old name.bytes
+Refuses names options old new late f g (BadMeta name code) = IsRefusedInput names new name.bytes code × IsTurn names old late name.bytes
+Refuses names options old new late f g (NoArray name) = IsMissingInput names old name.bytes × IsTurn names old late name.bytes
 Refuses names options old new late f g (TaskFailed op task) = ⊥
 Refuses names options old new late f g (NotBuilt node) = (node ≡ 0) × ((entry : Contents) → old ≡ Some entry → AreUnlike names entry late)
 Refuses names options old new late f g (DepotFailed key) = Rose (options.retries + 1) f g × (IsMetadataKey names key ⊎ IsAsked names options old late key)
@@ -158,8 +162,8 @@ Ran names options old new late now_late f g v w front back Done = IsRun names op
 Ran names options old new late now_late f g v w front back WriteFault = Rose 1 v w × IsRun names options old new late now_late (WrotePart options f g front back) (λ job entry. Completes job entry new)
 Ran names options old new late now_late f g v w front back (BadChunk key got want) = IsRun names options old new late now_late (IsBad new key got want) (HasOutMetadata new)
 Ran names options old new late now_late f g v w front back (DepotFailed key) = Rose (options.retries + 1) f g × ((IsUntouched old new late now_late × (IsMetadataKey names key ⊎ IsAsked names options old late key)) ⊎ IsRun names options old new late now_late (λ job. key ≡ metadata_key_of job.names.out) (λ job entry. Follows (metadata_write job ∷ late) (Some entry) new now_late))
-Ran names options old new late now_late f g v w front back (BadMeta name code) = IsUntouched old new late now_late × IsRefusedInput names new name.bytes code
-Ran names options old new late now_late f g v w front back (NoArray name) = IsUntouched old new late now_late × IsMissingInput names old name.bytes
+Ran names options old new late now_late f g v w front back (BadMeta name code) = IsUntouched old new late now_late × IsRefusedInput names new name.bytes code × IsTurn names old late name.bytes
+Ran names options old new late now_late f g v w front back (NoArray name) = IsUntouched old new late now_late × IsMissingInput names old name.bytes × IsTurn names old late name.bytes
 Ran names options old new late now_late f g v w front back (TaskFailed op task) = Rose (options.retries + 1) f g × (op ≡ 0) × IsRun names options old new late now_late (λ job. task < chunks_of job) (λ job entry. (entry (key_of_chunk (out_array job) task) ≡ None) × HasOutMetadata new job entry)
 Ran names options old new late now_late f g v w front back NoMemory = IsUntouched old new late now_late ⊎ IsRun names options old new late now_late (λ job. Unit {0}) Anything
 Ran names options old new late now_late f g v w front back (OverMemory node need allowed) = IsUntouched old new late now_late × (allowed ≡ options.allowed) × IsOver names options old late node need

@@ -6,7 +6,7 @@ ghost use Rattle.cu_store.specs.Held.{Contents, Write, Follows};
 ghost use Rattle.cu_zarr.specs.Key.{metadata_key_of};
 ghost use Rattle.cu_top.specs.Job.{AreArrayNames, IsArrayName, IsJob, HasInputs};
 ghost use Rattle.cu_top.specs.Inputs.{IsInput, AreAddable, HoldsLayout, IsMetadataFault, code_of};
-ghost use Rattle.cu_top.specs.Run.{HasNames, IsInputFault, IfNotBuilt, AreUnlike, IsCalmMetadata};
+ghost use Rattle.cu_top.specs.Run.{HasNames, IsInputFault, IfNotBuilt, IfInput, IsInOrder, AreUnlike, IsCalmMetadata};
 
 use crate::Status;
 use crate::expression::Name;
@@ -153,6 +153,8 @@ pub fn read_inputs<D: Depot>(
     ensures job { IfOk result IsJob }
     ensures inputs { (entry : Contents) (late : List Write) → Follows late (Some entry) (D.held depot.old) (D.late depot.old)
         → IfOk result (λ job. IsCalmMetadata names.now entry late → HasInputs job entry) }
+    ensures order { (entry : Contents) (late : List Write) → Follows late (Some entry) (D.held depot.old) (D.late depot.old)
+        → IfErr result (λ status. IfInput status (IsInOrder names.now entry late)) }
     ensures unlike { (entry : Contents) (late : List Write) → Follows late (Some entry) (D.held depot.old) (D.late depot.old)
         → IfErr result (λ status. IfNotBuilt status (AreUnlike names.now entry late)) }
     ensures follows { (writes : List Write) (entry : Option Contents)

@@ -8,6 +8,7 @@ pub returns-in-Err-clause-refused : goal.returns-in-Err-clause-refused
 returns-in-Err-clause-refused g c =
     input_refused c.args.names.now c.args.options _ _ _ _ _ c.in-Err.status c.in-Err.ensures.cause (c.read_inputs.ensures.follows _ _ (untouched_start _ _)).0
     (λ entry told. c.in-Err.ensures.unlike entry _ (follows_start _ entry _ told))
+    (λ entry told. c.in-Err.ensures.order entry _ (follows_start _ entry _ told))
 
 pub returns-in-Err-check_memory-clause-refused : goal.returns-in-Err-check_memory-clause-refused
 returns-in-Err-check_memory-clause-refused g c =
