@@ -50,7 +50,7 @@ length_after front ns (item d ds) h =
     let far = length_after (front ++ n ∷ []) ns ds rest in
     omega (arith, far, length-append front (n ∷ [])))
 
-few_sizes : (d : Data) (ns : List ℕ) → naturals_of 6 d ≡ Some ns → length ns ≤ 6
+pub few_sizes : (d : Data) (ns : List ℕ) → naturals_of 6 d ≡ Some ns → length ns ≤ 6
 few_sizes d ns h =
     some_of (as_array d) (λ none. none_is_no_some ns (rw none at h)) (λ items e.
     let h1 = rw e at h in
@@ -116,7 +116,7 @@ bool_accepted : (o : Option Test) (x : ℤ) → option_map truth o ≡ Some x �
 bool_accepted None x h = cc
 bool_accepted (Some b) x h = let same : truth b ≡ x = cc in subst (InRange Bool) same (truth_accepted b)
 
-fill_accepted : (t : Dtype) (d : Data) (x : ℤ) → fill_of t d ≡ Some x → InRange t x
+pub fill_accepted : (t : Dtype) (d : Data) (x : ℤ) → fill_of t d ≡ Some x → InRange t x
 fill_accepted Bool d x h = bool_accepted (as_bool d) x h
 fill_accepted Int8 d x h = whole_accepted Int8 d x h
 fill_accepted Int16 d x h = whole_accepted Int16 d x h

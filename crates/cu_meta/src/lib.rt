@@ -12,5 +12,6 @@ mod write;
 
 pub use fault::{MetaFault, MetaRefused};
 pub use laws::meta_law;
+pub use members::{dtype_named, fill_in, sizes_in};
 pub use read::read_meta;
 pub use write::write_meta;

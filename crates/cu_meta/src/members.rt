@@ -17,7 +17,8 @@ use serde_json::{Map, Value};
 /// The most axes of an array.
 const MOST_AXES: usize = 6;
 
-fn dtype_named(name: &str) -> Option<Dtype>
+/// The type of a name.
+pub fn dtype_named(name: &str) -> Option<Dtype>
     ensures { result ≡ dtype_named name.now }
 {
     match name {
@@ -45,7 +46,7 @@ pub(crate) fn dtype_in(value: &Value) -> Option<Dtype>
 }
 
 /// The numbers of a list of at most six.
-fn sizes_in(value: &Value) -> Option<Dims>
+pub fn sizes_in(value: &Value) -> Option<Dims>
     ensures { result ≡ naturals_of 6 (view value.now) }
 {
     let Some(items) = value.as_array() else {
@@ -161,7 +162,7 @@ fn whole_in(dtype: Dtype, value: &Value) -> Option<i128>
 }
 
 /// The element that `fill_value` says.
-pub(crate) fn fill_in(dtype: Dtype, value: &Value) -> Option<i128>
+pub fn fill_in(dtype: Dtype, value: &Value) -> Option<i128>
     ensures { result ≡ fill_of dtype (view value.now) }
 {
     match dtype {

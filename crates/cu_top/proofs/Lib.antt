@@ -4,6 +4,7 @@ mod ExpressionExample
 mod ExpressionLemmas
 mod InputLemmas
 mod JobLemmas
+mod LoadLemmas
 mod NameLemmas
 mod OptionLemmas
 mod OutputLemmas

@@ -2,6 +2,7 @@ pub mod Complete
 pub mod Expression
 pub mod Inputs
 pub mod Job
+pub mod LoadForm
 pub mod Plan
 pub mod Report
 pub mod Run

@@ -147,7 +147,7 @@ fn are_distinct(a: &str, b: &str, c: &str) -> bool
 }
 
 /// The name that stands at a member.
-fn name_at(value: &Value, key: &str) -> Option<Name>
+pub(crate) fn name_at(value: &Value, key: &str) -> Option<Name>
     ensures { option_map (λ n. n.bytes) result ≡ name_in (get key.now (view value.now)) }
 {
     let text = value.get(key)?.as_str()?;

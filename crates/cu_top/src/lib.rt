@@ -8,6 +8,7 @@ mod inputs;
 mod job;
 mod keys;
 mod laws;
+mod load_form;
 mod memory;
 mod output;
 mod plan;
