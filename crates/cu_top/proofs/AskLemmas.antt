@@ -1,12 +1,13 @@
 -- Keys that were found absent.
-use Rattle.std.proofs.Common.{◌≡◌, ℕ, ◌+◌, List, Option, Some, None, sym, ◌∙◌, inl, inr, arith, below_more, Bool, subst}
+use Rattle.std.proofs.Common.{◌⊎◌, Result, Ok, Err, OnOk, IfErr, ◌≡◌, ℕ, ◌+◌, List, Option, Some, None, sym, ◌∙◌, inl, inr, arith, below_more, Bool, subst}
 use Rattle.cu_store.specs.Held.{Contents, Write, IsAmong, IsKeptAt, Follows, IsGone}
 use Rattle.cu_zarr.specs.Key.{metadata_key_of}
-use Rattle.cu_top.specs.Job.{IsFree, chunks_of, key_of_chunk, out_array}
-use Rattle.cu_top.specs.Tasks.{IsKeyFault}
-use Rattle.cu_top.specs.Run.{IsFreeBelow, IfAsked}
-use Rattle.cu_top.specs.declared.status.Status.{Status}
-use Rattle.cu_top.specs.declared.status.Status.TheVariants.{Done, BadWords, OverMemory, BadMeta, NoArray, Exists, TaskFailed, ReadFault, WriteFault, BadChunk, DepotFailed, NotBuilt, NoMemory}
+use Rattle.cu_top.specs.Job.{IsFree, IsOutKey, chunks_of, key_of_chunk, out_array}
+use Rattle.cu_command.specs.Keys.{IsKeyFault}
+use Rattle.cu_top.specs.Run.{IsFreeBelow, IfAsked, IsFirstOfOut, IsFirstInWay, IsPlanFree}
+use Rattle.cu_command.specs.Name.{record_key_of}
+use Rattle.cu_command.specs.declared.status.Status.{Status}
+use Rattle.cu_command.specs.declared.status.Status.TheVariants.{Done, BadWords, OverMemory, BadMeta, NoArray, Exists, TaskFailed, ReadFault, WriteFault, BadChunk, DepotFailed, BadLoad, NotBuilt, NoMemory}
 use Rattle.cu_top.specs.declared.job.Job.{Job}
 
 kept_absent : (W : List ℕ → List ℕ → Type 0) (entry held : Contents) (key : List ℕ) → held key ≡ None → IsKeptAt W entry held key → entry key ≡ None
@@ -40,6 +41,40 @@ key_fault_asked tries before after lacks key (BadMeta name code) P fault here = 
 key_fault_asked tries before after lacks key (NoArray name) P fault here = tt
 key_fault_asked tries before after lacks key (TaskFailed op task) P fault here = tt
 key_fault_asked tries before after lacks key ReadFault P fault here = tt
+key_fault_asked tries before after lacks key (BadLoad code) P fault here = tt
 key_fault_asked tries before after lacks key WriteFault P fault here = tt
 key_fault_asked tries before after lacks key (BadChunk bad got want) P fault here = tt
 key_fault_asked tries before after lacks key (NotBuilt node) P fault here = tt
+
+-- ---- the record and the output
+
+-- where the record and the keys of the output were absent, no key of the plan was held
+pub plan_free : {T E : Type 0} (result : Result T E) (job : Job) (entry : Contents) → entry (record_key_of job.names.out) ≡ None → OnOk result (IsFree job entry) → OnOk result (IsPlanFree job entry)
+plan_free (Err e) job entry gone free = tt
+plan_free (Ok x) job entry gone free = λ key of_plan. free_at key of_plan
+  where
+    free_at : (key : List ℕ) → (key ≡ record_key_of job.names.out) ⊎ IsOutKey job key → entry key ≡ None
+    free_at key (inl here) = rw here gone
+    free_at key (inr of_out) = free key of_out
+
+asked_at : (status : Status) (P Q : List ℕ → Type 0) → ((key : List ℕ) → P key → Q key) → IfAsked status P → IfAsked status Q
+asked_at (Exists key) P Q step h = step key h
+asked_at (DepotFailed key) P Q step h = step key h
+asked_at NoMemory P Q step h = tt
+asked_at Done P Q step h = tt
+asked_at (BadWords code) P Q step h = tt
+asked_at (OverMemory node need allowed) P Q step h = tt
+asked_at (BadMeta name code) P Q step h = tt
+asked_at (NoArray name) P Q step h = tt
+asked_at (TaskFailed op task) P Q step h = tt
+asked_at ReadFault P Q step h = tt
+asked_at WriteFault P Q step h = tt
+asked_at (BadChunk bad got want) P Q step h = tt
+asked_at (BadLoad code) P Q step h = tt
+asked_at (NotBuilt node) P Q step h = tt
+
+-- a key of the output that was asked, where the record was absent
+pub asked_behind : {T : Type 0} (result : Result T Status) (job : Job) (entry : Contents) → entry (record_key_of job.names.out) ≡ None
+    → IfErr result (λ status. IfAsked status (IsFirstOfOut job entry)) → IfErr result (λ status. IfAsked status (IsFirstInWay job entry))
+asked_behind (Ok x) job entry gone h = tt
+asked_behind (Err status) job entry gone h = asked_at status (IsFirstOfOut job entry) (IsFirstInWay job entry) (λ key first. inr (gone, first)) h

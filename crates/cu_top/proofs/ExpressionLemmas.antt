@@ -1,6 +1,5 @@
--- Names, and what is read as an addition.
-use Rattle.std.proofs.Common.{◌≡◌, ℕ, ◌≤◌, ◌&&◌, Bool, true, false, List, length, nat_eq, nat_le, Option, Some, None, option_and_then, IsUtf8, refl, sym, subst, ◌∙◌, option_map, Result, Ok, Err, IfOk}
-use Rattle.std.specs.Option.{ok_or}
+-- Counts of items and members, and what is read as an addition.
+use Rattle.std.proofs.Common.{◌≡◌, ℕ, ◌≤◌, ◌&&◌, Bool, true, false, List, length, nat_eq, nat_le, Option, Some, None, option_and_then, IsUtf8, refl}
 use Rattle.std.specs.Str.{is_utf8}
 use Rattle.std.proofs.lemmas.Bool.{and_from, and_parts, le-leb}
 use Rattle.std.proofs.lemmas.Str.{IsUtf8-from_is_utf8, is_utf8-from_IsUtf8}
@@ -10,11 +9,8 @@ use Rattle.serde_json.specs.Read.{read}
 use Rattle.serde_json.specs.View.{items_view, members_view}
 use Rattle.serde_json.proofs.Views.{Entry, items_len-items_view, members_len-members_view}
 use Rattle.serde_json.specs.declared.value.Value.{Value}
-use Rattle.cu_top.specs.declared.expression.Addition.{Addition}
-use Rattle.cu_top.specs.declared.expression.NotAddition.{NotAddition}
-use Rattle.cu_top.specs.declared.expression.NotAddition.TheVariants.{Form}
-use Rattle.cu_top.proofs.NameLemmas.{addition_has_names}
-use Rattle.cu_top.specs.Expression.{Names, AreNames, names_of, is_list_of, is_object_of, when, addition_in, addition_of}
+use Rattle.cu_meta.specs.Options.{when}
+use Rattle.cu_top.specs.Expression.{Names, is_list_of, is_object_of, addition_in, addition_of}
 
 pub list_counted : (d : Data) (items : List Value) (len count : ℕ) → Some (items_view items) ≡ as_array d → len ≡ length items → nat_eq len count ≡ is_list_of count d
 list_counted d items len count found is_len = rw (← found, items_len-items_view, is_len)
@@ -36,12 +32,3 @@ none_when false o refuted = refl
 pub addition_refused : (text : List ℕ) → ¬ (IsUtf8 text) → addition_of text ≡ None
 unfolding addition_of
 addition_refused text refuted = none_when _ _ (λ e. refuted (IsUtf8-from_is_utf8 text (and_parts (nat_le (length text) 1048576) (is_utf8 text) e).1))
-
-pub named : (text : List ℕ) (result : Result Addition NotAddition) → IfOk result (λ a. addition_of text ≡ Some (names_of a)) → IfOk result (λ a. AreNames (names_of a))
-named text (Ok a) is = addition_has_names text (names_of a) is
-named text (Err e) is = tt
-
-pub addition_answered : (text : List ℕ) (d : Data) (found : Option Addition) (result : Result Addition NotAddition) → result ≡ ok_or found Form
-    → option_map names_of found ≡ addition_in d → addition_of text ≡ addition_in d → IfOk result (λ a. addition_of text ≡ Some (names_of a))
-addition_answered text d (Some a) result is found whole = subst (λ r. IfOk r (λ b. addition_of text ≡ Some (names_of b))) (sym is) (whole ∙ sym found)
-addition_answered text d None result is found whole = subst (λ r. IfOk r (λ b. addition_of text ≡ Some (names_of b))) (sym is) tt

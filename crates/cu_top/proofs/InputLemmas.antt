@@ -1,24 +1,20 @@
 -- What the metadata of the inputs was when the call began.
-use Rattle.std.proofs.Common.{◌≡◌, Bool, true, false, true≢false, ℕ, suc, ◌<◌, ◌≤◌, [], ◌∷◌, get_or, arith, List, length, take, Option, Some, None, Result, Ok, Err, sym, ap, ◌∙◌, subst, inl, inr, refl}
-use Rattle.std.proofs.lemmas.List.{take_all}
-use Rattle.cu_grid.specs.Grid.{IsGrid}
-use Rattle.cu_meta.proofs.Answered.{read_too_long}
-use Rattle.cu_meta.proofs.Accepted.{read_accepted}
-use Rattle.cu_meta.specs.Fault.{Fault, too_long}
+use Rattle.std.proofs.Common.{◌≡◌, Bool, true, false, true≢false, ℕ, suc, ◌<◌, ◌≤◌, [], ◌∷◌, get_or, arith, List, length, Option, Some, None, Result, Ok, Err, sym, ap, ◌∙◌, subst, inl, inr, refl}
+use Rattle.cu_meta.specs.Fault.{Fault}
 use Rattle.cu_meta.specs.Metadata.{read_metadata}
 use Rattle.cu_op.specs.Layout.{layout_view}
 use Rattle.cu_op.specs.declared.layout.Layout.{Layout}
-use Rattle.cu_store.specs.Held.{Contents, Write, IsAmong, IsKeptAt, Follows, Gets, IsGone}
-use Rattle.cu_store.specs.declared.depot.Got.TheVariants.{Absent, Held}
+use Rattle.cu_store.specs.Held.{Contents, Write, IsAmong, IsKeptAt, Follows, IsGone}
 use Rattle.cu_zarr.specs.Key.{metadata_key_of}
 use Rattle.cu_zarr.specs.Layout.{ArrayLayout}
-use Rattle.cu_top.specs.Inputs.{IsInput, AreAddable, IsMetadata, HoldsText, HoldsLayout, HoldsRefused, IsMetadataFault, code_of}
+use Rattle.cu_command.specs.Stored.{IsMetadata, HoldsLayout, HoldsRefused, IsMetadataFault}
+use Rattle.cu_top.specs.Inputs.{AreAddable}
 use Rattle.cu_top.specs.Job.{HasInputs}
 use Rattle.cu_top.specs.Run.{HasNames, IfNotBuilt, AreUnlike, IsCalmMetadata, IsMetadataKey, IsInputFault, IfInput, IsInOrder}
 use Rattle.cu_top.specs.declared.job.Job.{Job}
 use Rattle.cu_top.specs.declared.job.Names.{Names}
-use Rattle.cu_top.specs.declared.status.Status.{Status}
-use Rattle.cu_top.specs.declared.status.Status.TheVariants.{Done, BadWords, OverMemory, BadMeta, NoArray, Exists, TaskFailed, ReadFault, WriteFault, BadChunk, DepotFailed, NotBuilt, NoMemory}
+use Rattle.cu_command.specs.declared.status.Status.{Status}
+use Rattle.cu_command.specs.declared.status.Status.TheVariants.{Done, BadWords, OverMemory, BadMeta, NoArray, Exists, TaskFailed, ReadFault, WriteFault, BadChunk, DepotFailed, BadLoad, NotBuilt, NoMemory}
 
 pub not_built : (status : Status) {P Q : Type 0} → (P → Q) → IfNotBuilt status P → IfNotBuilt status Q
 not_built (NotBuilt node) step holds = (holds.0, step holds.1)
@@ -30,6 +26,7 @@ not_built (BadMeta name code) step holds = tt
 not_built (NoArray name) step holds = tt
 not_built (TaskFailed op task) step holds = tt
 not_built ReadFault step holds = tt
+not_built (BadLoad code) step holds = tt
 not_built WriteFault step holds = tt
 not_built (BadChunk key got want) step holds = tt
 not_built (DepotFailed key) step holds = tt
@@ -113,34 +110,6 @@ same_sizes (x ∷ xs) (y ∷ ys) long at =
     let rest : ys ≡ xs = same_sizes xs ys (omega arith) (λ k below. at (suc k) (omega arith)) in
     rw (first, rest) refl
 
--- ---- what is read of one input
-
-pub gone_of : (held : Option Contents) (key buf : List ℕ) → Gets held key buf (Ok Absent) → IsGone held key
-gone_of None key buf got = tt
-gone_of (Some held) key buf got = got
-
-pub long_refused : (held : Option Contents) (key buf : List ℕ) (n : ℕ) → Gets held key buf (Ok (Held n)) → 1048576 < n → HoldsRefused held key 10
-long_refused None key buf n got long = tt
-long_refused (Some held) key buf n (bytes, here, is_n, front) long = (bytes, too_long, here, read_too_long bytes (omega (arith, is_n, long)), refl)
-
--- the bytes that were got are what the key holds
-pub got_text : (held : Option Contents) (key buf : List ℕ) (n : ℕ) → Gets held key buf (Ok (Held n)) → n ≤ length buf → HoldsText held key (take n buf)
-got_text None key buf n got room = tt
-got_text (Some held) key buf n (bytes, here, is_n, front) room =
-    let whole : take (length buf) bytes ≡ bytes = take_all (length buf) bytes (omega (arith, is_n, room)) in
-    here ∙ ap Some (sym (front ∙ whole))
-
-pub holds_layout : (held : Option Contents) (key text : List ℕ) (l : Layout) → HoldsText held key text → IsGrid l.grid → read_metadata text ≡ Ok (layout_view l) → HoldsLayout held key l
-holds_layout None key text l holds grid reads = tt
-holds_layout (Some held) key text l holds grid reads = (text, holds, record { grid = grid; reads = reads })
-
-pub holds_refused : (held : Option Contents) (key text : List ℕ) (reason : Fault) (code : ℕ) → HoldsText held key text → read_metadata text ≡ Err reason → code ≡ code_of reason → HoldsRefused held key code
-holds_refused None key text reason code holds reads is_code = tt
-holds_refused (Some held) key text reason code holds reads is_code = (text, reason, holds, reads, is_code)
-
-pub is_input : (text : List ℕ) (l : Layout) → read_metadata text ≡ Ok (layout_view l) → IsGrid l.grid → IsInput l
-is_input text l reads grid = record { grid = grid; storable = read_accepted text (layout_view l) reads }
-
 -- ---- of the inputs
 
 pub left_fault : (tries : ℕ) (names : Names) (before after : ℕ) (held : Option Contents) (status : Status) → IsMetadataFault tries before after held names.left status → IsInputFault tries names before after held status
@@ -155,6 +124,7 @@ left_fault tries names before after held (OverMemory node need allowed) h = absu
 left_fault tries names before after held (Exists key) h = absurd h
 left_fault tries names before after held (TaskFailed op task) h = absurd h
 left_fault tries names before after held ReadFault h = h
+left_fault tries names before after held (BadLoad code) h = h
 left_fault tries names before after held WriteFault h = h
 left_fault tries names before after held (BadChunk key got want) h = absurd h
 
@@ -170,6 +140,7 @@ right_fault tries names first before after held (OverMemory node need allowed) e
 right_fault tries names first before after held (Exists key) earlier h = absurd h
 right_fault tries names first before after held (TaskFailed op task) earlier h = absurd h
 right_fault tries names first before after held ReadFault earlier h = h
+right_fault tries names first before after held (BadLoad code) earlier h = h
 right_fault tries names first before after held WriteFault earlier h = h
 right_fault tries names first before after held (BadChunk key got want) earlier h = absurd h
 
@@ -186,6 +157,7 @@ never_unlike tries before after held name (OverMemory node need allowed) P h = t
 never_unlike tries before after held name (Exists key) P h = tt
 never_unlike tries before after held name (TaskFailed op task) P h = tt
 never_unlike tries before after held name ReadFault P h = tt
+never_unlike tries before after held name (BadLoad code) P h = tt
 never_unlike tries before after held name WriteFault P h = tt
 never_unlike tries before after held name (BadChunk key got want) P h = tt
 
@@ -209,7 +181,7 @@ pub first_turn : (tries : ℕ) (names : Names) (entry : Contents) (late : List W
     → IsMetadataFault tries before after held names.left status → IfInput status (IsInOrder names entry late)
 first_turn tries names entry late before after held (BadMeta name code) h = inl h.0
 first_turn tries names entry late before after held (NoArray name) h = inl h.0
-first_turn tries names entry late before after held (DepotFailed key) h = tt
+first_turn tries names entry late before after held (DepotFailed key) h = (names.left, h.0, inl refl)
 first_turn tries names entry late before after held NoMemory h = tt
 first_turn tries names entry late before after held (NotBuilt node) h = tt
 first_turn tries names entry late before after held Done h = tt
@@ -218,25 +190,29 @@ first_turn tries names entry late before after held (OverMemory node need allowe
 first_turn tries names entry late before after held (Exists key) h = tt
 first_turn tries names entry late before after held (TaskFailed op task) h = tt
 first_turn tries names entry late before after held ReadFault h = tt
+first_turn tries names entry late before after held (BadLoad code) h = tt
 first_turn tries names entry late before after held WriteFault h = tt
 first_turn tries names entry late before after held (BadChunk key got want) h = tt
 
-if_input : (status : Status) (P : List ℕ → Type 0) → ((name : List ℕ) → P name) → IfInput status P
-if_input (BadMeta name code) P h = h name.bytes
-if_input (NoArray name) P h = h name.bytes
-if_input (DepotFailed key) P h = tt
-if_input NoMemory P h = tt
-if_input (NotBuilt node) P h = tt
-if_input Done P h = tt
-if_input (BadWords code) P h = tt
-if_input (OverMemory node need allowed) P h = tt
-if_input (Exists key) P h = tt
-if_input (TaskFailed op task) P h = tt
-if_input ReadFault P h = tt
-if_input WriteFault P h = tt
-if_input (BadChunk key got want) P h = tt
+pub second_turn : (tries : ℕ) (names : Names) (entry : Contents) (late late1 : List Write) (before after : ℕ) (held1 held : Option Contents) (left : Layout) (status : Status)
+    → Follows late (Some entry) held1 late1 → HoldsLayout held1 (metadata_key_of names.left) left → IsMetadataFault tries before after held names.right status → IfInput status (IsInOrder names entry late)
+second_turn tries names entry late late1 before after held1 held left status follows holds fault = at_status status fault
+  where
+    turn : (name : List ℕ) → IsInOrder names entry late name
+    turn name = inr (λ calm. (left, layout_before names entry late late1 held1 (metadata_key_of names.left) left calm (inl refl) follows holds))
 
-pub second_turn : (names : Names) (entry : Contents) (late late1 : List Write) (held1 : Option Contents) (left : Layout) (status : Status)
-    → Follows late (Some entry) held1 late1 → HoldsLayout held1 (metadata_key_of names.left) left → IfInput status (IsInOrder names entry late)
-second_turn names entry late late1 held1 left status follows holds =
-    if_input status (IsInOrder names entry late) (λ name. inr (λ calm. (left, layout_before names entry late late1 held1 (metadata_key_of names.left) left calm (inl refl) follows holds)))
+    at_status : (status : Status) → IsMetadataFault tries before after held names.right status → IfInput status (IsInOrder names entry late)
+    at_status (BadMeta name code) h = turn name.bytes
+    at_status (NoArray name) h = turn name.bytes
+    at_status (DepotFailed key) h = (names.right, h.0, turn names.right)
+    at_status NoMemory h = tt
+    at_status (NotBuilt node) h = tt
+    at_status Done h = tt
+    at_status (BadWords code) h = tt
+    at_status (OverMemory node need allowed) h = tt
+    at_status (Exists key) h = tt
+    at_status (TaskFailed op task) h = tt
+    at_status ReadFault h = tt
+    at_status WriteFault h = tt
+    at_status (BadChunk key got want) h = tt
+    at_status (BadLoad code) h = tt

@@ -8,7 +8,9 @@ use Rattle.std.proofs.lemmas.Option.{option_and_then_some}
 use Rattle.serde_json.specs.Data.{Data}
 use Rattle.serde_json.specs.Find.{get, at, as_str}
 use Rattle.serde_json.specs.Read.{read}
-use Rattle.cu_top.specs.Expression.{Names, AreNames, InputNode, is_name_byte, is_name, when, ◌>>=◌, name_in, input_of, sum_of, are_distinct, is_text, is_object_of, is_list_of, addition_in, addition_of}
+use Rattle.cu_command.specs.Name.{is_name_byte, is_name, name_in}
+use Rattle.cu_meta.specs.Options.{when, ◌>>=◌}
+use Rattle.cu_top.specs.Expression.{Names, AreNames, InputNode, input_of, sum_of, are_distinct, is_text, is_object_of, is_list_of, addition_in, addition_of}
 
 name_bytes : (text : List ℕ) → is_name text ≡ true → list_all is_name_byte text ≡ true
 name_bytes text h = (and_parts (nat_lt 0 (length text) && nat_le (length text) 32 && is_ascii_alphanumeric (get_or text 0 0)) (list_all is_name_byte text) h).1
@@ -51,7 +53,7 @@ ends_at_slash (x ∷ a) (y ∷ b) rest more h k e =
 pub name_before_slash : (a b rest more : List ℕ) → is_name a ≡ true → is_name b ≡ true → a ++ 47 ∷ rest ≡ b ++ 47 ∷ more → (a ≡ b) × (rest ≡ more)
 name_before_slash a b rest more h k = ends_at_slash a b rest more (name_bytes a h) (name_bytes b k)
 
-some_when : {A : Type 0} (b : Bool) (o : Option A) (y : A) → option_and_then (λ _. o) (when b) ≡ Some y → (b ≡ true) × (o ≡ Some y)
+pub some_when : {A : Type 0} (b : Bool) (o : Option A) (y : A) → option_and_then (λ _. o) (when b) ≡ Some y → (b ≡ true) × (o ≡ Some y)
 some_when true o y e = (refl, e)
 some_when false o y e = absurd (cc)
 

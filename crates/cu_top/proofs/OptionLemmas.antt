@@ -1,7 +1,8 @@
--- Options that were read are within their range.
-use Rattle.std.proofs.Common.{◌≡◌, ℕ, ◌≤◌, ◌^◌, ◌&&◌, nat_le, Bool, true, false, List, [], ◌∷◌, Option, Some, None, Result, Ok, Err, option_map, option_and_then, unwrap_or, refl, ap, subst, inl, inr, ◌⊎◌, arith, leb-true, lit≤, if◌then◌else◌, bytes_eq, codes}
+-- Options that were read are within their range, and a name that was read is one.
+use Rattle.std.proofs.Common.{◌≡◌, ℕ, ◌≤◌, ◌^◌, ◌&&◌, nat_le, Bool, true, false, List, [], ◌∷◌, Option, Some, None, Result, Ok, Err, option_map, option_and_then, unwrap_or, refl, sym, subst, inl, inr, ◌⊎◌, arith, leb-true, lit≤, if◌then◌else◌, bytes_eq, codes}
 use Rattle.std.specs.Str.Parse.{without_leading_plus, digits_value}
-use Rattle.cu_top.specs.Words.{is_number, memory_of, retries_of, once, given_with, options_from, or_code, nothing_given, options_of}
+use Rattle.cu_command.specs.Name.{is_name}
+use Rattle.cu_top.specs.Words.{Command, run, load, print, is_number, memory_of, retries_of, once, given_with, options_from, or_code, nothing_given, retries_in, is_plain, print_of, print_in, command_of}
 use Rattle.cu_top.specs.declared.words.Given.{Given}
 use Rattle.cu_top.specs.declared.words.Options.{Options}
 
@@ -78,20 +79,97 @@ from_bounded given (name ∷ value ∷ more) o bounded e =
     let (g, one, rest) = then_some (given_with given name value) _ o e in
     from_bounded g more o (given_bounded given name value g bounded one) rest
 
-code_ok : (r : Option Options) (code : ℕ) (o : Options) → or_code r code ≡ Ok o → r ≡ Some o
-code_ok None code o e = cc
-code_ok (Some p) code o e = ap Some (ok_same p o e)
-  where
-    ok_same : (p o : Options) → ◌≡◌ {A = Result Options ℕ} (Ok p) (Ok o) → p ≡ o
-    ok_same p o e = cc
+-- ---- the commands
 
-command_step : (b : Bool) (r : Result Options ℕ) (o : Options) → (if b then r else Err 1) ≡ Ok o → r ≡ Ok o
-command_step true r o e = e
-command_step false r o e = cc
+code_ok : {T : Type 0} (r : Option T) (code : ℕ) (x : T) → or_code r code ≡ Ok x → r ≡ Some x
+code_ok None code x e = cc
+code_ok (Some y) code x e = cc
 
--- The options that words give are within their range.
-pub options_bounded : (words : List (List ℕ)) (o : Options) → options_of words ≡ Ok o → (o.allowed ≤ 2 ^ 40) × (o.reserved ≤ 2 ^ 40) × (o.retries ≤ 8)
-unfolding options_of
-options_bounded [] o e = cc
-options_bounded (command ∷ words) o e =
-    from_bounded nothing_given words o (record { allowed = tt; reserved = tt; retries = tt }) (code_ok (options_from nothing_given words) 2 o (command_step (bytes_eq command (codes "run")) _ o e))
+three : (a b c : Bool) (x y z : Result Command ℕ) (w : Command) → (if a then x else (if b then y else (if c then z else Err 1))) ≡ Ok w → (x ≡ Ok w) ⊎ (y ≡ Ok w) ⊎ (z ≡ Ok w)
+three true b c x y z w e = inl e
+three false true c x y z w e = inr (inl e)
+three false false true x y z w e = inr (inr e)
+three false false false x y z w e = cc
+
+mapped_to : {A : Type 0} (f : A → Command) (o : Option A) (c : Command) → option_map f o ≡ Some c → (x : A) × (o ≡ Some x) × (f x ≡ c)
+mapped_to f None c e = cc
+mapped_to f (Some x) c e = (x, refl, cc)
+
+both_hold : (a b : Bool) (x c : Command) → ◌≡◌ {A = Result Command ℕ} (if a then (if b then Ok x else Err 3) else Err 2) (Ok c) → (b ≡ true) × (x ≡ c)
+both_hold true true x c e = (refl, cc)
+both_hold true false x c e = cc
+both_hold false b x c e = cc
+
+-- the print of an array with a name
+record IsPrint (c : Command) : Type 0 where
+  name : List ℕ
+  retries : ℕ
+  is : print name retries ≡ c
+  named : is_name name ≡ true
+
+print_of_is : (word : List ℕ) (o : Option ℕ) (c : Command) → print_of word o ≡ Ok c → IsPrint c
+print_of_is word None c e = cc
+print_of_is word (Some n) c e =
+    let both = both_hold (is_plain word) (is_name word) (print word n) c e in
+    record { name = word; retries = n; is = both.1; named = both.0 }
+
+either_print : (b : Bool) (x y : Result Command ℕ) (c : Command) → (if b then x else y) ≡ Ok c → (x ≡ Ok c) ⊎ (y ≡ Ok c)
+either_print true x y c e = inl e
+either_print false x y c e = inr e
+
+print_in_is : (words : List (List ℕ)) (c : Command) → print_in words ≡ Ok c → IsPrint c
+print_in_is [] c e = cc
+print_in_is (word ∷ []) c e = print_of_is word (Some 2) c e
+print_in_is (a ∷ b ∷ []) c e = cc
+print_in_is (a ∷ b ∷ d ∷ []) c e = elim (either_print (bytes_eq a (codes "--retries")) _ _ c e) [
+  | inl behind ↦ print_of_is d (retries_of b) c behind
+  | inr before ↦ print_of_is a (retries_in (b ∷ d ∷ [])) c before
+]
+print_in_is (a ∷ b ∷ d ∷ f ∷ rest) c e = cc
+
+commands : (command : List ℕ) (words : List (List ℕ)) (c : Command) → command_of (command ∷ words) ≡ Ok c
+    → ((o : Options) × (options_from nothing_given words ≡ Some o) × (run o ≡ c)) ⊎ ((n : ℕ) × (retries_in words ≡ Some n) × (load n ≡ c)) ⊎ IsPrint c
+unfolding command_of
+commands command words c e = elim (three (bytes_eq command (codes "run")) (bytes_eq command (codes "load")) (bytes_eq command (codes "print")) _ _ _ c e) [
+  | inl is ↦ inl (mapped_to run (options_from nothing_given words) c (code_ok _ 2 c is))
+  | inr (inl is) ↦ inr (inl (mapped_to load (retries_in words) c (code_ok _ 2 c is)))
+  | inr (inr is) ↦ inr (inr (print_in_is words c is))
+]
+
+no_command : (c : Command) → command_of [] ≡ Ok c → ⊥
+unfolding command_of
+no_command c e = cc
+
+same_run : (a b : Options) → run a ≡ run b → a ≡ b
+same_run a b e = cc
+
+same_print : (a b : List ℕ) (m n : ℕ) → print a m ≡ print b n → a ≡ b
+same_print a b m n e = cc
+
+run_not_load : (o : Options) (n : ℕ) → run o ≡ load n → ⊥
+run_not_load o n e = cc
+
+run_not_print : (o : Options) (name : List ℕ) (n : ℕ) → run o ≡ print name n → ⊥
+run_not_print o name n e = cc
+
+load_not_print : (m : ℕ) (name : List ℕ) (n : ℕ) → load m ≡ print name n → ⊥
+load_not_print m name n e = cc
+
+-- The options of a run are within their range.
+pub run_bounded : (words : List (List ℕ)) (o : Options) → command_of words ≡ Ok (run o) → (o.allowed ≤ 2 ^ 40) × (o.reserved ≤ 2 ^ 40) × (o.retries ≤ 8)
+run_bounded [] o e = absurd (no_command (run o) e)
+run_bounded (command ∷ words) o e = elim (commands command words (run o) e) [
+  | inl (p, found, is) ↦ subst (λ (q : Options). (q.allowed ≤ 2 ^ 40) × (q.reserved ≤ 2 ^ 40) × (q.retries ≤ 8)) (same_run p o is)
+      (from_bounded nothing_given words p (record { allowed = tt; reserved = tt; retries = tt }) found)
+  | inr (inl (n, found, is)) ↦ absurd (run_not_load o n (sym is))
+  | inr (inr p) ↦ absurd (run_not_print o p.name p.retries (sym p.is))
+]
+
+-- The name that is printed is one.
+pub print_named : (words : List (List ℕ)) (name : List ℕ) (n : ℕ) → command_of words ≡ Ok (print name n) → is_name name ≡ true
+print_named [] name n e = absurd (no_command (print name n) e)
+print_named (command ∷ words) name n e = elim (commands command words (print name n) e) [
+  | inl (p, found, is) ↦ absurd (run_not_print p name n is)
+  | inr (inl (m, found, is)) ↦ absurd (load_not_print m name n is)
+  | inr (inr p) ↦ subst (λ (t : List ℕ). is_name t ≡ true) (same_print p.name name p.retries n p.is) p.named
+]

@@ -24,22 +24,23 @@ use Rattle.cu_op.specs.Projection.{projection}
 use Rattle.cu_op.specs.Value.{Elements, plan_value, stored_inputs, loaded, ReadsAt}
 use Rattle.cu_op.specs.declared.cells.Cell.{Cell}
 use Rattle.cu_op.specs.declared.layout.ArrayInfo.{ArrayInfo}
-use Rattle.cu_store.specs.Held.{Contents, Write, IsAmong, IsKeptAt, Lands, Follows}
+use Rattle.cu_store.specs.Held.{Contents, Write, IsAmong, Follows}
 use Rattle.cu_store.specs.declared.faults.TaskFault.{TaskFault}
 use Rattle.cu_store.specs.declared.faults.TaskFault.TheVariants.{Store, BadChunk, NoMemory}
 use Rattle.cu_task.specs.Sums.{addition_code}
-use Rattle.cu_task.specs.Task.{op_of, IsAddition, key_of, cell_value, IsTaskReady, HoldsCells, HasCells, IsTaskFault}
+use Rattle.cu_task.specs.Task.{op_of, IsAddition, IsOutputOf, key_of, cell_value, IsTaskReady, HoldsCells, HasCells, IsTaskFault}
 use Rattle.cu_task.proofs.Tasks.{back_inside, back_coord}
 use Rattle.cu_zarr.specs.Key.{chunk_key_of}
 use Rattle.cu_zarr.specs.Layout.{ArrayLayout, index_in_chunk}
 use Rattle.cu_zarr.specs.Spelling.{joined, padded, spelled}
 use Rattle.cu_zarr.specs.Stored.{element_in}
-use Rattle.cu_top.specs.Job.{IsJob, IsStarted, left_array, right_array, out_array, made_layout, chunks_of, coord_of, key_of_chunk, chunk_value, plan_writes, sum_at, wrapped_sum, element_of, IsChunkKey, IsInputKey, IsInputChunk, IsPlanKey, StoresChunk, ValuesStay}
+use Rattle.cu_top.specs.Job.{IsJob, IsStarted, left_array, right_array, out_array, made_layout, chunks_of, coord_of, key_of_chunk, chunk_value, out_writes, sum_at, wrapped_sum, element_of, IsChunkKey, IsInputKey, IsInputChunk, IsOutKey, StoresChunk}
 use Rattle.cu_top.specs.Plan.{plan_arrays, plan_op, plan_of, room_of, need_of, over_memory, IsLentWithin, entry_elements}
 use Rattle.cu_top.specs.Tasks.{IsTryFault}
 use Rattle.cu_top.specs.declared.job.Job.{Job}
 use Rattle.cu_top.specs.declared.words.Options.{Options}
-use Rattle.cu_top.proofs.JobLemmas.{among_front, among_either, input_stays, input_apart, lands_value, left_of_started, one_value, plan_write_key, written_chunk, chunk_write, some_not_none, started_then, built_limits, unless, not_below}
+use Rattle.cu_command.proofs.WriteLemmas.{among_front, among_either}
+use Rattle.cu_top.proofs.JobLemmas.{input_stays, input_apart, lands_value, out_write_key, written_chunk, chunk_write, started_then, built_limits, unless, not_below}
 
 -- ---- the arrays
 
@@ -59,13 +60,13 @@ shorter h = omega (arith, h)
 
 module _ (job : Job) (ok : IsJob job) where
   left_alike : IsAlike job.left.grid job.left.dtype (left_array job)
-  left_alike = record { array = record { short = shorter ok.names.left.1; grid = ok.left.grid; fill = ok.left.storable.fill }; grid = refl; dtype = refl }
+  left_alike = record { array = record { short = shorter ok.names.left.short; grid = ok.left.grid; fill = ok.left.storable.fill }; grid = refl; dtype = refl }
 
   right_alike : IsAlike job.left.grid job.left.dtype (right_array job)
-  right_alike = record { array = record { short = shorter ok.names.right.1; grid = ok.right.grid; fill = ok.right.storable.fill }; grid = ok.alike.grid; dtype = ok.alike.dtype }
+  right_alike = record { array = record { short = shorter ok.names.right.short; grid = ok.right.grid; fill = ok.right.storable.fill }; grid = ok.alike.grid; dtype = ok.alike.dtype }
 
   out_alike : IsAlike job.left.grid job.left.dtype (out_array job)
-  out_alike = record { array = record { short = shorter ok.names.out.1; grid = ok.left.grid; fill = zero_fits job.left.dtype }; grid = refl; dtype = refl }
+  out_alike = record { array = record { short = shorter ok.names.out.short; grid = ok.left.grid; fill = zero_fits job.left.dtype }; grid = refl; dtype = refl }
 
   few_chunks : chunks_of job ≤ 65536
   few_chunks = (let most = product_within (grid_counts job.left.grid) in let limit = (built_limits job.left ok.left).chunks in omega (arith, most, limit))
@@ -218,8 +219,8 @@ module _ (options : Options) (job : Job) (task : ℕ) (ok : IsJob job) (below : 
 
     steady_at : (key bytes : List ℕ) → IsInputChunk job key → IsAmong now_late key bytes → held key ≡ Some bytes
     steady_at key bytes of_input among =
-        elim (among_either (plan_writes job entry) late key bytes (started.follows.1 key bytes among)) [
-          | inl own ↦ absurd (input_apart job entry key ok started.inputs started.free (array_key key of_input) (plan_write_key job entry key bytes own))
+        elim (among_either (out_writes job entry) late key bytes (started.follows.1 key bytes among)) [
+          | inl own ↦ absurd (input_apart job entry key ok started.inputs started.free (array_key key of_input) (out_write_key job entry key bytes own))
           | inr landed ↦ input_same key of_input ∙ started.quiet.inputs key bytes landed (array_key key of_input)
         ]
 
@@ -258,7 +259,7 @@ module _ (options : Options) (job : Job) (task : ℕ) (ok : IsJob job) (below : 
 
     own_at : (bytes : List ℕ) → IsAmong now_late (key_of_chunk (out_array job) task) bytes → chunk_value job entry task ≡ Some bytes
     own_at bytes among =
-        let of_plan : IsPlanKey job (key_of_chunk (out_array job) task) = inr (task, below, refl) in
+        let of_plan : IsOutKey job (key_of_chunk (out_array job) task) = inr (task, below, refl) in
         written_chunk job entry task bytes ok below (lands_value job entry late (key_of_chunk (out_array job) task) bytes started.quiet of_plan (started.follows.1 (key_of_chunk (out_array job) task) bytes among))
 
     pub task_ready : IsTaskReady (plan_of options job) 0 task (entry_elements job entry) held now_late
@@ -272,12 +273,12 @@ module _ (options : Options) (job : Job) (task : ℕ) (ok : IsJob job) (below : 
     }
 
   -- the values of a task's cells are among the plan's
-  pub has_cells : (entry : Contents) (late : List Write) → HasCells (plan_of options job) 0 task (entry_elements job entry) (plan_writes job entry ++ late)
+  pub has_cells : (entry : Contents) (late : List Write) → HasCells (plan_of options job) 0 task (entry_elements job entry) (out_writes job entry ++ late)
   has_cells entry late c bytes listed value =
       let same = only_one (cell 2 (coord_of (out_array job) task)) c listed in
       let own : chunk_value job entry task ≡ Some bytes = sym (cell_is options job entry task ok) ∙ subst (λ (x : Cell). cell_value (plan_of options job) (entry_elements job entry) x ≡ Some bytes) same value in
-      subst (λ (x : Cell). IsAmong (plan_writes job entry ++ late) (key_of (plan_arrays job) x) bytes) (sym same)
-      (among_front (plan_writes job entry) late (key_of_chunk (out_array job) task) bytes (chunk_write job entry task bytes below own))
+      subst (λ (x : Cell). IsAmong (out_writes job entry ++ late) (key_of (plan_arrays job) x) bytes) (sym same)
+      (among_front (out_writes job entry) late (key_of_chunk (out_array job) task) bytes (chunk_write job entry task bytes below own))
 
   -- where a task's cells hold their values, the chunk is stored
   pub stores_chunk : (entry : Contents) (held : Option Contents) → HoldsCells (plan_of options job) 0 task (entry_elements job entry) held → StoresChunk job entry held task
@@ -285,22 +286,10 @@ module _ (options : Options) (job : Job) (task : ℕ) (ok : IsJob job) (below : 
       let (bytes, value, there) = holds (cell 2 (coord_of (out_array job) task)) (0, omega arith, refl) in
       (bytes, sym (cell_is options job entry task ok) ∙ value, there)
 
-  stays_at : (entry held next : Contents) (late next_late : List Write) (W : List ℕ → List ℕ → Type 0) (key bytes : List ℕ)
-      → IsStarted job entry late (Some next) next_late → IsAmong (plan_writes job entry) key bytes → held key ≡ Some bytes → IsKeptAt W held next key → next key ≡ Some bytes
-  stays_at entry held next late next_late W key bytes started write holds (inl same) = same ∙ holds
-  stays_at entry held next late next_late W key bytes started write holds (inr (other, landed, now)) =
-      elim (left_of_started job entry next late next_late started key (plan_write_key job entry key bytes write)) [
-        | inl gone ↦ absurd (some_not_none (next key) other gone now)
-        | inr there ↦ there.2 ∙ ap Some (one_value job entry key there.0 bytes ok there.1 write)
-      ]
-
-  -- A value of the plan that is held stays held.
-  pub values_stay : (entry : Contents) (late next_late : List Write) (held next : Option Contents) (W : List ℕ → List ℕ → Type 0)
-      → IsStarted job entry late next next_late → Lands W held next → ValuesStay job entry held next
-  values_stay entry late next_late None None W started lands key bytes write holds = tt
-  values_stay entry late next_late (Some held) (Some next) W started lands key bytes write holds = stays_at entry held next late next_late W key bytes started write holds (lands key)
-  values_stay entry late next_late None (Some next) W started lands key bytes write holds = absurd lands
-  values_stay entry late next_late (Some held) None W started lands key bytes write holds = tt
+-- a chunk that a task writes is one of the output's
+pub output_key : (job : Job) (task : ℕ) (key : List ℕ) → task < chunks_of job → IsOutputOf (plan_arrays job) (plan_op job) task key → IsOutKey job key
+output_key job task key below (c, listed, is_key) =
+    inr (task, below, is_key ∙ ap (key_of (plan_arrays job)) (only_one (cell 2 (coord_of (out_array job) task)) c listed))
 
 -- ---- a try of a task
 
@@ -316,7 +305,7 @@ module _ (options : Options) (job : Job) (task : ℕ) (entry : Contents) (late :
   started_after None new old_late new_late below s step = absurd s.follows.0
   started_after (Some held) new old_late new_late below s step =
       started_then job entry late old_late new_late (Some held) new s
-      (step (entry_elements job entry) held (plan_writes job entry ++ late) (Some entry) refl (task_ready options job task s.is_job below entry held late old_late s)
+      (step (entry_elements job entry) held (out_writes job entry ++ late) (Some entry) refl (task_ready options job task s.is_job below entry held late old_late s)
       (has_cells options job task s.is_job below entry late))
 
   -- after Ok the task's chunk is stored

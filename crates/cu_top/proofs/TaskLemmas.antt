@@ -5,10 +5,11 @@ use Rattle.cu_store.specs.Held.{Contents}
 use Rattle.cu_store.specs.declared.faults.TaskFault.{TaskFault}
 use Rattle.cu_store.specs.declared.faults.TaskFault.TheVariants as fault
 use Rattle.cu_top.specs.Run.{IsStoreFault, IfDepotFailed, IfTaskFailed, IfTaskEnded}
-use Rattle.cu_top.specs.Tasks.{IsKeyFault, IsTryFault, IsTaskEnd, end_of}
+use Rattle.cu_command.specs.Keys.{IsKeyFault}
+use Rattle.cu_top.specs.Tasks.{IsTryFault, IsTaskEnd, end_of}
 use Rattle.cu_top.specs.declared.job.Job.{Job}
-use Rattle.cu_top.specs.declared.status.Status.{Status}
-use Rattle.cu_top.specs.declared.status.Status.TheVariants.{Done, BadWords, OverMemory, BadMeta, NoArray, Exists, TaskFailed, ReadFault, WriteFault, BadChunk, DepotFailed, NotBuilt, NoMemory}
+use Rattle.cu_command.specs.declared.status.Status.{Status}
+use Rattle.cu_command.specs.declared.status.Status.TheVariants.{Done, BadWords, OverMemory, BadMeta, NoArray, Exists, TaskFailed, ReadFault, WriteFault, BadChunk, DepotFailed, BadLoad, NotBuilt, NoMemory}
 
 pub rose_then : (m n before between after : ℕ) → Rose m before between → Rose n between after → Rose (m + n) before after
 rose_then m n before between after first second = omega (arith, first, second)
@@ -48,28 +49,32 @@ end_earlier tries job first before after lacks held (BadWords code) earlier h = 
 end_earlier tries job first before after lacks held (OverMemory node need allowed) earlier h = h
 end_earlier tries job first before after lacks held (Exists key) earlier h = h
 end_earlier tries job first before after lacks held ReadFault earlier h = h
+end_earlier tries job first before after lacks held (BadLoad code) earlier h = h
 end_earlier tries job first before after lacks held WriteFault earlier h = h
 end_earlier tries job first before after lacks held (DepotFailed key) earlier h = h
 end_earlier tries job first before after lacks held (NotBuilt node) earlier h = h
 
 -- ---- what storing the output answers
 
-pub if_depot_failed : (status : Status) (P : Type 0) → P → IfDepotFailed status P
-if_depot_failed (DepotFailed key) P h = h
-if_depot_failed (BadMeta name code) P h = tt
-if_depot_failed (NoArray name) P h = tt
-if_depot_failed (TaskFailed op task) P h = tt
-if_depot_failed (BadChunk key got want) P h = tt
-if_depot_failed NoMemory P h = tt
-if_depot_failed Done P h = tt
-if_depot_failed (BadWords code) P h = tt
-if_depot_failed (OverMemory node need allowed) P h = tt
-if_depot_failed (Exists key) P h = tt
-if_depot_failed ReadFault P h = tt
-if_depot_failed WriteFault P h = tt
-if_depot_failed (NotBuilt node) P h = tt
+-- a call that failed for a key names this key
+pub own_key_failed : (tries : ℕ) (before after : ℕ) (lacks : Bool) (key : List ℕ) (status : Status) (P : Type 0) → IsKeyFault tries before after lacks key status → P
+    → IfDepotFailed status (λ failed. (failed ≡ key) × P)
+own_key_failed tries before after lacks key (DepotFailed failed) P fault h = (fault.0, h)
+own_key_failed tries before after lacks key (BadMeta name code) P fault h = tt
+own_key_failed tries before after lacks key (NoArray name) P fault h = tt
+own_key_failed tries before after lacks key (TaskFailed op task) P fault h = tt
+own_key_failed tries before after lacks key (BadChunk bad got want) P fault h = tt
+own_key_failed tries before after lacks key NoMemory P fault h = tt
+own_key_failed tries before after lacks key Done P fault h = tt
+own_key_failed tries before after lacks key (BadWords code) P fault h = tt
+own_key_failed tries before after lacks key (OverMemory node need allowed) P fault h = tt
+own_key_failed tries before after lacks key (Exists held) P fault h = tt
+own_key_failed tries before after lacks key ReadFault P fault h = tt
+own_key_failed tries before after lacks key (BadLoad code) P fault h = tt
+own_key_failed tries before after lacks key WriteFault P fault h = tt
+own_key_failed tries before after lacks key (NotBuilt node) P fault h = tt
 
-no_depot_failed : (tries : ℕ) (job : Job) (before after : ℕ) (lacks : Bool) (held : Option Contents) (status : Status) (P : Type 0)
+no_depot_failed : (tries : ℕ) (job : Job) (before after : ℕ) (lacks : Bool) (held : Option Contents) (status : Status) (P : List ℕ → Type 0)
     → IsTaskEnd tries job before after lacks held status → IfDepotFailed status P
 no_depot_failed tries job before after lacks held (DepotFailed key) P h = absurd h
 no_depot_failed tries job before after lacks held (BadMeta name code) P h = tt
@@ -82,11 +87,12 @@ no_depot_failed tries job before after lacks held (BadWords code) P h = tt
 no_depot_failed tries job before after lacks held (OverMemory node need allowed) P h = tt
 no_depot_failed tries job before after lacks held (Exists key) P h = tt
 no_depot_failed tries job before after lacks held ReadFault P h = tt
+no_depot_failed tries job before after lacks held (BadLoad code) P h = tt
 no_depot_failed tries job before after lacks held WriteFault P h = tt
 no_depot_failed tries job before after lacks held (NotBuilt node) P h = tt
 
 -- no task answers that a key failed
-pub tasks_alone : (tries : ℕ) {T : Type 0} (result : Result T Status) (job : Job) (before after : ℕ) (lacks : Bool) (held : Option Contents) (P : Type 0)
+pub tasks_alone : (tries : ℕ) {T : Type 0} (result : Result T Status) (job : Job) (before after : ℕ) (lacks : Bool) (held : Option Contents) (P : List ℕ → Type 0)
     → IfErr result (IsTaskEnd tries job before after lacks held) → IfErr result (λ status. IfDepotFailed status P)
 tasks_alone tries (Ok x) job before after lacks held P h = tt
 tasks_alone tries (Err status) job before after lacks held P h = no_depot_failed tries job before after lacks held status P h
@@ -103,6 +109,7 @@ store_fault tries job first before after lacks held (BadWords code) earlier h = 
 store_fault tries job first before after lacks held (OverMemory node need allowed) earlier h = absurd h
 store_fault tries job first before after lacks held (Exists key) earlier h = absurd h
 store_fault tries job first before after lacks held ReadFault earlier h = h
+store_fault tries job first before after lacks held (BadLoad code) earlier h = h
 store_fault tries job first before after lacks held WriteFault earlier h = h
 store_fault tries job first before after lacks held (DepotFailed key) earlier h = absurd h
 store_fault tries job first before after lacks held (NotBuilt node) earlier h = absurd h
@@ -130,6 +137,7 @@ if_task_ended (BadMeta name code) P h = tt
 if_task_ended (NoArray name) P h = tt
 if_task_ended (Exists key) P h = tt
 if_task_ended ReadFault P h = tt
+if_task_ended (BadLoad code) P h = tt
 if_task_ended WriteFault P h = tt
 if_task_ended (NotBuilt node) P h = tt
 
@@ -150,5 +158,6 @@ key_ended tries before after lacks key (BadMeta name code) P h = tt
 key_ended tries before after lacks key (NoArray name) P h = tt
 key_ended tries before after lacks key (Exists held) P h = tt
 key_ended tries before after lacks key ReadFault P h = tt
+key_ended tries before after lacks key (BadLoad code) P h = tt
 key_ended tries before after lacks key WriteFault P h = tt
 key_ended tries before after lacks key (NotBuilt node) P h = tt

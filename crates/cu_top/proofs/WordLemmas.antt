@@ -1,10 +1,10 @@
 -- What `parse` reads as a `u64`, in the words of the command line.
-use Rattle.std.proofs.Common.{◌≡◌, ℕ, ◌<◌, ◌≤◌, ◌^◌, Bool, true, false, ◌&&◌, cond, List, length, Option, Some, None, nat_lt, nat_le, [], ◌∷◌, ◌+◌, zero, suc, drop, get_or, map, String, Global, string_bytes, refl, sym, ◌∙◌, ap, drop-cons, option_and_then, if◌then◌else◌, arith}
+use Rattle.std.proofs.Common.{◌≡◌, ℕ, ◌<◌, ◌≤◌, ◌^◌, Bool, true, false, ◌&&◌, cond, List, length, Option, Some, None, nat_lt, nat_le, [], ◌∷◌, ◌+◌, zero, suc, drop, get_or, map, String, Global, string_bytes, refl, sym, ◌∙◌, ap, drop-cons, option_and_then, if◌then◌else◌, Err, arith}
 use Rattle.std.specs.Str.{all_ascii_digits}
 use Rattle.std.specs.Str.Parse.{IsNumeral, without_leading_plus, digits_value}
 use Rattle.std.proofs.lemmas.Bool.{and_from, and_parts, le-leb, leb-true, lt-ltb, ltb-true}
 use Rattle.std.proofs.lemmas.Str.Parse.{IsNumeralModel, numerals_by_value, tells_all_ascii_digits}
-use Rattle.cu_top.specs.Words.{is_number, given_with, options_from}
+use Rattle.cu_top.specs.Words.{is_number, given_with, options_from, print_in}
 use Rattle.cu_top.specs.declared.words.Given.{Given}
 use Rattle.cu_top.specs.declared.words.Options.{Options}
 
@@ -39,6 +39,14 @@ number_refused most text small refuted = none_where _ _ (λ e.
     let parts = and_parts (is_number text) (nat_le (digits_value 10 (without_leading_plus text)) most) e in
     let within : digits_value 10 (without_leading_plus text) ≤ most = leb-true _ _ parts.1 in
     refuted (numeral_from_test _ parts.0, omega (arith, within, small)))
+
+-- the words behind `print` are one or three
+pub print_other : (words : List (String Global)) → (length words ≡ 1 → ⊥) → (length words ≡ 3 → ⊥) → Err 2 ≡ print_in (map string_bytes words)
+print_other [] not_one not_three = refl
+print_other (a ∷ []) not_one not_three = absurd (not_one refl)
+print_other (a ∷ b ∷ []) not_one not_three = refl
+print_other (a ∷ b ∷ c ∷ []) not_one not_three = absurd (not_three refl)
+print_other (a ∷ b ∷ c ∷ d ∷ rest) not_one not_three = refl
 
 -- the last word stands alone
 pub one_left : (words : List (String Global)) (at : ℕ) (given : Given) → at + 1 ≡ length words → options_from given (map string_bytes (drop at words)) ≡ None

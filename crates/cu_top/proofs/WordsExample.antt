@@ -1,59 +1,103 @@
 -- The words of some calls, and their options.
 use Rattle.std.proofs.Common.{◌≡◌, [], ◌∷◌, codes, Ok, Err, refl}
-use Rattle.cu_top.specs.Words.{options_of}
+use Rattle.cu_top.specs.Words.{command_of, run, load, print}
 
-allowed : options_of (codes "run" ∷ codes "--allowed-mem" ∷ codes "1600" ∷ []) ≡ Ok (record { allowed = 1600; reserved = 0; retries = 2 })
-unfolding options_of
+allowed : command_of (codes "run" ∷ codes "--allowed-mem" ∷ codes "1600" ∷ []) ≡ Ok (run (record { allowed = 1600; reserved = 0; retries = 2 }))
+unfolding command_of
 allowed = refl
 
-defaults : options_of (codes "run" ∷ []) ≡ Ok (record { allowed = 200000000; reserved = 0; retries = 2 })
-unfolding options_of
+defaults : command_of (codes "run" ∷ []) ≡ Ok (run (record { allowed = 200000000; reserved = 0; retries = 2 }))
+unfolding command_of
 defaults = refl
 
-both : options_of (codes "run" ∷ codes "--reserved-mem" ∷ codes "+7" ∷ codes "--allowed-mem" ∷ codes "01" ∷ []) ≡ Ok (record { allowed = 1; reserved = 7; retries = 2 })
-unfolding options_of
+both : command_of (codes "run" ∷ codes "--reserved-mem" ∷ codes "+7" ∷ codes "--allowed-mem" ∷ codes "01" ∷ []) ≡ Ok (run (record { allowed = 1; reserved = 7; retries = 2 }))
+unfolding command_of
 both = refl
 
-most : options_of (codes "run" ∷ codes "--allowed-mem" ∷ codes "1099511627776" ∷ []) ≡ Ok (record { allowed = 1099511627776; reserved = 0; retries = 2 })
-unfolding options_of
+most : command_of (codes "run" ∷ codes "--allowed-mem" ∷ codes "1099511627776" ∷ []) ≡ Ok (run (record { allowed = 1099511627776; reserved = 0; retries = 2 }))
+unfolding command_of
 most = refl
 
-too_much : options_of (codes "run" ∷ codes "--allowed-mem" ∷ codes "1099511627777" ∷ []) ≡ Err 2
-unfolding options_of
+too_much : command_of (codes "run" ∷ codes "--allowed-mem" ∷ codes "1099511627777" ∷ []) ≡ Err 2
+unfolding command_of
 too_much = refl
 
-no_command : options_of [] ≡ Err 1
-unfolding options_of
+no_command : command_of [] ≡ Err 1
+unfolding command_of
 no_command = refl
 
-unknown_command : options_of (codes "fly" ∷ []) ≡ Err 1
-unfolding options_of
+unknown_command : command_of (codes "fly" ∷ []) ≡ Err 1
+unfolding command_of
 unknown_command = refl
 
-no_value : options_of (codes "run" ∷ codes "--reserved-mem" ∷ []) ≡ Err 2
-unfolding options_of
+no_value : command_of (codes "run" ∷ codes "--reserved-mem" ∷ []) ≡ Err 2
+unfolding command_of
 no_value = refl
 
-twice : options_of (codes "run" ∷ codes "--allowed-mem" ∷ codes "1" ∷ codes "--allowed-mem" ∷ codes "2" ∷ []) ≡ Err 2
-unfolding options_of
+twice : command_of (codes "run" ∷ codes "--allowed-mem" ∷ codes "1" ∷ codes "--allowed-mem" ∷ codes "2" ∷ []) ≡ Err 2
+unfolding command_of
 twice = refl
 
-unknown_option : options_of (codes "run" ∷ codes "--workers" ∷ codes "65" ∷ []) ≡ Err 2
-unfolding options_of
+unknown_option : command_of (codes "run" ∷ codes "--workers" ∷ codes "65" ∷ []) ≡ Err 2
+unfolding command_of
 unknown_option = refl
 
-no_number : options_of (codes "run" ∷ codes "--allowed-mem" ∷ codes "-1" ∷ []) ≡ Err 2
-unfolding options_of
+no_number : command_of (codes "run" ∷ codes "--allowed-mem" ∷ codes "-1" ∷ []) ≡ Err 2
+unfolding command_of
 no_number = refl
 
-empty_number : options_of (codes "run" ∷ codes "--allowed-mem" ∷ codes "+" ∷ []) ≡ Err 2
-unfolding options_of
+empty_number : command_of (codes "run" ∷ codes "--allowed-mem" ∷ codes "+" ∷ []) ≡ Err 2
+unfolding command_of
 empty_number = refl
 
-retried : options_of (codes "run" ∷ codes "--retries" ∷ codes "8" ∷ []) ≡ Ok (record { allowed = 200000000; reserved = 0; retries = 8 })
-unfolding options_of
+retried : command_of (codes "run" ∷ codes "--retries" ∷ codes "8" ∷ []) ≡ Ok (run (record { allowed = 200000000; reserved = 0; retries = 8 }))
+unfolding command_of
 retried = refl
 
-retried_too_often : options_of (codes "run" ∷ codes "--retries" ∷ codes "9" ∷ []) ≡ Err 2
-unfolding options_of
+retried_too_often : command_of (codes "run" ∷ codes "--retries" ∷ codes "9" ∷ []) ≡ Err 2
+unfolding command_of
 retried_too_often = refl
+
+loads : command_of (codes "load" ∷ []) ≡ Ok (load 2)
+unfolding command_of
+loads = refl
+
+loads_with : command_of (codes "load" ∷ codes "--retries" ∷ codes "0" ∷ []) ≡ Ok (load 0)
+unfolding command_of
+loads_with = refl
+
+loads_no_memory : command_of (codes "load" ∷ codes "--allowed-mem" ∷ codes "1" ∷ []) ≡ Err 2
+unfolding command_of
+loads_no_memory = refl
+
+prints : command_of (codes "print" ∷ codes "y" ∷ []) ≡ Ok (print (codes "y") 2)
+unfolding command_of
+prints = refl
+
+option_first : command_of (codes "print" ∷ codes "--retries" ∷ codes "3" ∷ codes "y" ∷ []) ≡ Ok (print (codes "y") 3)
+unfolding command_of
+option_first = refl
+
+option_behind : command_of (codes "print" ∷ codes "y" ∷ codes "--retries" ∷ codes "3" ∷ []) ≡ Ok (print (codes "y") 3)
+unfolding command_of
+option_behind = refl
+
+no_name : command_of (codes "print" ∷ codes "_y" ∷ []) ≡ Err 3
+unfolding command_of
+no_name = refl
+
+minus_alone : command_of (codes "print" ∷ codes "-" ∷ []) ≡ Err 3
+unfolding command_of
+minus_alone = refl
+
+option_for_name : command_of (codes "print" ∷ codes "-y" ∷ []) ≡ Err 2
+unfolding command_of
+option_for_name = refl
+
+number_before_name : command_of (codes "print" ∷ codes "--retries" ∷ codes "9" ∷ codes "_y" ∷ []) ≡ Err 2
+unfolding command_of
+number_before_name = refl
+
+nothing_to_print : command_of (codes "print" ∷ []) ≡ Err 2
+unfolding command_of
+nothing_to_print = refl

@@ -1,12 +1,12 @@
 -- The text of one addition of two stored arrays. This project's own form, a JSON text (RFC 8259).
-use Rattle.std.specs.Prelude.{◌≡◌, ℕ, nat_lt, nat_le, ◌&&◌, ◌||◌, ◌==◌, not, Bool, true, false, List, length, slice_index, codes, bytes_eq, Option, Some, None, option_map, option_and_then, unwrap_or, ⊤}
-use Rattle.std.specs.List.{list_all}
-use Rattle.std.specs.Char.{is_ascii_alphanumeric}
+use Rattle.std.specs.Prelude.{◌≡◌, ℕ, nat_le, ◌&&◌, ◌==◌, not, Bool, true, false, List, length, codes, bytes_eq, Option, Some, option_map, unwrap_or}
 use Rattle.std.specs.Str.{is_utf8}
 use Rattle.serde_json.specs.Data.{Data}
 use Rattle.serde_json.specs.Events.{items_len, members_len}
 use Rattle.serde_json.specs.Find.{get, at, as_str, as_array, as_object}
 use Rattle.serde_json.specs.Read.{read}
+use Rattle.cu_command.specs.Name.{is_name, name_in}
+use Rattle.cu_meta.specs.Options.{◌>>=◌, when}
 use Rattle.cu_top.specs.declared.expression.Addition.{Addition}
 
 -- the names of the two arrays that are added and of their sum
@@ -19,36 +19,11 @@ pub record Names : Type 0 where
 abbrev pub names_of : Addition → Names
 names_of a = record { left = a.left.bytes; right = a.right.bytes; out = a.out.bytes }
 
--- a letter, a digit, `_`, `-` or `.`
-abbrev pub is_name_byte : ℕ → Bool
-is_name_byte c = is_ascii_alphanumeric c || (c == 95) || (c == 45) || (c == 46)
-
--- the name of an array or the id of a node: 1 to 32 such bytes, a letter or digit first
-abbrev pub is_name : List ℕ → Bool
-is_name text = nat_lt 0 (length text) && nat_le (length text) 32 && is_ascii_alphanumeric (slice_index text 0) && list_all is_name_byte text
-
 -- the three are names
 pub record AreNames (names : Names) : Type 0 where
   pub left : is_name names.left ≡ true
   pub right : is_name names.right ≡ true
   pub out : is_name names.out ≡ true
-
--- the next step, where this one gave a value
-infixl 10 ◌>>=◌
-abbrev pub ◌>>=◌ : {A B : Type 0} → Option A → (A → Option B) → Option B
-o >>= f = option_and_then f o
-
--- a step that goes on where the test holds
-abbrev pub when : Bool → Option ⊤
-when true = Some tt
-when false = None
-
--- the value is there, and is a text that is a name
-abbrev pub name_in : Option Data → Option (List ℕ)
-name_in value = do
-  text ← value >>= as_str
-  _ ← when (is_name text)
-  Some text
 
 -- the value is there, and is this text
 abbrev pub is_text : List ℕ → Option Data → Bool

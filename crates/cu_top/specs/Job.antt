@@ -1,12 +1,13 @@
 -- What one addition stores: its keys, and the one value of each.
-use Rattle.std.specs.Prelude.{◌≡◌, ◌⊎◌, ℕ, zero, suc, ◌<◌, ◌≤◌, ℤ, pos, ◌+ℤ◌, List, [], ◌∷◌, ◌++◌, length, Option, Some, None, option_map, option_and_then}
+use Rattle.std.specs.Prelude.{◌≡◌, ◌⊎◌, ℕ, ◌<◌, ℤ, pos, ◌+ℤ◌, List, ◌∷◌, ◌++◌, Option, Some, None, option_map, option_and_then}
 use Rattle.cu_num.specs.Wrap.{wrapped}
 use Rattle.cu_num.specs.declared.types.Dtype.{Dtype}
 use Rattle.cu_num.specs.declared.layout.Encoding.TheVariants.{Plain}
 use Rattle.cu_num.specs.declared.layout.Sep.TheVariants.{Slash}
 use Rattle.cu_num.specs.declared.layout.Endian.TheVariants.{Little}
 use Rattle.cu_shape.specs.Index.{index_at}
-use Rattle.cu_codec.specs.Names.{HasNoSlash}
+use Rattle.cu_command.specs.Name.{IsArrayName}
+use Rattle.cu_command.specs.Writes.{values_below}
 use Rattle.cu_op.specs.Arrays.{grid_counts, chunk_count}
 use Rattle.cu_op.specs.Layout.{layout_view}
 use Rattle.cu_op.specs.declared.layout.ArrayInfo.{ArrayInfo}
@@ -18,11 +19,8 @@ use Rattle.cu_zarr.specs.Spelling.{spelled}
 use Rattle.cu_zarr.specs.Stored.{stored_element}
 use Rattle.cu_top.specs.declared.job.Job.{Job}
 use Rattle.cu_top.specs.declared.job.Names.{Names}
-use Rattle.cu_top.specs.Inputs.{IsInput, AreAddable, IsMetadata}
-
--- the name of an array: no slash in it, and at most 32 bytes
-abbrev pub IsArrayName : List ℕ → Type 0
-IsArrayName name = HasNoSlash name × (length name ≤ 32)
+use Rattle.cu_command.specs.Stored.{IsArrayLayout, IsMetadata}
+use Rattle.cu_top.specs.Inputs.{AreAddable}
 
 pub record AreArrayNames (names : Names) : Type 0 where
   pub left : IsArrayName names.left
@@ -32,8 +30,8 @@ pub record AreArrayNames (names : Names) : Type 0 where
 -- names of arrays, and two inputs that can be added
 pub record IsJob (job : Job) : Type 0 where
   pub names : AreArrayNames job.names
-  pub left : IsInput job.left
-  pub right : IsInput job.right
+  pub left : IsArrayLayout job.left
+  pub right : IsArrayLayout job.right
   pub alike : AreAddable job.left job.right
 
 -- ---- the arrays
@@ -80,9 +78,9 @@ IsInputKey job key = IsArrayKey (left_array job) key ⊎ IsArrayKey (right_array
 abbrev pub IsInputChunk : Job → List ℕ → Type 0
 IsInputChunk job key = IsChunkKey (left_array job) key ⊎ IsChunkKey (right_array job) key
 
--- a key of the plan: one of the output's
-abbrev pub IsPlanKey : Job → List ℕ → Type 0
-IsPlanKey job key = IsArrayKey (out_array job) key
+-- a key of the output
+abbrev pub IsOutKey : Job → List ℕ → Type 0
+IsOutKey job key = IsArrayKey (out_array job) key
 
 -- ---- values
 
@@ -102,29 +100,23 @@ sum_at job entry idx = wrapped_sum job.left.dtype (element_of (left_array job) e
 abbrev pub chunk_value : Job → Contents → ℕ → Option (List ℕ)
 chunk_value job entry k = spelled (layout_view (made_layout job.left)) (sum_at job entry) (coord_of (out_array job) k)
 
--- a write of this value in front, where there is one
-abbrev pub with_value : List ℕ → Option (List ℕ) → List Write → List Write
-with_value key None writes = writes
-with_value key (Some bytes) writes = (key, bytes) ∷ writes
-
--- the values of the chunks below k
+-- the values of the chunks below n
 abbrev pub chunk_writes : Job → Contents → ℕ → List Write
-chunk_writes job entry zero = []
-chunk_writes job entry (suc k) = with_value (key_of_chunk (out_array job) k) (chunk_value job entry k) (chunk_writes job entry k)
+chunk_writes job entry n = values_below (key_of_chunk (out_array job)) (chunk_value job entry) n
 
 -- the text that is written as the output's metadata
 abbrev pub out_metadata : Job → List ℕ
 out_metadata job = metadata_text (layout_view (made_layout job.left))
 
--- the one value of each key of the plan
-unfoldable pub plan_writes : Job → Contents → List Write
-plan_writes job entry = (metadata_key_of job.names.out, out_metadata job) ∷ chunk_writes job entry (chunks_of job)
+-- the one value of each key of the output
+unfoldable pub out_writes : Job → Contents → List Write
+out_writes job entry = (metadata_key_of job.names.out, out_metadata job) ∷ chunk_writes job entry (chunks_of job)
 
 -- ---- what is held
 
 -- the premise: no write of another plan, or of another content of an input, is still to land
 pub record IsQuiet (job : Job) (entry : Contents) (late : List Write) : Type 0 where
-  pub plan : (key bytes : List ℕ) → IsAmong late key bytes → IsPlanKey job key → IsAmong (plan_writes job entry) key bytes
+  pub plan : (key bytes : List ℕ) → IsAmong late key bytes → IsOutKey job key → IsAmong (out_writes job entry) key bytes
   pub inputs : (key bytes : List ℕ) → IsAmong late key bytes → IsInputKey job key → entry key ≡ Some bytes
 
 -- the array with this name has metadata of this layout
@@ -136,25 +128,25 @@ pub record HasInputs (job : Job) (entry : Contents) : Type 0 where
   pub left : HasMetadata entry job.names.left job.left
   pub right : HasMetadata entry job.names.right job.right
 
--- no key of the plan is held
+-- no key of the output is held
 abbrev pub IsFree : Job → Contents → Type 0
-IsFree job entry = (key : List ℕ) → IsPlanKey job key → entry key ≡ None
+IsFree job entry = (key : List ℕ) → IsOutKey job key → entry key ≡ None
 
--- A run that was started: since the call began, only the plan's values and puts that were late have landed.
+-- The output is being stored: since the call began, only its values and puts that were late have landed.
 pub record IsStarted (job : Job) (entry : Contents) (late : List Write) (held : Option Contents) (now_late : List Write) : Type 0 where
   pub is_job : IsJob job
   pub quiet : IsQuiet job entry late
   pub inputs : HasInputs job entry
   pub free : IsFree job entry
-  pub follows : Follows (plan_writes job entry ++ late) (Some entry) held now_late
+  pub follows : Follows (out_writes job entry ++ late) (Some entry) held now_late
 
--- each key of the plan is absent or holds its one value
+-- each key of the output is absent or holds its one value
 abbrev pub IsLeft : Job → Contents → Contents → Type 0
-IsLeft job entry held = (key : List ℕ) → IsPlanKey job key → (held key ≡ None) ⊎ ((bytes : List ℕ) × IsAmong (plan_writes job entry) key bytes × (held key ≡ Some bytes))
+IsLeft job entry held = (key : List ℕ) → IsOutKey job key → (held key ≡ None) ⊎ ((bytes : List ℕ) × IsAmong (out_writes job entry) key bytes × (held key ≡ Some bytes))
 
--- each key of the plan holds its one value
+-- each key of the output holds its one value
 abbrev pub IsComplete : Job → Contents → Contents → Type 0
-IsComplete job entry held = (key : List ℕ) → IsPlanKey job key → (bytes : List ℕ) × IsAmong (plan_writes job entry) key bytes × (held key ≡ Some bytes)
+IsComplete job entry held = (key : List ℕ) → IsOutKey job key → (bytes : List ℕ) × IsAmong (out_writes job entry) key bytes × (held key ≡ Some bytes)
 
 -- chunk number k of the output has a value and holds it
 abbrev pub StoresChunk : Job → Contents → Option Contents → ℕ → Type 0
@@ -164,6 +156,11 @@ StoresChunk job entry held k = (bytes : List ℕ) × (chunk_value job entry k �
 abbrev pub StoresChunks : Job → Contents → Option Contents → ℕ → Type 0
 StoresChunks job entry held n = (k : ℕ) → k < n → StoresChunk job entry held k
 
--- a value of the plan that was held is held
-abbrev pub ValuesStay : Job → Contents → Option Contents → Option Contents → Type 0
-ValuesStay job entry old new = (key bytes : List ℕ) → IsAmong (plan_writes job entry) key bytes → Holds old key bytes → Holds new key bytes
+-- The key was absent when the call began, and each write that may land on it carries these bytes.
+pub record HasOneValue (job : Job) (entry : Contents) (late : List Write) (key bytes : List ℕ) : Type 0 where
+  pub absent : entry key ≡ None
+  pub only : (other : List ℕ) → IsAmong (out_writes job entry ++ late) key other → other ≡ bytes
+
+-- such a key that held them holds them
+abbrev pub ValuesStay : Job → Contents → List Write → Option Contents → Option Contents → Type 0
+ValuesStay job entry late old new = (key bytes : List ℕ) → HasOneValue job entry late key bytes → Holds old key bytes → Holds new key bytes

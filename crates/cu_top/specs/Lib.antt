@@ -1,13 +1,12 @@
+pub mod Call
 pub mod Complete
 pub mod Expression
 pub mod Inputs
 pub mod Job
-pub mod LoadForm
 pub mod Plan
+pub mod Record
 pub mod Report
 pub mod Run
-pub mod Status
-pub mod Streams
 pub mod Tasks
 pub mod Top
 pub mod Words

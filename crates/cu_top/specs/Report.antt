@@ -1,9 +1,9 @@
 -- The answers on memory, and those of the report.
 use Rattle.std.specs.Prelude.{◌≡◌, ℕ, ◌≤◌, List, length, Option, Some, None, Result, Ok, Err}
 use Rattle.cu_store.specs.Faults.{Rose}
-use Rattle.cu_top.specs.Streams.{WroteFront}
-use Rattle.cu_top.specs.declared.status.Status.{Status}
-use Rattle.cu_top.specs.declared.status.Status.TheVariants.{Done, BadWords, OverMemory, BadMeta, NoArray, Exists, TaskFailed, ReadFault, WriteFault, BadChunk, DepotFailed, NotBuilt, NoMemory}
+use Rattle.cu_command.specs.Streams.{WroteFront}
+use Rattle.cu_command.specs.declared.status.Status.{Status}
+use Rattle.cu_command.specs.declared.status.Status.TheVariants.{Done, BadWords, OverMemory, BadMeta, NoArray, Exists, TaskFailed, ReadFault, WriteFault, BadChunk, DepotFailed, BadLoad, NotBuilt, NoMemory}
 
 -- a refusal exactly where a node needs more, with its need and what is allowed
 abbrev pub TellsMemory : ℕ → Option (ℕ × ℕ) → Result (Unit {0}) Status → Type 0
@@ -23,6 +23,7 @@ Reports old new line before after (BadMeta name code) = ⊥
 Reports old new line before after (NoArray name) = ⊥
 Reports old new line before after (TaskFailed op task) = ⊥
 Reports old new line before after ReadFault = ⊥
+Reports old new line before after (BadLoad code) = ⊥
 Reports old new line before after (BadChunk bad got want) = ⊥
 Reports old new line before after (DepotFailed key) = ⊥
 Reports old new line before after (NotBuilt node) = ⊥

@@ -4,31 +4,14 @@ use Rattle.cu_store.specs.Faults.{Rose}
 use Rattle.cu_store.specs.Held.{Contents}
 use Rattle.cu_region.specs.Steady.{HoldsLength}
 use Rattle.cu_top.specs.declared.job.Job.{Job}
-use Rattle.cu_top.specs.declared.status.Status.{Status}
-use Rattle.cu_top.specs.declared.status.Status.TheVariants.{Done, BadWords, OverMemory, BadMeta, NoArray, Exists, TaskFailed, ReadFault, WriteFault, BadChunk, DepotFailed, NotBuilt, NoMemory}
-use Rattle.cu_top.specs.Job.{chunks_of, IsInputChunk}
-use Rattle.cu_top.specs.Job.{IsJob}
+use Rattle.cu_command.specs.declared.status.Status.{Status}
+use Rattle.cu_command.specs.declared.status.Status.TheVariants.{Done, BadWords, OverMemory, BadMeta, NoArray, Exists, TaskFailed, ReadFault, WriteFault, BadChunk, DepotFailed, BadLoad, NotBuilt, NoMemory}
+use Rattle.cu_top.specs.Job.{IsJob, IsInputChunk, chunks_of}
 use Rattle.cu_top.specs.Plan.{room_of, plan_of}
 use Rattle.cu_top.specs.declared.words.Options.{Options}
 use Rattle.cu_op.specs.PlanView.{PlanView}
 use Rattle.cu_store.specs.declared.faults.TaskFault.{TaskFault}
 use Rattle.cu_store.specs.declared.faults.TaskFault.TheVariants as fault
-
--- A key fails only where so many calls failed, the count risen in each; want of memory comes only of a depot that lacks.
-abbrev pub IsKeyFault : ℕ → ℕ → ℕ → Bool → List ℕ → Status → Type 0
-IsKeyFault tries before after lacks key (DepotFailed failed) = (failed ≡ key) × Rose tries before after
-IsKeyFault tries before after lacks key NoMemory = IsTrue lacks
-IsKeyFault tries before after lacks key Done = ⊥
-IsKeyFault tries before after lacks key (BadWords code) = ⊥
-IsKeyFault tries before after lacks key (OverMemory node need allowed) = ⊥
-IsKeyFault tries before after lacks key (Exists held) = ⊥
-IsKeyFault tries before after lacks key (BadMeta name code) = ⊥
-IsKeyFault tries before after lacks key (NoArray name) = ⊥
-IsKeyFault tries before after lacks key (TaskFailed op task) = ⊥
-IsKeyFault tries before after lacks key ReadFault = ⊥
-IsKeyFault tries before after lacks key WriteFault = ⊥
-IsKeyFault tries before after lacks key (BadChunk bad got want) = ⊥
-IsKeyFault tries before after lacks key (NotBuilt node) = ⊥
 
 -- an input's chunk holds `got` bytes and not those of a chunk
 abbrev pub IsBad : Option Contents → List ℕ → ℕ → ℕ → Job → Type 0
@@ -62,6 +45,7 @@ IsTaskEnd tries job before after lacks held (BadWords code) = ⊥
 IsTaskEnd tries job before after lacks held (OverMemory node need allowed) = ⊥
 IsTaskEnd tries job before after lacks held (Exists exists) = ⊥
 IsTaskEnd tries job before after lacks held ReadFault = ⊥
+IsTaskEnd tries job before after lacks held (BadLoad code) = ⊥
 IsTaskEnd tries job before after lacks held WriteFault = ⊥
 IsTaskEnd tries job before after lacks held (DepotFailed failed) = ⊥
 IsTaskEnd tries job before after lacks held (NotBuilt node) = ⊥

@@ -1,7 +1,8 @@
 -- The words of the command line: the command, and behind it the options in pairs of a name and a value. This project's own rules.
-use Rattle.std.specs.Prelude.{ℕ, ◌^◌, Bool, nat_lt, nat_le, ◌&&◌, List, [], ◌∷◌, length, codes, bytes_eq, Option, Some, None, option_map, option_and_then, unwrap_or, Result, Ok, Err, if◌then◌else◌}
+use Rattle.std.specs.Prelude.{ℕ, ◌^◌, Bool, nat_eq, nat_lt, nat_le, ◌&&◌, ◌||◌, not, List, [], ◌∷◌, length, slice_index, codes, bytes_eq, Option, Some, None, option_map, option_and_then, unwrap_or, Result, Ok, Err, if◌then◌else◌}
 use Rattle.std.specs.Str.{all_ascii_digits}
 use Rattle.std.specs.Str.Parse.{without_leading_plus, digits_value}
+use Rattle.cu_command.specs.Name.{is_name}
 use Rattle.cu_top.specs.declared.words.Given.{Given}
 use Rattle.cu_top.specs.declared.words.Options.{Options}
 
@@ -40,12 +41,49 @@ options_from given [] = Some (record { allowed = unwrap_or given.allowed 2000000
 options_from given (name ∷ []) = None
 options_from given (name ∷ value ∷ more) = option_and_then (λ g. options_from g more) (given_with given name value)
 
--- what a refused pair of options answers
-abbrev pub or_code : Option Options → ℕ → Result Options ℕ
-or_code (Some o) code = Ok o
+-- ---- the commands
+
+-- what the words ask for: a run, a text that gives an array, or the print of an array with this name
+pub data Command : Type 0 where
+  run : Options → Command
+  load : ℕ → Command
+  print : List ℕ → ℕ → Command
+
+-- the value, where there is one, and else this code
+abbrev pub or_code : {T : Type 0} → Option T → ℕ → Result T ℕ
+or_code (Some x) code = Ok x
 or_code None code = Err code
 
--- The options of the command `run`. Code 1: the command is missing or unknown. Code 2: its options are wrong.
-unfoldable pub options_of : List (List ℕ) → Result Options ℕ
-options_of [] = Err 1
-options_of (command ∷ words) = if bytes_eq command (codes "run") then or_code (options_from nothing_given words) 2 else Err 1
+-- how often calls are tried again, by the words of an option; twice where there is none
+abbrev pub retries_in : List (List ℕ) → Option ℕ
+retries_in [] = Some 2
+retries_in (name ∷ []) = None
+retries_in (name ∷ value ∷ []) = if bytes_eq name (codes "--retries") then retries_of value else None
+retries_in (name ∷ value ∷ more ∷ rest) = None
+
+-- A word that is no option: it doesn't begin with `-`, or is that alone.
+abbrev pub is_plain : List ℕ → Bool
+is_plain word = not (nat_eq (slice_index word 0) 45) || nat_eq (length word) 1
+
+-- the print of the array with this name. Code 2: the word is an option, or the number of tries is none. Code 3: the word is no name.
+abbrev pub print_of : List ℕ → Option ℕ → Result Command ℕ
+print_of word None = Err 2
+print_of word (Some retries) = if is_plain word then (if is_name word then Ok (print word retries) else Err 3) else Err 2
+
+-- the words behind `print`: a name, and before or behind it how often calls are tried again
+abbrev pub print_in : List (List ℕ) → Result Command ℕ
+print_in [] = Err 2
+print_in (word ∷ []) = print_of word (Some 2)
+print_in (a ∷ b ∷ []) = Err 2
+print_in (a ∷ b ∷ c ∷ []) = if bytes_eq a (codes "--retries") then print_of c (retries_of b) else print_of a (retries_in (b ∷ c ∷ []))
+print_in (a ∷ b ∷ c ∷ d ∷ rest) = Err 2
+
+-- What the words ask for. Code 1: the command is missing or unknown. Code 2: its options are wrong, or its count of words. Code 3: a name
+-- is none.
+unfoldable pub command_of : List (List ℕ) → Result Command ℕ
+command_of [] = Err 1
+command_of (command ∷ words) =
+    if bytes_eq command (codes "run") then or_code (option_map run (options_from nothing_given words)) 2
+    else if bytes_eq command (codes "load") then or_code (option_map load (retries_in words)) 2
+    else if bytes_eq command (codes "print") then print_in words
+    else Err 1

@@ -2,18 +2,17 @@
 ghost use Rattle.std.specs.Prelude.{◌≡◌, ◌⊎◌, ℕ, ◌+◌, ◌<◌, ◌≤◌, List, Option, Some, IfErr, OnOk, true, false};
 ghost use Rattle.cu_store.specs.Held.{Contents, Write, Follows};
 ghost use Rattle.cu_top.specs.Job.{IsJob, IsFree, chunks_of, key_of_chunk, out_array};
-ghost use Rattle.cu_top.specs.Run.{IsFirstInWay, IsAskFault, IfAsked, IfExists, IsApart, IsOwnFirst};
+ghost use Rattle.cu_top.specs.Run.{IsPlanFree, IsFirstOfOut, IsFirstInWay, IsAskFault, IfAsked, IfExists, IsApart, IsOwnFirst, IsOwnInput};
 
-use crate::Status;
 use crate::job::Job;
-use crate::keys::ask_key;
 use cu_codec::{chunk_key, metadata_key};
+use cu_command::{Status, ask_key, record_key};
 use cu_shape::index_of;
 use cu_store::{Depot, Key};
 
 /// Whether the output is one of the inputs.
 fn is_own_input(job: &Job) -> bool
-    ensures own { result ≡ true → (job.now.names.out ≡ job.now.names.left) ⊎ (job.now.names.out ≡ job.now.names.right) }
+    ensures own { result ≡ true → IsOwnInput job.now }
     ensures apart { result ≡ false → IsApart job.now }
 {
     job.names.out.is(&job.names.left) || job.names.out.is(&job.names.right)
@@ -30,14 +29,40 @@ fn key_of(job: &Job, number: u64) -> Key
     chunk_key(&job.names.out, made.encoding, &coord)
 }
 
-/// Asks for the keys of the plan, the metadata first and then the chunks in order, and refuses the first that is held.
-/// The metadata of an output that is also an input counts as held.
+/// Asks for the keys of the plan, the record's first and then those of the output, and refuses the first that is held.
 pub fn ask_keys<D: Depot>(depot: &mut D, job: &Job, retries: u32) -> Result<(), Status>
+    requires { IsJob job.now }
+    ensures free { (writes : List Write) (entry : Contents)
+        → Follows writes (Some entry) (D.held depot.old) (D.late depot.old) → OnOk result (IsPlanFree job.now entry) }
+    ensures first { (writes : List Write) (entry : Contents)
+        → Follows writes (Some entry) (D.held depot.old) (D.late depot.old) → IfErr result (λ status. IfAsked status (IsFirstInWay job.now entry)) }
+    ensures apart { OnOk result (IsApart job.now) }
+    ensures own { IfErr result (λ status. IfExists status (IsOwnFirst job.now)) }
+    ensures follows { (writes : List Write) (entry : Option Contents)
+        → Follows writes entry (D.held depot.old) (D.late depot.old) → Follows writes entry (D.held depot.new) (D.late depot.new) }
+    ensures cause { IfErr result (IsAskFault (retries + 1) job.now (D.faults depot.old) (D.faults depot.new) (D.lacks depot.new) (D.held depot.new)) }
+    ensures count { D.faults depot.old ≤ D.faults depot.new }
+    ensures lacks { D.lacks depot.new ≡ D.lacks depot.old }
+{
+    let record = record_key(&job.names.out);
+    let held = match ask_key(depot, &record, retries) {
+        Ok(held) => held,
+        Err(status) => return Err(status),
+    };
+    if held {
+        return Err(Status::Exists { key: record });
+    }
+    ask_output(depot, job, retries)
+}
+
+/// Asks for the keys of the output, the metadata first and then the chunks in order, and refuses the first that is held.
+/// The metadata of an output that is also an input counts as held.
+fn ask_output<D: Depot>(depot: &mut D, job: &Job, retries: u32) -> Result<(), Status>
     requires { IsJob job.now }
     ensures free { (writes : List Write) (entry : Contents)
         → Follows writes (Some entry) (D.held depot.old) (D.late depot.old) → OnOk result (IsFree job.now entry) }
     ensures first { (writes : List Write) (entry : Contents)
-        → Follows writes (Some entry) (D.held depot.old) (D.late depot.old) → IfErr result (λ status. IfAsked status (IsFirstInWay job.now entry)) }
+        → Follows writes (Some entry) (D.held depot.old) (D.late depot.old) → IfErr result (λ status. IfAsked status (IsFirstOfOut job.now entry)) }
     ensures apart { OnOk result (IsApart job.now) }
     ensures own { IfErr result (λ status. IfExists status (IsOwnFirst job.now)) }
     ensures follows { (writes : List Write) (entry : Option Contents)

@@ -1,20 +1,26 @@
 //! The program's one call.
-ghost use Rattle.std.specs.Prelude.{◌≡◌, ℕ, List, Some, map, string_bytes};
+ghost use Rattle.std.specs.Prelude.{◌≡◌, ℕ, ◌^◌, ◌≤◌, List, Some, map, string_bytes};
 ghost use Rattle.cu_store.specs.Held.{Contents};
+ghost use Rattle.cu_load.specs.Load.{Loaded};
+ghost use Rattle.cu_print.specs.Print.{Printed};
+ghost use Rattle.cu_top.specs.Call.{Tells};
 ghost use Rattle.cu_top.specs.Complete.{IsServable, StoodStill, IsServed};
-ghost use Rattle.cu_top.specs.Top.{Tells, Ran, PrintsOnly};
+ghost use Rattle.cu_command.specs.Writes.{IsUntouched};
+ghost use Rattle.cu_top.specs.Top.{RunTells, RanSo, PrintsOnly};
+ghost use Rattle.cu_top.specs.Words.{command_of};
 
-use crate::Status;
-use crate::expression::{NotAddition, read_addition};
+use crate::expression::{NotAddition, read_expression};
 use crate::job::names_in;
 use crate::run::run;
-use crate::streams::{ReadRefused, read_all};
-use crate::words::read_words;
+use crate::words::{Asked, Options, read_words};
+use cu_command::{ReadRefused, Status, key_of_name, read_all};
+use cu_load::load;
+use cu_print::print;
 use cu_store::{Depot, Sink, Source};
 use std::alloc::Global;
 
-/// Carries out the command that the words give: `run` reads an expression from the source, stores the array that it makes in the depot,
-/// and writes the report to the sink.
+/// Carries out the command that the words give. `run` reads an expression from the source, stores the array that it makes in the depot,
+/// and writes the report to the sink. `load` reads an array from the source and stores it. `print` writes a stored array to the sink.
 pub fn top<R: Source, W: Sink, D: Depot>(
     alloc: Global,
     words: &[String],
@@ -23,11 +29,12 @@ pub fn top<R: Source, W: Sink, D: Depot>(
     depot: &mut D,
 ) -> Status
     // When each answer comes, and what it leaves.
-    ensures answer { Tells (map string_bytes words.now) (R.left src.old) (R.left src.new) (R.faults src.old) (R.faults src.new) (D.held depot.old) (D.held depot.new) (D.late depot.old) (D.late depot.new)
-        (λ names options. Ran names options (D.held depot.old) (D.held depot.new) (D.late depot.old) (D.late depot.new) (D.faults depot.old) (D.faults depot.new) (W.faults out.old) (W.faults out.new) (W.written out.old) (W.written out.new)) result }
-    // Nothing is written but the report.
-    ensures prints { PrintsOnly result (W.written out.old) (W.written out.new) }
-    // Where all is accepted, nothing is in the way and no count of faults rises, it is carried out, or memory is wanted.
+    ensures answer { Tells (command_of (map string_bytes words.now)) (IsUntouched (D.held depot.old) (D.held depot.new) (D.late depot.old) (D.late depot.new) × (R.left src.new ≡ R.left src.old) × (W.written out.new ≡ W.written out.old))
+        (λ options status. RunTells (R.left src.old) (R.left src.new) (R.faults src.old) (R.faults src.new) (D.held depot.old) (D.held depot.new) (D.late depot.old) (D.late depot.new) (RanSo options (D.held depot.old) (D.held depot.new) (D.late depot.old) (D.late depot.new) (D.faults depot.old) (D.faults depot.new) (W.faults out.old) (W.faults out.new) (W.written out.old) (W.written out.new)) status × PrintsOnly status (W.written out.old) (W.written out.new))
+        (λ retries. Loaded retries (R.left src.old) (R.left src.new) (R.faults src.old) (R.faults src.new) (D.held depot.old) (D.held depot.new) (D.late depot.old) (D.late depot.new) (D.faults depot.old) (D.faults depot.new) (W.faults out.old) (W.faults out.new) (W.written out.old) (W.written out.new))
+        (λ name retries status. Printed retries name (D.held depot.old) (D.held depot.new) (D.late depot.old) (D.late depot.new) (D.faults depot.old) (D.faults depot.new) (W.faults out.old) (W.faults out.new) (W.written out.old) (W.written out.new) status × (R.left src.new ≡ R.left src.old))
+        result }
+    // Where a run is accepted, nothing is in the way and no count of faults rises, it is carried out, or memory is wanted.
     ensures complete { (text : List ℕ) (entry : Contents) → R.left src.old ≡ Some text → D.held depot.old ≡ Some entry → IsServable (map string_bytes words.now) text entry (D.late depot.old)
         → StoodStill (R.faults src.old) (R.faults src.new) → StoodStill (W.faults out.old) (W.faults out.new) → StoodStill (D.faults depot.old) (D.faults depot.new) → IsServed result }
 {
@@ -43,25 +50,47 @@ fn carry<R: Source, W: Sink, D: Depot>(
     depot: &mut D,
 ) -> Status
     // When each answer comes, and what it leaves.
-    ensures answer { Tells (map string_bytes words.now) (R.left src.old) (R.left src.new) (R.faults src.old) (R.faults src.new) (D.held depot.old) (D.held depot.new) (D.late depot.old) (D.late depot.new)
-        (λ names options. Ran names options (D.held depot.old) (D.held depot.new) (D.late depot.old) (D.late depot.new) (D.faults depot.old) (D.faults depot.new) (W.faults out.old) (W.faults out.new) (W.written out.old) (W.written out.new)) result }
-    // Nothing is written but the report.
-    ensures prints { PrintsOnly result (W.written out.old) (W.written out.new) }
+    ensures answer { Tells (command_of (map string_bytes words.now)) (IsUntouched (D.held depot.old) (D.held depot.new) (D.late depot.old) (D.late depot.new) × (R.left src.new ≡ R.left src.old) × (W.written out.new ≡ W.written out.old))
+        (λ options status. RunTells (R.left src.old) (R.left src.new) (R.faults src.old) (R.faults src.new) (D.held depot.old) (D.held depot.new) (D.late depot.old) (D.late depot.new) (RanSo options (D.held depot.old) (D.held depot.new) (D.late depot.old) (D.late depot.new) (D.faults depot.old) (D.faults depot.new) (W.faults out.old) (W.faults out.new) (W.written out.old) (W.written out.new)) status × PrintsOnly status (W.written out.old) (W.written out.new))
+        (λ retries. Loaded retries (R.left src.old) (R.left src.new) (R.faults src.old) (R.faults src.new) (D.held depot.old) (D.held depot.new) (D.late depot.old) (D.late depot.new) (D.faults depot.old) (D.faults depot.new) (W.faults out.old) (W.faults out.new) (W.written out.old) (W.written out.new))
+        (λ name retries status. Printed retries name (D.held depot.old) (D.held depot.new) (D.late depot.old) (D.late depot.new) (D.faults depot.old) (D.faults depot.new) (W.faults out.old) (W.faults out.new) (W.written out.old) (W.written out.new) status × (R.left src.new ≡ R.left src.old))
+        result }
 {
-    let options = match read_words(words) {
-        Ok(options) => options,
+    let asked = match read_words(words) {
+        Ok(asked) => asked,
         Err(code) => return Status::BadWords { code },
     };
+    match &asked {
+        Asked::Run(options) => run_command(alloc, *options, src, out, depot),
+        Asked::Load { retries } => load(alloc, *retries, src, out, depot),
+        Asked::Print { name, retries } => { print(alloc, *retries, &key_of_name(name), out, depot) }
+    }
+}
+
+/// Computes the expression that the source has.
+fn run_command<R: Source, W: Sink, D: Depot>(
+    alloc: Global,
+    options: Options,
+    src: &mut R,
+    out: &mut W,
+    depot: &mut D,
+) -> Status
+    requires reserved { options.reserved ≤ 2 ^ 40 }
+    requires retries { options.retries ≤ 8 }
+    ensures answer { RunTells (R.left src.old) (R.left src.new) (R.faults src.old) (R.faults src.new) (D.held depot.old) (D.held depot.new) (D.late depot.old) (D.late depot.new)
+        (RanSo options (D.held depot.old) (D.held depot.new) (D.late depot.old) (D.late depot.new) (D.faults depot.old) (D.faults depot.new) (W.faults out.old) (W.faults out.new) (W.written out.old) (W.written out.new)) result }
+    ensures prints { PrintsOnly result (W.written out.old) (W.written out.new) }
+{
     let text = match read_all(alloc, src) {
         Ok(text) => text,
         Err(ReadRefused::Fault) => return Status::ReadFault,
         Err(ReadRefused::NoMemory) => return Status::NoMemory,
     };
-    let addition = match read_addition(alloc, &text) {
-        Ok(addition) => addition,
+    let expression = match read_expression(alloc, &text) {
+        Ok(expression) => expression,
         Err(NotAddition::Form) => return Status::NotBuilt { node: 0 },
         Err(NotAddition::NoMemory) => return Status::NoMemory,
     };
-    let names = names_in(&addition);
-    run(alloc, options, &names, out, depot)
+    let names = names_in(&expression.addition);
+    run(alloc, options, &expression.value, &names, out, depot)
 }

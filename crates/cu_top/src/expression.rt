@@ -1,25 +1,18 @@
 //! The text of an expression that adds two stored arrays.
-ghost use Rattle.std.specs.Prelude.{◌≡◌, Some, None, IfOk, IfErr, option_map};
-ghost use Rattle.std.specs.List.{list_all};
+ghost use Rattle.std.specs.Prelude.{◌≡◌, Some, None, false, IfOk, IfErr, option_map};
 ghost use Rattle.serde_json.specs.Find.{get, at};
 ghost use Rattle.serde_json.specs.Read.{read};
 ghost use Rattle.serde_json.specs.View.{view};
-ghost use Rattle.cu_top.specs.Expression.{AreNames, names_of, is_name_byte, is_name, name_in, is_text, is_object_of, is_list_of, is_pair, input_of, sum_of, addition_in, addition_of, are_distinct};
+ghost use Rattle.serde_json.specs.Written.{has_float};
+ghost use Rattle.cu_top.specs.Expression.{AreNames, names_of, is_text, is_object_of, is_list_of, is_pair, input_of, sum_of, addition_in, addition_of, are_distinct};
 
-use arrayvec::ArrayString;
+use cu_command::{Name, name_at};
 use serde_json::Value;
 use std::alloc::Global;
 use std::str;
 
 /// The most bytes of the text of an expression.
 const TEXT_BYTES: usize = 1_048_576;
-
-/// The most bytes of a name.
-const NAME_BYTES: usize = 32;
-
-/// The name of an array or the id of a node: 1 to 32 of the letters, the digits, `_`, `-` and `.`,
-/// beginning with a letter or a digit.
-pub type Name = ArrayString<32>;
 
 /// The addition of two stored arrays, which may be one array.
 #[derive(Clone, Copy)]
@@ -30,6 +23,14 @@ pub struct Addition {
     pub right: Name,
     /// The array that is made.
     pub out: Name,
+}
+
+/// An addition, and the value that says it.
+#[derive(Drop)]
+pub struct Expression {
+    pub addition: Addition,
+    /// The JSON value that the text is read as. No number in it is a float.
+    pub value: Value,
 }
 
 /// Why a text gave no addition.
@@ -48,13 +49,15 @@ struct Input {
     array: Name,
 }
 
-/// The addition that a text says. The text is a JSON object such as
+/// The expression that a text says. The text is a JSON object such as
 /// `{"nodes":[{"id":"a","op":"input","name":"a"},{"id":"b","op":"input","name":"b"},{"id":"s","op":"add","args":["a","b"]}],"out":"s","store_as":"y"}`:
 /// two inputs and their sum, of three different ids, and the name of the array that is made.
 #[tactic(auto, unfolding(crate::specs::Expression::addition_of))]
-pub fn read_addition(alloc: Global, text: &[u8]) -> Result<Addition, NotAddition>
-    ensures ok { IfOk result (λ a. addition_of text.now ≡ Some (names_of a)) }
-    ensures names { IfOk result (λ a. AreNames (names_of a)) }
+pub fn read_expression(alloc: Global, text: &[u8]) -> Result<Expression, NotAddition>
+    ensures ok { IfOk result (λ e. addition_of text.now ≡ Some (names_of e.addition)) }
+    ensures names { IfOk result (λ e. AreNames (names_of e.addition)) }
+    ensures value { IfOk result (λ e. read text.now ≡ Some (view e.value)) }
+    ensures plain { IfOk result (λ e. has_float (view e.value) ≡ false) }
     ensures form { IfErr result (λ e. e ≡ NotAddition.Form → addition_of text.now ≡ None) }
 {
     if text.len() > TEXT_BYTES {
@@ -64,7 +67,10 @@ pub fn read_addition(alloc: Global, text: &[u8]) -> Result<Addition, NotAddition
         return Err(NotAddition::Form);
     };
     let value = read_value(alloc, text)?;
-    addition_in(&value).ok_or(NotAddition::Form)
+    let Some(addition) = addition_in(&value) else {
+        return Err(NotAddition::Form);
+    };
+    Ok(Expression { addition, value })
 }
 
 fn read_value(alloc: Global, text: &str) -> Result<Value, NotAddition>
@@ -146,17 +152,6 @@ fn are_distinct(a: &str, b: &str, c: &str) -> bool
     a != b && a != c && b != c
 }
 
-/// The name that stands at a member.
-pub(crate) fn name_at(value: &Value, key: &str) -> Option<Name>
-    ensures { option_map (λ n. n.bytes) result ≡ name_in (get key.now (view value.now)) }
-{
-    let text = value.get(key)?.as_str()?;
-    if !is_name(text) {
-        return None;
-    }
-    Name::from(text).ok()
-}
-
 /// Whether this text stands at a member.
 fn is_text_at(value: &Value, key: &str, text: &str) -> bool
     ensures { result ≡ is_text text.now (get key.now (view value.now)) }
@@ -195,29 +190,4 @@ fn is_list_of(value: &Value, count: usize) -> bool
         Some(items) => items.as_slice().len() == count,
         None => false,
     }
-}
-
-fn is_name(text: &str) -> bool
-    ensures { result ≡ is_name text.now }
-{
-    let bytes = text.as_bytes();
-    if bytes.is_empty() {
-        return false;
-    }
-    if bytes.len() > NAME_BYTES {
-        return false;
-    }
-    bytes[0].is_ascii_alphanumeric() && are_name_bytes(bytes)
-}
-
-fn are_name_bytes(bytes: &[u8]) -> bool
-    ensures { result ≡ list_all is_name_byte bytes.now }
-{
-    bytes.iter().all(|byte| is_name_byte(*byte))
-}
-
-fn is_name_byte(byte: u8) -> bool
-    ensures { result ≡ is_name_byte byte }
-{
-    byte.is_ascii_alphanumeric() || byte == b'_' || byte == b'-' || byte == b'.'
 }

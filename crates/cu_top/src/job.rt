@@ -1,10 +1,13 @@
 //! An addition whose arrays are known.
 ghost use Rattle.std.specs.Prelude.{◌≡◌, ◌≤◌, true};
 ghost use Rattle.cu_op.specs.Layout.{layout_view};
-ghost use Rattle.cu_top.specs.Expression.{is_name, AreNames, names_of};
-ghost use Rattle.cu_top.specs.Job.{IsArrayName, AreArrayNames, IsJob, left_array, right_array, out_array, chunks_of, made_layout};
+ghost use Rattle.cu_command.specs.Name.{is_name};
+ghost use Rattle.cu_top.specs.Expression.{AreNames, names_of};
+ghost use Rattle.cu_command.specs.Name.{IsArrayName};
+ghost use Rattle.cu_top.specs.Job.{AreArrayNames, IsJob, left_array, right_array, out_array, chunks_of, made_layout};
 
-use crate::expression::{Addition, Name};
+use crate::expression::Addition;
+use cu_command::key_of_name;
 use cu_num::{Encoding, Endian, Sep};
 use cu_op::{ArrayInfo, Layout};
 use cu_store::Key;
@@ -79,18 +82,6 @@ impl Job {
         ensures bound { result ≤ 65536 }
     {
         self.left.grid.count()
-    }
-}
-
-/// The name of an array as a key, which its keys begin with.
-fn key_of_name(name: &Name) -> Key
-    requires { is_name name.now.bytes ≡ true }
-    ensures key { result ≡ name.now.bytes }
-    ensures name { IsArrayName result }
-{
-    match Key::make(name.as_str()) {
-        Some(key) => key,
-        None => unreachable!(),
     }
 }
 

@@ -1,4 +1,5 @@
-//! The program's one call: an addition of two arrays, from its words and text to the stored chunks and the report.
+//! The program's one call, from its words to its answer: a run, which adds two arrays, from its text to the stored chunks and the
+//! report; and the commands that load and print an array, which have crates of their own.
 #![tactic(auto)]
 
 mod ask;
@@ -6,18 +7,15 @@ mod call;
 mod expression;
 mod inputs;
 mod job;
-mod keys;
 mod laws;
-mod load_form;
 mod memory;
 mod output;
 mod plan;
+mod record;
 mod run;
-mod status;
-mod streams;
 mod tasks;
 mod words;
 
 pub use call::top;
+pub use cu_command::{LineText, Status, number, status_line};
 pub use laws::output_law;
-pub use status::{LineText, Status, number, status_line};

@@ -5,12 +5,10 @@ ghost use Rattle.cu_top.specs.Plan.{need_of, over_memory};
 ghost use Rattle.cu_top.specs.Report.{Reports, TellsMemory};
 ghost use Rattle.cu_top.specs.Run.{report_line};
 
-use crate::Status;
 use crate::job::Job;
 use crate::plan::chunk_bytes;
-use crate::status::{LineText, push_field};
-use crate::streams::write_all;
 use crate::words::Options;
+use cu_command::{LineText, Status, push_field, write_all};
 use cu_store::Sink;
 
 /// The bytes that the instructions of a sum need: 512 for each of the two loads and the addition.

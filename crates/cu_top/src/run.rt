@@ -1,21 +1,26 @@
 //! A run: what is checked before anything is stored, and what is stored then.
-ghost use Rattle.std.specs.Prelude.{◌≡◌, ℕ, ◌^◌, ◌≤◌, List, Option, Some, None, IfErr, IfOk};
-ghost use Rattle.cu_store.specs.Held.{Contents, Write, IsAmong, Follows};
-ghost use Rattle.cu_top.specs.Job.{IsJob, AreArrayNames, IsFree, IsStarted};
+ghost use Rattle.std.specs.Prelude.{◌≡◌, ℕ, ◌^◌, ◌≤◌, List, Option, Some, None, IfErr, IfOk, false};
+ghost use Rattle.serde_json.specs.View.{view};
+ghost use Rattle.serde_json.specs.Written.{has_float};
+ghost use Rattle.cu_store.specs.Held.{Contents, Write, Follows};
+ghost use Rattle.cu_top.specs.Job.{IsJob, AreArrayNames, out_metadata};
 ghost use Rattle.cu_top.specs.Plan.{over_memory};
-ghost use Rattle.cu_top.specs.Run.{Completes, IsApart, IfDepotFailed, IfTaskEnded, metadata_write};
-ghost use Rattle.cu_top.specs.Top.{HasOutMetadata, IsAccepted, Refuses, Carries, IfStored, PrintsOnly, Ran};
+ghost use Rattle.cu_top.specs.Record.{record_text};
+ghost use Rattle.cu_top.specs.Run.{Completes, IsPlanFree, IsApart, IfDepotFailed, IfTaskEnded, IsFirstFailed, IsRecordFirst, PlanAlone};
+ghost use Rattle.cu_top.specs.Top.{HasFirst, IsAccepted, IsBegun, Refuses, Carries, IfStored, PrintsOnly, RanSo};
 
-use crate::Status;
 use crate::ask::ask_keys;
 use crate::inputs::read_inputs;
 use crate::job::{Job, Names};
 use crate::memory::{check_memory, report};
-use crate::output::store_output;
+use crate::output::{Texts, store_plan};
 use crate::plan::{ROOM_WORDS, chunk_bytes, make_plan};
+use crate::record::record_text;
 use crate::words::Options;
+use cu_command::Status;
 use cu_meta::write_meta;
-use cu_store::{Depot, Sink};
+use cu_store::{Depot, NoMemory, Sink};
+use serde_json::Value;
 use std::alloc::Global;
 
 /// Checks what can be refused before anything is stored: the inputs' metadata, the memory, and the keys in the way, in this order.
@@ -32,7 +37,7 @@ pub fn prepare<D: Depot>(
     ensures job { IfOk result IsJob }
     ensures fits { IfOk result (λ job. over_memory options job ≡ None) }
     ensures apart { IfOk result IsApart }
-    ensures free { (entry : Contents) → D.held depot.old ≡ Some entry → IfOk result (λ job. IsFree job entry) }
+    ensures free { (entry : Contents) → D.held depot.old ≡ Some entry → IfOk result (λ job. IsPlanFree job entry) }
     ensures refused { IfErr result (Refuses names.now options (D.held depot.old) (D.held depot.new) (D.late depot.old) (D.faults depot.old) (D.faults depot.new)) }
     ensures follows { (writes : List Write) (entry : Option Contents)
         → Follows writes entry (D.held depot.old) (D.late depot.old) → Follows writes entry (D.held depot.new) (D.late depot.new) }
@@ -51,10 +56,22 @@ pub fn prepare<D: Depot>(
     }
 }
 
-/// Makes the plan, takes the room of its tasks, stores the output and writes the report.
+/// The texts that the run stores.
+fn make_texts(alloc: Global, options: Options, expr: &Value, job: &Job) -> Result<Texts, NoMemory>
+    requires { has_float (view expr.now) ≡ false }
+    ensures record { IfOk result (λ texts. texts.record.items ≡ record_text options (view expr.now) job.now) }
+    ensures metadata { IfOk result (λ texts. texts.metadata.items ≡ out_metadata job.now) }
+{
+    let record = record_text(alloc, options, expr, job)?;
+    let metadata = write_meta(alloc, &job.made())?;
+    Ok(Texts { record, metadata })
+}
+
+/// Makes the plan and the texts, takes the room of its tasks, stores the values of the plan and writes the report.
 pub fn carry_out<W: Sink, D: Depot>(
     alloc: Global,
     options: Options,
+    expr: &Value,
     job: &Job,
     out: &mut W,
     depot: &mut D,
@@ -62,21 +79,31 @@ pub fn carry_out<W: Sink, D: Depot>(
     requires job { IsJob job.now }
     requires reserved { options.reserved ≤ 2 ^ 40 }
     requires retries { options.retries ≤ 8 }
+    requires plain { has_float (view expr.now) ≡ false }
     ensures answer { Carries job.now options (D.faults depot.old) (D.faults depot.new) (D.held depot.new) (W.faults out.old) (W.faults out.new) (W.written out.old) (W.written out.new) result }
     ensures prints { PrintsOnly result (W.written out.old) (W.written out.new) }
+    ensures others { (late : List Write) (entry : Option Contents)
+        → PlanAlone job.now late entry (D.held depot.old) (D.late depot.old) → PlanAlone job.now late entry (D.held depot.new) (D.late depot.new) }
     ensures started { (entry : Contents) (late : List Write)
-        → IsStarted job.now entry late (D.held depot.old) (D.late depot.old) → IsStarted job.now entry late (D.held depot.new) (D.late depot.new) }
+        → IsBegun job.now (record_text options (view expr.now) job.now) entry late (D.held depot.old) (D.late depot.old)
+        → IsBegun job.now (record_text options (view expr.now) job.now) entry late (D.held depot.new) (D.late depot.new) }
     ensures stored { (entry : Contents) (late : List Write)
-        → IsStarted job.now entry late (D.held depot.old) (D.late depot.old) → IfStored result (Completes job.now entry (D.held depot.new)) }
-    ensures metadata_alone { (writes : List Write) (entry : Option Contents) → IsAmong writes (metadata_write job.now).0 (metadata_write job.now).1
-        → Follows writes entry (D.held depot.old) (D.late depot.old) → IfDepotFailed result (Follows writes entry (D.held depot.new) (D.late depot.new)) }
-    ensures metadata_held { (entry : Contents) (late : List Write)
-        → IsStarted job.now entry late (D.held depot.old) (D.late depot.old) → IfTaskEnded result (HasOutMetadata (D.held depot.new) job.now entry) }
+        → IsBegun job.now (record_text options (view expr.now) job.now) entry late (D.held depot.old) (D.late depot.old)
+        → IfStored result (Completes job.now (record_text options (view expr.now) job.now) entry (D.held depot.new)) }
+    ensures first { (entry : Contents) (late : List Write)
+        → IsBegun job.now (record_text options (view expr.now) job.now) entry late (D.held depot.old) (D.late depot.old) → Follows late (Some entry) (D.held depot.old) (D.late depot.old)
+        → IsRecordFirst job.now (record_text options (view expr.now) job.now) entry late (D.held depot.new) (D.late depot.new) }
+    ensures failed_first { (entry : Contents) (late : List Write)
+        → IsBegun job.now (record_text options (view expr.now) job.now) entry late (D.held depot.old) (D.late depot.old) → Follows late (Some entry) (D.held depot.old) (D.late depot.old)
+        → IfDepotFailed result (IsFirstFailed job.now (record_text options (view expr.now) job.now) entry late (D.held depot.new) (D.late depot.new)) }
+    ensures first_held { (entry : Contents) (late : List Write)
+        → IsBegun job.now (record_text options (view expr.now) job.now) entry late (D.held depot.old) (D.late depot.old)
+        → IfTaskEnded result (HasFirst (D.held depot.new) job.now (record_text options (view expr.now) job.now)) }
 {
     let Ok(plan) = make_plan(alloc, options, job) else {
         return Status::NoMemory;
     };
-    let Ok(metadata) = write_meta(alloc, &job.made()) else {
+    let Ok(texts) = make_texts(alloc, options, expr, job) else {
         return Status::NoMemory;
     };
     let room = 4 * chunk_bytes(job) as usize;
@@ -86,10 +113,10 @@ pub fn carry_out<W: Sink, D: Depot>(
     let Ok(mut words) = vec![in alloc; 0u64; ROOM_WORDS] else {
         return Status::NoMemory;
     };
-    match store_output(
+    match store_plan(
         depot,
         job,
-        &metadata,
+        &texts,
         &plan,
         options.retries,
         &mut bytes,
@@ -100,10 +127,11 @@ pub fn carry_out<W: Sink, D: Depot>(
     }
 }
 
-/// Adds the arrays of these names.
+/// Adds the arrays of these names, by the expression that was read as this value.
 pub fn run<W: Sink, D: Depot>(
     alloc: Global,
     options: Options,
+    expr: &Value,
     names: &Names,
     out: &mut W,
     depot: &mut D,
@@ -111,11 +139,12 @@ pub fn run<W: Sink, D: Depot>(
     requires names { AreArrayNames names.now }
     requires reserved { options.reserved ≤ 2 ^ 40 }
     requires retries { options.retries ≤ 8 }
-    ensures answer { Ran names.now options (D.held depot.old) (D.held depot.new) (D.late depot.old) (D.late depot.new) (D.faults depot.old) (D.faults depot.new) (W.faults out.old) (W.faults out.new) (W.written out.old) (W.written out.new) result }
+    requires plain { has_float (view expr.now) ≡ false }
+    ensures answer { RanSo options (D.held depot.old) (D.held depot.new) (D.late depot.old) (D.late depot.new) (D.faults depot.old) (D.faults depot.new) (W.faults out.old) (W.faults out.new) (W.written out.old) (W.written out.new) names.now (view expr.now) result }
     ensures prints { PrintsOnly result (W.written out.old) (W.written out.new) }
 {
     match prepare(alloc, options, names, depot) {
-        Ok(job) => carry_out(alloc, options, &job, out, depot),
+        Ok(job) => carry_out(alloc, options, expr, &job, out, depot),
         Err(status) => status,
     }
 }

@@ -1,17 +1,17 @@
 //! The tasks of a run: each is tried until it ends, and its failed tries are counted.
-ghost use Rattle.std.specs.Prelude.{◌≡◌, ℕ, ◌+◌, ◌*◌, ◌<◌, ◌≤◌, List, Some, length, IfErr, IfOk, OnOk};
+ghost use Rattle.std.specs.Prelude.{◌≡◌, ℕ, ◌+◌, ◌*◌, ◌<◌, ◌≤◌, List, Option, Some, length, IfErr, IfOk, OnOk};
 ghost use Rattle.cu_op.specs.Cells.{tasks_of};
 ghost use Rattle.cu_op.specs.Projection.{projection};
 ghost use Rattle.cu_store.specs.Held.{Contents, Write};
 ghost use Rattle.cu_task.specs.Task.{op_of};
 ghost use Rattle.cu_top.specs.Job.{IsJob, IsStarted, StoresChunk, StoresChunks, ValuesStay, chunks_of};
 ghost use Rattle.cu_top.specs.Plan.{plan_of};
-ghost use Rattle.cu_top.specs.Run.{IfTaskFailed};
+ghost use Rattle.cu_top.specs.Run.{IfTaskFailed, PlanAlone};
 ghost use Rattle.cu_top.specs.Tasks.{IsPlanned, IsTryFault, IsTaskEnd, CountsFailed, end_of};
 ghost use Rattle.cu_top.specs.declared.job.Job.{Job as Addition};
 ghost use Rattle.cu_top.specs.declared.words.Options.{Options as Numbers};
 
-use crate::Status;
+use cu_command::Status;
 use cu_op::{Plan, tasks};
 use cu_store::{Depot, TaskFault};
 use cu_task::run_task;
@@ -33,7 +33,9 @@ fn try_task<D: Depot>(
     ensures stored { (options : Numbers) (job : Addition) (entry : Contents) (late : List Write) → plan.now ≡ plan_of options job
         → IsStarted job entry late (D.held depot.old) (D.late depot.old) → OnOk result (StoresChunk job entry (D.held depot.new) task) }
     ensures stays { (options : Numbers) (job : Addition) (entry : Contents) (late : List Write) → plan.now ≡ plan_of options job
-        → IsStarted job entry late (D.held depot.old) (D.late depot.old) → ValuesStay job entry (D.held depot.old) (D.held depot.new) }
+        → IsStarted job entry late (D.held depot.old) (D.late depot.old) → ValuesStay job entry late (D.held depot.old) (D.held depot.new) }
+    ensures others { (options : Numbers) (job : Addition) (late : List Write) (entry : Option Contents) → plan.now ≡ plan_of options job
+        → PlanAlone job late entry (D.held depot.old) (D.late depot.old) → PlanAlone job late entry (D.held depot.new) (D.late depot.new) }
     ensures cause { (options : Numbers) (job : Addition) → plan.now ≡ plan_of options job → IsJob job
         → IfErr result (IsTryFault job (D.faults depot.old) (D.faults depot.new) (D.lacks depot.new) (D.held depot.new)) }
     ensures count { D.faults depot.old ≤ D.faults depot.new }
@@ -77,7 +79,9 @@ fn finish_task<D: Depot>(
     ensures stored { (options : Numbers) (job : Addition) (entry : Contents) (late : List Write) → plan.now ≡ plan_of options job
         → IsStarted job entry late (D.held depot.old) (D.late depot.old) → OnOk result (StoresChunk job entry (D.held depot.new) task) }
     ensures stays { (options : Numbers) (job : Addition) (entry : Contents) (late : List Write) → plan.now ≡ plan_of options job
-        → IsStarted job entry late (D.held depot.old) (D.late depot.old) → ValuesStay job entry (D.held depot.old) (D.held depot.new) }
+        → IsStarted job entry late (D.held depot.old) (D.late depot.old) → ValuesStay job entry late (D.held depot.old) (D.held depot.new) }
+    ensures others { (options : Numbers) (job : Addition) (late : List Write) (entry : Option Contents) → plan.now ≡ plan_of options job
+        → PlanAlone job late entry (D.held depot.old) (D.late depot.old) → PlanAlone job late entry (D.held depot.new) (D.late depot.new) }
     ensures cause { (options : Numbers) (job : Addition) → plan.now ≡ plan_of options job → IsJob job
         → IfErr result (IsTaskEnd (retries + 1) job (D.faults depot.old) (D.faults depot.new) (D.lacks depot.new) (D.held depot.new)) }
     ensures failed { CountsFailed (D.faults depot.old) (D.faults depot.new) result }
@@ -118,7 +122,9 @@ pub fn run_tasks<D: Depot>(
     ensures stored { (options : Numbers) (job : Addition) (entry : Contents) (late : List Write) → plan.now ≡ plan_of options job
         → IsStarted job entry late (D.held depot.old) (D.late depot.old) → OnOk result (StoresChunks job entry (D.held depot.new) (chunks_of job)) }
     ensures stays { (options : Numbers) (job : Addition) (entry : Contents) (late : List Write) → plan.now ≡ plan_of options job
-        → IsStarted job entry late (D.held depot.old) (D.late depot.old) → ValuesStay job entry (D.held depot.old) (D.held depot.new) }
+        → IsStarted job entry late (D.held depot.old) (D.late depot.old) → ValuesStay job entry late (D.held depot.old) (D.held depot.new) }
+    ensures others { (options : Numbers) (job : Addition) (late : List Write) (entry : Option Contents) → plan.now ≡ plan_of options job
+        → PlanAlone job late entry (D.held depot.old) (D.late depot.old) → PlanAlone job late entry (D.held depot.new) (D.late depot.new) }
     ensures cause { (options : Numbers) (job : Addition) → plan.now ≡ plan_of options job → IsJob job
         → IfErr result (IsTaskEnd (retries + 1) job (D.faults depot.old) (D.faults depot.new) (D.lacks depot.new) (D.held depot.new)) }
     ensures failed { CountsFailed (D.faults depot.old) (D.faults depot.new) result }

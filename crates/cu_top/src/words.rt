@@ -1,6 +1,10 @@
 //! The words of the command line.
-ghost use Rattle.std.specs.Prelude.{◌≡◌, map, string_bytes};
-ghost use Rattle.cu_top.specs.Words.{memory_of, retries_of, once, nothing_given, given_with, options_from, options_of};
+ghost use Rattle.std.specs.Prelude.{◌≡◌, [], ◌∷◌, map, string_bytes};
+ghost use Rattle.std.specs.Result.{result_map_both};
+ghost use Rattle.cu_top.specs.Call.{command_view};
+ghost use Rattle.cu_top.specs.Words.{memory_of, retries_of, once, nothing_given, given_with, options_from, retries_in, is_plain, print_of, print_in, command_of};
+
+use cu_command::{Name, is_name};
 
 /// The most bytes that may be allowed or reserved: 2^40.
 const MOST_MEMORY: u64 = 1 << 40;
@@ -8,7 +12,7 @@ const MOST_MEMORY: u64 = 1 << 40;
 /// The most times that a call or a task is tried again.
 const MOST_RETRIES: u64 = 8;
 
-/// The options of a command; memory is in bytes.
+/// The options of a run; memory is in bytes.
 #[derive(Clone, Copy, Debug)]
 pub struct Options {
     /// The memory that a task may take, the reserved memory among it.
@@ -27,17 +31,107 @@ struct Given {
     retries: Option<u32>,
 }
 
-/// The options of the command `run`, which is the first word. Behind it stand any of the pairs `--allowed-mem N`,
-/// `--reserved-mem N` and `--retries N`, each at most once. A refusal is 1 where the command is missing or unknown, and 2 where
-/// an option is unknown, has no value or is given twice, or where a number isn't one or isn't from 0 to 2^40, or for the
-/// retries from 0 to 8.
-#[tactic(auto, unfolding(crate::specs::Words::options_of))]
-pub fn read_words(words: &[String]) -> Result<Options, u8>
-    ensures { result ≡ options_of (map string_bytes words.now) }
+/// What the words ask for.
+#[derive(Clone, Copy)]
+pub enum Asked {
+    /// `run`: an expression is computed.
+    Run(Options),
+    /// `load`: an array that a text gives is stored.
+    Load { retries: u32 },
+    /// `print`: the array with this name is printed.
+    Print { name: Name, retries: u32 },
+}
+
+/// The command, which is the first word, with what stands behind it: for `run` any of the pairs `--allowed-mem N`,
+/// `--reserved-mem N` and `--retries N`, each at most once; for `load` at most the pair `--retries N`; for `print` the name of
+/// an array, and at most this pair, before or behind it. A refusal is 1 where the command is missing or unknown; 2 where an
+/// option is unknown, has no value or is given twice, where a number isn't one or isn't from 0 to 2^40, or for the retries from
+/// 0 to 8, and where there are too few or too many words; and 3 where the name isn't one and all else is accepted.
+#[tactic(auto, unfolding(crate::specs::Words::command_of))]
+pub fn read_words(words: &[String]) -> Result<Asked, u8>
+    ensures { result_map_both command_view (λ code. code) result ≡ command_of (map string_bytes words.now) }
+{
+    let [command, rest @ ..] = words else {
+        return Err(1);
+    };
+    match command.as_str() {
+        "run" => match read_pairs(rest) {
+            Some(options) => Ok(Asked::Run(options)),
+            None => Err(2),
+        },
+        "load" => match read_retries_pair(rest) {
+            Some(retries) => Ok(Asked::Load { retries }),
+            None => Err(2),
+        },
+        "print" => read_print(rest),
+        _ => Err(1),
+    }
+}
+
+/// How often to try again, by the words of one option; twice where there is none.
+fn read_retries_pair(words: &[String]) -> Option<u32>
+    ensures { result ≡ retries_in (map string_bytes words.now) }
 {
     match words {
-        [command, pairs @ ..] if command.as_str() == "run" => read_pairs(pairs).ok_or(2),
-        _ => Err(1),
+        [] => Some(2),
+        [name, value] if name.as_str() == "--retries" => read_retries(value.as_str()),
+        _ => None,
+    }
+}
+
+/// The name of an array, and at most one option.
+fn read_print(words: &[String]) -> Result<Asked, u8>
+    ensures { result_map_both command_view (λ code. code) result ≡ print_in (map string_bytes words.now) }
+{
+    match words {
+        [] => Err(2),
+        [name] => read_name(name.as_str(), Some(2)),
+        [_, _] => Err(2),
+        [first, second, third] => read_three(first.as_str(), second.as_str(), third.as_str()),
+        [_, _, _, _, ..] => Err(2),
+    }
+}
+
+/// The name of an array, and one option before or behind it.
+fn read_three(first: &str, second: &str, third: &str) -> Result<Asked, u8>
+    ensures { result_map_both command_view (λ code. code) result ≡ print_in (first.now ∷ second.now ∷ third.now ∷ []) }
+{
+    if first == "--retries" {
+        return read_name(third, read_retries(second));
+    }
+    if second == "--retries" {
+        return read_name(first, read_retries(third));
+    }
+    Err(2)
+}
+
+/// The print of the array with this name, where the tries were read.
+fn read_name(word: &str, retries: Option<u32>) -> Result<Asked, u8>
+    ensures { result_map_both command_view (λ code. code) result ≡ print_of word.now retries }
+{
+    let Some(retries) = retries else {
+        return Err(2);
+    };
+    if !is_plain(word) {
+        return Err(2);
+    }
+    if !is_name(word) {
+        return Err(3);
+    }
+    match Name::from(word) {
+        Ok(name) => Ok(Asked::Print { name, retries }),
+        Err(_) => unreachable!(),
+    }
+}
+
+/// Whether the word is no option: it doesn't begin with `-`, or is that alone.
+fn is_plain(word: &str) -> bool
+    ensures { result ≡ is_plain word.now }
+{
+    let bytes = word.as_bytes();
+    match bytes {
+        [] => true,
+        [first, ..] => *first != b'-' || bytes.len() == 1,
     }
 }
 

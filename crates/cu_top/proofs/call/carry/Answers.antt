@@ -1,21 +1,12 @@
 use Rattle.std.proofs.Common.{sym}
-use Rattle.cu_top.proofs.OptionLemmas.{options_bounded}
-use Rattle.cu_top.proofs.TopLemmas.{told_run}
+use Rattle.cu_top.proofs.OptionLemmas.{run_bounded, print_named}
 use Rattle.cu_top.proofs.call.carry.Goals as goal
 
-pub run-requires-clause-reserved : goal.run-requires-clause-reserved
-run-requires-clause-reserved g c = (options_bounded _ c.in-Ok.options (sym c.in-Ok.ensures)).1
+pub run_command-requires-clause-reserved : goal.run_command-requires-clause-reserved
+run_command-requires-clause-reserved g c = (run_bounded _ c.in-Run.options (rw c.in-Run.is at (sym c.in-Ok.ensures))).1
 
-pub returns-clause-answer : goal.returns-clause-answer
-returns-clause-answer g c =
-    told_run _ _ _ _ _ _ _ _ _ _ _ _ _ _ _ c.names_in-names.result c.in-Ok.options c.run.result
-    (record {
-      words_give = sym c.in-Ok.ensures;
-      text = c.in-Ok-read_all.text.items;
-      read = c.in-Ok-read_all.ensures.text;
-      adds = rw (c.names_in-names.ensures.left, c.names_in-names.ensures.right, c.names_in-names.ensures.out) (rw c.deref.ensures.value at c.in-Ok-read_addition.ensures.ok);
-    })
-    c.run.ensures.answer
+pub run_command-requires-clause-retries : goal.run_command-requires-clause-retries
+run_command-requires-clause-retries g c = (run_bounded _ c.in-Run.options (rw c.in-Run.is at (sym c.in-Ok.ensures))).2
 
-pub run-requires-clause-retries : goal.run-requires-clause-retries
-run-requires-clause-retries g c = (options_bounded _ c.in-Ok.options (sym c.in-Ok.ensures)).2
+pub key_of_name-requires : goal.key_of_name-requires
+key_of_name-requires g c = print_named _ c.in-Print.name.bytes c.in-Print.retries (rw c.in-Print.is at (sym c.in-Ok.ensures))

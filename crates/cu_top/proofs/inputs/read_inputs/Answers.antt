@@ -34,4 +34,4 @@ returns-in-Err-clause-order g c entry late follows = first_turn _ c.args.names.n
 
 pub returns-in-Err-read_layout-clause-order : goal.returns-in-Err-read_layout-clause-order
 returns-in-Err-read_layout-clause-order g c entry late follows =
-    second_turn c.args.names.now entry late _ _ c.in-Ok-read_layout.layout c.in-Err-read_layout.status (c.read_layout.ensures.follows late (Some entry) follows) c.in-Ok-read_layout.ensures.found
+    second_turn _ c.args.names.now entry late _ _ _ _ _ c.in-Ok-read_layout.layout c.in-Err-read_layout.status (c.read_layout.ensures.follows late (Some entry) follows) c.in-Ok-read_layout.ensures.found c.in-Err-read_layout.ensures.cause

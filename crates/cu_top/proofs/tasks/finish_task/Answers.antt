@@ -35,6 +35,8 @@ loop-failed-preserved g c = let (options, job, ok, same) = c.requires.plan in re
   stays = λ options job entry late same s key bytes write holds.
       c.try_task.ensures.stays options job entry late same (c.loop-failed.invariant.started options job entry late same s) key bytes write
       (c.loop-failed.invariant.stays options job entry late same s key bytes write holds);
+  others = λ options job late entry same alone.
+      c.try_task.ensures.others options job late entry same (c.loop-failed.invariant.others options job late entry same alone);
   rose = rose_then c.loop-failed.failed 1 _ _ _ c.loop-failed.invariant.rose
       (tried_again job _ _ _ _ c.in-Err.fault (λ status e. c.in_default.not-Some status (c.end_of.ensures ∙ e)) (c.in-Err.ensures.cause options job same ok));
   count = omega (arith, c.try_task.ensures.count);
@@ -44,3 +46,11 @@ loop-failed-preserved g c = let (options, job, ok, same) = c.requires.plan in re
 
 pub returns-in-Some-clause-named : goal.returns-in-Some-clause-named
 returns-in-Some-clause-named g c = names_none c.in-Err.fault c.in-Some.status _ (sym c.end_of.ensures ∙ c.in-Some.is)
+
+pub returns-in-Ok-clause-others : goal.returns-in-Ok-clause-others
+returns-in-Ok-clause-others g c options job late entry same alone =
+    c.try_task.ensures.others options job late entry same (c.loop-failed.invariant.others options job late entry same alone)
+
+pub returns-in-Some-clause-others : goal.returns-in-Some-clause-others
+returns-in-Some-clause-others g c options job late entry same alone =
+    c.try_task.ensures.others options job late entry same (c.loop-failed.invariant.others options job late entry same alone)

@@ -1,9 +1,10 @@
 -- Each try so far failed, and raised the count; the run is started still, and no value was lost.
-use Rattle.std.proofs.Common.{◌≡◌, ◌+◌, ◌*◌, ◌≤◌, List}
+use Rattle.std.proofs.Common.{◌≡◌, ◌+◌, ◌*◌, ◌≤◌, List, Option}
 use Rattle.cu_store.specs.Faults.{Rose}
 use Rattle.cu_store.specs.Held.{Contents, Write}
 use Rattle.cu_top.specs.Job.{IsStarted, ValuesStay}
 use Rattle.cu_top.specs.Plan.{plan_of}
+use Rattle.cu_top.specs.Run.{PlanAlone}
 use Rattle.cu_top.specs.declared.job.Job.{Job}
 use Rattle.cu_top.specs.declared.words.Options.{Options}
 use Rattle.cu_top.proofs.tasks.finish_task.Given as goal
@@ -15,7 +16,10 @@ invariant-loop-failed g l = record {
       → IsStarted job entry late (g.D.Depot.held l.depot) (g.D.Depot.late l.depot);
   stays : (options : Options) (job : Job) (entry : Contents) (late : List Write) → l.plan ≡ plan_of options job
       → IsStarted job entry late (g.D.Depot.held l.initial.depot) (g.D.Depot.late l.initial.depot)
-      → ValuesStay job entry (g.D.Depot.held l.initial.depot) (g.D.Depot.held l.depot);
+      → ValuesStay job entry late (g.D.Depot.held l.initial.depot) (g.D.Depot.held l.depot);
+  others : (options : Options) (job : Job) (late : List Write) (entry : Option Contents) → l.plan ≡ plan_of options job
+      → PlanAlone job late entry (g.D.Depot.held l.initial.depot) (g.D.Depot.late l.initial.depot)
+      → PlanAlone job late entry (g.D.Depot.held l.depot) (g.D.Depot.late l.depot);
   rose : Rose l.failed (g.D.Depot.faults l.initial.depot) (g.D.Depot.faults l.depot);
   count : g.D.Depot.faults l.initial.depot ≤ g.D.Depot.faults l.depot;
   calls : g.D.Depot.calls l.depot ≤ g.D.Depot.calls l.initial.depot + 3 * l.failed;

@@ -24,11 +24,13 @@ loop-task-preserved g c = record {
       c.finish_task.ensures.started options job entry late same (c.loop-task.invariant.started options job entry late same s);
   stored = λ options job entry late same s.
       let now = c.loop-task.invariant.started options job entry late same s in
-      more_stored job entry _ _ c.loop-task.task (let all : c.tasks-task-end.result ≡ chunks_of job = all_tasks c.args.plan.now options job c.tasks-task-end.result same c.tasks-task-end.ensures.tasks in omega (arith, all, c.loop-task-test.true)) (c.finish_task.ensures.stays options job entry late same now)
+      more_stored job entry late _ _ _ c.loop-task.task now (let all : c.tasks-task-end.result ≡ chunks_of job = all_tasks c.args.plan.now options job c.tasks-task-end.result same c.tasks-task-end.ensures.tasks in omega (arith, all, c.loop-task-test.true)) (c.finish_task.ensures.stays options job entry late same now)
       (c.loop-task.invariant.stored options job entry late same s) (c.in-Ok.ensures.stored options job entry late same now);
   stays = λ options job entry late same s key bytes write holds.
       c.finish_task.ensures.stays options job entry late same (c.loop-task.invariant.started options job entry late same s) key bytes write
       (c.loop-task.invariant.stays options job entry late same s key bytes write holds);
+  others = λ options job late entry same alone.
+      c.finish_task.ensures.others options job late entry same (c.loop-task.invariant.others options job late entry same alone);
   rose = rw c.from-failed.ensures (rose_then c.loop-task.failed c.in-Ok.more _ _ _ c.loop-task.invariant.rose c.in-Ok.ensures.failed);
   few = few_more c.args.retries c.loop-task.task c.loop-task.failed c.from-failed.result c.loop-task.invariant.few (omega (arith, c.from-failed.ensures, c.in-Ok.ensures.few, c.loop-task.invariant.few));
   count = omega (arith, c.finish_task.ensures.count);
@@ -39,3 +41,7 @@ pub returns-clause-stored : goal.returns-clause-stored
 returns-clause-stored g c options job entry late same s k below =
     let all : c.tasks-task-end.result ≡ chunks_of job = all_tasks c.args.plan.now options job c.tasks-task-end.result same c.tasks-task-end.ensures.tasks in
     c.loop-task.invariant.stored options job entry late same s k (omega (arith, all, c.loop-task-test.false, below))
+
+pub returns-in-Err-clause-others : goal.returns-in-Err-clause-others
+returns-in-Err-clause-others g c options job late entry same alone =
+    c.finish_task.ensures.others options job late entry same (c.loop-task.invariant.others options job late entry same alone)

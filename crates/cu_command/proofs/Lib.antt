@@ -1,0 +1,5 @@
+mod StatusExample
+mod StatusLemmas
+mod StoredLemmas
+mod StreamLemmas
+pub mod WriteLemmas

@@ -1,0 +1,34 @@
+-- Some answers and their lines.
+use Rattle.std.proofs.Common.{◌≡◌, [], codes, refl}
+use Rattle.std.specs.Fmt.{digits}
+use Rattle.cu_command.specs.Status.{line_of}
+use Rattle.cu_command.specs.declared.status.Status.TheVariants.{Done, BadWords, OverMemory, Exists, TaskFailed, BadChunk, NotBuilt, NoMemory}
+
+done : line_of Done ≡ []
+done = refl
+
+unknown_command : line_of (BadWords 1) ≡ codes "error 2 code=1"
+unfolding digits
+unknown_command = refl
+
+one_byte_short : line_of (OverMemory 2 1600 1599) ≡ codes "error 5 node=2 need=1600 allowed=1599"
+unfolding digits
+one_byte_short = refl
+
+held : line_of (Exists (codes "y/zarr.json")) ≡ codes "error 9 key=y/zarr.json"
+held = refl
+
+last_task_failed : line_of (TaskFailed 0 65535) ≡ codes "error 10 op=0 task=65535"
+unfolding digits
+last_task_failed = refl
+
+short_chunk : line_of (BadChunk (codes "a/c/0") 15 16) ≡ codes "error 13 key=a/c/0 got=15 want=16"
+unfolding digits
+short_chunk = refl
+
+not_built : line_of (NotBuilt 0) ≡ codes "error 19 node=0"
+unfolding digits
+not_built = refl
+
+no_memory : line_of NoMemory ≡ codes "error 70"
+no_memory = refl

@@ -1,0 +1,6 @@
+pub mod Keys
+pub mod Name
+pub mod Status
+pub mod Stored
+pub mod Streams
+pub mod Writes

@@ -1,0 +1,6 @@
+mod AskLemmas
+mod ChunkLemmas
+mod LoadExample
+mod LoadLemmas
+mod StoreLemmas
+mod CommandLemmas

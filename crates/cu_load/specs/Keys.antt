@@ -1,0 +1,34 @@
+-- The keys that are in the way of an array that is loaded. This project's own rule.
+use Rattle.std.specs.Prelude.{◌≡◌, ◌⊎◌, ℕ, List, Option}
+use Rattle.cu_store.specs.Faults.{Rose}
+use Rattle.cu_store.specs.Held.{Contents, IsGone}
+use Rattle.cu_zarr.specs.Key.{metadata_key_of}
+use Rattle.cu_command.specs.Keys.{IsHeldIn}
+use Rattle.cu_command.specs.Name.{record_key_of}
+use Rattle.cu_command.specs.declared.status.Status.{Status}
+use Rattle.cu_command.specs.declared.status.Status.TheVariants.{Done, BadWords, OverMemory, BadMeta, NoArray, Exists, TaskFailed, ReadFault, WriteFault, BadChunk, DepotFailed, BadLoad, NotBuilt, NoMemory}
+
+-- the key is asked for: the record's, or the metadata's where the record was absent
+abbrev pub IsAskedFor : List ℕ → Option Contents → List ℕ → Type 0
+IsAskedFor name old key = (key ≡ record_key_of name) ⊎ ((key ≡ metadata_key_of name) × IsGone old (record_key_of name))
+
+-- both keys were absent
+abbrev pub AreFree : List ℕ → Option Contents → Type 0
+AreFree name old = IsGone old (record_key_of name) × IsGone old (metadata_key_of name)
+
+-- why asking ends: a key that is asked for is held, or the calls for one failed
+abbrev pub IsAskFault : ℕ → (List ℕ → Type 0) → ℕ → ℕ → Option Contents → Status → Type 0
+IsAskFault tries asked before after held (Exists key) = asked key × IsHeldIn held key
+IsAskFault tries asked before after held (DepotFailed key) = asked key × Rose tries before after
+IsAskFault tries asked before after held NoMemory = Unit {0}
+IsAskFault tries asked before after held Done = ⊥
+IsAskFault tries asked before after held (BadWords code) = ⊥
+IsAskFault tries asked before after held (OverMemory node need allowed) = ⊥
+IsAskFault tries asked before after held (BadMeta name code) = ⊥
+IsAskFault tries asked before after held (NoArray name) = ⊥
+IsAskFault tries asked before after held (TaskFailed op task) = ⊥
+IsAskFault tries asked before after held ReadFault = ⊥
+IsAskFault tries asked before after held WriteFault = ⊥
+IsAskFault tries asked before after held (BadChunk key got want) = ⊥
+IsAskFault tries asked before after held (BadLoad code) = ⊥
+IsAskFault tries asked before after held (NotBuilt node) = ⊥

@@ -1,0 +1,77 @@
+//! The command's one call: from the text to the stored array and the report.
+ghost use Rattle.cu_load.specs.Load.{Stored, Loaded};
+ghost use Rattle.cu_load.specs.LoadForm.{IsGiven, given_by};
+
+use crate::ask::ask_keys;
+use crate::load_form::{LoadForm, LoadRefused, read_load};
+use crate::report::report;
+use crate::room::take_room;
+use crate::store::store_array;
+use cu_command::{ReadRefused, Status, key_of_name, read_all};
+use cu_store::{Depot, Sink, Source};
+use std::alloc::Global;
+
+/// Stores the array that a text of the load form says, and writes a report.
+///
+/// The text is all that the source has left, of at most 1,048,576 bytes. The chunks are stored in row-major order, each
+/// whole, and the metadata last; a call of the depot that fails is tried again, up to `retries` times. The answers are `Done`; `ReadFault` where
+/// the source failed; `BadLoad` where the text says no array, with the code of the reason; `Exists` where the record of a plan
+/// that stores the array, or its metadata, is held already; `DepotFailed` where all calls for a key failed; `WriteFault` where
+/// the sink failed, with the array stored; and `NoMemory`. On `ReadFault`, `BadLoad` and `Exists` nothing is stored.
+pub fn load<R: Source, W: Sink, D: Depot>(
+    alloc: Global,
+    retries: u32,
+    src: &mut R,
+    out: &mut W,
+    depot: &mut D,
+) -> Status
+    ensures answer { Loaded retries (R.left src.old) (R.left src.new) (R.faults src.old) (R.faults src.new) (D.held depot.old) (D.held depot.new) (D.late depot.old) (D.late depot.new)
+        (D.faults depot.old) (D.faults depot.new) (W.faults out.old) (W.faults out.new) (W.written out.old) (W.written out.new) result }
+{
+    let text = match read_all(alloc, src) {
+        Ok(text) => text,
+        Err(ReadRefused::Fault) => return Status::ReadFault,
+        Err(ReadRefused::NoMemory) => return Status::NoMemory,
+    };
+    let form = match read_load(alloc, &text) {
+        Ok(form) => form,
+        Err(LoadRefused::Code(code)) => return Status::BadLoad { code },
+        Err(LoadRefused::NoMemory) => return Status::NoMemory,
+    };
+    store_form(alloc, retries, &form, out, depot)
+}
+
+/// Stores the array that was read.
+fn store_form<W: Sink, D: Depot>(
+    alloc: Global,
+    retries: u32,
+    form: &LoadForm,
+    out: &mut W,
+    depot: &mut D,
+) -> Status
+    requires { IsGiven (given_by form.now) }
+    ensures answer { Stored retries (given_by form.now) (D.held depot.old) (D.held depot.new) (D.late depot.old) (D.late depot.new)
+        (D.faults depot.old) (D.faults depot.new) (W.faults out.old) (W.faults out.new) (W.written out.old) (W.written out.new) result }
+{
+    let name = key_of_name(&form.name);
+    if let Err(status) = ask_keys(depot, &name, retries) {
+        return status;
+    }
+    let Ok(mut room) = take_room(alloc, form) else {
+        return Status::NoMemory;
+    };
+    match store_array(
+        depot,
+        form,
+        &room.input,
+        &room.metadata,
+        &mut room.chunk,
+        retries,
+    ) {
+        Ok(()) => match report(out, form) {
+            Ok(()) => Status::Done,
+            Err(_) => Status::WriteFault,
+        },
+        Err(status) => status,
+    }
+}

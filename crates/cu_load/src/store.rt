@@ -1,0 +1,104 @@
+//! The chunks and the metadata of an array that is loaded, stored.
+ghost use Rattle.std.specs.Prelude.{◌≡◌, ℕ, ◌+◌, ◌<◌, ◌≤◌, ◌++◌, List, Option, Some, length, IfErr, OnOk};
+ghost use Rattle.cu_store.specs.Held.{Contents, Write, IsAmong, Follows, Holds};
+ghost use Rattle.cu_command.specs.Keys.{IsKeyFault};
+ghost use Rattle.cu_zarr.specs.Key.{metadata_key_of};
+ghost use Rattle.cu_zarr.specs.Layout.{chunk_bytes};
+ghost use Rattle.cu_zarr.specs.Metadata.{metadata_text};
+ghost use Rattle.cu_load.specs.Load.{HasBytes, IsCalm, IsStoreFault, StoresChunk, StoresChunks, StoresGiven, ValuesStay, array_writes, chunk_value, chunk_writes, chunks_in, key_of_chunk};
+ghost use Rattle.cu_load.specs.LoadForm.{IsGiven, given_by};
+
+use crate::chunk::spell_chunk;
+use crate::load_form::LoadForm;
+use cu_codec::{chunk_key, metadata_key};
+use cu_command::{Status, key_of_name, put_value};
+use cu_shape::index_of;
+use cu_store::Depot;
+
+/// Stores chunk `number` of the array, chunks counted row-major. `input` has the bytes of the array's elements, and
+/// `chunk` is a buffer of the length of a chunk.
+fn store_chunk<D: Depot>(
+    depot: &mut D,
+    form: &LoadForm,
+    number: u64,
+    input: &[u8],
+    chunk: &mut [u8],
+    retries: u32,
+) -> Result<(), Status>
+    requires given { IsGiven (given_by form.now) }
+    requires number { number < chunks_in (given_by form.now) }
+    requires input { HasBytes form.now.layout.dtype form.now.elements.items input.now }
+    requires chunk_length { length chunk.old ≡ chunk_bytes (given_by form.now).layout }
+    ensures stored { OnOk result (StoresChunk (given_by form.now) (D.held depot.new) number) }
+    ensures follows { (writes : List Write) (entry : Option Contents) → ((bytes : List ℕ) → chunk_value (given_by form.now) number ≡ Some bytes → IsAmong writes (key_of_chunk (given_by form.now) number) bytes)
+        → Follows writes entry (D.held depot.old) (D.late depot.old) → Follows writes entry (D.held depot.new) (D.late depot.new) }
+    ensures stays { (late : List Write) (entry : Option Contents) → IsCalm (given_by form.now) late
+        → Follows (array_writes (given_by form.now) ++ late) entry (D.held depot.old) (D.late depot.old) → ValuesStay (given_by form.now) (D.held depot.old) (D.held depot.new) }
+    ensures cause { IfErr result (IsKeyFault (retries + 1) (D.faults depot.old) (D.faults depot.new) (D.lacks depot.new) (key_of_chunk (given_by form.now) number)) }
+    ensures count { D.faults depot.old ≤ D.faults depot.new }
+{
+    let layout = &form.layout;
+    let coord = index_of(&layout.grid.counts(), number);
+    let name = key_of_name(&form.name);
+    let key = chunk_key(&name, layout.encoding, &coord);
+    spell_chunk(form, &coord, input, chunk);
+    put_value(depot, &key, chunk, retries)
+}
+
+/// Stores the chunks of the array, in order.
+fn store_chunks<D: Depot>(
+    depot: &mut D,
+    form: &LoadForm,
+    input: &[u8],
+    chunk: &mut [u8],
+    retries: u32,
+) -> Result<(), Status>
+    requires given { IsGiven (given_by form.now) }
+    requires input { HasBytes form.now.layout.dtype form.now.elements.items input.now }
+    requires chunk_length { length chunk.old ≡ chunk_bytes (given_by form.now).layout }
+    ensures follows { (late : List Write) (entry : Option Contents) → Follows late entry (D.held depot.old) (D.late depot.old)
+        → OnOk result (Follows (chunk_writes (given_by form.now) (chunks_in (given_by form.now)) ++ late) entry (D.held depot.new) (D.late depot.new)) }
+    ensures failed { (late : List Write) (entry : Option Contents) → Follows late entry (D.held depot.old) (D.late depot.old)
+        → IfErr result (IsStoreFault (retries + 1) (given_by form.now) (D.faults depot.old) (D.faults depot.new) entry (D.held depot.new) late (D.late depot.new)) }
+    ensures stored { (late : List Write) (entry : Option Contents) → IsCalm (given_by form.now) late → Follows late entry (D.held depot.old) (D.late depot.old)
+        → OnOk result (StoresChunks (given_by form.now) (D.held depot.new) (chunks_in (given_by form.now))) }
+    ensures count { D.faults depot.old ≤ D.faults depot.new }
+{
+    for number in 0..form.layout.grid.count() {
+        if let Err(status) = store_chunk(depot, form, number, input, chunk, retries) {
+            return Err(status);
+        }
+    }
+    Ok(())
+}
+
+/// Stores the array: its chunks in order, and then its metadata, which is given as its text.
+pub(crate) fn store_array<D: Depot>(
+    depot: &mut D,
+    form: &LoadForm,
+    input: &[u8],
+    metadata: &[u8],
+    chunk: &mut [u8],
+    retries: u32,
+) -> Result<(), Status>
+    requires given { IsGiven (given_by form.now) }
+    requires input { HasBytes form.now.layout.dtype form.now.elements.items input.now }
+    requires metadata { metadata.now ≡ metadata_text (given_by form.now).layout }
+    requires chunk_length { length chunk.old ≡ chunk_bytes (given_by form.now).layout }
+    ensures follows { (late : List Write) (entry : Option Contents) → Follows late entry (D.held depot.old) (D.late depot.old)
+        → OnOk result (Follows (array_writes (given_by form.now) ++ late) entry (D.held depot.new) (D.late depot.new)) }
+    ensures failed { (late : List Write) (entry : Option Contents) → Follows late entry (D.held depot.old) (D.late depot.old)
+        → IfErr result (IsStoreFault (retries + 1) (given_by form.now) (D.faults depot.old) (D.faults depot.new) entry (D.held depot.new) late (D.late depot.new)) }
+    ensures stores { (late : List Write) (entry : Option Contents) → IsCalm (given_by form.now) late → Follows late entry (D.held depot.old) (D.late depot.old)
+        → OnOk result (StoresGiven (given_by form.now) (D.held depot.new)) }
+    ensures metadata { OnOk result (Holds (D.held depot.new) (metadata_key_of (given_by form.now).name) (metadata_text (given_by form.now).layout)) }
+    ensures count { D.faults depot.old ≤ D.faults depot.new }
+{
+    let _shape = form.layout.grid.shape();
+    if let Err(status) = store_chunks(depot, form, input, chunk, retries) {
+        return Err(status);
+    }
+    let name = key_of_name(&form.name);
+    let key = metadata_key(&name);
+    put_value(depot, &key, metadata, retries)
+}

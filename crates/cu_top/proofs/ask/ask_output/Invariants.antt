@@ -1,0 +1,15 @@
+-- The keys so far were absent when the call began.
+use Rattle.std.proofs.Common.{◌≡◌, ◌≤◌, List, Option, Some}
+use Rattle.cu_store.specs.Held.{Contents, Write, Follows}
+use Rattle.cu_top.specs.Run.{IsFreeBelow}
+use Rattle.cu_top.proofs.ask.ask_output.Given as goal
+
+abbrev pub invariant-loop-number : goal.invariant-loop-number
+invariant-loop-number g l = record {
+  follows : (writes : List Write) (entry : Option Contents) → Follows writes entry (g.D.Depot.held l.fn.depot) (g.D.Depot.late l.fn.depot)
+      → Follows writes entry (g.D.Depot.held l.depot) (g.D.Depot.late l.depot);
+  free : (writes : List Write) (entry : Contents) → Follows writes (Some entry) (g.D.Depot.held l.fn.depot) (g.D.Depot.late l.fn.depot)
+      → IsFreeBelow l.job entry l.number;
+  count : g.D.Depot.faults l.fn.depot ≤ g.D.Depot.faults l.depot;
+  lacks : g.D.Depot.lacks l.depot ≡ g.D.Depot.lacks l.fn.depot;
+}
