@@ -130,7 +130,8 @@ def measure(program, folder, rounds):
     peers = list(runs) if has_numpy() else ["cubed"]
     for number in range(rounds):
         for peer in peers if number % 2 == 0 else peers[::-1]:
-            shutil.rmtree(os.path.join(folder, OUTPUTS[peer]), ignore_errors=True)
+            for made in (OUTPUTS[peer], "_cubed"):
+                shutil.rmtree(os.path.join(folder, made), ignore_errors=True)
             os.sync()
             runs[peer].append(timed(commands[peer], EXPRESSION))
     for peer in peers:
@@ -169,7 +170,8 @@ def measure_small(program, parent, rounds):
                     file.write(array.array("I", [number] * SMALL).tobytes())
         runs = []
         for _ in range(rounds):
-            shutil.rmtree(os.path.join(folder, "y"), ignore_errors=True)
+            for made in ("y", "_cubed"):
+                shutil.rmtree(os.path.join(folder, made), ignore_errors=True)
             os.sync()
             runs.append(timed([program, folder, "run"], EXPRESSION))
         taken, said, told = min(runs)
