@@ -1,22 +1,12 @@
--- Counts of items and members, and what is read as an addition.
-use Rattle.std.proofs.Common.{◌≡◌, ℕ, ◌≤◌, ◌&&◌, Bool, true, false, List, length, nat_eq, nat_le, Option, Some, None, option_and_then, IsUtf8, refl}
+-- What is read as an addition.
+use Rattle.std.proofs.Common.{◌≡◌, ℕ, ◌≤◌, ◌&&◌, Bool, true, false, List, length, nat_le, Option, Some, None, option_and_then, IsUtf8, refl}
 use Rattle.std.specs.Str.{is_utf8}
 use Rattle.std.proofs.lemmas.Bool.{and_from, and_parts, le-leb}
 use Rattle.std.proofs.lemmas.Str.{IsUtf8-from_is_utf8, is_utf8-from_IsUtf8}
 use Rattle.serde_json.specs.Data.{Data}
-use Rattle.serde_json.specs.Find.{as_array, as_object}
 use Rattle.serde_json.specs.Read.{read}
-use Rattle.serde_json.specs.View.{items_view, members_view}
-use Rattle.serde_json.proofs.Views.{Entry, items_len-items_view, members_len-members_view}
-use Rattle.serde_json.specs.declared.value.Value.{Value}
 use Rattle.cu_meta.specs.Options.{when}
-use Rattle.cu_top.specs.Expression.{Names, is_list_of, is_object_of, addition_in, addition_of}
-
-pub list_counted : (d : Data) (items : List Value) (len count : ℕ) → Some (items_view items) ≡ as_array d → len ≡ length items → nat_eq len count ≡ is_list_of count d
-list_counted d items len count found is_len = rw (← found, items_len-items_view, is_len)
-
-pub object_counted : (d : Data) (members : List Entry) (len count : ℕ) → Some (members_view members) ≡ as_object d → len ≡ length members → nat_eq len count ≡ is_object_of count d
-object_counted d members len count found is_len = rw (← found, members_len-members_view, is_len)
+use Rattle.cu_top.specs.Expression.{Names, addition_in, addition_of}
 
 -- a text within the limit, of the value d
 pub addition_read : (text : List ℕ) (d : Data) → length text ≤ 1048576 → IsUtf8 text → read text ≡ Some d → addition_of text ≡ addition_in d

@@ -10,7 +10,8 @@ use Rattle.serde_json.specs.Find.{get, at, as_str}
 use Rattle.serde_json.specs.Read.{read}
 use Rattle.cu_command.specs.Name.{is_name_byte, is_name, name_in}
 use Rattle.cu_meta.specs.Options.{when, ◌>>=◌}
-use Rattle.cu_top.specs.Expression.{Names, AreNames, InputNode, input_of, sum_of, are_distinct, is_text, is_object_of, is_list_of, addition_in, addition_of}
+use Rattle.cu_json.specs.Form.{is_text, is_object_of, is_list_of}
+use Rattle.cu_top.specs.Expression.{Names, AreNames, InputNode, input_of, sum_of, are_distinct, addition_in, addition_of}
 
 name_bytes : (text : List ℕ) → is_name text ≡ true → list_all is_name_byte text ≡ true
 name_bytes text h = (and_parts (nat_lt 0 (length text) && nat_le (length text) 32 && is_ascii_alphanumeric (get_or text 0 0)) (list_all is_name_byte text) h).1

@@ -1,11 +1,11 @@
 -- The text of one addition of two stored arrays. This project's own form, a JSON text (RFC 8259).
-use Rattle.std.specs.Prelude.{◌≡◌, ℕ, nat_le, ◌&&◌, ◌==◌, not, Bool, true, false, List, length, codes, bytes_eq, Option, Some, option_map, unwrap_or}
+use Rattle.std.specs.Prelude.{◌≡◌, ℕ, nat_le, ◌&&◌, not, Bool, true, List, length, codes, bytes_eq, Option, Some}
 use Rattle.std.specs.Str.{is_utf8}
 use Rattle.serde_json.specs.Data.{Data}
-use Rattle.serde_json.specs.Events.{items_len, members_len}
-use Rattle.serde_json.specs.Find.{get, at, as_str, as_array, as_object}
+use Rattle.serde_json.specs.Find.{get, at}
 use Rattle.serde_json.specs.Read.{read}
 use Rattle.cu_command.specs.Name.{is_name, name_in}
+use Rattle.cu_json.specs.Form.{is_text, is_list_of, is_object_of}
 use Rattle.cu_meta.specs.Options.{◌>>=◌, when}
 use Rattle.cu_top.specs.declared.expression.Addition.{Addition}
 
@@ -24,18 +24,6 @@ pub record AreNames (names : Names) : Type 0 where
   pub left : is_name names.left ≡ true
   pub right : is_name names.right ≡ true
   pub out : is_name names.out ≡ true
-
--- the value is there, and is this text
-abbrev pub is_text : List ℕ → Option Data → Bool
-is_text text value = unwrap_or (option_map (λ found. bytes_eq found text) (value >>= as_str)) false
-
--- an object of n members
-abbrev pub is_object_of : ℕ → Data → Bool
-is_object_of n value = unwrap_or (option_map (λ members. members_len members == n) (as_object value)) false
-
--- a list of n items
-abbrev pub is_list_of : ℕ → Data → Bool
-is_list_of n value = unwrap_or (option_map (λ items. items_len items == n) (as_array value)) false
 
 -- the list of these two texts
 abbrev pub is_pair : List ℕ → List ℕ → Data → Bool

@@ -46,8 +46,8 @@ IsLeftIn job text entry (Some held) = (key : List ℕ) → IsPlanKey job key
     → (held key ≡ None) ⊎ ((bytes : List ℕ) × IsAmong (plan_writes job text entry) key bytes × (held key ≡ Some bytes))
 
 -- A run that was started, on a depot in which no key of the plan was held, with a fact of the job and one of what is held; `texts` gives
--- the text of the record of each job. No key but the plan's is changed. Where the contents are told and the premise holds, it is as `IsBegun` says, and where the record
--- isn't held, nothing else of the plan was written.
+-- the text of the record of each job. No key but the plan's is changed. Where the contents are told and the premise holds, it is as
+-- `IsBegun` says, and where the record isn't held, nothing else of the plan was written.
 pub record IsRun (names : ArrayNames) (options : Options) (texts : Job → List ℕ) (old new : Option Contents) (late now_late : List Write) (fact : Job → Type 0) (told : Job → Contents → Type 0) : Type 0 where
   pub job : Job
   pub accepted : IsAccepted names options old late job
@@ -99,6 +99,10 @@ pub record IsAsked (names : ArrayNames) (options : Options) (old : Option Conten
   pub fits : over_memory options job ≡ None
   pub of_plan : IsPlanKey job key
   pub first : (entry : Contents) → old ≡ Some entry → IsFirstInWay job entry key
+
+-- In what follows `old` and `new` are what is held when the call begins and when it ends, `late` and `now_late` the puts that are late then;
+-- `f` and `g` are the counts of the depot's faults, `v` and `w` those of the sink's and `t` and `u` those of the source's; `front` and
+-- `back` are what is written, and `src` and `next` what the source has left.
 
 -- ---- what carrying out a job that was accepted answers
 

@@ -4,9 +4,10 @@ ghost use Rattle.serde_json.specs.Find.{get, at};
 ghost use Rattle.serde_json.specs.Read.{read};
 ghost use Rattle.serde_json.specs.View.{view};
 ghost use Rattle.serde_json.specs.Written.{has_float};
-ghost use Rattle.cu_top.specs.Expression.{AreNames, names_of, is_text, is_object_of, is_list_of, is_pair, input_of, sum_of, addition_in, addition_of, are_distinct};
+ghost use Rattle.cu_top.specs.Expression.{AreNames, names_of, is_pair, input_of, sum_of, addition_in, addition_of, are_distinct};
 
 use cu_command::{Name, name_at};
+use cu_json::{is_list_of, is_object_of, is_text};
 use serde_json::Value;
 use std::alloc::Global;
 use std::str;
@@ -100,7 +101,7 @@ fn addition_in(value: &Value) -> Option<Addition>
     if !are_distinct(left.id.as_str(), right.id.as_str(), sum.as_str()) {
         return None;
     }
-    if !is_text_at(value, "out", sum.as_str()) {
+    if !is_text(value.get("out"), sum.as_str()) {
         return None;
     }
     let out = name_at(value, "store_as")?;
@@ -117,7 +118,7 @@ fn input_in(node: &Value) -> Option<Input>
     if !is_object_of(node, 3) {
         return None;
     }
-    if !is_text_at(node, "op", "input") {
+    if !is_text(node.get("op"), "input") {
         return None;
     }
     let id = name_at(node, "id")?;
@@ -131,7 +132,7 @@ fn sum_in(node: &Value, left: &Name, right: &Name) -> Option<Name>
     if !is_object_of(node, 3) {
         return None;
     }
-    if !is_text_at(node, "op", "add") {
+    if !is_text(node.get("op"), "add") {
         return None;
     }
     if !is_pair(node.get("args")?, left.as_str(), right.as_str()) {
@@ -143,51 +144,11 @@ fn sum_in(node: &Value, left: &Name, right: &Name) -> Option<Name>
 fn is_pair(value: &Value, first: &str, second: &str) -> bool
     ensures { result ≡ is_pair first.now second.now (view value.now) }
 {
-    is_list_of(value, 2) && is_text_in(value, 0, first) && is_text_in(value, 1, second)
+    is_list_of(value, 2) && is_text(value.get(0), first) && is_text(value.get(1), second)
 }
 
 fn are_distinct(a: &str, b: &str, c: &str) -> bool
     ensures { result ≡ are_distinct a.now b.now c.now }
 {
     a != b && a != c && b != c
-}
-
-/// Whether this text stands at a member.
-fn is_text_at(value: &Value, key: &str, text: &str) -> bool
-    ensures { result ≡ is_text text.now (get key.now (view value.now)) }
-{
-    match value.get(key) {
-        Some(found) => found.as_str() == Some(text),
-        None => false,
-    }
-}
-
-/// Whether this text stands at a place of a list.
-fn is_text_in(value: &Value, place: usize, text: &str) -> bool
-    ensures { result ≡ is_text text.now (at place (view value.now)) }
-{
-    match value.get(place) {
-        Some(found) => found.as_str() == Some(text),
-        None => false,
-    }
-}
-
-/// Whether the value is an object of so many members.
-fn is_object_of(value: &Value, count: usize) -> bool
-    ensures { result ≡ is_object_of count (view value.now) }
-{
-    match value.as_object() {
-        Some(members) => members.len() == count,
-        None => false,
-    }
-}
-
-/// Whether the value is a list of so many items.
-fn is_list_of(value: &Value, count: usize) -> bool
-    ensures { result ≡ is_list_of count (view value.now) }
-{
-    match value.as_array() {
-        Some(items) => items.as_slice().len() == count,
-        None => false,
-    }
 }

@@ -1,0 +1,130 @@
+#!/usr/bin/env python3
+"""Measures `load` and `print` beside NumPy, in one run.
+
+  texts.py [--program FILE] [--dir FOLDER] [--runs N]
+
+Prints a 1000 by 1000 int32 array in chunks of 250 by 250, and in one chunk, with the program and with NumPy over the same
+files; and loads a text of 100,000 numbers with the program and with Python's json and NumPy. The texts and the stored
+bytes are compared. For each the least of the runs stands; NumPy's time is without the start of Python and the import.
+"""
+import argparse
+import json
+import os
+import shutil
+import subprocess
+import sys
+import tempfile
+import time
+
+import numpy
+
+HERE = os.path.dirname(os.path.abspath(__file__))
+PROGRAM = os.path.join(HERE, "..", "crates", "cu_bin", "out", "cu_bin")
+
+
+def put(folder, key, data):
+    path = os.path.join(folder, key)
+    os.makedirs(os.path.dirname(path), exist_ok=True)
+    with open(path, "wb") as file:
+        file.write(data)
+
+
+def metadata(shape, chunk):
+    """The metadata of an int32 array, as the program writes it."""
+    return json.dumps({
+        "chunk_grid": {"configuration": {"chunk_shape": chunk}, "name": "regular"},
+        "chunk_key_encoding": {"configuration": {"separator": "/"}, "name": "default"},
+        "codecs": [{"configuration": {"endian": "little"}, "name": "bytes"}], "data_type": "int32", "fill_value": 0,
+        "node_type": "array", "shape": shape, "zarr_format": 3}, separators=(",", ":")).encode()
+
+
+def store(folder, name, elements, side):
+    """Stores a square array in square chunks."""
+    put(folder, f"{name}/zarr.json", metadata(list(elements.shape), [side, side]))
+    for i in range(0, elements.shape[0], side):
+        for j in range(0, elements.shape[1], side):
+            put(folder, f"{name}/c/{i // side}/{j // side}", elements[i:i + side, j:j + side].tobytes())
+
+
+def printed_by_numpy(folder, name, size, side):
+    """The text of such an array, from its files."""
+    elements = numpy.empty((size, size), "<i4")
+    for i in range(size // side):
+        for j in range(size // side):
+            part = numpy.fromfile(os.path.join(folder, name, "c", str(i), str(j)), "<i4").reshape(side, side)
+            elements[i * side:(i + 1) * side, j * side:(j + 1) * side] = part
+    lines = [f"int32 shape [{size},{size}] chunk [{side},{side}]"]
+    lines += [" ".join(map(str, line)) for line in elements.tolist()]
+    return "".join(line + "\n" for line in lines).encode()
+
+
+def loaded_by_numpy(folder, text):
+    """Stores the array of a load text of one axis."""
+    told = json.loads(text)
+    chunk = told["chunk_shape"][0]
+    elements = numpy.array(told["elements"], "<i4")
+    for number in range(-(-len(elements) // chunk)):
+        whole = numpy.zeros(chunk, "<i4")
+        part = elements[number * chunk:(number + 1) * chunk]
+        whole[:len(part)] = part
+        put(folder, f"n/c/{number}", whole.tobytes())
+    put(folder, "n/zarr.json", metadata(told["shape"], told["chunk_shape"]))
+
+
+def timed(action):
+    began = time.perf_counter()
+    result = action()
+    return time.perf_counter() - began, result
+
+
+def program_output(words, text=b""):
+    return subprocess.run(words, input=text, capture_output=True, check=True).stdout
+
+
+def measure_print(program, folder, runs, side):
+    name = f"a{side}"
+    elements = numpy.random.default_rng(1).integers(-2 ** 31, 2 ** 31, size=(1000, 1000), dtype="<i4")
+    store(folder, name, elements, side)
+    ours = [timed(lambda: program_output([program, folder, "print", name])) for _ in range(runs)]
+    peer = [timed(lambda: printed_by_numpy(folder, name, 1000, side)) for _ in range(runs)]
+    if ours[0][1] != peer[0][1]:
+        raise SystemExit("the texts differ")
+    report(f"print, chunks of {side} by {side}", ours, peer)
+
+
+def measure_load(program, folder, runs):
+    text = json.dumps({"name": "p", "data_type": "int32", "shape": [100000], "chunk_shape": [10000],
+                       "elements": list(range(100000))}, separators=(",", ":")).encode()
+    ours, peer = [], []
+    for _ in range(runs):
+        for name in "np":
+            shutil.rmtree(os.path.join(folder, name), ignore_errors=True)
+        ours.append(timed(lambda: program_output([program, folder, "load"], text)))
+        peer.append(timed(lambda: loaded_by_numpy(folder, text)))
+    for key in ["zarr.json"] + [f"c/{number}" for number in range(10)]:
+        with open(os.path.join(folder, "n", key), "rb") as one, open(os.path.join(folder, "p", key), "rb") as other:
+            if one.read() != other.read():
+                raise SystemExit(f"{key} differs")
+    report(f"load, {len(text)} bytes of text", ours, peer)
+
+
+def report(what, ours, peer):
+    least, other = min(ours)[0], min(peer)[0]
+    print(f"{what}: cubed {least * 1000:.1f} ms, NumPy {other * 1000:.1f} ms, ratio {least / other:.2f}")
+
+
+def main():
+    words = argparse.ArgumentParser(description=__doc__, formatter_class=argparse.RawDescriptionHelpFormatter)
+    words.add_argument("--program", default=PROGRAM)
+    words.add_argument("--dir", default=tempfile.gettempdir())
+    words.add_argument("--runs", type=int, default=9)
+    given = words.parse_args()
+    program = os.path.abspath(given.program)
+    with tempfile.TemporaryDirectory(dir=given.dir) as folder:
+        for side in (250, 1000):
+            measure_print(program, folder, given.runs, side)
+        measure_load(program, folder, given.runs)
+
+
+if __name__ == "__main__":
+    sys.exit(main())

@@ -1,5 +1,0 @@
-use Rattle.cu_top.proofs.ExpressionLemmas.{object_counted}
-use Rattle.cu_top.proofs.expression.is_object_of.Goals as goal
-
-pub returns-in-Some : goal.returns-in-Some
-returns-in-Some c = object_counted _ c.in-Some.members.now.entries _ _ c.in-Some.ensures c.len.ensures.len
