@@ -2,8 +2,6 @@
 #![tactic(auto)]
 
 mod adapters;
-#[cfg(test)]
-mod tests;
 
 use adapters::{StdSink, StdSource};
 use cu_dir::DirDepot;

@@ -1,10 +1,13 @@
 -- Rows of a box stand together in each array that holds the box.
-use Rattle.std.proofs.Common.{◌≡◌, ℕ, zero, suc, ◌+◌, ◌*◌, ◌/◌, ◌%◌, ◌<◌, ◌≤◌, List, [], ◌∷◌, ◌++◌, length, take, drop, get_or, refl, sym, ap, ◌∙◌, arith}
+use Rattle.std.proofs.Common.{◌≡◌, ℕ, zero, suc, ◌+◌, ◌*◌, ◌/◌, ◌%◌, ◌<◌, ◌≤◌, List, [], ◌∷◌, ◌++◌, length, take, drop, get_or, refl, sym, ap, ◌∙◌, subst, arith}
 use Rattle.std.proofs.Math.Nat.{le-mul_of_pos_right}
 use Rattle.std.proofs.lemmas.Nat.{div-add-mod', div-mul-add, mod-mul-add, mul-add-lt, mod_below, mul-le}
 use Rattle.cu_shape.specs.Index.{product, place_of, index_at, sums, IsInside}
 use Rattle.cu_shape.proofs.Places.{inside-length, inside-positive, place-below, index-inside, place-index, index-place}
+use Rattle.cu_num.specs.declared.layout.Endian.{Endian}
 use Rattle.cu_codec.specs.Box.{IsBox, IsCopied, run_length}
+use Rattle.cu_codec.specs.Order.{IsReordered}
+use Rattle.cu_codec.specs.declared.boxes.Placing.{Placing}
 use Rattle.cu_codec.proofs.PartRuns.{Done, IsWalk, run_fits, run_written, written_form, done_more}
 
 -- the rows of a box: its elements are so many rows of one length
@@ -111,12 +114,12 @@ box_walk sizes shape corner r start box some e = record {
 }
 
 -- where all places are done, the box is copied
-pub all_copied : (size done : ℕ) (sizes from start to corner source old new : List ℕ) → done ≡ product sizes
-    → Done size done (product to) (place_in_box sizes to corner) (place_in_box sizes from start) source old new
-    → IsCopied size sizes from start to corner source old new
-all_copied size done sizes from start to corner source old new all d = record {
-  copied = λ i h. rw (index-place sizes i h) at (d.copied (place_of sizes i) (let b = place-below sizes i h in omega arith));
-  others = λ q b apart. d.others q b (λ p bp. apart (index_at sizes p) (index-inside sizes p (omega arith)));
+pub all_copied : (size : ℕ) (e : Endian) (done : ℕ) (b : Placing) (source old new : List ℕ) → done ≡ product b.sizes
+    → Done size e done (product b.to) (place_in_box b.sizes b.to b.corner) (place_in_box b.sizes b.from b.start) source old new
+    → IsCopied size e b source old new
+all_copied size e done b source old new all d = record {
+  copied = λ i h. rw (index-place b.sizes i h) at (d.copied (place_of b.sizes i) (let low = place-below b.sizes i h in omega arith));
+  others = λ q low apart. d.others q low (λ p bp. apart (index_at b.sizes p) (index-inside b.sizes p (omega arith)));
 }
 
 -- each entry of an index inside an array of few elements is small
@@ -151,10 +154,10 @@ rows_whole sizes some =
     let d : rows * len / len ≡ rows = ap (λ n. n / len) (sym zero_in) ∙ div-mul-add rows len 0 positive in
     rw e (ap (λ n. n * len) d)
 
-pub none_copied : (size : ℕ) (sizes from start to corner source old : List ℕ) → product sizes ≡ 0 → IsCopied size sizes from start to corner source old old
-none_copied size sizes from start to corner source old none = record {
-  copied = λ i h. absurd (let b = inside-positive sizes i h in omega arith);
-  others = λ q b apart. refl;
+pub none_copied : (size : ℕ) (e : Endian) (b : Placing) (source old : List ℕ) → product b.sizes ≡ 0 → IsCopied size e b source old old
+none_copied size e b source old none = record {
+  copied = λ i h. absurd (let some = inside-positive b.sizes i h in omega arith);
+  others = λ q low apart. refl;
 }
 
 -- ---- the row with this number
@@ -187,32 +190,34 @@ row_fits size row count len first sizes shape corner index bytes r long =
     (row_in_box row count len first sizes shape corner index r) (run_positive sizes some) in
     rw (long, row_first row count len first sizes shape corner index r, r.len_is) b
 
-pub row_done : (size row count len first at : ℕ) (sizes from start to corner index source old before after : List ℕ)
-    → IsRow row count len first sizes from start index → IsRow row count len at sizes to corner index
-    → length source ≡ product from * size → length old ≡ product to * size
-    → Done size (row * run_length sizes) (product to) (place_in_box sizes to corner) (place_in_box sizes from start) source old before
-    → after ≡ take (at * size) before ++ (take (len * size) (drop (first * size) source) ++ drop (at * size + len * size) before)
-    → Done size ((row + 1) * run_length sizes) (product to) (place_in_box sizes to corner) (place_in_box sizes from start) source old after
-row_done size row count len first at sizes from start to corner index source old before after r s source_long old_long was written =
-    let some : 0 < product sizes = (let z = r.some in let e = r.count_is in omega arith) in
-    let here = box_walk sizes from start row (row * run_length sizes) r.box some refl in
-    let there = box_walk sizes to corner row (row * run_length sizes) s.box some refl in
-    let next : (row + 1) * run_length sizes ≡ row * run_length sizes + run_length sizes = omega arith in
-    let form : after ≡ run_written size (run_length sizes) before (place_in_box sizes to corner (row * run_length sizes))
-    (take (run_length sizes * size) (drop (place_in_box sizes from start (row * run_length sizes) * size) source))
-    = written ∙ written_form size len at before (take (len * size) (drop (first * size) source))
-    ∙ ap (λ n. run_written size len before n (take (len * size) (drop (first * size) source))) (row_first row count len at sizes to corner index s)
-    ∙ ap (λ n. run_written size len before (place_in_box sizes to corner (row * run_length sizes)) (take (len * size) (drop (n * size) source))) (row_first row count len first sizes from start index r)
-    ∙ ap (λ n. run_written size n before (place_in_box sizes to corner (row * run_length sizes)) (take (n * size) (drop (place_in_box sizes from start (row * run_length sizes) * size) source))) r.len_is in
-    rw (next, form) (done_more size (run_length sizes) (row * run_length sizes) (product sizes) (product to) (product from)
-    (place_in_box sizes to corner) (place_in_box sizes from start) source old before was
-    (row_in_box row count len first sizes from start index r) (run_positive sizes some) there here
-    (λ p q b d e. place_in_box_one sizes to corner p q s.box b d e) old_long source_long)
+pub row_done : (size : ℕ) (e : Endian) (row count len first at : ℕ) (b : Placing) (index source old before run after : List ℕ)
+    → IsRow row count len first b.sizes b.from b.start index → IsRow row count len at b.sizes b.to b.corner index
+    → length source ≡ product b.from * size → length old ≡ product b.to * size
+    → Done size e (row * run_length b.sizes) (product b.to) (place_in_box b.sizes b.to b.corner) (place_in_box b.sizes b.from b.start) source old before
+    → IsReordered e size (take (len * size) (drop (first * size) source)) run
+    → after ≡ take (at * size) before ++ (run ++ drop (at * size + len * size) before)
+    → Done size e ((row + 1) * run_length b.sizes) (product b.to) (place_in_box b.sizes b.to b.corner) (place_in_box b.sizes b.from b.start) source old after
+row_done size e row count len first at b index source old before run after r s source_long old_long was order written =
+    let some : 0 < product b.sizes = (let z = r.some in let n = r.count_is in omega arith) in
+    let here = box_walk b.sizes b.from b.start row (row * run_length b.sizes) r.box some refl in
+    let there = box_walk b.sizes b.to b.corner row (row * run_length b.sizes) s.box some refl in
+    let next : (row + 1) * run_length b.sizes ≡ row * run_length b.sizes + run_length b.sizes = omega arith in
+    let form : after ≡ run_written size (run_length b.sizes) before (place_in_box b.sizes b.to b.corner (row * run_length b.sizes)) run
+    = written ∙ written_form size len at before run
+    ∙ ap (λ n. run_written size len before n run) (row_first row count len at b.sizes b.to b.corner index s)
+    ∙ ap (λ n. run_written size n before (place_in_box b.sizes b.to b.corner (row * run_length b.sizes)) run) r.len_is in
+    let turned : IsReordered e size (take (run_length b.sizes * size) (drop (place_in_box b.sizes b.from b.start (row * run_length b.sizes) * size) source)) run =
+    subst (λ (n : ℕ). IsReordered e size (take (n * size) (drop (place_in_box b.sizes b.from b.start (row * run_length b.sizes) * size) source)) run) r.len_is
+    (subst (λ (n : ℕ). IsReordered e size (take (len * size) (drop (n * size) source)) run) (row_first row count len first b.sizes b.from b.start index r) order) in
+    rw (next, form) (done_more e size (run_length b.sizes) (row * run_length b.sizes) (product b.sizes) (product b.to) (product b.from)
+    (place_in_box b.sizes b.to b.corner) (place_in_box b.sizes b.from b.start) source old before run was
+    (row_in_box row count len first b.sizes b.from b.start index r) (run_positive b.sizes some) there here
+    (λ p q low also same. place_in_box_one b.sizes b.to b.corner p q s.box low also same) old_long source_long turned)
 
-pub rows_done : (size row count len : ℕ) (sizes from start to corner source old new : List ℕ) → 0 < count → len ≡ run_length sizes → count ≡ product sizes → row ≡ count / len
-    → Done size (row * run_length sizes) (product to) (place_in_box sizes to corner) (place_in_box sizes from start) source old new
-    → IsCopied size sizes from start to corner source old new
-rows_done size row count len sizes from start to corner source old new some el ec er d =
-    let whole : row * run_length sizes ≡ product sizes =
-    ap (λ n. n * run_length sizes) (er ∙ ap (λ n. count / n) el ∙ ap (λ n. n / run_length sizes) ec) ∙ rows_whole sizes (omega arith) in
-    all_copied size (row * run_length sizes) sizes from start to corner source old new whole d
+pub rows_done : (size : ℕ) (e : Endian) (row count len : ℕ) (b : Placing) (source old new : List ℕ) → 0 < count → len ≡ run_length b.sizes → count ≡ product b.sizes → row ≡ count / len
+    → Done size e (row * run_length b.sizes) (product b.to) (place_in_box b.sizes b.to b.corner) (place_in_box b.sizes b.from b.start) source old new
+    → IsCopied size e b source old new
+rows_done size e row count len b source old new some el ec er d =
+    let whole : row * run_length b.sizes ≡ product b.sizes =
+    ap (λ n. n * run_length b.sizes) (er ∙ ap (λ n. count / n) el ∙ ap (λ n. n / run_length b.sizes) ec) ∙ rows_whole b.sizes (omega arith) in
+    all_copied size e (row * run_length b.sizes) b source old new whole d

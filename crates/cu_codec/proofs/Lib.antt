@@ -1,6 +1,7 @@
 pub mod BoxRuns
 pub mod KeyLaws
 pub mod Numbers
+pub mod OneChunk
 pub mod PartRuns
 pub mod Shared
 pub mod Swapped

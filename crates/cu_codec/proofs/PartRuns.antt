@@ -5,6 +5,10 @@ use Rattle.std.proofs.Math.Nat.{mul-le-mul_right}
 use Rattle.std.proofs.lemmas.List.{drop-drop, drop-take, take-take, length-take, length-take-le}
 use Rattle.std.proofs.lemmas.Slice.{take-put_mid_below, drop-put_mid, between-put_mid}
 use borrow.Rule.Slice.PartMut.{put_mid}
+use Rattle.cu_num.specs.Element.{in_order}
+use Rattle.cu_num.specs.declared.layout.Endian.{Endian}
+use Rattle.cu_num.specs.declared.layout.Endian.TheVariants.{Little, Big}
+use Rattle.cu_codec.specs.Order.{IsReordered}
 use Rattle.cu_codec.specs.Parts.{part_at}
 
 -- an element of a run is an element of what the run was taken from
@@ -58,9 +62,9 @@ length-run_written size len at bytes run long fits = rw (← written_form size l
 
 -- ---- one run after another: place p of the source's walk goes to place p of the target's walk
 
-pub record Done (size done count : ℕ) (to from : ℕ → ℕ) (source old new : List ℕ) : Type 0 where
+pub record Done (size : ℕ) (e : Endian) (done count : ℕ) (to from : ℕ → ℕ) (source old new : List ℕ) : Type 0 where
   pub same_length : length new ≡ length old
-  pub copied : (p : ℕ) → p < done → part_at size new (to p) ≡ part_at size source (from p)
+  pub copied : (p : ℕ) → p < done → part_at size new (to p) ≡ in_order e (part_at size source (from p))
   pub others : (q : ℕ) → q < count → ((p : ℕ) → p < done → to p ≢ q) → part_at size new q ≡ part_at size old q
 
 pub record IsWalk (steps len start count : ℕ) (to : ℕ → ℕ) : Type 0 where
@@ -75,29 +79,46 @@ run_fits steps len start count size to walk fits some =
     let far : (to start + len) * size ≤ count * size = mul-le-mul_right size (omega arith) in
     omega arith
 
-pub done_none : (size count : ℕ) (to from : ℕ → ℕ) (source old : List ℕ) → Done size 0 count to from source old old
-done_none size count to from source old = record {
+pub done_none : (size : ℕ) (e : Endian) (count : ℕ) (to from : ℕ → ℕ) (source old : List ℕ) → Done size e 0 count to from source old old
+done_none size e count to from source old = record {
   same_length = refl;
   copied = λ p b. absurd (omega arith);
   others = λ q b apart. refl;
 }
 
-module _ (size len start steps count from_count : ℕ) (to from : ℕ → ℕ) (source old before : List ℕ)
-    (was : Done size start count to from source old before)
+-- a run in the order, by its elements
+reordered_part : (e : Endian) (size j : ℕ) (old new : List ℕ) → IsReordered e size old new → j * size + size ≤ length old
+    → part_at size new j ≡ in_order e (part_at size old j)
+reordered_part Little size j old new order fits = ap (λ b. part_at size b j) order
+reordered_part Big size j old new order fits = order.reversed j fits
+
+pub reordered_length : (e : Endian) (size : ℕ) (old new : List ℕ) → IsReordered e size old new → length new ≡ length old
+reordered_length Little size old new order = ap length order
+reordered_length Big size old new order = order.same_length
+
+module _ (e : Endian) (size len start steps count from_count : ℕ) (to from : ℕ → ℕ) (source old before run : List ℕ)
+    (was : Done size e start count to from source old before)
     (fits : start + len ≤ steps) (some : 0 < len)
     (there : IsWalk steps len start count to) (here : IsWalk steps len start from_count from)
     (one : (p q : ℕ) → p < steps → q < steps → to p ≡ to q → p ≡ q)
-    (old_length : length old ≡ count * size) (source_length : length source ≡ from_count * size) where
-  abbrev run : List ℕ
-  run = take (len * size) (drop (from start * size) source)
-
+    (old_length : length old ≡ count * size) (source_length : length source ≡ from_count * size)
+    (order : IsReordered e size (take (len * size) (drop (from start * size) source)) run) where
   abbrev after : List ℕ
   after = run_written size len before (to start) run
 
-  run_long : length run ≡ len * size
-  run_long =
+  taken_long : length (take (len * size) (drop (from start * size) source)) ≡ len * size
+  taken_long =
       let b = run_fits steps len start from_count size from here fits some in
       length-take-le (len * size) (drop (from start * size) source) (rw (length-drop (from start * size) source) (omega arith))
+
+  run_long : length run ≡ len * size
+  run_long = reordered_length e size (take (len * size) (drop (from start * size) source)) run order ∙ taken_long
+
+  run_part : (j : ℕ) → j < len → part_at size run j ≡ in_order e (part_at size source (from start + j))
+  run_part j b =
+      let far : suc j * size ≤ len * size = mul-le-mul_right size b in
+      reordered_part e size j (take (len * size) (drop (from start * size) source)) run order (rw taken_long (omega arith))
+      ∙ ap (in_order e) (part_of_run size (from start) len j source b)
 
   room : to start * size + len * size ≤ length before
   room = let b = run_fits steps len start count size to there fits some in let e = was.same_length in omega arith
@@ -113,11 +134,11 @@ module _ (size len start steps count from_count : ℕ) (to from : ℕ → ℕ) (
         ]
       ]
 
-  copied_more : (p : ℕ) → p < start + len → part_at size after (to p) ≡ part_at size source (from p)
+  copied_more : (p : ℕ) → p < start + len → part_at size after (to p) ≡ in_order e (part_at size source (from p))
   copied_more p b =
       elim (cases_lt p start) [
         | inl earlier ↦
-            apart (to p) (λ j bj e. (let same : start + j ≡ p = one (start + j) p (omega arith) (omega arith) (there.run j bj ∙ e) in omega arith))
+            apart (to p) (λ j bj is. (let same : start + j ≡ p = one (start + j) p (omega arith) (omega arith) (there.run j bj ∙ is) in omega arith))
             ∙ was.copied p earlier
         | inr now ↦
             let j = p - start in
@@ -125,16 +146,16 @@ module _ (size len start steps count from_count : ℕ) (to from : ℕ → ℕ) (
             let bj : j < len = omega arith in
             ap (λ n. part_at size after (to n)) (sym here_p) ∙ ap (part_at size after) (there.run j bj)
             ∙ part_inside size len (to start) j before run bj run_long room
-            ∙ part_of_run size (from start) len j source bj
-            ∙ ap (part_at size source) (sym (here.run j bj)) ∙ ap (λ n. part_at size source (from n)) here_p
+            ∙ run_part j bj
+            ∙ ap (λ n. in_order e (part_at size source n)) (sym (here.run j bj)) ∙ ap (λ n. in_order e (part_at size source (from n))) here_p
       ]
 
   others_more : (q : ℕ) → q < count → ((p : ℕ) → p < start + len → to p ≢ q) → part_at size after q ≡ part_at size old q
   others_more q b off =
-      apart q (λ j bj e. off (start + j) (omega arith) (there.run j bj ∙ e))
+      apart q (λ j bj is. off (start + j) (omega arith) (there.run j bj ∙ is))
       ∙ was.others q b (λ p bp. off p (omega arith))
 
-  pub done_more : Done size (start + len) count to from source old after
+  pub done_more : Done size e (start + len) count to from source old after
   done_more = record {
     same_length = length-run_written size len (to start) before run run_long room ∙ was.same_length;
     copied = copied_more;

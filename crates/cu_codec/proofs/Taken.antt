@@ -1,12 +1,13 @@
 -- What is copied between a chunk and a region, by the indices of its elements.
-use Rattle.std.proofs.Common.{◌≡◌, ℕ, ℤ, ◌<◌, List, [], ◌∷◌, length, Bool, true, false, refl, sym, ap, ◌∙◌, subst, arith}
+use Rattle.std.proofs.Common.{◌≡◌, ℕ, ℤ, List, [], ◌∷◌, length, Bool, true, false, refl, sym, ap, ◌∙◌, subst, arith}
 use Rattle.std.specs.Prelude.{if◌then◌else◌}
 use Rattle.std.proofs.lemmas.Nat.{div-mul-add, mod-mul-add}
 use Rattle.cu_num.specs.Dtype.{size_of}
-use Rattle.cu_num.specs.Element.{element_bytes}
+use Rattle.cu_num.specs.Element.{element_bytes, in_order}
 use Rattle.cu_num.specs.declared.types.Dtype.{Dtype}
+use Rattle.cu_num.specs.declared.layout.Endian.{Endian}
 use Rattle.cu_num.specs.declared.layout.Endian.TheVariants.{Little}
-use Rattle.cu_shape.specs.Index.{product, place_of, index_at, sums, products, quotients, remainders, IsInside, is_inside}
+use Rattle.cu_shape.specs.Index.{place_of, index_at, sums, products, quotients, remainders, IsInside, is_inside}
 use Rattle.cu_shape.proofs.Places.{inside-length, place-below, place-index, index-place, index-inside, inside_from_test, test_from_inside}
 use Rattle.cu_grid.specs.Counts.{IsRegion, IsWithin}
 use Rattle.cu_grid.specs.Grid.{RegularGrid, IsGrid, IsCoordinate, IsInChunk}
@@ -16,7 +17,7 @@ use Rattle.cu_grid.proofs.Parting.{lies_within, only_chunk, in_array}
 use Rattle.cu_grid.proofs.Regions.{coordinate-length}
 use Rattle.cu_zarr.proofs.Spelled.{rejoined}
 use Rattle.cu_codec.specs.Box.{IsCopied, IsShared}
-use Rattle.cu_codec.specs.Parts.{part_at, differences, place_within, index_at_place, IsTaken, IsLaid}
+use Rattle.cu_codec.specs.Parts.{part_at, differences, place_within, index_at_place, HasFill, IsTaken, IsLaid}
 use Rattle.cu_codec.proofs.Shared.{within_sizes, within_same}
 
 -- what lies in a region lies in the array
@@ -41,24 +42,25 @@ corner_parts (q ∷ qs) (c ∷ cs) (x ∷ i) n h =
 
 module _ (g : RegularGrid) (coord lo hi : List ℕ) (ok : IsGrid g) (here : IsCoordinate g coord) (region : IsRegion g.shape lo hi)
     (sizes in_chunk in_region : List ℕ) (shared : IsShared g coord lo hi sizes in_chunk in_region) where
-  pub taken_of : (size : ℕ) (bytes old new : List ℕ) → IsCopied size sizes g.chunk in_chunk (differences hi lo) in_region bytes old new → IsTaken size g.chunk coord lo hi bytes old new
-  taken_of size bytes old new copy = record {
+  pub taken_of : (size : ℕ) (e : Endian) (bytes old new : List ℕ)
+      → IsCopied size e (record { sizes = sizes; from = g.chunk; start = in_chunk; to = differences hi lo; corner = in_region }) bytes old new → IsTaken size e g.chunk coord lo hi bytes old new
+  taken_of size e bytes old new copy = record {
     taken = λ idx w q.
         let inside = region_in_array g.shape lo hi idx region w in
         let in_own : IsInChunk g coord idx = subst (λ (x : List ℕ). IsInChunk g x idx) q (lies_within g idx ok inside) in
         let (i, s) = shared.all idx in_own w in
-        ap (λ n. part_at size new (place_of (differences hi lo) n)) (sym s.of_region) ∙ copy.copied i s.inside ∙ ap (λ n. part_at size bytes (place_of g.chunk n)) s.of_chunk;
+        ap (λ n. part_at size new (place_of (differences hi lo) n)) (sym s.of_region) ∙ copy.copied i s.inside ∙ ap (λ n. in_order e (part_at size bytes (place_of g.chunk n))) s.of_chunk;
     others = λ idx w apart. copy.others (place_within lo hi idx) (place-below (differences hi lo) (differences idx lo) (within_sizes lo hi idx w))
-        (λ i h e. let (other, s) = shared.only i h in
-        let place : sums in_region i ≡ differences idx lo = sym (index-place (differences hi lo) (sums in_region i) (shared.box_region.inside i h)) ∙ ap (index_at (differences hi lo)) e
+        (λ i h at. let (other, s) = shared.only i h in
+        let place : sums in_region i ≡ differences idx lo = sym (index-place (differences hi lo) (sums in_region i) (shared.box_region.inside i h)) ∙ ap (index_at (differences hi lo)) at
         ∙ index-place (differences hi lo) (differences idx lo) (within_sizes lo hi idx w) in
         let same : other ≡ idx = within_same lo hi other idx s.region w (sym s.of_region ∙ place) in
         apart (ap (λ x. quotients x g.chunk) (sym same) ∙ sym (only_chunk g coord other ok here s.chunk)));
   }
 
   pub laid_of : (t : Dtype) (fill : ℤ) (input old new : List ℕ) → ((idx : List ℕ) → IsInChunk g coord idx → IsWithin lo hi idx)
-      → IsCopied (size_of t) sizes (differences hi lo) in_region g.chunk in_chunk input old new
-      → ((p : ℕ) → p < product g.chunk → part_at (size_of t) old p ≡ element_bytes Little t fill)
+      → IsCopied (size_of t) Little (record { sizes = sizes; from = differences hi lo; start = in_region; to = g.chunk; corner = in_chunk }) input old new
+      → HasFill g t fill coord old
       → IsLaid g t fill coord lo hi input new
   laid_of t fill input old new whole copy filled p below = by_test (is_inside g.shape (index_at_place g.chunk coord p)) refl
     where
@@ -91,4 +93,4 @@ module _ (g : RegularGrid) (coord lo hi : List ℕ) (ok : IsGrid g) (here : IsCo
           ∙ rejoined other g.chunk (n ∙ sym ok.ranks) in
           let test : is_inside g.shape (index_at_place g.chunk coord p) ≡ true = ap (is_inside g.shape) same ∙ test_from_inside g.shape other inside in
           cc)
-          ∙ filled p below)
+          ∙ filled p below e)

@@ -9,8 +9,5 @@ mod parts;
 
 pub use keys::{chunk_key, metadata_key};
 pub use laws::{keys_differ, swap_law};
-pub use order::swap;
-pub use parts::{fill_with, lay_part, take_part};
-
-#[cfg(test)]
-mod tests;
+pub use order::{reorder, swap};
+pub use parts::{chunk_bytes, fill_with, is_one_chunk, lay_part, take_part};

@@ -1,7 +1,22 @@
 //! Elements in the other byte order (Zarr v3, codec "bytes").
 ghost use Rattle.std.specs.Prelude.{◌≡◌, ◌%◌, length};
 ghost use Rattle.cu_num.specs.Element.{IsSize};
-ghost use Rattle.cu_codec.specs.Order.{IsSwapped};
+ghost use Rattle.cu_codec.specs.Order.{IsReordered, IsSwapped};
+
+use cu_num::Endian;
+
+/// Turns elements in this byte order into little-endian ones, or little-endian ones into this order, in place. Elements
+/// have `size` bytes, 1, 2, 4 or 8, and `bytes` are whole elements.
+pub fn reorder(order: Endian, size: u64, bytes: &mut [u8])
+    requires size { IsSize size }
+    requires whole { length bytes.old % size ≡ 0 }
+    ensures { IsReordered order size bytes.old bytes.new }
+{
+    match order {
+        Endian::Little => {}
+        Endian::Big => swap(size, bytes),
+    }
+}
 
 /// Reverses the bytes of each element in place, which turns either byte order into the other. Elements have `size` bytes,
 /// 1, 2, 4 or 8, and `bytes` are whole elements.

@@ -1,46 +1,45 @@
 //! The parts of chunks that lie in a region of an array.
-ghost use Rattle.std.specs.Prelude.{◌≡◌, ◌≤◌, ◌+◌, ◌*◌, ℕ, List, length, min, max};
+ghost use Rattle.std.specs.Prelude.{◌≡◌, ◌<◌, ◌≤◌, ◌↔◌, ◌+◌, ◌*◌, ◌^◌, ℕ, IsTrue, List, length, min, max};
 ghost use Rattle.cu_num.specs.Dtype.{size_of, InRange};
-ghost use Rattle.cu_num.specs.Element.{element_bytes};
+ghost use Rattle.cu_num.specs.Element.{element_bytes, IsSize};
 ghost use Rattle.cu_shape.specs.Index.{product, axis_by_axis};
 ghost use Rattle.cu_grid.specs.Counts.{IsRegion, IsWithin};
 ghost use Rattle.cu_grid.specs.Grid.{IsCoordinate, IsInChunk};
-ghost use Rattle.cu_num.specs.declared.layout.Endian.{Endian};
 ghost use Rattle.cu_codec.specs.Box.{IsShared};
-ghost use Rattle.cu_codec.specs.Parts.{part_at, differences, IsTaken, IsLaid};
+ghost use Rattle.cu_codec.specs.Parts.{part_at, differences, HasFill, IsOneChunk, IsTaken, IsLaid};
 
-use crate::boxes::copy_box;
+use crate::boxes::{Placing, copy_box};
 use cu_grid::{Grid, Region};
-use cu_num::{Dtype, save};
+use cu_num::{Dtype, Endian, save};
 use cu_shape::Dims;
 
-/// Copies the elements of a chunk that lie in a region into the region's buffer. Elements have `size` bytes, and
-/// both are row-major. The buffer's other elements stay as they are.
+/// Copies the elements of a chunk that lie in a region into the region's buffer. Elements have `size` bytes, in the chunk in
+/// this byte order and in the buffer little-endian, and both are row-major. The buffer's other elements stay as they are.
 pub fn take_part(
     grid: &Grid,
     size: u64,
+    order: Endian,
     coord: &Dims,
     chunk: &[u8],
     region: &Region,
     out: &mut [u8],
 )
+    requires size { IsSize size }
     requires coordinate { IsCoordinate grid.now coord.now }
     requires region { IsRegion grid.now.shape region.now.lo region.now.hi }
     requires chunk_length { length chunk.now ≡ product grid.now.chunk * size }
     requires out_length { length out.old ≡ product (differences region.now.hi region.now.lo) * size }
-    ensures taken { IsTaken size grid.now.chunk coord.now region.now.lo region.now.hi chunk.now out.old out.new }
+    ensures taken { IsTaken size order grid.now.chunk coord.now region.now.lo region.now.hi chunk.now out.old out.new }
 {
     let shared = shared(grid, coord, region);
-    copy_box(
-        size,
-        &shared.sizes,
-        grid.chunk(),
-        &shared.in_chunk,
-        chunk,
-        &shared.extents,
-        &shared.in_region,
-        out,
-    );
+    let placing = Placing {
+        sizes: shared.sizes,
+        from: *grid.chunk(),
+        start: shared.in_chunk,
+        to: shared.extents,
+        corner: shared.in_region,
+    };
+    copy_box(size, order, &placing, chunk, out);
 }
 
 /// Writes a whole chunk, row-major and little-endian: each element inside the array from the region's buffer, which holds
@@ -64,17 +63,61 @@ pub fn lay_part(
 {
     let size = u64::from(cu_num::size(t));
     let shared = shared(grid, coord, region);
-    fill_with(t, fill, chunk);
-    copy_box(
-        size,
-        &shared.sizes,
-        &shared.extents,
-        &shared.in_region,
-        input,
-        grid.chunk(),
-        &shared.in_chunk,
-        chunk,
-    );
+    let placing = Placing {
+        sizes: shared.sizes,
+        from: shared.extents,
+        start: shared.in_region,
+        to: *grid.chunk(),
+        corner: shared.in_chunk,
+    };
+    fill_past_edge(grid, t, fill, coord, chunk);
+    copy_box(size, Endian::Little, &placing, input, chunk);
+}
+
+/// Writes the fill value as each element, where the chunk goes past the array's edge.
+fn fill_past_edge(grid: &Grid, t: Dtype, fill: i128, coord: &Dims, chunk: &mut [u8])
+    requires coordinate { IsCoordinate grid.now coord.now }
+    requires chunk_length { length chunk.old ≡ product grid.now.chunk * size_of t }
+    ensures same_length { length chunk.new ≡ length chunk.old }
+    ensures filled { HasFill grid.now t fill coord.now chunk.new }
+{
+    if !is_one_chunk(grid, coord, &grid.chunk_region(coord)) {
+        fill_with(t, fill, chunk);
+    }
+}
+
+/// Whether a region is the chunk at this coordinate, which then has no part past the array's edge.
+pub fn is_one_chunk(grid: &Grid, coord: &Dims, region: &Region) -> bool
+    requires coordinate { IsCoordinate grid.now coord.now }
+    requires region { IsRegion grid.now.shape region.now.lo region.now.hi }
+    ensures { IsTrue result ↔ IsOneChunk grid.now.chunk coord.now region.now.lo region.now.hi }
+{
+    let chunk = grid.chunk();
+    for axis in 0..chunk.rank() {
+        let size = chunk.at(axis);
+        if !is_one_on(size, coord.at(axis), region.lo.at(axis), region.hi.at(axis)) {
+            return false;
+        }
+    }
+    true
+}
+
+/// Whether an interval of an axis is that of the chunk with this number.
+fn is_one_on(size: u64, number: u64, lo: u64, hi: u64) -> bool
+    requires { number * size + size < 2 ^ 64 }
+    ensures { IsTrue result ↔ ((lo ≡ number * size) × (hi ≡ lo + size)) }
+{
+    lo == number * size && hi == lo + size
+}
+
+/// The bytes of a chunk.
+pub fn chunk_bytes(grid: &Grid, t: Dtype) -> usize
+    ensures { result ≡ product grid.now.chunk * size_of t }
+{
+    match grid.chunk().elements() {
+        Some(count) => (count * u64::from(cu_num::size(t))) as usize,
+        None => unreachable!(),
+    }
 }
 
 /// The elements that a chunk and a region share.

@@ -26,8 +26,8 @@ line_of Done = []
 line_of (BadWords code) = codes "error 2 code=" ++ decimal code
 line_of (OverMemory node need allowed) = codes "error 5 node=" ++ decimal node ++ codes " need=" ++ decimal need ++ codes " allowed=" ++ decimal allowed
 line_of (Exists key) = codes "error 9 key=" ++ key
-line_of (BadMeta name code) = codes "error 7 name=" ++ name.bytes ++ codes " code=" ++ decimal code
-line_of (NoArray name) = codes "error 8 name=" ++ name.bytes
+line_of (BadMeta name code) = codes "error 7 name=" ++ name ++ codes " code=" ++ decimal code
+line_of (NoArray name) = codes "error 8 name=" ++ name
 line_of (TaskFailed op task) = codes "error 10 op=" ++ decimal op ++ codes " task=" ++ decimal task
 line_of ReadFault = codes "error 11"
 line_of WriteFault = codes "error 12"

@@ -54,8 +54,8 @@ HoldsRefused (Some held) key code = (text : List ℕ) × (reason : Fault) × (he
 -- why reading the metadata of the array with this name ends
 abbrev pub IsMetadataFault : ℕ → ℕ → ℕ → Option Contents → List ℕ → Status → Type 0
 IsMetadataFault tries before after held name (DepotFailed failed) = (failed ≡ metadata_key_of name) × Rose tries before after
-IsMetadataFault tries before after held name (BadMeta refused code) = (refused.bytes ≡ name) × HoldsRefused held (metadata_key_of name) code
-IsMetadataFault tries before after held name (NoArray missing) = (missing.bytes ≡ name) × IsGone held (metadata_key_of name)
+IsMetadataFault tries before after held name (BadMeta refused code) = (refused ≡ name) × HoldsRefused held (metadata_key_of name) code
+IsMetadataFault tries before after held name (NoArray missing) = (missing ≡ name) × IsGone held (metadata_key_of name)
 IsMetadataFault tries before after held name NoMemory = Unit {0}
 IsMetadataFault tries before after held name (NotBuilt node) = ⊥
 IsMetadataFault tries before after held name Done = ⊥

@@ -2,8 +2,8 @@
 ghost use Rattle.std.specs.Prelude.{◌≡◌, ◌+◌, ◌≤◌, ◌++◌, length, codes, decimal};
 ghost use Rattle.cu_command.specs.Status.{number_of, line_of};
 
-use crate::Name;
 use arrayvec::ArrayString;
+use cu_name::IdText;
 use cu_store::Key;
 
 /// What a command answers. Each answer has a number, which is the exit status of the program.
@@ -16,9 +16,9 @@ pub enum Status {
     /// 5: this node needs `need` bytes, and `allowed` are allowed.
     OverMemory { node: u32, need: u64, allowed: u64 },
     /// 7: the metadata of this array isn't accepted, for the reason with this code (1 to 10, in the order of `MetaFault`).
-    BadMeta { name: Name, code: u8 },
+    BadMeta { name: IdText, code: u8 },
     /// 8: no array of this name is stored: its metadata is absent.
-    NoArray { name: Name },
+    NoArray { name: IdText },
     /// 9: this key is held already.
     Exists { key: Key },
     /// 10: the tries of this task of this operation are used up.
@@ -117,13 +117,13 @@ fn push_key(line: &mut LineText, label: &str, key: &Key)
 }
 
 /// Appends a label and a name.
-fn push_name(line: &mut LineText, label: &str, name: &Name)
+fn push_name(line: &mut LineText, label: &str, name: &IdText)
     requires { length line.old.bytes + length label.now + 32 ≤ 256 }
-    ensures bytes { line.new.bytes ≡ line.old.bytes ++ label.now ++ name.now.bytes }
+    ensures bytes { line.new.bytes ≡ line.old.bytes ++ label.now ++ name.now }
     ensures len { length line.new.bytes ≤ length line.old.bytes + length label.now + 32 }
 {
     line.push_str(label);
-    line.push_str(name.as_str());
+    line.push_str(name.text());
 }
 
 /// Appends a label and a number.

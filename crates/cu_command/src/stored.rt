@@ -2,14 +2,15 @@
 ghost use Rattle.std.specs.Prelude.{◌≡◌, ℕ, ◌+◌, ◌≤◌, List, Option, IfErr, IfOk, length};
 ghost use Rattle.cu_meta.specs.Fault.{fault_view};
 ghost use Rattle.cu_store.specs.Held.{Contents, Write, Follows};
+ghost use Rattle.cu_store.specs.Steps.{NoChange, Steps};
 ghost use Rattle.cu_zarr.specs.Key.{metadata_key_of};
-ghost use Rattle.cu_command.specs.Name.{IsArrayName};
+ghost use Rattle.cu_name.specs.Name.{IsArrayName};
 ghost use Rattle.cu_command.specs.Stored.{IsArrayLayout, HoldsLayout, IsMetadataFault, code_of};
 
 use crate::Status;
-use crate::name::name_of;
 use cu_codec::metadata_key;
 use cu_meta::{MetaFault, MetaRefused, read_meta};
+use cu_name::name_of;
 use cu_op::Layout;
 use cu_store::{Depot, DepotFault, Got, Key, NoMemory, get_tries};
 use std::alloc::Global;
@@ -65,12 +66,13 @@ pub fn read_layout<D: Depot>(
     requires room { length buf.old ≡ 1048577 }
     ensures room { length buf.new ≡ 1048577 }
     ensures input { IfOk result IsArrayLayout }
-    ensures found { IfOk result (HoldsLayout (D.held depot.new) (metadata_key_of name.now)) }
+    ensures found { IfOk result (HoldsLayout (D.shown depot.new).held (metadata_key_of name.now)) }
+    ensures step { Steps NoChange 1 (retries + 1) (D.shown depot.old) (D.shown depot.new) }
     ensures follows { (writes : List Write) (entry : Option Contents)
-        → Follows writes entry (D.held depot.old) (D.late depot.old) → Follows writes entry (D.held depot.new) (D.late depot.new) }
-    ensures cause { IfErr result (IsMetadataFault (retries + 1) (D.faults depot.old) (D.faults depot.new) (D.held depot.new) name.now) }
-    ensures count { D.faults depot.old ≤ D.faults depot.new }
-    ensures lacks { D.lacks depot.new ≡ D.lacks depot.old }
+        → Follows writes entry (D.shown depot.old).held (D.shown depot.old).late → Follows writes entry (D.shown depot.new).held (D.shown depot.new).late }
+    ensures cause { IfErr result (IsMetadataFault (retries + 1) (D.shown depot.old).faults (D.shown depot.new).faults (D.shown depot.new).held name.now) }
+    ensures count { (D.shown depot.old).faults ≤ (D.shown depot.new).faults }
+    ensures lacks { (D.shown depot.new).lacks ≡ (D.shown depot.old).lacks }
 {
     let key = metadata_key(name);
     let len = match get_tries(depot, &key, buf, retries) {

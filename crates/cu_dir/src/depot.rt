@@ -1,8 +1,9 @@
 //! The depot over a tree of files.
-ghost use Rattle.std.specs.Prelude.{◌≡◌, ◌≤◌, List, [], None, Some, true, IfOk, OnOk, OnErr, Result, string_bytes};
-ghost use Rattle.cu_store.specs.Faults.{Caused, MadeOne};
-ghost use Rattle.cu_store.specs.Held.{IsAmong, OwnOrLate, Lands, Removes, StayAmong, AddsOnlyFailed, Gets, Answers, Holds, IsGone};
-ghost use Rattle.cu_dir.specs.Depot.{CountsFault, AnswersAs, tree_of, folder_path, fault_count, call_count};
+ghost use Rattle.std.specs.Prelude.{◌≡◌, ◌≤◌, [], OnOk, OnErr, string_bytes};
+ghost use Rattle.cu_store.specs.Held.{Gets, Answers, Holds, IsGone};
+ghost use Rattle.cu_store.specs.Steps.{NoChange, PutOf, RemovalOf, Steps, LandsLate, AddsOnlyFailed, Caused};
+ghost use Rattle.cu_dir.specs.Depot.{CountsFault, AnswersAs, shown_as, tree_of, folder_path, fault_count, call_count};
+ghost use Rattle.cu_dir.specs.Names.{IsFileKey};
 ghost use Rattle.cu_dir.specs.Tree.{values_under};
 
 use crate::tree::Tree;
@@ -70,29 +71,44 @@ fn settle<A>(faults: &mut u64, answer: io::Result<A>) -> Result<A, DepotFault>
 }
 
 impl<T: Tree + Drop> Depot for TreeDepot<T> {
-    ghost held = { λ d. values_under (string_bytes d.folder) (T.files d.tree) };
+    ghost shown = { λ d. shown_as (T.files d.tree) d };
 
-    ghost late = { λ _. [] };
-
-    ghost faults = { λ d. d.faults };
-
-    ghost calls = { λ d. d.calls };
-
-    ghost lacks = { λ _. true };
-
-    fn get(&mut self, key: &Key, buf: &mut [u8]) -> Result<Got, DepotFault> {
+    /// Copies as many bytes of the key's value as `buf` has room for, and says how long the value is.
+    fn get(&mut self, key: &Key, buf: &mut [u8]) -> Result<Got, DepotFault>
+        ensures got { Gets (values_under (folder_path self.new) (T.files (tree_of self.new))) key.now buf.new result }
+        ensures step { Steps NoChange 1 1 (shown_as (T.files (tree_of self.old)) self.old) (shown_as (T.files (tree_of self.new)) self.new) }
+        ensures cause { Caused 1 (shown_as (T.files (tree_of self.old)) self.old) (shown_as (T.files (tree_of self.new)) self.new) result }
+        ensures counted { CountsFault (fault_count self.old) (fault_count self.new) result }
+        ensures inside { OnOk result (IsFileKey key.now) }
+    {
         self.calls = self.calls.saturating_add(1);
         let answer = get_value(&mut self.tree, self.alloc, self.folder.as_str(), key, buf);
         settle(&mut self.faults, answer)
     }
 
-    fn has(&mut self, key: &Key) -> Result<bool, DepotFault> {
+    /// Whether the key is held.
+    fn has(&mut self, key: &Key) -> Result<bool, DepotFault>
+        ensures answer { Answers (values_under (folder_path self.new) (T.files (tree_of self.new))) key.now result }
+        ensures step { Steps NoChange 1 1 (shown_as (T.files (tree_of self.old)) self.old) (shown_as (T.files (tree_of self.new)) self.new) }
+        ensures cause { Caused 1 (shown_as (T.files (tree_of self.old)) self.old) (shown_as (T.files (tree_of self.new)) self.new) result }
+        ensures counted { CountsFault (fault_count self.old) (fault_count self.new) result }
+        ensures inside { OnOk result (IsFileKey key.now) }
+    {
         self.calls = self.calls.saturating_add(1);
         let answer = has_value(&mut self.tree, self.alloc, self.folder.as_str(), key);
         settle(&mut self.faults, answer)
     }
 
-    fn put(&mut self, key: &Key, bytes: &[u8]) -> Result<(), DepotFault> {
+    /// Stores these bytes under the key, in place of what was there. A put that fails leaves the key as it was.
+    fn put(&mut self, key: &Key, bytes: &[u8]) -> Result<(), DepotFault>
+        ensures stored { OnOk result (Holds (values_under (folder_path self.new) (T.files (tree_of self.new))) key.now bytes.now) }
+        ensures step { Steps (PutOf key.now bytes.now) 1 1 (shown_as (T.files (tree_of self.old)) self.old) (shown_as (T.files (tree_of self.new)) self.new) }
+        ensures refused { OnErr result (LandsLate (shown_as (T.files (tree_of self.old)) self.old) (shown_as (T.files (tree_of self.new)) self.new)) }
+        ensures late_unless_failed { AddsOnlyFailed result [] [] }
+        ensures cause { Caused 1 (shown_as (T.files (tree_of self.old)) self.old) (shown_as (T.files (tree_of self.new)) self.new) result }
+        ensures counted { CountsFault (fault_count self.old) (fault_count self.new) result }
+        ensures inside { OnOk result (IsFileKey key.now) }
+    {
         self.calls = self.calls.saturating_add(1);
         let (alloc, number) = (self.alloc, self.calls);
         let folder = self.folder.as_str();
@@ -100,7 +116,15 @@ impl<T: Tree + Drop> Depot for TreeDepot<T> {
         settle(&mut self.faults, answer)
     }
 
-    fn remove(&mut self, key: &Key) -> Result<(), DepotFault> {
+    /// Makes the key absent. That it was absent before is no fault. A failed remove leaves the key as it was.
+    fn remove(&mut self, key: &Key) -> Result<(), DepotFault>
+        ensures gone { OnOk result (IsGone (values_under (folder_path self.new) (T.files (tree_of self.new))) key.now) }
+        ensures step { Steps (RemovalOf key.now) 1 1 (shown_as (T.files (tree_of self.old)) self.old) (shown_as (T.files (tree_of self.new)) self.new) }
+        ensures refused { OnErr result (LandsLate (shown_as (T.files (tree_of self.old)) self.old) (shown_as (T.files (tree_of self.new)) self.new)) }
+        ensures cause { Caused 1 (shown_as (T.files (tree_of self.old)) self.old) (shown_as (T.files (tree_of self.new)) self.new) result }
+        ensures counted { CountsFault (fault_count self.old) (fault_count self.new) result }
+        ensures inside { OnOk result (IsFileKey key.now) }
+    {
         self.calls = self.calls.saturating_add(1);
         let answer = remove_value(&mut self.tree, self.alloc, self.folder.as_str(), key);
         settle(&mut self.faults, answer)

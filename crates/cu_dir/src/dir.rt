@@ -1,9 +1,10 @@
 //! The depot over a folder of the system.
-ghost use Rattle.std.specs.Prelude.{◌≡◌, ◌≤◌, List, [], None, Some, true, IfOk, OnOk, OnErr, Result};
-ghost use Rattle.cu_store.specs.Faults.{Caused, MadeOne};
-ghost use Rattle.cu_store.specs.Held.{IsAmong, OwnOrLate, Lands, Removes, StayAmong, AddsOnlyFailed, Gets, Answers, Holds, IsGone};
-ghost use Rattle.cu_dir.specs.Depot.{fault_count, call_count, folder_path, path_or_current};
-ghost use Rattle.cu_dir.specs.Dir.{depot_of};
+ghost use Rattle.std.specs.Prelude.{◌≡◌, [], None, IfOk, OnOk, OnErr};
+ghost use Rattle.cu_store.specs.Held.{Gets, Answers, Holds, IsGone};
+ghost use Rattle.cu_store.specs.Steps.{NoChange, PutOf, RemovalOf, Steps, LandsLate, AddsOnlyFailed, Caused};
+ghost use Rattle.cu_dir.specs.Depot.{CountsFault, fault_count, call_count, folder_path, path_or_current};
+ghost use Rattle.cu_dir.specs.Dir.{depot_of, shown_in};
+ghost use Rattle.cu_dir.specs.Names.{IsFileKey};
 
 use crate::depot::TreeDepot;
 use crate::host::HostTree;
@@ -52,29 +53,52 @@ impl<H: Files + AllocGlobal + Clone + Drop> DirDepot<H> {
 }
 
 impl<H: Files + AllocGlobal + Clone + Drop> Depot for DirDepot<H> {
-    ghost held = { λ _. None };
+    ghost shown = { shown_in };
 
-    ghost late = { λ _. [] };
-
-    ghost faults = { λ d. fault_count d.depot };
-
-    ghost calls = { λ d. call_count d.depot };
-
-    ghost lacks = { λ _. true };
-
-    fn get(&mut self, key: &Key, buf: &mut [u8]) -> Result<Got, DepotFault> {
+    /// Copies as many bytes of the file as `buf` has room for, and says how long the file is.
+    fn get(&mut self, key: &Key, buf: &mut [u8]) -> Result<Got, DepotFault>
+        ensures got { Gets None key.now buf.new result }
+        ensures step { Steps NoChange 1 1 (shown_in self.old) (shown_in self.new) }
+        ensures cause { Caused 1 (shown_in self.old) (shown_in self.new) result }
+        ensures counted { CountsFault (fault_count (depot_of self.old)) (fault_count (depot_of self.new)) result }
+        ensures inside { OnOk result (IsFileKey key.now) }
+    {
         self.depot.get(key, buf)
     }
 
-    fn has(&mut self, key: &Key) -> Result<bool, DepotFault> {
+    /// Whether there is a file.
+    fn has(&mut self, key: &Key) -> Result<bool, DepotFault>
+        ensures answer { Answers None key.now result }
+        ensures step { Steps NoChange 1 1 (shown_in self.old) (shown_in self.new) }
+        ensures cause { Caused 1 (shown_in self.old) (shown_in self.new) result }
+        ensures counted { CountsFault (fault_count (depot_of self.old)) (fault_count (depot_of self.new)) result }
+        ensures inside { OnOk result (IsFileKey key.now) }
+    {
         self.depot.has(key)
     }
 
-    fn put(&mut self, key: &Key, bytes: &[u8]) -> Result<(), DepotFault> {
+    /// Puts a file with these bytes in place of what was there.
+    fn put(&mut self, key: &Key, bytes: &[u8]) -> Result<(), DepotFault>
+        ensures stored { OnOk result (Holds None key.now bytes.now) }
+        ensures step { Steps (PutOf key.now bytes.now) 1 1 (shown_in self.old) (shown_in self.new) }
+        ensures refused { OnErr result (LandsLate (shown_in self.old) (shown_in self.new)) }
+        ensures late_unless_failed { AddsOnlyFailed result [] [] }
+        ensures cause { Caused 1 (shown_in self.old) (shown_in self.new) result }
+        ensures counted { CountsFault (fault_count (depot_of self.old)) (fault_count (depot_of self.new)) result }
+        ensures inside { OnOk result (IsFileKey key.now) }
+    {
         self.depot.put(key, bytes)
     }
 
-    fn remove(&mut self, key: &Key) -> Result<(), DepotFault> {
+    /// Takes the file away. That there was none is no fault.
+    fn remove(&mut self, key: &Key) -> Result<(), DepotFault>
+        ensures gone { OnOk result (IsGone None key.now) }
+        ensures step { Steps (RemovalOf key.now) 1 1 (shown_in self.old) (shown_in self.new) }
+        ensures refused { OnErr result (LandsLate (shown_in self.old) (shown_in self.new)) }
+        ensures cause { Caused 1 (shown_in self.old) (shown_in self.new) result }
+        ensures counted { CountsFault (fault_count (depot_of self.old)) (fault_count (depot_of self.new)) result }
+        ensures inside { OnOk result (IsFileKey key.now) }
+    {
         self.depot.remove(key)
     }
 }

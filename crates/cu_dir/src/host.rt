@@ -13,7 +13,7 @@ use std::{fs, io};
 /// The tree of the files that a runtime reaches. It tells nothing of what they hold.
 /// A folder where a file is asked for is an error.
 #[derive(Drop)]
-pub struct HostTree<H: Files + Drop> {
+pub(crate) struct HostTree<H: Files + Drop> {
     rt: H,
 }
 

@@ -11,7 +11,4 @@ mod values;
 
 pub use depot::TreeDepot;
 pub use dir::DirDepot;
-pub use host::HostTree;
-pub use names::{is_file_key, is_made_of_names, is_name};
 pub use tree::Tree;
-pub use values::{get_value, has_value, key_path, new_path, put_value, remove_value};

@@ -14,7 +14,7 @@ use std::io::ErrorKind;
 
 /// The path of a key: the folder, a slash and the key. A key that has no file has none, and is answered with the error
 /// `InvalidInput`. Any other error is want of memory.
-pub fn key_path(alloc: Global, folder: &str, key: &Key) -> io::Result<String>
+fn key_path(alloc: Global, folder: &str, key: &Key) -> io::Result<String>
     ensures path { IfOk result (λ path. string_bytes path ≡ path_of folder.now key.now) }
     ensures inside { OnOk result (IsFileKey key.now) }
     ensures refused { IfErr result (λ error. IsFileKey key.now → error_kind error ≡ ErrorKind.OutOfMemory) }
@@ -31,7 +31,7 @@ pub fn key_path(alloc: Global, folder: &str, key: &Key) -> io::Result<String>
 }
 
 /// The path of a new file beside the file at `path`.
-pub fn new_path(alloc: Global, path: &str, number: u64) -> io::Result<String>
+fn new_path(alloc: Global, path: &str, number: u64) -> io::Result<String>
     ensures path { IfOk result (λ new. string_bytes new ≡ new_path_of path.now number) }
     ensures other { IfOk result (λ new. path.now ≢ string_bytes new) }
     ensures refused { IfErr result (λ error. error_kind error ≡ ErrorKind.OutOfMemory) }
@@ -40,7 +40,7 @@ pub fn new_path(alloc: Global, path: &str, number: u64) -> io::Result<String>
 }
 
 /// Copies as many bytes of the value as `buf` has room for, and says how long the value is.
-pub fn get_value<T: Tree>(
+pub(crate) fn get_value<T: Tree>(
     tree: &mut T,
     alloc: Global,
     folder: &str,
@@ -56,7 +56,12 @@ pub fn get_value<T: Tree>(
 }
 
 /// Whether there is a value.
-pub fn has_value<T: Tree>(tree: &mut T, alloc: Global, folder: &str, key: &Key) -> io::Result<bool>
+pub(crate) fn has_value<T: Tree>(
+    tree: &mut T,
+    alloc: Global,
+    folder: &str,
+    key: &Key,
+) -> io::Result<bool>
     ensures answer { Finds (T.files tree.new) (path_of folder.now key.now) result }
     ensures inside { OnOk result (IsFileKey key.now) }
     ensures kept { T.files tree.new ≡ T.files tree.old }
@@ -67,7 +72,7 @@ pub fn has_value<T: Tree>(tree: &mut T, alloc: Global, folder: &str, key: &Key) 
 
 /// Puts these bytes in place of the value, by way of a new file beside it whose name has this number.
 /// An error leaves the value as it was.
-pub fn put_value<T: Tree>(
+pub(crate) fn put_value<T: Tree>(
     tree: &mut T,
     alloc: Global,
     folder: &str,
@@ -86,7 +91,12 @@ pub fn put_value<T: Tree>(
 }
 
 /// Takes the value away. That there was none is no error.
-pub fn remove_value<T: Tree>(tree: &mut T, alloc: Global, folder: &str, key: &Key) -> io::Result<()>
+pub(crate) fn remove_value<T: Tree>(
+    tree: &mut T,
+    alloc: Global,
+    folder: &str,
+    key: &Key,
+) -> io::Result<()>
     ensures gone { OnOk result (IsGone (T.files tree.new) (path_of folder.now key.now)) }
     ensures inside { OnOk result (IsFileKey key.now) }
     ensures kept { OnErr result (T.files tree.new ≡ T.files tree.old) }

@@ -1,4 +1,6 @@
+pub mod ChunkIndices
 pub mod Covers
+mod Examples
 pub mod Meeting
 pub mod Parting
 pub mod Products

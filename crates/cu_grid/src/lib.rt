@@ -5,10 +5,9 @@ mod cover;
 mod fault;
 mod grid;
 mod laws;
+mod places;
 mod region;
 mod sizes;
-#[cfg(test)]
-mod tests;
 
 pub use cover::Cover;
 pub use fault::GridFault;

@@ -25,10 +25,12 @@ use Rattle.cu_grid.specs.Grid.{RegularGrid}
 use Rattle.cu_grid.specs.Limits.{first_fault, IsWithinLimits}
 use Rattle.cu_grid.specs.declared.fault.GridFault.{GridFault}
 use Rattle.cu_grid.proofs.Products.{product_within}
-use Rattle.cu_meta.specs.Members.{dtype_named, fill_of}
+use Rattle.cu_meta.specs.Members.{fill_of}
+use Rattle.cu_num.specs.TypeName.{dtype_named}
 use Rattle.cu_meta.specs.Storable.{IsStorable}
 use Rattle.cu_meta.proofs.Accepted.{few_sizes, fill_accepted}
-use Rattle.cu_command.specs.Name.{is_name, name_in}
+use Rattle.cu_command.specs.Name.{name_in}
+use Rattle.cu_name.specs.Name.{is_name}
 use Rattle.cu_load.specs.LoadForm.{NamedLayout, GivenArray, given_by, IfCode, has_form, text_at, list_at, sizes_at, layout_given, elements_after, head_in, array_in, load_of, IsGiven}
 use Rattle.cu_load.specs.declared.load_form.LoadForm.{LoadForm}
 use Rattle.cu_load.specs.declared.load_form.LoadRefused.{LoadRefused}

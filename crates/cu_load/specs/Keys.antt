@@ -4,7 +4,7 @@ use Rattle.cu_store.specs.Faults.{Rose}
 use Rattle.cu_store.specs.Held.{Contents, IsGone}
 use Rattle.cu_zarr.specs.Key.{metadata_key_of}
 use Rattle.cu_command.specs.Keys.{IsHeldIn}
-use Rattle.cu_command.specs.Name.{record_key_of}
+use Rattle.cu_name.specs.Keys.{record_key_of}
 use Rattle.cu_command.specs.declared.status.Status.{Status}
 use Rattle.cu_command.specs.declared.status.Status.TheVariants.{Done, BadWords, OverMemory, BadMeta, NoArray, Exists, TaskFailed, ReadFault, WriteFault, BadChunk, DepotFailed, BadLoad, NotBuilt, NoMemory}
 

@@ -14,12 +14,14 @@ use Rattle.cu_shape.specs.Index.{product}
 use Rattle.cu_grid.specs.Grid.{RegularGrid}
 use Rattle.cu_grid.specs.Limits.{first_fault}
 use Rattle.cu_zarr.specs.Layout.{ArrayLayout}
-use Rattle.cu_json.specs.Faults.{◌>>=◌, check}
+use Rattle.cu_result.specs.Results.{◌>>=◌, check}
 use Rattle.cu_json.specs.Form.{is_object_of, naturals_of}
-use Rattle.cu_meta.specs.Members.{dtype_named, fill_of}
+use Rattle.cu_meta.specs.Members.{fill_of}
+use Rattle.cu_num.specs.TypeName.{dtype_named}
 use Rattle.cu_meta.specs.Storable.{IsStorable}
 use Rattle.cu_op.specs.Layout.{layout_view}
-use Rattle.cu_command.specs.Name.{is_name, name_in}
+use Rattle.cu_command.specs.Name.{name_in}
+use Rattle.cu_name.specs.Name.{is_name}
 use Rattle.cu_load.specs.declared.load_form.Head.{Head}
 use Rattle.cu_load.specs.declared.load_form.LoadForm.{LoadForm}
 use Rattle.cu_load.specs.declared.load_form.LoadRefused.{LoadRefused}
@@ -37,11 +39,11 @@ pub record GivenArray : Type 0 where
 
 -- the name and the layout that were read
 abbrev pub head_view : Head → NamedLayout
-head_view h = record { name = h.name.bytes; layout = layout_view h.layout }
+head_view h = record { name = h.name; layout = layout_view h.layout }
 
 -- the array of a form that was read
 abbrev pub given_by : LoadForm → GivenArray
-given_by f = record { name = f.name.bytes; layout = layout_view f.layout; elements = f.elements.items }
+given_by f = record { name = f.name; layout = layout_view f.layout; elements = f.elements.items }
 
 -- where the refusal has a code, the code has the property; want of memory says nothing
 abbrev pub IfCode : LoadRefused → (ℕ → Type 0) → Type 0

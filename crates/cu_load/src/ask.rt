@@ -1,20 +1,21 @@
 //! The keys that would be in the way of an array that is loaded.
 ghost use Rattle.std.specs.Prelude.{◌≡◌, ◌+◌, ◌≤◌, List, Option, IfErr, OnOk};
 ghost use Rattle.cu_store.specs.Held.{Contents, Write, Follows, IsGone};
-ghost use Rattle.cu_command.specs.Name.{IsArrayName};
+ghost use Rattle.cu_name.specs.Name.{IsArrayName};
 ghost use Rattle.cu_load.specs.Keys.{IsAskedFor, AreFree, IsAskFault};
 
 use cu_codec::metadata_key;
-use cu_command::{Status, ask_key, record_key};
+use cu_command::{Status, ask_key};
+use cu_name::record_key;
 use cu_store::{Depot, Key};
 
 /// Refuses a key that is held.
 fn refuse_held<D: Depot>(depot: &mut D, key: &Key, retries: u32) -> Result<(), Status>
-    ensures gone { OnOk result (IsGone (D.held depot.new) key.now) }
-    ensures refused { IfErr result (IsAskFault (retries + 1) (λ asked. asked ≡ key.now) (D.faults depot.old) (D.faults depot.new) (D.held depot.new)) }
+    ensures gone { OnOk result (IsGone (D.shown depot.new).held key.now) }
+    ensures refused { IfErr result (IsAskFault (retries + 1) (λ asked. asked ≡ key.now) (D.shown depot.old).faults (D.shown depot.new).faults (D.shown depot.new).held) }
     ensures follows { (writes : List Write) (entry : Option Contents)
-        → Follows writes entry (D.held depot.old) (D.late depot.old) → Follows writes entry (D.held depot.new) (D.late depot.new) }
-    ensures count { D.faults depot.old ≤ D.faults depot.new }
+        → Follows writes entry (D.shown depot.old).held (D.shown depot.old).late → Follows writes entry (D.shown depot.new).held (D.shown depot.new).late }
+    ensures count { (D.shown depot.old).faults ≤ (D.shown depot.new).faults }
 {
     match ask_key(depot, key, retries) {
         Ok(held) => {
@@ -32,11 +33,11 @@ fn refuse_held<D: Depot>(depot: &mut D, key: &Key, retries: u32) -> Result<(), S
 /// refuses the first that is held.
 pub(crate) fn ask_keys<D: Depot>(depot: &mut D, name: &Key, retries: u32) -> Result<(), Status>
     requires { IsArrayName name.now }
-    ensures free { OnOk result (AreFree name.now (D.held depot.old)) }
-    ensures refused { IfErr result (IsAskFault (retries + 1) (IsAskedFor name.now (D.held depot.old)) (D.faults depot.old) (D.faults depot.new) (D.held depot.new)) }
+    ensures free { OnOk result (AreFree name.now (D.shown depot.old).held) }
+    ensures refused { IfErr result (IsAskFault (retries + 1) (IsAskedFor name.now (D.shown depot.old).held) (D.shown depot.old).faults (D.shown depot.new).faults (D.shown depot.new).held) }
     ensures follows { (writes : List Write) (entry : Option Contents)
-        → Follows writes entry (D.held depot.old) (D.late depot.old) → Follows writes entry (D.held depot.new) (D.late depot.new) }
-    ensures count { D.faults depot.old ≤ D.faults depot.new }
+        → Follows writes entry (D.shown depot.old).held (D.shown depot.old).late → Follows writes entry (D.shown depot.new).held (D.shown depot.new).late }
+    ensures count { (D.shown depot.old).faults ≤ (D.shown depot.new).faults }
 {
     let record = record_key(name);
     if let Err(status) = refuse_held(depot, &record, retries) {

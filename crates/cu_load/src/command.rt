@@ -7,7 +7,8 @@ use crate::load_form::{LoadForm, LoadRefused, read_load};
 use crate::report::report;
 use crate::room::take_room;
 use crate::store::store_array;
-use cu_command::{ReadRefused, Status, key_of_name, read_all};
+use cu_command::{ReadRefused, Status, read_all};
+use cu_name::key_of_name;
 use cu_store::{Depot, Sink, Source};
 use std::alloc::Global;
 
@@ -25,8 +26,8 @@ pub fn load<R: Source, W: Sink, D: Depot>(
     out: &mut W,
     depot: &mut D,
 ) -> Status
-    ensures answer { Loaded retries (R.left src.old) (R.left src.new) (R.faults src.old) (R.faults src.new) (D.held depot.old) (D.held depot.new) (D.late depot.old) (D.late depot.new)
-        (D.faults depot.old) (D.faults depot.new) (W.faults out.old) (W.faults out.new) (W.written out.old) (W.written out.new) result }
+    ensures answer { Loaded retries (R.left src.old) (R.left src.new) (R.faults src.old) (R.faults src.new) (D.shown depot.old).held (D.shown depot.new).held (D.shown depot.old).late (D.shown depot.new).late
+        (D.shown depot.old).faults (D.shown depot.new).faults (W.faults out.old) (W.faults out.new) (W.written out.old) (W.written out.new) result }
 {
     let text = match read_all(alloc, src) {
         Ok(text) => text,
@@ -50,8 +51,8 @@ fn store_form<W: Sink, D: Depot>(
     depot: &mut D,
 ) -> Status
     requires { IsGiven (given_by form.now) }
-    ensures answer { Stored retries (given_by form.now) (D.held depot.old) (D.held depot.new) (D.late depot.old) (D.late depot.new)
-        (D.faults depot.old) (D.faults depot.new) (W.faults out.old) (W.faults out.new) (W.written out.old) (W.written out.new) result }
+    ensures answer { Stored retries (given_by form.now) (D.shown depot.old).held (D.shown depot.new).held (D.shown depot.old).late (D.shown depot.new).late
+        (D.shown depot.old).faults (D.shown depot.new).faults (W.faults out.old) (W.faults out.new) (W.written out.old) (W.written out.new) result }
 {
     let name = key_of_name(&form.name);
     if let Err(status) = ask_keys(depot, &name, retries) {

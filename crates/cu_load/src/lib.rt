@@ -10,6 +10,3 @@ mod room;
 mod store;
 
 pub use command::load;
-
-#[cfg(test)]
-mod tests;

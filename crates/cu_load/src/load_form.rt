@@ -7,22 +7,20 @@ ghost use Rattle.serde_json.specs.View.{view, items_view};
 ghost use Rattle.cu_num.specs.Dtype.{size_of};
 ghost use Rattle.cu_shape.specs.Index.{product};
 ghost use Rattle.cu_grid.specs.Limits.{first_fault};
-ghost use Rattle.cu_meta.specs.Members.{dtype_named};
+ghost use Rattle.cu_num.specs.TypeName.{dtype_named};
 ghost use Rattle.cu_load.specs.LoadForm.{head_view, given_by, IfCode, text_at, list_at, has_form, sizes_at, elements_after, head_in, array_in, load_of, IsGiven};
 
-use cu_command::{Name, name_at};
+use cu_command::name_at;
+use cu_name::IdText;
 use cu_grid::Grid;
 use cu_json::is_object_of;
-use cu_meta::{dtype_named, fill_in, sizes_in};
-use cu_num::{Dtype, Encoding, Endian, Sep, size};
+use cu_meta::{fill_in, sizes_in};
+use cu_num::{Dtype, Encoding, Endian, Sep, dtype_named, size};
 use cu_op::Layout;
 use cu_shape::Dims;
 use serde_json::Value;
 use std::alloc::Global;
 use std::str;
-
-#[cfg(test)]
-mod tests;
 
 /// The most bytes of the text.
 const TEXT_BYTES: usize = 1_048_576;
@@ -54,7 +52,7 @@ const TOO_LONG: u8 = 8;
 /// The name and the layout of an array.
 #[derive(Clone, Copy)]
 struct Head {
-    name: Name,
+    name: IdText,
     layout: Layout,
 }
 
@@ -62,7 +60,7 @@ struct Head {
 #[derive(Drop)]
 pub(crate) struct LoadForm {
     /// The name under which the array is stored.
-    pub(crate) name: Name,
+    pub(crate) name: IdText,
     /// How it is stored: keys as `c/0`, the lower bytes first, and fill value 0.
     pub(crate) layout: Layout,
     /// Its elements in row-major order.

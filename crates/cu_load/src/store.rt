@@ -11,7 +11,8 @@ ghost use Rattle.cu_load.specs.LoadForm.{IsGiven, given_by};
 use crate::chunk::spell_chunk;
 use crate::load_form::LoadForm;
 use cu_codec::{chunk_key, metadata_key};
-use cu_command::{Status, key_of_name, put_value};
+use cu_command::{Status, put_value};
+use cu_name::key_of_name;
 use cu_shape::index_of;
 use cu_store::Depot;
 
@@ -29,13 +30,13 @@ fn store_chunk<D: Depot>(
     requires number { number < chunks_in (given_by form.now) }
     requires input { HasBytes form.now.layout.dtype form.now.elements.items input.now }
     requires chunk_length { length chunk.old ≡ chunk_bytes (given_by form.now).layout }
-    ensures stored { OnOk result (StoresChunk (given_by form.now) (D.held depot.new) number) }
+    ensures stored { OnOk result (StoresChunk (given_by form.now) (D.shown depot.new).held number) }
     ensures follows { (writes : List Write) (entry : Option Contents) → ((bytes : List ℕ) → chunk_value (given_by form.now) number ≡ Some bytes → IsAmong writes (key_of_chunk (given_by form.now) number) bytes)
-        → Follows writes entry (D.held depot.old) (D.late depot.old) → Follows writes entry (D.held depot.new) (D.late depot.new) }
+        → Follows writes entry (D.shown depot.old).held (D.shown depot.old).late → Follows writes entry (D.shown depot.new).held (D.shown depot.new).late }
     ensures stays { (late : List Write) (entry : Option Contents) → IsCalm (given_by form.now) late
-        → Follows (array_writes (given_by form.now) ++ late) entry (D.held depot.old) (D.late depot.old) → ValuesStay (given_by form.now) (D.held depot.old) (D.held depot.new) }
-    ensures cause { IfErr result (IsKeyFault (retries + 1) (D.faults depot.old) (D.faults depot.new) (D.lacks depot.new) (key_of_chunk (given_by form.now) number)) }
-    ensures count { D.faults depot.old ≤ D.faults depot.new }
+        → Follows (array_writes (given_by form.now) ++ late) entry (D.shown depot.old).held (D.shown depot.old).late → ValuesStay (given_by form.now) (D.shown depot.old).held (D.shown depot.new).held }
+    ensures cause { IfErr result (IsKeyFault (retries + 1) (D.shown depot.old).faults (D.shown depot.new).faults (D.shown depot.new).lacks (key_of_chunk (given_by form.now) number)) }
+    ensures count { (D.shown depot.old).faults ≤ (D.shown depot.new).faults }
 {
     let layout = &form.layout;
     let coord = index_of(&layout.grid.counts(), number);
@@ -56,13 +57,13 @@ fn store_chunks<D: Depot>(
     requires given { IsGiven (given_by form.now) }
     requires input { HasBytes form.now.layout.dtype form.now.elements.items input.now }
     requires chunk_length { length chunk.old ≡ chunk_bytes (given_by form.now).layout }
-    ensures follows { (late : List Write) (entry : Option Contents) → Follows late entry (D.held depot.old) (D.late depot.old)
-        → OnOk result (Follows (chunk_writes (given_by form.now) (chunks_in (given_by form.now)) ++ late) entry (D.held depot.new) (D.late depot.new)) }
-    ensures failed { (late : List Write) (entry : Option Contents) → Follows late entry (D.held depot.old) (D.late depot.old)
-        → IfErr result (IsStoreFault (retries + 1) (given_by form.now) (D.faults depot.old) (D.faults depot.new) entry (D.held depot.new) late (D.late depot.new)) }
-    ensures stored { (late : List Write) (entry : Option Contents) → IsCalm (given_by form.now) late → Follows late entry (D.held depot.old) (D.late depot.old)
-        → OnOk result (StoresChunks (given_by form.now) (D.held depot.new) (chunks_in (given_by form.now))) }
-    ensures count { D.faults depot.old ≤ D.faults depot.new }
+    ensures follows { (late : List Write) (entry : Option Contents) → Follows late entry (D.shown depot.old).held (D.shown depot.old).late
+        → OnOk result (Follows (chunk_writes (given_by form.now) (chunks_in (given_by form.now)) ++ late) entry (D.shown depot.new).held (D.shown depot.new).late) }
+    ensures failed { (late : List Write) (entry : Option Contents) → Follows late entry (D.shown depot.old).held (D.shown depot.old).late
+        → IfErr result (IsStoreFault (retries + 1) (given_by form.now) (D.shown depot.old).faults (D.shown depot.new).faults entry (D.shown depot.new).held late (D.shown depot.new).late) }
+    ensures stored { (late : List Write) (entry : Option Contents) → IsCalm (given_by form.now) late → Follows late entry (D.shown depot.old).held (D.shown depot.old).late
+        → OnOk result (StoresChunks (given_by form.now) (D.shown depot.new).held (chunks_in (given_by form.now))) }
+    ensures count { (D.shown depot.old).faults ≤ (D.shown depot.new).faults }
 {
     for number in 0..form.layout.grid.count() {
         if let Err(status) = store_chunk(depot, form, number, input, chunk, retries) {
@@ -85,14 +86,14 @@ pub(crate) fn store_array<D: Depot>(
     requires input { HasBytes form.now.layout.dtype form.now.elements.items input.now }
     requires metadata { metadata.now ≡ metadata_text (given_by form.now).layout }
     requires chunk_length { length chunk.old ≡ chunk_bytes (given_by form.now).layout }
-    ensures follows { (late : List Write) (entry : Option Contents) → Follows late entry (D.held depot.old) (D.late depot.old)
-        → OnOk result (Follows (array_writes (given_by form.now) ++ late) entry (D.held depot.new) (D.late depot.new)) }
-    ensures failed { (late : List Write) (entry : Option Contents) → Follows late entry (D.held depot.old) (D.late depot.old)
-        → IfErr result (IsStoreFault (retries + 1) (given_by form.now) (D.faults depot.old) (D.faults depot.new) entry (D.held depot.new) late (D.late depot.new)) }
-    ensures stores { (late : List Write) (entry : Option Contents) → IsCalm (given_by form.now) late → Follows late entry (D.held depot.old) (D.late depot.old)
-        → OnOk result (StoresGiven (given_by form.now) (D.held depot.new)) }
-    ensures metadata { OnOk result (Holds (D.held depot.new) (metadata_key_of (given_by form.now).name) (metadata_text (given_by form.now).layout)) }
-    ensures count { D.faults depot.old ≤ D.faults depot.new }
+    ensures follows { (late : List Write) (entry : Option Contents) → Follows late entry (D.shown depot.old).held (D.shown depot.old).late
+        → OnOk result (Follows (array_writes (given_by form.now) ++ late) entry (D.shown depot.new).held (D.shown depot.new).late) }
+    ensures failed { (late : List Write) (entry : Option Contents) → Follows late entry (D.shown depot.old).held (D.shown depot.old).late
+        → IfErr result (IsStoreFault (retries + 1) (given_by form.now) (D.shown depot.old).faults (D.shown depot.new).faults entry (D.shown depot.new).held late (D.shown depot.new).late) }
+    ensures stores { (late : List Write) (entry : Option Contents) → IsCalm (given_by form.now) late → Follows late entry (D.shown depot.old).held (D.shown depot.old).late
+        → OnOk result (StoresGiven (given_by form.now) (D.shown depot.new).held) }
+    ensures metadata { OnOk result (Holds (D.shown depot.new).held (metadata_key_of (given_by form.now).name) (metadata_text (given_by form.now).layout)) }
+    ensures count { (D.shown depot.old).faults ≤ (D.shown depot.new).faults }
 {
     let _shape = form.layout.grid.shape();
     if let Err(status) = store_chunks(depot, form, input, chunk, retries) {

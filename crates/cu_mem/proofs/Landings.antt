@@ -1,15 +1,14 @@
 -- What lands is among what was late.
-use Rattle.std.proofs.Common.{◌≡◌, ◌≢◌, ◌⊎◌, ap, ℕ, List, [], ◌∷◌, ◌++◌, ◌&&◌, if◌then◌else◌, Option, Some, Bool, true, false, refl, sym, ◌∙◌, inl, inr}
+use Rattle.std.proofs.Common.{◌≡◌, ◌⊎◌, ℕ, List, [], ◌∷◌, ◌&&◌, if◌then◌else◌, Option, Some, Bool, true, false, refl, sym, inl, inr}
 use Rattle.std.specs.Str.{bytes_eq}
 use Rattle.std.proofs.lemmas.Slice.Eq.{bytes_eq-Decides}
-use Rattle.cu_store.specs.Held.{Contents, Write, IsAmong, OwnOrLate, IsKeptAt, Lands, StayAmong}
+use Rattle.cu_store.specs.Held.{IsAmong}
 use Rattle.cu_mem.specs.declared.late.Waiting.{Waiting}
-use Rattle.std.specs.Option.{option_or}
-use Rattle.cu_mem.specs.Late.{is_due, lands_on, one_less, waiting, writes_of}
-use Rattle.cu_mem.proofs.LateLemmas.{landed, landed-lands_on, waiting_each, waiting_each-waiting}
+use Rattle.cu_mem.specs.Late.{is_due, one_less, waiting, writes_of}
+use Rattle.cu_mem.proofs.LateLemmas.{landed, waiting_each, waiting_each-waiting}
 
 -- a key holds what it held, or what landed there
-abbrev LandedAt : List Waiting → List ℕ → Option (List ℕ) → Option (List ℕ) → Type 0
+abbrev pub LandedAt : List Waiting → List ℕ → Option (List ℕ) → Option (List ℕ) → Type 0
 LandedAt late key held now = (now ≡ held) ⊎ ((bytes : List ℕ) × IsAmong (writes_of late) key bytes × (now ≡ Some bytes))
 
 -- where the first lands or not, and then the others
@@ -34,35 +33,9 @@ waits_next : (due : Bool) (w : Waiting) (ws : List Waiting) (key bytes : List �
 waits_next true w ws key bytes among = inr among
 waits_next false w ws key bytes among = among
 
-each_among : (late : List Waiting) → StayAmong (writes_of (waiting_each late)) (IsAmong (writes_of late))
+each_among : (late : List Waiting) (key bytes : List ℕ) → IsAmong (writes_of (waiting_each late)) key bytes → IsAmong (writes_of late) key bytes
 each_among [] key bytes among = among
 each_among (w ∷ ws) key bytes among = elim (waits_next (is_due w) w (waiting_each ws) key bytes among) [ inl own ↦ inl own | inr other ↦ inr (each_among ws key bytes other) ]
 
-pub waiting_among : (late : List Waiting) → StayAmong (writes_of (waiting late)) (IsAmong (writes_of late))
+pub waiting_among : (late : List Waiting) (key bytes : List ℕ) → IsAmong (writes_of (waiting late)) key bytes → IsAmong (writes_of late) key bytes
 waiting_among late = rw (← waiting_each-waiting late) (each_among late)
-
--- a call that lands what is due, and does no more
-pub only_lands : (late : List Waiting) (old new : Contents) → ((key : List ℕ) → new key ≡ option_or (lands_on late key) (old key)) → Lands (IsAmong (writes_of late)) (Some old) (Some new)
-only_lands late old new lands = λ key. rw (lands key, ← landed-lands_on late key (old key)) (landed_among late key (old key))
-
-pub stays_late : (late now : List Waiting) → now ≡ waiting late → StayAmong (writes_of now) (IsAmong (writes_of late))
-stays_late late now waits = rw waits (waiting_among late)
-
-sets_at : (same : Bool) (key bytes k : List ℕ) (late : List Write) (a b c : Contents) → (same ≡ true → k ≡ key) → (same ≡ false → c k ≡ b k) → IsKeptAt (IsAmong late) a b k → c key ≡ Some bytes → IsKeptAt (OwnOrLate key bytes late) a c k
-sets_at true key bytes k late a b c here other kept set = inr (bytes, inl (here refl, refl), ap c (here refl) ∙ set)
-sets_at false key bytes k late a b c here other (inl is) set = inl (other refl ∙ is)
-sets_at false key bytes k late a b c here other (inr (put, among, is)) set = inr (put, inr among, other refl ∙ is)
-
--- a call that lands what is due, and puts its own bytes
-pub lands_and_sets : (key bytes : List ℕ) (late : List Write) (a b c : Contents) → Lands (IsAmong late) (Some a) (Some b) → c key ≡ Some bytes → ((other : List ℕ) → other ≢ key → c other ≡ b other) → Lands (OwnOrLate key bytes late) (Some a) (Some c)
-lands_and_sets key bytes late a b c lands set others = λ k.
-    sets_at (bytes_eq k key) key bytes k late a b c (bytes_eq-Decides k key).0
-    (λ apart. others k (λ same. let no : false ≡ true = sym apart ∙ (bytes_eq-Decides k key).1 same in cc))
-    (lands k) set
-
--- the late puts, and one more
-pub adds_own : (ws : List Waiting) (w : Waiting) (late : List Write) → StayAmong (writes_of ws) (IsAmong late) → StayAmong (writes_of (ws ++ w ∷ [])) (OwnOrLate w.entry.0 w.entry.1 late)
-adds_own [] w late stay key bytes (inl own) = inl own
-adds_own [] w late stay key bytes (inr none) = absurd none
-adds_own (v ∷ ws) w late stay key bytes (inl first) = inr (stay key bytes (inl first))
-adds_own (v ∷ ws) w late stay key bytes (inr among) = adds_own ws w late (λ k b in_ws. stay k b (inr in_ws)) key bytes among

@@ -3,3 +3,4 @@ mod Examples
 mod Landings
 mod LateLemmas
 mod Lists
+mod MemorySteps

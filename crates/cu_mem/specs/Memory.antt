@@ -1,14 +1,15 @@
 -- A depot in memory, as contracts see it. This project's own rules.
-use Rattle.std.specs.Prelude.{◌≡◌, ℕ, ◌+◌, List, [], ◌∷◌, Option, Some, None, min, Result, Ok, Err}
+use Rattle.std.specs.Prelude.{◌≡◌, ℕ, ◌+◌, List, [], ◌∷◌, Option, Some, None, min, true, Result, Ok, Err}
 use Rattle.std.specs.Option.{option_or}
 use Rattle.cu_store.specs.Faults.{last_count}
 use Rattle.cu_store.specs.Held.{Contents, Write}
+use Rattle.cu_store.specs.Steps.{Shown}
 use Rattle.cu_store.specs.declared.faults.DepotFault.{DepotFault}
 use Rattle.cu_store.specs.declared.faults.DepotFault.TheVariants.{Failed, NoMemory}
 use Rattle.cu_mem.specs.declared.late.Waiting.{Waiting}
 use Rattle.cu_mem.specs.declared.script.CallKind.{CallKind}
 use Rattle.cu_mem.specs.Entries.{bytes_under}
-use Rattle.cu_mem.specs.Late.{lands_on, waiting}
+use Rattle.cu_mem.specs.Late.{lands_on, waiting, writes_of}
 use Rattle.cu_mem.specs.Script.{Progress, next}
 
 pub record Memory : Type 0 where
@@ -24,6 +25,10 @@ pub record Memory : Type 0 where
 -- what is held
 abbrev pub contents : Memory → Contents
 contents m = bytes_under m.entries
+
+-- what it shows as a depot
+abbrev pub shown_of : Memory → Shown
+shown_of m = record { held = Some (contents m); late = writes_of m.late; faults = m.faults; calls = m.calls; lacks = true }
 
 -- what is held once the late puts have landed that are due at the next call
 abbrev pub arrived : Memory → Contents

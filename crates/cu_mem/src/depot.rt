@@ -1,8 +1,8 @@
 //! A depot in memory.
 ghost use Rattle.std.specs.Prelude.{◌≡◌, ◌≢◌, ◌≤◌, ◌↔◌, ◌++◌, ◌∷◌, [], ℕ, List, Option, Some, None, true, IsTrue, IsErr, OnOk, OnErr, length, take};
 ghost use Rattle.std.specs.Option.{option_copied};
-ghost use Rattle.cu_store.specs.Faults.{Caused, MadeOne};
-ghost use Rattle.cu_store.specs.Held.{IsAmong, OwnOrLate, Lands, Removes, StayAmong, AddsOnlyFailed, Gets, Answers, Holds, IsGone};
+ghost use Rattle.cu_store.specs.Held.{Gets, Answers, Holds, IsGone};
+ghost use Rattle.cu_store.specs.Steps.{NoChange, PutOf, RemovalOf, Steps, LandsLate, AddsOnlyFailed, Caused};
 
 use crate::entries::{Entry, bytes_of, store, take_away};
 use crate::late::{Waiting, land_due};
@@ -37,8 +37,7 @@ impl Model for MemDepot {
 }
 
 impl MemDepot {
-    ghost use Rattle.cu_mem.specs.Late.{writes_of};
-    ghost use Rattle.cu_mem.specs.Memory.{contents, Begins};
+    ghost use Rattle.cu_mem.specs.Memory.{contents, shown_of, Begins};
     ghost use Rattle.cu_mem.specs.Script.{LandsOnce, started, fate};
     ghost use Rattle.cu_store.specs.Faults.{last_count};
     ghost use Rattle.std.specs.Prelude.{◌+◌, min};
@@ -108,8 +107,7 @@ impl MemDepot {
     fn begin(&mut self, kind: CallKind, key: &Key) -> Fate
         ensures fate { result ≡ fate self.old.script kind key.now }
         ensures begun { Begins kind key.now self.old self.new }
-        ensures kept { Lands (IsAmong (writes_of self.old.late)) (Some (contents self.old)) (Some (contents self.new)) }
-        ensures late { StayAmong (writes_of self.new.late) (IsAmong (writes_of self.old.late)) }
+        ensures step { Steps NoChange 1 1 (shown_of self.old) (shown_of self.new) }
     {
         self.calls = self.calls.saturating_add(1);
         land_due(&mut self.entries, &mut self.late);
@@ -154,29 +152,18 @@ fn copy_front(bytes: &[u8], buf: &mut [u8]) -> u64
 }
 
 impl Depot for MemDepot {
-    ghost use Rattle.cu_mem.specs.Memory.{contents, OnlyLands, LandsAndSets, Raises, put_late};
+    ghost use Rattle.cu_mem.specs.Memory.{contents, shown_of, OnlyLands, LandsAndSets, Raises, put_late};
     ghost use Rattle.cu_mem.specs.Late.{waiting, writes_of};
     ghost use Rattle.cu_mem.specs.Script.{fails, land, next};
 
-    ghost held = { λ m. Some (contents m) };
-
-    ghost late = { λ m. writes_of m.late };
-
-    ghost faults = { λ m. m.faults };
-
-    ghost calls = { λ m. m.calls };
-
-    ghost lacks = { λ m. true };
+    ghost shown = { shown_of };
 
     /// Copies as many bytes of the key's value as `buf` has room for, and says how long the value is.
     /// It fails exactly where the script says so, and takes no memory.
     fn get(&mut self, key: &Key, buf: &mut [u8]) -> Result<Got, DepotFault>
         ensures got { Gets (Some (contents self.new)) key.now buf.new result }
-        ensures kept { Lands (IsAmong (writes_of self.old.late)) (Some (contents self.old)) (Some (contents self.new)) }
-        ensures late { StayAmong (writes_of self.new.late) (IsAmong (writes_of self.old.late)) }
-        ensures cause { Caused 1 self.old.faults self.new.faults true result }
-        ensures count { self.old.faults ≤ self.new.faults }
-        ensures calls { MadeOne self.old.calls self.new.calls }
+        ensures step { Steps NoChange 1 1 (shown_of self.old) (shown_of self.new) }
+        ensures cause { Caused 1 (shown_of self.old) (shown_of self.new) result }
 
         ensures failed { (result ≡ Err DepotFault.Failed) ↔ IsTrue (fails self.old.script CallKind.Get key.now) }
         ensures memory { result ≢ Err DepotFault.NoMemory }
@@ -197,11 +184,8 @@ impl Depot for MemDepot {
     /// Whether the key is held. It fails exactly where the script says so, and takes no memory.
     fn has(&mut self, key: &Key) -> Result<bool, DepotFault>
         ensures answer { Answers (Some (contents self.new)) key.now result }
-        ensures kept { Lands (IsAmong (writes_of self.old.late)) (Some (contents self.old)) (Some (contents self.new)) }
-        ensures late { StayAmong (writes_of self.new.late) (IsAmong (writes_of self.old.late)) }
-        ensures cause { Caused 1 self.old.faults self.new.faults true result }
-        ensures count { self.old.faults ≤ self.new.faults }
-        ensures calls { MadeOne self.old.calls self.new.calls }
+        ensures step { Steps NoChange 1 1 (shown_of self.old) (shown_of self.new) }
+        ensures cause { Caused 1 (shown_of self.old) (shown_of self.new) result }
 
         ensures failed { (result ≡ Err DepotFault.Failed) ↔ IsTrue (fails self.old.script CallKind.Has key.now) }
         ensures memory { result ≢ Err DepotFault.NoMemory }
@@ -220,13 +204,10 @@ impl Depot for MemDepot {
     /// that is to land later may want memory for its bytes, and nothing is late or counted as a fault where it has none.
     fn put(&mut self, key: &Key, bytes: &[u8]) -> Result<(), DepotFault>
         ensures stored { OnOk result (Holds (Some (contents self.new)) key.now bytes.now) }
-        ensures kept { Lands (OwnOrLate key.now bytes.now (writes_of self.old.late)) (Some (contents self.old)) (Some (contents self.new)) }
-        ensures kept_err { OnErr result (Lands (IsAmong (writes_of self.old.late)) (Some (contents self.old)) (Some (contents self.new))) }
-        ensures late { StayAmong (writes_of self.new.late) (OwnOrLate key.now bytes.now (writes_of self.old.late)) }
+        ensures step { Steps (PutOf key.now bytes.now) 1 1 (shown_of self.old) (shown_of self.new) }
+        ensures refused { OnErr result (LandsLate (shown_of self.old) (shown_of self.new)) }
         ensures late_unless_failed { AddsOnlyFailed result (writes_of self.old.late) (writes_of self.new.late) }
-        ensures cause { Caused 1 self.old.faults self.new.faults true result }
-        ensures count { self.old.faults ≤ self.new.faults }
-        ensures calls { MadeOne self.old.calls self.new.calls }
+        ensures cause { Caused 1 (shown_of self.old) (shown_of self.new) result }
 
         ensures failed { result ≡ Err DepotFault.Failed → IsTrue (fails self.old.script CallKind.Put key.now) }
         ensures fails { IsTrue (fails self.old.script CallKind.Put key.now) → IsErr result }
@@ -253,12 +234,9 @@ impl Depot for MemDepot {
     /// Makes the key absent. It fails exactly where the script says so, and takes no memory.
     fn remove(&mut self, key: &Key) -> Result<(), DepotFault>
         ensures gone { OnOk result (IsGone (Some (contents self.new)) key.now) }
-        ensures kept { Removes key.now (IsAmong (writes_of self.old.late)) (Some (contents self.old)) (Some (contents self.new)) }
-        ensures kept_err { OnErr result (Lands (IsAmong (writes_of self.old.late)) (Some (contents self.old)) (Some (contents self.new))) }
-        ensures late { StayAmong (writes_of self.new.late) (IsAmong (writes_of self.old.late)) }
-        ensures cause { Caused 1 self.old.faults self.new.faults true result }
-        ensures count { self.old.faults ≤ self.new.faults }
-        ensures calls { MadeOne self.old.calls self.new.calls }
+        ensures step { Steps (RemovalOf key.now) 1 1 (shown_of self.old) (shown_of self.new) }
+        ensures refused { OnErr result (LandsLate (shown_of self.old) (shown_of self.new)) }
+        ensures cause { Caused 1 (shown_of self.old) (shown_of self.new) result }
 
         ensures failed { (result ≡ Err DepotFault.Failed) ↔ IsTrue (fails self.old.script CallKind.Remove key.now) }
         ensures memory { result ≢ Err DepotFault.NoMemory }

@@ -2,7 +2,8 @@
 use Rattle.std.proofs.Common.{◌≡◌, ℕ, List, refl}
 use Rattle.cu_meta.specs.Written.{text_of}
 use Rattle.cu_zarr.specs.Layout.{ArrayLayout}
-use Rattle.cu_zarr.specs.Metadata.{type_name, number_list, encoding_text, codec_text, fill_text, metadata_text}
+use Rattle.cu_zarr.specs.Metadata.{number_list, encoding_text, codec_text, fill_text, metadata_text}
+use Rattle.cu_num.specs.TypeName.{type_name}
 
 same_text : (chunk encoding codec name fill shape chunk_is encoding_is codec_is name_is fill_is shape_is : List ℕ) → chunk ≡ chunk_is → encoding ≡ encoding_is → codec ≡ codec_is → name ≡ name_is
     → fill ≡ fill_is → shape ≡ shape_is → text_of chunk encoding codec name fill shape ≡ text_of chunk_is encoding_is codec_is name_is fill_is shape_is

@@ -14,7 +14,8 @@ use Rattle.cu_num.specs.declared.layout.Sep.TheVariants.{Slash, Dot}
 use Rattle.cu_num.specs.declared.layout.Endian.{Endian}
 use Rattle.cu_num.specs.declared.layout.Endian.TheVariants.{Little, Big}
 use Rattle.cu_zarr.specs.Layout.{ArrayLayout}
-use Rattle.cu_zarr.specs.Metadata.{type_name, more_numbers, number_list, separator_name, encoding_text, endian_name, codec_with_endian, codec_text, truth_text, fill_text, metadata_text}
+use Rattle.cu_zarr.specs.Metadata.{more_numbers, number_list, separator_name, encoding_text, endian_name, codec_with_endian, codec_text, truth_text, fill_text, metadata_text}
+use Rattle.cu_num.specs.TypeName.{type_name}
 use Rattle.cu_meta.specs.Written.{text_of}
 use Rattle.cu_meta.proofs.Assembled.{assembled}
 

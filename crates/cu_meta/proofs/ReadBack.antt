@@ -14,7 +14,7 @@ use Rattle.cu_num.specs.declared.layout.Endian.{Endian}
 use Rattle.cu_num.specs.declared.layout.Endian.TheVariants.{Little, Big}
 use Rattle.cu_grid.specs.Limits.{first_fault}
 use Rattle.cu_zarr.specs.Layout.{ArrayLayout}
-use Rattle.cu_zarr.specs.Metadata.{type_name}
+use Rattle.cu_num.specs.TypeName.{type_name}
 use Rattle.cu_json.specs.Form.{is_number, is_text, naturals_after, naturals_of}
 use Rattle.cu_meta.specs.Members.{dtype_of, grid_of, encoding_of, fill_of, endian_of, are_understood}
 use Rattle.cu_meta.specs.Metadata.{layout_in}

@@ -1,5 +1,4 @@
 pub mod Fault
-pub mod Options
 pub mod Part
 pub mod Members
 pub mod Metadata

@@ -12,25 +12,12 @@ use Rattle.cu_num.specs.declared.layout.Sep.{Sep}
 use Rattle.cu_num.specs.declared.layout.Sep.TheVariants.{Slash, Dot}
 use Rattle.cu_num.specs.declared.layout.Endian.{Endian}
 use Rattle.cu_num.specs.declared.layout.Endian.TheVariants.{Little, Big}
+use Rattle.cu_num.specs.TypeName.{dtype_named}
 use Rattle.cu_grid.specs.Grid.{RegularGrid}
 use Rattle.cu_grid.specs.Limits.{first_fault}
 use Rattle.cu_json.specs.Form.{is_text, is_list_of, each_item, each_member, naturals_of}
-use Rattle.cu_meta.specs.Options.{◌>>=◌, when}
+use Rattle.cu_result.specs.Options.{◌>>=◌, when}
 use Rattle.cu_meta.specs.Part.{is_part, is_part_of, name_of, setting, sets_nothing}
-
--- the type of a name
-abbrev pub dtype_named : List ℕ → Option Dtype
-dtype_named name =
-    if bytes_eq name (codes "bool") then Some Bool
-    else if bytes_eq name (codes "int8") then Some Int8
-    else if bytes_eq name (codes "int16") then Some Int16
-    else if bytes_eq name (codes "int32") then Some Int32
-    else if bytes_eq name (codes "int64") then Some Int64
-    else if bytes_eq name (codes "uint8") then Some Uint8
-    else if bytes_eq name (codes "uint16") then Some Uint16
-    else if bytes_eq name (codes "uint32") then Some Uint32
-    else if bytes_eq name (codes "uint64") then Some Uint64
-    else None
 
 -- `data_type`: a part that sets nothing
 abbrev pub dtype_of : Data → Option Dtype

@@ -5,7 +5,7 @@ use Rattle.serde_json.specs.Data.{Data}
 use Rattle.serde_json.specs.Find.{get, as_object}
 use Rattle.serde_json.specs.Read.{read}
 use Rattle.cu_zarr.specs.Layout.{ArrayLayout}
-use Rattle.cu_json.specs.Faults.{◌>>=◌, check}
+use Rattle.cu_result.specs.Results.{◌>>=◌, check}
 use Rattle.cu_json.specs.Form.{is_text, is_number}
 use Rattle.cu_meta.specs.Fault.{Fault, json, format, field, dtype, grid, key_encoding, fill, codec, unknown, too_long}
 use Rattle.cu_meta.specs.Members.{dtype_of, grid_of, encoding_of, fill_of, endian_of, are_attributes, are_dimension_names, are_no_transformers, are_understood}

@@ -6,12 +6,10 @@ mod laws;
 mod members;
 mod part;
 mod read;
-#[cfg(test)]
-mod tests;
 mod write;
 
 pub use fault::{MetaFault, MetaRefused};
 pub use laws::meta_law;
-pub use members::{dtype_named, fill_in, sizes_in};
+pub use members::{fill_in, sizes_in};
 pub use read::read_meta;
 pub use write::write_meta;

@@ -4,36 +4,18 @@ ghost use Rattle.serde_json.specs.Find.{as_array};
 ghost use Rattle.serde_json.specs.View.{view, items_view, members_view};
 ghost use Rattle.cu_num.specs.Dtype.{size_of, least, greatest};
 ghost use Rattle.cu_json.specs.Form.{naturals_of, naturals_after, each_item, is_list_of};
-ghost use Rattle.cu_meta.specs.Members.{dtype_named, dtype_of, grid_of, separator_of, encoding_of, within, whole_of, fill_of, endian_set, endian_of, are_attributes, is_text_or_null, are_dimension_names, are_no_transformers, is_known, may_be_passed_over, are_understood};
+ghost use Rattle.cu_meta.specs.Members.{dtype_of, grid_of, separator_of, encoding_of, within, whole_of, fill_of, endian_set, endian_of, are_attributes, is_text_or_null, are_dimension_names, are_no_transformers, is_known, may_be_passed_over, are_understood};
 
 use crate::part::{is_part_of, is_plain_part, part_name, setting};
 use arrayvec::ArrayVec;
 use cu_grid::Grid;
 use cu_json::{is_list_of, is_text};
-use cu_num::{Dtype, Encoding, Endian, Sep, size};
+use cu_num::{Dtype, Encoding, Endian, Sep, dtype_named, size};
 use cu_shape::Dims;
 use serde_json::{Map, Value};
 
 /// The most axes of an array.
 const MOST_AXES: usize = 6;
-
-/// The type of a name.
-pub fn dtype_named(name: &str) -> Option<Dtype>
-    ensures { result ≡ dtype_named name.now }
-{
-    match name {
-        "bool" => Some(Dtype::Bool),
-        "int8" => Some(Dtype::Int8),
-        "int16" => Some(Dtype::Int16),
-        "int32" => Some(Dtype::Int32),
-        "int64" => Some(Dtype::Int64),
-        "uint8" => Some(Dtype::Uint8),
-        "uint16" => Some(Dtype::Uint16),
-        "uint32" => Some(Dtype::Uint32),
-        "uint64" => Some(Dtype::Uint64),
-        _ => None,
-    }
-}
 
 /// The type that `data_type` names.
 pub(crate) fn dtype_in(value: &Value) -> Option<Dtype>

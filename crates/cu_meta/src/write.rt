@@ -2,9 +2,9 @@
 ghost use Rattle.std.specs.Prelude.{◌≡◌, ◌<◌, ◌++◌, ◌∷◌, decimal, length, drop, string_bytes, IfOk, OnOk};
 ghost use Rattle.cu_meta.specs.Written.{text_of};
 ghost use Rattle.cu_op.specs.Layout.{layout_view};
-ghost use Rattle.cu_zarr.specs.Metadata.{type_name, more_numbers, number_list, encoding_text, codec_with_endian, codec_text, truth_text, fill_text, metadata_text};
+ghost use Rattle.cu_zarr.specs.Metadata.{more_numbers, number_list, encoding_text, codec_with_endian, codec_text, truth_text, fill_text, metadata_text};
 
-use cu_num::{Dtype, Encoding, Endian, Sep};
+use cu_num::{Dtype, Encoding, Endian, Sep, type_name};
 use cu_op::Layout;
 use cu_shape::Dims;
 use cu_store::NoMemory;
@@ -168,21 +168,5 @@ fn codec_text(dtype: Dtype, endian: Endian) -> &'static str
     match dtype {
         Dtype::Bool | Dtype::Int8 | Dtype::Uint8 => r#"{"name":"bytes"}"#,
         _ => endian_text(endian),
-    }
-}
-
-fn type_name(dtype: Dtype) -> &'static str
-    ensures { result.now ≡ type_name dtype }
-{
-    match dtype {
-        Dtype::Bool => "bool",
-        Dtype::Int8 => "int8",
-        Dtype::Int16 => "int16",
-        Dtype::Int32 => "int32",
-        Dtype::Int64 => "int64",
-        Dtype::Uint8 => "uint8",
-        Dtype::Uint16 => "uint16",
-        Dtype::Uint32 => "uint32",
-        Dtype::Uint64 => "uint64",
     }
 }

@@ -10,3 +10,6 @@ mod Shifted
 pub mod ScalarRange
 mod Examples
 pub mod Wrapped
+pub mod WordNumbers
+pub mod TypeNames
+pub mod TypeTests

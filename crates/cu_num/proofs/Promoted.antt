@@ -374,3 +374,32 @@ promotion_same Uint8 = refl
 promotion_same Uint16 = refl
 promotion_same Uint32 = refl
 promotion_same Uint64 = refl
+
+-- ---- bools and integers stay apart
+
+two_inside : (a : Dtype) → IsInteger a → InRange a (pos 2)
+two_inside Bool h = absurd h
+two_inside Int8 h = (omega (arith, ints), omega (arith, ints))
+two_inside Int16 h = (omega (arith, ints), omega (arith, ints))
+two_inside Int32 h = (omega (arith, ints), omega (arith, ints))
+two_inside Int64 h = (omega (arith, ints), omega (arith, ints))
+two_inside Uint8 h = (omega (arith, ints), omega (arith, ints))
+two_inside Uint16 h = (omega (arith, ints), omega (arith, ints))
+two_inside Uint32 h = (omega (arith, ints), omega (arith, ints))
+two_inside Uint64 h = (omega (arith, ints), omega (arith, ints))
+
+no_two : (t : Dtype) → t ≡ Bool → InRange t (pos 2) → ⊥
+no_two t is h = let P : Dtype → Type 0 = λ u. InRange u (pos 2) in let range = subst P is h in absurd (omega (arith, ints))
+
+-- all three are bools, or all three are integers
+pub promotion_apart : (a b t : Dtype) → promotion a b ≡ Some t → ((a ≡ Bool) × (b ≡ Bool) × (t ≡ Bool)) ⊎ (IsInteger a × IsInteger b × IsInteger t)
+promotion_apart a b t e = ⊎_elim
+    (λ is. ⊎_elim
+    (λ other. inl (is, other, sym (bool_in_range a b t is e) ∙ is))
+    (λ h. let none : promotion a b ≡ None = ap (λ t. promotion t b) is ∙ bool_first b h in cc)
+    (bool_or_integer b))
+    (λ g. ⊎_elim
+    (λ other. let none : promotion a b ≡ None = ap (promotion a) other ∙ bool_second a g in cc)
+    (λ h. inr (g, h, not_bool t (λ is. no_two t is (first_in_range a b t e (pos 2) (two_inside a g)))))
+    (bool_or_integer b))
+    (bool_or_integer a)

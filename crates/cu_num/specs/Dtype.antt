@@ -1,5 +1,5 @@
 -- The element types of an array and their ranges (Python array API, data types).
-use Rattle.std.specs.Prelude.{ℕ, ◌-◌, ◌^◌, true, false, ℤ, pos, neg_ℤ, ◌≤ℤ◌}
+use Rattle.std.specs.Prelude.{ℕ, ◌-◌, ◌^◌, true, false, not, ℤ, pos, neg_ℤ, ◌≤ℤ◌}
 use Rattle.std.specs.Prelude.{Bool as Test}
 use Rattle.cu_num.specs.declared.types.Dtype.{Dtype}
 use Rattle.cu_num.specs.declared.types.Dtype.TheVariants.{Bool, Int8, Int16, Int32, Int64, Uint8, Uint16, Uint32, Uint64}
@@ -30,27 +30,27 @@ width_of Uint64 = 64
 
 -- a signed integer type
 abbrev pub is_signed : Dtype → Test
-is_signed Bool = false
 is_signed Int8 = true
 is_signed Int16 = true
 is_signed Int32 = true
 is_signed Int64 = true
-is_signed Uint8 = false
-is_signed Uint16 = false
-is_signed Uint32 = false
-is_signed Uint64 = false
+is_signed t = false
+
+-- the type of truth values, and one of the eight integer types
+abbrev pub is_bool : Dtype → Test
+is_bool Bool = true
+is_bool t = false
+
+abbrev pub is_integer : Dtype → Test
+is_integer t = not (is_bool t)
 
 -- the least and the greatest number of the type
 abbrev pub least : Dtype → ℤ
-least Bool = pos 0
 least Int8 = neg_ℤ (pos (2 ^ 7))
 least Int16 = neg_ℤ (pos (2 ^ 15))
 least Int32 = neg_ℤ (pos (2 ^ 31))
 least Int64 = neg_ℤ (pos (2 ^ 63))
-least Uint8 = pos 0
-least Uint16 = pos 0
-least Uint32 = pos 0
-least Uint64 = pos 0
+least t = pos 0
 
 abbrev pub greatest : Dtype → ℤ
 greatest Bool = pos 1
@@ -70,23 +70,12 @@ InRange t x = (least t ≤ℤ x) × (x ≤ℤ greatest t)
 -- one of the eight integer types
 abbrev pub IsInteger : Dtype → Type 0
 IsInteger Bool = ⊥
-IsInteger Int8 = Unit {0}
-IsInteger Int16 = Unit {0}
-IsInteger Int32 = Unit {0}
-IsInteger Int64 = Unit {0}
-IsInteger Uint8 = Unit {0}
-IsInteger Uint16 = Unit {0}
-IsInteger Uint32 = Unit {0}
-IsInteger Uint64 = Unit {0}
+IsInteger t = Unit {0}
 
 -- one of the four unsigned integer types
 abbrev pub IsUnsigned : Dtype → Type 0
-IsUnsigned Bool = ⊥
-IsUnsigned Int8 = ⊥
-IsUnsigned Int16 = ⊥
-IsUnsigned Int32 = ⊥
-IsUnsigned Int64 = ⊥
 IsUnsigned Uint8 = Unit {0}
 IsUnsigned Uint16 = Unit {0}
 IsUnsigned Uint32 = Unit {0}
 IsUnsigned Uint64 = Unit {0}
+IsUnsigned t = ⊥

@@ -1,5 +1,9 @@
 pub mod Dtype
+pub mod TypeName
+pub mod Functions
+pub mod Fold
 pub mod Wrap
+pub mod Word
 pub mod Element
 pub mod Promotion
 pub mod Division

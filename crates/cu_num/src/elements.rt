@@ -1,15 +1,15 @@
 ghost use Rattle.std.specs.Prelude.{◌≡◌, ◌+◌, ◌*◌, ◌≤◌, ◌++◌, length, take, drop, pos};
 ghost use Rattle.cu_num.specs.Dtype.{size_of, InRange};
 ghost use Rattle.cu_num.specs.Element.{element_at, element_bytes, number_of_bytes, IsSize};
-ghost use Rattle.cu_num.specs.Wrap.{residue, wrapped};
 
 use crate::layout::Endian;
 use crate::types::{Dtype, size};
-use crate::wrapping::{unsigned, wrap};
+use crate::words::word;
+use crate::wrapping::wrap;
 
 /// The number whose bytes these are, the lowest first. `bytes` has 1, 2, 4 or 8 of them.
 #[inline]
-fn number(bytes: &[u8]) -> u64
+fn number_of(bytes: &[u8]) -> u64
     requires { IsSize (length bytes.now) }
     ensures { result ≡ number_of_bytes bytes.now }
 {
@@ -32,15 +32,7 @@ pub fn load(t: Dtype, bytes: &[u8], at: usize) -> i128
 {
     let size = size(t) as usize;
     let start = at * size;
-    wrap(t, i128::from(number(&bytes[start..start + size])))
-}
-
-/// The two's complement of `x`, wrapped to the type, in 64 bits.
-#[inline]
-fn word(t: Dtype, x: i128) -> u64
-    ensures { result ≡ residue 64 (wrapped t x) }
-{
-    unsigned(wrap(t, x), 64) as u64
+    wrap(t, i128::from(number_of(&bytes[start..start + size])))
 }
 
 /// Writes `x`, wrapped to the type, as element `at` of little-endian bytes, counted in elements from 0.
@@ -52,6 +44,6 @@ pub fn save(t: Dtype, x: i128, bytes: &mut [u8], at: usize)
 {
     let size = size(t) as usize;
     let start = at * size;
-    let word = word(t, x).to_le_bytes();
+    let word = word(wrap(t, x)).to_le_bytes();
     bytes[start..start + size].copy_from_slice(&word[..size]);
 }

@@ -1,3 +1,9 @@
+ghost use Rattle.std.specs.Prelude.{◌≡◌};
+ghost use Rattle.cu_num.specs.Functions.{accepts1, accepts2};
+ghost use Rattle.cu_num.specs.Scalar.{result_type1, result_type2};
+
+use crate::types::{Dtype, is_bool};
+
 /// An elementwise function of one argument (Python array API, elementwise functions).
 #[derive(Clone, Copy, Debug, PartialEq, Eq)]
 pub enum Fn1 {
@@ -40,4 +46,52 @@ pub enum Fn2 {
     LogicalAnd,
     LogicalOr,
     LogicalXor,
+}
+
+/// Whether the function accepts the type of its argument; `Astype` takes every type.
+#[inline]
+pub fn accepts1(f: Fn1, t: Dtype) -> bool
+    ensures { result ≡ accepts1 f t }
+{
+    match f {
+        Fn1::BitwiseInvert | Fn1::Astype => true,
+        Fn1::LogicalNot => is_bool(t),
+        _ => !is_bool(t),
+    }
+}
+
+/// Whether the function accepts the type to which its arguments are promoted.
+#[inline]
+pub fn accepts2(f: Fn2, t: Dtype) -> bool
+    ensures { result ≡ accepts2 f t }
+{
+    match f {
+        Fn2::BitwiseAnd | Fn2::BitwiseOr | Fn2::BitwiseXor | Fn2::Equal | Fn2::NotEqual => true,
+        Fn2::LogicalAnd | Fn2::LogicalOr | Fn2::LogicalXor => is_bool(t),
+        _ => !is_bool(t),
+    }
+}
+
+/// The type of the result at an argument of type `t`; of `Astype`, `t` is the new type.
+#[inline]
+pub fn result1(f: Fn1, t: Dtype) -> Dtype
+    ensures { result ≡ result_type1 f t }
+{
+    match f {
+        Fn1::LogicalNot => Dtype::Bool,
+        _ => t,
+    }
+}
+
+/// The type of the result at arguments of type `t`: of comparisons and logical functions a bool.
+#[inline]
+pub fn result2(f: Fn2, t: Dtype) -> Dtype
+    ensures { result ≡ result_type2 f t }
+{
+    match f {
+        Fn2::Equal | Fn2::NotEqual => Dtype::Bool,
+        Fn2::Less | Fn2::LessEqual | Fn2::Greater | Fn2::GreaterEqual => Dtype::Bool,
+        Fn2::LogicalAnd | Fn2::LogicalOr | Fn2::LogicalXor => Dtype::Bool,
+        _ => t,
+    }
 }

@@ -1,6 +1,8 @@
-ghost use Rattle.std.specs.Prelude.{◌≡◌, ◌≢◌, ◌↔◌, Some, None, ℕ, ℤ, pos, ◌-ℤ◌, ◌+◌, ◌*◌, ◌≤◌, ◌+ℤ◌, ◌*ℤ◌, List, ◌++◌, length, take, drop};
+ghost use Rattle.std.specs.Prelude.{◌≡◌, ◌≢◌, ◌↔◌, ◌⊎◌, Some, None, ℕ, ℤ, pos, ◌-ℤ◌, ◌+◌, ◌*◌, ◌^◌, ◌<◌, ◌≤◌, ◌+ℤ◌, ◌*ℤ◌, List, ◌++◌, length, take, drop};
 ghost use Rattle.cu_num.specs.Dtype.{size_of, InRange, IsInteger};
+ghost use Rattle.cu_num.specs.TypeName.{type_name, dtype_named};
 ghost use Rattle.cu_num.specs.Wrap.{wrapped, IsWrapOf};
+ghost use Rattle.cu_num.specs.Word.{word_of, number_of, IsWord};
 ghost use Rattle.cu_num.specs.Promotion.{promotion, IsRefused};
 ghost use Rattle.cu_num.specs.Division.{floor_quotient, floor_remainder, IsFloorOf};
 ghost use Rattle.cu_num.specs.Element.{element_at, element_bytes};
@@ -21,6 +23,22 @@ pub fn wrap_arithmetic_law()
     ensures product { (t : Dtype) (x y : ℤ) → wrapped t (x *ℤ y) ≡ wrapped t (wrapped t x *ℤ wrapped t y) }
 {}
 
+/// The word of a number of a type is a word of the type, and wraps to that number alone; in another type it wraps to what the
+/// number wraps to.
+pub fn word_law()
+    ensures word { (t : Dtype) (x : ℤ) → InRange t x → IsWord t (word_of x) x }
+    ensures number { (t : Dtype) (w : ℕ) (x : ℤ) → IsWord t w x → number_of t w ≡ x }
+    ensures cast { (t from : Dtype) (x : ℤ) → InRange from x → number_of t (word_of x) ≡ wrapped t x }
+    ensures fits { (x : ℤ) → word_of x < 2 ^ 64 }
+    ensures range { (t : Dtype) (w : ℕ) → InRange t (number_of t w) }
+{}
+
+/// A type and its name determine each other.
+pub fn type_name_law()
+    ensures named { (t : Dtype) → dtype_named (type_name t) ≡ Some t }
+    ensures name { (name : List ℕ) (t : Dtype) → dtype_named name ≡ Some t → name ≡ type_name t }
+{}
+
 /// An element's bytes have the type's size, and what is read from them is the number that was written, wrapped.
 pub fn element_law()
     ensures size { (e : Endian) (t : Dtype) (x : ℤ) → length (element_bytes e t x) ≡ size_of t }
@@ -38,12 +56,13 @@ pub fn element_write_law()
 {}
 
 /// Promotion has no answer exactly for the refused pairs, does not depend on the order, leaves equal types alone,
-/// and its type has every number of the two types.
+/// its type has every number of the two types, and it keeps bools and integers apart.
 pub fn promotion_law()
     ensures refused { (a b : Dtype) → (promotion a b ≡ None) ↔ IsRefused a b }
     ensures order { (a b : Dtype) → promotion a b ≡ promotion b a }
     ensures equal { (t : Dtype) → promotion t t ≡ Some t }
     ensures range { (a b t : Dtype) → promotion a b ≡ Some t → (x : ℤ) → InRange a x → InRange t x }
+    ensures apart { (a b t : Dtype) → promotion a b ≡ Some t → ((a ≡ Dtype.Bool) × (b ≡ Dtype.Bool) × (t ≡ Dtype.Bool)) ⊎ (IsInteger a × IsInteger b × IsInteger t) }
 {}
 
 /// The rounded quotient is the greatest whole number at most `x / y`, and the remainder is what it leaves; both are 0 where `y` is 0.

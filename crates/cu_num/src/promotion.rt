@@ -2,7 +2,7 @@ ghost use Rattle.std.specs.Prelude.{◌≡◌, ◌<◌, ◌≤◌, ◌↔◌, Is
 ghost use Rattle.cu_num.specs.Dtype.{InRange, IsInteger, IsUnsigned, is_signed, size_of, width_of};
 ghost use Rattle.cu_num.specs.Promotion.{promotion, mixed_type, IsRefused};
 
-use crate::types::{Dtype, is_bool, is_signed_type, size};
+use crate::types::{Dtype, is_bool, is_signed, size};
 
 /// The wider of two types.
 fn wider(a: Dtype, b: Dtype) -> Dtype
@@ -35,7 +35,7 @@ fn promote_integers(a: Dtype, b: Dtype) -> Option<Dtype>
     requires second { IsInteger b }
     ensures { result ≡ promotion a b }
 {
-    match (is_signed_type(a), is_signed_type(b)) {
+    match (is_signed(a), is_signed(b)) {
         (true, true) => Some(wider(a, b)),
         (true, false) => promote_mixed(a, b),
         (false, true) => promote_mixed(b, a),

@@ -1,10 +1,11 @@
 ghost use Rattle.std.specs.Prelude.{◌≡◌, ◌≤◌, ◌↔◌, IsTrue};
-ghost use Rattle.cu_num.specs.Dtype.{size_of, width_of, is_signed};
+ghost use Rattle.cu_num.specs.Dtype.{size_of, width_of, is_signed, least, greatest, InRange};
 
 /// The type of an array's elements (Python array API, data types).
-#[derive(Clone, Copy, Debug, PartialEq, Eq)]
+#[derive(Clone, Copy, Debug, Default, PartialEq, Eq)]
 pub enum Dtype {
     /// 0 or 1
+    #[default]
     Bool,
     /// -2^7 to 2^7 - 1
     Int8,
@@ -39,7 +40,7 @@ pub fn size(t: Dtype) -> u64
 
 /// Whether the type is one of the four signed integer types.
 #[inline]
-pub(crate) fn is_signed_type(t: Dtype) -> bool
+pub fn is_signed(t: Dtype) -> bool
     ensures { result ≡ is_signed t }
 {
     matches!(t, Dtype::Int8 | Dtype::Int16 | Dtype::Int32 | Dtype::Int64)
@@ -47,7 +48,7 @@ pub(crate) fn is_signed_type(t: Dtype) -> bool
 
 /// Whether the type is `Bool`.
 #[inline]
-pub(crate) fn is_bool(t: Dtype) -> bool
+pub fn is_bool(t: Dtype) -> bool
     ensures { IsTrue result ↔ (t ≡ Dtype.Bool) }
 {
     matches!(t, Dtype::Bool)
@@ -55,7 +56,7 @@ pub(crate) fn is_bool(t: Dtype) -> bool
 
 /// The bits of an element's value: one for a bool, else eight a byte.
 #[inline]
-pub(crate) fn width(t: Dtype) -> u32
+pub fn width(t: Dtype) -> u32
     ensures value { result ≡ width_of t }
     ensures least { 1 ≤ result }
     ensures greatest { result ≤ 64 }
@@ -67,4 +68,44 @@ pub(crate) fn width(t: Dtype) -> u32
         Dtype::Int32 | Dtype::Uint32 => 32,
         Dtype::Int64 | Dtype::Uint64 => 64,
     }
+}
+
+/// The least number of the type.
+#[inline]
+pub fn least(t: Dtype) -> i128
+    ensures { result ≡ least t }
+{
+    match t {
+        Dtype::Int8 => i128::from(i8::MIN),
+        Dtype::Int16 => i128::from(i16::MIN),
+        Dtype::Int32 => i128::from(i32::MIN),
+        Dtype::Int64 => i128::from(i64::MIN),
+        _ => 0,
+    }
+}
+
+/// The greatest number of the type.
+#[inline]
+pub fn greatest(t: Dtype) -> i128
+    ensures { result ≡ greatest t }
+{
+    match t {
+        Dtype::Bool => 1,
+        Dtype::Int8 => i128::from(i8::MAX),
+        Dtype::Int16 => i128::from(i16::MAX),
+        Dtype::Int32 => i128::from(i32::MAX),
+        Dtype::Int64 => i128::from(i64::MAX),
+        Dtype::Uint8 => i128::from(u8::MAX),
+        Dtype::Uint16 => i128::from(u16::MAX),
+        Dtype::Uint32 => i128::from(u32::MAX),
+        Dtype::Uint64 => i128::from(u64::MAX),
+    }
+}
+
+/// Whether `x` is a number of the type.
+#[inline]
+pub fn in_range(t: Dtype, x: i128) -> bool
+    ensures { IsTrue result ↔ InRange t x }
+{
+    least(t) <= x && x <= greatest(t)
 }

@@ -1,6 +1,6 @@
 ghost use Rattle.std.specs.Prelude.{◌≡◌, ◌^◌, ◌≤◌, pos};
 ghost use Rattle.cu_num.specs.Dtype.{InRange};
-ghost use Rattle.cu_num.specs.Wrap.{wrapped, IsWrapOf, residue, centred};
+ghost use Rattle.cu_num.specs.Wrap.{wrapped, IsWrapOf, residue};
 
 use crate::types::Dtype;
 
@@ -23,23 +23,7 @@ pub(crate) fn unsigned(x: i128, width: u32) -> i128
     x & (power(width) - 1)
 }
 
-/// The number of the signed type of that width that is congruent to `x`.
-#[inline]
-fn signed(x: i128, width: u32) -> i128
-    requires least { 1 ≤ width }
-    requires greatest { width ≤ 64 }
-    ensures { result ≡ centred width (residue width x) }
-{
-    let modulus = power(width);
-    let low = unsigned(x, width);
-    if low < modulus / 2 {
-        low
-    } else {
-        low - modulus
-    }
-}
-
-/// `wrap`, by the type.
+/// `wrap`, by the type. The casts let a compiler see a sign extension.
 #[inline]
 #[tactic(auto, unfolding(crate::specs::Wrap::wrapped))]
 fn wrap_by_type(t: Dtype, x: i128) -> i128
@@ -47,10 +31,10 @@ fn wrap_by_type(t: Dtype, x: i128) -> i128
 {
     match t {
         Dtype::Bool => i128::from(x != 0),
-        Dtype::Int8 => signed(x, 8),
-        Dtype::Int16 => signed(x, 16),
-        Dtype::Int32 => signed(x, 32),
-        Dtype::Int64 => signed(x, 64),
+        Dtype::Int8 => i128::from((unsigned(x, 8) as u8).cast_signed()),
+        Dtype::Int16 => i128::from((unsigned(x, 16) as u16).cast_signed()),
+        Dtype::Int32 => i128::from((unsigned(x, 32) as u32).cast_signed()),
+        Dtype::Int64 => i128::from((unsigned(x, 64) as u64).cast_signed()),
         Dtype::Uint8 => unsigned(x, 8),
         Dtype::Uint16 => unsigned(x, 16),
         Dtype::Uint32 => unsigned(x, 32),

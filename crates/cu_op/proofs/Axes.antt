@@ -11,25 +11,20 @@ use Rattle.cu_shape.proofs.Rounded.{within_counts}
 use Rattle.cu_grid.specs.Counts.{counts_of}
 use Rattle.cu_grid.specs.Grid.{RegularGrid, IsGrid, IsCoordinate}
 use Rattle.cu_op.specs.Operation.{IsAlignedAlong, IsAligned}
+use Rattle.cu_op.specs.Walks.{back_as}
 
 -- where an axis of this size is read
 abbrev pub read_on : ℕ → ℕ → ℕ
 read_on n i = if n == 1 then 0 else i
 
-along_axes : (shape is : List ℕ) → back_along shape is ≡ axis_by_axis read_on shape is
-along_axes [] is = refl
-along_axes (n ∷ ns) [] = refl
-along_axes (n ∷ ns) (i ∷ is) = ap (λ rest. read_on n i ∷ rest) (along_axes ns is)
-
 -- a list that has each axis' number is what is read
-pub back_from : (r shape is : List ℕ) (first : ℕ) → first ≡ length is - length shape → length shape ≤ length is → length r ≡ length shape
-    → ((k : ℕ) → k < length shape → get_or r k 0 ≡ (if get_or shape k 0 == 1 then 0 else get_or is (first + k) 0)) → r ≡ back shape is
-back_from r shape is first e l p h =
+pub as_from : (one : ℕ) (r shape is : List ℕ) (first : ℕ) → first ≡ length is - length shape → length shape ≤ length is → length r ≡ length shape
+    → ((k : ℕ) → k < length shape → get_or r k 0 ≡ (if get_or shape k 0 == 1 then one else get_or is (first + k) 0)) → r ≡ back_as one shape is
+as_from one r shape is first e l p h =
     let n : length (drop first is) ≡ length is - first = length-drop first is in
-    let all : r ≡ axis_by_axis read_on shape (drop first is) = axis_by_axis_from read_on r shape (drop first is) p (omega arith)
-    (λ k b. h k b ∙ ap (read_on (get_or shape k 0)) (sym (get_or-drop first is k 0))) in
-    let there : r ≡ back_along shape (drop first is) = all ∙ sym (along_axes shape (drop first is)) in
-    subst (λ (f : ℕ). r ≡ back_along shape (drop f is)) e there
+    let all : r ≡ axis_by_axis (λ x i. if x == 1 then one else i) shape (drop first is) = axis_by_axis_from (λ x i. if x == 1 then one else i) r shape (drop first is) p (omega arith)
+    (λ k b. h k b ∙ ap (λ i. if get_or shape k 0 == 1 then one else i) (sym (get_or-drop first is k 0))) in
+    subst (λ (f : ℕ). r ≡ axis_by_axis (λ x i. if x == 1 then one else i) shape (drop f is)) e all
 
 -- an axis of an aligned argument: a chunk of the result is read from a chunk of the argument
 chunk_on : (n c m d i : ℕ) → 0 < c → ((n ≡ m) × (c ≡ d)) ⊎ ((n ≡ 1) × (m ≢ 1)) → i < div_ceil m d → read_on n i < div_ceil n c

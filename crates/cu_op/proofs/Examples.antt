@@ -10,7 +10,8 @@ use Rattle.cu_op.specs.declared.kernel.Instr.TheVariants.{Load, Const, Two, Sele
 use Rattle.cu_op.specs.declared.layout.ArrayInfo.{ArrayInfo}
 use Rattle.cu_op.specs.declared.operation.Op.{Op}
 use Rattle.cu_op.specs.declared.operation.Op.TheVariants.{Map}
-use Rattle.cu_op.specs.Cells.{cell, tasks_of, outputs_of, inputs_of}
+use Rattle.cu_op.specs.Cells.{cell, tasks_of}
+use Rattle.cu_op.specs.Walks.{written_chunks, read_chunks}
 use Rattle.cu_op.specs.Kernel.{kernel_value}
 use Rattle.cu_op.specs.PlanView.{PlanView}
 use Rattle.cu_op.specs.Projection.{projection}
@@ -38,11 +39,11 @@ tasks : tasks_of two_chunks (add (0 ∷ 1 ∷ []) 2) ≡ 2
 unfolding two_chunks add array
 tasks = refl
 
-written : outputs_of two_chunks (add (0 ∷ 1 ∷ []) 2) 1 ≡ cell 2 (1 ∷ []) ∷ []
+written : written_chunks two_chunks (add (0 ∷ 1 ∷ []) 2) 1 ≡ cell 2 (1 ∷ []) ∷ []
 unfolding two_chunks add array
 written = refl
 
-read : inputs_of two_chunks (add (0 ∷ 1 ∷ []) 2) 1 ≡ cell 0 (1 ∷ []) ∷ cell 1 (1 ∷ []) ∷ []
+read : read_chunks two_chunks (add (0 ∷ 1 ∷ []) 2) 1 ≡ cell 0 (1 ∷ []) ∷ cell 1 (1 ∷ []) ∷ []
 unfolding two_chunks add array
 read = refl
 
@@ -51,7 +52,7 @@ twice : projection two_chunks 0 (add (1 ∷ 1 ∷ []) 2) ≡ 1600
 unfolding two_chunks add array
 twice = refl
 
-read_once : inputs_of two_chunks (add (1 ∷ 1 ∷ []) 2) 0 ≡ cell 1 (0 ∷ []) ∷ []
+read_once : read_chunks two_chunks (add (1 ∷ 1 ∷ []) 2) 0 ≡ cell 1 (0 ∷ []) ∷ []
 unfolding two_chunks add array
 read_once = refl
 
@@ -76,7 +77,7 @@ input_at_5 = refl
 unfoldable rows : List ArrayInfo
 rows = array (2 ∷ 3 ∷ []) (1 ∷ 3 ∷ []) None ∷ array (3 ∷ []) (3 ∷ []) None ∷ array (2 ∷ 3 ∷ []) (1 ∷ 3 ∷ []) (Some 0) ∷ []
 
-rows_read : inputs_of rows (add (0 ∷ 1 ∷ []) 2) 1 ≡ cell 0 (1 ∷ 0 ∷ []) ∷ cell 1 (0 ∷ []) ∷ []
+rows_read : read_chunks rows (add (0 ∷ 1 ∷ []) 2) 1 ≡ cell 0 (1 ∷ 0 ∷ []) ∷ cell 1 (0 ∷ []) ∷ []
 unfolding rows add array
 rows_read = refl
 

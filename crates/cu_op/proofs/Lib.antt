@@ -7,4 +7,8 @@ pub mod ReadElements
 pub mod KeyTexts
 pub mod Ranges
 pub mod Singles
+pub mod WalkCells
+pub mod Nested
+pub mod TaskCells
+pub mod Spellings
 mod Examples

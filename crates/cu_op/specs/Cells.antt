@@ -1,26 +1,37 @@
 -- The tasks of an operation, the chunks that a task writes, and those that it reads. Chunks are numbered row-major.
-use Rattle.std.specs.Prelude.{◌≡◌, ℕ, ◌<◌, ◌==◌, Contains, slice_index_or, List, [], ◌∷◌, ◌++◌, map, length, if◌then◌else◌}
+use Rattle.std.specs.Prelude.{ℕ, ◌<◌, ◌==◌, List, [], ◌∷◌, ◌++◌, map, length, if◌then◌else◌}
 use Rattle.std.specs.List.{list_any}
 use Rattle.cu_shape.specs.Index.{product, index_at, back}
-use Rattle.cu_grid.specs.Grid.{IsCoordinate}
+use Rattle.cu_grid.specs.Counts.{chunk_lo, chunk_hi}
+use Rattle.cu_grid.specs.Grid.{RegularGrid, IsCoordinate}
 use Rattle.cu_op.specs.declared.layout.ArrayInfo.{ArrayInfo}
 use Rattle.cu_op.specs.declared.operation.Op.{Op}
 use Rattle.cu_op.specs.declared.operation.Op.TheVariants.{Map}
 use Rattle.cu_op.specs.declared.cells.Cell.{Cell}
 use Rattle.cu_op.specs.Arrays.{grid_at, grid_counts}
 use Rattle.cu_op.specs.Operation.{writes_of}
-use Rattle.cu_op.specs.PlanView.{PlanView, operation_at}
 
 abbrev pub cell : ℕ → List ℕ → Cell
 cell a at = record { array = a; coord = at }
 
--- a map has one task for each chunk of the result
-abbrev pub tasks_of : List ArrayInfo → Op → ℕ
-tasks_of arrays (Map kernel ins out) = product (grid_counts (grid_at arrays out))
+-- what the tasks of an operation go over: a grid each of whose chunks is the region of a task; for a map that of the result
+abbrev pub task_grid : List ArrayInfo → Op → RegularGrid
+task_grid arrays (Map kernel ins out) = grid_at arrays out
 
--- the coordinate of chunk number `task` of the result
+-- how many tasks an operation has
+abbrev pub tasks_of : List ArrayInfo → Op → ℕ
+tasks_of arrays op = product (grid_counts (task_grid arrays op))
+
+-- the coordinate of region number `task`, row-major
 abbrev pub task_coord : List ArrayInfo → Op → ℕ → List ℕ
-task_coord arrays (Map kernel ins out) task = index_at (grid_counts (grid_at arrays out)) task
+task_coord arrays op task = index_at (grid_counts (task_grid arrays op)) task
+
+-- the region of a task: its first index on each axis, and one past its last
+abbrev pub task_lo : List ArrayInfo → Op → ℕ → List ℕ
+task_lo arrays op task = chunk_lo (task_grid arrays op).chunk (task_coord arrays op task)
+
+abbrev pub task_hi : List ArrayInfo → Op → ℕ → List ℕ
+task_hi arrays op task = chunk_hi (task_grid arrays op).shape (task_grid arrays op).chunk (task_coord arrays op task)
 
 -- the chunks that the task writes: that chunk of each array that the operation writes
 abbrev pub outputs_of : List ArrayInfo → Op → ℕ → List Cell
@@ -42,13 +53,3 @@ inputs_of arrays (Map kernel ins out) task = map (read_back arrays (index_at (gr
 -- a chunk of an array of the plan
 abbrev pub IsChunk : List ArrayInfo → Cell → Type 0
 IsChunk arrays c = (c.array < length arrays) × IsCoordinate (grid_at arrays c.array) c.coord
-
--- task number `task` of operation k writes this chunk
-pub record WritesCell (p : PlanView) (k task a : ℕ) (coord : List ℕ) : Type 0 where
-  pub operation : k < length p.ops
-  pub number : task < tasks_of p.arrays (operation_at p.ops k).op
-  pub cell : Contains (outputs_of p.arrays (operation_at p.ops k).op task) (cell a coord)
-
--- no chunk stands twice in a list
-abbrev pub EachOnce : List Cell → Type 0
-EachOnce cells = (i j : ℕ) (d : Cell) → i < length cells → j < length cells → slice_index_or cells i d ≡ slice_index_or cells j d → i ≡ j

@@ -10,3 +10,5 @@ pub mod Sound
 pub mod Value
 pub mod Names
 pub mod OneMap
+pub mod Walks
+pub mod Schedule

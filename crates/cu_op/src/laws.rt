@@ -9,20 +9,23 @@ ghost use Rattle.cu_op.specs.declared.kernel.Instr.{Instr};
 ghost use Rattle.cu_op.specs.declared.layout.ArrayInfo.{ArrayInfo};
 ghost use Rattle.cu_op.specs.declared.operation.Op.{Op};
 ghost use Rattle.cu_op.specs.declared.operation.Planned.{Planned};
-ghost use Rattle.cu_op.specs.Arrays.{grid_at, type_at};
-ghost use Rattle.cu_op.specs.Cells.{cell, outputs_of, inputs_of, WritesCell, EachOnce};
+ghost use Rattle.cu_op.specs.declared.cells.Cell.{Cell};
+ghost use Rattle.cu_op.specs.Arrays.{grid_at, type_at, maker_at};
+ghost use Rattle.cu_op.specs.Cells.{cell, tasks_of, IsChunk};
 ghost use Rattle.cu_op.specs.Kernel.{kernel_value};
 ghost use Rattle.cu_op.specs.KernelTypes.{KernelFits, LoadsTypes};
-ghost use Rattle.cu_op.specs.Layout.{IsArray};
+ghost use Rattle.cu_op.specs.Layout.{IsArray, layout_view};
 ghost use Rattle.cu_op.specs.Names.{HasOwnNames};
 ghost use Rattle.cu_op.specs.OneMap.{OneMap, AddsAlike, addition_of};
 ghost use Rattle.cu_op.specs.Operation.{reads_of, target_of, IsAligned};
-ghost use Rattle.cu_op.specs.PlanView.{PlanView, operation_at};
+ghost use Rattle.cu_op.specs.PlanView.{PlanView};
 ghost use Rattle.cu_op.specs.Projection.{projection, instruction_count};
+ghost use Rattle.cu_op.specs.Schedule.{op_of, task_at, WritesCell, IsReady};
 ghost use Rattle.cu_op.specs.Sound.{Sound, IsCell, KeysDiffer};
 ghost use Rattle.cu_op.specs.Value.{Elements, rule, plan_value, stored_inputs, ReadsAt, HasTypes, Solves};
+ghost use Rattle.cu_op.specs.Walks.{written_chunks, read_chunks, EachOnce};
+ghost use Rattle.cu_zarr.specs.Spelling.{spelled};
 
-use cu_grid::one_chunk_each;
 use cu_num::{element_law, promotion_law, wrap_law};
 
 /// The value of a sound plan solves its equations, and a rule depends on the elements that it reads alone.
@@ -46,24 +49,48 @@ pub fn range_law()
     element_law();
 }
 
-/// Each chunk of each made array of a sound plan is written by exactly one task, and a task's lists name each chunk once.
+/// Each chunk of each made array of a sound plan is written by exactly one task, which is of the operation that is the array's
+/// maker, and whose number is that of the region in which the chunk begins. A task's lists name each chunk once.
 pub fn task_law()
     ensures some { (p : PlanView) (a : ℕ) (coord : List ℕ) → Sound p → IsCell p.arrays a coord → (k : ℕ) × (task : ℕ) × WritesCell p k task a coord }
     ensures only { (p : PlanView) (k task l other a : ℕ) (coord : List ℕ) → Sound p → WritesCell p k task a coord → WritesCell p l other a coord
         → (k ≡ l) × (task ≡ other) }
     ensures cell { (p : PlanView) (k task a : ℕ) (coord : List ℕ) → Sound p → WritesCell p k task a coord → IsCell p.arrays a coord }
-    ensures outputs { (op : Op) (arrays : List ArrayInfo) (task : ℕ) → EachOnce (outputs_of arrays op task) }
-    ensures inputs { (op : Op) (arrays : List ArrayInfo) (task : ℕ) → EachOnce (inputs_of arrays op task) }
+    ensures maker { (p : PlanView) (k task a : ℕ) (coord : List ℕ) → Sound p → WritesCell p k task a coord → maker_at p.arrays a ≡ Some k }
+    ensures number { (p : PlanView) (k task a : ℕ) (coord : List ℕ) → Sound p → WritesCell p k task a coord
+        → task ≡ task_at p.arrays (op_of p k) (cell a coord) }
+    ensures at { (p : PlanView) (k a : ℕ) (coord : List ℕ) → Sound p → IsCell p.arrays a coord → maker_at p.arrays a ≡ Some k
+        → WritesCell p k (task_at p.arrays (op_of p k) (cell a coord)) a coord }
+    ensures outputs { (p : PlanView) (k task : ℕ) → Sound p → k < length p.ops → task < tasks_of p.arrays (op_of p k)
+        → EachOnce (written_chunks p.arrays (op_of p k) task) }
+    ensures inputs { (p : PlanView) (k task : ℕ) → Sound p → k < length p.ops → task < tasks_of p.arrays (op_of p k)
+        → EachOnce (read_chunks p.arrays (op_of p k) task) }
 {}
 
-/// The elements that a task's rule reads lie inside their arrays, in the chunks that the task reads.
+/// The elements that a task's rule reads lie inside their arrays, in the chunks that the task reads; and each of those is a chunk of
+/// an array that the operation reads.
 pub fn input_law()
-    ensures { (p : PlanView) (k task array a : ℕ) (coord idx i : List ℕ) → Sound p → WritesCell p k task array coord
-        → IsInChunk (grid_at p.arrays array) coord idx → ReadsAt (operation_at p.ops k).op p.arrays idx a i
-        → IsInside (grid_at p.arrays a).shape i × Contains (inputs_of p.arrays (operation_at p.ops k).op task) (cell a (quotients i (grid_at p.arrays a).chunk)) }
-{
-    one_chunk_each();
-}
+    ensures reads { (p : PlanView) (k task array a : ℕ) (coord idx i : List ℕ) → Sound p → WritesCell p k task array coord
+        → IsInChunk (grid_at p.arrays array) coord idx → ReadsAt (op_of p k) p.arrays idx a i
+        → IsInside (grid_at p.arrays a).shape i × Contains (read_chunks p.arrays (op_of p k) task) (cell a (quotients i (grid_at p.arrays a).chunk)) }
+    ensures arrays { (p : PlanView) (k task : ℕ) (c : Cell) → Sound p → k < length p.ops → task < tasks_of p.arrays (op_of p k)
+        → Contains (read_chunks p.arrays (op_of p k) task) c → Contains (reads_of (op_of p k)) c.array × IsChunk p.arrays c }
+{}
+
+/// A chunk that has a spelling has an element at each of its indices, and arrays that agree at these spell it alike.
+pub fn chunk_law()
+    ensures defined { (a : ArrayInfo) (f : List ℕ → Option ℤ) (coord idx bytes : List ℕ) → IsArray a → IsCoordinate a.layout.grid coord
+        → spelled (layout_view a.layout) f coord ≡ Some bytes → IsInChunk a.layout.grid coord idx → (x : ℤ) × (f idx ≡ Some x) }
+    ensures alike { (a : ArrayInfo) (f g : List ℕ → Option ℤ) (coord : List ℕ) → IsArray a → IsCoordinate a.layout.grid coord
+        → ((idx : List ℕ) → IsInChunk a.layout.grid coord idx → f idx ≡ g idx) → spelled (layout_view a.layout) f coord ≡ spelled (layout_view a.layout) g coord }
+{}
+
+/// Where a task is ready, its operation's rule over what is held gives each chunk that it writes its array's values.
+pub fn ready_law()
+    ensures { (p : PlanView) (k task array : ℕ) (env : Elements) (held : List ℕ → Option (List ℕ)) (coord idx : List ℕ) → Sound p → IsReady p k task env held
+        → WritesCell p k task array coord → IsInChunk (grid_at p.arrays array) coord idx
+        → rule (op_of p k) p.arrays (stored_inputs p.arrays held) array idx ≡ plan_value p env array idx }
+{}
 
 /// The coordinates of the chunks of a sound plan are below 1,048,576. Where different made arrays have different prefixes, and
 /// all the encoding "default" with "/", no key stands twice among their chunks.

@@ -8,15 +8,18 @@ mod layout;
 mod memory;
 mod operation;
 mod plan;
+mod regions;
 mod schedule;
-#[cfg(test)]
-mod tests;
+mod walks;
 
-pub use cells::{Cell, Cells1, Cells2};
+pub use cells::Cell;
 pub use kernel::{Instr, Kernel};
-pub use laws::{input_law, key_law, one_map_law, range_law, task_law, value_law};
+pub use laws::{
+    chunk_law, input_law, key_law, one_map_law, range_law, ready_law, task_law, value_law,
+};
 pub use layout::{ArrayInfo, Layout};
 pub use memory::projection_of;
 pub use operation::{Op, Planned};
 pub use plan::Plan;
-pub use schedule::{inputs, outputs, projected, tasks};
+pub use schedule::{input_walks, inputs, outputs, projected, task_grid, task_region, tasks};
+pub use walks::{Cells1, Cells2, Walk};

@@ -30,6 +30,16 @@ impl Op {
         }
     }
 
+    /// An array that it reads, by its place among them.
+    pub fn read_at(&self, at: u32) -> Option<u32>
+        ensures array { result ≡ slice_get (reads_of self.now) at }
+        ensures few { OnSome result (at < 8) }
+    {
+        match self {
+            Op::Map { ins, .. } => ins.as_slice().get(at as usize).copied(),
+        }
+    }
+
     /// An array that it writes, by its place among them.
     pub fn written(&self, at: u32) -> Option<u32>
         ensures array { result ≡ slice_get (writes_of self.now) at }

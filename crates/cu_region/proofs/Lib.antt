@@ -4,4 +4,5 @@ pub mod SteadyKeys
 pub mod StoredReads
 pub mod StoredWrites
 pub mod Together
+pub mod Truths
 pub mod Whole

@@ -1,5 +1,5 @@
 -- The bytes of a chunk that is laid out of a region are the chunk's spelling, and what is stored of a region stays.
-use Rattle.std.proofs.Common.{◌≡◌, ◌⊎◌, ℕ, ℤ, suc, ◌+◌, ◌*◌, ◌^◌, ◌<◌, ◌≤◌, List, ◌∷◌, ◌++◌, length, take, All, Contains, Option, Some, None, Bool, true, false, option_map, refl, sym, ap, ◌∙◌, subst, inl, inr, arith}
+use Rattle.std.proofs.Common.{◌≡◌, ◌⊎◌, ℕ, ℤ, suc, ◌+◌, ◌*◌, ◌^◌, ◌<◌, ◌≤◌, List, ◌∷◌, length, All, Contains, Option, Some, None, Bool, true, false, option_map, refl, sym, ap, ◌∙◌, subst, inl, inr, arith}
 use Rattle.std.specs.Prelude.{if◌then◌else◌, reverse}
 use Rattle.std.proofs.lemmas.Nat.{mul-le}
 use Rattle.cu_num.specs.Dtype.{size_of}
@@ -13,7 +13,7 @@ use Rattle.cu_num.proofs.ElementBytes.{element_at_own, element_at-element_bytes}
 use Rattle.cu_num.proofs.Wrapped.{wrapped-wrapped}
 use Rattle.cu_shape.specs.Index.{product, index_at, is_inside}
 use Rattle.cu_shape.proofs.Places.{inside-length, inside_from_test, index-inside, place-below}
-use Rattle.cu_grid.specs.Counts.{IsWithin}
+use Rattle.cu_grid.specs.Counts.{IsRegion, IsWithin}
 use Rattle.cu_grid.specs.Cover.{Meets}
 use Rattle.cu_grid.specs.Grid.{RegularGrid, IsGrid, IsCoordinate, IsInChunk}
 use Rattle.cu_grid.proofs.Parting.{lies_within}
@@ -23,21 +23,23 @@ use Rattle.cu_zarr.specs.Spelling.{padded}
 use Rattle.cu_zarr.proofs.Joined.{joined_by_place}
 use Rattle.cu_op.specs.Layout.{layout_view}
 use Rattle.cu_op.specs.declared.layout.ArrayInfo.{ArrayInfo}
-use Rattle.cu_codec.specs.Parts.{part_at, place_within, differences, index_at_place, IsLaid}
+use Rattle.cu_codec.specs.Order.{IsReordered}
+use Rattle.cu_codec.specs.Parts.{part_at, place_within, differences, index_at_place, IsLaid, IsOneChunk}
+use Rattle.cu_codec.proofs.OneChunk.{whole_laid, one_chunk_differences}
 use Rattle.cu_codec.proofs.Shared.{within_sizes}
 use Rattle.cu_codec.proofs.Swapped.{big_from_little}
 use Rattle.cu_codec.proofs.Taken.{corner_parts}
-use Rattle.cu_region.specs.Order.{IsReordered}
 use Rattle.cu_region.specs.Reading.{key_at, bytes_of}
 use Rattle.std.specs.Prelude.{Bool as Test}
-use Rattle.std.proofs.lemmas.List.{take-append-le, take_all}
+use Rattle.std.proofs.lemmas.List.{take_all}
 use Rattle.cu_codec.proofs.KeyLaws.{same_chunk}
 use Rattle.cu_store.specs.Held.{Contents, Write, IsAmong, OwnOrLate, IsKeptAt, Lands, StayAmong, Follows, Holds}
+use Rattle.cu_store.specs.Steps.{Within, PutOf}
 use Rattle.cu_store.proofs.Writes.{lands_then}
 use Rattle.cu_store.specs.declared.faults.TaskFault.{TaskFault}
 use Rattle.cu_store.specs.declared.faults.TaskFault.TheVariants.{Store, BadChunk, NoMemory}
 use Rattle.cu_region.proofs.SteadyKeys.{first_or_rest}
-use Rattle.cu_region.specs.Writing.{AreElements, buffer_element, chunk_value, IsOwnOrLate, LateIsOwn, StoresChunk, HasValues, IsWriteFault}
+use Rattle.cu_region.specs.Writing.{AreElements, buffer_element, chunk_value, RegionPut, IsOwnOrLate, LateIsOwn, StoresChunk, HasValues, IsWriteFault}
 
 wrapped_bytes : (e : Endian) (t : Dtype) (x : ℤ) → element_bytes e t (wrapped t x) ≡ element_bytes e t x
 unfolding element_bytes
@@ -109,8 +111,26 @@ laid_spelled info coord lo hi input old new ok here whole long elements laid ord
         let (x, e) = elements (place_within lo hi (index_at_place info.layout.grid.chunk coord p)) (omega arith) in
         element_again info.layout.dtype input (place_within lo hi (index_at_place info.layout.grid.chunk coord p)) x e
 
-pub value_front : (n : ℕ) (value : Option (List ℕ)) (chunk rest : List ℕ) → length chunk ≡ n → value ≡ Some chunk → value ≡ Some (take n (chunk ++ rest))
-value_front n value chunk rest long e = e ∙ ap Some (sym (take-append-le n chunk rest (omega arith) ∙ take_all n chunk (omega arith)))
+-- the buffer of a region that is one chunk, stored little-endian
+pub whole_spelled : (info : ArrayInfo) (coord lo hi input : List ℕ) → IsGrid info.layout.grid → IsRegion info.layout.grid.shape lo hi → IsCoordinate info.layout.grid coord
+    → IsOneChunk info.layout.grid.chunk coord lo hi → info.layout.endian ≡ Little
+    → ((idx : List ℕ) → IsInChunk info.layout.grid coord idx → IsWithin lo hi idx)
+    → length input ≡ product (differences hi lo) * size_of info.layout.dtype → AreElements info.layout.dtype input
+    → chunk_value info lo hi input coord ≡ Some input
+whole_spelled info coord lo hi input ok region here one little whole long elements =
+    let sized : length input ≡ bytes_of info.layout = long ∙ ap (λ x. product x * size_of info.layout.dtype) (one_chunk_differences info.layout.grid coord lo hi ok here region one) in
+    let same : input ≡ input = refl in
+    laid_spelled info coord lo hi input input input ok here whole long elements
+    (whole_laid info.layout.grid coord lo hi ok here region one info.layout.dtype info.layout.fill input)
+    (subst (λ (o : Endian). IsReordered o (size_of info.layout.dtype) input input) (sym little) same) sized sized
+
+-- the put of a chunk's value is one of the region's changes
+pub put_own : (info : ArrayInfo) (lo hi input coord bytes : List ℕ) → Meets info.layout.grid lo hi coord → chunk_value info lo hi input coord ≡ Some bytes
+    → Within (PutOf (key_at info coord) bytes) (RegionPut info lo hi input)
+put_own info lo hi input coord bytes meets value key v put = (bytes, put.1, (coord, meets, put.0, value))
+
+pub one_value : (v : Option (List ℕ)) (a b : List ℕ) → v ≡ Some a → v ≡ Some b → a ≡ b
+one_value v a b p q = cc
 
 -- ---- several chunks, one after another
 

@@ -2,8 +2,9 @@
 use Rattle.std.specs.Prelude.{◌≡◌, ◌≢◌, ℕ, ◌+◌, ◌*◌, ◌≤◌, Bool, IsTrue, List, length, Option, Some, None}
 use Rattle.cu_num.specs.Dtype.{size_of}
 use Rattle.cu_num.specs.Element.{element_at, element_bytes}
+use Rattle.cu_num.specs.declared.layout.Endian.{Endian}
 use Rattle.cu_num.specs.declared.layout.Endian.TheVariants.{Little}
-use Rattle.cu_shape.specs.Index.{product, quotients}
+use Rattle.cu_shape.specs.Index.{product, place_of, quotients, remainders, IsInside}
 use Rattle.cu_grid.specs.Counts.{IsWithin}
 use Rattle.cu_grid.specs.Cover.{Meets}
 use Rattle.cu_grid.specs.Grid.{RegularGrid, IsInChunk}
@@ -17,7 +18,7 @@ use Rattle.cu_op.specs.Layout.{layout_view}
 use Rattle.cu_op.specs.declared.layout.ArrayInfo.{ArrayInfo}
 use Rattle.cu_op.specs.declared.layout.Layout.{Layout}
 use Rattle.cu_codec.specs.Parts.{part_at, place_within}
-use Rattle.cu_region.specs.Order.{IsReordered}
+use Rattle.cu_codec.specs.Order.{IsReordered}
 use Rattle.cu_region.specs.Steady.{HoldsLength}
 
 -- the key of an array's chunk
@@ -37,6 +38,16 @@ abbrev pub IsChunkOf : Layout → Option (List ℕ) → List ℕ → Type 0
 IsChunkOf l None buf = (p : ℕ) → p * size_of l.dtype + size_of l.dtype ≤ length buf → part_at (size_of l.dtype) buf p ≡ element_bytes Little l.dtype l.fill
 IsChunkOf l (Some bytes) buf = IsReordered l.endian (size_of l.dtype) bytes buf
 
+-- the bytes of a chunk as they are stored, and their order; where the chunk is absent, the fill value at each place, little-endian
+abbrev pub IsRawOf : Layout → Option (List ℕ) → Endian → List ℕ → Type 0
+IsRawOf l None e buf = (e ≡ Little) × ((p : ℕ) → p * size_of l.dtype + size_of l.dtype ≤ length buf → part_at (size_of l.dtype) buf p ≡ element_bytes Little l.dtype l.fill)
+IsRawOf l (Some bytes) e buf = (e ≡ l.endian) × (buf ≡ bytes)
+
+-- the same of a key, where the contents are told
+abbrev pub Fetches : Layout → Option Contents → List ℕ → Endian → List ℕ → Type 0
+Fetches l None key e buf = Unit {0}
+Fetches l (Some held) key e buf = IsRawOf l (held key) e buf
+
 abbrev pub ReadsChunk : Layout → Option Contents → List ℕ → List ℕ → Type 0
 ReadsChunk l None key buf = Unit {0}
 ReadsChunk l (Some held) key buf = IsChunkOf l (held key) buf
@@ -46,6 +57,12 @@ abbrev pub IsStoredAt : ArrayInfo → List ℕ → List ℕ → Option Contents 
 IsStoredAt info lo hi None out idx = Unit {0}
 IsStoredAt info lo hi (Some held) out idx =
     stored_element (layout_view info.layout) info.prefix held idx ≡ Some (element_at Little info.layout.dtype out (place_within lo hi idx))
+
+-- the buffer has the chunk at this coordinate: at its place in the chunk, each of the array's elements that lie in it, where the contents are told
+abbrev pub HasChunk : ArrayInfo → List ℕ → Option Contents → List ℕ → Type 0
+HasChunk info coord None buf = Unit {0}
+HasChunk info coord (Some held) buf = (idx : List ℕ) → IsInside info.layout.grid.shape idx → quotients idx info.layout.grid.chunk ≡ coord
+    → stored_element (layout_view info.layout) info.prefix held idx ≡ Some (element_at Little info.layout.dtype buf (place_of info.layout.grid.chunk (remainders idx info.layout.grid.chunk)))
 
 -- element by element, the buffer is what is stored of the region
 abbrev pub ReadsRegion : ArrayInfo → List ℕ → List ℕ → Option Contents → List ℕ → Type 0

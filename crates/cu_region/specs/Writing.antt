@@ -9,6 +9,7 @@ use Rattle.cu_grid.specs.Cover.{Meets}
 use Rattle.cu_grid.specs.Grid.{RegularGrid, IsInChunk}
 use Rattle.cu_store.specs.Faults.{Rose}
 use Rattle.cu_store.specs.Held.{Contents, Write, IsAmong, Holds}
+use Rattle.cu_store.specs.Steps.{Changes}
 use Rattle.cu_store.specs.declared.faults.TaskFault.{TaskFault}
 use Rattle.cu_store.specs.declared.faults.TaskFault.TheVariants.{Store, BadChunk, NoMemory}
 use Rattle.cu_zarr.specs.Spelling.{spelled}
@@ -36,6 +37,10 @@ chunk_value info lo hi input coord = spelled (layout_view info.layout) (buffer_e
 -- this key is that of one of the region's chunks, and these bytes are its value
 abbrev pub IsOwn : ArrayInfo → List ℕ → List ℕ → List ℕ → List ℕ → List ℕ → Type 0
 IsOwn info lo hi input key bytes = (coord : List ℕ) × Meets info.layout.grid lo hi coord × (key ≡ key_at info coord) × (chunk_value info lo hi input coord ≡ Some bytes)
+
+-- the same as a change
+abbrev pub RegionPut : ArrayInfo → List ℕ → List ℕ → List ℕ → Changes
+RegionPut info lo hi input key value = (bytes : List ℕ) × (value ≡ Some bytes) × IsOwn info lo hi input key bytes
 
 -- one of the region's chunks with its value, or a late put
 abbrev pub IsOwnOrLate : ArrayInfo → List ℕ → List ℕ → List ℕ → List Write → List ℕ → List ℕ → Type 0

@@ -1,19 +1,20 @@
 //! Regions that are read.
-ghost use Rattle.std.specs.Prelude.{◌≡◌, ℕ, ◌+◌, ◌*◌, ◌<◌, ◌≤◌, List, Option, All, length, IfErr, OnOk};
+ghost use Rattle.std.specs.Prelude.{◌≡◌, ℕ, ◌+◌, ◌*◌, ◌<◌, ◌≤◌, List, Option, All, length, IfOk, IfErr, OnOk};
 ghost use Rattle.cu_num.specs.Dtype.{size_of, InRange};
 ghost use Rattle.cu_shape.specs.Index.{product};
 ghost use Rattle.cu_grid.specs.Counts.{IsRegion};
 ghost use Rattle.cu_grid.specs.Cover.{Meets};
 ghost use Rattle.cu_grid.specs.Grid.{IsGrid};
-ghost use Rattle.cu_store.specs.Faults.{MadeOne};
 ghost use Rattle.cu_store.specs.Held.{Contents, Write, IsAmong, Lands, StayAmong, Follows};
+ghost use Rattle.cu_store.specs.Steps.{MadeCalls, NoChange, Steps};
 ghost use Rattle.cu_codec.specs.Parts.{differences};
-ghost use Rattle.cu_region.specs.Reading.{key_at, IsChunkKey, bytes_of, ReadsChunk, ReadsRegion, ReadsPart, IsReadFault};
+ghost use Rattle.cu_region.specs.Reading.{key_at, IsChunkKey, bytes_of, Fetches, ReadsChunk, HasChunk, ReadsRegion, ReadsPart, IsReadFault};
 ghost use Rattle.cu_region.specs.Calls.{chunks_met, Made};
-ghost use Rattle.cu_region.specs.Order.{IsReordered};
 ghost use Rattle.cu_region.specs.Steady.{IsSteady, HoldSame};
+ghost use Rattle.cu_region.specs.Writing.{AreElements};
 
-use cu_codec::{chunk_key, fill_with, swap, take_part};
+use crate::settle::settle;
+use cu_codec::{chunk_bytes, chunk_key, fill_with, is_one_chunk, reorder, take_part};
 use cu_grid::Region;
 use cu_num::{Endian, size};
 use cu_op::{ArrayInfo, Layout};
@@ -21,8 +22,9 @@ use cu_shape::Dims;
 use cu_store::{Depot, DepotFault, Got, Key, TaskFault};
 
 /// Reads a region of a stored array, in either byte order, into a buffer, row-major and little-endian. Each chunk that
-/// shares an element with the region is read once, through `scratch`, which has at least the bytes of a chunk; an absent
-/// chunk reads as the fill value.
+/// shares an element with the region is read once, through `scratch`, which has at least the bytes of a chunk, but a region
+/// that is one whole chunk is read straight into its buffer. An absent chunk reads as the fill value, and a stored truth byte
+/// other than 0 and 1 as 1: what was read are elements, which can be written again.
 pub fn read_region<D: Depot>(
     depot: &mut D,
     info: &ArrayInfo,
@@ -36,26 +38,59 @@ pub fn read_region<D: Depot>(
     requires coordinates { (coord : List ℕ) → Meets info.now.layout.grid region.now.lo region.now.hi coord → All (λ i. i < 1048576) coord }
     requires out_length { length out.old ≡ product (differences region.now.hi region.now.lo) * size_of info.now.layout.dtype }
     requires scratch_length { bytes_of info.now.layout ≤ length scratch.old }
-    ensures read { IsSteady (IsChunkKey info.now region.now.lo region.now.hi) (D.held depot.old) (D.late depot.old)
-        → OnOk result (ReadsRegion info.now region.now.lo region.now.hi (D.held depot.new) out.new) }
-    ensures same { IsSteady (IsChunkKey info.now region.now.lo region.now.hi) (D.held depot.old) (D.late depot.old)
-        → HoldSame (IsChunkKey info.now region.now.lo region.now.hi) (D.held depot.old) (D.held depot.new) }
-    ensures steady { IsSteady (IsChunkKey info.now region.now.lo region.now.hi) (D.held depot.old) (D.late depot.old)
-        → IsSteady (IsChunkKey info.now region.now.lo region.now.hi) (D.held depot.new) (D.late depot.new) }
-    ensures kept { Lands (IsAmong (D.late depot.old)) (D.held depot.old) (D.held depot.new) }
-    ensures late { StayAmong (D.late depot.new) (IsAmong (D.late depot.old)) }
+    ensures elements { OnOk result (AreElements info.now.layout.dtype out.new) }
+    ensures read { IsSteady (IsChunkKey info.now region.now.lo region.now.hi) (D.shown depot.old).held (D.shown depot.old).late
+        → OnOk result (ReadsRegion info.now region.now.lo region.now.hi (D.shown depot.new).held out.new) }
+    ensures same { IsSteady (IsChunkKey info.now region.now.lo region.now.hi) (D.shown depot.old).held (D.shown depot.old).late
+        → HoldSame (IsChunkKey info.now region.now.lo region.now.hi) (D.shown depot.old).held (D.shown depot.new).held }
+    ensures steady { IsSteady (IsChunkKey info.now region.now.lo region.now.hi) (D.shown depot.old).held (D.shown depot.old).late
+        → IsSteady (IsChunkKey info.now region.now.lo region.now.hi) (D.shown depot.new).held (D.shown depot.new).late }
+    ensures step { Steps NoChange 0 (chunks_met info.now.layout.grid region.now.lo region.now.hi) (D.shown depot.old) (D.shown depot.new) }
+    ensures kept { Lands (IsAmong (D.shown depot.old).late) (D.shown depot.old).held (D.shown depot.new).held }
+    ensures late { StayAmong (D.shown depot.new).late (IsAmong (D.shown depot.old).late) }
     ensures follows { (writes : List Write) (entry : Option Contents)
-        → Follows writes entry (D.held depot.old) (D.late depot.old) → Follows writes entry (D.held depot.new) (D.late depot.new) }
-    ensures cause { IfErr result (IsReadFault (D.faults depot.old) (D.faults depot.new) (D.lacks depot.new) (D.held depot.new)
+        → Follows writes entry (D.shown depot.old).held (D.shown depot.old).late → Follows writes entry (D.shown depot.new).held (D.shown depot.new).late }
+    ensures cause { IfErr result (IsReadFault (D.shown depot.old).faults (D.shown depot.new).faults (D.shown depot.new).lacks (D.shown depot.new).held
         (IsChunkKey info.now region.now.lo region.now.hi) (bytes_of info.now.layout)) }
-    ensures count { D.faults depot.old ≤ D.faults depot.new }
-    ensures calls { D.calls depot.new ≤ D.calls depot.old + chunks_met info.now.layout.grid region.now.lo region.now.hi }
-    ensures calls_all { OnOk result (Made (chunks_met info.now.layout.grid region.now.lo region.now.hi) (D.calls depot.old) (D.calls depot.new)) }
-    ensures lacks { D.lacks depot.new ≡ D.lacks depot.old }
+    ensures count { (D.shown depot.old).faults ≤ (D.shown depot.new).faults }
+    ensures calls { (D.shown depot.new).calls ≤ (D.shown depot.old).calls + chunks_met info.now.layout.grid region.now.lo region.now.hi }
+    ensures calls_all { OnOk result (Made (chunks_met info.now.layout.grid region.now.lo region.now.hi) (D.shown depot.old).calls (D.shown depot.new).calls) }
+    ensures lacks { (D.shown depot.new).lacks ≡ (D.shown depot.old).lacks }
 {
     for coord in info.layout.grid.cover(region) {
         read_part(depot, info, &coord, region, out, scratch)?;
     }
+    settle(info.layout.dtype, out);
+    Ok(())
+}
+
+/// Reads the chunk at this coordinate of a stored array, in either byte order, into a buffer of a chunk's bytes, row-major and
+/// little-endian. An absent chunk reads as the fill value. It makes one call of the depot.
+pub fn read_chunk<D: Depot>(
+    depot: &mut D,
+    info: &ArrayInfo,
+    coord: &Dims,
+    buf: &mut [u8],
+) -> Result<(), TaskFault>
+    requires short { length info.now.prefix ≤ 45 }
+    requires fill { InRange info.now.layout.dtype info.now.layout.fill }
+    requires small { All (λ i. i < 1048576) coord.now }
+    requires length { length buf.old ≡ bytes_of info.now.layout }
+    ensures read { OnOk result (HasChunk info.now coord.now (D.shown depot.new).held buf.new) }
+    ensures elements { OnOk result (AreElements info.now.layout.dtype buf.new) }
+    ensures step { Steps NoChange 1 1 (D.shown depot.old) (D.shown depot.new) }
+    ensures kept { Lands (IsAmong (D.shown depot.old).late) (D.shown depot.old).held (D.shown depot.new).held }
+    ensures late { StayAmong (D.shown depot.new).late (IsAmong (D.shown depot.old).late) }
+    ensures cause { IfErr result (IsReadFault (D.shown depot.old).faults (D.shown depot.new).faults (D.shown depot.new).lacks (D.shown depot.new).held
+        (λ key. key ≡ key_at info.now coord.now) (bytes_of info.now.layout)) }
+    ensures count { (D.shown depot.old).faults ≤ (D.shown depot.new).faults }
+    ensures calls { MadeCalls 1 1 (D.shown depot.old).calls (D.shown depot.new).calls }
+    ensures lacks { (D.shown depot.new).lacks ≡ (D.shown depot.old).lacks }
+{
+    let _grid = info.layout.grid.shape();
+    let key = chunk_key(&info.prefix, info.layout.encoding, coord);
+    read_bytes(depot, &key, &info.layout, buf)?;
+    settle(info.layout.dtype, buf);
     Ok(())
 }
 
@@ -76,22 +111,27 @@ fn read_part<D: Depot>(
     requires coordinate { All (λ i. i < 1048576) coord.now }
     requires out_length { length out.old ≡ product (differences region.now.hi region.now.lo) * size_of info.now.layout.dtype }
     requires scratch_length { bytes_of info.now.layout ≤ length scratch.old }
-    ensures part { OnOk result (ReadsPart info.now coord.now region.now.lo region.now.hi (D.held depot.new) out.old out.new) }
-    ensures kept { Lands (IsAmong (D.late depot.old)) (D.held depot.old) (D.held depot.new) }
-    ensures late { StayAmong (D.late depot.new) (IsAmong (D.late depot.old)) }
-    ensures cause { IfErr result (IsReadFault (D.faults depot.old) (D.faults depot.new) (D.lacks depot.new) (D.held depot.new)
+    ensures part { OnOk result (ReadsPart info.now coord.now region.now.lo region.now.hi (D.shown depot.new).held out.old out.new) }
+    ensures step { Steps NoChange 1 1 (D.shown depot.old) (D.shown depot.new) }
+    ensures kept { Lands (IsAmong (D.shown depot.old).late) (D.shown depot.old).held (D.shown depot.new).held }
+    ensures late { StayAmong (D.shown depot.new).late (IsAmong (D.shown depot.old).late) }
+    ensures cause { IfErr result (IsReadFault (D.shown depot.old).faults (D.shown depot.new).faults (D.shown depot.new).lacks (D.shown depot.new).held
         (λ key. key ≡ key_at info.now coord.now) (bytes_of info.now.layout)) }
-    ensures count { D.faults depot.old ≤ D.faults depot.new }
-    ensures calls { MadeOne (D.calls depot.old) (D.calls depot.new) }
-    ensures lacks { D.lacks depot.new ≡ D.lacks depot.old }
+    ensures count { (D.shown depot.old).faults ≤ (D.shown depot.new).faults }
+    ensures calls { MadeCalls 1 1 (D.shown depot.old).calls (D.shown depot.new).calls }
+    ensures lacks { (D.shown depot.new).lacks ≡ (D.shown depot.old).lacks }
 {
-    let bytes = chunk_bytes(&info.layout);
-    let key = chunk_key(&info.prefix, info.layout.encoding, coord);
-    let chunk = &mut scratch[..bytes];
-    read_chunk(depot, &key, &info.layout, chunk)?;
+    let layout = &info.layout;
+    let key = chunk_key(&info.prefix, layout.encoding, coord);
+    if is_one_chunk(&layout.grid, coord, region) {
+        return read_bytes(depot, &key, layout, out);
+    }
+    let chunk = &mut scratch[..chunk_bytes(&layout.grid, layout.dtype)];
+    let order = fetch(depot, &key, layout, chunk)?;
     take_part(
-        &info.layout.grid,
-        u64::from(size(info.layout.dtype)),
+        &layout.grid,
+        u64::from(size(layout.dtype)),
+        order,
         coord,
         chunk,
         region,
@@ -100,55 +140,58 @@ fn read_part<D: Depot>(
     Ok(())
 }
 
-/// The bytes of a chunk.
-pub(crate) fn chunk_bytes(layout: &Layout) -> usize
-    ensures { result ≡ bytes_of layout.now }
-{
-    match layout.grid.chunk().elements() {
-        Some(count) => (count * u64::from(size(layout.dtype))) as usize,
-        None => unreachable!(),
-    }
-}
-
-/// Turns the bytes of a chunk from the layout's byte order into little-endian ones, or back.
-pub(crate) fn reorder(layout: &Layout, chunk: &mut [u8])
-    requires { length chunk.old ≡ bytes_of layout.now }
-    ensures { IsReordered layout.now.endian (size_of layout.now.dtype) chunk.old chunk.new }
-{
-    match layout.endian {
-        Endian::Little => {}
-        Endian::Big => swap(u64::from(size(layout.dtype)), chunk),
-    }
-}
-
 /// Reads the chunk under this key into `buf`, which has the bytes of a chunk, little-endian. An absent chunk reads as
 /// the fill value.
-fn read_chunk<D: Depot>(
+fn read_bytes<D: Depot>(
     depot: &mut D,
     key: &Key,
     layout: &Layout,
     buf: &mut [u8],
 ) -> Result<(), TaskFault>
     requires { length buf.old ≡ bytes_of layout.now }
-    ensures read { OnOk result (ReadsChunk layout.now (D.held depot.new) key.now buf.new) }
-    ensures kept { Lands (IsAmong (D.late depot.old)) (D.held depot.old) (D.held depot.new) }
-    ensures late { StayAmong (D.late depot.new) (IsAmong (D.late depot.old)) }
-    ensures cause { IfErr result (IsReadFault (D.faults depot.old) (D.faults depot.new) (D.lacks depot.new) (D.held depot.new)
+    ensures read { OnOk result (ReadsChunk layout.now (D.shown depot.new).held key.now buf.new) }
+    ensures step { Steps NoChange 1 1 (D.shown depot.old) (D.shown depot.new) }
+    ensures kept { Lands (IsAmong (D.shown depot.old).late) (D.shown depot.old).held (D.shown depot.new).held }
+    ensures late { StayAmong (D.shown depot.new).late (IsAmong (D.shown depot.old).late) }
+    ensures cause { IfErr result (IsReadFault (D.shown depot.old).faults (D.shown depot.new).faults (D.shown depot.new).lacks (D.shown depot.new).held
         (λ bad. bad ≡ key.now) (bytes_of layout.now)) }
-    ensures count { D.faults depot.old ≤ D.faults depot.new }
-    ensures calls { MadeOne (D.calls depot.old) (D.calls depot.new) }
-    ensures lacks { D.lacks depot.new ≡ D.lacks depot.old }
+    ensures count { (D.shown depot.old).faults ≤ (D.shown depot.new).faults }
+    ensures calls { MadeCalls 1 1 (D.shown depot.old).calls (D.shown depot.new).calls }
+    ensures lacks { (D.shown depot.new).lacks ≡ (D.shown depot.old).lacks }
+{
+    let order = fetch(depot, key, layout, buf)?;
+    reorder(order, u64::from(size(layout.dtype)), buf);
+    Ok(())
+}
+
+/// Reads the chunk under this key into `buf`, which has the bytes of a chunk, and says in which order the bytes of its elements
+/// are: as it is stored, or the fill value in little-endian order where the chunk is absent.
+fn fetch<D: Depot>(
+    depot: &mut D,
+    key: &Key,
+    layout: &Layout,
+    buf: &mut [u8],
+) -> Result<Endian, TaskFault>
+    requires { length buf.old ≡ bytes_of layout.now }
+    ensures fetched { IfOk result (λ e. Fetches layout.now (D.shown depot.new).held key.now e buf.new) }
+    ensures step { Steps NoChange 1 1 (D.shown depot.old) (D.shown depot.new) }
+    ensures kept { Lands (IsAmong (D.shown depot.old).late) (D.shown depot.old).held (D.shown depot.new).held }
+    ensures late { StayAmong (D.shown depot.new).late (IsAmong (D.shown depot.old).late) }
+    ensures cause { IfErr result (IsReadFault (D.shown depot.old).faults (D.shown depot.new).faults (D.shown depot.new).lacks (D.shown depot.new).held
+        (λ bad. bad ≡ key.now) (bytes_of layout.now)) }
+    ensures count { (D.shown depot.old).faults ≤ (D.shown depot.new).faults }
+    ensures calls { MadeCalls 1 1 (D.shown depot.old).calls (D.shown depot.new).calls }
+    ensures lacks { (D.shown depot.new).lacks ≡ (D.shown depot.old).lacks }
 {
     match depot.get(key, buf) {
         Ok(Got::Absent) => {
             fill_with(layout.dtype, layout.fill, buf);
-            Ok(())
+            Ok(Endian::Little)
         }
         Ok(Got::Held(got)) => {
             let want = buf.len() as u64;
             if got == want {
-                reorder(layout, buf);
-                Ok(())
+                Ok(layout.endian)
             } else {
                 Err(TaskFault::BadChunk {
                     key: *key,

@@ -1,27 +1,28 @@
 //! Regions that are written.
-ghost use Rattle.std.specs.Prelude.{◌≡◌, ℕ, ◌+◌, ◌*◌, ◌<◌, ◌≤◌, List, Option, Some, All, length, take, IfErr, OnOk};
+ghost use Rattle.std.specs.Prelude.{◌≡◌, ℕ, ◌+◌, ◌*◌, ◌<◌, ◌≤◌, List, Option, Some, All, IsTrue, length, IfErr, OnOk};
 ghost use Rattle.cu_num.specs.Dtype.{size_of, InRange};
 ghost use Rattle.cu_shape.specs.Index.{product};
 ghost use Rattle.cu_grid.specs.Counts.{IsRegion};
 ghost use Rattle.cu_grid.specs.Cover.{Meets};
-ghost use Rattle.cu_grid.specs.Grid.{IsGrid};
-ghost use Rattle.cu_store.specs.Faults.{MadeOne};
+ghost use Rattle.cu_grid.specs.Grid.{IsGrid, IsCoordinate};
 ghost use Rattle.cu_store.specs.Held.{Contents, Write, OwnOrLate, Lands, StayAmong, Follows, Holds};
-ghost use Rattle.cu_codec.specs.Parts.{differences};
+ghost use Rattle.cu_store.specs.Steps.{MadeCalls, PutOf, Steps};
+ghost use Rattle.cu_codec.specs.Parts.{differences, IsOneChunk};
 ghost use Rattle.cu_region.specs.Calls.{chunks_met, Made};
 ghost use Rattle.cu_region.specs.Reading.{key_at, bytes_of};
-ghost use Rattle.cu_region.specs.Writing.{AreElements, HasWholeChunks, chunk_value, IsOwnOrLate, LateIsOwn, StoresRegion, HasValues, IsWriteFault};
+ghost use Rattle.cu_region.specs.Writing.{AreElements, HasWholeChunks, chunk_value, RegionPut, IsOwnOrLate, LateIsOwn, StoresRegion, HasValues, IsWriteFault};
 
-use crate::read::{chunk_bytes, reorder};
-use cu_codec::{chunk_key, lay_part};
+use cu_codec::{chunk_bytes, chunk_key, is_one_chunk, lay_part, reorder};
 use cu_grid::Region;
+use cu_num::{Endian, size};
 use cu_op::ArrayInfo;
 use cu_shape::Dims;
-use cu_store::{Depot, DepotFault, TaskFault};
+use cu_store::{Depot, DepotFault, Key, TaskFault};
 
 /// Writes a region of a stored array, in either byte order, from a buffer, row-major and little-endian. Each chunk that
 /// shares an element with the region lies whole in it, and is stored once, through `scratch`, which has at least the bytes
-/// of a chunk; past the array's edge it has the fill value.
+/// of a chunk, but a region that is one whole chunk, stored little-endian, is put straight from its buffer. Past the array's
+/// edge a chunk has the fill value.
 pub fn write_region<D: Depot>(
     depot: &mut D,
     info: &ArrayInfo,
@@ -37,19 +38,21 @@ pub fn write_region<D: Depot>(
     requires input_length { length input.now ≡ product (differences region.now.hi region.now.lo) * size_of info.now.layout.dtype }
     requires elements { AreElements info.now.layout.dtype input.now }
     requires scratch_length { bytes_of info.now.layout ≤ length scratch.old }
-    ensures stored { LateIsOwn info.now region.now.lo region.now.hi input.now (D.late depot.old)
-        → OnOk result (StoresRegion info.now region.now.lo region.now.hi input.now (D.held depot.new)) }
-    ensures late_own { LateIsOwn info.now region.now.lo region.now.hi input.now (D.late depot.old)
-        → LateIsOwn info.now region.now.lo region.now.hi input.now (D.late depot.new) }
-    ensures kept { Lands (IsOwnOrLate info.now region.now.lo region.now.hi input.now (D.late depot.old)) (D.held depot.old) (D.held depot.new) }
-    ensures late { StayAmong (D.late depot.new) (IsOwnOrLate info.now region.now.lo region.now.hi input.now (D.late depot.old)) }
+    ensures stored { LateIsOwn info.now region.now.lo region.now.hi input.now (D.shown depot.old).late
+        → OnOk result (StoresRegion info.now region.now.lo region.now.hi input.now (D.shown depot.new).held) }
+    ensures late_own { LateIsOwn info.now region.now.lo region.now.hi input.now (D.shown depot.old).late
+        → LateIsOwn info.now region.now.lo region.now.hi input.now (D.shown depot.new).late }
+    ensures step { Steps (RegionPut info.now region.now.lo region.now.hi input.now) 0 (chunks_met info.now.layout.grid region.now.lo region.now.hi)
+        (D.shown depot.old) (D.shown depot.new) }
+    ensures kept { Lands (IsOwnOrLate info.now region.now.lo region.now.hi input.now (D.shown depot.old).late) (D.shown depot.old).held (D.shown depot.new).held }
+    ensures late { StayAmong (D.shown depot.new).late (IsOwnOrLate info.now region.now.lo region.now.hi input.now (D.shown depot.old).late) }
     ensures follows { (writes : List Write) (entry : Option Contents) → HasValues info.now region.now.lo region.now.hi input.now writes
-        → Follows writes entry (D.held depot.old) (D.late depot.old) → Follows writes entry (D.held depot.new) (D.late depot.new) }
-    ensures cause { IfErr result (IsWriteFault (D.faults depot.old) (D.faults depot.new) (D.lacks depot.new)) }
-    ensures count { D.faults depot.old ≤ D.faults depot.new }
-    ensures calls { D.calls depot.new ≤ D.calls depot.old + chunks_met info.now.layout.grid region.now.lo region.now.hi }
-    ensures calls_all { OnOk result (Made (chunks_met info.now.layout.grid region.now.lo region.now.hi) (D.calls depot.old) (D.calls depot.new)) }
-    ensures lacks { D.lacks depot.new ≡ D.lacks depot.old }
+        → Follows writes entry (D.shown depot.old).held (D.shown depot.old).late → Follows writes entry (D.shown depot.new).held (D.shown depot.new).late }
+    ensures cause { IfErr result (IsWriteFault (D.shown depot.old).faults (D.shown depot.new).faults (D.shown depot.new).lacks) }
+    ensures count { (D.shown depot.old).faults ≤ (D.shown depot.new).faults }
+    ensures calls { (D.shown depot.new).calls ≤ (D.shown depot.old).calls + chunks_met info.now.layout.grid region.now.lo region.now.hi }
+    ensures calls_all { OnOk result (Made (chunks_met info.now.layout.grid region.now.lo region.now.hi) (D.shown depot.old).calls (D.shown depot.new).calls) }
+    ensures lacks { (D.shown depot.new).lacks ≡ (D.shown depot.old).lacks }
 {
     for coord in info.layout.grid.cover(region) {
         write_part(depot, info, &coord, region, input, scratch)?;
@@ -76,19 +79,53 @@ fn write_part<D: Depot>(
     requires input_length { length input.now ≡ product (differences region.now.hi region.now.lo) * size_of info.now.layout.dtype }
     requires elements { AreElements info.now.layout.dtype input.now }
     requires scratch_length { bytes_of info.now.layout ≤ length scratch.old }
-    ensures value { chunk_value info.now region.now.lo region.now.hi input.now coord.now ≡ Some (take (bytes_of info.now.layout) scratch.new) }
-    ensures stored { OnOk result (Holds (D.held depot.new) (key_at info.now coord.now) (take (bytes_of info.now.layout) scratch.new)) }
-    ensures kept { Lands (OwnOrLate (key_at info.now coord.now) (take (bytes_of info.now.layout) scratch.new) (D.late depot.old)) (D.held depot.old) (D.held depot.new) }
-    ensures late { StayAmong (D.late depot.new) (OwnOrLate (key_at info.now coord.now) (take (bytes_of info.now.layout) scratch.new) (D.late depot.old)) }
-    ensures cause { IfErr result (IsWriteFault (D.faults depot.old) (D.faults depot.new) (D.lacks depot.new)) }
-    ensures count { D.faults depot.old ≤ D.faults depot.new }
-    ensures calls { MadeOne (D.calls depot.old) (D.calls depot.new) }
-    ensures lacks { D.lacks depot.new ≡ D.lacks depot.old }
+    ensures value { (bytes : List ℕ) × (chunk_value info.now region.now.lo region.now.hi input.now coord.now ≡ Some bytes) }
+    ensures stored { (bytes : List ℕ) → chunk_value info.now region.now.lo region.now.hi input.now coord.now ≡ Some bytes
+        → OnOk result (Holds (D.shown depot.new).held (key_at info.now coord.now) bytes) }
+    ensures step { Steps (RegionPut info.now region.now.lo region.now.hi input.now) 1 1 (D.shown depot.old) (D.shown depot.new) }
+    ensures kept { (bytes : List ℕ) → chunk_value info.now region.now.lo region.now.hi input.now coord.now ≡ Some bytes
+        → Lands (OwnOrLate (key_at info.now coord.now) bytes (D.shown depot.old).late) (D.shown depot.old).held (D.shown depot.new).held }
+    ensures late { (bytes : List ℕ) → chunk_value info.now region.now.lo region.now.hi input.now coord.now ≡ Some bytes
+        → StayAmong (D.shown depot.new).late (OwnOrLate (key_at info.now coord.now) bytes (D.shown depot.old).late) }
+    ensures cause { IfErr result (IsWriteFault (D.shown depot.old).faults (D.shown depot.new).faults (D.shown depot.new).lacks) }
+    ensures count { (D.shown depot.old).faults ≤ (D.shown depot.new).faults }
+    ensures calls { MadeCalls 1 1 (D.shown depot.old).calls (D.shown depot.new).calls }
+    ensures lacks { (D.shown depot.new).lacks ≡ (D.shown depot.old).lacks }
 {
-    let bytes = chunk_bytes(&info.layout);
     let key = chunk_key(&info.prefix, info.layout.encoding, coord);
-    spell_chunk(info, coord, region, input, &mut scratch[..bytes]);
-    match depot.put(&key, &scratch[..bytes]) {
+    if lies_stored(info, coord, region) {
+        return put_chunk(depot, &key, input);
+    }
+    let chunk = &mut scratch[..chunk_bytes(&info.layout.grid, info.layout.dtype)];
+    spell_chunk(info, coord, region, input, chunk);
+    put_chunk(depot, &key, chunk)
+}
+
+/// Whether the region's buffer has the bytes of the chunk as they are stored: it is the whole chunk, stored little-endian.
+fn lies_stored(info: &ArrayInfo, coord: &Dims, region: &Region) -> bool
+    requires coordinate { IsCoordinate info.now.layout.grid coord.now }
+    requires region { IsRegion info.now.layout.grid.shape region.now.lo region.now.hi }
+    ensures one { IsTrue result → IsOneChunk info.now.layout.grid.chunk coord.now region.now.lo region.now.hi }
+    ensures little { IsTrue result → info.now.layout.endian ≡ Endian.Little }
+{
+    match info.layout.endian {
+        Endian::Little => is_one_chunk(&info.layout.grid, coord, region),
+        Endian::Big => false,
+    }
+}
+
+/// Stores the bytes of a chunk.
+fn put_chunk<D: Depot>(depot: &mut D, key: &Key, bytes: &[u8]) -> Result<(), TaskFault>
+    ensures stored { OnOk result (Holds (D.shown depot.new).held key.now bytes.now) }
+    ensures step { Steps (PutOf key.now bytes.now) 1 1 (D.shown depot.old) (D.shown depot.new) }
+    ensures kept { Lands (OwnOrLate key.now bytes.now (D.shown depot.old).late) (D.shown depot.old).held (D.shown depot.new).held }
+    ensures late { StayAmong (D.shown depot.new).late (OwnOrLate key.now bytes.now (D.shown depot.old).late) }
+    ensures cause { IfErr result (IsWriteFault (D.shown depot.old).faults (D.shown depot.new).faults (D.shown depot.new).lacks) }
+    ensures count { (D.shown depot.old).faults ≤ (D.shown depot.new).faults }
+    ensures calls { MadeCalls 1 1 (D.shown depot.old).calls (D.shown depot.new).calls }
+    ensures lacks { (D.shown depot.new).lacks ≡ (D.shown depot.old).lacks }
+{
+    match depot.put(key, bytes) {
         Ok(()) => Ok(()),
         Err(DepotFault::Failed) => Err(TaskFault::Store),
         Err(DepotFault::NoMemory) => Err(TaskFault::NoMemory),
@@ -117,5 +154,5 @@ fn spell_chunk(info: &ArrayInfo, coord: &Dims, region: &Region, input: &[u8], ch
         input,
         chunk,
     );
-    reorder(layout, chunk);
+    reorder(layout.endian, u64::from(size(layout.dtype)), chunk);
 }

@@ -1,7 +1,10 @@
 pub mod Axes
-pub mod Back
 pub mod Broadcasts
 pub mod Ends
+mod Examples
+pub mod InsideBoth
 pub mod Places
+pub mod Ranges
+pub mod ReadThrough
 pub mod Rounded
 pub mod Runs

@@ -1,5 +1,6 @@
 -- Places and indices of an array are told by one another.
 use Rattle.std.proofs.Common.{Bool, false, ◌&&◌, nat_lt, add-one, set, true, nat_eq, All, ◌≡◌, ℕ, ◌+◌, ◌*◌, ◌/◌, ◌%◌, ◌<◌, ◌≤◌, zero, suc, List, [], ◌∷◌, ◌++◌, length, get_or, take, drop, refl, ap, ◌∙◌, sym, arith}
+use Rattle.std.specs.Prelude.{◌≢◌, IsTrue}
 use Rattle.std.proofs.Math.Nat.{div-lt_iff_lt-mul, div-div-eq-div-mul, mul_comm, le-mul_of_pos_right}
 use Rattle.std.proofs.Math.Arith.{mod-mul}
 use Rattle.std.proofs.lemmas.Nat.{div-mul-add, mod-mul-add, mul-add-lt, div_below, mod_below, div-add-mod'}
@@ -139,3 +140,17 @@ test_from_inside [] [] h = refl
 test_from_inside [] (i ∷ is) h = absurd h
 test_from_inside (d ∷ ds) [] h = absurd h
 test_from_inside (d ∷ ds) (i ∷ is) h = rw (lt-ltb i d h.0) (test_from_inside ds is h.1)
+
+pub inside_test : (b : Bool) (ds is : List ℕ) → b ≡ is_inside ds is → (IsTrue b → IsInside ds is) × (IsInside ds is → IsTrue b)
+inside_test b ds is e = (λ t. inside_from_test ds is (sym e ∙ t), λ h. e ∙ test_from_inside ds is h)
+
+-- an index of another rank doesn't lie inside
+pub outside_rank : (ds is : List ℕ) → length is ≢ length ds → is_inside ds is ≡ false
+outside_rank [] [] h = absurd (h refl)
+outside_rank [] (i ∷ is) h = refl
+outside_rank (d ∷ ds) [] h = refl
+outside_rank (d ∷ ds) (i ∷ is) h = rw (outside_rank ds is (λ e. h (ap suc e))) (and_false (nat_lt i d))
+  where
+    and_false : (b : Bool) → (b && false) ≡ false
+    and_false true = refl
+    and_false false = refl

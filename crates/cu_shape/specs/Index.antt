@@ -48,6 +48,10 @@ remainders = axis_by_axis (λ i c. i % c)
 abbrev pub sums : List ℕ → List ℕ → List ℕ
 sums = axis_by_axis (λ i j. i + j)
 
+-- how far the numbers of one list are above those of another, 0 where they aren't
+abbrev pub differences : List ℕ → List ℕ → List ℕ
+differences = axis_by_axis (λ i j. i - j)
+
 abbrev pub products : List ℕ → List ℕ → List ℕ
 products = axis_by_axis (λ i c. i * c)
 

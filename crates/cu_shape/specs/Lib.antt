@@ -2,4 +2,5 @@ pub mod Broadcast
 pub mod Index
 pub mod Padded
 pub mod PaddedBack
+pub mod Several
 pub mod Slice

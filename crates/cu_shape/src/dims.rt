@@ -1,4 +1,4 @@
-ghost use Rattle.std.specs.Prelude.{◌≡◌, ◌≤◌, ◌<◌, ◌^◌, ◌↔◌, IsOk, IfOk, IfErr, IsSome, IfSome, length, slice_index, slice_set, All};
+ghost use Rattle.std.specs.Prelude.{◌≡◌, ◌≤◌, ◌<◌, ◌^◌, ◌↔◌, ◌++◌, [], ◌∷◌, IsOk, IfOk, IfErr, IsSome, IfSome, IsTrue, length, slice_index, slice_set, All};
 ghost use Rattle.cu_shape.specs.Index.{product};
 
 use crate::fault::ShapeFault;
@@ -77,6 +77,22 @@ impl Dims {
         self.sizes[axis as usize] = number;
     }
 
+    /// Appends a number: the size of one more axis, or the index on it.
+    pub fn push(&mut self, number: u64)
+        requires { length self.old < 6 }
+        ensures { self.new ≡ self.old ++ number ∷ [] }
+    {
+        self.sizes[self.rank as usize] = number;
+        self.rank += 1;
+    }
+
+    /// Whether these are the same numbers on the same axes.
+    pub fn is(&self, other: &Dims) -> bool
+        ensures { IsTrue result ↔ (self.now ≡ other.now) }
+    {
+        self.sizes[..self.rank as usize] == other.sizes[..other.rank as usize]
+    }
+
     /// The product of the sizes, 1 at rank 0; none where it is above 2^40.
     pub fn elements(&self) -> Option<u64>
         ensures counted { IsSome result ↔ (product self.now ≤ 2 ^ 40) }
@@ -87,6 +103,18 @@ impl Dims {
             return Some(0);
         }
         product_of(sizes)
+    }
+}
+
+impl Default for Dims {
+    /// The sizes of an array of rank 0.
+    fn default() -> Dims
+        ensures { result ≡ [] }
+    {
+        Dims {
+            rank: 0,
+            sizes: [0; 6],
+        }
     }
 }
 

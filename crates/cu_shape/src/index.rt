@@ -1,5 +1,5 @@
-ghost use Rattle.std.specs.Prelude.{◌≡◌, ◌<◌, ◌^◌};
-ghost use Rattle.cu_shape.specs.Index.{product, place_of, index_at, IsInside};
+ghost use Rattle.std.specs.Prelude.{◌≡◌, ◌<◌, ◌≤◌, ◌^◌, ◌↔◌, IsTrue, length};
+ghost use Rattle.cu_shape.specs.Index.{product, place_of, index_at, is_inside, back, differences, IsInside};
 
 use crate::dims::Dims;
 
@@ -31,4 +31,59 @@ pub fn index_of(dims: &Dims, place: u64) -> Dims
         rest /= size;
     }
     index
+}
+
+/// Whether an index lies inside an array: one number for each axis, below the axis' size.
+pub fn is_inside(dims: &Dims, idx: &Dims) -> bool
+    ensures test { result ≡ is_inside dims.now idx.now }
+    ensures inside { IsTrue result ↔ IsInside dims.now idx.now }
+{
+    if idx.rank() != dims.rank() {
+        return false;
+    }
+    are_below(dims, idx)
+}
+
+/// Whether each number of an index is below the axis' size.
+fn are_below(dims: &Dims, idx: &Dims) -> bool
+    requires { length idx.now ≡ length dims.now }
+    ensures { result ≡ is_inside dims.now idx.now }
+{
+    for axis in 0..idx.rank() {
+        if idx.at(axis) >= dims.at(axis) {
+            return false;
+        }
+    }
+    true
+}
+
+/// The index of an array of this shape that a result's index reads through broadcasting: the leading axes that the array
+/// lacks are dropped, and an axis of size 1 is read at 0 (Python array API, "Broadcasting").
+pub fn back(shape: &Dims, idx: &Dims) -> Dims
+    requires { length shape.now ≤ length idx.now }
+    ensures { result ≡ back shape.now idx.now }
+{
+    let first = idx.rank() - shape.rank();
+    let mut read = *shape;
+    for axis in 0..shape.rank() {
+        let at = if shape.at(axis) == 1 {
+            0
+        } else {
+            idx.at(first + axis)
+        };
+        read.put(axis, at);
+    }
+    read
+}
+
+/// How far `from` is above `to` on each axis, 0 where it isn't.
+pub fn difference(from: &Dims, to: &Dims) -> Dims
+    requires { length to.now ≡ length from.now }
+    ensures { result ≡ differences from.now to.now }
+{
+    let mut sizes = *from;
+    for axis in 0..from.rank() {
+        sizes.put(axis, from.at(axis).saturating_sub(to.at(axis)));
+    }
+    sizes
 }

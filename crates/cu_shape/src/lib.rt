@@ -3,17 +3,18 @@
 #![tactic(auto)]
 
 mod broadcasting;
+mod changes;
 mod dims;
 mod fault;
 mod index;
 mod laws;
+mod several;
 mod slice;
-#[cfg(test)]
-mod tests;
 
 pub use broadcasting::broadcast;
 pub use dims::Dims;
 pub use fault::ShapeFault;
-pub use index::{index_of, place};
+pub use index::{back, difference, index_of, is_inside, place};
 pub use laws::{broadcasting_reads_inside, places_and_indices};
+pub use several::{broadcast_all, broadcast_in};
 pub use slice::{Run, slice_of};

@@ -5,7 +5,7 @@ ghost use Rattle.cu_shape.specs.Slice.{count_of, first_of, clipped, start_of, st
 use crate::fault::ShapeFault;
 
 /// The indices that a slice takes of an axis: `first`, `first + step`, and so on, `count` of them.
-#[derive(Clone, Copy, PartialEq, Eq, Debug)]
+#[derive(Clone, Copy, Default, PartialEq, Eq, Debug)]
 pub struct Run {
     /// The first index, 0 where there is none.
     pub first: u64,

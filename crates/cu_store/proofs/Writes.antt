@@ -1,6 +1,7 @@
 -- What several calls of a depot do, one after another.
-use Rattle.std.proofs.Common.{◌≡◌, ◌⊎◌, ℕ, List, Option, Some, None, refl, inl, inr, ◌∙◌}
+use Rattle.std.proofs.Common.{◌≡◌, ◌⊎◌, ℕ, List, Option, Some, None, refl, inl, inr, sym, subst, ◌∙◌}
 use Rattle.cu_store.specs.Held.{Contents, Write, IsAmong, OwnOrLate, IsKeptAt, Lands, Removes, StayAmong, Follows}
+use Rattle.cu_store.specs.Steps.{Shown, NoChange, PutOf, OrLate, IsChangedBy, Lands as Changed, Steps}
 
 -- a call that does nothing
 pub lands_same : (W : List ℕ → List ℕ → Type 0) (held : Option Contents) → Lands W held held
@@ -70,3 +71,56 @@ follows_put writes late new_late entry held new_held key bytes lands stay own fo
   lands_then entry held new_held (own_within writes late key bytes own follows.1) follows.0 lands,
   λ k b among. own_within writes late key bytes own follows.1 k b (stay k b among),
 )
+
+-- From a step to the writes, for the crates that still speak of these.
+own_of : (key bytes : List ℕ) (late : List Write) (k b : List ℕ) → OrLate (PutOf key bytes) late k (Some b) → OwnOrLate key bytes late k b
+own_of key bytes late k b (inl (same, is)) = inl (same, let e : b ≡ bytes = cc in e)
+own_of key bytes late k b (inr (other, is, among)) = inr (let e : b ≡ other = cc in subst (λ (x : List ℕ). IsAmong late k x) (sym e) among)
+
+put_at : (key bytes : List ℕ) (late : List Write) (a b : Contents) (k : List ℕ) → IsChangedBy (OrLate (PutOf key bytes) late) a b k → IsKeptAt (OwnOrLate key bytes late) a b k
+put_at key bytes late a b k (inl same) = inl same
+put_at key bytes late a b k (inr (inl (same, is))) = inr (bytes, inl (same, refl), is)
+put_at key bytes late a b k (inr (inr (other, is, among))) = inr (other, inr among, is)
+
+put_lands : (key bytes : List ℕ) (late : List Write) (a b : Option Contents) → Changed (OrLate (PutOf key bytes) late) a b → Lands (OwnOrLate key bytes late) a b
+put_lands key bytes late None None lands = tt
+put_lands key bytes late (Some a) (Some b) lands = λ k. put_at key bytes late a b k (lands k)
+put_lands key bytes late None (Some b) lands = absurd lands
+put_lands key bytes late (Some a) None lands = absurd lands
+
+-- a put's step
+pub put_keeps : {l m : ℕ} {key bytes : List ℕ} {a b : Shown} → Steps (PutOf key bytes) l m a b → Lands (OwnOrLate key bytes a.late) a.held b.held
+put_keeps {key = key} {bytes = bytes} {a = a} {b = b} step = put_lands key bytes a.late a.held b.held step.lands
+
+pub put_stays : {l m : ℕ} {key bytes : List ℕ} {a b : Shown} → Steps (PutOf key bytes) l m a b → StayAmong b.late (OwnOrLate key bytes a.late)
+put_stays {key = key} {bytes = bytes} {a = a} {b = b} step = λ k c among. own_of key bytes a.late k c (step.late k c among)
+
+pub step_follows_put : {l m : ℕ} {key bytes : List ℕ} {a b : Shown} → Steps (PutOf key bytes) l m a b → (writes : List Write) (entry : Option Contents) → IsAmong writes key bytes
+    → Follows writes entry a.held a.late → Follows writes entry b.held b.late
+step_follows_put {key = key} {bytes = bytes} {a = a} {b = b} step writes entry own follows =
+    follows_put writes a.late b.late entry a.held b.held key bytes (put_keeps step) (put_stays step) own follows
+
+late_of : (late : List Write) (k b : List ℕ) → OrLate NoChange late k (Some b) → IsAmong late k b
+late_of late k b (inl none) = absurd none
+late_of late k b (inr (other, is, among)) = let e : b ≡ other = cc in subst (λ (x : List ℕ). IsAmong late k x) (sym e) among
+
+late_at : (late : List Write) (a b : Contents) (k : List ℕ) → IsChangedBy (OrLate NoChange late) a b k → IsKeptAt (IsAmong late) a b k
+late_at late a b k (inl same) = inl same
+late_at late a b k (inr (inl none)) = absurd none
+late_at late a b k (inr (inr (other, is, among))) = inr (other, among, is)
+
+late_lands : (late : List Write) (a b : Option Contents) → Changed (OrLate NoChange late) a b → Lands (IsAmong late) a b
+late_lands late None None lands = tt
+late_lands late (Some a) (Some b) lands = λ k. late_at late a b k (lands k)
+late_lands late None (Some b) lands = absurd lands
+late_lands late (Some a) None lands = absurd lands
+
+-- a step without a change
+pub none_keeps : {l m : ℕ} {a b : Shown} → Steps NoChange l m a b → Lands (IsAmong a.late) a.held b.held
+none_keeps {a = a} {b = b} step = late_lands a.late a.held b.held step.lands
+
+pub none_stays : {l m : ℕ} {a b : Shown} → Steps NoChange l m a b → StayAmong b.late (IsAmong a.late)
+none_stays {a = a} {b = b} step = λ k c among. late_of a.late k c (step.late k c among)
+
+pub step_follows : {l m : ℕ} {a b : Shown} → Steps NoChange l m a b → (writes : List Write) (entry : Option Contents) → Follows writes entry a.held a.late → Follows writes entry b.held b.late
+step_follows {a = a} {b = b} step writes entry follows = follows_call writes a.late b.late entry a.held b.held (none_keeps step) (none_stays step) follows

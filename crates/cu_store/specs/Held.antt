@@ -3,7 +3,6 @@ use Rattle.std.specs.Prelude.{◌≡◌, ◌⊎◌, ℕ, Bool, IsTrue, ◌↔◌
 use Rattle.cu_store.specs.declared.depot.Got.{Got}
 use Rattle.cu_store.specs.declared.depot.Got.TheVariants.{Absent, Held}
 use Rattle.cu_store.specs.declared.faults.DepotFault.{DepotFault}
-use Rattle.cu_store.specs.declared.faults.DepotFault.TheVariants.{Failed, NoMemory}
 
 -- the bytes under each key that is held
 abbrev pub Contents : Type 0
@@ -47,12 +46,6 @@ StayAmong late W = (key bytes : List ℕ) → IsAmong late key bytes → W key b
 -- From what was held at some moment, these writes alone have landed, and what is late is among them.
 abbrev pub Follows : List Write → Option Contents → Option Contents → List Write → Type 0
 Follows writes entry held late = Lands (IsAmong writes) entry held × StayAmong late (IsAmong writes)
-
--- only a put that failed is added to the late ones
-abbrev pub AddsOnlyFailed : {T : Type 0} → Result T DepotFault → List Write → List Write → Type 0
-AddsOnlyFailed (Ok x) old new = StayAmong new (IsAmong old)
-AddsOnlyFailed (Err Failed) old new = Unit {0}
-AddsOnlyFailed (Err NoMemory) old new = StayAmong new (IsAmong old)
 
 -- the key holds these bytes, where the contents are told
 abbrev pub Holds : Option Contents → List ℕ → List ℕ → Type 0

@@ -1,4 +1,5 @@
 pub mod Faults
 pub mod Held
 pub mod Key
+pub mod Steps
 pub mod Streams

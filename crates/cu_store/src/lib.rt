@@ -5,11 +5,13 @@
 mod depot;
 mod faults;
 mod key;
+mod laws;
 mod streams;
 mod tries;
 
 pub use depot::{Depot, Got};
 pub use faults::{DepotFault, Failed, NoMemory, TaskFault};
 pub use key::Key;
+pub use laws::{Changing, steps_compose};
 pub use streams::{Sink, Source};
 pub use tries::{get_tries, has_tries, put_tries, remove_tries};

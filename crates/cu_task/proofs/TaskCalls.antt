@@ -8,7 +8,13 @@ use Rattle.cu_grid.specs.Counts.{counts_of, chunk_lo, chunk_hi}
 use Rattle.cu_grid.specs.Cover.{span_on, spans_of}
 use Rattle.cu_grid.specs.Grid.{RegularGrid, IsGrid, IsCoordinate}
 use Rattle.cu_grid.proofs.Meeting.{axis_meets, axis_back}
+use Rattle.std.specs.Prelude.{Bool as Test, Option, Result, Ok, Err, IfErr}
 use Rattle.cu_store.specs.Faults.{last_count}
+use Rattle.cu_store.specs.Held.{Contents}
+use Rattle.cu_store.specs.declared.faults.TaskFault.{TaskFault}
+use Rattle.cu_store.specs.declared.faults.TaskFault.TheVariants.{Store, BadChunk, NoMemory}
+use Rattle.cu_region.specs.Reading.{IsReadFault}
+use Rattle.cu_region.specs.Writing.{IsWriteFault}
 use Rattle.cu_region.specs.Calls.{chunks_met, Made}
 
 -- on one axis an interval that begins at a chunk's first index, and ends by its last, meets one chunk
@@ -72,3 +78,11 @@ at_most_three n start last e most = omega arith
 
 pub made_three : (n start last : ℕ) → n ≡ 1 → Made (3 * n) start last → Made 3 start last
 made_three n start last e made = subst (λ (k : ℕ). Made (3 * k) start last) e made
+
+-- a fault of the write, after reads
+pub write_faults : (before mid after : ℕ) (lacks : Test) (held : Option Contents) (K : List ℕ → Type 0) (size : ℕ) (r : Result (Unit {0}) TaskFault) → before ≤ mid
+    → IfErr r (IsWriteFault mid after lacks) → IfErr r (IsReadFault before after lacks held K size)
+write_faults before mid after lacks held K size (Ok x) count cause = tt
+write_faults before mid after lacks held K size (Err Store) count cause = let c = cause in omega arith
+write_faults before mid after lacks held K size (Err (BadChunk key got want)) count cause = absurd cause
+write_faults before mid after lacks held K size (Err NoMemory) count cause = cause

@@ -43,21 +43,21 @@ pub(crate) fn add_region<D: Depot>(
     requires second_length { length second.old ≡ product (differences region.now.hi region.now.lo) * size_of made.now.layout.dtype }
     requires output_length { length output.old ≡ product (differences region.now.hi region.now.lo) * size_of made.now.layout.dtype }
     requires scratch_length { bytes_of made.now.layout ≤ length scratch.old }
-    ensures stored { (f : Values) (held : Contents) → D.held depot.old ≡ Some held
-        → IsReady left.now right.now made.now region.now.lo region.now.hi f held (D.late depot.old)
-        → OnOk result (StoresValues made.now region.now.lo region.now.hi f (D.held depot.new)) }
-    ensures follows { (f : Values) (held : Contents) (writes : List Write) (entry : Option Contents) → D.held depot.old ≡ Some held
-        → IsReady left.now right.now made.now region.now.lo region.now.hi f held (D.late depot.old)
+    ensures stored { (f : Values) (held : Contents) → (D.shown depot.old).held ≡ Some held
+        → IsReady left.now right.now made.now region.now.lo region.now.hi f held (D.shown depot.old).late
+        → OnOk result (StoresValues made.now region.now.lo region.now.hi f (D.shown depot.new).held) }
+    ensures follows { (f : Values) (held : Contents) (writes : List Write) (entry : Option Contents) → (D.shown depot.old).held ≡ Some held
+        → IsReady left.now right.now made.now region.now.lo region.now.hi f held (D.shown depot.old).late
         → HasChunks made.now region.now.lo region.now.hi f writes
-        → Follows writes entry (D.held depot.old) (D.late depot.old) → Follows writes entry (D.held depot.new) (D.late depot.new) }
-    ensures kept { Lands (IsMadeOrLate made.now region.now.lo region.now.hi (D.late depot.old)) (D.held depot.old) (D.held depot.new) }
-    ensures late { StayAmong (D.late depot.new) (IsMadeOrLate made.now region.now.lo region.now.hi (D.late depot.old)) }
-    ensures cause { IfErr result (IsReadFault (D.faults depot.old) (D.faults depot.new) (D.lacks depot.new) (D.held depot.new)
+        → Follows writes entry (D.shown depot.old).held (D.shown depot.old).late → Follows writes entry (D.shown depot.new).held (D.shown depot.new).late }
+    ensures kept { Lands (IsMadeOrLate made.now region.now.lo region.now.hi (D.shown depot.old).late) (D.shown depot.old).held (D.shown depot.new).held }
+    ensures late { StayAmong (D.shown depot.new).late (IsMadeOrLate made.now region.now.lo region.now.hi (D.shown depot.old).late) }
+    ensures cause { IfErr result (IsReadFault (D.shown depot.old).faults (D.shown depot.new).faults (D.shown depot.new).lacks (D.shown depot.new).held
         (IsInputKey left.now right.now region.now.lo region.now.hi) (bytes_of made.now.layout)) }
-    ensures count { D.faults depot.old ≤ D.faults depot.new }
-    ensures calls { D.calls depot.new ≤ D.calls depot.old + 3 * chunks_met made.now.layout.grid region.now.lo region.now.hi }
-    ensures calls_all { OnOk result (Made (3 * chunks_met made.now.layout.grid region.now.lo region.now.hi) (D.calls depot.old) (D.calls depot.new)) }
-    ensures lacks { D.lacks depot.new ≡ D.lacks depot.old }
+    ensures count { (D.shown depot.old).faults ≤ (D.shown depot.new).faults }
+    ensures calls { (D.shown depot.new).calls ≤ (D.shown depot.old).calls + 3 * chunks_met made.now.layout.grid region.now.lo region.now.hi }
+    ensures calls_all { OnOk result (Made (3 * chunks_met made.now.layout.grid region.now.lo region.now.hi) (D.shown depot.old).calls (D.shown depot.new).calls) }
+    ensures lacks { (D.shown depot.new).lacks ≡ (D.shown depot.old).lacks }
 {
     read_region(depot, left, region, first, scratch)?;
     read_region(depot, right, region, second, scratch)?;

@@ -52,22 +52,22 @@ pub fn run_task<D: Depot>(
     requires adds { IsAddition plan.now.arrays (op_of plan.now op) }
     requires words { length words.old ≡ 64 * instruction_count (op_of plan.now op) }
     requires room { plan.now.reserved + length bytes.old + 8 * length words.old ≡ projection plan.now.arrays plan.now.reserved (op_of plan.now op) }
-    ensures stored { (env : Elements) (held : Contents) → D.held depot.old ≡ Some held → IsTaskReady plan.now op task env held (D.late depot.old)
-        → OnOk result (HoldsCells plan.now op task env (D.held depot.new)) }
-    ensures follows { (env : Elements) (held : Contents) (writes : List Write) (entry : Option Contents) → D.held depot.old ≡ Some held
-        → IsTaskReady plan.now op task env held (D.late depot.old) → HasCells plan.now op task env writes
-        → Follows writes entry (D.held depot.old) (D.late depot.old) → Follows writes entry (D.held depot.new) (D.late depot.new) }
-    ensures ready { (env : Elements) (held now : Contents) → D.held depot.old ≡ Some held → D.held depot.new ≡ Some now
-        → IsTaskReady plan.now op task env held (D.late depot.old) → AreApart plan.now.arrays (op_of plan.now op) task
-        → IsTaskReady plan.now op task env now (D.late depot.new) }
-    ensures kept { Lands (IsOutputOrLate plan.now.arrays (op_of plan.now op) task (D.late depot.old)) (D.held depot.old) (D.held depot.new) }
-    ensures late { StayAmong (D.late depot.new) (IsOutputOrLate plan.now.arrays (op_of plan.now op) task (D.late depot.old)) }
-    ensures cause { IfErr result (IsTaskFault (D.faults depot.old) (D.faults depot.new) (D.lacks depot.new) (D.held depot.new)
+    ensures stored { (env : Elements) (held : Contents) → (D.shown depot.old).held ≡ Some held → IsTaskReady plan.now op task env held (D.shown depot.old).late
+        → OnOk result (HoldsCells plan.now op task env (D.shown depot.new).held) }
+    ensures follows { (env : Elements) (held : Contents) (writes : List Write) (entry : Option Contents) → (D.shown depot.old).held ≡ Some held
+        → IsTaskReady plan.now op task env held (D.shown depot.old).late → HasCells plan.now op task env writes
+        → Follows writes entry (D.shown depot.old).held (D.shown depot.old).late → Follows writes entry (D.shown depot.new).held (D.shown depot.new).late }
+    ensures ready { (env : Elements) (held now : Contents) → (D.shown depot.old).held ≡ Some held → (D.shown depot.new).held ≡ Some now
+        → IsTaskReady plan.now op task env held (D.shown depot.old).late → AreApart plan.now.arrays (op_of plan.now op) task
+        → IsTaskReady plan.now op task env now (D.shown depot.new).late }
+    ensures kept { Lands (IsOutputOrLate plan.now.arrays (op_of plan.now op) task (D.shown depot.old).late) (D.shown depot.old).held (D.shown depot.new).held }
+    ensures late { StayAmong (D.shown depot.new).late (IsOutputOrLate plan.now.arrays (op_of plan.now op) task (D.shown depot.old).late) }
+    ensures cause { IfErr result (IsTaskFault (D.shown depot.old).faults (D.shown depot.new).faults (D.shown depot.new).lacks (D.shown depot.new).held
         plan.now.arrays (op_of plan.now op) task) }
-    ensures count { D.faults depot.old ≤ D.faults depot.new }
-    ensures calls { D.calls depot.new ≤ D.calls depot.old + 3 }
-    ensures calls_all { OnOk result (Made 3 (D.calls depot.old) (D.calls depot.new)) }
-    ensures lacks { D.lacks depot.new ≡ D.lacks depot.old }
+    ensures count { (D.shown depot.old).faults ≤ (D.shown depot.new).faults }
+    ensures calls { (D.shown depot.new).calls ≤ (D.shown depot.old).calls + 3 }
+    ensures calls_all { OnOk result (Made 3 (D.shown depot.old).calls (D.shown depot.new).calls) }
+    ensures lacks { (D.shown depot.new).lacks ≡ (D.shown depot.old).lacks }
 {
     let _kernel = words;
     let sum = &plan.operation(op).op;
@@ -93,22 +93,22 @@ fn run_addition<D: Depot>(
     requires sound { Sound plan.now }
     requires adds { AddsTwo plan.now.arrays (op_of plan.now op) (type_at plan.now.arrays out) first second out }
     requires room { plan.now.reserved + length bytes.old + 512 * 3 ≡ projection plan.now.arrays plan.now.reserved (op_of plan.now op) }
-    ensures stored { (env : Elements) (held : Contents) → D.held depot.old ≡ Some held → IsTaskReady plan.now op task env held (D.late depot.old)
-        → OnOk result (HoldsCells plan.now op task env (D.held depot.new)) }
-    ensures follows { (env : Elements) (held : Contents) (writes : List Write) (entry : Option Contents) → D.held depot.old ≡ Some held
-        → IsTaskReady plan.now op task env held (D.late depot.old) → HasCells plan.now op task env writes
-        → Follows writes entry (D.held depot.old) (D.late depot.old) → Follows writes entry (D.held depot.new) (D.late depot.new) }
-    ensures ready { (env : Elements) (held now : Contents) → D.held depot.old ≡ Some held → D.held depot.new ≡ Some now
-        → IsTaskReady plan.now op task env held (D.late depot.old) → AreApart plan.now.arrays (op_of plan.now op) task
-        → IsTaskReady plan.now op task env now (D.late depot.new) }
-    ensures kept { Lands (IsOutputOrLate plan.now.arrays (op_of plan.now op) task (D.late depot.old)) (D.held depot.old) (D.held depot.new) }
-    ensures late { StayAmong (D.late depot.new) (IsOutputOrLate plan.now.arrays (op_of plan.now op) task (D.late depot.old)) }
-    ensures cause { IfErr result (IsTaskFault (D.faults depot.old) (D.faults depot.new) (D.lacks depot.new) (D.held depot.new)
+    ensures stored { (env : Elements) (held : Contents) → (D.shown depot.old).held ≡ Some held → IsTaskReady plan.now op task env held (D.shown depot.old).late
+        → OnOk result (HoldsCells plan.now op task env (D.shown depot.new).held) }
+    ensures follows { (env : Elements) (held : Contents) (writes : List Write) (entry : Option Contents) → (D.shown depot.old).held ≡ Some held
+        → IsTaskReady plan.now op task env held (D.shown depot.old).late → HasCells plan.now op task env writes
+        → Follows writes entry (D.shown depot.old).held (D.shown depot.old).late → Follows writes entry (D.shown depot.new).held (D.shown depot.new).late }
+    ensures ready { (env : Elements) (held now : Contents) → (D.shown depot.old).held ≡ Some held → (D.shown depot.new).held ≡ Some now
+        → IsTaskReady plan.now op task env held (D.shown depot.old).late → AreApart plan.now.arrays (op_of plan.now op) task
+        → IsTaskReady plan.now op task env now (D.shown depot.new).late }
+    ensures kept { Lands (IsOutputOrLate plan.now.arrays (op_of plan.now op) task (D.shown depot.old).late) (D.shown depot.old).held (D.shown depot.new).held }
+    ensures late { StayAmong (D.shown depot.new).late (IsOutputOrLate plan.now.arrays (op_of plan.now op) task (D.shown depot.old).late) }
+    ensures cause { IfErr result (IsTaskFault (D.shown depot.old).faults (D.shown depot.new).faults (D.shown depot.new).lacks (D.shown depot.new).held
         plan.now.arrays (op_of plan.now op) task) }
-    ensures count { D.faults depot.old ≤ D.faults depot.new }
-    ensures calls { D.calls depot.new ≤ D.calls depot.old + 3 }
-    ensures calls_all { OnOk result (Made 3 (D.calls depot.old) (D.calls depot.new)) }
-    ensures lacks { D.lacks depot.new ≡ D.lacks depot.old }
+    ensures count { (D.shown depot.old).faults ≤ (D.shown depot.new).faults }
+    ensures calls { (D.shown depot.new).calls ≤ (D.shown depot.old).calls + 3 }
+    ensures calls_all { OnOk result (Made 3 (D.shown depot.old).calls (D.shown depot.new).calls) }
+    ensures lacks { (D.shown depot.new).lacks ≡ (D.shown depot.old).lacks }
 {
     let made = plan.array(out);
     let coord = index_of(&made.layout.grid.counts(), u64::from(task));
@@ -152,21 +152,21 @@ fn add_in_room<D: Depot>(
     requires second { size ≤ rooms.second }
     requires output { size ≤ rooms.output }
     requires room { length bytes.old ≡ rooms.scratch + rooms.first + rooms.second + rooms.output }
-    ensures stored { (f : Values) (held : Contents) → D.held depot.old ≡ Some held
-        → IsReady left.now right.now made.now region.now.lo region.now.hi f held (D.late depot.old)
-        → OnOk result (StoresValues made.now region.now.lo region.now.hi f (D.held depot.new)) }
-    ensures follows { (f : Values) (held : Contents) (writes : List Write) (entry : Option Contents) → D.held depot.old ≡ Some held
-        → IsReady left.now right.now made.now region.now.lo region.now.hi f held (D.late depot.old)
+    ensures stored { (f : Values) (held : Contents) → (D.shown depot.old).held ≡ Some held
+        → IsReady left.now right.now made.now region.now.lo region.now.hi f held (D.shown depot.old).late
+        → OnOk result (StoresValues made.now region.now.lo region.now.hi f (D.shown depot.new).held) }
+    ensures follows { (f : Values) (held : Contents) (writes : List Write) (entry : Option Contents) → (D.shown depot.old).held ≡ Some held
+        → IsReady left.now right.now made.now region.now.lo region.now.hi f held (D.shown depot.old).late
         → HasChunks made.now region.now.lo region.now.hi f writes
-        → Follows writes entry (D.held depot.old) (D.late depot.old) → Follows writes entry (D.held depot.new) (D.late depot.new) }
-    ensures kept { Lands (IsMadeOrLate made.now region.now.lo region.now.hi (D.late depot.old)) (D.held depot.old) (D.held depot.new) }
-    ensures late { StayAmong (D.late depot.new) (IsMadeOrLate made.now region.now.lo region.now.hi (D.late depot.old)) }
-    ensures cause { IfErr result (IsReadFault (D.faults depot.old) (D.faults depot.new) (D.lacks depot.new) (D.held depot.new)
+        → Follows writes entry (D.shown depot.old).held (D.shown depot.old).late → Follows writes entry (D.shown depot.new).held (D.shown depot.new).late }
+    ensures kept { Lands (IsMadeOrLate made.now region.now.lo region.now.hi (D.shown depot.old).late) (D.shown depot.old).held (D.shown depot.new).held }
+    ensures late { StayAmong (D.shown depot.new).late (IsMadeOrLate made.now region.now.lo region.now.hi (D.shown depot.old).late) }
+    ensures cause { IfErr result (IsReadFault (D.shown depot.old).faults (D.shown depot.new).faults (D.shown depot.new).lacks (D.shown depot.new).held
         (IsInputKey left.now right.now region.now.lo region.now.hi) (bytes_of made.now.layout)) }
-    ensures count { D.faults depot.old ≤ D.faults depot.new }
-    ensures calls { D.calls depot.new ≤ D.calls depot.old + 3 * chunks_met made.now.layout.grid region.now.lo region.now.hi }
-    ensures calls_all { OnOk result (Made (3 * chunks_met made.now.layout.grid region.now.lo region.now.hi) (D.calls depot.old) (D.calls depot.new)) }
-    ensures lacks { D.lacks depot.new ≡ D.lacks depot.old }
+    ensures count { (D.shown depot.old).faults ≤ (D.shown depot.new).faults }
+    ensures calls { (D.shown depot.new).calls ≤ (D.shown depot.old).calls + 3 * chunks_met made.now.layout.grid region.now.lo region.now.hi }
+    ensures calls_all { OnOk result (Made (3 * chunks_met made.now.layout.grid region.now.lo region.now.hi) (D.shown depot.old).calls (D.shown depot.new).calls) }
+    ensures lacks { (D.shown depot.new).lacks ≡ (D.shown depot.old).lacks }
 {
     let (scratch, rest) = bytes.split_at_mut(rooms.scratch);
     let (first, rest) = rest.split_at_mut(rooms.first);

@@ -5,7 +5,7 @@ use Rattle.cu_zarr.specs.Key.{metadata_key_of}
 use Rattle.cu_top.specs.Job.{IsFree, IsOutKey, chunks_of, key_of_chunk, out_array}
 use Rattle.cu_command.specs.Keys.{IsKeyFault}
 use Rattle.cu_top.specs.Run.{IsFreeBelow, IfAsked, IsFirstOfOut, IsFirstInWay, IsPlanFree}
-use Rattle.cu_command.specs.Name.{record_key_of}
+use Rattle.cu_name.specs.Keys.{record_key_of}
 use Rattle.cu_command.specs.declared.status.Status.{Status}
 use Rattle.cu_command.specs.declared.status.Status.TheVariants.{Done, BadWords, OverMemory, BadMeta, NoArray, Exists, TaskFailed, ReadFault, WriteFault, BadChunk, DepotFailed, BadLoad, NotBuilt, NoMemory}
 use Rattle.cu_top.specs.declared.job.Job.{Job}

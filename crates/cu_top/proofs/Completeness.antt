@@ -10,9 +10,9 @@ use Rattle.cu_zarr.specs.Key.{metadata_key_of}
 use Rattle.cu_top.proofs.InputLemmas.{one_job, not_refused, refused_before}
 use Rattle.cu_top.proofs.BegunLemmas.{begun_started}
 use Rattle.cu_top.proofs.JobLemmas.{input_stays}
-use Rattle.cu_command.specs.Name.{record_key_of}
+use Rattle.cu_name.specs.Keys.{record_key_of}
 use Rattle.cu_top.specs.Complete.{IsServable, StoodStill, IsServed, IsWhole}
-use Rattle.cu_meta.specs.Options.{when}
+use Rattle.cu_result.specs.Options.{when}
 use Rattle.cu_top.specs.Expression.{addition_of, Names as TextNames}
 use Rattle.cu_command.specs.Stored.{HoldsRefused}
 use Rattle.cu_top.specs.Inputs.{AreAddable}
@@ -186,8 +186,8 @@ module _ (names : Names) (options : Options) (texts : Job → List ℕ) (entry :
   served_run WriteFault ran = none_rose 1 v w (omega arith) sink ran.0
   served_run (DepotFailed key) ran = none_rose (options.retries + 1) f g (omega arith) depot ran.0
   served_run (TaskFailed op task) ran = none_rose (options.retries + 1) f g (omega arith) depot ran.0
-  served_run (BadMeta name code) ran = not_refused_input names job entry name.bytes code has inputs (refused_then names texts entry late now_late new name.bytes code calm ran.0 ran.1)
-  served_run (NoArray name) ran = not_missing names job entry name.bytes has inputs ran.1
+  served_run (BadMeta name code) ran = not_refused_input names job entry name code has inputs (refused_then names texts entry late now_late new name code calm ran.0 ran.1)
+  served_run (NoArray name) ran = not_missing names job entry name has inputs ran.1
   served_run (NotBuilt node) ran = not_unlike names texts job entry late has alike inputs calm (ran.2 entry refl)
   served_run (OverMemory node need allowed) ran =
       let over = ran.2 in

@@ -5,7 +5,7 @@ use Rattle.std.proofs.lemmas.Bool.{and_from, and_parts, le-leb}
 use Rattle.std.proofs.lemmas.Str.{IsUtf8-from_is_utf8, is_utf8-from_IsUtf8}
 use Rattle.serde_json.specs.Data.{Data}
 use Rattle.serde_json.specs.Read.{read}
-use Rattle.cu_meta.specs.Options.{when}
+use Rattle.cu_result.specs.Options.{when}
 use Rattle.cu_top.specs.Expression.{Names, addition_in, addition_of}
 
 -- a text within the limit, of the value d

@@ -202,8 +202,8 @@ second_turn tries names entry late late1 before after held1 held left status fol
     turn name = inr (λ calm. (left, layout_before names entry late late1 held1 (metadata_key_of names.left) left calm (inl refl) follows holds))
 
     at_status : (status : Status) → IsMetadataFault tries before after held names.right status → IfInput status (IsInOrder names entry late)
-    at_status (BadMeta name code) h = turn name.bytes
-    at_status (NoArray name) h = turn name.bytes
+    at_status (BadMeta name code) h = turn name
+    at_status (NoArray name) h = turn name
     at_status (DepotFailed key) h = (names.right, h.0, turn names.right)
     at_status NoMemory h = tt
     at_status (NotBuilt node) h = tt

@@ -8,8 +8,9 @@ use Rattle.std.proofs.lemmas.Option.{option_and_then_some}
 use Rattle.serde_json.specs.Data.{Data}
 use Rattle.serde_json.specs.Find.{get, at, as_str}
 use Rattle.serde_json.specs.Read.{read}
-use Rattle.cu_command.specs.Name.{is_name_byte, is_name, name_in}
-use Rattle.cu_meta.specs.Options.{when, ◌>>=◌}
+use Rattle.cu_command.specs.Name.{name_in}
+use Rattle.cu_name.specs.Name.{is_name_byte, is_name}
+use Rattle.cu_result.specs.Options.{when, ◌>>=◌}
 use Rattle.cu_json.specs.Form.{is_text, is_object_of, is_list_of}
 use Rattle.cu_top.specs.Expression.{Names, AreNames, InputNode, input_of, sum_of, are_distinct, addition_in, addition_of}
 

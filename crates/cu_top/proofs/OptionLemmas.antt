@@ -1,7 +1,7 @@
 -- Options that were read are within their range, and a name that was read is one.
 use Rattle.std.proofs.Common.{◌≡◌, ℕ, ◌≤◌, ◌^◌, ◌&&◌, nat_le, Bool, true, false, List, [], ◌∷◌, Option, Some, None, Result, Ok, Err, option_map, option_and_then, unwrap_or, refl, sym, subst, inl, inr, ◌⊎◌, arith, leb-true, lit≤, if◌then◌else◌, bytes_eq, codes}
 use Rattle.std.specs.Str.Parse.{without_leading_plus, digits_value}
-use Rattle.cu_command.specs.Name.{is_name}
+use Rattle.cu_name.specs.Name.{is_name}
 use Rattle.cu_top.specs.Words.{Command, run, load, print, is_number, memory_of, retries_of, once, given_with, options_from, or_code, nothing_given, retries_in, is_plain, print_of, print_in, command_of}
 use Rattle.cu_top.specs.declared.words.Given.{Given}
 use Rattle.cu_top.specs.declared.words.Options.{Options}

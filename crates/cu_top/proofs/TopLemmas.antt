@@ -1,7 +1,7 @@
 -- From the parts of a run to what the call answers.
 use Rattle.std.proofs.Common.{◌≡◌, ◌⊎◌, ℕ, ◌+◌, ◌*◌, ◌<◌, ◌≤◌, ◌++◌, List, Option, Some, None, Err, Bool, inl, inr, arith, refl, sym, ◌∙◌, subst}
 use Rattle.serde_json.specs.Data.{Data}
-use Rattle.cu_command.specs.Name.{record_key_of}
+use Rattle.cu_name.specs.Keys.{record_key_of}
 use Rattle.cu_command.specs.declared.status.Status.{Status}
 use Rattle.cu_command.specs.declared.status.Status.TheVariants.{Done, BadWords, OverMemory, BadMeta, NoArray, Exists, TaskFailed, ReadFault, WriteFault, BadChunk, DepotFailed, BadLoad, NotBuilt, NoMemory}
 use Rattle.cu_store.proofs.Writes.{lands_same}
@@ -44,7 +44,7 @@ pub input_refused : (names : Names) (options : Options) (old new : Option Conten
     → ((entry : Contents) → old ≡ Some entry → IfInput status (IsInOrder names entry late)) → Refuses names options old new late f g status
 input_refused names options old new late f g (DepotFailed key) fault lands unlike order = (fault.1, inl (fault.0, order))
 input_refused names options old new late f g (BadMeta name code) fault lands unlike order = (fault, order)
-input_refused names options old new late f g (NoArray name) fault lands unlike order = ((fault.0, gone_before (IsAmong late) old new (metadata_key_of name.bytes) lands fault.1), order)
+input_refused names options old new late f g (NoArray name) fault lands unlike order = ((fault.0, gone_before (IsAmong late) old new (metadata_key_of name) lands fault.1), order)
 input_refused names options old new late f g (NotBuilt node) fault lands unlike order = (fault, λ entry told. (unlike entry told).1)
 input_refused names options old new late f g NoMemory fault lands unlike order = tt
 input_refused names options old new late f g Done fault lands unlike order = fault

@@ -11,7 +11,7 @@ use Rattle.cu_top.specs.declared.words.Options.{Options}
 abbrev pub command_view : Asked → Command
 command_view (asked.Run options) = run options
 command_view (asked.Load retries) = load retries
-command_view (asked.Print name retries) = print name.bytes retries
+command_view (asked.Print name retries) = print name retries
 
 -- Words that are refused are answered by their code, with nothing changed. Else the command answers.
 abbrev pub Tells : Result Command ℕ → Type 0 → (Options → Status → Type 0) → (ℕ → Status → Type 0) → (List ℕ → ℕ → Status → Type 0) → Status → Type 0

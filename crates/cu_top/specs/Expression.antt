@@ -4,9 +4,10 @@ use Rattle.std.specs.Str.{is_utf8}
 use Rattle.serde_json.specs.Data.{Data}
 use Rattle.serde_json.specs.Find.{get, at}
 use Rattle.serde_json.specs.Read.{read}
-use Rattle.cu_command.specs.Name.{is_name, name_in}
+use Rattle.cu_command.specs.Name.{name_in}
+use Rattle.cu_name.specs.Name.{is_name}
 use Rattle.cu_json.specs.Form.{is_text, is_list_of, is_object_of}
-use Rattle.cu_meta.specs.Options.{◌>>=◌, when}
+use Rattle.cu_result.specs.Options.{◌>>=◌, when}
 use Rattle.cu_top.specs.declared.expression.Addition.{Addition}
 
 -- the names of the two arrays that are added and of their sum
@@ -17,7 +18,7 @@ pub record Names : Type 0 where
 
 -- the names in an addition
 abbrev pub names_of : Addition → Names
-names_of a = record { left = a.left.bytes; right = a.right.bytes; out = a.out.bytes }
+names_of a = record { left = a.left; right = a.right; out = a.out }
 
 -- the three are names
 pub record AreNames (names : Names) : Type 0 where

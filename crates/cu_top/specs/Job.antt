@@ -6,7 +6,7 @@ use Rattle.cu_num.specs.declared.layout.Encoding.TheVariants.{Plain}
 use Rattle.cu_num.specs.declared.layout.Sep.TheVariants.{Slash}
 use Rattle.cu_num.specs.declared.layout.Endian.TheVariants.{Little}
 use Rattle.cu_shape.specs.Index.{index_at}
-use Rattle.cu_command.specs.Name.{IsArrayName}
+use Rattle.cu_name.specs.Name.{IsArrayName}
 use Rattle.cu_command.specs.Writes.{values_below}
 use Rattle.cu_op.specs.Arrays.{grid_counts, chunk_count}
 use Rattle.cu_op.specs.Layout.{layout_view}

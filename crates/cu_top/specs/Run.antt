@@ -6,7 +6,7 @@ use Rattle.cu_store.specs.Held.{Contents, Write, IsAmong, Lands, StayAmong, Foll
 use Rattle.cu_zarr.specs.Key.{metadata_key_of}
 use Rattle.cu_op.specs.declared.layout.Layout.{Layout}
 use Rattle.cu_command.specs.Keys.{IsHeldIn}
-use Rattle.cu_command.specs.Name.{record_key_of}
+use Rattle.cu_name.specs.Keys.{record_key_of}
 use Rattle.cu_command.specs.Stored.{HoldsRefused}
 use Rattle.cu_top.specs.Inputs.{AreAddable}
 use Rattle.cu_top.specs.Job.{HasMetadata, IsOutKey, out_writes, IsQuiet, HasInputs, IsComplete, chunks_of, key_of_chunk, out_array, out_metadata}
@@ -174,8 +174,8 @@ IsInOrder names entry late name = (name ≡ names.left) ⊎ (IsCalmMetadata name
 
 -- a fact of the name of the input that is missing or refused, or for whose metadata the calls failed
 abbrev pub IfInput : Status → (List ℕ → Type 0) → Type 0
-IfInput (BadMeta name code) P = P name.bytes
-IfInput (NoArray name) P = P name.bytes
+IfInput (BadMeta name code) P = P name
+IfInput (NoArray name) P = P name
 IfInput Done P = Unit {0}
 IfInput (BadWords code) P = Unit {0}
 IfInput (OverMemory node need allowed) P = Unit {0}
@@ -192,8 +192,8 @@ IfInput NoMemory P = Unit {0}
 -- why reading the metadata of the inputs ends
 abbrev pub IsInputFault : ℕ → ArrayNames → ℕ → ℕ → Option Contents → Status → Type 0
 IsInputFault tries names before after held (DepotFailed key) = ((key ≡ metadata_key_of names.left) ⊎ (key ≡ metadata_key_of names.right)) × Rose tries before after
-IsInputFault tries names before after held (BadMeta name code) = IsRefusedInput names held name.bytes code
-IsInputFault tries names before after held (NoArray name) = IsMissingInput names held name.bytes
+IsInputFault tries names before after held (BadMeta name code) = IsRefusedInput names held name code
+IsInputFault tries names before after held (NoArray name) = IsMissingInput names held name
 IsInputFault tries names before after held (NotBuilt node) = node ≡ 0
 IsInputFault tries names before after held NoMemory = Unit {0}
 IsInputFault tries names before after held Done = ⊥

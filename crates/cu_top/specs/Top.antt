@@ -5,7 +5,7 @@ use Rattle.serde_json.specs.Read.{read as json_value}
 use Rattle.cu_store.specs.Faults.{Rose}
 use Rattle.cu_store.specs.Held.{Contents, Write, IsAmong, Follows, Holds}
 use Rattle.cu_zarr.specs.Key.{metadata_key_of}
-use Rattle.cu_command.specs.Name.{record_key_of}
+use Rattle.cu_name.specs.Keys.{record_key_of}
 use Rattle.cu_command.specs.Streams.{WroteFront, ReadsAll}
 use Rattle.cu_command.specs.Writes.{IsUntouched}
 use Rattle.cu_command.specs.declared.status.Status.{Status}
@@ -169,8 +169,8 @@ IsInputTurn names old late key = IsMetadataKey names key × ((entry : Contents) 
 abbrev pub Refuses : ArrayNames → Options → Option Contents → Option Contents → List Write → ℕ → ℕ → Status → Type 0
 Refuses names options old new late f g (OverMemory node need allowed) = (allowed ≡ options.allowed) × IsOver names options old late node need
 Refuses names options old new late f g (Exists key) = IsBlocked names options old new late key
-Refuses names options old new late f g (BadMeta name code) = IsRefusedInput names new name.bytes code × IsTurn names old late name.bytes
-Refuses names options old new late f g (NoArray name) = IsMissingInput names old name.bytes × IsTurn names old late name.bytes
+Refuses names options old new late f g (BadMeta name code) = IsRefusedInput names new name code × IsTurn names old late name
+Refuses names options old new late f g (NoArray name) = IsMissingInput names old name × IsTurn names old late name
 Refuses names options old new late f g (TaskFailed op task) = ⊥
 Refuses names options old new late f g (NotBuilt node) = (node ≡ 0) × ((entry : Contents) → old ≡ Some entry → AreUnlike names entry late)
 Refuses names options old new late f g (DepotFailed key) = Rose (options.retries + 1) f g × (IsInputTurn names old late key ⊎ IsAsked names options old late key)
@@ -189,8 +189,8 @@ Ran names options texts old new late now_late f g v w front back Done = IsRun na
 Ran names options texts old new late now_late f g v w front back WriteFault = Rose 1 v w × IsRun names options texts old new late now_late (WrotePart options f g front back) (λ job entry. Completes job (texts job) entry new)
 Ran names options texts old new late now_late f g v w front back (BadChunk key got want) = IsRun names options texts old new late now_late (IsBad new key got want) (λ job entry. HasFirst new job (texts job))
 Ran names options texts old new late now_late f g v w front back (DepotFailed key) = Rose (options.retries + 1) f g × ((IsUntouched old new late now_late × (IsInputTurn names old late key ⊎ IsAsked names options old late key)) ⊎ IsRun names options texts old new late now_late (λ job. (key ≡ record_key_of job.names.out) ⊎ (key ≡ metadata_key_of job.names.out)) (λ job entry. IsFirstFailed job (texts job) entry late new now_late key))
-Ran names options texts old new late now_late f g v w front back (BadMeta name code) = IsUntouched old new late now_late × IsRefusedInput names new name.bytes code × IsTurn names old late name.bytes
-Ran names options texts old new late now_late f g v w front back (NoArray name) = IsUntouched old new late now_late × IsMissingInput names old name.bytes × IsTurn names old late name.bytes
+Ran names options texts old new late now_late f g v w front back (BadMeta name code) = IsUntouched old new late now_late × IsRefusedInput names new name code × IsTurn names old late name
+Ran names options texts old new late now_late f g v w front back (NoArray name) = IsUntouched old new late now_late × IsMissingInput names old name × IsTurn names old late name
 Ran names options texts old new late now_late f g v w front back (TaskFailed op task) = Rose (options.retries + 1) f g × (op ≡ 0) × IsRun names options texts old new late now_late (λ job. task < chunks_of job) (λ job entry. (entry (key_of_chunk (out_array job) task) ≡ None) × HasFirst new job (texts job))
 Ran names options texts old new late now_late f g v w front back NoMemory = IsUntouched old new late now_late ⊎ IsRun names options texts old new late now_late (λ job. Unit {0}) Anything
 Ran names options texts old new late now_late f g v w front back (OverMemory node need allowed) = IsUntouched old new late now_late × (allowed ≡ options.allowed) × IsOver names options old late node need

@@ -2,7 +2,7 @@
 use Rattle.std.specs.Prelude.{ℕ, ◌^◌, Bool, nat_eq, nat_lt, nat_le, ◌&&◌, ◌||◌, not, List, [], ◌∷◌, length, slice_index, codes, bytes_eq, Option, Some, None, option_map, option_and_then, unwrap_or, Result, Ok, Err, if◌then◌else◌}
 use Rattle.std.specs.Str.{all_ascii_digits}
 use Rattle.std.specs.Str.Parse.{without_leading_plus, digits_value}
-use Rattle.cu_command.specs.Name.{is_name}
+use Rattle.cu_name.specs.Name.{is_name}
 use Rattle.cu_top.specs.declared.words.Given.{Given}
 use Rattle.cu_top.specs.declared.words.Options.{Options}
 

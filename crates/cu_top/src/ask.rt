@@ -6,7 +6,8 @@ ghost use Rattle.cu_top.specs.Run.{IsPlanFree, IsFirstOfOut, IsFirstInWay, IsAsk
 
 use crate::job::Job;
 use cu_codec::{chunk_key, metadata_key};
-use cu_command::{Status, ask_key, record_key};
+use cu_command::{Status, ask_key};
+use cu_name::record_key;
 use cu_shape::index_of;
 use cu_store::{Depot, Key};
 
@@ -33,16 +34,16 @@ fn key_of(job: &Job, number: u64) -> Key
 pub fn ask_keys<D: Depot>(depot: &mut D, job: &Job, retries: u32) -> Result<(), Status>
     requires { IsJob job.now }
     ensures free { (writes : List Write) (entry : Contents)
-        → Follows writes (Some entry) (D.held depot.old) (D.late depot.old) → OnOk result (IsPlanFree job.now entry) }
+        → Follows writes (Some entry) (D.shown depot.old).held (D.shown depot.old).late → OnOk result (IsPlanFree job.now entry) }
     ensures first { (writes : List Write) (entry : Contents)
-        → Follows writes (Some entry) (D.held depot.old) (D.late depot.old) → IfErr result (λ status. IfAsked status (IsFirstInWay job.now entry)) }
+        → Follows writes (Some entry) (D.shown depot.old).held (D.shown depot.old).late → IfErr result (λ status. IfAsked status (IsFirstInWay job.now entry)) }
     ensures apart { OnOk result (IsApart job.now) }
     ensures own { IfErr result (λ status. IfExists status (IsOwnFirst job.now)) }
     ensures follows { (writes : List Write) (entry : Option Contents)
-        → Follows writes entry (D.held depot.old) (D.late depot.old) → Follows writes entry (D.held depot.new) (D.late depot.new) }
-    ensures cause { IfErr result (IsAskFault (retries + 1) job.now (D.faults depot.old) (D.faults depot.new) (D.lacks depot.new) (D.held depot.new)) }
-    ensures count { D.faults depot.old ≤ D.faults depot.new }
-    ensures lacks { D.lacks depot.new ≡ D.lacks depot.old }
+        → Follows writes entry (D.shown depot.old).held (D.shown depot.old).late → Follows writes entry (D.shown depot.new).held (D.shown depot.new).late }
+    ensures cause { IfErr result (IsAskFault (retries + 1) job.now (D.shown depot.old).faults (D.shown depot.new).faults (D.shown depot.new).lacks (D.shown depot.new).held) }
+    ensures count { (D.shown depot.old).faults ≤ (D.shown depot.new).faults }
+    ensures lacks { (D.shown depot.new).lacks ≡ (D.shown depot.old).lacks }
 {
     let record = record_key(&job.names.out);
     let held = match ask_key(depot, &record, retries) {
@@ -60,16 +61,16 @@ pub fn ask_keys<D: Depot>(depot: &mut D, job: &Job, retries: u32) -> Result<(), 
 fn ask_output<D: Depot>(depot: &mut D, job: &Job, retries: u32) -> Result<(), Status>
     requires { IsJob job.now }
     ensures free { (writes : List Write) (entry : Contents)
-        → Follows writes (Some entry) (D.held depot.old) (D.late depot.old) → OnOk result (IsFree job.now entry) }
+        → Follows writes (Some entry) (D.shown depot.old).held (D.shown depot.old).late → OnOk result (IsFree job.now entry) }
     ensures first { (writes : List Write) (entry : Contents)
-        → Follows writes (Some entry) (D.held depot.old) (D.late depot.old) → IfErr result (λ status. IfAsked status (IsFirstOfOut job.now entry)) }
+        → Follows writes (Some entry) (D.shown depot.old).held (D.shown depot.old).late → IfErr result (λ status. IfAsked status (IsFirstOfOut job.now entry)) }
     ensures apart { OnOk result (IsApart job.now) }
     ensures own { IfErr result (λ status. IfExists status (IsOwnFirst job.now)) }
     ensures follows { (writes : List Write) (entry : Option Contents)
-        → Follows writes entry (D.held depot.old) (D.late depot.old) → Follows writes entry (D.held depot.new) (D.late depot.new) }
-    ensures cause { IfErr result (IsAskFault (retries + 1) job.now (D.faults depot.old) (D.faults depot.new) (D.lacks depot.new) (D.held depot.new)) }
-    ensures count { D.faults depot.old ≤ D.faults depot.new }
-    ensures lacks { D.lacks depot.new ≡ D.lacks depot.old }
+        → Follows writes entry (D.shown depot.old).held (D.shown depot.old).late → Follows writes entry (D.shown depot.new).held (D.shown depot.new).late }
+    ensures cause { IfErr result (IsAskFault (retries + 1) job.now (D.shown depot.old).faults (D.shown depot.new).faults (D.shown depot.new).lacks (D.shown depot.new).held) }
+    ensures count { (D.shown depot.old).faults ≤ (D.shown depot.new).faults }
+    ensures lacks { (D.shown depot.new).lacks ≡ (D.shown depot.old).lacks }
 {
     let metadata = metadata_key(&job.names.out);
     if is_own_input(job) {

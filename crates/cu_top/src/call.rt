@@ -13,8 +13,9 @@ use crate::expression::{NotAddition, read_expression};
 use crate::job::names_in;
 use crate::run::run;
 use crate::words::{Asked, Options, read_words};
-use cu_command::{ReadRefused, Status, key_of_name, read_all};
+use cu_command::{ReadRefused, Status, read_all};
 use cu_load::load;
+use cu_name::key_of_name;
 use cu_print::print;
 use cu_store::{Depot, Sink, Source};
 use std::alloc::Global;
@@ -29,14 +30,14 @@ pub fn top<R: Source, W: Sink, D: Depot>(
     depot: &mut D,
 ) -> Status
     // When each answer comes, and what it leaves.
-    ensures answer { Tells (command_of (map string_bytes words.now)) (IsUntouched (D.held depot.old) (D.held depot.new) (D.late depot.old) (D.late depot.new) × (R.left src.new ≡ R.left src.old) × (W.written out.new ≡ W.written out.old))
-        (λ options status. RunTells (R.left src.old) (R.left src.new) (R.faults src.old) (R.faults src.new) (D.held depot.old) (D.held depot.new) (D.late depot.old) (D.late depot.new) (RanSo options (D.held depot.old) (D.held depot.new) (D.late depot.old) (D.late depot.new) (D.faults depot.old) (D.faults depot.new) (W.faults out.old) (W.faults out.new) (W.written out.old) (W.written out.new)) status × PrintsOnly status (W.written out.old) (W.written out.new))
-        (λ retries. Loaded retries (R.left src.old) (R.left src.new) (R.faults src.old) (R.faults src.new) (D.held depot.old) (D.held depot.new) (D.late depot.old) (D.late depot.new) (D.faults depot.old) (D.faults depot.new) (W.faults out.old) (W.faults out.new) (W.written out.old) (W.written out.new))
-        (λ name retries status. Printed retries name (D.held depot.old) (D.held depot.new) (D.late depot.old) (D.late depot.new) (D.faults depot.old) (D.faults depot.new) (W.faults out.old) (W.faults out.new) (W.written out.old) (W.written out.new) status × (R.left src.new ≡ R.left src.old))
+    ensures answer { Tells (command_of (map string_bytes words.now)) (IsUntouched (D.shown depot.old).held (D.shown depot.new).held (D.shown depot.old).late (D.shown depot.new).late × (R.left src.new ≡ R.left src.old) × (W.written out.new ≡ W.written out.old))
+        (λ options status. RunTells (R.left src.old) (R.left src.new) (R.faults src.old) (R.faults src.new) (D.shown depot.old).held (D.shown depot.new).held (D.shown depot.old).late (D.shown depot.new).late (RanSo options (D.shown depot.old).held (D.shown depot.new).held (D.shown depot.old).late (D.shown depot.new).late (D.shown depot.old).faults (D.shown depot.new).faults (W.faults out.old) (W.faults out.new) (W.written out.old) (W.written out.new)) status × PrintsOnly status (W.written out.old) (W.written out.new))
+        (λ retries. Loaded retries (R.left src.old) (R.left src.new) (R.faults src.old) (R.faults src.new) (D.shown depot.old).held (D.shown depot.new).held (D.shown depot.old).late (D.shown depot.new).late (D.shown depot.old).faults (D.shown depot.new).faults (W.faults out.old) (W.faults out.new) (W.written out.old) (W.written out.new))
+        (λ name retries status. Printed retries name (D.shown depot.old).held (D.shown depot.new).held (D.shown depot.old).late (D.shown depot.new).late (D.shown depot.old).faults (D.shown depot.new).faults (W.faults out.old) (W.faults out.new) (W.written out.old) (W.written out.new) status × (R.left src.new ≡ R.left src.old))
         result }
     // Where a run is accepted, nothing is in the way and no count of faults rises, it is carried out, or memory is wanted.
-    ensures complete { (text : List ℕ) (entry : Contents) → R.left src.old ≡ Some text → D.held depot.old ≡ Some entry → IsServable (map string_bytes words.now) text entry (D.late depot.old)
-        → StoodStill (R.faults src.old) (R.faults src.new) → StoodStill (W.faults out.old) (W.faults out.new) → StoodStill (D.faults depot.old) (D.faults depot.new) → IsServed result }
+    ensures complete { (text : List ℕ) (entry : Contents) → R.left src.old ≡ Some text → (D.shown depot.old).held ≡ Some entry → IsServable (map string_bytes words.now) text entry (D.shown depot.old).late
+        → StoodStill (R.faults src.old) (R.faults src.new) → StoodStill (W.faults out.old) (W.faults out.new) → StoodStill (D.shown depot.old).faults (D.shown depot.new).faults → IsServed result }
 {
     carry(alloc, words, src, out, depot)
 }
@@ -50,10 +51,10 @@ fn carry<R: Source, W: Sink, D: Depot>(
     depot: &mut D,
 ) -> Status
     // When each answer comes, and what it leaves.
-    ensures answer { Tells (command_of (map string_bytes words.now)) (IsUntouched (D.held depot.old) (D.held depot.new) (D.late depot.old) (D.late depot.new) × (R.left src.new ≡ R.left src.old) × (W.written out.new ≡ W.written out.old))
-        (λ options status. RunTells (R.left src.old) (R.left src.new) (R.faults src.old) (R.faults src.new) (D.held depot.old) (D.held depot.new) (D.late depot.old) (D.late depot.new) (RanSo options (D.held depot.old) (D.held depot.new) (D.late depot.old) (D.late depot.new) (D.faults depot.old) (D.faults depot.new) (W.faults out.old) (W.faults out.new) (W.written out.old) (W.written out.new)) status × PrintsOnly status (W.written out.old) (W.written out.new))
-        (λ retries. Loaded retries (R.left src.old) (R.left src.new) (R.faults src.old) (R.faults src.new) (D.held depot.old) (D.held depot.new) (D.late depot.old) (D.late depot.new) (D.faults depot.old) (D.faults depot.new) (W.faults out.old) (W.faults out.new) (W.written out.old) (W.written out.new))
-        (λ name retries status. Printed retries name (D.held depot.old) (D.held depot.new) (D.late depot.old) (D.late depot.new) (D.faults depot.old) (D.faults depot.new) (W.faults out.old) (W.faults out.new) (W.written out.old) (W.written out.new) status × (R.left src.new ≡ R.left src.old))
+    ensures answer { Tells (command_of (map string_bytes words.now)) (IsUntouched (D.shown depot.old).held (D.shown depot.new).held (D.shown depot.old).late (D.shown depot.new).late × (R.left src.new ≡ R.left src.old) × (W.written out.new ≡ W.written out.old))
+        (λ options status. RunTells (R.left src.old) (R.left src.new) (R.faults src.old) (R.faults src.new) (D.shown depot.old).held (D.shown depot.new).held (D.shown depot.old).late (D.shown depot.new).late (RanSo options (D.shown depot.old).held (D.shown depot.new).held (D.shown depot.old).late (D.shown depot.new).late (D.shown depot.old).faults (D.shown depot.new).faults (W.faults out.old) (W.faults out.new) (W.written out.old) (W.written out.new)) status × PrintsOnly status (W.written out.old) (W.written out.new))
+        (λ retries. Loaded retries (R.left src.old) (R.left src.new) (R.faults src.old) (R.faults src.new) (D.shown depot.old).held (D.shown depot.new).held (D.shown depot.old).late (D.shown depot.new).late (D.shown depot.old).faults (D.shown depot.new).faults (W.faults out.old) (W.faults out.new) (W.written out.old) (W.written out.new))
+        (λ name retries status. Printed retries name (D.shown depot.old).held (D.shown depot.new).held (D.shown depot.old).late (D.shown depot.new).late (D.shown depot.old).faults (D.shown depot.new).faults (W.faults out.old) (W.faults out.new) (W.written out.old) (W.written out.new) status × (R.left src.new ≡ R.left src.old))
         result }
 {
     let asked = match read_words(words) {
@@ -77,8 +78,8 @@ fn run_command<R: Source, W: Sink, D: Depot>(
 ) -> Status
     requires reserved { options.reserved ≤ 2 ^ 40 }
     requires retries { options.retries ≤ 8 }
-    ensures answer { RunTells (R.left src.old) (R.left src.new) (R.faults src.old) (R.faults src.new) (D.held depot.old) (D.held depot.new) (D.late depot.old) (D.late depot.new)
-        (RanSo options (D.held depot.old) (D.held depot.new) (D.late depot.old) (D.late depot.new) (D.faults depot.old) (D.faults depot.new) (W.faults out.old) (W.faults out.new) (W.written out.old) (W.written out.new)) result }
+    ensures answer { RunTells (R.left src.old) (R.left src.new) (R.faults src.old) (R.faults src.new) (D.shown depot.old).held (D.shown depot.new).held (D.shown depot.old).late (D.shown depot.new).late
+        (RanSo options (D.shown depot.old).held (D.shown depot.new).held (D.shown depot.old).late (D.shown depot.new).late (D.shown depot.old).faults (D.shown depot.new).faults (W.faults out.old) (W.faults out.new) (W.written out.old) (W.written out.new)) result }
     ensures prints { PrintsOnly result (W.written out.old) (W.written out.new) }
 {
     let text = match read_all(alloc, src) {

@@ -6,8 +6,9 @@ ghost use Rattle.serde_json.specs.View.{view};
 ghost use Rattle.serde_json.specs.Written.{has_float};
 ghost use Rattle.cu_top.specs.Expression.{AreNames, names_of, is_pair, input_of, sum_of, addition_in, addition_of, are_distinct};
 
-use cu_command::{Name, name_at};
+use cu_command::name_at;
 use cu_json::{is_list_of, is_object_of, is_text};
+use cu_name::IdText;
 use serde_json::Value;
 use std::alloc::Global;
 use std::str;
@@ -19,11 +20,11 @@ const TEXT_BYTES: usize = 1_048_576;
 #[derive(Clone, Copy)]
 pub struct Addition {
     /// The array on the left.
-    pub left: Name,
+    pub left: IdText,
     /// The array on the right.
-    pub right: Name,
+    pub right: IdText,
     /// The array that is made.
-    pub out: Name,
+    pub out: IdText,
 }
 
 /// An addition, and the value that says it.
@@ -46,8 +47,8 @@ pub enum NotAddition {
 /// An input node.
 #[derive(Clone, Copy)]
 struct Input {
-    id: Name,
-    array: Name,
+    id: IdText,
+    array: IdText,
 }
 
 /// The expression that a text says. The text is a JSON object such as
@@ -98,10 +99,10 @@ fn addition_in(value: &Value) -> Option<Addition>
     let left = input_in(nodes.get(0)?)?;
     let right = input_in(nodes.get(1)?)?;
     let sum = sum_in(nodes.get(2)?, &left.id, &right.id)?;
-    if !are_distinct(left.id.as_str(), right.id.as_str(), sum.as_str()) {
+    if !are_distinct(left.id.text(), right.id.text(), sum.text()) {
         return None;
     }
-    if !is_text(value.get("out"), sum.as_str()) {
+    if !is_text(value.get("out"), sum.text()) {
         return None;
     }
     let out = name_at(value, "store_as")?;
@@ -113,7 +114,7 @@ fn addition_in(value: &Value) -> Option<Addition>
 }
 
 fn input_in(node: &Value) -> Option<Input>
-    ensures { option_map (λ i. record { id = i.id.bytes; array = i.array.bytes }) result ≡ input_of (view node.now) }
+    ensures { option_map (λ i. record { id = i.id; array = i.array }) result ≡ input_of (view node.now) }
 {
     if !is_object_of(node, 3) {
         return None;
@@ -126,8 +127,8 @@ fn input_in(node: &Value) -> Option<Input>
     Some(Input { id, array })
 }
 
-fn sum_in(node: &Value, left: &Name, right: &Name) -> Option<Name>
-    ensures { option_map (λ n. n.bytes) result ≡ sum_of left.now.bytes right.now.bytes (view node.now) }
+fn sum_in(node: &Value, left: &IdText, right: &IdText) -> Option<IdText>
+    ensures { result ≡ sum_of left.now right.now (view node.now) }
 {
     if !is_object_of(node, 3) {
         return None;
@@ -135,7 +136,7 @@ fn sum_in(node: &Value, left: &Name, right: &Name) -> Option<Name>
     if !is_text(node.get("op"), "add") {
         return None;
     }
-    if !is_pair(node.get("args")?, left.as_str(), right.as_str()) {
+    if !is_pair(node.get("args")?, left.text(), right.text()) {
         return None;
     }
     name_at(node, "id")

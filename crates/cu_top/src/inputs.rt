@@ -50,17 +50,17 @@ pub fn read_inputs<D: Depot>(
     requires { AreArrayNames names.now }
     ensures names { IfOk result (HasNames names.now) }
     ensures job { IfOk result IsJob }
-    ensures inputs { (entry : Contents) (late : List Write) → Follows late (Some entry) (D.held depot.old) (D.late depot.old)
+    ensures inputs { (entry : Contents) (late : List Write) → Follows late (Some entry) (D.shown depot.old).held (D.shown depot.old).late
         → IfOk result (λ job. IsCalmMetadata names.now entry late → HasInputs job entry) }
-    ensures order { (entry : Contents) (late : List Write) → Follows late (Some entry) (D.held depot.old) (D.late depot.old)
+    ensures order { (entry : Contents) (late : List Write) → Follows late (Some entry) (D.shown depot.old).held (D.shown depot.old).late
         → IfErr result (λ status. IfInput status (IsInOrder names.now entry late)) }
-    ensures unlike { (entry : Contents) (late : List Write) → Follows late (Some entry) (D.held depot.old) (D.late depot.old)
+    ensures unlike { (entry : Contents) (late : List Write) → Follows late (Some entry) (D.shown depot.old).held (D.shown depot.old).late
         → IfErr result (λ status. IfNotBuilt status (AreUnlike names.now entry late)) }
     ensures follows { (writes : List Write) (entry : Option Contents)
-        → Follows writes entry (D.held depot.old) (D.late depot.old) → Follows writes entry (D.held depot.new) (D.late depot.new) }
-    ensures cause { IfErr result (IsInputFault (retries + 1) names.now (D.faults depot.old) (D.faults depot.new) (D.held depot.new)) }
-    ensures count { D.faults depot.old ≤ D.faults depot.new }
-    ensures lacks { D.lacks depot.new ≡ D.lacks depot.old }
+        → Follows writes entry (D.shown depot.old).held (D.shown depot.old).late → Follows writes entry (D.shown depot.new).held (D.shown depot.new).late }
+    ensures cause { IfErr result (IsInputFault (retries + 1) names.now (D.shown depot.old).faults (D.shown depot.new).faults (D.shown depot.new).held) }
+    ensures count { (D.shown depot.old).faults ≤ (D.shown depot.new).faults }
+    ensures lacks { (D.shown depot.new).lacks ≡ (D.shown depot.old).lacks }
 {
     let Ok(mut buf) = metadata_room(alloc) else {
         return Err(Status::NoMemory);

@@ -1,13 +1,12 @@
 //! An addition whose arrays are known.
 ghost use Rattle.std.specs.Prelude.{◌≡◌, ◌≤◌, true};
 ghost use Rattle.cu_op.specs.Layout.{layout_view};
-ghost use Rattle.cu_command.specs.Name.{is_name};
+ghost use Rattle.cu_name.specs.Name.{is_name, IsArrayName};
 ghost use Rattle.cu_top.specs.Expression.{AreNames, names_of};
-ghost use Rattle.cu_command.specs.Name.{IsArrayName};
 ghost use Rattle.cu_top.specs.Job.{AreArrayNames, IsJob, left_array, right_array, out_array, chunks_of, made_layout};
 
 use crate::expression::Addition;
-use cu_command::key_of_name;
+use cu_name::key_of_name;
 use cu_num::{Encoding, Endian, Sep};
 use cu_op::{ArrayInfo, Layout};
 use cu_store::Key;
@@ -88,9 +87,9 @@ impl Job {
 /// The names of an addition.
 pub fn names_in(addition: &Addition) -> Names
     requires { AreNames (names_of addition.now) }
-    ensures left { result.left ≡ addition.now.left.bytes }
-    ensures right { result.right ≡ addition.now.right.bytes }
-    ensures out { result.out ≡ addition.now.out.bytes }
+    ensures left { result.left ≡ addition.now.left }
+    ensures right { result.right ≡ addition.now.right }
+    ensures out { result.out ≡ addition.now.out }
     ensures names { AreArrayNames result }
 {
     Names {

@@ -14,7 +14,8 @@ ghost use Rattle.cu_top.specs.declared.words.Options.{Options as Numbers};
 use crate::job::Job;
 use crate::tasks::run_tasks;
 use cu_codec::metadata_key;
-use cu_command::{Status, put_value, record_key};
+use cu_command::{Status, put_value};
+use cu_name::record_key;
 use cu_op::Plan;
 use cu_store::Depot;
 
@@ -44,25 +45,25 @@ pub fn store_plan<D: Depot>(
     requires words { length words.old ≡ 192 }
     requires room { plan.now.reserved + length bytes.old + 8 * length words.old ≡ projection plan.now.arrays plan.now.reserved (op_of plan.now 0) }
     ensures started { (entry : Contents) (late : List Write)
-        → IsBegun job.now texts.now.record.items entry late (D.held depot.old) (D.late depot.old) → IsBegun job.now texts.now.record.items entry late (D.held depot.new) (D.late depot.new) }
+        → IsBegun job.now texts.now.record.items entry late (D.shown depot.old).held (D.shown depot.old).late → IsBegun job.now texts.now.record.items entry late (D.shown depot.new).held (D.shown depot.new).late }
     ensures complete { (entry : Contents) (late : List Write)
-        → IsBegun job.now texts.now.record.items entry late (D.held depot.old) (D.late depot.old) → OnOk result (Completes job.now texts.now.record.items entry (D.held depot.new)) }
+        → IsBegun job.now texts.now.record.items entry late (D.shown depot.old).held (D.shown depot.old).late → OnOk result (Completes job.now texts.now.record.items entry (D.shown depot.new).held) }
     ensures first { (entry : Contents) (late : List Write)
-        → IsBegun job.now texts.now.record.items entry late (D.held depot.old) (D.late depot.old) → Follows late (Some entry) (D.held depot.old) (D.late depot.old)
-        → IsRecordFirst job.now texts.now.record.items entry late (D.held depot.new) (D.late depot.new) }
+        → IsBegun job.now texts.now.record.items entry late (D.shown depot.old).held (D.shown depot.old).late → Follows late (Some entry) (D.shown depot.old).held (D.shown depot.old).late
+        → IsRecordFirst job.now texts.now.record.items entry late (D.shown depot.new).held (D.shown depot.new).late }
     ensures failed_first { (entry : Contents) (late : List Write)
-        → IsBegun job.now texts.now.record.items entry late (D.held depot.old) (D.late depot.old) → Follows late (Some entry) (D.held depot.old) (D.late depot.old)
-        → IfErr result (λ status. IfDepotFailed status (IsFirstFailed job.now texts.now.record.items entry late (D.held depot.new) (D.late depot.new))) }
+        → IsBegun job.now texts.now.record.items entry late (D.shown depot.old).held (D.shown depot.old).late → Follows late (Some entry) (D.shown depot.old).held (D.shown depot.old).late
+        → IfErr result (λ status. IfDepotFailed status (IsFirstFailed job.now texts.now.record.items entry late (D.shown depot.new).held (D.shown depot.new).late)) }
     ensures first_held { (entry : Contents) (late : List Write)
-        → IsBegun job.now texts.now.record.items entry late (D.held depot.old) (D.late depot.old)
-        → IfErr result (λ status. IfTaskEnded status (HasFirst (D.held depot.new) job.now texts.now.record.items)) }
+        → IsBegun job.now texts.now.record.items entry late (D.shown depot.old).held (D.shown depot.old).late
+        → IfErr result (λ status. IfTaskEnded status (HasFirst (D.shown depot.new).held job.now texts.now.record.items)) }
     ensures others { (late : List Write) (entry : Option Contents)
-        → PlanAlone job.now late entry (D.held depot.old) (D.late depot.old) → PlanAlone job.now late entry (D.held depot.new) (D.late depot.new) }
-    ensures cause { IfErr result (IsStoreFault (retries + 1) job.now (D.faults depot.old) (D.faults depot.new) (D.held depot.new)) }
-    ensures failed { CountsFailed (D.faults depot.old) (D.faults depot.new) result }
+        → PlanAlone job.now late entry (D.shown depot.old).held (D.shown depot.old).late → PlanAlone job.now late entry (D.shown depot.new).held (D.shown depot.new).late }
+    ensures cause { IfErr result (IsStoreFault (retries + 1) job.now (D.shown depot.old).faults (D.shown depot.new).faults (D.shown depot.new).held) }
+    ensures failed { CountsFailed (D.shown depot.old).faults (D.shown depot.new).faults result }
     ensures few { IfOk result (λ failed. failed ≤ retries * chunks_of job.now) }
-    ensures count { D.faults depot.old ≤ D.faults depot.new }
-    ensures lacks { D.lacks depot.new ≡ D.lacks depot.old }
+    ensures count { (D.shown depot.old).faults ≤ (D.shown depot.new).faults }
+    ensures lacks { (D.shown depot.new).lacks ≡ (D.shown depot.old).lacks }
 {
     let key = record_key(&job.names.out);
     match put_value(depot, &key, &texts.record, retries) {
@@ -89,24 +90,24 @@ fn store_output<D: Depot>(
     requires words { length words.old ≡ 192 }
     requires room { plan.now.reserved + length bytes.old + 8 * length words.old ≡ projection plan.now.arrays plan.now.reserved (op_of plan.now 0) }
     ensures started { (entry : Contents) (late : List Write)
-        → IsStarted job.now entry late (D.held depot.old) (D.late depot.old) → IsStarted job.now entry late (D.held depot.new) (D.late depot.new) }
+        → IsStarted job.now entry late (D.shown depot.old).held (D.shown depot.old).late → IsStarted job.now entry late (D.shown depot.new).held (D.shown depot.new).late }
     ensures complete { (entry : Contents) (late : List Write)
-        → IsStarted job.now entry late (D.held depot.old) (D.late depot.old) → OnOk result (StoresOutput job.now entry (D.held depot.new)) }
+        → IsStarted job.now entry late (D.shown depot.old).held (D.shown depot.old).late → OnOk result (StoresOutput job.now entry (D.shown depot.new).held) }
     ensures stays { (entry : Contents) (late : List Write)
-        → IsStarted job.now entry late (D.held depot.old) (D.late depot.old) → ValuesStay job.now entry late (D.held depot.old) (D.held depot.new) }
+        → IsStarted job.now entry late (D.shown depot.old).held (D.shown depot.old).late → ValuesStay job.now entry late (D.shown depot.old).held (D.shown depot.new).held }
     ensures metadata_alone { (writes : List Write) (entry : Option Contents) → IsAmong writes (metadata_write job.now).0 (metadata_write job.now).1
-        → Follows writes entry (D.held depot.old) (D.late depot.old)
-        → IfErr result (λ status. IfDepotFailed status (λ key. (key ≡ metadata_key_of job.now.names.out) × Follows writes entry (D.held depot.new) (D.late depot.new))) }
+        → Follows writes entry (D.shown depot.old).held (D.shown depot.old).late
+        → IfErr result (λ status. IfDepotFailed status (λ key. (key ≡ metadata_key_of job.now.names.out) × Follows writes entry (D.shown depot.new).held (D.shown depot.new).late)) }
     ensures metadata_held { (entry : Contents) (late : List Write)
-        → IsStarted job.now entry late (D.held depot.old) (D.late depot.old)
-        → IfErr result (λ status. IfTaskEnded status (Holds (D.held depot.new) (metadata_key_of job.now.names.out) (out_metadata job.now))) }
+        → IsStarted job.now entry late (D.shown depot.old).held (D.shown depot.old).late
+        → IfErr result (λ status. IfTaskEnded status (Holds (D.shown depot.new).held (metadata_key_of job.now.names.out) (out_metadata job.now))) }
     ensures others { (late : List Write) (entry : Option Contents)
-        → PlanAlone job.now late entry (D.held depot.old) (D.late depot.old) → PlanAlone job.now late entry (D.held depot.new) (D.late depot.new) }
-    ensures cause { IfErr result (IsStoreFault (retries + 1) job.now (D.faults depot.old) (D.faults depot.new) (D.held depot.new)) }
-    ensures failed { CountsFailed (D.faults depot.old) (D.faults depot.new) result }
+        → PlanAlone job.now late entry (D.shown depot.old).held (D.shown depot.old).late → PlanAlone job.now late entry (D.shown depot.new).held (D.shown depot.new).late }
+    ensures cause { IfErr result (IsStoreFault (retries + 1) job.now (D.shown depot.old).faults (D.shown depot.new).faults (D.shown depot.new).held) }
+    ensures failed { CountsFailed (D.shown depot.old).faults (D.shown depot.new).faults result }
     ensures few { IfOk result (λ failed. failed ≤ retries * chunks_of job.now) }
-    ensures count { D.faults depot.old ≤ D.faults depot.new }
-    ensures lacks { D.lacks depot.new ≡ D.lacks depot.old }
+    ensures count { (D.shown depot.old).faults ≤ (D.shown depot.new).faults }
+    ensures lacks { (D.shown depot.new).lacks ≡ (D.shown depot.old).lacks }
 {
     let key = metadata_key(&job.names.out);
     match put_value(depot, &key, metadata, retries) {

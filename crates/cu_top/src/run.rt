@@ -33,15 +33,15 @@ pub fn prepare<D: Depot>(
     requires names { AreArrayNames names.now }
     requires reserved { options.reserved ≤ 2 ^ 40 }
     requires retries { options.retries ≤ 8 }
-    ensures accepted { IfOk result (IsAccepted names.now options (D.held depot.old) (D.late depot.old)) }
+    ensures accepted { IfOk result (IsAccepted names.now options (D.shown depot.old).held (D.shown depot.old).late) }
     ensures job { IfOk result IsJob }
     ensures fits { IfOk result (λ job. over_memory options job ≡ None) }
     ensures apart { IfOk result IsApart }
-    ensures free { (entry : Contents) → D.held depot.old ≡ Some entry → IfOk result (λ job. IsPlanFree job entry) }
-    ensures refused { IfErr result (Refuses names.now options (D.held depot.old) (D.held depot.new) (D.late depot.old) (D.faults depot.old) (D.faults depot.new)) }
+    ensures free { (entry : Contents) → (D.shown depot.old).held ≡ Some entry → IfOk result (λ job. IsPlanFree job entry) }
+    ensures refused { IfErr result (Refuses names.now options (D.shown depot.old).held (D.shown depot.new).held (D.shown depot.old).late (D.shown depot.old).faults (D.shown depot.new).faults) }
     ensures follows { (writes : List Write) (entry : Option Contents)
-        → Follows writes entry (D.held depot.old) (D.late depot.old) → Follows writes entry (D.held depot.new) (D.late depot.new) }
-    ensures count { D.faults depot.old ≤ D.faults depot.new }
+        → Follows writes entry (D.shown depot.old).held (D.shown depot.old).late → Follows writes entry (D.shown depot.new).held (D.shown depot.new).late }
+    ensures count { (D.shown depot.old).faults ≤ (D.shown depot.new).faults }
 {
     let job = match read_inputs(alloc, depot, names, options.retries) {
         Ok(job) => job,
@@ -80,25 +80,25 @@ pub fn carry_out<W: Sink, D: Depot>(
     requires reserved { options.reserved ≤ 2 ^ 40 }
     requires retries { options.retries ≤ 8 }
     requires plain { has_float (view expr.now) ≡ false }
-    ensures answer { Carries job.now options (D.faults depot.old) (D.faults depot.new) (D.held depot.new) (W.faults out.old) (W.faults out.new) (W.written out.old) (W.written out.new) result }
+    ensures answer { Carries job.now options (D.shown depot.old).faults (D.shown depot.new).faults (D.shown depot.new).held (W.faults out.old) (W.faults out.new) (W.written out.old) (W.written out.new) result }
     ensures prints { PrintsOnly result (W.written out.old) (W.written out.new) }
     ensures others { (late : List Write) (entry : Option Contents)
-        → PlanAlone job.now late entry (D.held depot.old) (D.late depot.old) → PlanAlone job.now late entry (D.held depot.new) (D.late depot.new) }
+        → PlanAlone job.now late entry (D.shown depot.old).held (D.shown depot.old).late → PlanAlone job.now late entry (D.shown depot.new).held (D.shown depot.new).late }
     ensures started { (entry : Contents) (late : List Write)
-        → IsBegun job.now (record_text options (view expr.now) job.now) entry late (D.held depot.old) (D.late depot.old)
-        → IsBegun job.now (record_text options (view expr.now) job.now) entry late (D.held depot.new) (D.late depot.new) }
+        → IsBegun job.now (record_text options (view expr.now) job.now) entry late (D.shown depot.old).held (D.shown depot.old).late
+        → IsBegun job.now (record_text options (view expr.now) job.now) entry late (D.shown depot.new).held (D.shown depot.new).late }
     ensures stored { (entry : Contents) (late : List Write)
-        → IsBegun job.now (record_text options (view expr.now) job.now) entry late (D.held depot.old) (D.late depot.old)
-        → IfStored result (Completes job.now (record_text options (view expr.now) job.now) entry (D.held depot.new)) }
+        → IsBegun job.now (record_text options (view expr.now) job.now) entry late (D.shown depot.old).held (D.shown depot.old).late
+        → IfStored result (Completes job.now (record_text options (view expr.now) job.now) entry (D.shown depot.new).held) }
     ensures first { (entry : Contents) (late : List Write)
-        → IsBegun job.now (record_text options (view expr.now) job.now) entry late (D.held depot.old) (D.late depot.old) → Follows late (Some entry) (D.held depot.old) (D.late depot.old)
-        → IsRecordFirst job.now (record_text options (view expr.now) job.now) entry late (D.held depot.new) (D.late depot.new) }
+        → IsBegun job.now (record_text options (view expr.now) job.now) entry late (D.shown depot.old).held (D.shown depot.old).late → Follows late (Some entry) (D.shown depot.old).held (D.shown depot.old).late
+        → IsRecordFirst job.now (record_text options (view expr.now) job.now) entry late (D.shown depot.new).held (D.shown depot.new).late }
     ensures failed_first { (entry : Contents) (late : List Write)
-        → IsBegun job.now (record_text options (view expr.now) job.now) entry late (D.held depot.old) (D.late depot.old) → Follows late (Some entry) (D.held depot.old) (D.late depot.old)
-        → IfDepotFailed result (IsFirstFailed job.now (record_text options (view expr.now) job.now) entry late (D.held depot.new) (D.late depot.new)) }
+        → IsBegun job.now (record_text options (view expr.now) job.now) entry late (D.shown depot.old).held (D.shown depot.old).late → Follows late (Some entry) (D.shown depot.old).held (D.shown depot.old).late
+        → IfDepotFailed result (IsFirstFailed job.now (record_text options (view expr.now) job.now) entry late (D.shown depot.new).held (D.shown depot.new).late) }
     ensures first_held { (entry : Contents) (late : List Write)
-        → IsBegun job.now (record_text options (view expr.now) job.now) entry late (D.held depot.old) (D.late depot.old)
-        → IfTaskEnded result (HasFirst (D.held depot.new) job.now (record_text options (view expr.now) job.now)) }
+        → IsBegun job.now (record_text options (view expr.now) job.now) entry late (D.shown depot.old).held (D.shown depot.old).late
+        → IfTaskEnded result (HasFirst (D.shown depot.new).held job.now (record_text options (view expr.now) job.now)) }
 {
     let Ok(plan) = make_plan(alloc, options, job) else {
         return Status::NoMemory;
@@ -140,7 +140,7 @@ pub fn run<W: Sink, D: Depot>(
     requires reserved { options.reserved ≤ 2 ^ 40 }
     requires retries { options.retries ≤ 8 }
     requires plain { has_float (view expr.now) ≡ false }
-    ensures answer { RanSo options (D.held depot.old) (D.held depot.new) (D.late depot.old) (D.late depot.new) (D.faults depot.old) (D.faults depot.new) (W.faults out.old) (W.faults out.new) (W.written out.old) (W.written out.new) names.now (view expr.now) result }
+    ensures answer { RanSo options (D.shown depot.old).held (D.shown depot.new).held (D.shown depot.old).late (D.shown depot.new).late (D.shown depot.old).faults (D.shown depot.new).faults (W.faults out.old) (W.faults out.new) (W.written out.old) (W.written out.new) names.now (view expr.now) result }
     ensures prints { PrintsOnly result (W.written out.old) (W.written out.new) }
 {
     match prepare(alloc, options, names, depot) {

@@ -29,18 +29,18 @@ fn try_task<D: Depot>(
     requires words { length words.old ≡ 192 }
     requires room { plan.now.reserved + length bytes.old + 8 * length words.old ≡ projection plan.now.arrays plan.now.reserved (op_of plan.now 0) }
     ensures started { (options : Numbers) (job : Addition) (entry : Contents) (late : List Write) → plan.now ≡ plan_of options job
-        → IsStarted job entry late (D.held depot.old) (D.late depot.old) → IsStarted job entry late (D.held depot.new) (D.late depot.new) }
+        → IsStarted job entry late (D.shown depot.old).held (D.shown depot.old).late → IsStarted job entry late (D.shown depot.new).held (D.shown depot.new).late }
     ensures stored { (options : Numbers) (job : Addition) (entry : Contents) (late : List Write) → plan.now ≡ plan_of options job
-        → IsStarted job entry late (D.held depot.old) (D.late depot.old) → OnOk result (StoresChunk job entry (D.held depot.new) task) }
+        → IsStarted job entry late (D.shown depot.old).held (D.shown depot.old).late → OnOk result (StoresChunk job entry (D.shown depot.new).held task) }
     ensures stays { (options : Numbers) (job : Addition) (entry : Contents) (late : List Write) → plan.now ≡ plan_of options job
-        → IsStarted job entry late (D.held depot.old) (D.late depot.old) → ValuesStay job entry late (D.held depot.old) (D.held depot.new) }
+        → IsStarted job entry late (D.shown depot.old).held (D.shown depot.old).late → ValuesStay job entry late (D.shown depot.old).held (D.shown depot.new).held }
     ensures others { (options : Numbers) (job : Addition) (late : List Write) (entry : Option Contents) → plan.now ≡ plan_of options job
-        → PlanAlone job late entry (D.held depot.old) (D.late depot.old) → PlanAlone job late entry (D.held depot.new) (D.late depot.new) }
+        → PlanAlone job late entry (D.shown depot.old).held (D.shown depot.old).late → PlanAlone job late entry (D.shown depot.new).held (D.shown depot.new).late }
     ensures cause { (options : Numbers) (job : Addition) → plan.now ≡ plan_of options job → IsJob job
-        → IfErr result (IsTryFault job (D.faults depot.old) (D.faults depot.new) (D.lacks depot.new) (D.held depot.new)) }
-    ensures count { D.faults depot.old ≤ D.faults depot.new }
-    ensures calls { D.calls depot.new ≤ D.calls depot.old + 3 }
-    ensures lacks { D.lacks depot.new ≡ D.lacks depot.old }
+        → IfErr result (IsTryFault job (D.shown depot.old).faults (D.shown depot.new).faults (D.shown depot.new).lacks (D.shown depot.new).held) }
+    ensures count { (D.shown depot.old).faults ≤ (D.shown depot.new).faults }
+    ensures calls { (D.shown depot.new).calls ≤ (D.shown depot.old).calls + 3 }
+    ensures lacks { (D.shown depot.new).lacks ≡ (D.shown depot.old).lacks }
 {
     run_task(depot, plan, 0, task, bytes, words)
 }
@@ -75,22 +75,22 @@ fn finish_task<D: Depot>(
     requires words { length words.old ≡ 192 }
     requires room { plan.now.reserved + length bytes.old + 8 * length words.old ≡ projection plan.now.arrays plan.now.reserved (op_of plan.now 0) }
     ensures started { (options : Numbers) (job : Addition) (entry : Contents) (late : List Write) → plan.now ≡ plan_of options job
-        → IsStarted job entry late (D.held depot.old) (D.late depot.old) → IsStarted job entry late (D.held depot.new) (D.late depot.new) }
+        → IsStarted job entry late (D.shown depot.old).held (D.shown depot.old).late → IsStarted job entry late (D.shown depot.new).held (D.shown depot.new).late }
     ensures stored { (options : Numbers) (job : Addition) (entry : Contents) (late : List Write) → plan.now ≡ plan_of options job
-        → IsStarted job entry late (D.held depot.old) (D.late depot.old) → OnOk result (StoresChunk job entry (D.held depot.new) task) }
+        → IsStarted job entry late (D.shown depot.old).held (D.shown depot.old).late → OnOk result (StoresChunk job entry (D.shown depot.new).held task) }
     ensures stays { (options : Numbers) (job : Addition) (entry : Contents) (late : List Write) → plan.now ≡ plan_of options job
-        → IsStarted job entry late (D.held depot.old) (D.late depot.old) → ValuesStay job entry late (D.held depot.old) (D.held depot.new) }
+        → IsStarted job entry late (D.shown depot.old).held (D.shown depot.old).late → ValuesStay job entry late (D.shown depot.old).held (D.shown depot.new).held }
     ensures others { (options : Numbers) (job : Addition) (late : List Write) (entry : Option Contents) → plan.now ≡ plan_of options job
-        → PlanAlone job late entry (D.held depot.old) (D.late depot.old) → PlanAlone job late entry (D.held depot.new) (D.late depot.new) }
+        → PlanAlone job late entry (D.shown depot.old).held (D.shown depot.old).late → PlanAlone job late entry (D.shown depot.new).held (D.shown depot.new).late }
     ensures cause { (options : Numbers) (job : Addition) → plan.now ≡ plan_of options job → IsJob job
-        → IfErr result (IsTaskEnd (retries + 1) job (D.faults depot.old) (D.faults depot.new) (D.lacks depot.new) (D.held depot.new)) }
-    ensures failed { CountsFailed (D.faults depot.old) (D.faults depot.new) result }
+        → IfErr result (IsTaskEnd (retries + 1) job (D.shown depot.old).faults (D.shown depot.new).faults (D.shown depot.new).lacks (D.shown depot.new).held) }
+    ensures failed { CountsFailed (D.shown depot.old).faults (D.shown depot.new).faults result }
     ensures few { IfOk result (λ failed. failed ≤ retries) }
     ensures named { IfErr result (λ status. IfTaskFailed status (λ op named. named ≡ task)) }
-    ensures calls { D.calls depot.new ≤ D.calls depot.old + 3 * (retries + 1) }
-    ensures tries { IfOk result (λ failed. D.calls depot.new ≤ D.calls depot.old + 3 * (failed + 1)) }
-    ensures count { D.faults depot.old ≤ D.faults depot.new }
-    ensures lacks { D.lacks depot.new ≡ D.lacks depot.old }
+    ensures calls { (D.shown depot.new).calls ≤ (D.shown depot.old).calls + 3 * (retries + 1) }
+    ensures tries { IfOk result (λ failed. (D.shown depot.new).calls ≤ (D.shown depot.old).calls + 3 * (failed + 1)) }
+    ensures count { (D.shown depot.old).faults ≤ (D.shown depot.new).faults }
+    ensures lacks { (D.shown depot.new).lacks ≡ (D.shown depot.old).lacks }
 {
     for failed in 0..retries + 1 {
         match try_task(depot, plan, task, bytes, words) {
@@ -118,19 +118,19 @@ pub fn run_tasks<D: Depot>(
     requires words { length words.old ≡ 192 }
     requires room { plan.now.reserved + length bytes.old + 8 * length words.old ≡ projection plan.now.arrays plan.now.reserved (op_of plan.now 0) }
     ensures started { (options : Numbers) (job : Addition) (entry : Contents) (late : List Write) → plan.now ≡ plan_of options job
-        → IsStarted job entry late (D.held depot.old) (D.late depot.old) → IsStarted job entry late (D.held depot.new) (D.late depot.new) }
+        → IsStarted job entry late (D.shown depot.old).held (D.shown depot.old).late → IsStarted job entry late (D.shown depot.new).held (D.shown depot.new).late }
     ensures stored { (options : Numbers) (job : Addition) (entry : Contents) (late : List Write) → plan.now ≡ plan_of options job
-        → IsStarted job entry late (D.held depot.old) (D.late depot.old) → OnOk result (StoresChunks job entry (D.held depot.new) (chunks_of job)) }
+        → IsStarted job entry late (D.shown depot.old).held (D.shown depot.old).late → OnOk result (StoresChunks job entry (D.shown depot.new).held (chunks_of job)) }
     ensures stays { (options : Numbers) (job : Addition) (entry : Contents) (late : List Write) → plan.now ≡ plan_of options job
-        → IsStarted job entry late (D.held depot.old) (D.late depot.old) → ValuesStay job entry late (D.held depot.old) (D.held depot.new) }
+        → IsStarted job entry late (D.shown depot.old).held (D.shown depot.old).late → ValuesStay job entry late (D.shown depot.old).held (D.shown depot.new).held }
     ensures others { (options : Numbers) (job : Addition) (late : List Write) (entry : Option Contents) → plan.now ≡ plan_of options job
-        → PlanAlone job late entry (D.held depot.old) (D.late depot.old) → PlanAlone job late entry (D.held depot.new) (D.late depot.new) }
+        → PlanAlone job late entry (D.shown depot.old).held (D.shown depot.old).late → PlanAlone job late entry (D.shown depot.new).held (D.shown depot.new).late }
     ensures cause { (options : Numbers) (job : Addition) → plan.now ≡ plan_of options job → IsJob job
-        → IfErr result (IsTaskEnd (retries + 1) job (D.faults depot.old) (D.faults depot.new) (D.lacks depot.new) (D.held depot.new)) }
-    ensures failed { CountsFailed (D.faults depot.old) (D.faults depot.new) result }
+        → IfErr result (IsTaskEnd (retries + 1) job (D.shown depot.old).faults (D.shown depot.new).faults (D.shown depot.new).lacks (D.shown depot.new).held) }
+    ensures failed { CountsFailed (D.shown depot.old).faults (D.shown depot.new).faults result }
     ensures few { IfOk result (λ failed. failed ≤ retries * tasks_of plan.now.arrays (op_of plan.now 0)) }
-    ensures count { D.faults depot.old ≤ D.faults depot.new }
-    ensures lacks { D.lacks depot.new ≡ D.lacks depot.old }
+    ensures count { (D.shown depot.old).faults ≤ (D.shown depot.new).faults }
+    ensures lacks { (D.shown depot.new).lacks ≡ (D.shown depot.old).lacks }
 {
     let mut failed = 0;
     for task in 0..tasks(plan, 0) {

@@ -4,7 +4,7 @@ ghost use Rattle.std.specs.Result.{result_map_both};
 ghost use Rattle.cu_top.specs.Call.{command_view};
 ghost use Rattle.cu_top.specs.Words.{memory_of, retries_of, once, nothing_given, given_with, options_from, retries_in, is_plain, print_of, print_in, command_of};
 
-use cu_command::{Name, is_name};
+use cu_name::{IdText, is_name};
 
 /// The most bytes that may be allowed or reserved: 2^40.
 const MOST_MEMORY: u64 = 1 << 40;
@@ -39,7 +39,7 @@ pub enum Asked {
     /// `load`: an array that a text gives is stored.
     Load { retries: u32 },
     /// `print`: the array with this name is printed.
-    Print { name: Name, retries: u32 },
+    Print { name: IdText, retries: u32 },
 }
 
 /// The command, which is the first word, with what stands behind it: for `run` any of the pairs `--allowed-mem N`,
@@ -118,9 +118,9 @@ fn read_name(word: &str, retries: Option<u32>) -> Result<Asked, u8>
     if !is_name(word) {
         return Err(3);
     }
-    match Name::from(word) {
-        Ok(name) => Ok(Asked::Print { name, retries }),
-        Err(_) => unreachable!(),
+    match IdText::make(word) {
+        Some(name) => Ok(Asked::Print { name, retries }),
+        None => unreachable!(),
     }
 }
 

@@ -9,19 +9,8 @@ use Rattle.cu_num.specs.declared.layout.Sep.{Sep}
 use Rattle.cu_num.specs.declared.layout.Sep.TheVariants.{Slash, Dot}
 use Rattle.cu_num.specs.declared.layout.Endian.{Endian}
 use Rattle.cu_num.specs.declared.layout.Endian.TheVariants.{Little, Big}
+use Rattle.cu_num.specs.TypeName.{type_name}
 use Rattle.cu_zarr.specs.Layout.{ArrayLayout}
-
--- the name of a type
-abbrev pub type_name : Dtype → List ℕ
-type_name Bool = codes "bool"
-type_name Int8 = codes "int8"
-type_name Int16 = codes "int16"
-type_name Int32 = codes "int32"
-type_name Int64 = codes "int64"
-type_name Uint8 = codes "uint8"
-type_name Uint16 = codes "uint16"
-type_name Uint32 = codes "uint32"
-type_name Uint64 = codes "uint64"
 
 -- numbers in decimal, each with a comma in front
 abbrev pub more_numbers : List ℕ → List ℕ

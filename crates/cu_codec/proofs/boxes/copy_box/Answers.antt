@@ -7,12 +7,12 @@ pub returns-then-count-eq0 : goal.returns-then-count-eq0
 returns-then-count-eq0 c =
     let e = c.if-count-eq0.true in
     let f = c.in-Some.ensures.count in
-    record { copied = none_copied c.args.size c.args.sizes.now c.args.from.now c.args.start.now c.args.to.now c.args.corner.now c.args.source.now c.args.target.now (omega arith) }
+    record { copied = none_copied c.args.size c.args.order c.args.placing.now c.args.source.now c.args.target.now (omega arith) }
 
 pub nonzero_div-row-end : goal.nonzero_div-row-end
 nonzero_div-row-end c =
     let f = c.in-Some.ensures.count in
-    let p = run_positive c.args.sizes.now (omega arith) in
+    let p = run_positive c.args.placing.now.sizes (omega arith) in
     let e = c.run_of-run.ensures in
     omega arith
 
@@ -24,7 +24,7 @@ place_from-at-requires-clause-rank c = let l = inside-length _ _ c.index_of-inde
 
 pub overflow_mul-first : goal.overflow_mul-first
 overflow_mul-first c =
-    let row_from : IsRow c.loop-row.row c.in-Some.count c.run_of-run.result c.place_from-first.result c.args.sizes.now c.args.from.now c.args.start.now c.index_of-index.result = record {
+    let row_from : IsRow c.loop-row.row c.in-Some.count c.run_of-run.result c.place_from-first.result c.args.placing.now.sizes c.args.placing.now.from c.args.placing.now.start c.index_of-index.result = record {
       box = c.requires.box_from;
       some = omega arith;
       len_is = c.run_of-run.ensures;
@@ -38,7 +38,7 @@ overflow_mul-first c =
 
 pub overflow_mul-at : goal.overflow_mul-at
 overflow_mul-at c =
-    let row_to : IsRow c.loop-row.row c.in-Some.count c.run_of-run.result c.place_from-at.result c.args.sizes.now c.args.to.now c.args.corner.now c.index_of-index.result = record {
+    let row_to : IsRow c.loop-row.row c.in-Some.count c.run_of-run.result c.place_from-at.result c.args.placing.now.sizes c.args.placing.now.to c.args.placing.now.corner c.index_of-index.result = record {
       box = c.requires.box_to;
       some = omega arith;
       len_is = c.run_of-run.ensures;
@@ -53,7 +53,7 @@ overflow_mul-at c =
 
 pub overflow_mul-run : goal.overflow_mul-run
 overflow_mul-run c =
-    let row_from : IsRow c.loop-row.row c.in-Some.count c.run_of-run.result c.place_from-first.result c.args.sizes.now c.args.from.now c.args.start.now c.index_of-index.result = record {
+    let row_from : IsRow c.loop-row.row c.in-Some.count c.run_of-run.result c.place_from-first.result c.args.placing.now.sizes c.args.placing.now.from c.args.placing.now.start c.index_of-index.result = record {
       box = c.requires.box_from;
       some = omega arith;
       len_is = c.run_of-run.ensures;
@@ -67,7 +67,7 @@ overflow_mul-run c =
 
 pub copy_run-requires-clause-source_fits : goal.copy_run-requires-clause-source_fits
 copy_run-requires-clause-source_fits c =
-    let row_from : IsRow c.loop-row.row c.in-Some.count c.run_of-run.result c.place_from-first.result c.args.sizes.now c.args.from.now c.args.start.now c.index_of-index.result = record {
+    let row_from : IsRow c.loop-row.row c.in-Some.count c.run_of-run.result c.place_from-first.result c.args.placing.now.sizes c.args.placing.now.from c.args.placing.now.start c.index_of-index.result = record {
       box = c.requires.box_from;
       some = omega arith;
       len_is = c.run_of-run.ensures;
@@ -80,7 +80,7 @@ copy_run-requires-clause-source_fits c =
 
 pub copy_run-requires-clause-target_fits : goal.copy_run-requires-clause-target_fits
 copy_run-requires-clause-target_fits c =
-    let row_to : IsRow c.loop-row.row c.in-Some.count c.run_of-run.result c.place_from-at.result c.args.sizes.now c.args.to.now c.args.corner.now c.index_of-index.result = record {
+    let row_to : IsRow c.loop-row.row c.in-Some.count c.run_of-run.result c.place_from-at.result c.args.placing.now.sizes c.args.placing.now.to c.args.placing.now.corner c.index_of-index.result = record {
       box = c.requires.box_to;
       some = omega arith;
       len_is = c.run_of-run.ensures;
@@ -93,7 +93,7 @@ copy_run-requires-clause-target_fits c =
 
 pub loop-row-preserved : goal.loop-row-preserved
 loop-row-preserved c =
-    let row_from : IsRow c.loop-row.row c.in-Some.count c.run_of-run.result c.place_from-first.result c.args.sizes.now c.args.from.now c.args.start.now c.index_of-index.result = record {
+    let row_from : IsRow c.loop-row.row c.in-Some.count c.run_of-run.result c.place_from-first.result c.args.placing.now.sizes c.args.placing.now.from c.args.placing.now.start c.index_of-index.result = record {
       box = c.requires.box_from;
       some = omega arith;
       len_is = c.run_of-run.ensures;
@@ -102,7 +102,7 @@ loop-row-preserved c =
       index_is = c.index_of-index.ensures.index;
       first_is = c.place_from-first.ensures;
     } in
-    let row_to : IsRow c.loop-row.row c.in-Some.count c.run_of-run.result c.place_from-at.result c.args.sizes.now c.args.to.now c.args.corner.now c.index_of-index.result = record {
+    let row_to : IsRow c.loop-row.row c.in-Some.count c.run_of-run.result c.place_from-at.result c.args.placing.now.sizes c.args.placing.now.to c.args.placing.now.corner c.index_of-index.result = record {
       box = c.requires.box_to;
       some = omega arith;
       len_is = c.run_of-run.ensures;
@@ -111,13 +111,14 @@ loop-row-preserved c =
       index_is = c.index_of-index.ensures.index;
       first_is = c.place_from-at.ensures;
     } in
-    row_done c.args.size c.loop-row.row _ _ _ _ c.args.sizes.now c.args.from.now c.args.start.now c.args.to.now c.args.corner.now _ c.args.source.now c.args.target.now c.loop-row.target c.copy_run.new.target
-    row_from row_to c.requires.source_length c.requires.target_length c.loop-row.invariant c.copy_run.ensures
+    let (run, order, written) = c.copy_run.ensures in
+    row_done c.args.size c.args.order c.loop-row.row _ _ _ _ c.args.placing.now _ c.args.source.now c.args.target.now c.loop-row.target run c.copy_run.new.target
+    row_from row_to c.requires.source_length c.requires.target_length c.loop-row.invariant order written
 
 pub returns : goal.returns
 returns c =
     let some : 0 < c.in-Some.count = omega arith in
     record {
-      copied = rows_done c.args.size c.loop-row.row c.in-Some.count c.run_of-run.result c.args.sizes.now c.args.from.now c.args.start.now c.args.to.now c.args.corner.now c.args.source.now c.args.target.now c.loop-row.target
+      copied = rows_done c.args.size c.args.order c.loop-row.row c.in-Some.count c.run_of-run.result c.args.placing.now c.args.source.now c.args.target.now c.loop-row.target
           some c.run_of-run.ensures c.in-Some.ensures.count (omega arith) c.loop-row.invariant;
     }

@@ -6,4 +6,5 @@ use Rattle.cu_codec.proofs.PartRuns.{Done}
 use Rattle.cu_codec.proofs.boxes.copy_box.Given as goal
 
 abbrev pub invariant-loop-row : goal.invariant-loop-row
-invariant-loop-row l = Done l.size (l.row * run_length l.sizes) (product l.to) (place_in_box l.sizes l.to l.corner) (place_in_box l.sizes l.from l.start) l.source l.fn.target l.target
+invariant-loop-row l = Done l.size l.order (l.row * run_length l.placing.sizes) (product l.placing.to) (place_in_box l.placing.sizes l.placing.to l.placing.corner)
+    (place_in_box l.placing.sizes l.placing.from l.placing.start) l.source l.fn.target l.target

@@ -16,5 +16,5 @@ returns c =
     record {
       taken = taken_of c.args.grid.now c.args.coord.now c.args.region.now.lo c.args.region.now.hi c.chunk.ensures.kept c.requires.coordinate c.requires.region
           c.shared-shared.result.sizes c.shared-shared.result.in_chunk c.shared-shared.result.in_region c.shared-shared.ensures.shared
-          c.args.size c.args.chunk.now c.args.out.now c.copy_box.new.target copied;
+          c.args.size c.args.order c.args.chunk.now c.args.out.now c.copy_box.new.target copied;
     }

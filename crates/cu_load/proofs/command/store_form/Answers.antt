@@ -13,8 +13,8 @@ returns-in-Err g c = record {
 
 pub returns-in-Ok-report : goal.returns-in-Ok-report
 returns-in-Ok-report g c =
-    let asked = c.ask_keys.ensures.follows _ _ (untouched_start (g.D.Depot.late c.args.depot.now) (g.D.Depot.held c.args.depot.now)) in
-    let free = subst (λ (n : List ℕ). AreFree n (g.D.Depot.held c.args.depot.now)) c.key_of_name-name.ensures.key c.in_default.ensures.free in
+    let asked = c.ask_keys.ensures.follows _ _ (untouched_start (g.D.Depot.shown c.args.depot.now).late (g.D.Depot.shown c.args.depot.now).held) in
+    let free = subst (λ (n : List ℕ). AreFree n (g.D.Depot.shown c.args.depot.now).held) c.key_of_name-name.ensures.key c.in_default.ensures.free in
     record {
       answer = (
         record {
@@ -29,8 +29,8 @@ returns-in-Ok-report g c =
 
 pub returns-in-Ok-store_array : goal.returns-in-Ok-store_array
 returns-in-Ok-store_array g c =
-    let asked = c.ask_keys.ensures.follows _ _ (untouched_start (g.D.Depot.late c.args.depot.now) (g.D.Depot.held c.args.depot.now)) in
-    let free = subst (λ (n : List ℕ). AreFree n (g.D.Depot.held c.args.depot.now)) c.key_of_name-name.ensures.key c.in_default.ensures.free in
+    let asked = c.ask_keys.ensures.follows _ _ (untouched_start (g.D.Depot.shown c.args.depot.now).late (g.D.Depot.shown c.args.depot.now).held) in
+    let free = subst (λ (n : List ℕ). AreFree n (g.D.Depot.shown c.args.depot.now).held) c.key_of_name-name.ensures.key c.in_default.ensures.free in
     record {
       answer = (
         c.in-Err-report.ensures.cause,
@@ -46,8 +46,8 @@ returns-in-Ok-store_array g c =
 
 pub returns : goal.returns
 returns g c =
-    let asked = c.ask_keys.ensures.follows _ _ (untouched_start (g.D.Depot.late c.args.depot.now) (g.D.Depot.held c.args.depot.now)) in
-    let free = subst (λ (n : List ℕ). AreFree n (g.D.Depot.held c.args.depot.now)) c.key_of_name-name.ensures.key c.in_default.ensures.free in
+    let asked = c.ask_keys.ensures.follows _ _ (untouched_start (g.D.Depot.shown c.args.depot.now).late (g.D.Depot.shown c.args.depot.now).held) in
+    let free = subst (λ (n : List ℕ). AreFree n (g.D.Depot.shown c.args.depot.now).held) c.key_of_name-name.ensures.key c.in_default.ensures.free in
     record {
       answer = store_ended c.args.retries (given_by c.args.form.now) _ _ _ _ _ _ _ _ _ _ c.in-Err-store_array.status free c.ask_keys.ensures.count
           (c.in-Err-store_array.ensures.failed _ _ asked);

@@ -27,4 +27,4 @@ loop-number-preserved g c =
 pub returns-clause-stored : goal.returns-clause-stored
 returns-clause-stored g c late entry calm follows =
     let all : chunks_in (given_by c.args.form.now) ≡ c.loop-number.number = omega (arith, c.count-number-end.ensures.count) in
-    subst (λ (n : ℕ). StoresChunks (given_by c.args.form.now) (g.D.Depot.held c.loop-number.depot) n) (sym all) (c.loop-number.invariant.stored late entry calm follows)
+    subst (λ (n : ℕ). StoresChunks (given_by c.args.form.now) (g.D.Depot.shown c.loop-number.depot).held n) (sym all) (c.loop-number.invariant.stored late entry calm follows)

@@ -6,9 +6,9 @@ use Rattle.cu_load.proofs.store.store_chunks.Given as goal
 
 abbrev pub invariant-loop-number : goal.invariant-loop-number
 invariant-loop-number g l = record {
-  follows : (late : List Write) (entry : Option Contents) → Follows late entry (g.D.Depot.held l.fn.depot) (g.D.Depot.late l.fn.depot)
-      → Follows (chunk_writes (given_by l.form) l.number ++ late) entry (g.D.Depot.held l.depot) (g.D.Depot.late l.depot);
-  stored : (late : List Write) (entry : Option Contents) → IsCalm (given_by l.form) late → Follows late entry (g.D.Depot.held l.fn.depot) (g.D.Depot.late l.fn.depot)
-      → StoresChunks (given_by l.form) (g.D.Depot.held l.depot) l.number;
-  count : g.D.Depot.faults l.fn.depot ≤ g.D.Depot.faults l.depot;
+  follows : (late : List Write) (entry : Option Contents) → Follows late entry (g.D.Depot.shown l.fn.depot).held (g.D.Depot.shown l.fn.depot).late
+      → Follows (chunk_writes (given_by l.form) l.number ++ late) entry (g.D.Depot.shown l.depot).held (g.D.Depot.shown l.depot).late;
+  stored : (late : List Write) (entry : Option Contents) → IsCalm (given_by l.form) late → Follows late entry (g.D.Depot.shown l.fn.depot).held (g.D.Depot.shown l.fn.depot).late
+      → StoresChunks (given_by l.form) (g.D.Depot.shown l.depot).held l.number;
+  count : (g.D.Depot.shown l.fn.depot).faults ≤ (g.D.Depot.shown l.depot).faults;
 }

@@ -1,4 +1,4 @@
-use Rattle.cu_num.proofs.Promoted.{none_refused, refused_none, promotion_comm, promotion_same, first_in_range}
+use Rattle.cu_num.proofs.Promoted.{none_refused, refused_none, promotion_comm, promotion_same, first_in_range, promotion_apart}
 use Rattle.cu_num.proofs.laws.promotion_law.Goals as goal
 
 pub returns-clause-refused : goal.returns-clause-refused
@@ -12,3 +12,6 @@ returns-clause-equal c = promotion_same
 
 pub returns-clause-range : goal.returns-clause-range
 returns-clause-range c = first_in_range
+
+pub returns-clause-apart : goal.returns-clause-apart
+returns-clause-apart c = promotion_apart

@@ -1,10 +1,10 @@
-use Rattle.cu_op.specs.PlanView.{operation_at}
-use Rattle.cu_op.proofs.CellsOfTasks.{written_cell}
-use Rattle.cu_op.proofs.ReadElements.{reads_lie}
+use Rattle.cu_op.specs.Cells.{cell}
+use Rattle.cu_op.specs.Schedule.{op_of}
+use Rattle.cu_op.proofs.TaskCells.{fit_of, reads_lie_in, read_array}
 use Rattle.cu_op.proofs.laws.input_law.Goals as goal
 
 pub returns : goal.returns
-returns c = λ p k task array a coord idx i s w chunk read.
-    let ok = s.operations k w.operation in
-    reads_lie (λ g co ix okg inside within. (c.one_chunk_each.ensures.only g co ix okg inside within, c.one_chunk_each.ensures.array g co ix okg inside within))
-    (operation_at p.ops k).op p k task array a coord idx i s ok.reads ok.writes ok.fits (written_cell p k task array coord s w).coordinate w.cell chunk read
+returns c = record {
+  reads = λ p k task array a coord idx i s w within reads. reads_lie_in p s k (op_of p k) (fit_of p s k w.operation) task a (cell array coord) idx i w.number w.cell within reads;
+  arrays = λ p k task d s h t there. read_array p s k (op_of p k) (fit_of p s k h) task d t there;
+}

@@ -1,24 +1,23 @@
 use Rattle.std.proofs.Common.{◌≡◌, refl}
 use Rattle.std.proofs.lemmas.List.Elements.{All-same}
-use Rattle.cu_op.specs.Cells.{inputs_of, IsChunk}
-use Rattle.cu_op.specs.PlanView.{operation_at}
-use Rattle.cu_op.proofs.Plans.{at_operation, reads_short, inputs_inside, inputs_target}
+use Rattle.cu_op.specs.Cells.{IsChunk}
+use Rattle.cu_op.specs.Schedule.{op_of}
+use Rattle.cu_op.specs.Walks.{read_chunks}
+use Rattle.cu_op.proofs.TaskCells.{fit_of, over_once, read_chunk}
 use Rattle.cu_op.proofs.schedule.inputs.Goals as goal
 
 pub make-requires : goal.make-requires
 make-requires c =
     let p = c.args.plan.now in
-    let o = (operation_at p.ops c.args.op).op in
-    let ok = at_operation p c.args.op c.operation.ensures.sound c.requires.operation in
-    rw (c.arrays.ensures.arrays, c.reads-ins.ensures.arrays, c.operation.ensures.operation, c.coord_of.ensures)
-    (reads_short o p c.args.op c.args.task c.operation.ensures.sound ok.reads ok.writes ok.fits c.requires.task)
+    let s = c.arrays.ensures.sound in
+    rw (c.arrays.ensures.arrays, c.each_once.ensures, c.deref.ensures.0, c.input_walks-walks.ensures.walks)
+    (over_once p s c.args.op (op_of p c.args.op) (fit_of p s c.args.op c.requires.operation) c.args.task c.requires.task)
 
 pub returns-clause-chunks : goal.returns-clause-chunks
 returns-clause-chunks c =
     let p = c.args.plan.now in
-    let o = (operation_at p.ops c.args.op).op in
-    let ok = at_operation p c.args.op c.operation.ensures.sound c.requires.operation in
-    let e : c.make.result ≡ inputs_of p.arrays o c.args.task =
-    rw (c.make.ensures, c.arrays.ensures.arrays, c.reads-ins.ensures.arrays, c.operation.ensures.operation, c.coord_of.ensures, inputs_target) refl in
-    All-same (IsChunk p.arrays) c.make.result (inputs_of p.arrays o c.args.task) e
-    (inputs_inside o p c.args.op c.args.task c.operation.ensures.sound ok.reads ok.writes ok.fits c.requires.task)
+    let s = c.arrays.ensures.sound in
+    let e : c.make.result ≡ read_chunks p.arrays (op_of p c.args.op) c.args.task =
+    rw (c.make.ensures, c.arrays.ensures.arrays, c.each_once.ensures, c.deref.ensures.0, c.input_walks-walks.ensures.walks) refl in
+    All-same (IsChunk p.arrays) c.make.result (read_chunks p.arrays (op_of p c.args.op) c.args.task) e
+    (read_chunk p s c.args.op (op_of p c.args.op) (fit_of p s c.args.op c.requires.operation) c.args.task c.requires.task)

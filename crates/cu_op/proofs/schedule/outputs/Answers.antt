@@ -1,14 +1,23 @@
 use Rattle.std.proofs.Common.{◌≡◌, refl}
 use Rattle.std.proofs.lemmas.List.Elements.{All-same}
-use Rattle.cu_op.specs.Cells.{outputs_of, IsChunk}
-use Rattle.cu_op.specs.PlanView.{operation_at}
-use Rattle.cu_op.proofs.Plans.{at_operation, outputs_inside}
+use Rattle.cu_op.specs.Cells.{IsChunk}
+use Rattle.cu_op.specs.Schedule.{op_of}
+use Rattle.cu_op.specs.Walks.{written_chunks}
+use Rattle.cu_op.proofs.TaskCells.{fit_of, output_over, written_chunk}
 use Rattle.cu_op.proofs.schedule.outputs.Goals as goal
+
+pub make-requires : goal.make-requires
+make-requires c =
+    let p = c.args.plan.now in
+    let s = c.arrays.ensures.sound in
+    rw (c.arrays.ensures.arrays, c.output_walks-walks.ensures, c.operation.ensures.operation, c.task_region.ensures.lo, c.task_region.ensures.hi)
+    (output_over p s c.args.op (op_of p c.args.op) (fit_of p s c.args.op c.requires.operation) c.args.task c.requires.task)
 
 pub returns-clause-chunks : goal.returns-clause-chunks
 returns-clause-chunks c =
     let p = c.args.plan.now in
-    let o = (operation_at p.ops c.args.op).op in
-    let ok = at_operation p c.args.op c.operation.ensures.sound c.requires.operation in
-    let e : c.make.result ≡ outputs_of p.arrays o c.args.task = rw (c.make.ensures, c.operation.ensures.operation, c.coord_of.ensures) refl in
-    All-same (IsChunk p.arrays) c.make.result (outputs_of p.arrays o c.args.task) e (outputs_inside o p.arrays c.args.op c.args.task ok.writes c.requires.task)
+    let s = c.arrays.ensures.sound in
+    let e : c.make.result ≡ written_chunks p.arrays (op_of p c.args.op) c.args.task =
+    rw (c.make.ensures, c.arrays.ensures.arrays, c.output_walks-walks.ensures, c.operation.ensures.operation, c.task_region.ensures.lo, c.task_region.ensures.hi) refl in
+    All-same (IsChunk p.arrays) c.make.result (written_chunks p.arrays (op_of p c.args.op) c.args.task) e
+    (written_chunk p s c.args.op (op_of p c.args.op) (fit_of p s c.args.op c.requires.operation) c.args.task c.requires.task)

@@ -1,8 +1,22 @@
-use Rattle.cu_op.proofs.Plans.{target_within}
+use Rattle.std.proofs.Common.{◌≡◌, ap, ◌∙◌, arith}
+use Rattle.cu_op.specs.Arrays.{grid_counts}
+use Rattle.cu_op.specs.Cells.{tasks_of}
+use Rattle.cu_op.specs.Schedule.{op_of}
+use Rattle.cu_shape.specs.Index.{product}
+use Rattle.cu_op.proofs.Plans.{few_tasks}
 use Rattle.cu_op.proofs.schedule.tasks.Goals as goal
 
-pub array-requires : goal.array-requires
-array-requires c =
-    let e = c.target-target.ensures in
-    let o = c.operation.ensures.operation in
-    rw (e, o) (target_within c.args.plan.now c.args.op c.operation.ensures.sound c.requires)
+is_count : (c : goal.After-count) → c.count.result ≡ tasks_of c.args.plan.now.arrays (op_of c.args.plan.now c.args.op)
+is_count c = c.count.ensures.count ∙ ap (λ g. product (grid_counts g)) c.task_grid.ensures.grid
+
+pub overflow_cast-result : goal.overflow_cast-result
+overflow_cast-result c =
+    let e = is_count c in
+    let few = few_tasks c.args.plan.now c.args.op c.task_grid.ensures.sound c.requires in
+    omega (arith, e, few)
+
+pub returns-clause-few : goal.returns-clause-few
+returns-clause-few c =
+    let e = is_count c in
+    let few = few_tasks c.args.plan.now c.args.op c.task_grid.ensures.sound c.requires in
+    omega (arith, e, few)

@@ -5,12 +5,12 @@ use Rattle.cu_print.proofs.command.print_elements.Given as goal
 
 abbrev pub invariant-loop-start : goal.invariant-loop-start
 invariant-loop-start g l = record {
-  prints : PrintsRun l.info 0 (g.D.Depot.held l.initial.depot) (g.D.Depot.late l.initial.depot) (g.W.Sink.written l.initial.out) (g.W.Sink.written l.out) l.start;
+  prints : PrintsRun l.info 0 (g.D.Depot.shown l.initial.depot).held (g.D.Depot.shown l.initial.depot).late (g.W.Sink.written l.initial.out) (g.W.Sink.written l.out) l.start;
   within : l.start ≤ l.count;
   empty : l.text.bytes ≡ [];
   follows : (writes : List Write) (entry : Option Contents)
-      → Follows writes entry (g.D.Depot.held l.initial.depot) (g.D.Depot.late l.initial.depot) → Follows writes entry (g.D.Depot.held l.depot) (g.D.Depot.late l.depot);
-  count : g.D.Depot.faults l.initial.depot ≤ g.D.Depot.faults l.depot;
+      → Follows writes entry (g.D.Depot.shown l.initial.depot).held (g.D.Depot.shown l.initial.depot).late → Follows writes entry (g.D.Depot.shown l.depot).held (g.D.Depot.shown l.depot).late;
+  count : (g.D.Depot.shown l.initial.depot).faults ≤ (g.D.Depot.shown l.depot).faults;
   count_out : g.W.Sink.faults l.initial.out ≤ g.W.Sink.faults l.out;
 }
 

@@ -12,16 +12,16 @@ read_region-requires-clause-coordinates g c coord meets =
 
 pub returns-clause-read : goal.returns-clause-read
 returns-clause-read g c writes entry follows steady =
-    read_then c.read_region.result c.args.info.now c.args.region.now.lo c.args.region.now.hi c.read_region.new.out writes (g.D.Depot.late c.args.depot.now) (g.D.Depot.late c.read_region.new.depot)
-    entry (g.D.Depot.held c.args.depot.now) (g.D.Depot.held c.read_region.new.depot) c.shape-shape.ensures.kept c.requires.run.region follows (c.read_region.ensures.follows writes entry follows) steady c.read_region.ensures.read
+    read_then c.read_region.result c.args.info.now c.args.region.now.lo c.args.region.now.hi c.read_region.new.out writes (g.D.Depot.shown c.args.depot.now).late (g.D.Depot.shown c.read_region.new.depot).late
+    entry (g.D.Depot.shown c.args.depot.now).held (g.D.Depot.shown c.read_region.new.depot).held c.shape-shape.ensures.kept c.requires.run.region follows (c.read_region.ensures.follows writes entry follows) steady c.read_region.ensures.read
 
 pub returns-clause-cause : goal.returns-clause-cause
 returns-clause-cause g c =
     if_err c.read_region.result
-    (IsReadFault (g.D.Depot.faults c.args.depot.now) (g.D.Depot.faults c.read_region.new.depot) (g.D.Depot.lacks c.read_region.new.depot) (g.D.Depot.held c.read_region.new.depot)
+    (IsReadFault (g.D.Depot.shown c.args.depot.now).faults (g.D.Depot.shown c.read_region.new.depot).faults (g.D.Depot.shown c.read_region.new.depot).lacks (g.D.Depot.shown c.read_region.new.depot).held
     (IsChunkKey c.args.info.now c.args.region.now.lo c.args.region.now.hi) (bytes_of c.args.info.now.layout))
-    (IsTried 1 (g.D.Depot.faults c.args.depot.now) (g.D.Depot.faults c.read_region.new.depot) c.args.info.now.layout (g.D.Depot.held c.read_region.new.depot)
+    (IsTried 1 (g.D.Depot.shown c.args.depot.now).faults (g.D.Depot.shown c.read_region.new.depot).faults c.args.info.now.layout (g.D.Depot.shown c.read_region.new.depot).held
     (key_at c.args.info.now (quotients c.args.region.now.lo c.args.info.now.layout.grid.chunk)))
-    (λ e. tried_once c.args.info.now c.args.region.now.lo c.args.region.now.hi (g.D.Depot.faults c.args.depot.now) (g.D.Depot.faults c.read_region.new.depot) (g.D.Depot.lacks c.read_region.new.depot) (g.D.Depot.held c.read_region.new.depot) e
+    (λ e. tried_once c.args.info.now c.args.region.now.lo c.args.region.now.hi (g.D.Depot.shown c.args.depot.now).faults (g.D.Depot.shown c.read_region.new.depot).faults (g.D.Depot.shown c.read_region.new.depot).lacks (g.D.Depot.shown c.read_region.new.depot).held e
     c.shape-shape.ensures.kept c.requires.run)
     c.read_region.ensures.cause

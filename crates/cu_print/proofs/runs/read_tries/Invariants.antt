@@ -7,7 +7,7 @@ use Rattle.cu_print.proofs.runs.read_tries.Given as goal
 abbrev pub invariant-loop : goal.invariant-loop
 invariant-loop g l = record {
   follows : (writes : List Write) (entry : Option Contents)
-      → Follows writes entry (g.D.Depot.held l.initial.depot) (g.D.Depot.late l.initial.depot) → Follows writes entry (g.D.Depot.held l.depot) (g.D.Depot.late l.depot);
-  rose : Rose l.counter (g.D.Depot.faults l.initial.depot) (g.D.Depot.faults l.depot);
-  count : g.D.Depot.faults l.initial.depot ≤ g.D.Depot.faults l.depot;
+      → Follows writes entry (g.D.Depot.shown l.initial.depot).held (g.D.Depot.shown l.initial.depot).late → Follows writes entry (g.D.Depot.shown l.depot).held (g.D.Depot.shown l.depot).late;
+  rose : Rose l.counter (g.D.Depot.shown l.initial.depot).faults (g.D.Depot.shown l.depot).faults;
+  count : (g.D.Depot.shown l.initial.depot).faults ≤ (g.D.Depot.shown l.depot).faults;
 }

@@ -1,16 +1,41 @@
-use Rattle.std.proofs.Common.{◌≡◌, length, arith}
+use Rattle.std.specs.Prelude.{OnOk}
+use Rattle.std.proofs.Common.{◌≡◌, ◌*◌, Result, Ok, Err, length, ap, ◌∙◌, arith, rules}
 use Rattle.std.proofs.lemmas.List.{length-take-le}
 use Rattle.cu_num.specs.Dtype.{size_of}
+use Rattle.cu_shape.specs.Index.{product}
+use Rattle.cu_codec.specs.Parts.{IsOneChunk}
+use Rattle.cu_codec.proofs.OneChunk.{one_chunk_differences}
 use Rattle.cu_region.specs.Reading.{bytes_of}
-use Rattle.cu_region.proofs.StoredReads.{reads_part}
+use Rattle.cu_region.proofs.StoredReads.{reads_part, reads_whole}
 use Rattle.cu_region.proofs.read.read_part.Goals as goal
+
+on_ok_then : {T E P Q : Type 0} (r : Result T E) → (P → Q) → OnOk r P → OnOk r Q
+on_ok_then (Ok x) f p = f p
+on_ok_then (Err e) f p = tt
+
+pub read_bytes-requires : goal.read_bytes-requires
+read_bytes-requires g c =
+    let one : IsOneChunk c.args.info.now.layout.grid.chunk c.args.coord.now c.args.region.now.lo c.args.region.now.hi = c.is_one_chunk.ensures.0 (search rules) in
+    c.requires.out_length ∙ ap (λ x. product x * size_of c.args.info.now.layout.dtype)
+    (one_chunk_differences c.args.info.now.layout.grid c.args.coord.now c.args.region.now.lo c.args.region.now.hi c.requires.grid c.requires.meets.0 c.requires.region one)
+
+pub returns-then-is_one_chunk-clause-part : goal.returns-then-is_one_chunk-clause-part
+returns-then-is_one_chunk-clause-part g c =
+    let one : IsOneChunk c.args.info.now.layout.grid.chunk c.args.coord.now c.args.region.now.lo c.args.region.now.hi = c.is_one_chunk.ensures.0 (search rules) in
+    let sized = c.requires.out_length ∙ ap (λ x. product x * size_of c.args.info.now.layout.dtype)
+    (one_chunk_differences c.args.info.now.layout.grid c.args.coord.now c.args.region.now.lo c.args.region.now.hi c.requires.grid c.requires.meets.0 c.requires.region one) in
+    let long : length c.read_bytes.new.buf ≡ bytes_of c.args.info.now.layout = omega arith in
+    on_ok_then c.read_bytes.result
+    (λ read. reads_whole c.args.info.now c.args.coord.now c.args.region.now.lo c.args.region.now.hi c.args.out.now c.read_bytes.new.buf (g.D.Depot.shown c.read_bytes.new.depot).held
+    c.requires.grid c.requires.region c.requires.meets.0 one read long c.requires.fill)
+    (rw c.chunk_key-key.ensures at c.read_bytes.ensures.read)
 
 pub returns-clause-part : goal.returns-clause-part
 returns-clause-part g c =
     let wide : c.from.result ≡ size_of c.args.info.now.layout.dtype = omega arith in
     let took = rw wide at c.take_part.ensures.taken in
-    let cut = length-take-le c.chunk_bytes-bytes.result c.args.scratch.now (omega arith) in
-    let long : length c.read_chunk.new.buf ≡ bytes_of c.args.info.now.layout = omega arith in
-    let read = rw c.chunk_key-key.ensures at c.in_ok-read_chunk.ensures.read in
-    reads_part c.args.info.now c.args.coord.now c.args.region.now.lo c.args.region.now.hi c.read_chunk.new.buf c.args.out.now c.take_part.new.out (g.D.Depot.held c.read_chunk.new.depot)
+    let cut = length-take-le c.chunk_bytes.result c.args.scratch.now (omega arith) in
+    let long : length c.fetch.new.buf ≡ bytes_of c.args.info.now.layout = omega arith in
+    let read = rw c.chunk_key-key.ensures at c.in_ok-order.ensures.fetched in
+    reads_part c.args.info.now c.in_ok-order.order c.args.coord.now c.args.region.now.lo c.args.region.now.hi c.fetch.new.buf c.args.out.now c.take_part.new.out (g.D.Depot.shown c.fetch.new.depot).held
     c.requires.grid c.requires.region read long c.requires.fill took

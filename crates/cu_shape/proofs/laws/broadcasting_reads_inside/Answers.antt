@@ -1,4 +1,4 @@
-use Rattle.cu_shape.proofs.Back.{back_left, back_right}
+use Rattle.cu_shape.proofs.InsideBoth.{back_left, back_right}
 use Rattle.cu_shape.proofs.laws.broadcasting_reads_inside.Goals as goal
 
 pub returns-clause-left : goal.returns-clause-left

@@ -63,34 +63,34 @@ pub returns-clause-stored : goal.returns-clause-stored
 returns-clause-stored g c env held e ready =
     let stored = rw (c.array.ensures.array, c.array-2.ensures.array, c.array-made.ensures.array, (part_after g c).0, (part_after g c).1) at c.add_in_room.ensures.stored in
     on_ok_more c.add_in_room.result
-    (holds_cells c.args.plan.now c.args.op c.args.task c.args.first c.args.second c.args.out c.requires.sound c.requires.operation c.requires.task c.requires.adds env (g.D.Depot.held c.add_in_room.new.depot))
+    (holds_cells c.args.plan.now c.args.op c.args.task c.args.first c.args.second c.args.out c.requires.sound c.requires.operation c.requires.task c.requires.adds env (g.D.Depot.shown c.add_in_room.new.depot).held)
     (stored (plan_value c.args.plan.now env c.args.out) held e
-    (task_ready c.args.plan.now c.args.op c.args.task c.args.first c.args.second c.args.out c.requires.sound c.requires.operation c.requires.task c.requires.adds env held (g.D.Depot.late c.args.depot.now) ready))
+    (task_ready c.args.plan.now c.args.op c.args.task c.args.first c.args.second c.args.out c.requires.sound c.requires.operation c.requires.task c.requires.adds env held (g.D.Depot.shown c.args.depot.now).late ready))
 
 pub returns-clause-follows : goal.returns-clause-follows
 returns-clause-follows g c env held writes entry e ready has =
     let follows = rw (c.array.ensures.array, c.array-2.ensures.array, c.array-made.ensures.array, (part_after g c).0, (part_after g c).1) at c.add_in_room.ensures.follows in
     follows (plan_value c.args.plan.now env c.args.out) held writes entry e
-    (task_ready c.args.plan.now c.args.op c.args.task c.args.first c.args.second c.args.out c.requires.sound c.requires.operation c.requires.task c.requires.adds env held (g.D.Depot.late c.args.depot.now) ready)
+    (task_ready c.args.plan.now c.args.op c.args.task c.args.first c.args.second c.args.out c.requires.sound c.requires.operation c.requires.task c.requires.adds env held (g.D.Depot.shown c.args.depot.now).late ready)
     (has_chunks c.args.plan.now c.args.op c.args.task c.args.first c.args.second c.args.out c.requires.sound c.requires.operation c.requires.task c.requires.adds env writes has)
 
 pub returns-clause-kept : goal.returns-clause-kept
 returns-clause-kept g c =
     let kept = rw (c.array-made.ensures.array, (part_after g c).0, (part_after g c).1) at c.add_in_room.ensures.kept in
-    lands_more (g.D.Depot.held c.args.depot.now) (g.D.Depot.held c.add_in_room.new.depot)
-    (output_or_late c.args.plan.now c.args.op c.args.task c.args.first c.args.second c.args.out c.requires.sound c.requires.operation c.requires.task c.requires.adds (g.D.Depot.late c.args.depot.now)) kept
+    lands_more (g.D.Depot.shown c.args.depot.now).held (g.D.Depot.shown c.add_in_room.new.depot).held
+    (output_or_late c.args.plan.now c.args.op c.args.task c.args.first c.args.second c.args.out c.requires.sound c.requires.operation c.requires.task c.requires.adds (g.D.Depot.shown c.args.depot.now).late) kept
 
 pub returns-clause-late : goal.returns-clause-late
 returns-clause-late g c key bytes among =
     let late = rw (c.array-made.ensures.array, (part_after g c).0, (part_after g c).1) at c.add_in_room.ensures.late in
-    output_or_late c.args.plan.now c.args.op c.args.task c.args.first c.args.second c.args.out c.requires.sound c.requires.operation c.requires.task c.requires.adds (g.D.Depot.late c.args.depot.now) key bytes (late key bytes among)
+    output_or_late c.args.plan.now c.args.op c.args.task c.args.first c.args.second c.args.out c.requires.sound c.requires.operation c.requires.task c.requires.adds (g.D.Depot.shown c.args.depot.now).late key bytes (late key bytes among)
 
 pub returns-clause-cause : goal.returns-clause-cause
 returns-clause-cause g c =
     let cause = rw (c.array.ensures.array, c.array-2.ensures.array, c.array-made.ensures.array, (part_after g c).0, (part_after g c).1) at c.add_in_room.ensures.cause in
     if_err_more c.add_in_room.result _ _
     (task_fault c.args.plan.now c.args.op c.args.task c.args.first c.args.second c.args.out c.requires.sound c.requires.operation c.requires.task c.requires.adds
-    (g.D.Depot.faults c.args.depot.now) (g.D.Depot.faults c.add_in_room.new.depot) (g.D.Depot.lacks c.add_in_room.new.depot) (g.D.Depot.held c.add_in_room.new.depot))
+    (g.D.Depot.shown c.args.depot.now).faults (g.D.Depot.shown c.add_in_room.new.depot).faults (g.D.Depot.shown c.add_in_room.new.depot).lacks (g.D.Depot.shown c.add_in_room.new.depot).held)
     cause
 
 pub returns-clause-ready : goal.returns-clause-ready
@@ -98,7 +98,7 @@ returns-clause-ready g c env held now e en ready apart =
     let kept = rw (e, en) at (returns-clause-kept g c) in
     let follows = rw (e, en) at (returns-clause-follows g c env held) in
     ready_after c.args.plan.now c.args.op c.args.task c.requires.sound c.requires.operation c.requires.task env held now
-    (g.D.Depot.late c.args.depot.now) (g.D.Depot.late c.add_in_room.new.depot) ready apart kept (returns-clause-late g c)
+    (g.D.Depot.shown c.args.depot.now).late (g.D.Depot.shown c.add_in_room.new.depot).late ready apart kept (returns-clause-late g c)
     (λ writes entry has before. follows writes entry refl ready has before)
 
 module _ (g : Given.Over) (c : goal.After-slice_known-2-1 g) where
@@ -111,12 +111,12 @@ pub returns-clause-calls : goal.returns-clause-calls
 returns-clause-calls g c =
     let calls = rw (c.array-made.ensures.array, (part_after g c).0, (part_after g c).1) at c.add_in_room.ensures.calls in
     at_most_three (chunks_met (grid_at c.args.plan.now.arrays c.args.out) (task_lo c.args.plan.now c.args.op c.args.task c.args.out) (task_hi c.args.plan.now c.args.op c.args.task c.args.out))
-    (g.D.Depot.calls c.args.depot.now) (g.D.Depot.calls c.add_in_room.new.depot) (one_chunk g c) calls
+    (g.D.Depot.shown c.args.depot.now).calls (g.D.Depot.shown c.add_in_room.new.depot).calls (one_chunk g c) calls
 
 pub returns-clause-calls_all : goal.returns-clause-calls_all
 returns-clause-calls_all g c =
     let all = rw (c.array-made.ensures.array, (part_after g c).0, (part_after g c).1) at c.add_in_room.ensures.calls_all in
     on_ok_more c.add_in_room.result
     (made_three (chunks_met (grid_at c.args.plan.now.arrays c.args.out) (task_lo c.args.plan.now c.args.op c.args.task c.args.out) (task_hi c.args.plan.now c.args.op c.args.task c.args.out))
-    (g.D.Depot.calls c.args.depot.now) (g.D.Depot.calls c.add_in_room.new.depot) (one_chunk g c))
+    (g.D.Depot.shown c.args.depot.now).calls (g.D.Depot.shown c.add_in_room.new.depot).calls (one_chunk g c))
     all

@@ -9,4 +9,4 @@ pub run_command-requires-clause-retries : goal.run_command-requires-clause-retri
 run_command-requires-clause-retries g c = (run_bounded _ c.in-Run.options (rw c.in-Run.is at (sym c.in-Ok.ensures))).2
 
 pub key_of_name-requires : goal.key_of_name-requires
-key_of_name-requires g c = print_named _ c.in-Print.name.bytes c.in-Print.retries (rw c.in-Print.is at (sym c.in-Ok.ensures))
+key_of_name-requires g c = print_named _ c.in-Print.name c.in-Print.retries (rw c.in-Print.is at (sym c.in-Ok.ensures))

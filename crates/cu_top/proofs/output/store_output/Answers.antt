@@ -25,7 +25,7 @@ returns-in-Ok-clause-complete g c entry late s =
     let s1 = started_then _ entry late _ _ _ _ s (c.put_value.ensures.follows (out_writes c.args.job.now entry ++ late) (Some entry) (among_front (out_writes c.args.job.now entry) late _ _ own)) in
     let stored = rw (c.metadata_key-key.ensures, c.requires.metadata) at c.in-Ok.ensures.stored in
     let stays = c.run_tasks.ensures.stays c.requires.plan.0 c.args.job.now entry late c.requires.plan.1 s1 (metadata_key_of c.args.job.now.names.out) (out_metadata c.args.job.now) (out_value c.args.job.now entry late _ _ _ _ s1 (own_metadata c.args.job.now entry)) stored in
-    completes c.run_tasks.result c.args.job.now entry (g.D.Depot.held c.run_tasks.new.depot) stays (c.run_tasks.ensures.stored c.requires.plan.0 c.args.job.now entry late c.requires.plan.1 s1)
+    completes c.run_tasks.result c.args.job.now entry (g.D.Depot.shown c.run_tasks.new.depot).held stays (c.run_tasks.ensures.stored c.requires.plan.0 c.args.job.now entry late c.requires.plan.1 s1)
 
 pub returns-in-Ok-clause-metadata_alone : goal.returns-in-Ok-clause-metadata_alone
 returns-in-Ok-clause-metadata_alone g c writes entry among follows =

@@ -1,5 +1,5 @@
 use Rattle.std.proofs.Common.{◌++◌, Some, inl, inr, refl}
-use Rattle.cu_command.specs.Name.{record_key_of}
+use Rattle.cu_name.specs.Keys.{record_key_of}
 use Rattle.cu_top.proofs.AloneLemmas.{alone_put}
 use Rattle.cu_top.proofs.BegunLemmas.{begun_then, begun_value, put_step, record_alone, both_alone, plan_completes, failed_behind, failed_at_record, both_held}
 use Rattle.cu_top.proofs.TaskLemmas.{own_key_failed, key_ended}

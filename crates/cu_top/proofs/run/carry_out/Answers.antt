@@ -20,34 +20,34 @@ returns-in_default-vec-2-clause-first g c entry late begun follows = nothing_yet
 
 pub returns-in-Ok-store_plan-clause-started : goal.returns-in-Ok-store_plan-clause-started
 returns-in-Ok-store_plan-clause-started g c entry late begun =
-    subst (λ (t : List ℕ). IsBegun c.args.job.now t entry late (g.D.Depot.held c.args.depot.now) (g.D.Depot.late c.args.depot.now) → IsBegun c.args.job.now t entry late (g.D.Depot.held c.store_plan.new.depot) (g.D.Depot.late c.store_plan.new.depot)) c.in-Ok-make_texts.ensures.record (c.store_plan.ensures.started entry late) begun
+    subst (λ (t : List ℕ). IsBegun c.args.job.now t entry late (g.D.Depot.shown c.args.depot.now).held (g.D.Depot.shown c.args.depot.now).late → IsBegun c.args.job.now t entry late (g.D.Depot.shown c.store_plan.new.depot).held (g.D.Depot.shown c.store_plan.new.depot).late) c.in-Ok-make_texts.ensures.record (c.store_plan.ensures.started entry late) begun
 
 pub returns-clause-started : goal.returns-clause-started
 returns-clause-started g c entry late begun =
-    subst (λ (t : List ℕ). IsBegun c.args.job.now t entry late (g.D.Depot.held c.args.depot.now) (g.D.Depot.late c.args.depot.now) → IsBegun c.args.job.now t entry late (g.D.Depot.held c.store_plan.new.depot) (g.D.Depot.late c.store_plan.new.depot)) c.in-Ok-make_texts.ensures.record (c.store_plan.ensures.started entry late) begun
+    subst (λ (t : List ℕ). IsBegun c.args.job.now t entry late (g.D.Depot.shown c.args.depot.now).held (g.D.Depot.shown c.args.depot.now).late → IsBegun c.args.job.now t entry late (g.D.Depot.shown c.store_plan.new.depot).held (g.D.Depot.shown c.store_plan.new.depot).late) c.in-Ok-make_texts.ensures.record (c.store_plan.ensures.started entry late) begun
 
 pub returns-in-Ok-store_plan-clause-stored : goal.returns-in-Ok-store_plan-clause-stored
 returns-in-Ok-store_plan-clause-stored g c entry late begun =
-    if_stored c.report.result _ (subst (λ (t : List ℕ). IsBegun c.args.job.now t entry late (g.D.Depot.held c.args.depot.now) (g.D.Depot.late c.args.depot.now) → Completes c.args.job.now t entry (g.D.Depot.held c.store_plan.new.depot)) c.in-Ok-make_texts.ensures.record (c.in-Ok-store_plan.ensures.complete entry late) begun)
+    if_stored c.report.result _ (subst (λ (t : List ℕ). IsBegun c.args.job.now t entry late (g.D.Depot.shown c.args.depot.now).held (g.D.Depot.shown c.args.depot.now).late → Completes c.args.job.now t entry (g.D.Depot.shown c.store_plan.new.depot).held) c.in-Ok-make_texts.ensures.record (c.in-Ok-store_plan.ensures.complete entry late) begun)
 
 pub returns-clause-stored : goal.returns-clause-stored
 returns-clause-stored g c entry late begun = stored_fault c.args.job.now c.args.options _ _ 0 0 _ (g.W.Sink.written c.args.out.now) c.in-Err.status _ c.in-Err.ensures.cause
 
 pub returns-in-Ok-store_plan-clause-first : goal.returns-in-Ok-store_plan-clause-first
 returns-in-Ok-store_plan-clause-first g c entry late begun follows =
-    subst (λ (t : List ℕ). IsBegun c.args.job.now t entry late (g.D.Depot.held c.args.depot.now) (g.D.Depot.late c.args.depot.now) → Follows late (Some entry) (g.D.Depot.held c.args.depot.now) (g.D.Depot.late c.args.depot.now) → IsRecordFirst c.args.job.now t entry late (g.D.Depot.held c.store_plan.new.depot) (g.D.Depot.late c.store_plan.new.depot)) c.in-Ok-make_texts.ensures.record (c.store_plan.ensures.first entry late) begun follows
+    subst (λ (t : List ℕ). IsBegun c.args.job.now t entry late (g.D.Depot.shown c.args.depot.now).held (g.D.Depot.shown c.args.depot.now).late → Follows late (Some entry) (g.D.Depot.shown c.args.depot.now).held (g.D.Depot.shown c.args.depot.now).late → IsRecordFirst c.args.job.now t entry late (g.D.Depot.shown c.store_plan.new.depot).held (g.D.Depot.shown c.store_plan.new.depot).late) c.in-Ok-make_texts.ensures.record (c.store_plan.ensures.first entry late) begun follows
 
 pub returns-clause-first : goal.returns-clause-first
 returns-clause-first g c entry late begun follows =
-    subst (λ (t : List ℕ). IsBegun c.args.job.now t entry late (g.D.Depot.held c.args.depot.now) (g.D.Depot.late c.args.depot.now) → Follows late (Some entry) (g.D.Depot.held c.args.depot.now) (g.D.Depot.late c.args.depot.now) → IsRecordFirst c.args.job.now t entry late (g.D.Depot.held c.store_plan.new.depot) (g.D.Depot.late c.store_plan.new.depot)) c.in-Ok-make_texts.ensures.record (c.store_plan.ensures.first entry late) begun follows
+    subst (λ (t : List ℕ). IsBegun c.args.job.now t entry late (g.D.Depot.shown c.args.depot.now).held (g.D.Depot.shown c.args.depot.now).late → Follows late (Some entry) (g.D.Depot.shown c.args.depot.now).held (g.D.Depot.shown c.args.depot.now).late → IsRecordFirst c.args.job.now t entry late (g.D.Depot.shown c.store_plan.new.depot).held (g.D.Depot.shown c.store_plan.new.depot).late) c.in-Ok-make_texts.ensures.record (c.store_plan.ensures.first entry late) begun follows
 
 pub returns-in-Ok-store_plan-clause-failed_first : goal.returns-in-Ok-store_plan-clause-failed_first
 returns-in-Ok-store_plan-clause-failed_first g c entry late begun follows =
-    alone_report c.args.job.now c.args.options 0 0 _ _ (g.D.Depot.held c.store_plan.new.depot) _ _ c.in-Ok-store_plan.failed c.report.result _ c.report.ensures.answer
+    alone_report c.args.job.now c.args.options 0 0 _ _ (g.D.Depot.shown c.store_plan.new.depot).held _ _ c.in-Ok-store_plan.failed c.report.result _ c.report.ensures.answer
 
 pub returns-clause-failed_first : goal.returns-clause-failed_first
 returns-clause-failed_first g c entry late begun follows =
-    subst (λ (t : List ℕ). IsBegun c.args.job.now t entry late (g.D.Depot.held c.args.depot.now) (g.D.Depot.late c.args.depot.now) → Follows late (Some entry) (g.D.Depot.held c.args.depot.now) (g.D.Depot.late c.args.depot.now) → IfDepotFailed c.in-Err.status (IsFirstFailed c.args.job.now t entry late (g.D.Depot.held c.store_plan.new.depot) (g.D.Depot.late c.store_plan.new.depot))) c.in-Ok-make_texts.ensures.record (c.in-Err.ensures.failed_first entry late) begun follows
+    subst (λ (t : List ℕ). IsBegun c.args.job.now t entry late (g.D.Depot.shown c.args.depot.now).held (g.D.Depot.shown c.args.depot.now).late → Follows late (Some entry) (g.D.Depot.shown c.args.depot.now).held (g.D.Depot.shown c.args.depot.now).late → IfDepotFailed c.in-Err.status (IsFirstFailed c.args.job.now t entry late (g.D.Depot.shown c.store_plan.new.depot).held (g.D.Depot.shown c.store_plan.new.depot).late)) c.in-Ok-make_texts.ensures.record (c.in-Err.ensures.failed_first entry late) begun follows
 
 pub returns-in-Ok-store_plan-clause-first_held : goal.returns-in-Ok-store_plan-clause-first_held
 returns-in-Ok-store_plan-clause-first_held g c entry late begun =
@@ -55,7 +55,7 @@ returns-in-Ok-store_plan-clause-first_held g c entry late begun =
 
 pub returns-clause-first_held : goal.returns-clause-first_held
 returns-clause-first_held g c entry late begun =
-    subst (λ (t : List ℕ). IsBegun c.args.job.now t entry late (g.D.Depot.held c.args.depot.now) (g.D.Depot.late c.args.depot.now) → IfTaskEnded c.in-Err.status (HasFirst (g.D.Depot.held c.store_plan.new.depot) c.args.job.now t)) c.in-Ok-make_texts.ensures.record (c.in-Err.ensures.first_held entry late) begun
+    subst (λ (t : List ℕ). IsBegun c.args.job.now t entry late (g.D.Depot.shown c.args.depot.now).held (g.D.Depot.shown c.args.depot.now).late → IfTaskEnded c.in-Err.status (HasFirst (g.D.Depot.shown c.store_plan.new.depot).held c.args.job.now t)) c.in-Ok-make_texts.ensures.record (c.in-Err.ensures.first_held entry late) begun
 
 pub returns-in-Ok-store_plan-clause-answer : goal.returns-in-Ok-store_plan-clause-answer
 returns-in-Ok-store_plan-clause-answer g c =
@@ -63,7 +63,7 @@ returns-in-Ok-store_plan-clause-answer g c =
 
 pub returns-in-Ok-store_plan-clause-prints : goal.returns-in-Ok-store_plan-clause-prints
 returns-in-Ok-store_plan-clause-prints g c =
-    prints_report c.args.job.now c.args.options 0 0 _ _ (g.D.Depot.held c.store_plan.new.depot) _ _ c.in-Ok-store_plan.failed c.report.result c.report.ensures.answer
+    prints_report c.args.job.now c.args.options 0 0 _ _ (g.D.Depot.shown c.store_plan.new.depot).held _ _ c.in-Ok-store_plan.failed c.report.result c.report.ensures.answer
 
 pub returns-clause-answer : goal.returns-clause-answer
 returns-clause-answer g c = carries_fault c.args.job.now c.args.options _ _ _ _ _ _ c.in-Err.status c.in-Err.ensures.cause

@@ -12,7 +12,7 @@ returns-in-Err-clause-refused g c =
 
 pub returns-in-Err-check_memory-clause-refused : goal.returns-in-Err-check_memory-clause-refused
 returns-in-Err-check_memory-clause-refused g c =
-    let accepted : IsAccepted c.args.names.now c.args.options (g.D.Depot.held c.args.depot.now) (g.D.Depot.late c.args.depot.now) c.in-Ok.job =
+    let accepted : IsAccepted c.args.names.now c.args.options (g.D.Depot.shown c.args.depot.now).held (g.D.Depot.shown c.args.depot.now).late c.in-Ok.job =
     record { has_names = c.in-Ok.ensures.names; is_job = c.in-Ok.ensures.job; inputs = λ entry told. c.in-Ok.ensures.inputs entry _ (follows_start _ entry _ told) } in
     memory_refused c.args.names.now c.args.options _ _ _ _ _ c.in-Ok.job c.in-Err-check_memory.status (over_memory c.args.options c.in-Ok.job) accepted refl c.in-Err-check_memory.ensures
 
@@ -26,7 +26,7 @@ returns-in-Ok-ask_keys-clause-free g c entry told =
 
 pub returns-in-Err-ask_keys-clause-refused : goal.returns-in-Err-ask_keys-clause-refused
 returns-in-Err-ask_keys-clause-refused g c =
-    let accepted : IsAccepted c.args.names.now c.args.options (g.D.Depot.held c.args.depot.now) (g.D.Depot.late c.args.depot.now) c.in-Ok.job =
+    let accepted : IsAccepted c.args.names.now c.args.options (g.D.Depot.shown c.args.depot.now).held (g.D.Depot.shown c.args.depot.now).late c.in-Ok.job =
     record { has_names = c.in-Ok.ensures.names; is_job = c.in-Ok.ensures.job; inputs = λ entry told. c.in-Ok.ensures.inputs entry _ (follows_start _ entry _ told) } in
     let fits : over_memory c.args.options c.in-Ok.job ≡ None = search rules in
     ask_refused c.args.names.now c.args.options _ _ _ _ _ _ _ c.in-Ok.job c.in-Err-ask_keys.status accepted fits c.read_inputs.ensures.count c.in-Err-ask_keys.ensures.cause

@@ -12,16 +12,16 @@ use Rattle.cu_top.proofs.tasks.finish_task.Given as goal
 abbrev pub invariant-loop-failed : goal.invariant-loop-failed
 invariant-loop-failed g l = record {
   started : (options : Options) (job : Job) (entry : Contents) (late : List Write) → l.plan ≡ plan_of options job
-      → IsStarted job entry late (g.D.Depot.held l.initial.depot) (g.D.Depot.late l.initial.depot)
-      → IsStarted job entry late (g.D.Depot.held l.depot) (g.D.Depot.late l.depot);
+      → IsStarted job entry late (g.D.Depot.shown l.initial.depot).held (g.D.Depot.shown l.initial.depot).late
+      → IsStarted job entry late (g.D.Depot.shown l.depot).held (g.D.Depot.shown l.depot).late;
   stays : (options : Options) (job : Job) (entry : Contents) (late : List Write) → l.plan ≡ plan_of options job
-      → IsStarted job entry late (g.D.Depot.held l.initial.depot) (g.D.Depot.late l.initial.depot)
-      → ValuesStay job entry late (g.D.Depot.held l.initial.depot) (g.D.Depot.held l.depot);
+      → IsStarted job entry late (g.D.Depot.shown l.initial.depot).held (g.D.Depot.shown l.initial.depot).late
+      → ValuesStay job entry late (g.D.Depot.shown l.initial.depot).held (g.D.Depot.shown l.depot).held;
   others : (options : Options) (job : Job) (late : List Write) (entry : Option Contents) → l.plan ≡ plan_of options job
-      → PlanAlone job late entry (g.D.Depot.held l.initial.depot) (g.D.Depot.late l.initial.depot)
-      → PlanAlone job late entry (g.D.Depot.held l.depot) (g.D.Depot.late l.depot);
-  rose : Rose l.failed (g.D.Depot.faults l.initial.depot) (g.D.Depot.faults l.depot);
-  count : g.D.Depot.faults l.initial.depot ≤ g.D.Depot.faults l.depot;
-  calls : g.D.Depot.calls l.depot ≤ g.D.Depot.calls l.initial.depot + 3 * l.failed;
-  lacks : g.D.Depot.lacks l.depot ≡ g.D.Depot.lacks l.initial.depot;
+      → PlanAlone job late entry (g.D.Depot.shown l.initial.depot).held (g.D.Depot.shown l.initial.depot).late
+      → PlanAlone job late entry (g.D.Depot.shown l.depot).held (g.D.Depot.shown l.depot).late;
+  rose : Rose l.failed (g.D.Depot.shown l.initial.depot).faults (g.D.Depot.shown l.depot).faults;
+  count : (g.D.Depot.shown l.initial.depot).faults ≤ (g.D.Depot.shown l.depot).faults;
+  calls : (g.D.Depot.shown l.depot).calls ≤ (g.D.Depot.shown l.initial.depot).calls + 3 * l.failed;
+  lacks : (g.D.Depot.shown l.depot).lacks ≡ (g.D.Depot.shown l.initial.depot).lacks;
 }

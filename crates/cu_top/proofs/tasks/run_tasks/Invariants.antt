@@ -12,19 +12,19 @@ use Rattle.cu_top.proofs.tasks.run_tasks.Given as goal
 abbrev pub invariant-loop-task : goal.invariant-loop-task
 invariant-loop-task g l = record {
   started : (options : Options) (job : Job) (entry : Contents) (late : List Write) → l.plan ≡ plan_of options job
-      → IsStarted job entry late (g.D.Depot.held l.initial.depot) (g.D.Depot.late l.initial.depot)
-      → IsStarted job entry late (g.D.Depot.held l.depot) (g.D.Depot.late l.depot);
+      → IsStarted job entry late (g.D.Depot.shown l.initial.depot).held (g.D.Depot.shown l.initial.depot).late
+      → IsStarted job entry late (g.D.Depot.shown l.depot).held (g.D.Depot.shown l.depot).late;
   stored : (options : Options) (job : Job) (entry : Contents) (late : List Write) → l.plan ≡ plan_of options job
-      → IsStarted job entry late (g.D.Depot.held l.initial.depot) (g.D.Depot.late l.initial.depot)
-      → StoresChunks job entry (g.D.Depot.held l.depot) l.task;
+      → IsStarted job entry late (g.D.Depot.shown l.initial.depot).held (g.D.Depot.shown l.initial.depot).late
+      → StoresChunks job entry (g.D.Depot.shown l.depot).held l.task;
   stays : (options : Options) (job : Job) (entry : Contents) (late : List Write) → l.plan ≡ plan_of options job
-      → IsStarted job entry late (g.D.Depot.held l.initial.depot) (g.D.Depot.late l.initial.depot)
-      → ValuesStay job entry late (g.D.Depot.held l.initial.depot) (g.D.Depot.held l.depot);
+      → IsStarted job entry late (g.D.Depot.shown l.initial.depot).held (g.D.Depot.shown l.initial.depot).late
+      → ValuesStay job entry late (g.D.Depot.shown l.initial.depot).held (g.D.Depot.shown l.depot).held;
   others : (options : Options) (job : Job) (late : List Write) (entry : Option Contents) → l.plan ≡ plan_of options job
-      → PlanAlone job late entry (g.D.Depot.held l.initial.depot) (g.D.Depot.late l.initial.depot)
-      → PlanAlone job late entry (g.D.Depot.held l.depot) (g.D.Depot.late l.depot);
-  rose : Rose l.failed (g.D.Depot.faults l.initial.depot) (g.D.Depot.faults l.depot);
+      → PlanAlone job late entry (g.D.Depot.shown l.initial.depot).held (g.D.Depot.shown l.initial.depot).late
+      → PlanAlone job late entry (g.D.Depot.shown l.depot).held (g.D.Depot.shown l.depot).late;
+  rose : Rose l.failed (g.D.Depot.shown l.initial.depot).faults (g.D.Depot.shown l.depot).faults;
   few : l.failed ≤ l.retries * l.task;
-  count : g.D.Depot.faults l.initial.depot ≤ g.D.Depot.faults l.depot;
-  lacks : g.D.Depot.lacks l.depot ≡ g.D.Depot.lacks l.initial.depot;
+  count : (g.D.Depot.shown l.initial.depot).faults ≤ (g.D.Depot.shown l.depot).faults;
+  lacks : (g.D.Depot.shown l.depot).lacks ≡ (g.D.Depot.shown l.initial.depot).lacks;
 }

@@ -1,0 +1,125 @@
+//! Runs tables of cases: what the program and the readers of texts must answer, written as data. Each word names a file with a
+//! table. A line for each case comes on standard output; what isn't as it must be comes on standard error, with status 1.
+#![tactic(auto)]
+
+mod bytes;
+mod calls;
+mod case;
+mod depots;
+mod findings;
+mod folder;
+mod loops;
+mod members;
+mod metadata;
+mod numbers;
+mod script;
+mod shapes;
+mod watched;
+
+use anyhow::{Context, Result, bail};
+use bytes::Texts;
+use calls::run_calls;
+use depots::run_depot;
+use findings::Findings;
+use folder::run_folder;
+use members::{Said, list_of, refuse_others, text_of};
+use metadata::run_metadata;
+use numbers::{run_promotions, run_scalars};
+use serde_json::Value;
+use shapes::run_shapes;
+use std::fmt::Write;
+use std::process::ExitCode;
+use std::rt::{Env, Files};
+use std::{env, fs};
+
+/// Runs a case of this kind.
+fn run_case<R: Files + AllocGlobal + Clone + Drop>(
+    rt: &R,
+    kind: &str,
+    texts: &Texts<'_>,
+    said: &Said<'_>,
+    name: &str,
+    findings: &mut Findings,
+) -> Result<()> {
+    match kind {
+        "calls" => run_calls(texts, said, name, findings),
+        "folder" => run_folder(rt, texts, said, name, findings),
+        "depot" => run_depot(rt, texts, said, name, findings),
+        "metadata" => run_metadata(texts, said, name, findings),
+        "scalars" => run_scalars(texts.alloc, said, name, findings),
+        "promotions" => run_promotions(said, name, findings),
+        "slices" | "broadcasts" | "places" | "grids" => run_shapes(kind, said, name, findings),
+        _ => bail!("{kind} is no kind of case"),
+    }
+}
+
+/// Runs the cases of a table, and writes a line for each.
+fn run_table<R: Files + AllocGlobal + Clone + Drop>(
+    rt: &R,
+    table: &Value,
+    printed: &mut String,
+    findings: &mut Findings,
+) -> Result<()> {
+    refuse_others(table, &["kind", "texts", "shared", "cases"])?;
+    let nothing = Value::Null;
+    let texts = Texts {
+        alloc: rt.alloc(),
+        named: table.get("texts").unwrap_or(&nothing),
+    };
+    let shared = table.get("shared").unwrap_or(&nothing);
+    let kind = text_of(table.get("kind").unwrap_or(&nothing))?;
+    for case in list_of(table.get("cases").unwrap_or(&nothing))? {
+        let said = Said {
+            row: case,
+            case,
+            shared,
+        };
+        let name = said.text("name")?;
+        let before = findings.runs();
+        run_case(rt, kind, &texts, &said, name, findings).context(format_args!("{name}"))?;
+        let runs = findings.runs().saturating_sub(before);
+        write!(printed, "  {name}: {runs}\n")?;
+    }
+    Ok(())
+}
+
+/// Runs the table of a file.
+fn run_file<R: Files + AllocGlobal + Clone + Drop>(
+    rt: &R,
+    file: &str,
+    printed: &mut String,
+    findings: &mut Findings,
+) -> Result<()> {
+    let text = fs::read_to_string(rt, file)?;
+    let table = Value::from_str(rt.alloc(), text.as_str())?;
+    let before = findings.runs();
+    write!(printed, "{file}\n")?;
+    run_table(rt, &table, printed, findings)?;
+    let runs = findings.runs().saturating_sub(before);
+    write!(printed, "{file}: {runs}\n")?;
+    Ok(())
+}
+
+/// Runs the tables that the words name.
+fn run_all(
+    rt: &(impl Files + Env + AllocGlobal + Clone + Drop),
+    printed: &mut String,
+    findings: &mut Findings,
+) -> Result<()> {
+    for word in env::args(rt)?.skip(1) {
+        run_file(rt, word.as_str(), printed, findings).context(format_args!("{word}"))?;
+    }
+    Ok(())
+}
+
+fn main(rt: HostRuntime) -> Result<ExitCode> {
+    let mut printed = String::new(rt.alloc());
+    let mut findings = Findings::new(rt.alloc());
+    run_all(&rt, &mut printed, &mut findings)?;
+    print!(rt; "{printed}")?;
+    if findings.count() == 0 {
+        return Ok(ExitCode::SUCCESS);
+    }
+    eprint!(rt; "{}", findings.text())?;
+    Ok(ExitCode::FAILURE)
+}

@@ -1,0 +1,6 @@
+use Rattle.std.proofs.Common.{◌≡◌, ◌+◌, ◌*◌, ◌<◌, ℕ, get_or}
+use Rattle.cu_codec.proofs.parts.is_one_chunk.Given as goal
+
+abbrev pub invariant-loop-axis : goal.invariant-loop-axis
+invariant-loop-axis l = (k : ℕ) → k < l.axis
+    → (get_or l.region.lo k 0 ≡ get_or l.coord k 0 * get_or l.grid.chunk k 0) × (get_or l.region.hi k 0 ≡ get_or l.region.lo k 0 + get_or l.grid.chunk k 0)

@@ -1,0 +1,3 @@
+pub mod IdText
+pub mod Keys
+pub mod Name

@@ -1,8 +1,0 @@
-use Rattle.std.proofs.Common.{◌≡◌, ◌==◌, ◌<◌, ◌+◌, ℕ, length, get_or, if◌then◌else◌}
-use Rattle.cu_op.proofs.cells.back_of.Given as goal
-
-abbrev pub invariant-loop-axis : goal.invariant-loop-axis
-invariant-loop-axis l = record {
-  ranks : length l.read ≡ length l.shape;
-  done : (k : ℕ) → k < l.axis → get_or l.read k 0 ≡ (if get_or l.shape k 0 == 1 then 0 else get_or l.index (l.first + k) 0);
-}

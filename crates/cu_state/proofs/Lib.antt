@@ -1,0 +1,4 @@
+pub mod Keeping
+pub mod Elements
+pub mod Reading
+pub mod PlanNames
