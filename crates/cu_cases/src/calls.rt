@@ -41,6 +41,9 @@ pub(crate) fn run_calls(
     findings: &mut Findings,
 ) -> Result<()> {
     refuse_others(said.case, &MEMBERS)?;
+    if !said.shared.is_null() {
+        refuse_others(said.shared, &MEMBERS)?;
+    }
     let rows = said.list("rows")?;
     if rows.is_empty() {
         return run_row(texts, said, name, 0, findings);

@@ -1,6 +1,6 @@
 //! What isn't as it must be.
 
-use anyhow::Result;
+use anyhow::{Error, Result};
 use std::alloc::Global;
 use std::fmt::Write;
 use std::str;
@@ -79,6 +79,13 @@ impl Findings {
         let is = shown(self.alloc, is)?;
         let must = shown(self.alloc, must)?;
         self.differ(place, subject, is.as_str(), must.as_str())
+    }
+
+    /// Notes a case that can't be run, as one with a member that isn't known.
+    pub(crate) fn fail(&mut self, case: &str, error: &Error) -> Result<()> {
+        self.count = self.count.saturating_add(1);
+        write!(self.text, "{case}: {error}\n")?;
+        Ok(())
     }
 
     /// Notes a row that isn't so.

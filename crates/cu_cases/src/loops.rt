@@ -46,9 +46,11 @@ pub(crate) fn run_loops(
     if said.member("ends").is_some() {
         trial.each_end(again, said.list("ends")?, fronts, findings)?;
     }
-    if let Some(once) = said.member("once") {
-        let late = said.number("late")?.unwrap_or(0);
-        trial.each_again(texts, once, late, findings)?;
+    let late = said.number("late")?;
+    match (said.member("once"), late) {
+        (Some(once), late) => trial.each_again(texts, once, late.unwrap_or(0), findings)?,
+        (None, Some(_)) => bail!("late puts are tried with once"),
+        (None, None) => {}
     }
     if said.is_set("sinks")? {
         trial.each_sink(findings)?;
@@ -92,7 +94,8 @@ impl Trial<'_> {
         findings: &mut Findings,
     ) -> Result<()> {
         if ends.len() != self.calls.len() {
-            bail!("{} calls were made", self.calls.len());
+            let place = self.place("ends for calls", self.calls.len());
+            return findings.expect_so(&place, false);
         }
         for (at, end) in ends.iter().enumerate() {
             self.end(again, at, end, fronts, findings)?;

@@ -6,12 +6,14 @@ mod bytes;
 mod calls;
 mod case;
 mod depots;
+mod expressions;
 mod findings;
 mod folder;
 mod loops;
 mod members;
 mod metadata;
 mod numbers;
+mod regions;
 mod script;
 mod shapes;
 mod watched;
@@ -20,11 +22,13 @@ use anyhow::{Context, Result, bail};
 use bytes::Texts;
 use calls::run_calls;
 use depots::run_depot;
+use expressions::run_expressions;
 use findings::Findings;
 use folder::run_folder;
 use members::{Said, list_of, refuse_others, text_of};
 use metadata::run_metadata;
 use numbers::{run_promotions, run_scalars};
+use regions::{run_keys, run_regions};
 use serde_json::Value;
 use shapes::run_shapes;
 use std::fmt::Write;
@@ -46,7 +50,10 @@ fn run_case<R: Files + AllocGlobal + Clone + Drop>(
         "folder" => run_folder(rt, texts, said, name, findings),
         "depot" => run_depot(rt, texts, said, name, findings),
         "metadata" => run_metadata(texts, said, name, findings),
+        "expressions" => run_expressions(texts, said, name, findings),
         "scalars" => run_scalars(texts.alloc, said, name, findings),
+        "regions" => run_regions(texts.alloc, said, name, findings),
+        "keys" => run_keys(texts.alloc, said, name, findings),
         "promotions" => run_promotions(said, name, findings),
         "slices" | "broadcasts" | "places" | "grids" => run_shapes(kind, said, name, findings),
         _ => bail!("{kind} is no kind of case"),
@@ -76,7 +83,9 @@ fn run_table<R: Files + AllocGlobal + Clone + Drop>(
         };
         let name = said.text("name")?;
         let before = findings.runs();
-        run_case(rt, kind, &texts, &said, name, findings).context(format_args!("{name}"))?;
+        if let Err(error) = run_case(rt, kind, &texts, &said, name, findings) {
+            findings.fail(name, &error)?;
+        }
         let runs = findings.runs().saturating_sub(before);
         write!(printed, "  {name}: {runs}\n")?;
     }

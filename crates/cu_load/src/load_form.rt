@@ -11,10 +11,10 @@ ghost use Rattle.cu_num.specs.TypeName.{dtype_named};
 ghost use Rattle.cu_load.specs.LoadForm.{head_view, given_by, IfCode, text_at, list_at, has_form, sizes_at, elements_after, head_in, array_in, load_of, IsGiven};
 
 use cu_command::name_at;
-use cu_name::IdText;
 use cu_grid::Grid;
 use cu_json::is_object_of;
 use cu_meta::{fill_in, sizes_in};
+use cu_name::IdText;
 use cu_num::{Dtype, Encoding, Endian, Sep, dtype_named, size};
 use cu_op::Layout;
 use cu_shape::Dims;

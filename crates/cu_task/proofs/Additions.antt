@@ -7,41 +7,30 @@ use Rattle.cu_num.specs.Element.{element_at, element_bytes}
 use Rattle.cu_num.specs.Wrap.{wrapped}
 use Rattle.cu_num.specs.declared.types.Dtype.{Dtype}
 use Rattle.cu_num.specs.declared.layout.Endian.TheVariants.{Little}
-use Rattle.cu_shape.specs.Index.{product, index_at, is_inside, quotients}
+use Rattle.cu_shape.specs.Index.{product, index_at, is_inside}
 use Rattle.cu_shape.proofs.Places.{inside_from_test, index-inside, place-below}
-use Rattle.cu_grid.specs.Counts.{IsRegion, IsWithin}
+use Rattle.cu_grid.specs.Counts.{IsWithin}
 use Rattle.cu_grid.specs.Cover.{Meets}
 use Rattle.cu_grid.specs.Grid.{IsGrid, IsInChunk}
 use Rattle.cu_grid.proofs.Parting.{lies_within}
 use Rattle.cu_grid.proofs.Regions.{coordinate-length}
 use Rattle.cu_store.specs.Held.{Contents, Write, IsAmong, StayAmong}
 use Rattle.cu_zarr.specs.Spelling.{joined, padded}
-use Rattle.cu_zarr.specs.Stored.{element_in}
 use Rattle.cu_op.specs.Kernel.{kernel_value}
 use Rattle.cu_op.specs.Layout.{layout_view}
 use Rattle.cu_op.specs.declared.layout.ArrayInfo.{ArrayInfo}
 use Rattle.cu_codec.specs.Parts.{place_within, differences, index_at_place}
 use Rattle.cu_codec.proofs.Shared.{within_sizes}
 use Rattle.cu_codec.proofs.Taken.{corner_parts}
-use Rattle.cu_region.specs.Reading.{key_at, IsChunkKey, ReadsRegion}
+use Rattle.cu_region.specs.Reading.{key_at, ReadsRegion}
 use Rattle.cu_region.specs.Steady.{IsSteady, HoldSame}
 use Rattle.cu_region.specs.Writing.{AreElements, HasWholeChunks, buffer_element, chunk_value, IsOwnOrLate, LateIsOwn, StoresRegion, HasValues}
-use Rattle.cu_region.proofs.StoredReads.{meets_own}
 use Rattle.cu_task.specs.Sums.{number_at, IsSum, SpellsSum, addition_code}
 use Rattle.cu_task.specs.Addition.{Values, stored_loads, AddsStored, bytes_for, StoresValues, HasChunks, IsMadeOrLate}
 
 -- each element that is written as a sum is the bytes of a number
 pub sums_are_elements : (t : Dtype) (left right out : List ℕ) → SpellsSum t left right out → AreElements t out
 sums_are_elements t left right out s p h = (number_at t left p +ℤ number_at t right p, s p h)
-
--- what was read of a region is what was stored before, where its keys hold the same
-pub reads_before : (info : ArrayInfo) (lo hi buf : List ℕ) (held : Contents) (now : Option Contents) → IsGrid info.layout.grid → IsRegion info.layout.grid.shape lo hi
-    → HoldSame (IsChunkKey info lo hi) (Some held) now → ReadsRegion info lo hi now buf → ReadsRegion info lo hi (Some held) buf
-reads_before info lo hi buf held None ok region same reads idx w = absurd same
-reads_before info lo hi buf held (Some new) ok region same reads idx w =
-    let m = meets_own info lo hi idx ok region w in
-    let e : new (key_at info (quotients idx info.layout.grid.chunk)) ≡ held (key_at info (quotients idx info.layout.grid.chunk)) = same _ (quotients idx info.layout.grid.chunk, m, refl) in
-    ap (λ bytes. element_in (layout_view info.layout) bytes idx) (sym e) ∙ reads idx w
 
 -- fewer keys hold the same
 pub same_fewer : (K L : List ℕ → Type 0) (old new : Option Contents) → ((key : List ℕ) → L key → K key) → HoldSame K old new → HoldSame L old new

@@ -18,7 +18,7 @@ use Rattle.cu_op.specs.declared.operation.Op.{Op}
 use Rattle.cu_op.specs.declared.operation.Op.TheVariants.{Map}
 use Rattle.cu_op.proofs.Plans.{coord_inside}
 use Rattle.cu_op.proofs.ReadElements.{PartedBy, reads_lie}
-use Rattle.cu_task.specs.Task.{op_of, key_of, IsInputOf, IsOutputOf, AreApart, cell_value, IsTaskReady, HasCells, IsOutputOrLate}
+use Rattle.cu_task.specs.AdditionTask.{op_of, key_of, IsInputOf, IsOutputOf, AreApart, cell_value, IsTaskReady, HasCells, IsOutputOrLate}
 
 parted : PartedBy
 parted g coord idx ok here within = (only_chunk g coord idx ok here within, in_array g coord idx ok here within)

@@ -36,7 +36,7 @@ use Rattle.cu_region.specs.Reading.{key_at, IsChunkKey, bytes_of, IsReadFault}
 use Rattle.cu_region.specs.Writing.{HasWholeChunks}
 use Rattle.cu_task.specs.Sums.{addition_code}
 use Rattle.cu_task.specs.Addition.{AddsStored, stored_loads, IsInputKey, bytes_for, IsReady, StoresValues, HasChunks, IsMadeOrLate, IsLike}
-use Rattle.cu_task.specs.Task.{op_of, AddsTwo, key_of, IsInputOf, cell_value, IsTaskReady, HoldsCells, HasCells, IsOutputOrLate, IsTaskFault}
+use Rattle.cu_task.specs.AdditionTask.{op_of, AddsTwo, key_of, IsInputOf, cell_value, IsTaskReady, HoldsCells, HasCells, IsOutputOrLate, IsTaskFault}
 use Rattle.cu_task.proofs.Additions.{steady_fewer}
 use Rattle.cu_task.proofs.ChunkRegions.{meets_one, whole_chunk}
 

@@ -1,3 +1,5 @@
 pub mod Sums
 pub mod Addition
+pub mod AdditionTask
+pub mod Inputs
 pub mod Task

@@ -2,10 +2,11 @@
 #![tactic(auto)]
 
 mod addition;
-mod rooms;
+mod inputs;
 mod run;
+mod sum_rooms;
+mod sum_task;
 mod sums;
-#[cfg(test)]
-mod tests;
 
 pub use run::run_task;
+pub use sum_task::run_addition;

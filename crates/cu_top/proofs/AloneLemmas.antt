@@ -2,7 +2,7 @@
 use Rattle.std.proofs.Common.{◌⊎◌, ℕ, ◌<◌, ◌∷◌, List, Option, refl, sym, subst, inl, inr}
 use Rattle.cu_store.proofs.Writes.{lands_same, lands_then, lands_more}
 use Rattle.cu_store.specs.Held.{Contents, Write, IsAmong, Lands, StayAmong, Follows}
-use Rattle.cu_task.specs.Task.{IsOutputOrLate}
+use Rattle.cu_task.specs.AdditionTask.{IsOutputOrLate}
 use Rattle.cu_top.proofs.PlanLemmas.{output_key}
 use Rattle.cu_top.specs.Job.{chunks_of}
 use Rattle.cu_top.specs.Plan.{plan_arrays, plan_op}

@@ -28,7 +28,7 @@ use Rattle.cu_store.specs.Held.{Contents, Write, IsAmong, Follows}
 use Rattle.cu_store.specs.declared.faults.TaskFault.{TaskFault}
 use Rattle.cu_store.specs.declared.faults.TaskFault.TheVariants.{Store, BadChunk, NoMemory}
 use Rattle.cu_task.specs.Sums.{addition_code}
-use Rattle.cu_task.specs.Task.{op_of, IsAddition, IsOutputOf, key_of, cell_value, IsTaskReady, HoldsCells, HasCells, IsTaskFault}
+use Rattle.cu_task.specs.AdditionTask.{op_of, IsAddition, IsOutputOf, key_of, cell_value, IsTaskReady, HoldsCells, HasCells, IsTaskFault}
 use Rattle.cu_task.proofs.Tasks.{back_inside, back_coord}
 use Rattle.cu_zarr.specs.Key.{chunk_key_of}
 use Rattle.cu_zarr.specs.Layout.{ArrayLayout, index_in_chunk}

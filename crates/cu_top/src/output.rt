@@ -2,7 +2,7 @@
 ghost use Rattle.std.specs.Prelude.{◌≡◌, ℕ, ◌+◌, ◌*◌, ◌≤◌, List, Option, Some, length, IfErr, IfOk, OnOk};
 ghost use Rattle.cu_op.specs.Projection.{projection};
 ghost use Rattle.cu_store.specs.Held.{Contents, Write, IsAmong, Follows, Holds};
-ghost use Rattle.cu_task.specs.Task.{op_of};
+ghost use Rattle.cu_task.specs.AdditionTask.{op_of};
 ghost use Rattle.cu_zarr.specs.Key.{metadata_key_of};
 ghost use Rattle.cu_top.specs.Job.{IsJob, IsStarted, ValuesStay, chunks_of, out_metadata};
 ghost use Rattle.cu_top.specs.Plan.{plan_of};

@@ -3,7 +3,7 @@ ghost use Rattle.std.specs.Prelude.{◌≡◌, ℕ, ◌+◌, ◌*◌, ◌<◌, �
 ghost use Rattle.cu_op.specs.Cells.{tasks_of};
 ghost use Rattle.cu_op.specs.Projection.{projection};
 ghost use Rattle.cu_store.specs.Held.{Contents, Write};
-ghost use Rattle.cu_task.specs.Task.{op_of};
+ghost use Rattle.cu_task.specs.AdditionTask.{op_of};
 ghost use Rattle.cu_top.specs.Job.{IsJob, IsStarted, StoresChunk, StoresChunks, ValuesStay, chunks_of};
 ghost use Rattle.cu_top.specs.Plan.{plan_of};
 ghost use Rattle.cu_top.specs.Run.{IfTaskFailed, PlanAlone};
@@ -14,7 +14,7 @@ ghost use Rattle.cu_top.specs.declared.words.Options.{Options as Numbers};
 use cu_command::Status;
 use cu_op::{Plan, tasks};
 use cu_store::{Depot, TaskFault};
-use cu_task::run_task;
+use cu_task::run_addition;
 
 /// One try of a task.
 fn try_task<D: Depot>(
@@ -42,7 +42,7 @@ fn try_task<D: Depot>(
     ensures calls { (D.shown depot.new).calls ≤ (D.shown depot.old).calls + 3 }
     ensures lacks { (D.shown depot.new).lacks ≡ (D.shown depot.old).lacks }
 {
-    run_task(depot, plan, 0, task, bytes, words)
+    run_addition(depot, plan, 0, task, bytes, words)
 }
 
 /// What a run answers whose task met this fault, and none where the task is tried again.

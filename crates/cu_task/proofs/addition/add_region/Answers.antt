@@ -10,7 +10,8 @@ use Rattle.cu_region.specs.Steady.{IsSteady, HoldSame}
 use Rattle.cu_region.specs.Writing.{buffer_element, chunk_value}
 use Rattle.cu_region.proofs.SteadyKeys.{hold_same, steady_then}
 use Rattle.cu_task.specs.Addition.{Values, IsReady, IsInputKey, bytes_for}
-use Rattle.cu_task.proofs.Additions.{reads_before, same_fewer, steady_fewer, sum_values, bytes_same, late_own, stores_values, has_values, made_or_late, on_ok_more}
+use Rattle.cu_task.proofs.Additions.{same_fewer, steady_fewer, sum_values, bytes_same, late_own, stores_values, has_values, made_or_late, on_ok_more}
+use Rattle.cu_task.proofs.InputReads.{reads_before}
 use Rattle.cu_task.proofs.TaskCalls.{after_one, after_two, after_three, all_three, write_faults}
 use Rattle.cu_task.proofs.addition.add_region.Given
 use Rattle.cu_task.proofs.addition.add_region.Goals as goal

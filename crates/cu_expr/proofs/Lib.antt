@@ -1,0 +1,4 @@
+pub mod LayoutInfo
+pub mod Nodes
+pub mod ToldArguments
+pub mod Typed

@@ -1,0 +1,124 @@
+-- The form of a node of an expression, apart from the text that it is read from (this project's own form).
+use Rattle.std.specs.Prelude.{ℕ, ◌^◌, ◌-◌, ◌&&◌, ◌||◌, ◌==◌, not, nat_lt, nat_le, ℤ, pos, negsuc, neg_ℤ, int_lt, Bool, true, false, List, [], ◌∷◌, length, count_by, ◌≡◌}
+use Rattle.std.specs.List.{list_all}
+use Rattle.cu_name.specs.Name.{is_name}
+use Rattle.cu_num.specs.declared.functions.Fn1.TheVariants as fn1
+use Rattle.cu_form.specs.declared.args.Arg.{Arg}
+use Rattle.cu_form.specs.declared.args.Literal.{Literal}
+use Rattle.cu_form.specs.declared.form.ElementOp.{ElementOp}
+use Rattle.cu_form.specs.declared.form.Form.{Form}
+
+-- ---- arguments
+
+-- the arguments of a form, in order
+abbrev pub args_of : Form → List Arg
+args_of (Form.Elementwise op args) = args
+args_of (Form.Triangle lower args k) = args
+args_of (Form.Index args items) = args
+args_of (Form.Concat args axis) = args
+args_of (Form.Stack args axis) = args
+args_of (Form.PermuteDims args axes) = args
+args_of (Form.Reshape args shape) = args
+args_of (Form.ExpandDims args axis) = args
+args_of (Form.Squeeze args axes) = args
+args_of (Form.Flip args axes) = args
+args_of (Form.Roll args shifts axes) = args
+args_of (Form.BroadcastTo args shape chunk) = args
+args_of (Form.Rechunk args chunk) = args
+args_of (Form.Reduce kind args axes keepdims) = args
+args_of (Form.ArgPlace least args axis keepdims) = args
+args_of (Form.Matmul args) = args
+args_of form = []
+
+-- the argument names a node before the one with this number; one that is written names none
+abbrev pub is_earlier : ℕ → Arg → Bool
+is_earlier number (Arg.Node n) = nat_lt n number
+is_earlier number arg = true
+
+-- each argument of the form of the node with this number names an earlier node, or none
+abbrev pub names_earlier : ℕ → Form → Bool
+names_earlier number form = list_all (is_earlier number) (args_of form)
+
+-- the argument is an array
+abbrev pub is_array : Arg → Bool
+is_array (Arg.Node n) = true
+is_array arg = false
+
+-- arrays, and from so many to so many of them
+abbrev pub are_arrays : ℕ → ℕ → List Arg → Bool
+are_arrays least most args = nat_le least (length args) && nat_le (length args) most && list_all is_array args
+
+-- what an elementwise function takes: as many arguments as it has, at least one of them an array (Python array API,
+-- "Element-wise Functions"); `where` an array of truth values and, of the other two, an array at least
+abbrev pub element_takes : ElementOp → List Arg → Bool
+element_takes (ElementOp.Two f) (x ∷ y ∷ []) = is_array x || is_array y
+element_takes (ElementOp.Two f) args = false
+element_takes ElementOp.Where (c ∷ x ∷ y ∷ []) = is_array c && (is_array x || is_array y)
+element_takes ElementOp.Where args = false
+element_takes op args = are_arrays 1 1 args
+
+-- the form has as many arguments as its operator takes, and no number or truth value where that wants an array
+abbrev pub takes_args : Form → Bool
+takes_args (Form.Input name) = true
+takes_args (Form.Elementwise op args) = element_takes op args
+takes_args (Form.Full shape dtype value chunk) = true
+takes_args (Form.Arange start stop step dtype chunk) = true
+takes_args (Form.Eye rows cols k dtype chunk) = true
+takes_args (Form.Concat args axis) = are_arrays 1 8 args
+takes_args (Form.Stack args axis) = are_arrays 1 8 args
+takes_args (Form.Matmul args) = are_arrays 2 2 args
+takes_args form = are_arrays 1 1 (args_of form)
+
+-- ---- members
+
+-- a size of an axis
+abbrev pub is_size : ℕ → Bool
+is_size n = nat_le n (2 ^ 40)
+
+-- a size of a chunk on an axis
+abbrev pub is_chunk_size : ℕ → Bool
+is_chunk_size n = nat_le 1 n && nat_le n (2 ^ 40)
+
+-- a size of an axis of `reshape`, or -1, which stands for the size that is left
+abbrev pub is_new_size : ℤ → Bool
+is_new_size (pos n) = is_size n
+is_new_size (negsuc n) = n == 0
+
+-- such sizes, at most one of them -1
+abbrev pub are_new_sizes : List ℤ → Bool
+are_new_sizes shape = list_all is_new_size shape && nat_le (count_by (λ x. int_lt x (pos 0)) shape) 1
+
+-- an integer that may be written: from -2^63 to 2^64 - 1
+abbrev pub is_written : ℤ → Bool
+is_written x = not (int_lt x (neg_ℤ (pos (2 ^ 63)))) && not (int_lt (pos (2 ^ 64 - 1)) x)
+
+abbrev pub is_written_arg : Arg → Bool
+is_written_arg (Arg.Int x) = is_written x
+is_written_arg arg = true
+
+abbrev pub is_written_value : Literal → Bool
+is_written_value (Literal.Int x) = is_written x
+is_written_value value = true
+
+-- `astype` is a function of its own
+abbrev pub is_function : ElementOp → Bool
+is_function (ElementOp.One fn1.Astype) = false
+is_function op = true
+
+-- the members of the form lie in their ranges
+abbrev pub in_ranges : Form → Bool
+in_ranges (Form.Input name) = is_name name
+in_ranges (Form.Elementwise op args) = is_function op && list_all is_written_arg args
+in_ranges (Form.Full shape dtype value chunk) = list_all is_size shape && is_written_value value && list_all is_chunk_size chunk
+in_ranges (Form.Arange start stop step dtype chunk) = list_all is_chunk_size chunk
+in_ranges (Form.Eye rows cols k dtype chunk) = is_size rows && is_size cols && list_all is_chunk_size chunk
+in_ranges (Form.Reshape args shape) = are_new_sizes shape
+in_ranges (Form.BroadcastTo args shape chunk) = list_all is_size shape && list_all is_chunk_size chunk
+in_ranges (Form.Rechunk args chunk) = list_all is_chunk_size chunk
+in_ranges form = true
+
+-- the form is one of the node with this number
+pub record IsForm (number : ℕ) (form : Form) : Type 0 where
+  pub args : takes_args form ≡ true
+  pub earlier : names_earlier number form ≡ true
+  pub ranges : in_ranges form ≡ true

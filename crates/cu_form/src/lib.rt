@@ -1,0 +1,12 @@
+//! Expressions: a list of nodes, each of which is an input or a function of earlier nodes.
+#![tactic(auto)]
+
+mod args;
+mod expr;
+mod form;
+mod items;
+
+pub use args::{Arg, IndexItem, Literal};
+pub use expr::{Expr, Node};
+pub use form::{ElementOp, Form};
+pub use items::Items;

@@ -1,0 +1,241 @@
+//! One call a function, so that the loops of each are built apart.
+ghost use Rattle.std.specs.Prelude.{◌≡◌, length};
+ghost use Rattle.cu_kern.specs.Lanes.{HasValues1, HasValues2};
+
+use crate::lane_loops::{by_type1, by_type2};
+use cu_num::{Dtype, Fn1, Fn2};
+
+#[inline(never)]
+pub(crate) fn lane_negative(t: Dtype, x: &[u64], out: &mut [u64])
+    requires { length x.now ≡ length out.old }
+    ensures { HasValues1 Fn1.Negative t x.now out.new }
+{
+    by_type1(Fn1::Negative, t, x, out);
+}
+
+#[inline(never)]
+pub(crate) fn lane_positive(t: Dtype, x: &[u64], out: &mut [u64])
+    requires { length x.now ≡ length out.old }
+    ensures { HasValues1 Fn1.Positive t x.now out.new }
+{
+    by_type1(Fn1::Positive, t, x, out);
+}
+
+#[inline(never)]
+pub(crate) fn lane_abs(t: Dtype, x: &[u64], out: &mut [u64])
+    requires { length x.now ≡ length out.old }
+    ensures { HasValues1 Fn1.Abs t x.now out.new }
+{
+    by_type1(Fn1::Abs, t, x, out);
+}
+
+#[inline(never)]
+pub(crate) fn lane_square(t: Dtype, x: &[u64], out: &mut [u64])
+    requires { length x.now ≡ length out.old }
+    ensures { HasValues1 Fn1.Square t x.now out.new }
+{
+    by_type1(Fn1::Square, t, x, out);
+}
+
+#[inline(never)]
+pub(crate) fn lane_sign(t: Dtype, x: &[u64], out: &mut [u64])
+    requires { length x.now ≡ length out.old }
+    ensures { HasValues1 Fn1.Sign t x.now out.new }
+{
+    by_type1(Fn1::Sign, t, x, out);
+}
+
+#[inline(never)]
+pub(crate) fn lane_bitwise_invert(t: Dtype, x: &[u64], out: &mut [u64])
+    requires { length x.now ≡ length out.old }
+    ensures { HasValues1 Fn1.BitwiseInvert t x.now out.new }
+{
+    by_type1(Fn1::BitwiseInvert, t, x, out);
+}
+
+#[inline(never)]
+pub(crate) fn lane_logical_not(t: Dtype, x: &[u64], out: &mut [u64])
+    requires { length x.now ≡ length out.old }
+    ensures { HasValues1 Fn1.LogicalNot t x.now out.new }
+{
+    by_type1(Fn1::LogicalNot, t, x, out);
+}
+
+#[inline(never)]
+pub(crate) fn lane_astype(t: Dtype, x: &[u64], out: &mut [u64])
+    requires { length x.now ≡ length out.old }
+    ensures { HasValues1 Fn1.Astype t x.now out.new }
+{
+    by_type1(Fn1::Astype, t, x, out);
+}
+
+#[inline(never)]
+pub(crate) fn lane_add(t: Dtype, x: &[u64], y: &[u64], out: &mut [u64])
+    requires first { length x.now ≡ length out.old }
+    requires second { length y.now ≡ length out.old }
+    ensures { HasValues2 Fn2.Add t x.now y.now out.new }
+{
+    by_type2(Fn2::Add, t, x, y, out);
+}
+
+#[inline(never)]
+pub(crate) fn lane_subtract(t: Dtype, x: &[u64], y: &[u64], out: &mut [u64])
+    requires first { length x.now ≡ length out.old }
+    requires second { length y.now ≡ length out.old }
+    ensures { HasValues2 Fn2.Subtract t x.now y.now out.new }
+{
+    by_type2(Fn2::Subtract, t, x, y, out);
+}
+
+#[inline(never)]
+pub(crate) fn lane_multiply(t: Dtype, x: &[u64], y: &[u64], out: &mut [u64])
+    requires first { length x.now ≡ length out.old }
+    requires second { length y.now ≡ length out.old }
+    ensures { HasValues2 Fn2.Multiply t x.now y.now out.new }
+{
+    by_type2(Fn2::Multiply, t, x, y, out);
+}
+
+#[inline(never)]
+pub(crate) fn lane_floor_divide(t: Dtype, x: &[u64], y: &[u64], out: &mut [u64])
+    requires first { length x.now ≡ length out.old }
+    requires second { length y.now ≡ length out.old }
+    ensures { HasValues2 Fn2.FloorDivide t x.now y.now out.new }
+{
+    by_type2(Fn2::FloorDivide, t, x, y, out);
+}
+
+#[inline(never)]
+pub(crate) fn lane_remainder(t: Dtype, x: &[u64], y: &[u64], out: &mut [u64])
+    requires first { length x.now ≡ length out.old }
+    requires second { length y.now ≡ length out.old }
+    ensures { HasValues2 Fn2.Remainder t x.now y.now out.new }
+{
+    by_type2(Fn2::Remainder, t, x, y, out);
+}
+
+#[inline(never)]
+pub(crate) fn lane_bitwise_and(t: Dtype, x: &[u64], y: &[u64], out: &mut [u64])
+    requires first { length x.now ≡ length out.old }
+    requires second { length y.now ≡ length out.old }
+    ensures { HasValues2 Fn2.BitwiseAnd t x.now y.now out.new }
+{
+    by_type2(Fn2::BitwiseAnd, t, x, y, out);
+}
+
+#[inline(never)]
+pub(crate) fn lane_bitwise_or(t: Dtype, x: &[u64], y: &[u64], out: &mut [u64])
+    requires first { length x.now ≡ length out.old }
+    requires second { length y.now ≡ length out.old }
+    ensures { HasValues2 Fn2.BitwiseOr t x.now y.now out.new }
+{
+    by_type2(Fn2::BitwiseOr, t, x, y, out);
+}
+
+#[inline(never)]
+pub(crate) fn lane_bitwise_xor(t: Dtype, x: &[u64], y: &[u64], out: &mut [u64])
+    requires first { length x.now ≡ length out.old }
+    requires second { length y.now ≡ length out.old }
+    ensures { HasValues2 Fn2.BitwiseXor t x.now y.now out.new }
+{
+    by_type2(Fn2::BitwiseXor, t, x, y, out);
+}
+
+#[inline(never)]
+pub(crate) fn lane_left_shift(t: Dtype, x: &[u64], y: &[u64], out: &mut [u64])
+    requires first { length x.now ≡ length out.old }
+    requires second { length y.now ≡ length out.old }
+    ensures { HasValues2 Fn2.LeftShift t x.now y.now out.new }
+{
+    by_type2(Fn2::LeftShift, t, x, y, out);
+}
+
+#[inline(never)]
+pub(crate) fn lane_right_shift(t: Dtype, x: &[u64], y: &[u64], out: &mut [u64])
+    requires first { length x.now ≡ length out.old }
+    requires second { length y.now ≡ length out.old }
+    ensures { HasValues2 Fn2.RightShift t x.now y.now out.new }
+{
+    by_type2(Fn2::RightShift, t, x, y, out);
+}
+
+#[inline(never)]
+pub(crate) fn lane_equal(t: Dtype, x: &[u64], y: &[u64], out: &mut [u64])
+    requires first { length x.now ≡ length out.old }
+    requires second { length y.now ≡ length out.old }
+    ensures { HasValues2 Fn2.Equal t x.now y.now out.new }
+{
+    by_type2(Fn2::Equal, t, x, y, out);
+}
+
+#[inline(never)]
+pub(crate) fn lane_not_equal(t: Dtype, x: &[u64], y: &[u64], out: &mut [u64])
+    requires first { length x.now ≡ length out.old }
+    requires second { length y.now ≡ length out.old }
+    ensures { HasValues2 Fn2.NotEqual t x.now y.now out.new }
+{
+    by_type2(Fn2::NotEqual, t, x, y, out);
+}
+
+#[inline(never)]
+pub(crate) fn lane_less(t: Dtype, x: &[u64], y: &[u64], out: &mut [u64])
+    requires first { length x.now ≡ length out.old }
+    requires second { length y.now ≡ length out.old }
+    ensures { HasValues2 Fn2.Less t x.now y.now out.new }
+{
+    by_type2(Fn2::Less, t, x, y, out);
+}
+
+#[inline(never)]
+pub(crate) fn lane_less_equal(t: Dtype, x: &[u64], y: &[u64], out: &mut [u64])
+    requires first { length x.now ≡ length out.old }
+    requires second { length y.now ≡ length out.old }
+    ensures { HasValues2 Fn2.LessEqual t x.now y.now out.new }
+{
+    by_type2(Fn2::LessEqual, t, x, y, out);
+}
+
+#[inline(never)]
+pub(crate) fn lane_greater(t: Dtype, x: &[u64], y: &[u64], out: &mut [u64])
+    requires first { length x.now ≡ length out.old }
+    requires second { length y.now ≡ length out.old }
+    ensures { HasValues2 Fn2.Greater t x.now y.now out.new }
+{
+    by_type2(Fn2::Greater, t, x, y, out);
+}
+
+#[inline(never)]
+pub(crate) fn lane_greater_equal(t: Dtype, x: &[u64], y: &[u64], out: &mut [u64])
+    requires first { length x.now ≡ length out.old }
+    requires second { length y.now ≡ length out.old }
+    ensures { HasValues2 Fn2.GreaterEqual t x.now y.now out.new }
+{
+    by_type2(Fn2::GreaterEqual, t, x, y, out);
+}
+
+#[inline(never)]
+pub(crate) fn lane_logical_and(t: Dtype, x: &[u64], y: &[u64], out: &mut [u64])
+    requires first { length x.now ≡ length out.old }
+    requires second { length y.now ≡ length out.old }
+    ensures { HasValues2 Fn2.LogicalAnd t x.now y.now out.new }
+{
+    by_type2(Fn2::LogicalAnd, t, x, y, out);
+}
+
+#[inline(never)]
+pub(crate) fn lane_logical_or(t: Dtype, x: &[u64], y: &[u64], out: &mut [u64])
+    requires first { length x.now ≡ length out.old }
+    requires second { length y.now ≡ length out.old }
+    ensures { HasValues2 Fn2.LogicalOr t x.now y.now out.new }
+{
+    by_type2(Fn2::LogicalOr, t, x, y, out);
+}
+
+#[inline(never)]
+pub(crate) fn lane_logical_xor(t: Dtype, x: &[u64], y: &[u64], out: &mut [u64])
+    requires first { length x.now ≡ length out.old }
+    requires second { length y.now ≡ length out.old }
+    ensures { HasValues2 Fn2.LogicalXor t x.now y.now out.new }
+{
+    by_type2(Fn2::LogicalXor, t, x, y, out);
+}

@@ -1,0 +1,92 @@
+//! Kernels over whole regions.
+ghost use Rattle.std.specs.Prelude.{◌≡◌, ◌+◌, ◌*◌, ◌-◌, ◌^◌, ◌≤◌, ◌<◌, ℕ, List, [], Some, All, length};
+ghost use Rattle.cu_num.specs.Dtype.{size_of};
+ghost use Rattle.cu_num.specs.Element.{element_at, element_bytes, bytes_at};
+ghost use Rattle.cu_num.specs.declared.layout.Endian.TheVariants.{Little};
+ghost use Rattle.cu_shape.specs.Index.{product, place_of, IsInside};
+ghost use Rattle.cu_op.specs.Kernel.{kernel_value};
+ghost use Rattle.cu_op.specs.KernelTypes.{KernelFits};
+ghost use Rattle.cu_kern.specs.Lays.{LayFits, lay_types, loaded_at, HasValue};
+ghost use Rattle.cu_kern.specs.Steps.{value_by_place};
+
+use crate::direct::run_direct;
+use crate::lays::Lay;
+use crate::steps::{ROW, run_block};
+use arrayvec::ArrayVec;
+use cu_num::{Dtype, size};
+use cu_op::{Instr, Kernel};
+use cu_shape::Dims;
+
+/// Computes a map over regions of its inputs (Python array API, elementwise functions and broadcasting).
+///
+/// All regions lie in one buffer, `ins`, each as its `Lay` says, row-major and little-endian. They are stretched to `dims`, the
+/// sizes of the result, whose elements of type `t` are written to `out`, row-major and little-endian. Each element of the result
+/// is the kernel's value at the elements that its index reads. `words` are 64 for each step of the kernel.
+pub fn run_kernel(
+    kernel: &Kernel,
+    lays: &ArrayVec<Lay, 8>,
+    t: Dtype,
+    dims: &Dims,
+    ins: &[u8],
+    out: &mut [u8],
+    words: &mut [u64],
+)
+    requires kernel { KernelFits kernel.now.code.items (lay_types lays.now.items) [] t }
+    requires lays { All (LayFits dims.now (length ins.now)) lays.now.items }
+    requires out { length out.old ≡ product dims.now * size_of t }
+    requires words { length words.old ≡ 64 * length kernel.now.code.items }
+    ensures value { (idx : List ℕ) → IsInside dims.now idx
+        → kernel_value kernel.now.code.items (loaded_at lays.now.items ins.now idx) ≡ Some (element_at Little t out.new (place_of dims.now idx)) }
+    ensures bytes { (p : ℕ) → p < product dims.now → bytes_at t out.new p ≡ element_bytes Little t (element_at Little t out.new p) }
+{
+    let code = kernel.code.as_slice();
+    let lays = lays.as_slice();
+    run_places(code, lays, t, dims, ins, out, words);
+}
+
+/// `run_kernel`, place by place: from bytes to bytes where the kernel is one function, else in blocks of words.
+fn run_places(
+    code: &[Instr],
+    lays: &[Lay],
+    t: Dtype,
+    dims: &Dims,
+    ins: &[u8],
+    out: &mut [u8],
+    words: &mut [u64],
+)
+    requires kernel { KernelFits code.now (lay_types lays.now) [] t }
+    requires lays { All (LayFits dims.now (length ins.now)) lays.now }
+    requires out { length out.old ≡ product dims.now * size_of t }
+    requires words { length words.old ≡ 64 * length code.now }
+    ensures { (p : ℕ) → p < product dims.now → HasValue t out.new p (value_by_place code.now lays.now ins.now dims.now p) }
+{
+    if !run_direct(code, lays, t, dims, ins, out) {
+        run_blocks(code, lays, t, dims, ins, out, words);
+    }
+}
+
+/// `run_kernel` by blocks of 64 places, the last of which may be shorter.
+fn run_blocks(
+    code: &[Instr],
+    lays: &[Lay],
+    t: Dtype,
+    dims: &Dims,
+    ins: &[u8],
+    out: &mut [u8],
+    words: &mut [u64],
+)
+    requires kernel { KernelFits code.now (lay_types lays.now) [] t }
+    requires lays { All (LayFits dims.now (length ins.now)) lays.now }
+    requires out { length out.old ≡ product dims.now * size_of t }
+    requires words { length words.old ≡ 64 * length code.now }
+    ensures { (p : ℕ) → p < product dims.now → HasValue t out.new p (value_by_place code.now lays.now ins.now dims.now p) }
+{
+    let size = size(t) as usize;
+    let all = out.len() / size;
+    for block in 0..all.div_ceil(ROW) {
+        let from = block * ROW;
+        let count = (all - from).min(ROW);
+        let part = &mut out[from * size..(from + count) * size];
+        run_block(code, lays, t, dims, ins, from as u64, part, words);
+    }
+}

@@ -1,0 +1,5 @@
+pub mod Axes
+pub mod Fault
+pub mod Info
+pub mod Limited
+pub mod Types

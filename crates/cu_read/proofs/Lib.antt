@@ -1,0 +1,8 @@
+mod Examples
+pub mod Answered
+pub mod NodesRead
+pub mod Ranges
+pub mod RowForms
+pub mod Says
+pub mod Steps
+pub mod Texts

@@ -1,0 +1,97 @@
+-- The loop over the items of a list of nodes.
+use Rattle.std.proofs.Common.{◌≡◌, ◌<◌, ◌≤◌, ◌+◌, ◌++◌, suc, List, [], ◌∷◌, ℕ, drop, get_or, length, false, nat_le, Some, Bool, Ok, Err, Result, OnOk, refl, sym, ap, ◌∙◌, subst, arith, add-one, drop-cons}
+use Rattle.std.specs.Prelude.{bytes_eq}
+use Rattle.std.specs.List.{position}
+use Rattle.std.specs.Result.{is_err}
+use Rattle.std.proofs.Math.ListN.{drop_of_length-le}
+use Rattle.std.proofs.lemmas.Bool.{le-leb}
+use Rattle.std.proofs.lemmas.List.{map-append}
+use Rattle.serde_json.specs.View.{view, items_view}
+use Rattle.serde_json.specs.declared.value.Value.{Value}
+use Rattle.serde_json.proofs.Views.{items_len-items_view}
+use Rattle.cu_name.specs.Name.{is_name}
+use Rattle.cu_form.specs.Expression.{Expression, IsExpression}
+use Rattle.cu_form.specs.declared.expr.Node.{Node}
+use Rattle.cu_result.specs.Results.{◌>>=◌}
+use Rattle.cu_read.specs.Faults.{Reads}
+use Rattle.cu_read.specs.Members.{passing}
+use Rattle.cu_read.specs.Node.{node_in}
+use Rattle.cu_read.specs.Read.{whole_fault, at_node, ids_of, nodes_after, AreNodes, stored_of, listed_in}
+use Rattle.cu_read.specs.declared.faults.ReadFault.{ReadFault}
+use Rattle.cu_read.specs.declared.faults.ReadRefused.{ReadRefused}
+use Rattle.cu_read.specs.declared.nodes.Nodes.{Nodes}
+use Rattle.cu_read.proofs.Says.{length-ids, listed_nodes, stored_is, name_passes}
+
+-- the answer for the next item, where the nodes so far are those in front
+next_said : (v : Value) (front : List Node) (ids : List (List ℕ)) (r : Result Node ReadFault) → ids ≡ ids_of front
+    → at_node (length ids) (node_in ids (view v)) ≡ r → at_node (length front) (node_in (ids_of front) (view v)) ≡ r
+next_said v front ids r same said =
+    ap (λ (n : ℕ). at_node n (node_in (ids_of front) (view v))) (sym (length-ids front)) ∙ subst (λ (names : List (List ℕ)). at_node (length names) (node_in names (view v)) ≡ r) same said
+
+cut_at : (items : List Value) (k : ℕ) (v : Value) → k < length items → v ≡ get_or items k v → drop k items ≡ v ∷ drop (k + 1) items
+cut_at items k v within is = rw add-one (drop-cons items k v within ∙ ap (λ (w : Value). w ∷ drop (suc k) items) (sym is))
+
+pub go_on : (items : List Value) (k : ℕ) (v : Value) (front : List Node) (ids : List (List ℕ)) (node : Node) (whole : Result (List Node) ReadFault)
+    → k < length items → v ≡ get_or items k v → ids ≡ ids_of front → whole ≡ nodes_after front (items_view (drop k items))
+    → at_node (length ids) (node_in ids (view v)) ≡ Ok node → whole ≡ nodes_after (front ++ node ∷ []) (items_view (drop (k + 1) items))
+go_on items k v front ids node whole within is same so_far said =
+    so_far ∙ ap (λ (vs : List Value). nodes_after front (items_view vs)) (cut_at items k v within is)
+    ∙ ap (λ (r : Result Node ReadFault). r >>= λ (n : Node). nodes_after (front ++ n ∷ []) (items_view (drop (k + 1) items))) (next_said v front ids (Ok node) same said)
+
+pub stop_at : (items : List Value) (k : ℕ) (v : Value) (front : List Node) (ids : List (List ℕ)) (refused : ReadRefused) (whole : Result (List Node) ReadFault)
+    → k < length items → v ≡ get_or items k v → ids ≡ ids_of front → whole ≡ nodes_after front (items_view (drop k items))
+    → Reads {A = Node} {B = Node} (λ n. n) (Err refused) (at_node (length ids) (node_in ids (view v)))
+    → Reads {A = Nodes} {B = List Node} (λ n. n.list.items) (Err refused) whole
+stop_at items k v front ids (ReadRefused.Fault fault) whole within is same so_far said =
+    so_far ∙ ap (λ (vs : List Value). nodes_after front (items_view vs)) (cut_at items k v within is)
+    ∙ ap (λ (r : Result Node ReadFault). r >>= λ (n : Node). nodes_after (front ++ n ∷ []) (items_view (drop (k + 1) items))) (next_said v front ids (Err fault) same said)
+stop_at items k v front ids ReadRefused.NoMemory whole within is same so_far said = tt
+
+pub ids_pushed : (front list : List Node) (ids names : List (List ℕ)) (node : Node) → ids ≡ ids_of front → list ≡ front ++ node ∷ [] → names ≡ ids ++ node.name ∷ [] → names ≡ ids_of list
+ids_pushed front list ids names node same is pushed =
+    pushed ∙ ap (λ (l : List (List ℕ)). l ++ node.name ∷ []) same ∙ sym (map-append (λ (n : Node). n.name) front (node ∷ [])) ∙ ap ids_of (sym is)
+
+pub are_nodes : (items : List Value) (nodes : List Node) → length items ≤ 256 → nodes_after [] (items_view items) ≡ Ok nodes → AreNodes nodes
+are_nodes items nodes short h = listed_nodes (items_view items) nodes (rw items_len-items_view short) h
+
+-- ---- the whole list
+
+longer : (m n : ℕ) → n < m → nat_le m n ≡ false
+longer m n h = grind arith
+
+pub too_many : (items : List Value) (out store_as : List ℕ) → 256 < length items → listed_in (items_view items) out store_as ≡ Err (whole_fault 7)
+too_many items out store_as many = rw (items_len-items_view items, longer (length items) 256 many) refl
+
+listed_is : (items : List Value) (out store_as : List ℕ) (r : Result (List Node) ReadFault) → length items ≤ 256 → nodes_after [] (items_view items) ≡ r
+    → listed_in (items_view items) out store_as ≡ (r >>= λ (nodes : List Node). stored_of nodes (ids_of nodes) out store_as)
+listed_is items out store_as r short said = rw (items_len-items_view items, le-leb (length items) 256 short, said) refl
+
+pub listed_ok : (items : List Value) (out store_as : List ℕ) (nodes : List Node) (ids : List (List ℕ)) (result : Result Expression ReadRefused) → length items ≤ 256
+    → nodes_after [] (items_view items) ≡ Ok nodes → ids ≡ ids_of nodes → Reads (λ e. e) result (stored_of nodes ids out store_as)
+    → Reads (λ e. e) result (listed_in (items_view items) out store_as)
+listed_ok items out store_as nodes ids result short said same answer =
+    subst (λ (r : Result Expression ReadFault). Reads (λ (e : Expression). e) result r) (sym (listed_is items out store_as (Ok nodes) short said))
+    (subst (λ (names : List (List ℕ)). Reads (λ (e : Expression). e) result (stored_of nodes names out store_as)) same answer)
+
+pub listed_err : (items : List Value) (out store_as : List ℕ) (refused : ReadRefused) → length items ≤ 256
+    → Reads {A = Nodes} {B = List Node} (λ n. n.list.items) (Err refused) (nodes_after [] (items_view items))
+    → Reads {A = Expression} {B = Expression} (λ e. e) (Err refused) (listed_in (items_view items) out store_as)
+listed_err items out store_as (ReadRefused.Fault fault) short said = listed_is items out store_as (Err fault) short said
+listed_err items out store_as ReadRefused.NoMemory short said = tt
+
+-- ---- the node that is stored
+
+pub is_stored : (nodes : List Node) (ids : List (List ℕ)) (out store_as : List ℕ) (k : ℕ) (name : List ℕ) → AreNodes nodes → ids ≡ ids_of nodes
+    → position (bytes_eq out) ids ≡ Some k → passing is_name store_as ≡ Some name → IsExpression (record { nodes = nodes; out = k; store_as = name })
+is_stored nodes ids out store_as k name are same at named =
+    stored_is nodes out k name are (subst (λ (names : List (List ℕ)). position (bytes_eq out) names ≡ Some k) same at) (name_passes store_as name named).1
+
+-- ---- the loop's ends
+
+pub added : {E : Type 0} (r : Result (Unit {0}) E) (b : Bool) (P : Type 0) → b ≡ is_err r → b ≡ false → OnOk r P → P
+added (Ok x) b P is fails h = h
+added (Err e) b P is fails h = cc
+
+pub all_said : (items : List Value) (k : ℕ) (list : List Node) → length items ≤ k → nodes_after [] (items_view items) ≡ nodes_after list (items_view (drop k items))
+    → nodes_after [] (items_view items) ≡ Ok list
+all_said items k list past so_far = so_far ∙ ap (λ (vs : List Value). nodes_after list (items_view vs)) (drop_of_length-le items past)

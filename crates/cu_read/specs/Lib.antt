@@ -1,0 +1,13 @@
+pub mod Args
+pub mod Creation
+pub mod Elementwise
+pub mod Faults
+pub mod Form
+pub mod IndexItem
+pub mod Lists
+pub mod Members
+pub mod Node
+pub mod Read
+pub mod Reduction
+pub mod Rows
+pub mod View

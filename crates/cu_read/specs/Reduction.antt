@@ -1,0 +1,57 @@
+-- The rows of reductions, of places and of products (Python array API, "Statistical Functions", "Utility Functions",
+-- "Searching Functions", "Linear Algebra Functions").
+use Rattle.std.specs.Prelude.{ℕ, ◌+◌, Bool, true, false, List, codes, bytes_eq, Option, Some, None, Result, Ok, Err, if◌then◌else◌}
+use Rattle.serde_json.specs.Data.{Data}
+use Rattle.serde_json.specs.Find.{as_bool}
+use Rattle.cu_num.specs.declared.folds.FoldKind.{FoldKind}
+use Rattle.cu_num.specs.declared.folds.FoldKind.TheVariants.{Sum, Prod, Min, Max, Any, All}
+use Rattle.cu_form.specs.declared.form.Form.{Form}
+use Rattle.cu_result.specs.Results.{◌>>=◌}
+use Rattle.cu_read.specs.Args.{args_in}
+use Rattle.cu_read.specs.Members.{integer_of, integers_of, or_null, present}
+use Rattle.cu_read.specs.Rows.{has_members, optional}
+use Rattle.cu_read.specs.declared.faults.NodeCode.{NodeCode}
+
+abbrev pub fold_named : List ℕ → Option FoldKind
+fold_named op =
+    if bytes_eq op (codes "sum") then Some Sum
+    else if bytes_eq op (codes "prod") then Some Prod
+    else if bytes_eq op (codes "min") then Some Min
+    else if bytes_eq op (codes "max") then Some Max
+    else if bytes_eq op (codes "any") then Some Any
+    else if bytes_eq op (codes "all") then Some All
+    else None
+
+abbrev pub reduce_in : FoldKind → List (List ℕ) → Data → Result Form NodeCode
+reduce_in kind ids d = do
+  _ ← has_members (3 + present (codes "axes") d + present (codes "keepdims") d) d
+  axes ← optional None (or_null integers_of) (codes "axes") d
+  keepdims ← optional false as_bool (codes "keepdims") d
+  args ← args_in ids d
+  Ok (Form.Reduce kind args axes keepdims)
+
+abbrev pub place_in : Bool → List (List ℕ) → Data → Result Form NodeCode
+place_in least ids d = do
+  _ ← has_members (3 + present (codes "axis") d + present (codes "keepdims") d) d
+  axis ← optional None (or_null integer_of) (codes "axis") d
+  keepdims ← optional false as_bool (codes "keepdims") d
+  args ← args_in ids d
+  Ok (Form.ArgPlace least args axis keepdims)
+
+abbrev pub matmul_in : List (List ℕ) → Data → Result Form NodeCode
+matmul_in ids d = do
+  _ ← has_members 3 d
+  args ← args_in ids d
+  Ok (Form.Matmul args)
+
+abbrev pub reduce_row : Option FoldKind → List (List ℕ) → Data → Result Form NodeCode
+reduce_row None ids d = Err NodeCode.Unknown
+reduce_row (Some kind) ids d = reduce_in kind ids d
+
+-- the row of an operator of this family
+abbrev pub reduction_row : List ℕ → List (List ℕ) → Data → Result Form NodeCode
+reduction_row op ids d =
+    if bytes_eq op (codes "argmin") then place_in true ids d
+    else if bytes_eq op (codes "argmax") then place_in false ids d
+    else if bytes_eq op (codes "matmul") then matmul_in ids d
+    else reduce_row (fold_named op) ids d

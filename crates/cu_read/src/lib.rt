@@ -1,0 +1,21 @@
+//! The reader of expressions: the JSON text of a list of nodes, as an expression or its first fault. Each family of operators
+//! has its rows in a file of its own: `creation`, `elementwise`, `view` and `reduction`.
+#![tactic(auto)]
+
+mod args;
+mod creation;
+mod elementwise;
+mod faults;
+mod ids;
+mod index_item;
+mod lists;
+mod members;
+mod node;
+mod nodes;
+mod read;
+mod reduction;
+mod rows;
+mod view;
+
+pub use faults::{ReadFault, ReadRefused};
+pub use read::read_expr;

@@ -1,0 +1,283 @@
+-- A task of a map: the regions that it reads, the one that it writes, its rooms, and what its kernel gives.
+use Rattle.std.proofs.Common.{◌≡◌, ℕ, zero, suc, ◌<◌, ◌≤◌, ◌+◌, ◌-◌, ◌*◌, ◌^◌, List, [], ◌∷◌, ◌++◌, length, map, drop, All, Contains, get_or, Some, option_map, refl, ap, sym, ◌∙◌, subst, arith, append-nil}
+use Rattle.std.specs.Prelude.{option_and_then, sum_by}
+use Rattle.std.specs.List.{slice_get}
+use Rattle.std.proofs.lemmas.List.{length-map, drop-drop}
+use Rattle.std.proofs.lemmas.List.Elements.{All-cons, All-nil, All-head, All-tail, All-map, All-contains_itself, Contains-append_left, Contains-append_right}
+use Rattle.std.proofs.lemmas.List.Sums.{sum_by-cons}
+use Rattle.std.proofs.lemmas.Nat.{mul-le}
+use Rattle.cu_num.specs.Dtype.{size_of}
+use Rattle.cu_num.specs.Element.{element_at}
+use Rattle.cu_num.specs.declared.types.Dtype.{Dtype}
+use Rattle.cu_num.specs.declared.layout.Endian.TheVariants.{Little}
+use Rattle.cu_shape.specs.Index.{product, place_of, sums, back, IsInside}
+use Rattle.cu_shape.proofs.Places.{index-inside}
+use Rattle.cu_grid.specs.Counts.{IsRegion, IsWithin}
+use Rattle.cu_grid.specs.Cover.{Meets, covering}
+use Rattle.cu_grid.specs.Grid.{IsCoordinate}
+use Rattle.cu_grid.specs.declared.region.Region.{Region}
+use Rattle.cu_grid.proofs.Regions.{region_inside, coordinate-length}
+use Rattle.cu_store.specs.Held.{Contents}
+use Rattle.cu_codec.specs.Parts.{differences}
+use Rattle.cu_codec.proofs.Shared.{within_sizes}
+use Rattle.cu_op.specs.Arrays.{grid_at, type_at, grid_counts, chunk_room}
+use Rattle.cu_op.specs.Cells.{cell, tasks_of, task_coord, task_lo, task_hi}
+use Rattle.cu_op.specs.Kernel.{kernel_value}
+use Rattle.cu_op.specs.KernelTypes.{KernelFits}
+use Rattle.cu_op.specs.Operation.{reads_of, writes_of, target_of, IsReadable, IsMadeBy, Fits}
+use Rattle.cu_op.specs.PlanView.{PlanView}
+use Rattle.cu_op.specs.Projection.{greatest, scratch_room, input_room, output_room, instruction_count, projection}
+use Rattle.cu_op.specs.Schedule.{op_of}
+use Rattle.cu_op.specs.Sound.{Sound}
+use Rattle.cu_op.specs.Value.{rule, loaded, stored_inputs}
+use Rattle.cu_op.specs.Walks.{walk, back_as, read_walk, walk_cells, input_walks, written_chunks, IsWalkOver}
+use Rattle.cu_op.specs.declared.cells.Cell.{Cell}
+use Rattle.cu_op.specs.declared.kernel.Instr.{Instr}
+use Rattle.cu_op.specs.declared.kernel.Kernel.{Kernel}
+use Rattle.cu_op.specs.declared.layout.ArrayInfo.{ArrayInfo}
+use Rattle.cu_op.specs.declared.operation.Op.{Op}
+use Rattle.cu_op.specs.declared.operation.Op.TheVariants.{Map}
+use Rattle.cu_op.specs.declared.walks.Walk.{Walk}
+use Rattle.cu_op.proofs.CellsOfTasks.{map_contains}
+use Rattle.cu_op.proofs.Plans.{grid_ok}
+use Rattle.cu_op.proofs.TaskCells.{region_lengths, read_over, read_within}
+use Rattle.cu_op.proofs.Values.{same_kernel}
+use Rattle.cu_op.proofs.WalkCells.{walk_meets, meets_walk, from_walk}
+use Rattle.cu_kern.specs.Lays.{lay_types, LayFits, lay_element, loaded_at}
+use Rattle.cu_kern.specs.declared.lays.Lay.{Lay}
+use Rattle.cu_region.specs.Calls.{chunks_met}
+use Rattle.cu_region.specs.Writing.{HasWholeChunks, buffer_element}
+use Rattle.cu_task.specs.Inputs.{IsReadWalk, room_of_walks, HasRegions, lays_from, IsMapOf}
+use Rattle.cu_task.proofs.ChunkRegions.{whole_chunk, region_small}
+use Rattle.cu_task.proofs.ReadRegions.{ReadsLike, reads_like, short_chunk}
+
+within_ranks : (lo hi idx : List ℕ) → IsWithin lo hi idx → (length lo ≡ length idx) × (length hi ≡ length idx)
+within_ranks [] [] [] w = (refl, refl)
+within_ranks [] [] (i ∷ is) w = absurd w
+within_ranks [] (h ∷ hs) is w = absurd w
+within_ranks (l ∷ ls) [] is w = absurd w
+within_ranks (l ∷ ls) (h ∷ hs) [] w = absurd w
+within_ranks (l ∷ ls) (h ∷ hs) (i ∷ is) w = let e = within_ranks ls hs is w.2 in (ap suc e.0, ap suc e.1)
+
+sums_differences : (lo hi idx : List ℕ) → IsWithin lo hi idx → sums lo (differences idx lo) ≡ idx
+sums_differences [] [] [] w = refl
+sums_differences [] [] (i ∷ is) w = absurd w
+sums_differences [] (h ∷ hs) is w = absurd w
+sums_differences (l ∷ ls) [] is w = absurd w
+sums_differences (l ∷ ls) (h ∷ hs) [] w = absurd w
+sums_differences (l ∷ ls) (h ∷ hs) (i ∷ is) w =
+    let rest = sums_differences ls hs is w.2 in
+    let low = w.0 in
+    let first : l + (i - l) ≡ i = omega arith in
+    cc
+
+abbrev pub walk_over : ℕ → Region → Walk
+walk_over a r = record { array = a; region = r }
+
+pub walk_is : (a b : ℕ) (r : Region) (lo hi : List ℕ) → a ≡ b → r.lo ≡ lo → r.hi ≡ hi → walk_over a r ≡ walk b lo hi
+walk_is a b r lo hi same low high =
+    ap (λ (x : ℕ). walk x r.lo r.hi) same ∙ ap (λ (x : List ℕ). walk b x r.hi) low ∙ ap (λ (x : List ℕ). walk b lo x) high
+
+-- ---- the regions of a map's inputs
+
+module _ (arrays : List ArrayInfo) (lo hi : List ℕ) where
+  pub record Like (a : ℕ) : Type 0 where
+    pub like : ReadsLike (grid_at arrays a) lo hi
+    pub over : IsWalkOver arrays (read_walk arrays lo hi a)
+    pub short : length (grid_at arrays a).shape ≤ length lo
+
+  abbrev walks : List ℕ → List Walk
+  walks ins = map (read_walk arrays lo hi) ins
+
+  walks_read : (ins : List ℕ) → All Like ins → All (IsReadWalk arrays) (walks ins)
+  walks_read ins likes = All-map (IsReadWalk arrays) (read_walk arrays lo hi) ins (λ i d b. let l = likes i d b in record { over = l.over; few = l.like.few })
+
+  types_of_lays : (at : ℕ) (ins : List ℕ) → lay_types (lays_from arrays at (walks ins)) ≡ map (type_at arrays) ins
+  types_of_lays at [] = refl
+  types_of_lays at (a ∷ ins) = ap (λ ts. type_at arrays a ∷ ts) (types_of_lays (at + chunk_room arrays a) ins)
+
+  rooms_sum : (ins : List ℕ) → sum_by (chunk_room arrays) ins ≡ room_of_walks arrays (walks ins)
+  rooms_sum [] = refl
+  rooms_sum (a ∷ ins) =
+      sum_by-cons (chunk_room arrays) a ins ∙ ap (λ n. chunk_room arrays a + n) (rooms_sum ins)
+      ∙ sym (sum_by-cons (λ (w : Walk). chunk_room arrays w.array) (read_walk arrays lo hi a) (walks ins))
+
+  lays_fit : (at room : ℕ) (ins : List ℕ) → All Like ins → at + room_of_walks arrays (walks ins) ≤ room
+      → All (LayFits (differences hi lo) room) (lays_from arrays at (walks ins))
+  lays_fit at room [] likes fits = All-nil (LayFits (differences hi lo) room)
+  lays_fit at room (a ∷ ins) likes fits =
+      let head = All-head Like a ins likes in
+      let sum : room_of_walks arrays (walks (a ∷ ins)) ≡ chunk_room arrays a + room_of_walks arrays (walks ins) = sum_by-cons (λ (w : Walk). chunk_room arrays w.array) (read_walk arrays lo hi a) (walks ins) in
+      let w = read_walk arrays lo hi a in
+      let own : Lay = record { at = at; dtype = type_at arrays a; dims = differences (read_walk arrays lo hi a).region.hi (read_walk arrays lo hi a).region.lo } in
+      let most : product (differences (read_walk arrays lo hi a).region.hi (read_walk arrays lo hi a).region.lo) * size_of (type_at arrays a) ≤ chunk_room arrays a
+      = mul-le _ (size_of (type_at arrays a)) (product (grid_at arrays a).chunk) (size_of (type_at arrays a)) head.like.few (omega arith) in
+      All-cons (LayFits (differences hi lo) room) own (lays_from arrays (at + chunk_room arrays a) (walks ins))
+      (record { broadcasts = head.like.broadcasts; inside = fits_here at (chunk_room arrays a) (room_of_walks arrays (walks ins)) room _ _ sum fits most })
+      (lays_fit (at + chunk_room arrays a) room ins (All-tail Like a ins likes) (fits_rest at (chunk_room arrays a) (room_of_walks arrays (walks ins)) room _ sum fits))
+    where
+      fits_here : (at own rest room all some : ℕ) → all ≡ own + rest → at + all ≤ room → some ≤ own → at + some ≤ room
+      fits_here at own rest room all some e f m = omega arith
+
+      fits_rest : (at own rest room all : ℕ) → all ≡ own + rest → at + all ≤ room → at + own + rest ≤ room
+      fits_rest at own rest room all e f = omega arith
+
+  module _ (held : Contents) (whole idx : List ℕ) (within : IsWithin lo hi idx) where
+    loads_same : (at k : ℕ) (ins : List ℕ) → All Like ins → HasRegions arrays held (walks ins) (drop at whole)
+        → option_map (λ (l : Lay). lay_element l whole (differences idx lo)) (slice_get (lays_from arrays at (walks ins)) k)
+        ≡ option_and_then (λ a. stored_inputs arrays held a (back (grid_at arrays a).shape idx)) (slice_get ins k)
+    loads_same at k [] likes has = refl
+    loads_same at zero (a ∷ ins) likes has =
+        let head = All-head Like a ins likes in
+        let n = within_ranks lo hi idx within in
+        let g = grid_at arrays a in
+        let dims = differences (back_as 1 (grid_at arrays a).shape hi) (back_as 0 (grid_at arrays a).shape lo) in
+        let inside = within_sizes lo hi idx within in
+        let read = read_within (grid_at arrays a).shape lo hi idx n.0 n.1 (let s = head.short in let e = n.0 in omega arith) within in
+        let at_region : back (differences (back_as 1 (grid_at arrays a).shape hi) (back_as 0 (grid_at arrays a).shape lo)) (differences idx lo)
+        ≡ differences (back (grid_at arrays a).shape idx) (back_as 0 (grid_at arrays a).shape lo)
+        = head.like.reads (differences idx lo) inside ∙ ap (λ (y : List ℕ). differences (back (grid_at arrays a).shape y) (back_as 0 (grid_at arrays a).shape lo)) (sums_differences lo hi idx within) in
+        ap (λ (x : List ℕ). Some (element_at Little (type_at arrays a) (drop at whole) (place_of (differences (back_as 1 (grid_at arrays a).shape hi) (back_as 0 (grid_at arrays a).shape lo)) x))) at_region
+        ∙ sym (has.0 (back (grid_at arrays a).shape idx) read)
+    loads_same at (suc k) (a ∷ ins) likes has =
+        loads_same (at + chunk_room arrays a) k ins (All-tail Like a ins likes)
+        (subst (HasRegions arrays held (walks ins)) (drop-drop (chunk_room arrays a) at whole) has.1)
+
+    map_rule : (code : List Instr) (t : Dtype) (output : List ℕ) (ins : List ℕ) → All Like ins → HasRegions arrays held (walks ins) whole
+        → ((i : List ℕ) → IsInside (differences hi lo) i → kernel_value code (loaded_at (lays_from arrays 0 (walks ins)) whole i) ≡ Some (element_at Little t output (place_of (differences hi lo) i)))
+        → kernel_value code (loaded arrays ins (stored_inputs arrays held) idx) ≡ buffer_element t lo hi output idx
+    map_rule code t output ins likes has value =
+        same_kernel code (loaded arrays ins (stored_inputs arrays held) idx) (loaded_at (lays_from arrays 0 (walks ins)) whole (differences idx lo)) (λ k. sym (loads_same 0 k ins likes has))
+        ∙ value (differences idx lo) (within_sizes lo hi idx within)
+
+greatest_most : (ns : List ℕ) (n : ℕ) → Contains ns n → n ≤ greatest ns
+greatest_most [] n (k, l, e) = absurd (omega arith)
+greatest_most (m ∷ ms) n (zero, l, e) = omega arith
+greatest_most (m ∷ ms) n (suc k, l, e) = let rest = greatest_most ms n (k, omega arith, e) in omega arith
+
+-- ---- by the kind of the operation
+
+-- the regions and the rooms of a task
+pub record TaskRegions (p : PlanView) (op : Op) (task : ℕ) : Type 0 where
+  pub walks : All (IsReadWalk p.arrays) (input_walks p.arrays op task)
+  pub inputs : input_room p.arrays op ≡ room_of_walks p.arrays (input_walks p.arrays op task)
+  pub output : output_room p.arrays op ≡ chunk_room p.arrays (target_of op)
+  pub scratch : All (λ (w : Walk). chunk_room p.arrays w.array ≤ scratch_room p.arrays op) (input_walks p.arrays op task)
+  pub scratch_out : chunk_room p.arrays (target_of op) ≤ scratch_room p.arrays op
+  pub result : IsReadWalk p.arrays (walk (target_of op) (task_lo p.arrays op task) (task_hi p.arrays op task))
+  pub whole : HasWholeChunks (grid_at p.arrays (target_of op)) (task_lo p.arrays op task) (task_hi p.arrays op task)
+  pub written : (coord : List ℕ) → Meets (grid_at p.arrays (target_of op)) (task_lo p.arrays op task) (task_hi p.arrays op task) coord
+      → Contains (written_chunks p.arrays op task) (cell (target_of op) coord)
+  pub only : (c : Cell) → Contains (written_chunks p.arrays op task) c
+      → (c.array ≡ target_of op) × Meets (grid_at p.arrays (target_of op)) (task_lo p.arrays op task) (task_hi p.arrays op task) c.coord
+  pub calls : length (written_chunks p.arrays op task) ≡ chunks_met (grid_at p.arrays (target_of op)) (task_lo p.arrays op task) (task_hi p.arrays op task)
+
+-- a kernel over them
+pub record TaskKernel (p : PlanView) (op : Op) (task : ℕ) (kernel : Kernel) : Type 0 where
+  pub fits : KernelFits kernel.code.items (lay_types (lays_from p.arrays 0 (input_walks p.arrays op task))) [] (type_at p.arrays (target_of op))
+  pub lays : (room : ℕ) → room_of_walks p.arrays (input_walks p.arrays op task) ≤ room
+      → All (LayFits (differences (task_hi p.arrays op task) (task_lo p.arrays op task)) room) (lays_from p.arrays 0 (input_walks p.arrays op task))
+  pub words : instruction_count op ≡ length kernel.code.items
+  pub value : (held : Contents) (whole output : List ℕ) → HasRegions p.arrays held (input_walks p.arrays op task) whole
+      → ((i : List ℕ) → IsInside (differences (task_hi p.arrays op task) (task_lo p.arrays op task)) i
+      → kernel_value kernel.code.items (loaded_at (lays_from p.arrays 0 (input_walks p.arrays op task)) whole i)
+      ≡ Some (element_at Little (type_at p.arrays (target_of op)) output (place_of (differences (task_hi p.arrays op task) (task_lo p.arrays op task)) i)))
+      → (idx : List ℕ) → IsWithin (task_lo p.arrays op task) (task_hi p.arrays op task) idx
+      → rule op p.arrays (stored_inputs p.arrays held) (target_of op) idx ≡ buffer_element (type_at p.arrays (target_of op)) (task_lo p.arrays op task) (task_hi p.arrays op task) output idx
+
+module _ (p : PlanView) (s : Sound p) (k : ℕ) where
+  abbrev Fit : Op → Type 0
+  Fit op = All (IsReadable p.arrays k) (reads_of op) × All (IsMadeBy p.arrays k) (writes_of op) × Fits p.arrays op
+
+  pub target_within : (op : Op) → Fit op → target_of op < length p.arrays
+  target_within (Map kernel ins out) fit = (fit.1 0 0 (omega arith)).0
+
+  region_of : (op : Op) (task : ℕ) → Fit op → task < tasks_of p.arrays op → IsRegion (grid_at p.arrays (target_of op)).shape (task_lo p.arrays op task) (task_hi p.arrays op task)
+  region_of (Map kernel ins out) task fit h =
+      let r = grid_at p.arrays out in
+      let ok = grid_ok p out s (fit.1 0 0 (omega arith)).0 in
+      region_inside r.shape r.chunk (task_coord p.arrays (Map kernel ins out) task) ok.positive ok.ranks (index-inside (grid_counts r) task h)
+
+  likes_of : (op : Op) (task : ℕ) → Fit op → task < tasks_of p.arrays op → All (Like p.arrays (task_lo p.arrays op task) (task_hi p.arrays op task)) (reads_of op)
+  likes_of (Map kernel ins out) task fit h i d b =
+      let op = Map kernel ins out in
+      let r = grid_at p.arrays out in
+      let a = get_or ins.items i d in
+      let ok = grid_ok p out s (fit.1 0 0 (omega arith)).0 in
+      let coordinate : IsCoordinate (grid_at p.arrays out) (task_coord p.arrays (Map kernel ins out) task) = index-inside (grid_counts (grid_at p.arrays out)) task h in
+      let region = region_of (Map kernel ins out) task fit h in
+      let n = region_lengths (grid_at p.arrays out).shape (task_lo p.arrays (Map kernel ins out) task) (task_hi p.arrays (Map kernel ins out) task) region in
+      let aligned = fit.2.inputs i d b in
+      let own = grid_ok p (get_or ins.items i d) s (fit.0 i d b).0 in
+      let short = short_chunk (grid_at p.arrays out).shape (grid_at p.arrays out).chunk (task_coord p.arrays (Map kernel ins out) task) ok.ranks (coordinate-length (grid_at p.arrays out) (task_coord p.arrays (Map kernel ins out) task) ok coordinate ∙ sym ok.ranks) in
+      record {
+        like = reads_like (grid_at p.arrays (get_or ins.items i d)) (grid_at p.arrays out) (task_lo p.arrays (Map kernel ins out) task) (task_hi p.arrays (Map kernel ins out) task) own aligned n.0 n.1 short;
+        over = read_over p.arrays (get_or ins.items i d) (grid_at p.arrays out) (task_lo p.arrays (Map kernel ins out) task) (task_hi p.arrays (Map kernel ins out) task) (fit.0 i d b).0 aligned region;
+        short = (let l = aligned.rank in let e = n.0 in omega arith);
+      }
+
+  pub task_regions : (op : Op) (task : ℕ) → Fit op → task < tasks_of p.arrays op → TaskRegions p op task
+  task_regions (Map kernel ins out) task fit h =
+      let op = Map kernel ins out in
+      let lo = task_lo p.arrays (Map kernel ins out) task in
+      let hi = task_hi p.arrays (Map kernel ins out) task in
+      let g = grid_at p.arrays out in
+      let within = (fit.1 0 0 (omega arith)).0 in
+      let ok = grid_ok p out s within in
+      let likes = likes_of (Map kernel ins out) task fit h in
+      let region = region_of (Map kernel ins out) task fit h in
+      let over : IsWalkOver p.arrays (walk out (task_lo p.arrays (Map kernel ins out) task) (task_hi p.arrays (Map kernel ins out) task)) = (within, region) in
+      let coordinate : IsCoordinate (grid_at p.arrays out) (task_coord p.arrays (Map kernel ins out) task) = index-inside (grid_counts (grid_at p.arrays out)) task h in
+      record {
+        walks = walks_read p.arrays (task_lo p.arrays (Map kernel ins out) task) (task_hi p.arrays (Map kernel ins out) task) ins.items likes;
+        inputs = rooms_sum p.arrays (task_lo p.arrays (Map kernel ins out) task) (task_hi p.arrays (Map kernel ins out) task) ins.items;
+        output = refl;
+        scratch = All-map (λ (w : Walk). chunk_room p.arrays w.array ≤ scratch_room p.arrays (Map kernel ins out)) (read_walk p.arrays (task_lo p.arrays (Map kernel ins out) task) (task_hi p.arrays (Map kernel ins out) task)) ins.items
+            (λ i d b. greatest_most (map (chunk_room p.arrays) (ins.items ++ out ∷ [])) (chunk_room p.arrays (get_or ins.items i d))
+            (map_contains (chunk_room p.arrays) (ins.items ++ out ∷ []) (get_or ins.items i d) (Contains-append_left ins.items (out ∷ []) (get_or ins.items i d) (All-contains_itself ins.items i d b))));
+        scratch_out = greatest_most (map (chunk_room p.arrays) (ins.items ++ out ∷ [])) (chunk_room p.arrays out)
+            (map_contains (chunk_room p.arrays) (ins.items ++ out ∷ []) out (Contains-append_right ins.items (out ∷ []) out (0, omega arith, refl)));
+        result = record {
+          over = over;
+          few = region_small (grid_at p.arrays out).shape (grid_at p.arrays out).chunk (task_coord p.arrays (Map kernel ins out) task) ok.ranks (coordinate-length (grid_at p.arrays out) (task_coord p.arrays (Map kernel ins out) task) ok coordinate ∙ sym ok.ranks);
+        };
+        whole = whole_chunk (grid_at p.arrays out) (task_coord p.arrays (Map kernel ins out) task) ok coordinate;
+        written = λ coord m. from_walk p.arrays (walk out (task_lo p.arrays (Map kernel ins out) task) (task_hi p.arrays (Map kernel ins out) task) ∷ []) (walk out (task_lo p.arrays (Map kernel ins out) task) (task_hi p.arrays (Map kernel ins out) task)) (cell out coord) (0, omega arith, refl)
+            (meets_walk p.arrays (walk out (task_lo p.arrays (Map kernel ins out) task) (task_hi p.arrays (Map kernel ins out) task)) coord ok over m);
+        only = λ c there. walk_meets p.arrays (walk out (task_lo p.arrays (Map kernel ins out) task) (task_hi p.arrays (Map kernel ins out) task)) c ok over
+            (subst (λ (cs : List Cell). Contains cs c) (append-nil (walk_cells p.arrays (walk out (task_lo p.arrays (Map kernel ins out) task) (task_hi p.arrays (Map kernel ins out) task)))) there);
+        calls = ap length (append-nil (walk_cells p.arrays (walk out (task_lo p.arrays (Map kernel ins out) task) (task_hi p.arrays (Map kernel ins out) task))))
+            ∙ length-map (covering (grid_at p.arrays out).chunk (task_lo p.arrays (Map kernel ins out) task) (task_hi p.arrays (Map kernel ins out) task)) (cell out);
+      }
+
+  pub task_kernel : (op : Op) (task : ℕ) (kernel : Kernel) → Fit op → task < tasks_of p.arrays op → IsMapOf op kernel → TaskKernel p op task kernel
+  task_kernel (Map own ins out) task kernel fit h is =
+      let likes = likes_of (Map own ins out) task fit h in
+      let lo = task_lo p.arrays (Map own ins out) task in
+      let hi = task_hi p.arrays (Map own ins out) task in
+      subst (TaskKernel p (Map own ins out) task) (sym is) (record {
+        fits = subst (λ (ts : List Dtype). KernelFits own.code.items ts [] (type_at p.arrays out)) (sym (types_of_lays p.arrays (task_lo p.arrays (Map own ins out) task) (task_hi p.arrays (Map own ins out) task) 0 ins.items)) fit.2.kernel;
+        lays = λ room most. lays_fit p.arrays (task_lo p.arrays (Map own ins out) task) (task_hi p.arrays (Map own ins out) task) 0 room ins.items likes (omega (arith, most));
+        words = refl;
+        value = λ held whole output has value idx w. map_rule p.arrays (task_lo p.arrays (Map own ins out) task) (task_hi p.arrays (Map own ins out) task) held whole idx w own.code.items (type_at p.arrays out) output ins.items likes has value;
+      })
+
+-- the bytes that a task is lent are scratch, a chunk of each input and a chunk of the result
+pub record Lent (p : PlanView) (k task bytes : ℕ) : Type 0 where
+  pub parts : bytes ≡ scratch_room p.arrays (op_of p k) + room_of_walks p.arrays (input_walks p.arrays (op_of p k) task) + chunk_room p.arrays (target_of (op_of p k))
+  pub small : bytes < 2 ^ 64
+
+pub rooms_of : (p : PlanView) (k task bytes words : ℕ) → Sound p → k < length p.ops → TaskRegions p (op_of p k) task → words ≡ 64 * instruction_count (op_of p k)
+    → p.reserved + bytes + 8 * words ≡ projection p.arrays p.reserved (op_of p k) → Lent p k task bytes
+rooms_of p k task bytes words s below regions count room =
+    let o = s.operations k below in
+    record {
+      parts = sums p.reserved bytes words (scratch_room p.arrays (op_of p k)) (input_room p.arrays (op_of p k)) (output_room p.arrays (op_of p k)) (instruction_count (op_of p k)) _ _ regions.inputs regions.output count room;
+      small = few p.reserved bytes words _ _ room o.projected o.room;
+    }
+  where
+    sums : (r b w s i o n i' o' : ℕ) → i ≡ i' → o ≡ o' → w ≡ 64 * n → r + b + 8 * w ≡ r + s + i + o + 512 * n → b ≡ s + i' + o'
+    sums r b w s i o n i' o' e f g h = omega arith
+
+    few : (r b w all stored : ℕ) → r + b + 8 * w ≡ all → stored ≡ all → stored < 2 ^ 64 → b < 2 ^ 64
+    few r b w all stored e f h = omega arith

@@ -1,0 +1,209 @@
+-- Nodes typed: the worked examples, each code, and the order of two faults at once. The shapes are NumPy's.
+use Rattle.std.proofs.Common.{◌≡◌, ◌^◌, ◌+◌, ℕ, true, false, pos, negsuc, List, [], ◌∷◌, Some, None, Result, Ok, Err, refl}
+use Rattle.cu_num.specs.Promotion.{promotion}
+use Rattle.cu_num.specs.declared.types.Dtype.{Dtype}
+use Rattle.cu_num.specs.declared.types.Dtype.TheVariants.{Bool, Int8, Int16, Int32, Int64, Uint8, Uint64}
+use Rattle.cu_num.specs.declared.functions.Fn2.TheVariants.{Add, Equal}
+use Rattle.cu_form.specs.declared.args.Literal.TheVariants.{Int, Truth}
+use Rattle.cu_form.specs.declared.form.ElementOp.TheVariants.{Two, Where, Astype}
+use Rattle.cu_num.specs.declared.folds.FoldKind.TheVariants as fold
+use Rattle.cu_node.specs.Fault.{fault, fault_at}
+use Rattle.cu_node.specs.Info.{info_of}
+use Rattle.cu_node.specs.Limited.{limit}
+use Rattle.cu_node.specs.declared.faults.FaultCode.TheVariants.{Kind, Scalar, Promote, Axis, Shape, EmptyReduce}
+use Rattle.cu_node.specs.declared.faults.NodeFault.{NodeFault}
+use Rattle.cu_node.specs.declared.info.NodeInfo.{NodeInfo}
+use Rattle.cu_typing.specs.Elementwise.{typed_elementwise}
+use Rattle.cu_typing.specs.Matmul.{typed_matmul}
+use Rattle.cu_typing.specs.Reduction.{typed_reduction, typed_arg_place}
+use Rattle.cu_typing.specs.declared.argument.Argument.{Argument}
+use Rattle.cu_typing.specs.declared.argument.Argument.TheVariants.{Array, Written}
+
+abbrev one : Dtype → Argument
+one t = Array (info_of t (1 ∷ []) (1 ∷ []))
+
+abbrev add : Argument → Argument → Result NodeInfo NodeFault
+add x y = typed_elementwise (Two Add) (x ∷ y ∷ [])
+
+-- ---- types
+
+wraps : add (one Int8) (Written (Int (pos 1))) ≡ Ok (info_of Int8 (1 ∷ []) (1 ∷ []))
+unfolding promotion
+wraps = refl
+
+promotes : add (one Uint8) (one Int8) ≡ Ok (info_of Int16 (1 ∷ []) (1 ∷ []))
+unfolding promotion
+promotes = refl
+
+no_promotion : add (one Int64) (one Uint64) ≡ Err (fault Promote)
+unfolding promotion
+no_promotion = refl
+
+kind_before_promotion : add (one Bool) (one Int8) ≡ Err (fault Kind)
+unfolding promotion
+kind_before_promotion = refl
+
+bool_and_number : typed_elementwise (Two Equal) (one Bool ∷ one Int8 ∷ []) ≡ Err (fault Promote)
+unfolding promotion
+bool_and_number = refl
+
+literal_out_of_range : add (one Int8) (Written (Int (pos 128))) ≡ Err (fault Scalar)
+unfolding promotion
+literal_out_of_range = refl
+
+least_literal : add (one Int8) (Written (Int (negsuc 127))) ≡ Ok (info_of Int8 (1 ∷ []) (1 ∷ []))
+unfolding promotion
+least_literal = refl
+
+truth_for_a_number : add (Written (Truth true)) (one Int8) ≡ Err (fault Scalar)
+unfolding promotion
+truth_for_a_number = refl
+
+kind_before_literal : add (one Bool) (Written (Int (pos 1))) ≡ Err (fault Kind)
+unfolding promotion
+kind_before_literal = refl
+
+no_condition : typed_elementwise Where (one Int8 ∷ one Int8 ∷ one Int8 ∷ []) ≡ Err (fault Kind)
+unfolding promotion
+no_condition = refl
+
+chosen : typed_elementwise Where (one Bool ∷ Written (Int (pos 3)) ∷ one Int8 ∷ []) ≡ Ok (info_of Int8 (1 ∷ []) (1 ∷ []))
+unfolding promotion
+chosen = refl
+
+comparison : typed_elementwise (Two Equal) (one Int8 ∷ one Int16 ∷ []) ≡ Ok (info_of Bool (1 ∷ []) (1 ∷ []))
+unfolding promotion
+comparison = refl
+
+cast : typed_elementwise (Astype Uint8) (one Bool ∷ []) ≡ Ok (info_of Uint8 (1 ∷ []) (1 ∷ []))
+unfolding promotion
+cast = refl
+
+-- ---- shapes and chunks
+
+abbrev of : List ℕ → List ℕ → Argument
+of shape chunk = Array (info_of Int32 shape chunk)
+
+rows_and_row : add (of (2 ∷ 3 ∷ []) (2 ∷ 3 ∷ [])) (of (3 ∷ []) (3 ∷ [])) ≡ Ok (info_of Int32 (2 ∷ 3 ∷ []) (2 ∷ 3 ∷ []))
+unfolding promotion
+rows_and_row = refl
+
+rows_and_other_row : add (of (2 ∷ 3 ∷ []) (2 ∷ 3 ∷ [])) (of (2 ∷ []) (2 ∷ [])) ≡ Err (fault_at Shape 1)
+unfolding promotion
+rows_and_other_row = refl
+
+-- the chunk of an axis is the first array's that isn't stretched there
+stretched_chunk : add (of (1 ∷ 6 ∷ []) (1 ∷ 2 ∷ [])) (of (4 ∷ 6 ∷ []) (3 ∷ 5 ∷ [])) ≡ Ok (info_of Int32 (4 ∷ 6 ∷ []) (3 ∷ 2 ∷ []))
+unfolding promotion
+stretched_chunk = refl
+
+-- the place is counted in the rank of all arguments
+place_in_the_final_rank : typed_elementwise Where (Array (info_of Bool (2 ∷ []) (1 ∷ [])) ∷ of (3 ∷ []) (1 ∷ []) ∷ of (1 ∷ 1 ∷ 1 ∷ []) (1 ∷ 1 ∷ 1 ∷ []) ∷ []) ≡ Err (fault_at Shape 2)
+unfolding promotion
+place_in_the_final_rank = refl
+
+-- the types come before the shapes
+type_before_shape : add (Array (info_of Int64 (2 ∷ []) (1 ∷ []))) (Array (info_of Uint64 (3 ∷ []) (1 ∷ []))) ≡ Err (fault Promote)
+unfolding promotion
+type_before_shape = refl
+
+-- 2^20 by 2^20 elements are the most; one more is refused
+most_elements : add (of (2 ^ 20 ∷ 1 ∷ []) (2 ^ 12 ∷ 1 ∷ [])) (of (2 ^ 20 ∷ []) (2 ^ 12 ∷ [])) ≡ Ok (info_of Int32 (2 ^ 20 ∷ 2 ^ 20 ∷ []) (2 ^ 12 ∷ 2 ^ 12 ∷ []))
+unfolding promotion
+most_elements = refl
+
+too_many_elements : add (of (2 ^ 20 ∷ 1 ∷ []) (2 ^ 14 ∷ 1 ∷ [])) (of ((2 ^ 20 + 1) ∷ []) (2 ^ 14 ∷ [])) ≡ Err (limit 2)
+unfolding promotion
+too_many_elements = refl
+
+-- the second's aligned chunk has the first's size on axis 0 and its own on axis 1, on which it is stretched
+aligned_chunk_too_large : add (of (2 ^ 14 ∷ 2 ∷ []) (2 ^ 14 ∷ 1 ∷ [])) (of (2 ^ 14 ∷ 1 ∷ []) (1 ∷ 2 ^ 13 ∷ [])) ≡ Err (limit 3)
+unfolding promotion
+aligned_chunk_too_large = refl
+
+-- ---- reductions
+
+sum_of_nothing : typed_reduction fold.Sum None false (info_of Int32 (0 ∷ []) (4 ∷ [])) ≡ Ok (info_of Int64 [] [])
+unfolding promotion
+sum_of_nothing = refl
+
+greatest_of_nothing : typed_reduction fold.Max None false (info_of Int32 (0 ∷ []) (4 ∷ [])) ≡ Err (fault EmptyReduce)
+unfolding promotion
+greatest_of_nothing = refl
+
+sum_of_an_axis : typed_reduction fold.Sum (Some (negsuc 0 ∷ [])) false (info_of Uint8 (0 ∷ 3 ∷ []) (1 ∷ 3 ∷ [])) ≡ Ok (info_of Uint64 (0 ∷ []) (1 ∷ []))
+unfolding promotion
+sum_of_an_axis = refl
+
+kept_axes : typed_reduction fold.Min (Some (pos 1 ∷ [])) true (info_of Int8 (4 ∷ 5 ∷ []) (2 ∷ 3 ∷ [])) ≡ Ok (info_of Int8 (4 ∷ 1 ∷ []) (2 ∷ 1 ∷ []))
+unfolding promotion
+kept_axes = refl
+
+sum_of_bools : typed_reduction fold.Sum (Some (pos 9 ∷ [])) false (info_of Bool (4 ∷ []) (2 ∷ [])) ≡ Err (fault Kind)
+unfolding promotion
+sum_of_bools = refl
+
+axis_before_nothing : typed_reduction fold.Min (Some (pos 0 ∷ negsuc 0 ∷ [])) false (info_of Int8 (0 ∷ []) (2 ∷ [])) ≡ Err (fault Axis)
+unfolding promotion
+axis_before_nothing = refl
+
+any_of_nothing : typed_reduction fold.Any None true (info_of Int8 (0 ∷ 2 ∷ []) (1 ∷ 1 ∷ [])) ≡ Ok (info_of Bool (1 ∷ 1 ∷ []) (1 ∷ 1 ∷ []))
+unfolding promotion
+any_of_nothing = refl
+
+place_along : typed_arg_place (Some (pos 0)) false (info_of Int8 (4 ∷ 5 ∷ []) (2 ∷ 3 ∷ [])) ≡ Ok (info_of Int64 (5 ∷ []) (3 ∷ []))
+unfolding promotion
+place_along = refl
+
+place_of_nothing : typed_arg_place (Some (pos 0)) false (info_of Int8 (0 ∷ 5 ∷ []) (2 ∷ 3 ∷ [])) ≡ Err (fault EmptyReduce)
+unfolding promotion
+place_of_nothing = refl
+
+-- ---- matrix products
+
+abbrev array : List ℕ → List ℕ → NodeInfo
+array shape chunk = info_of Int32 shape chunk
+
+matrix_and_vector : typed_matmul (array (2 ∷ 3 ∷ []) (2 ∷ 2 ∷ [])) (array (3 ∷ []) (2 ∷ [])) ≡ Ok (array (2 ∷ []) (2 ∷ []))
+unfolding promotion
+matrix_and_vector = refl
+
+two_vectors : typed_matmul (array (3 ∷ []) (2 ∷ [])) (array (3 ∷ []) (2 ∷ [])) ≡ Ok (array [] [])
+unfolding promotion
+two_vectors = refl
+
+vector_and_matrices : typed_matmul (array (4 ∷ []) (2 ∷ [])) (array (6 ∷ 4 ∷ 5 ∷ []) (3 ∷ 2 ∷ 3 ∷ [])) ≡ Ok (array (6 ∷ 5 ∷ []) (3 ∷ 3 ∷ []))
+unfolding promotion
+vector_and_matrices = refl
+
+stretched_matrices : typed_matmul (array (2 ∷ 1 ∷ 3 ∷ 4 ∷ []) (1 ∷ 1 ∷ 2 ∷ 2 ∷ [])) (array (5 ∷ 4 ∷ 6 ∷ []) (3 ∷ 4 ∷ 5 ∷ [])) ≡ Ok (array (2 ∷ 5 ∷ 3 ∷ 6 ∷ []) (1 ∷ 3 ∷ 2 ∷ 5 ∷ []))
+unfolding promotion
+stretched_matrices = refl
+
+five_axes : typed_matmul (array (2 ∷ 2 ∷ 2 ∷ 3 ∷ 4 ∷ []) (1 ∷ 1 ∷ 1 ∷ 3 ∷ 4 ∷ [])) (array (4 ∷ 5 ∷ []) (4 ∷ 5 ∷ [])) ≡ Ok (array (2 ∷ 2 ∷ 2 ∷ 3 ∷ 5 ∷ []) (1 ∷ 1 ∷ 1 ∷ 3 ∷ 5 ∷ []))
+unfolding promotion
+five_axes = refl
+
+six_axes : typed_matmul (array (2 ∷ 2 ∷ 2 ∷ 2 ∷ 3 ∷ 4 ∷ []) (1 ∷ 1 ∷ 1 ∷ 1 ∷ 3 ∷ 4 ∷ [])) (array (4 ∷ 5 ∷ []) (4 ∷ 5 ∷ [])) ≡ Err (limit 1)
+unfolding promotion
+six_axes = refl
+
+inner_sizes_differ : typed_matmul (array (2 ∷ 3 ∷ []) (2 ∷ 3 ∷ [])) (array (4 ∷ 5 ∷ []) (4 ∷ 5 ∷ [])) ≡ Err (fault Shape)
+unfolding promotion
+inner_sizes_differ = refl
+
+leading_sizes_differ : typed_matmul (array (7 ∷ 2 ∷ 2 ∷ 3 ∷ []) (1 ∷ 1 ∷ 1 ∷ 1 ∷ [])) (array (3 ∷ 3 ∷ 5 ∷ []) (1 ∷ 1 ∷ 1 ∷ [])) ≡ Err (fault_at Shape 1)
+unfolding promotion
+leading_sizes_differ = refl
+
+no_axes : typed_matmul (array [] []) (array (4 ∷ 5 ∷ []) (4 ∷ 5 ∷ [])) ≡ Err (fault Axis)
+unfolding promotion
+no_axes = refl
+
+product_of_bools : typed_matmul (info_of Bool [] []) (array (4 ∷ []) (4 ∷ [])) ≡ Err (fault Kind)
+unfolding promotion
+product_of_bools = refl
+
+product_without_type : typed_matmul (info_of Int64 [] []) (info_of Uint64 (4 ∷ []) (4 ∷ [])) ≡ Err (fault Promote)
+unfolding promotion
+product_without_type = refl

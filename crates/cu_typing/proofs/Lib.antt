@@ -1,0 +1,9 @@
+pub mod AlignedChunks
+pub mod Chunks
+mod Examples
+pub mod GoingInto
+pub mod Kernels
+pub mod Passed
+pub mod ProductSizes
+pub mod ReducedSizes
+pub mod Together

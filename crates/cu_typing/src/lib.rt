@@ -1,0 +1,19 @@
+//! Type, shape and chunk shape of a node of an expression from those of its arguments, or the node's first fault:
+//! elementwise functions, reductions, `argmin` and `argmax`, and `matmul` (Python array API 2022.12; the chunk shapes and the
+//! faults are this project's rules).
+#![tactic(auto)]
+
+mod argument;
+mod elementwise;
+mod joining;
+mod laws;
+mod matmul;
+mod reduction;
+mod types;
+
+pub use argument::Argument;
+pub use elementwise::type_elementwise;
+pub use joining::chunk_aligned;
+pub use laws::elementwise_law;
+pub use matmul::type_matmul;
+pub use reduction::{type_arg_place, type_reduction};

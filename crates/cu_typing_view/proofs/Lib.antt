@@ -1,0 +1,12 @@
+pub mod AxisRanges
+pub mod Counted
+pub mod Divided
+mod Examples
+pub mod Exceeded
+pub mod HeldElements
+pub mod IndexSizes
+pub mod MarkedAxes
+pub mod NumbersFit
+pub mod PositiveSizes
+pub mod Steps
+pub mod Stretched

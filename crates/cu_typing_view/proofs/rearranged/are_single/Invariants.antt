@@ -1,0 +1,8 @@
+use Rattle.std.proofs.Common.{◌≡◌, drop}
+use Rattle.cu_typing_view.specs.Rearranged.{are_single}
+use Rattle.cu_typing_view.proofs.rearranged.are_single.Given as goal
+
+abbrev pub invariant-loop-axis : goal.invariant-loop-axis
+invariant-loop-axis l = record {
+  rest : are_single l.sizes l.marks ≡ are_single (drop l.axis l.sizes) (drop l.axis l.marks);
+}

@@ -1,0 +1,9 @@
+use Rattle.std.proofs.Common.{◌≡◌, ◌++◌, drop, length}
+use Rattle.cu_typing_view.specs.Rearranged.{permuted}
+use Rattle.cu_typing_view.proofs.rearranged.permuted.Given as goal
+
+abbrev pub invariant-loop-axis : goal.invariant-loop-axis
+invariant-loop-axis l = record {
+  rank : length l.moved ≡ l.axis-index;
+  whole : permuted l.axes l.numbers ≡ l.moved ++ permuted (drop l.axis-index l.axes) l.numbers;
+}

@@ -1,0 +1,5 @@
+pub mod Creation
+pub mod Entries
+pub mod Pieces
+pub mod Rearranged
+pub mod Reshaped

@@ -1,0 +1,19 @@
+//! The typing of arrays that are made and of views: from what is known of the arguments, the type, shape and chunk shape of
+//! the result, or the first fault.
+#![tactic(auto)]
+
+mod creation;
+mod entries;
+mod laws;
+mod pieces;
+mod rearranged;
+mod reshaped;
+
+pub use creation::{type_arange, type_eye, type_full};
+pub use entries::type_index;
+pub use laws::{broadcast_law, counts_law, reshape_law};
+pub use pieces::{type_concat, type_stack};
+pub use rearranged::{
+    type_expand, type_flip, type_permute, type_roll, type_squeeze, type_triangle,
+};
+pub use reshaped::{type_broadcast, type_rechunk, type_reshape};
