@@ -1,3 +1,4 @@
+pub mod SeenLemmas
 mod StatusExample
 mod StatusLemmas
 mod StoredLemmas

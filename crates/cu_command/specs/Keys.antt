@@ -3,7 +3,7 @@ use Rattle.std.specs.Prelude.{◌≡◌, ℕ, Bool, IsTrue, List, Option, Some, 
 use Rattle.cu_store.specs.Faults.{Rose}
 use Rattle.cu_store.specs.Held.{Contents}
 use Rattle.cu_command.specs.declared.status.Status.{Status}
-use Rattle.cu_command.specs.declared.status.Status.TheVariants.{Done, BadWords, OverMemory, BadMeta, NoArray, Exists, TaskFailed, ReadFault, WriteFault, BadChunk, DepotFailed, BadLoad, NotBuilt, NoMemory}
+use Rattle.cu_command.specs.declared.status.Status.TheVariants.{DepotFailed, NoMemory}
 
 -- the key is held, where the contents are told
 abbrev pub IsHeldIn : Option Contents → List ℕ → Type 0
@@ -14,15 +14,4 @@ IsHeldIn (Some held) key = (bytes : List ℕ) × (held key ≡ Some bytes)
 abbrev pub IsKeyFault : ℕ → ℕ → ℕ → Bool → List ℕ → Status → Type 0
 IsKeyFault tries before after lacks key (DepotFailed failed) = (failed ≡ key) × Rose tries before after
 IsKeyFault tries before after lacks key NoMemory = IsTrue lacks
-IsKeyFault tries before after lacks key Done = ⊥
-IsKeyFault tries before after lacks key (BadWords code) = ⊥
-IsKeyFault tries before after lacks key (OverMemory node need allowed) = ⊥
-IsKeyFault tries before after lacks key (Exists held) = ⊥
-IsKeyFault tries before after lacks key (BadMeta name code) = ⊥
-IsKeyFault tries before after lacks key (NoArray name) = ⊥
-IsKeyFault tries before after lacks key (TaskFailed op task) = ⊥
-IsKeyFault tries before after lacks key ReadFault = ⊥
-IsKeyFault tries before after lacks key WriteFault = ⊥
-IsKeyFault tries before after lacks key (BadChunk bad got want) = ⊥
-IsKeyFault tries before after lacks key (BadLoad code) = ⊥
-IsKeyFault tries before after lacks key (NotBuilt node) = ⊥
+IsKeyFault tries before after lacks key status = ⊥

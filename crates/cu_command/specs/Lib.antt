@@ -1,5 +1,6 @@
 pub mod Keys
 pub mod Name
+pub mod Seen
 pub mod Status
 pub mod Stored
 pub mod Streams

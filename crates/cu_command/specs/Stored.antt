@@ -10,7 +10,7 @@ use Rattle.cu_store.specs.Faults.{Rose}
 use Rattle.cu_store.specs.Held.{Contents, IsGone}
 use Rattle.cu_zarr.specs.Key.{metadata_key_of}
 use Rattle.cu_command.specs.declared.status.Status.{Status}
-use Rattle.cu_command.specs.declared.status.Status.TheVariants.{Done, BadWords, OverMemory, BadMeta, NoArray, Exists, TaskFailed, ReadFault, WriteFault, BadChunk, DepotFailed, BadLoad, NotBuilt, NoMemory}
+use Rattle.cu_command.specs.declared.status.Status.TheVariants.{DepotFailed, BadMeta, NoArray, NoMemory}
 
 -- a layout of a stored array: a grid, and one in which an array may be stored
 pub record IsArrayLayout (l : Layout) : Type 0 where
@@ -57,13 +57,4 @@ IsMetadataFault tries before after held name (DepotFailed failed) = (failed ≡ 
 IsMetadataFault tries before after held name (BadMeta refused code) = (refused ≡ name) × HoldsRefused held (metadata_key_of name) code
 IsMetadataFault tries before after held name (NoArray missing) = (missing ≡ name) × IsGone held (metadata_key_of name)
 IsMetadataFault tries before after held name NoMemory = Unit {0}
-IsMetadataFault tries before after held name (NotBuilt node) = ⊥
-IsMetadataFault tries before after held name Done = ⊥
-IsMetadataFault tries before after held name (BadWords code) = ⊥
-IsMetadataFault tries before after held name (OverMemory node need allowed) = ⊥
-IsMetadataFault tries before after held name (Exists held_key) = ⊥
-IsMetadataFault tries before after held name (TaskFailed op task) = ⊥
-IsMetadataFault tries before after held name ReadFault = ⊥
-IsMetadataFault tries before after held name WriteFault = ⊥
-IsMetadataFault tries before after held name (BadChunk bad got want) = ⊥
-IsMetadataFault tries before after held name (BadLoad code) = ⊥
+IsMetadataFault tries before after held name status = ⊥

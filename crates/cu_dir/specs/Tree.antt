@@ -10,15 +10,13 @@ use Rattle.cu_store.specs.declared.depot.Got.TheVariants.{Absent, Held}
 abbrev pub IsKeptBut : List ℕ → List ℕ → Option Contents → Option Contents → Type 0
 IsKeptBut a b None None = Unit {0}
 IsKeptBut a b (Some old) (Some new) = (path : List ℕ) → path ≢ a → path ≢ b → new path ≡ old path
-IsKeptBut a b None (Some new) = ⊥
-IsKeptBut a b (Some old) None = ⊥
+IsKeptBut a b old new = ⊥
 
 -- at this path there is what there was, where the files are told
-abbrev pub IsKeptAt : List ℕ → Option Contents → Option Contents → Type 0
-IsKeptAt path None None = Unit {0}
-IsKeptAt path (Some old) (Some new) = new path ≡ old path
-IsKeptAt path None (Some new) = ⊥
-IsKeptAt path (Some old) None = ⊥
+abbrev pub IsSameAt : List ℕ → Option Contents → Option Contents → Type 0
+IsSameAt path None None = Unit {0}
+IsSameAt path (Some old) (Some new) = new path ≡ old path
+IsSameAt path old new = ⊥
 
 -- at one path there is now what there was at the other, where the files are told
 abbrev pub IsMoved : List ℕ → List ℕ → Option Contents → Option Contents → Type 0
@@ -27,11 +25,11 @@ IsMoved from to (Some old) None = ⊥
 IsMoved from to (Some old) (Some new) = new to ≡ old from
 
 -- Absent exactly where there is no file; else the file's length, and its bytes as far as the buffer has room
-abbrev pub Reads : Option Contents → List ℕ → List ℕ → Result Got Error → Type 0
-Reads None path buf result = Unit {0}
-Reads (Some files) path buf (Ok Absent) = files path ≡ None
-Reads (Some files) path buf (Ok (Held n)) = (bytes : List ℕ) × (files path ≡ Some bytes) × (n ≡ length bytes) × (take n buf ≡ take (length buf) bytes)
-Reads (Some files) path buf (Err e) = Unit {0}
+abbrev pub ReadsFile : Option Contents → List ℕ → List ℕ → Result Got Error → Type 0
+ReadsFile None path buf result = Unit {0}
+ReadsFile (Some files) path buf (Ok Absent) = files path ≡ None
+ReadsFile (Some files) path buf (Ok (Held n)) = (bytes : List ℕ) × (files path ≡ Some bytes) × (n ≡ length bytes) × (take n buf ≡ take (length buf) bytes)
+ReadsFile (Some files) path buf (Err e) = Unit {0}
 
 -- whether there is a file
 abbrev pub Finds : Option Contents → List ℕ → Result Bool Error → Type 0

@@ -1,7 +1,7 @@
 //! A tree of files.
 ghost use Rattle.std.specs.Prelude.{◌≡◌, Option, OnOk, OnErr};
 ghost use Rattle.cu_store.specs.Held.{Contents, Holds, IsGone};
-ghost use Rattle.cu_dir.specs.Tree.{IsKeptBut, IsMoved, Reads, Finds};
+ghost use Rattle.cu_dir.specs.Tree.{IsKeptBut, IsMoved, ReadsFile, Finds};
 
 use cu_store::Got;
 use std::io;
@@ -13,7 +13,7 @@ pub trait Tree {
 
     /// Copies as many bytes of the file as `buf` has room for, and says how long the file is.
     fn read(&mut self, path: &str, buf: &mut [u8]) -> io::Result<Got>
-        ensures read { Reads (files self.new) path.now buf.new result }
+        ensures read { ReadsFile (files self.new) path.now buf.new result }
         ensures kept { files self.new ≡ files self.old };
 
     /// Whether there is a file.

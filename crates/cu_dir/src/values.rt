@@ -3,7 +3,7 @@ ghost use Rattle.std.specs.Prelude.{◌≡◌, ◌≢◌, length, IfOk, IfErr, O
 ghost use Rattle.std.specs.IoError.{error_kind};
 ghost use Rattle.cu_store.specs.Held.{Holds, IsGone};
 ghost use Rattle.cu_dir.specs.Names.{IsFileKey, path_of, new_path_of};
-ghost use Rattle.cu_dir.specs.Tree.{IsKeptAt, IsKeptBut, IsMoved, Reads, Finds};
+ghost use Rattle.cu_dir.specs.Tree.{IsSameAt, IsKeptBut, IsMoved, ReadsFile, Finds};
 
 use crate::names::is_file_key;
 use crate::tree::Tree;
@@ -47,7 +47,7 @@ pub(crate) fn get_value<T: Tree>(
     key: &Key,
     buf: &mut [u8],
 ) -> io::Result<Got>
-    ensures got { Reads (T.files tree.new) (path_of folder.now key.now) buf.new result }
+    ensures got { ReadsFile (T.files tree.new) (path_of folder.now key.now) buf.new result }
     ensures inside { OnOk result (IsFileKey key.now) }
     ensures kept { T.files tree.new ≡ T.files tree.old }
 {
@@ -82,7 +82,7 @@ pub(crate) fn put_value<T: Tree>(
 ) -> io::Result<()>
     ensures stored { OnOk result (Holds (T.files tree.new) (path_of folder.now key.now) bytes.now) }
     ensures inside { OnOk result (IsFileKey key.now) }
-    ensures kept { OnErr result (IsKeptAt (path_of folder.now key.now) (T.files tree.old) (T.files tree.new)) }
+    ensures kept { OnErr result (IsSameAt (path_of folder.now key.now) (T.files tree.old) (T.files tree.new)) }
     ensures others { let path = path_of folder.now key.now in IsKeptBut (new_path_of path number) path (T.files tree.old) (T.files tree.new) }
 {
     let path = key_path(alloc, folder, key)?;
@@ -111,7 +111,7 @@ pub(crate) fn remove_value<T: Tree>(
 fn replace<T: Tree>(tree: &mut T, path: &str, new_path: &str, bytes: &[u8]) -> io::Result<()>
     requires { path.now ≢ new_path.now }
     ensures stored { OnOk result (Holds (T.files tree.new) path.now bytes.now) }
-    ensures kept { OnErr result (IsKeptAt path.now (T.files tree.old) (T.files tree.new)) }
+    ensures kept { OnErr result (IsSameAt path.now (T.files tree.old) (T.files tree.new)) }
     ensures others { IsKeptBut new_path.now path.now (T.files tree.old) (T.files tree.new) }
 {
     match write_then_rename(tree, path, new_path, bytes) {

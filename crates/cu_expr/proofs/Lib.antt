@@ -1,3 +1,4 @@
+mod Examples
 pub mod LayoutInfo
 pub mod Nodes
 pub mod ToldArguments

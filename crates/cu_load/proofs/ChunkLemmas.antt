@@ -24,7 +24,7 @@ use Rattle.cu_zarr.specs.Layout.{chunk_bytes, index_in_chunk}
 use Rattle.cu_zarr.specs.Spelling.{padded, spelled}
 use Rattle.cu_zarr.proofs.Joined.{joined_by_place}
 use Rattle.cu_codec.specs.Parts.{part_at, place_within, differences, IsLaid}
-use Rattle.cu_load.specs.Load.{HasBytes, given_at, chunks_in, coord_of}
+use Rattle.cu_load.specs.Load.{HasBytes, given_at, chunks_in, given_coord}
 use Rattle.cu_load.specs.LoadForm.{GivenArray, IsGiven}
 
 -- ---- the bytes of the elements
@@ -148,15 +148,15 @@ few_elements a ok =
     omega (arith, most, limit)
 
 -- the coordinate of a chunk is one that a key can have
-pub small_coord : (a : GivenArray) (k most : ℕ) → IsGiven a → 65536 ≤ most → k < chunks_in a → All (λ i. i < most) (coord_of a k)
+pub small_coord : (a : GivenArray) (k most : ℕ) → IsGiven a → 65536 ≤ most → k < chunks_in a → All (λ i. i < most) (given_coord a k)
 small_coord a k most ok large below n d within =
     let inside = index-inside (counts_of a.layout.shape a.layout.chunk) k below in
-    let long = inside-length (counts_of a.layout.shape a.layout.chunk) (coord_of a k) inside in
+    let long = inside-length (counts_of a.layout.shape a.layout.chunk) (given_coord a k) inside in
     let here : n < length (counts_of a.layout.shape a.layout.chunk) = omega (arith, within, long) in
-    let there = inside-at (counts_of a.layout.shape a.layout.chunk) (coord_of a k) n inside here in
+    let there = inside-at (counts_of a.layout.shape a.layout.chunk) (given_coord a k) n inside here in
     let whole = size_within (counts_of a.layout.shape a.layout.chunk) n here in
     let chunks = (given_limits a ok).chunks in
-    let any = get_or_any (coord_of a k) n d within in
+    let any = get_or_any (given_coord a k) n d within in
     omega (arith, large, there, whole, chunks, any)
   where
     get_or_any : (xs : List ℕ) (n d : ℕ) → n < length xs → get_or xs n d ≡ get_or xs n 0

@@ -4,7 +4,7 @@ use Rattle.std.specs.Fmt.{digits}
 use Rattle.cu_num.specs.Element.{element_bytes}
 use Rattle.cu_num.specs.Wrap.{wrapped}
 use Rattle.cu_num.specs.declared.types.Dtype.TheVariants.{Int32}
-use Rattle.cu_load.specs.Load.{given_at, chunks_in, key_of_chunk, chunk_value, load_line}
+use Rattle.cu_load.specs.Load.{given_at, chunks_in, key_of_chunk, given_chunk, load_line}
 use Rattle.cu_load.specs.LoadForm.{GivenArray, layout_given}
 
 -- 1 to 6
@@ -19,12 +19,12 @@ two_chunks : chunks_in six ≡ 2
 unfolding six
 two_chunks = refl
 
-first_chunk : chunk_value six 0 ≡ Some (1 ∷ 0 ∷ 0 ∷ 0 ∷ 2 ∷ 0 ∷ 0 ∷ 0 ∷ 3 ∷ 0 ∷ 0 ∷ 0 ∷ 4 ∷ 0 ∷ 0 ∷ 0 ∷ [])
+first_chunk : given_chunk six 0 ≡ Some (1 ∷ 0 ∷ 0 ∷ 0 ∷ 2 ∷ 0 ∷ 0 ∷ 0 ∷ 3 ∷ 0 ∷ 0 ∷ 0 ∷ 4 ∷ 0 ∷ 0 ∷ 0 ∷ [])
 unfolding six element_bytes wrapped
 first_chunk = refl
 
 -- past the edge stands the fill value
-last_chunk : chunk_value six 1 ≡ Some (5 ∷ 0 ∷ 0 ∷ 0 ∷ 6 ∷ 0 ∷ 0 ∷ 0 ∷ 0 ∷ 0 ∷ 0 ∷ 0 ∷ 0 ∷ 0 ∷ 0 ∷ 0 ∷ [])
+last_chunk : given_chunk six 1 ≡ Some (5 ∷ 0 ∷ 0 ∷ 0 ∷ 6 ∷ 0 ∷ 0 ∷ 0 ∷ 0 ∷ 0 ∷ 0 ∷ 0 ∷ 0 ∷ 0 ∷ 0 ∷ 0 ∷ [])
 unfolding six element_bytes wrapped
 last_chunk = refl
 
@@ -44,7 +44,7 @@ square = record {
   elements = pos 1 ∷ pos 2 ∷ pos 3 ∷ pos 4 ∷ pos 5 ∷ pos 6 ∷ pos 7 ∷ pos 8 ∷ pos 9 ∷ [];
 }
 
-edge : chunk_value square 1 ≡ Some (3 ∷ 0 ∷ 0 ∷ 0 ∷ 0 ∷ 0 ∷ 0 ∷ 0 ∷ 6 ∷ 0 ∷ 0 ∷ 0 ∷ 0 ∷ 0 ∷ 0 ∷ 0 ∷ [])
+edge : given_chunk square 1 ≡ Some (3 ∷ 0 ∷ 0 ∷ 0 ∷ 0 ∷ 0 ∷ 0 ∷ 0 ∷ 6 ∷ 0 ∷ 0 ∷ 0 ∷ 0 ∷ 0 ∷ 0 ∷ 0 ∷ [])
 unfolding square element_bytes wrapped
 edge = refl
 

@@ -6,7 +6,7 @@ use Rattle.cu_zarr.specs.Key.{metadata_key_of}
 use Rattle.cu_command.specs.Keys.{IsHeldIn}
 use Rattle.cu_name.specs.Keys.{record_key_of}
 use Rattle.cu_command.specs.declared.status.Status.{Status}
-use Rattle.cu_command.specs.declared.status.Status.TheVariants.{Done, BadWords, OverMemory, BadMeta, NoArray, Exists, TaskFailed, ReadFault, WriteFault, BadChunk, DepotFailed, BadLoad, NotBuilt, NoMemory}
+use Rattle.cu_command.specs.declared.status.Status.TheVariants.{Exists, DepotFailed, NoMemory}
 
 -- the key is asked for: the record's, or the metadata's where the record was absent
 abbrev pub IsAskedFor : List ℕ → Option Contents → List ℕ → Type 0
@@ -21,14 +21,4 @@ abbrev pub IsAskFault : ℕ → (List ℕ → Type 0) → ℕ → ℕ → Option
 IsAskFault tries asked before after held (Exists key) = asked key × IsHeldIn held key
 IsAskFault tries asked before after held (DepotFailed key) = asked key × Rose tries before after
 IsAskFault tries asked before after held NoMemory = Unit {0}
-IsAskFault tries asked before after held Done = ⊥
-IsAskFault tries asked before after held (BadWords code) = ⊥
-IsAskFault tries asked before after held (OverMemory node need allowed) = ⊥
-IsAskFault tries asked before after held (BadMeta name code) = ⊥
-IsAskFault tries asked before after held (NoArray name) = ⊥
-IsAskFault tries asked before after held (TaskFailed op task) = ⊥
-IsAskFault tries asked before after held ReadFault = ⊥
-IsAskFault tries asked before after held WriteFault = ⊥
-IsAskFault tries asked before after held (BadChunk key got want) = ⊥
-IsAskFault tries asked before after held (BadLoad code) = ⊥
-IsAskFault tries asked before after held (NotBuilt node) = ⊥
+IsAskFault tries asked before after held status = ⊥

@@ -1,6 +1,8 @@
 //! The keys that would be in the way of an array that is loaded.
-ghost use Rattle.std.specs.Prelude.{◌≡◌, ◌+◌, ◌≤◌, List, Option, IfErr, OnOk};
-ghost use Rattle.cu_store.specs.Held.{Contents, Write, Follows, IsGone};
+ghost use Rattle.std.specs.Prelude.{◌≡◌, ◌+◌, IfErr, OnOk};
+ghost use Rattle.cu_store.specs.Held.{IsGone};
+ghost use Rattle.cu_store.specs.Steps.{NoChange, Steps};
+ghost use Rattle.cu_command.specs.Seen.{Stepped};
 ghost use Rattle.cu_name.specs.Name.{IsArrayName};
 ghost use Rattle.cu_load.specs.Keys.{IsAskedFor, AreFree, IsAskFault};
 
@@ -13,9 +15,7 @@ use cu_store::{Depot, Key};
 fn refuse_held<D: Depot>(depot: &mut D, key: &Key, retries: u32) -> Result<(), Status>
     ensures gone { OnOk result (IsGone (D.shown depot.new).held key.now) }
     ensures refused { IfErr result (IsAskFault (retries + 1) (λ asked. asked ≡ key.now) (D.shown depot.old).faults (D.shown depot.new).faults (D.shown depot.new).held) }
-    ensures follows { (writes : List Write) (entry : Option Contents)
-        → Follows writes entry (D.shown depot.old).held (D.shown depot.old).late → Follows writes entry (D.shown depot.new).held (D.shown depot.new).late }
-    ensures count { (D.shown depot.old).faults ≤ (D.shown depot.new).faults }
+    ensures step { Steps NoChange 1 (retries + 1) (D.shown depot.old) (D.shown depot.new) }
 {
     match ask_key(depot, key, retries) {
         Ok(held) => {
@@ -35,9 +35,7 @@ pub(crate) fn ask_keys<D: Depot>(depot: &mut D, name: &Key, retries: u32) -> Res
     requires { IsArrayName name.now }
     ensures free { OnOk result (AreFree name.now (D.shown depot.old).held) }
     ensures refused { IfErr result (IsAskFault (retries + 1) (IsAskedFor name.now (D.shown depot.old).held) (D.shown depot.old).faults (D.shown depot.new).faults (D.shown depot.new).held) }
-    ensures follows { (writes : List Write) (entry : Option Contents)
-        → Follows writes entry (D.shown depot.old).held (D.shown depot.old).late → Follows writes entry (D.shown depot.new).held (D.shown depot.new).late }
-    ensures count { (D.shown depot.old).faults ≤ (D.shown depot.new).faults }
+    ensures step { Stepped NoChange (D.shown depot.old) (D.shown depot.new) }
 {
     let record = record_key(name);
     if let Err(status) = refuse_held(depot, &record, retries) {

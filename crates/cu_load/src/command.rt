@@ -1,4 +1,5 @@
 //! The command's one call: from the text to the stored array and the report.
+ghost use Rattle.cu_command.specs.Seen.{stream, seen};
 ghost use Rattle.cu_load.specs.Load.{Stored, Loaded};
 ghost use Rattle.cu_load.specs.LoadForm.{IsGiven, given_by};
 
@@ -26,8 +27,8 @@ pub fn load<R: Source, W: Sink, D: Depot>(
     out: &mut W,
     depot: &mut D,
 ) -> Status
-    ensures answer { Loaded retries (R.left src.old) (R.left src.new) (R.faults src.old) (R.faults src.new) (D.shown depot.old).held (D.shown depot.new).held (D.shown depot.old).late (D.shown depot.new).late
-        (D.shown depot.old).faults (D.shown depot.new).faults (W.faults out.old) (W.faults out.new) (W.written out.old) (W.written out.new) result }
+    ensures answer { Loaded retries (stream (R.left src.old) (R.faults src.old)) (stream (R.left src.new) (R.faults src.new))
+        (seen (stream (W.written out.old) (W.faults out.old)) (D.shown depot.old)) (seen (stream (W.written out.new) (W.faults out.new)) (D.shown depot.new)) result }
 {
     let text = match read_all(alloc, src) {
         Ok(text) => text,
@@ -51,8 +52,8 @@ fn store_form<W: Sink, D: Depot>(
     depot: &mut D,
 ) -> Status
     requires { IsGiven (given_by form.now) }
-    ensures answer { Stored retries (given_by form.now) (D.shown depot.old).held (D.shown depot.new).held (D.shown depot.old).late (D.shown depot.new).late
-        (D.shown depot.old).faults (D.shown depot.new).faults (W.faults out.old) (W.faults out.new) (W.written out.old) (W.written out.new) result }
+    ensures answer { Stored retries (given_by form.now)
+        (seen (stream (W.written out.old) (W.faults out.old)) (D.shown depot.old)) (seen (stream (W.written out.new) (W.faults out.new)) (D.shown depot.new)) result }
 {
     let name = key_of_name(&form.name);
     if let Err(status) = ask_keys(depot, &name, retries) {

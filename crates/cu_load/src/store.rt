@@ -1,11 +1,13 @@
 //! The chunks and the metadata of an array that is loaded, stored.
-ghost use Rattle.std.specs.Prelude.{◌≡◌, ℕ, ◌+◌, ◌<◌, ◌≤◌, ◌++◌, List, Option, Some, length, IfErr, OnOk};
-ghost use Rattle.cu_store.specs.Held.{Contents, Write, IsAmong, Follows, Holds};
+ghost use Rattle.std.specs.Prelude.{◌≡◌, ◌+◌, ◌<◌, length, IfErr, OnOk};
+ghost use Rattle.cu_store.specs.Held.{Holds};
+ghost use Rattle.cu_store.specs.Steps.{Steps};
+ghost use Rattle.cu_command.specs.Seen.{Stepped};
 ghost use Rattle.cu_command.specs.Keys.{IsKeyFault};
 ghost use Rattle.cu_zarr.specs.Key.{metadata_key_of};
 ghost use Rattle.cu_zarr.specs.Layout.{chunk_bytes};
 ghost use Rattle.cu_zarr.specs.Metadata.{metadata_text};
-ghost use Rattle.cu_load.specs.Load.{HasBytes, IsCalm, IsStoreFault, StoresChunk, StoresChunks, StoresGiven, ValuesStay, array_writes, chunk_value, chunk_writes, chunks_in, key_of_chunk};
+ghost use Rattle.cu_load.specs.Load.{ArrayPut, ChunkPut, ChunksPut, HasBytes, IsCalm, IsStoreFault, HoldsChunk, HoldsChunks, StoresGiven, chunks_in, key_of_chunk};
 ghost use Rattle.cu_load.specs.LoadForm.{IsGiven, given_by};
 
 use crate::chunk::spell_chunk;
@@ -30,13 +32,9 @@ fn store_chunk<D: Depot>(
     requires number { number < chunks_in (given_by form.now) }
     requires input { HasBytes form.now.layout.dtype form.now.elements.items input.now }
     requires chunk_length { length chunk.old ≡ chunk_bytes (given_by form.now).layout }
-    ensures stored { OnOk result (StoresChunk (given_by form.now) (D.shown depot.new).held number) }
-    ensures follows { (writes : List Write) (entry : Option Contents) → ((bytes : List ℕ) → chunk_value (given_by form.now) number ≡ Some bytes → IsAmong writes (key_of_chunk (given_by form.now) number) bytes)
-        → Follows writes entry (D.shown depot.old).held (D.shown depot.old).late → Follows writes entry (D.shown depot.new).held (D.shown depot.new).late }
-    ensures stays { (late : List Write) (entry : Option Contents) → IsCalm (given_by form.now) late
-        → Follows (array_writes (given_by form.now) ++ late) entry (D.shown depot.old).held (D.shown depot.old).late → ValuesStay (given_by form.now) (D.shown depot.old).held (D.shown depot.new).held }
+    ensures stored { OnOk result (HoldsChunk (given_by form.now) (D.shown depot.new).held number) }
+    ensures step { Steps (ChunkPut (given_by form.now) number) 1 (retries + 1) (D.shown depot.old) (D.shown depot.new) }
     ensures cause { IfErr result (IsKeyFault (retries + 1) (D.shown depot.old).faults (D.shown depot.new).faults (D.shown depot.new).lacks (key_of_chunk (given_by form.now) number)) }
-    ensures count { (D.shown depot.old).faults ≤ (D.shown depot.new).faults }
 {
     let layout = &form.layout;
     let coord = index_of(&layout.grid.counts(), number);
@@ -57,13 +55,9 @@ fn store_chunks<D: Depot>(
     requires given { IsGiven (given_by form.now) }
     requires input { HasBytes form.now.layout.dtype form.now.elements.items input.now }
     requires chunk_length { length chunk.old ≡ chunk_bytes (given_by form.now).layout }
-    ensures follows { (late : List Write) (entry : Option Contents) → Follows late entry (D.shown depot.old).held (D.shown depot.old).late
-        → OnOk result (Follows (chunk_writes (given_by form.now) (chunks_in (given_by form.now)) ++ late) entry (D.shown depot.new).held (D.shown depot.new).late) }
-    ensures failed { (late : List Write) (entry : Option Contents) → Follows late entry (D.shown depot.old).held (D.shown depot.old).late
-        → IfErr result (IsStoreFault (retries + 1) (given_by form.now) (D.shown depot.old).faults (D.shown depot.new).faults entry (D.shown depot.new).held late (D.shown depot.new).late) }
-    ensures stored { (late : List Write) (entry : Option Contents) → IsCalm (given_by form.now) late → Follows late entry (D.shown depot.old).held (D.shown depot.old).late
-        → OnOk result (StoresChunks (given_by form.now) (D.shown depot.new).held (chunks_in (given_by form.now))) }
-    ensures count { (D.shown depot.old).faults ≤ (D.shown depot.new).faults }
+    ensures step { OnOk result (Stepped (ChunksPut (given_by form.now) (chunks_in (given_by form.now))) (D.shown depot.old) (D.shown depot.new)) }
+    ensures failed { IfErr result (IsStoreFault (retries + 1) (given_by form.now) (D.shown depot.old) (D.shown depot.new)) }
+    ensures stored { IsCalm (given_by form.now) (D.shown depot.old).late → OnOk result (HoldsChunks (given_by form.now) (D.shown depot.new).held (chunks_in (given_by form.now))) }
 {
     for number in 0..form.layout.grid.count() {
         if let Err(status) = store_chunk(depot, form, number, input, chunk, retries) {
@@ -86,14 +80,10 @@ pub(crate) fn store_array<D: Depot>(
     requires input { HasBytes form.now.layout.dtype form.now.elements.items input.now }
     requires metadata { metadata.now ≡ metadata_text (given_by form.now).layout }
     requires chunk_length { length chunk.old ≡ chunk_bytes (given_by form.now).layout }
-    ensures follows { (late : List Write) (entry : Option Contents) → Follows late entry (D.shown depot.old).held (D.shown depot.old).late
-        → OnOk result (Follows (array_writes (given_by form.now) ++ late) entry (D.shown depot.new).held (D.shown depot.new).late) }
-    ensures failed { (late : List Write) (entry : Option Contents) → Follows late entry (D.shown depot.old).held (D.shown depot.old).late
-        → IfErr result (IsStoreFault (retries + 1) (given_by form.now) (D.shown depot.old).faults (D.shown depot.new).faults entry (D.shown depot.new).held late (D.shown depot.new).late) }
-    ensures stores { (late : List Write) (entry : Option Contents) → IsCalm (given_by form.now) late → Follows late entry (D.shown depot.old).held (D.shown depot.old).late
-        → OnOk result (StoresGiven (given_by form.now) (D.shown depot.new).held) }
+    ensures step { OnOk result (Stepped (ArrayPut (given_by form.now)) (D.shown depot.old) (D.shown depot.new)) }
+    ensures failed { IfErr result (IsStoreFault (retries + 1) (given_by form.now) (D.shown depot.old) (D.shown depot.new)) }
+    ensures stores { IsCalm (given_by form.now) (D.shown depot.old).late → OnOk result (StoresGiven (given_by form.now) (D.shown depot.new).held) }
     ensures metadata { OnOk result (Holds (D.shown depot.new).held (metadata_key_of (given_by form.now).name) (metadata_text (given_by form.now).layout)) }
-    ensures count { (D.shown depot.old).faults ≤ (D.shown depot.new).faults }
 {
     let _shape = form.layout.grid.shape();
     if let Err(status) = store_chunks(depot, form, input, chunk, retries) {

@@ -13,7 +13,9 @@ use Rattle.cu_grid.specs.Grid.{RegularGrid}
 use Rattle.cu_codec.specs.Parts.{differences, place_within}
 use Rattle.cu_codec.proofs.Taken.{region_in_array}
 use Rattle.cu_op.specs.declared.layout.ArrayInfo.{ArrayInfo}
-use Rattle.cu_store.specs.Held.{Contents, Write, Follows}
+use Rattle.cu_store.specs.Held.{Contents}
+use Rattle.cu_store.specs.Steps.{Shown, NoChange}
+use Rattle.cu_command.specs.Seen.{Stepped}
 use Rattle.cu_region.specs.Reading.{ReadsRegion}
 use Rattle.cu_region.specs.Steady.{IsSteady}
 use Rattle.cu_print.specs.Print.{IsArrayChunk, IsStored}
@@ -72,19 +74,19 @@ stored_at info lo hi out None start k x at is reads = tt
 stored_at info lo hi out (Some entry) start k x at is reads =
     reads (index_at info.layout.grid.shape (start + k)) at.within ∙ ap (λ p. Some (element_at Little info.layout.dtype out p)) at.place ∙ ap Some (sym is)
 
-pub run_elements : (info : ArrayInfo) (lo hi out : List ℕ) (held : Option Contents) (late : List Write) (start count : ℕ) → IsRun info.layout.grid lo hi → start < product info.layout.grid.shape
+pub run_elements : (info : ArrayInfo) (lo hi out : List ℕ) (shown : Shown) (start count : ℕ) → IsRun info.layout.grid lo hi → start < product info.layout.grid.shape
     → lo ≡ index_at info.layout.grid.shape start → count ≡ product (differences hi lo)
-    → ((writes : List Write) (entry : Option Contents) → Follows writes entry held late → IsSteady (IsArrayChunk info.prefix info.layout) entry writes → ReadsRegion info lo hi entry out)
-    → AreFrom info.prefix info.layout start held late (numbers_of info.layout.dtype out count)
-run_elements info lo hi out held late start count run begins first many reads =
+    → ((entry : Shown) → Stepped NoChange entry shown → IsSteady (IsArrayChunk info.prefix info.layout) entry.held entry.late → ReadsRegion info lo hi entry.held out)
+    → AreFrom info.prefix info.layout start shown (numbers_of info.layout.dtype out count)
+run_elements info lo hi out shown start count run begins first many reads =
     let long = length-numbers_of info.layout.dtype out count in
     let some = run.some in
     let last = (at_of info.layout.grid lo hi start (product (differences hi lo) - 1) run begins first (omega arith)).below in
     record {
       few = omega (arith, long, many, last, some);
       numbers = numbers_in_range info.layout.dtype out count;
-      stored = λ writes entry follows steady k below.
+      stored = λ entry step steady k below.
           let inside : k < count = omega (arith, below, long) in
-          stored_at info lo hi out entry start k (get_or (numbers_of info.layout.dtype out count) k (pos 0)) (at_of info.layout.grid lo hi start k run begins first (omega (arith, inside, many)))
-          (get_or-map-range_with_len (element_at Little info.layout.dtype out) 0 count k k (pos 0) inside (omega arith)) (reads writes entry follows steady);
+          stored_at info lo hi out entry.held start k (get_or (numbers_of info.layout.dtype out count) k (pos 0)) (at_of info.layout.grid lo hi start k run begins first (omega (arith, inside, many)))
+          (get_or-map-range_with_len (element_at Little info.layout.dtype out) 0 count k k (pos 0) inside (omega arith)) (reads entry step steady);
     }

@@ -1,6 +1,6 @@
 -- What a read of a run says of what was held at an earlier moment, and why it ends.
 use Rattle.std.proofs.Common.{◌≡◌, ℕ, ◌*◌, ◌<◌, ◌≤◌, ◌^◌, ◌==◌, Bool, true, false, not, nat_lt, if◌then◌else◌, List, length, All, Option, Some, None, Result, Ok, Err, refl, ap, ◌∙◌, arith}
-use Rattle.std.specs.Prelude.{OnOk, OnErr, IfErr, Bool as Test}
+use Rattle.std.specs.Prelude.{OnOk, OnErr, IfErr}
 use Rattle.std.specs.List.{list_any}
 use Rattle.cu_num.specs.Dtype.{size_of}
 use Rattle.cu_shape.specs.Index.{product, quotients, IsInside}
@@ -12,13 +12,16 @@ use Rattle.cu_grid.proofs.Parting.{has_coordinate, lies_within, only_chunk}
 use Rattle.cu_codec.proofs.Taken.{region_in_array}
 use Rattle.cu_op.specs.declared.layout.ArrayInfo.{ArrayInfo}
 use Rattle.cu_op.specs.declared.layout.Layout.{Layout}
-use Rattle.cu_store.specs.Held.{Contents, Write, Follows}
+use Rattle.cu_store.specs.Held.{Contents, Write}
+use Rattle.cu_store.specs.Steps.{Shown, NoChange}
+use Rattle.cu_store.proofs.Writes.{none_keeps, none_stays}
 use Rattle.cu_store.specs.declared.faults.TaskFault.{TaskFault}
 use Rattle.cu_store.specs.declared.faults.TaskFault.TheVariants.{Store, BadChunk, NoMemory}
 use Rattle.cu_region.specs.Reading.{key_at, IsChunkKey, IsStoredAt, ReadsRegion, IsReadFault, bytes_of}
 use Rattle.cu_region.specs.Steady.{IsSteady, HoldSame}
 use Rattle.cu_region.proofs.SteadyKeys.{hold_same, steady_then}
 use Rattle.cu_region.proofs.Whole.{coordinates_small}
+use Rattle.cu_command.specs.Seen.{Stepped}
 use Rattle.cu_command.specs.Stored.{IsArrayLayout}
 use Rattle.cu_print.specs.Print.{IsArrayChunk}
 use Rattle.cu_print.specs.Runs.{IsRun, IsTried}
@@ -71,11 +74,11 @@ steady_less K L (Some held) late within steady = λ key bytes here among. steady
 chunk_of_array : (info : ArrayInfo) (lo hi key : List ℕ) → IsChunkKey info lo hi key → IsArrayChunk info.prefix info.layout key
 chunk_of_array info lo hi key (coord, meets, same) = (coord, meets.0, same)
 
-steady_now : (info : ArrayInfo) (lo hi : List ℕ) (writes late : List Write) (entry old : Option Contents) → Follows writes entry old late
-    → IsSteady (IsArrayChunk info.prefix info.layout) entry writes → IsSteady (IsChunkKey info lo hi) old late
-steady_now info lo hi writes late entry old follows steady =
-    steady_less (IsArrayChunk info.prefix info.layout) (IsChunkKey info lo hi) old late (chunk_of_array info lo hi)
-    (steady_then (IsArrayChunk info.prefix info.layout) writes late entry old steady follows.0 follows.1)
+steady_now : (info : ArrayInfo) (lo hi : List ℕ) (entry old : Shown) → Stepped NoChange entry old
+    → IsSteady (IsArrayChunk info.prefix info.layout) entry.held entry.late → IsSteady (IsChunkKey info lo hi) old.held old.late
+steady_now info lo hi entry old step steady =
+    steady_less (IsArrayChunk info.prefix info.layout) (IsChunkKey info lo hi) old.held old.late (chunk_of_array info lo hi)
+    (steady_then (IsArrayChunk info.prefix info.layout) entry.late old.late entry.held old.held steady (none_keeps step.step) (none_stays step.step))
 
 stored_then : (info : ArrayInfo) (lo hi out idx : List ℕ) (entry new : Option Contents) → IsGrid info.layout.grid → IsInside info.layout.grid.shape idx
     → HoldSame (IsArrayChunk info.prefix info.layout) entry new → IsStoredAt info lo hi new out idx → IsStoredAt info lo hi entry out idx
@@ -86,19 +89,19 @@ stored_then info lo hi out idx (Some entry) (Some new) ok inside same h =
 stored_then info lo hi out idx None (Some new) ok inside same h = absurd same
 stored_then info lo hi out idx (Some entry) None ok inside same h = absurd same
 
--- where only such writes landed since, what is read now was held then
-reads_then : (info : ArrayInfo) (lo hi out : List ℕ) (writes late : List Write) (entry new : Option Contents) → IsGrid info.layout.grid → IsRegion info.layout.grid.shape lo hi
-    → Follows writes entry new late → IsSteady (IsArrayChunk info.prefix info.layout) entry writes → ReadsRegion info lo hi new out → ReadsRegion info lo hi entry out
-reads_then info lo hi out writes late entry new ok region follows steady reads idx within =
-    stored_then info lo hi out idx entry new ok (region_in_array info.layout.grid.shape lo hi idx region within)
-    (hold_same (IsArrayChunk info.prefix info.layout) writes entry new steady follows.0) (reads idx within)
+-- where only late puts landed since, what is read now was held then
+reads_then : (info : ArrayInfo) (lo hi out : List ℕ) (entry new : Shown) → IsGrid info.layout.grid → IsRegion info.layout.grid.shape lo hi
+    → Stepped NoChange entry new → IsSteady (IsArrayChunk info.prefix info.layout) entry.held entry.late → ReadsRegion info lo hi new.held out → ReadsRegion info lo hi entry.held out
+reads_then info lo hi out entry new ok region step steady reads idx within =
+    stored_then info lo hi out idx entry.held new.held ok (region_in_array info.layout.grid.shape lo hi idx region within)
+    (hold_same (IsArrayChunk info.prefix info.layout) entry.late entry.held new.held steady (none_keeps step.step)) (reads idx within)
 
-pub read_then : {T E : Type 0} → (r : Result T E) (info : ArrayInfo) (lo hi out : List ℕ) (writes late now_late : List Write) (entry old new : Option Contents)
-    → IsGrid info.layout.grid → IsRegion info.layout.grid.shape lo hi → Follows writes entry old late → Follows writes entry new now_late
-    → IsSteady (IsArrayChunk info.prefix info.layout) entry writes → (IsSteady (IsChunkKey info lo hi) old late → OnOk r (ReadsRegion info lo hi new out)) → OnOk r (ReadsRegion info lo hi entry out)
-read_then r info lo hi out writes late now_late entry old new ok region before after steady reads =
-    on_ok r (ReadsRegion info lo hi new out) (ReadsRegion info lo hi entry out) (reads_then info lo hi out writes now_late entry new ok region after steady)
-    (reads (steady_now info lo hi writes late entry old before steady))
+pub read_then : {T E : Type 0} → (r : Result T E) (info : ArrayInfo) (lo hi out : List ℕ) (entry old new : Shown)
+    → IsGrid info.layout.grid → IsRegion info.layout.grid.shape lo hi → Stepped NoChange entry old → Stepped NoChange entry new
+    → IsSteady (IsArrayChunk info.prefix info.layout) entry.held entry.late → (IsSteady (IsChunkKey info lo hi) old.held old.late → OnOk r (ReadsRegion info lo hi new.held out)) → OnOk r (ReadsRegion info lo hi entry.held out)
+read_then r info lo hi out entry old new ok region before after steady reads =
+    on_ok r (ReadsRegion info lo hi new.held out) (ReadsRegion info lo hi entry.held out) (reads_then info lo hi out entry new ok region after steady)
+    (reads (steady_now info lo hi entry old before steady))
 
 -- ---- why a read ends
 
@@ -107,8 +110,8 @@ own_key info lo hi key ok run (coord, meets, same) =
     let idx = meets.1.0 in
     same ∙ ap (key_at info) (only_chunk info.layout.grid coord meets.1.0 ok meets.0 meets.1.2 ∙ run.one_chunk meets.1.0 meets.1.1)
 
-pub tried_once : (info : ArrayInfo) (lo hi : List ℕ) (before after : ℕ) (lacks : Test) (held : Option Contents) (e : TaskFault) → IsGrid info.layout.grid → IsRun info.layout.grid lo hi
-    → IsReadFault before after lacks held (IsChunkKey info lo hi) (bytes_of info.layout) e → IsTried 1 before after info.layout held (key_at info (quotients lo info.layout.grid.chunk)) e
-tried_once info lo hi before after lacks held Store ok run h = h
-tried_once info lo hi before after lacks held (BadChunk key got want) ok run h = (own_key info lo hi key ok run h.0, (h.1, h.2, h.3))
-tried_once info lo hi before after lacks held NoMemory ok run h = tt
+pub tried_once : (info : ArrayInfo) (lo hi : List ℕ) (old new : Shown) (e : TaskFault) → IsGrid info.layout.grid → IsRun info.layout.grid lo hi
+    → IsReadFault old.faults new.faults new.lacks new.held (IsChunkKey info lo hi) (bytes_of info.layout) e → IsTried 1 old new info.layout (key_at info (quotients lo info.layout.grid.chunk)) e
+tried_once info lo hi old new Store ok run h = h
+tried_once info lo hi old new (BadChunk key got want) ok run h = (own_key info lo hi key ok run h.0, (h.1, h.2, h.3))
+tried_once info lo hi old new NoMemory ok run h = tt

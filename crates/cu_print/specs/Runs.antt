@@ -13,13 +13,14 @@ use Rattle.cu_codec.specs.Parts.{differences, place_within}
 use Rattle.cu_op.specs.declared.layout.ArrayInfo.{ArrayInfo}
 use Rattle.cu_op.specs.declared.layout.Layout.{Layout}
 use Rattle.cu_store.specs.Faults.{Rose}
-use Rattle.cu_store.specs.Held.{Contents, Write, Follows}
+use Rattle.cu_store.specs.Steps.{Shown, NoChange}
 use Rattle.cu_store.specs.declared.faults.TaskFault.{TaskFault}
 use Rattle.cu_store.specs.declared.faults.TaskFault.TheVariants.{Store, BadChunk as BadPart, NoMemory as NoRoom}
 use Rattle.cu_region.specs.Steady.{IsSteady}
+use Rattle.cu_command.specs.Seen.{Seen, Stepped}
 use Rattle.cu_command.specs.Stored.{IsArrayLayout}
 use Rattle.cu_command.specs.declared.status.Status.{Status}
-use Rattle.cu_command.specs.declared.status.Status.TheVariants.{Done, BadWords, OverMemory, BadMeta, NoArray, Exists, TaskFailed, ReadFault, WriteFault, BadChunk, DepotFailed, BadLoad, NotBuilt, NoMemory}
+use Rattle.cu_command.specs.declared.status.Status.TheVariants.{WriteFault, BadChunk, DepotFailed, NoMemory}
 use Rattle.cu_print.specs.Print.{IsArrayChunk, IsStored, IsBad, chunk_key_at}
 use Rattle.cu_print.specs.Text.{elements_text, WroteAll, WroteSome}
 
@@ -46,34 +47,34 @@ pub record IsShown (info : ArrayInfo) : Type 0 where
   pub short : length info.prefix ≤ 45
   pub layout : IsArrayLayout info.layout
 
--- The elements from this place on. They are those that were held at any moment since which only writes on other keys, or of what
--- was held, were to land.
-pub record AreFrom (name : List ℕ) (l : Layout) (start : ℕ) (held : Option Contents) (late : List Write) (ys : List ℤ) : Type 0 where
+-- The elements from this place on. They are those that were held at any moment since which only late puts landed, where each that was late
+-- then on a key of a chunk carries what was held there.
+pub record AreFrom (name : List ℕ) (l : Layout) (start : ℕ) (shown : Shown) (ys : List ℤ) : Type 0 where
   pub few : start + length ys ≤ product l.grid.shape
   pub numbers : All (InRange l.dtype) ys
-  pub stored : (writes : List Write) (entry : Option Contents) → Follows writes entry held late → IsSteady (IsArrayChunk name l) entry writes
-      → (k : ℕ) → k < length ys → IsStored name l entry (start + k) (slice_index_or ys k (pos 0))
+  pub stored : (entry : Shown) → Stepped NoChange entry shown → IsSteady (IsArrayChunk name l) entry.held entry.late
+      → (k : ℕ) → k < length ys → IsStored name l entry.held (start + k) (slice_index_or ys k (pos 0))
 
 -- the sink got the front of the pending bytes and of these, and the rest is pending
 abbrev pub Moves : Option (List ℕ) → Option (List ℕ) → List ℕ → List ℕ → List ℕ → Type 0
 Moves before after pending bytes rest = (front : List ℕ) × WroteAll before after front × (front ++ rest ≡ pending ++ bytes)
 
 -- so many elements from this place on were read and printed
-pub record PrintsRun (info : ArrayInfo) (start : ℕ) (held : Option Contents) (late : List Write) (before after : Option (List ℕ)) (len : ℕ) : Type 0 where
+pub record PrintsRun (info : ArrayInfo) (start : ℕ) (shown : Shown) (before after : Option (List ℕ)) (len : ℕ) : Type 0 where
   pub ys : List ℤ
   pub long : length ys ≡ len
-  pub read : AreFrom info.prefix info.layout start held late ys
+  pub read : AreFrom info.prefix info.layout start shown ys
   pub wrote : WroteAll before after (elements_text info.layout.dtype (run_length info.layout.grid.shape) start ys)
 
 -- a front of the text of such elements was printed
-abbrev pub PrintsPart : ArrayInfo → ℕ → Option Contents → List Write → Option (List ℕ) → Option (List ℕ) → Type 0
-PrintsPart info start held late before after = (ys : List ℤ) × AreFrom info.prefix info.layout start held late ys × WroteSome before after (elements_text info.layout.dtype (run_length info.layout.grid.shape) start ys)
+abbrev pub PrintsPart : ArrayInfo → ℕ → Shown → Option (List ℕ) → Option (List ℕ) → Type 0
+PrintsPart info start shown before after = (ys : List ℤ) × AreFrom info.prefix info.layout start shown ys × WroteSome before after (elements_text info.layout.dtype (run_length info.layout.grid.shape) start ys)
 
 -- Why reading a run of the chunk under this key ends: the store failed in so many tries, or the chunk has another length.
-abbrev pub IsTried : ℕ → ℕ → ℕ → Layout → Option Contents → List ℕ → TaskFault → Type 0
-IsTried tries f g l held key Store = Rose tries f g
-IsTried tries f g l held key (BadPart bad got want) = (bad ≡ key) × IsBad l held bad got want
-IsTried tries f g l held key NoRoom = Unit {0}
+abbrev pub IsTried : ℕ → Shown → Shown → Layout → List ℕ → TaskFault → Type 0
+IsTried tries old new l key Store = Rose tries old.faults new.faults
+IsTried tries old new l key (BadPart bad got want) = (bad ≡ key) × IsBad l new.held bad got want
+IsTried tries old new l key NoRoom = Unit {0}
 
 -- what is answered where reading a run of the chunk under this key ends so
 abbrev pub end_of : List ℕ → TaskFault → Status
@@ -82,22 +83,13 @@ end_of key (BadPart bad got want) = BadChunk bad got want
 end_of key NoRoom = NoMemory
 
 -- the answer of a read of the chunk under this key that ended so
-abbrev pub IsReadEnd : ℕ → ℕ → ℕ → Layout → Option Contents → List ℕ → Status → Type 0
-IsReadEnd tries f g l held key status = (fault : TaskFault) × (status ≡ end_of key fault) × IsTried tries f g l held key fault
+abbrev pub IsReadEnd : ℕ → Shown → Shown → Layout → List ℕ → Status → Type 0
+IsReadEnd tries old new l key status = (fault : TaskFault) × (status ≡ end_of key fault) × IsTried tries old new l key fault
 
 -- why printing the run that begins at this place ends
-abbrev pub IsRunFault : ℕ → ArrayInfo → ℕ → Option Contents → List Write → Option Contents → ℕ → ℕ → ℕ → ℕ → Option (List ℕ) → Option (List ℕ) → Status → Type 0
-IsRunFault tries info start held late new f g v w before after WriteFault = Rose 1 v w × PrintsPart info start held late before after
-IsRunFault tries info start held late new f g v w before after (BadChunk key got want) = (after ≡ before) × (key ≡ chunk_key_at info.prefix info.layout start) × IsBad info.layout new key got want
-IsRunFault tries info start held late new f g v w before after (DepotFailed key) = (after ≡ before) × (key ≡ chunk_key_at info.prefix info.layout start) × Rose tries f g
-IsRunFault tries info start held late new f g v w before after NoMemory = after ≡ before
-IsRunFault tries info start held late new f g v w before after Done = ⊥
-IsRunFault tries info start held late new f g v w before after (BadWords code) = ⊥
-IsRunFault tries info start held late new f g v w before after (OverMemory node need allowed) = ⊥
-IsRunFault tries info start held late new f g v w before after (BadMeta name code) = ⊥
-IsRunFault tries info start held late new f g v w before after (NoArray name) = ⊥
-IsRunFault tries info start held late new f g v w before after (Exists key) = ⊥
-IsRunFault tries info start held late new f g v w before after (TaskFailed op task) = ⊥
-IsRunFault tries info start held late new f g v w before after ReadFault = ⊥
-IsRunFault tries info start held late new f g v w before after (BadLoad code) = ⊥
-IsRunFault tries info start held late new f g v w before after (NotBuilt node) = ⊥
+abbrev pub IsRunFault : ℕ → ArrayInfo → ℕ → Seen → Seen → Status → Type 0
+IsRunFault tries info start old new WriteFault = Rose 1 old.out.faults new.out.faults × PrintsPart info start old.depot old.out.told new.out.told
+IsRunFault tries info start old new (BadChunk key got want) = (new.out.told ≡ old.out.told) × (key ≡ chunk_key_at info.prefix info.layout start) × IsBad info.layout new.depot.held key got want
+IsRunFault tries info start old new (DepotFailed key) = (new.out.told ≡ old.out.told) × (key ≡ chunk_key_at info.prefix info.layout start) × Rose tries old.depot.faults new.depot.faults
+IsRunFault tries info start old new NoMemory = new.out.told ≡ old.out.told
+IsRunFault tries info start old new status = ⊥

@@ -3,7 +3,8 @@ ghost use Rattle.std.specs.Prelude.{◌≡◌, ℕ, ◌+◌, ◌^◌, ◌<◌, �
 ghost use Rattle.cu_shape.specs.Index.{product};
 ghost use Rattle.cu_codec.specs.Box.{run_length};
 ghost use Rattle.cu_region.specs.Reading.{bytes_of};
-ghost use Rattle.cu_store.specs.Held.{Contents, Write, Follows};
+ghost use Rattle.cu_store.specs.Steps.{Shown, NoChange};
+ghost use Rattle.cu_command.specs.Seen.{Stream, Stepped, stream, seen};
 ghost use Rattle.cu_name.specs.Name.{IsArrayName};
 ghost use Rattle.cu_command.specs.Stored.{IsArrayLayout};
 ghost use Rattle.cu_print.specs.Print.{Carries, Printed};
@@ -55,14 +56,12 @@ fn print_run<W: Sink, D: Depot>(
     requires empty { text.old.bytes ≡ [] }
     requires piece { bytes_of info.now.layout ≤ length piece.old }
     requires scratch { bytes_of info.now.layout ≤ length scratch.old }
-    ensures prints { IfOk result (PrintsRun info.now start (D.shown depot.old).held (D.shown depot.old).late (W.written out.old) (W.written out.new)) }
+    ensures prints { IfOk result (PrintsRun info.now start (D.shown depot.old) (W.written out.old) (W.written out.new)) }
     ensures some { IfOk result (λ len. 0 < len) }
     ensures empty { OnOk result (text.new.bytes ≡ []) }
-    ensures fault { IfErr result (IsRunFault (retries + 1) info.now start (D.shown depot.old).held (D.shown depot.old).late (D.shown depot.new).held
-        (D.shown depot.old).faults (D.shown depot.new).faults (W.faults out.old) (W.faults out.new) (W.written out.old) (W.written out.new)) }
-    ensures follows { (writes : List Write) (entry : Option Contents)
-        → Follows writes entry (D.shown depot.old).held (D.shown depot.old).late → Follows writes entry (D.shown depot.new).held (D.shown depot.new).late }
-    ensures count { (D.shown depot.old).faults ≤ (D.shown depot.new).faults }
+    ensures fault { IfErr result (IsRunFault (retries + 1) info.now start (seen (stream (W.written out.old) (W.faults out.old)) (D.shown depot.old))
+        (seen (stream (W.written out.new) (W.faults out.new)) (D.shown depot.new))) }
+    ensures step { Stepped NoChange (D.shown depot.old) (D.shown depot.new) }
     ensures count_out { W.faults out.old ≤ W.faults out.new }
 {
     let grid = &info.layout.grid;
@@ -96,11 +95,10 @@ fn print_elements<W: Sink, D: Depot>(
     requires empty { text.old.bytes ≡ [] }
     requires piece { bytes_of info.now.layout ≤ length piece.old }
     requires scratch { bytes_of info.now.layout ≤ length scratch.old }
-    ensures answer { (writes : List Write) (entry : Option Contents) (first : Option (List ℕ)) (f v : ℕ) → Follows writes entry (D.shown depot.old).held (D.shown depot.old).late
-        → WroteAll first (W.written out.old) (header_text info.now.layout) → f ≤ (D.shown depot.old).faults → v ≤ W.faults out.old
-        → Carries (retries + 1) info.now.prefix info.now.layout entry writes (D.shown depot.new).held f (D.shown depot.new).faults v (W.faults out.new) first (W.written out.new) result }
-    ensures follows { (writes : List Write) (entry : Option Contents)
-        → Follows writes entry (D.shown depot.old).held (D.shown depot.old).late → Follows writes entry (D.shown depot.new).held (D.shown depot.new).late }
+    ensures answer { (entry : Shown) (first : Stream) → Stepped NoChange entry (D.shown depot.old)
+        → WroteAll first.told (W.written out.old) (header_text info.now.layout) → first.faults ≤ W.faults out.old
+        → Carries (retries + 1) info.now.prefix info.now.layout (seen first entry) (seen (stream (W.written out.new) (W.faults out.new)) (D.shown depot.new)) result }
+    ensures step { Stepped NoChange (D.shown depot.old) (D.shown depot.new) }
 {
     let count = elements(info.layout.grid.shape());
     let mut start = 0;
@@ -124,11 +122,9 @@ fn print_array<W: Sink, D: Depot>(
 ) -> Status
     requires name { IsArrayName name.now }
     requires layout { IsArrayLayout layout.now }
-    ensures answer { (writes : List Write) (entry : Option Contents) (f : ℕ) → Follows writes entry (D.shown depot.old).held (D.shown depot.old).late → f ≤ (D.shown depot.old).faults
-        → Carries (retries + 1) name.now layout.now entry writes (D.shown depot.new).held f (D.shown depot.new).faults
-        (W.faults out.old) (W.faults out.new) (W.written out.old) (W.written out.new) result }
-    ensures follows { (writes : List Write) (entry : Option Contents)
-        → Follows writes entry (D.shown depot.old).held (D.shown depot.old).late → Follows writes entry (D.shown depot.new).held (D.shown depot.new).late }
+    ensures answer { (entry : Shown) → Stepped NoChange entry (D.shown depot.old)
+        → Carries (retries + 1) name.now layout.now (seen (stream (W.written out.old) (W.faults out.old)) entry) (seen (stream (W.written out.new) (W.faults out.new)) (D.shown depot.new)) result }
+    ensures step { Stepped NoChange (D.shown depot.old) (D.shown depot.new) }
 {
     let room = chunk_bytes(layout);
     let Ok(mut piece) = zeros(alloc, room) else {
@@ -183,7 +179,8 @@ pub fn print<W: Sink, D: Depot>(
     depot: &mut D,
 ) -> Status
     requires { IsArrayName name.now }
-    ensures answer { Printed retries name.now (D.shown depot.old).held (D.shown depot.new).held (D.shown depot.old).late (D.shown depot.new).late (D.shown depot.old).faults (D.shown depot.new).faults (W.faults out.old) (W.faults out.new) (W.written out.old) (W.written out.new) result }
+    ensures answer { Printed retries name.now (seen (stream (W.written out.old) (W.faults out.old)) (D.shown depot.old))
+        (seen (stream (W.written out.new) (W.faults out.new)) (D.shown depot.new)) result }
 {
     let Ok(mut metadata) = metadata_room(alloc) else {
         return Status::NoMemory;

@@ -6,7 +6,8 @@ ghost use Rattle.cu_grid.specs.Grid.{IsGrid};
 ghost use Rattle.cu_codec.specs.Parts.{differences};
 ghost use Rattle.cu_region.specs.Reading.{bytes_of, ReadsRegion, key_at};
 ghost use Rattle.cu_region.specs.Steady.{IsSteady};
-ghost use Rattle.cu_store.specs.Held.{Contents, Write, Follows};
+ghost use Rattle.cu_store.specs.Steps.{Shown, NoChange};
+ghost use Rattle.cu_command.specs.Seen.{Stepped};
 ghost use Rattle.cu_print.specs.Print.{IsArrayChunk};
 ghost use Rattle.cu_print.specs.Runs.{end_on, IsRun, IsShown, IsTried, IsReadEnd, end_of};
 
@@ -83,13 +84,11 @@ fn read_once<D: Depot>(
     requires run { IsRun info.now.layout.grid region.now.lo region.now.hi }
     requires out_length { length out.old ≡ product (differences region.now.hi region.now.lo) * size_of info.now.layout.dtype }
     requires scratch_length { bytes_of info.now.layout ≤ length scratch.old }
-    ensures read { (writes : List Write) (entry : Option Contents) → Follows writes entry (D.shown depot.old).held (D.shown depot.old).late
-        → IsSteady (IsArrayChunk info.now.prefix info.now.layout) entry writes → OnOk result (ReadsRegion info.now region.now.lo region.now.hi entry out.new) }
-    ensures follows { (writes : List Write) (entry : Option Contents)
-        → Follows writes entry (D.shown depot.old).held (D.shown depot.old).late → Follows writes entry (D.shown depot.new).held (D.shown depot.new).late }
-    ensures cause { IfErr result (IsTried 1 (D.shown depot.old).faults (D.shown depot.new).faults info.now.layout (D.shown depot.new).held
+    ensures read { (entry : Shown) → Stepped NoChange entry (D.shown depot.old)
+        → IsSteady (IsArrayChunk info.now.prefix info.now.layout) entry.held entry.late → OnOk result (ReadsRegion info.now region.now.lo region.now.hi entry.held out.new) }
+    ensures step { Stepped NoChange (D.shown depot.old) (D.shown depot.new) }
+    ensures cause { IfErr result (IsTried 1 (D.shown depot.old) (D.shown depot.new) info.now.layout
         (key_at info.now (quotients region.now.lo info.now.layout.grid.chunk))) }
-    ensures count { (D.shown depot.old).faults ≤ (D.shown depot.new).faults }
 {
     let _shape = info.layout.grid.shape();
     read_region(depot, info, region, out, scratch)
@@ -108,13 +107,11 @@ fn read_tries<D: Depot>(
     requires run { IsRun info.now.layout.grid region.now.lo region.now.hi }
     requires out_length { length out.old ≡ product (differences region.now.hi region.now.lo) * size_of info.now.layout.dtype }
     requires scratch_length { bytes_of info.now.layout ≤ length scratch.old }
-    ensures read { (writes : List Write) (entry : Option Contents) → Follows writes entry (D.shown depot.old).held (D.shown depot.old).late
-        → IsSteady (IsArrayChunk info.now.prefix info.now.layout) entry writes → OnOk result (ReadsRegion info.now region.now.lo region.now.hi entry out.new) }
-    ensures follows { (writes : List Write) (entry : Option Contents)
-        → Follows writes entry (D.shown depot.old).held (D.shown depot.old).late → Follows writes entry (D.shown depot.new).held (D.shown depot.new).late }
-    ensures cause { IfErr result (IsTried (retries + 1) (D.shown depot.old).faults (D.shown depot.new).faults info.now.layout (D.shown depot.new).held
+    ensures read { (entry : Shown) → Stepped NoChange entry (D.shown depot.old)
+        → IsSteady (IsArrayChunk info.now.prefix info.now.layout) entry.held entry.late → OnOk result (ReadsRegion info.now region.now.lo region.now.hi entry.held out.new) }
+    ensures step { Stepped NoChange (D.shown depot.old) (D.shown depot.new) }
+    ensures cause { IfErr result (IsTried (retries + 1) (D.shown depot.old) (D.shown depot.new) info.now.layout
         (key_at info.now (quotients region.now.lo info.now.layout.grid.chunk))) }
-    ensures count { (D.shown depot.old).faults ≤ (D.shown depot.new).faults }
 {
     for _ in 0..retries {
         match read_once(depot, info, region, out, scratch) {
@@ -167,13 +164,11 @@ pub(crate) fn read_run<D: Depot>(
     requires run { IsRun info.now.layout.grid region.now.lo region.now.hi }
     requires out_length { length out.old ≡ product (differences region.now.hi region.now.lo) * size_of info.now.layout.dtype }
     requires scratch_length { bytes_of info.now.layout ≤ length scratch.old }
-    ensures read { (writes : List Write) (entry : Option Contents) → Follows writes entry (D.shown depot.old).held (D.shown depot.old).late
-        → IsSteady (IsArrayChunk info.now.prefix info.now.layout) entry writes → OnOk result (ReadsRegion info.now region.now.lo region.now.hi entry out.new) }
-    ensures follows { (writes : List Write) (entry : Option Contents)
-        → Follows writes entry (D.shown depot.old).held (D.shown depot.old).late → Follows writes entry (D.shown depot.new).held (D.shown depot.new).late }
-    ensures cause { IfErr result (IsReadEnd (retries + 1) (D.shown depot.old).faults (D.shown depot.new).faults info.now.layout (D.shown depot.new).held
+    ensures read { (entry : Shown) → Stepped NoChange entry (D.shown depot.old)
+        → IsSteady (IsArrayChunk info.now.prefix info.now.layout) entry.held entry.late → OnOk result (ReadsRegion info.now region.now.lo region.now.hi entry.held out.new) }
+    ensures step { Stepped NoChange (D.shown depot.old) (D.shown depot.new) }
+    ensures cause { IfErr result (IsReadEnd (retries + 1) (D.shown depot.old) (D.shown depot.new) info.now.layout
         (key_at info.now (quotients region.now.lo info.now.layout.grid.chunk))) }
-    ensures count { (D.shown depot.old).faults ≤ (D.shown depot.new).faults }
 {
     let coord = chunk_of(&info.layout.grid, &region.lo);
     let key = chunk_key(&info.prefix, info.layout.encoding, &coord);

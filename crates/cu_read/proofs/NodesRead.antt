@@ -13,10 +13,10 @@ use Rattle.cu_name.specs.Name.{is_name}
 use Rattle.cu_form.specs.Expression.{Expression, IsExpression}
 use Rattle.cu_form.specs.declared.expr.Node.{Node}
 use Rattle.cu_result.specs.Results.{◌>>=◌}
-use Rattle.cu_read.specs.Faults.{Reads}
+use Rattle.cu_read.specs.Faults.{GivesAs}
 use Rattle.cu_read.specs.Members.{passing}
 use Rattle.cu_read.specs.Node.{node_in}
-use Rattle.cu_read.specs.Read.{whole_fault, at_node, ids_of, nodes_after, AreNodes, stored_of, listed_in}
+use Rattle.cu_read.specs.Read.{whole_fault, answer_at, ids_of, nodes_after, AreNodes, expression_with, listed_in}
 use Rattle.cu_read.specs.declared.faults.ReadFault.{ReadFault}
 use Rattle.cu_read.specs.declared.faults.ReadRefused.{ReadRefused}
 use Rattle.cu_read.specs.declared.nodes.Nodes.{Nodes}
@@ -24,24 +24,24 @@ use Rattle.cu_read.proofs.Says.{length-ids, listed_nodes, stored_is, name_passes
 
 -- the answer for the next item, where the nodes so far are those in front
 next_said : (v : Value) (front : List Node) (ids : List (List ℕ)) (r : Result Node ReadFault) → ids ≡ ids_of front
-    → at_node (length ids) (node_in ids (view v)) ≡ r → at_node (length front) (node_in (ids_of front) (view v)) ≡ r
+    → answer_at (length ids) (node_in ids (view v)) ≡ r → answer_at (length front) (node_in (ids_of front) (view v)) ≡ r
 next_said v front ids r same said =
-    ap (λ (n : ℕ). at_node n (node_in (ids_of front) (view v))) (sym (length-ids front)) ∙ subst (λ (names : List (List ℕ)). at_node (length names) (node_in names (view v)) ≡ r) same said
+    ap (λ (n : ℕ). answer_at n (node_in (ids_of front) (view v))) (sym (length-ids front)) ∙ subst (λ (names : List (List ℕ)). answer_at (length names) (node_in names (view v)) ≡ r) same said
 
 cut_at : (items : List Value) (k : ℕ) (v : Value) → k < length items → v ≡ get_or items k v → drop k items ≡ v ∷ drop (k + 1) items
 cut_at items k v within is = rw add-one (drop-cons items k v within ∙ ap (λ (w : Value). w ∷ drop (suc k) items) (sym is))
 
 pub go_on : (items : List Value) (k : ℕ) (v : Value) (front : List Node) (ids : List (List ℕ)) (node : Node) (whole : Result (List Node) ReadFault)
     → k < length items → v ≡ get_or items k v → ids ≡ ids_of front → whole ≡ nodes_after front (items_view (drop k items))
-    → at_node (length ids) (node_in ids (view v)) ≡ Ok node → whole ≡ nodes_after (front ++ node ∷ []) (items_view (drop (k + 1) items))
+    → answer_at (length ids) (node_in ids (view v)) ≡ Ok node → whole ≡ nodes_after (front ++ node ∷ []) (items_view (drop (k + 1) items))
 go_on items k v front ids node whole within is same so_far said =
     so_far ∙ ap (λ (vs : List Value). nodes_after front (items_view vs)) (cut_at items k v within is)
     ∙ ap (λ (r : Result Node ReadFault). r >>= λ (n : Node). nodes_after (front ++ n ∷ []) (items_view (drop (k + 1) items))) (next_said v front ids (Ok node) same said)
 
 pub stop_at : (items : List Value) (k : ℕ) (v : Value) (front : List Node) (ids : List (List ℕ)) (refused : ReadRefused) (whole : Result (List Node) ReadFault)
     → k < length items → v ≡ get_or items k v → ids ≡ ids_of front → whole ≡ nodes_after front (items_view (drop k items))
-    → Reads {A = Node} {B = Node} (λ n. n) (Err refused) (at_node (length ids) (node_in ids (view v)))
-    → Reads {A = Nodes} {B = List Node} (λ n. n.list.items) (Err refused) whole
+    → GivesAs {A = Node} {B = Node} (λ n. n) (Err refused) (answer_at (length ids) (node_in ids (view v)))
+    → GivesAs {A = Nodes} {B = List Node} (λ n. n.list.items) (Err refused) whole
 stop_at items k v front ids (ReadRefused.Fault fault) whole within is same so_far said =
     so_far ∙ ap (λ (vs : List Value). nodes_after front (items_view vs)) (cut_at items k v within is)
     ∙ ap (λ (r : Result Node ReadFault). r >>= λ (n : Node). nodes_after (front ++ n ∷ []) (items_view (drop (k + 1) items))) (next_said v front ids (Err fault) same said)
@@ -63,19 +63,19 @@ pub too_many : (items : List Value) (out store_as : List ℕ) → 256 < length i
 too_many items out store_as many = rw (items_len-items_view items, longer (length items) 256 many) refl
 
 listed_is : (items : List Value) (out store_as : List ℕ) (r : Result (List Node) ReadFault) → length items ≤ 256 → nodes_after [] (items_view items) ≡ r
-    → listed_in (items_view items) out store_as ≡ (r >>= λ (nodes : List Node). stored_of nodes (ids_of nodes) out store_as)
+    → listed_in (items_view items) out store_as ≡ (r >>= λ (nodes : List Node). expression_with nodes (ids_of nodes) out store_as)
 listed_is items out store_as r short said = rw (items_len-items_view items, le-leb (length items) 256 short, said) refl
 
 pub listed_ok : (items : List Value) (out store_as : List ℕ) (nodes : List Node) (ids : List (List ℕ)) (result : Result Expression ReadRefused) → length items ≤ 256
-    → nodes_after [] (items_view items) ≡ Ok nodes → ids ≡ ids_of nodes → Reads (λ e. e) result (stored_of nodes ids out store_as)
-    → Reads (λ e. e) result (listed_in (items_view items) out store_as)
+    → nodes_after [] (items_view items) ≡ Ok nodes → ids ≡ ids_of nodes → GivesAs (λ e. e) result (expression_with nodes ids out store_as)
+    → GivesAs (λ e. e) result (listed_in (items_view items) out store_as)
 listed_ok items out store_as nodes ids result short said same answer =
-    subst (λ (r : Result Expression ReadFault). Reads (λ (e : Expression). e) result r) (sym (listed_is items out store_as (Ok nodes) short said))
-    (subst (λ (names : List (List ℕ)). Reads (λ (e : Expression). e) result (stored_of nodes names out store_as)) same answer)
+    subst (λ (r : Result Expression ReadFault). GivesAs (λ (e : Expression). e) result r) (sym (listed_is items out store_as (Ok nodes) short said))
+    (subst (λ (names : List (List ℕ)). GivesAs (λ (e : Expression). e) result (expression_with nodes names out store_as)) same answer)
 
 pub listed_err : (items : List Value) (out store_as : List ℕ) (refused : ReadRefused) → length items ≤ 256
-    → Reads {A = Nodes} {B = List Node} (λ n. n.list.items) (Err refused) (nodes_after [] (items_view items))
-    → Reads {A = Expression} {B = Expression} (λ e. e) (Err refused) (listed_in (items_view items) out store_as)
+    → GivesAs {A = Nodes} {B = List Node} (λ n. n.list.items) (Err refused) (nodes_after [] (items_view items))
+    → GivesAs {A = Expression} {B = Expression} (λ e. e) (Err refused) (listed_in (items_view items) out store_as)
 listed_err items out store_as (ReadRefused.Fault fault) short said = listed_is items out store_as (Err fault) short said
 listed_err items out store_as ReadRefused.NoMemory short said = tt
 

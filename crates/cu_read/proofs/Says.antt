@@ -22,7 +22,7 @@ use Rattle.cu_form.specs.declared.form.Form.{Form}
 use Rattle.cu_read.specs.Form.{IsRow, SaysNode, SayNodes, SaysExpression, HasForm}
 use Rattle.cu_read.specs.Members.{passing, member_of}
 use Rattle.cu_read.specs.Node.{row_of, is_new_id, name_for, node_in}
-use Rattle.cu_read.specs.Read.{whole_fault, at_node, ids_of, nodes_after, AreNodes, listed_in, expression_in, expression_of}
+use Rattle.cu_read.specs.Read.{whole_fault, answer_at, ids_of, nodes_after, AreNodes, listed_in, expression_in, expression_of}
 use Rattle.cu_read.specs.declared.faults.NodeCode.{NodeCode}
 use Rattle.cu_read.specs.declared.faults.ReadFault.{ReadFault}
 use Rattle.cu_read.proofs.Ranges.{row_in_ranges}
@@ -112,17 +112,17 @@ node_says ids d =
 pub node_new : (ids : List (List ℕ)) (d : Data) → IfOk (node_in ids d) (λ node. list_any (bytes_eq node.name) ids ≡ false)
 node_new ids d = weaker (node_in ids d) (IsRead ids d) (λ node. list_any (bytes_eq node.name) ids ≡ false) (λ node h. h.new) (node_says ids d)
 
-at_node_ok : (number : ℕ) (r : Result Node NodeCode) (node : Node) → at_node number r ≡ Ok node → r ≡ Ok node
+at_node_ok : (number : ℕ) (r : Result Node NodeCode) (node : Node) → answer_at number r ≡ Ok node → r ≡ Ok node
 at_node_ok number (Ok x) node h = let same : x ≡ node = cc in ap Ok same
 at_node_ok number (Err code) node h = cc
 
-node_read : (front : List Node) (d : Data) (node : Node) → at_node (length front) (node_in (ids_of front) d) ≡ Ok node → IsRead (ids_of front) d node
+node_read : (front : List Node) (d : Data) (node : Node) → answer_at (length front) (node_in (ids_of front) d) ≡ Ok node → IsRead (ids_of front) d node
 node_read front d node h =
     subst (λ (r : Result Node NodeCode). IfOk r (IsRead (ids_of front) d)) (at_node_ok (length front) (node_in (ids_of front) d) node h) (node_says (ids_of front) d)
 
 -- ---- the nodes
 
-ids_of-append : (front : List Node) (node : Node) → ids_of (front ++ node ∷ []) ≡ ids_of front ++ node.name ∷ []
+pub ids_of-append : (front : List Node) (node : Node) → ids_of (front ++ node ∷ []) ≡ ids_of front ++ node.name ∷ []
 ids_of-append front node = map-append (λ (n : Node). n.name) front (node ∷ [])
 
 pub length-ids : (front : List Node) → length (ids_of front) ≡ length front
@@ -150,7 +150,7 @@ go_on_next front d items node says nodes h = record {
 nodes_say : (front : List Node) (items : Items) → IfOk (nodes_after front items) (GoOn front items)
 nodes_say front no_items = record { rest = []; is = sym (append-nil front); say = tt }
 nodes_say front (item d items) =
-    after_step (at_node (length front) (node_in (ids_of front) d)) (λ (node : Node). nodes_after (front ++ node ∷ []) items) (GoOn front (item d items)) (λ node h. weaker (nodes_after (front ++ node ∷ []) items) (GoOn (front ++ node ∷ []) items) (GoOn front (item d items))
+    after_step (answer_at (length front) (node_in (ids_of front) d)) (λ (node : Node). nodes_after (front ++ node ∷ []) items) (GoOn front (item d items)) (λ node h. weaker (nodes_after (front ++ node ∷ []) items) (GoOn (front ++ node ∷ []) items) (GoOn front (item d items))
     (go_on_next front d items node (node_read front d node h).says) (nodes_say (front ++ node ∷ []) items))
 
 -- ---- the nodes of an expression
@@ -209,7 +209,7 @@ record AreRead (front : List Node) (items : Items) (nodes : List Node) : Type 0 
 nodes_read : (front : List Node) (items : Items) → AreGood front → IfOk (nodes_after front items) (AreRead front items)
 nodes_read front no_items good = record { good = good; count = omega arith }
 nodes_read front (item d items) good =
-    after_step (at_node (length front) (node_in (ids_of front) d)) (λ (node : Node). nodes_after (front ++ node ∷ []) items) (AreRead front (item d items)) (λ node h. weaker (nodes_after (front ++ node ∷ []) items) (AreRead (front ++ node ∷ []) items) (AreRead front (item d items))
+    after_step (answer_at (length front) (node_in (ids_of front) d)) (λ (node : Node). nodes_after (front ++ node ∷ []) items) (AreRead front (item d items)) (λ node h. weaker (nodes_after (front ++ node ∷ []) items) (AreRead (front ++ node ∷ []) items) (AreRead front (item d items))
     (λ nodes r. record { good = r.good; count = omega (arith, r.count, length-append front (node ∷ [])) })
     (nodes_read (front ++ node ∷ []) items
     (let is : IsRead (ids_of front) d node = node_read front d node h in

@@ -19,10 +19,10 @@ Gives (Err (NodeRefused.Code code)) said = said ≡ Err code
 Gives (Err NodeRefused.NoMemory) said = Unit {0}
 
 -- the answer, seen by this view, is the one that is said, or memory was wanted and not had
-abbrev pub Reads : {A B : Type 0} → (A → B) → Result A ReadRefused → Result B ReadFault → Type 0
-Reads seen (Ok x) said = said ≡ Ok (seen x)
-Reads seen (Err (ReadRefused.Fault fault)) said = said ≡ Err fault
-Reads seen (Err ReadRefused.NoMemory) said = Unit {0}
+abbrev pub GivesAs : {A B : Type 0} → (A → B) → Result A ReadRefused → Result B ReadFault → Type 0
+GivesAs seen (Ok x) said = said ≡ Ok (seen x)
+GivesAs seen (Err (ReadRefused.Fault fault)) said = said ≡ Err fault
+GivesAs seen (Err ReadRefused.NoMemory) said = Unit {0}
 
 -- where the refusal has a fault, the fault has the property; want of memory says nothing
 abbrev pub IfFault : ReadRefused → (ReadFault → Type 0) → Type 0

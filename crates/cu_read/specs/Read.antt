@@ -24,9 +24,9 @@ whole_fault code = record { code = code; node = 0 }
 abbrev pub fault_of_node : ℕ → NodeCode → ReadFault
 fault_of_node number code = record { code = code_number code; node = number }
 
-abbrev pub at_node : ℕ → Result Node NodeCode → Result Node ReadFault
-at_node number (Ok node) = Ok node
-at_node number (Err code) = Err (fault_of_node number code)
+abbrev pub answer_at : ℕ → Result Node NodeCode → Result Node ReadFault
+answer_at number (Ok node) = Ok node
+answer_at number (Err code) = Err (fault_of_node number code)
 
 -- the ids of the nodes, by their numbers
 abbrev pub ids_of : List Node → List (List ℕ)
@@ -35,15 +35,15 @@ ids_of nodes = map (λ node. node.name) nodes
 -- the nodes in front, and then those of the items
 abbrev pub nodes_after : List Node → Items → Result (List Node) ReadFault
 nodes_after front no_items = Ok front
-nodes_after front (item d ds) = at_node (length front) (node_in (ids_of front) d) >>= λ node. nodes_after (front ++ node ∷ []) ds
+nodes_after front (item d ds) = answer_at (length front) (node_in (ids_of front) d) >>= λ node. nodes_after (front ++ node ∷ []) ds
 
 -- a member of the whole
 abbrev pub top_member : {A : Type 0} → (Data → Option A) → List ℕ → Data → Result A ReadFault
 top_member value name d = need (member_of value name d) (whole_fault 2)
 
 -- what lies between the nodes and the end: the number of the node that is to be stored, and the name under which it is
-abbrev pub stored_of : List Node → List (List ℕ) → List ℕ → List ℕ → Result Expression ReadFault
-stored_of nodes ids out store_as = do
+abbrev pub expression_with : List Node → List (List ℕ) → List ℕ → List ℕ → Result Expression ReadFault
+expression_with nodes ids out store_as = do
   number ← need (position (bytes_eq out) ids) (whole_fault 2)
   name ← need (passing is_name store_as) (whole_fault 2)
   Ok (record { nodes = nodes; out = number; store_as = name })
@@ -53,7 +53,7 @@ abbrev pub listed_in : Items → List ℕ → List ℕ → Result Expression Rea
 listed_in items out store_as = do
   _ ← check (nat_le (items_len items) 256) (whole_fault 7)
   nodes ← nodes_after [] items
-  stored_of nodes (ids_of nodes) out store_as
+  expression_with nodes (ids_of nodes) out store_as
 
 -- The expression that a value says, or its first fault: code 2 for another form of the whole, 7 for more than 256 nodes, the
 -- first fault of a node, and last 2 for a node that is to be stored and isn't there, and for a name that isn't one.

@@ -8,6 +8,7 @@ mod elementwise;
 mod faults;
 mod ids;
 mod index_item;
+mod laws;
 mod lists;
 mod members;
 mod node;
@@ -18,4 +19,5 @@ mod rows;
 mod view;
 
 pub use faults::{ReadFault, ReadRefused};
+pub use laws::form_law;
 pub use read::read_expr;

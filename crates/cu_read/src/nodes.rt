@@ -2,9 +2,9 @@
 ghost use Rattle.std.specs.Prelude.{◌≡◌, ◌≤◌, ◌<◌, ◌++◌, ◌∷◌, [], false, length, bytes_eq, IfOk, OnOk};
 ghost use Rattle.std.specs.List.{list_any};
 ghost use Rattle.serde_json.specs.View.{view, items_view};
-ghost use Rattle.cu_read.specs.Faults.{Reads};
+ghost use Rattle.cu_read.specs.Faults.{GivesAs};
 ghost use Rattle.cu_read.specs.Node.{node_in};
-ghost use Rattle.cu_read.specs.Read.{at_node, ids_of, nodes_after, AreNodes};
+ghost use Rattle.cu_read.specs.Read.{answer_at, ids_of, nodes_after, AreNodes};
 
 use crate::faults::{NodeRefused, ReadFault, ReadRefused};
 use crate::ids::Ids;
@@ -51,7 +51,7 @@ impl Nodes {
 
 /// The node that comes after those with these ids, a fault with its number.
 fn next_node(alloc: Global, ids: &Ids, value: &Value) -> Result<Node, ReadRefused>
-    ensures node { Reads (λ n. n) result (at_node (length ids.now) (node_in ids.now (view value.now))) }
+    ensures node { GivesAs (λ n. n) result (answer_at (length ids.now) (node_in ids.now (view value.now))) }
     ensures new { IfOk result (λ n. list_any (bytes_eq n.name) ids.now ≡ false) }
 {
     match node_in(alloc, ids, value) {
@@ -67,7 +67,7 @@ fn next_node(alloc: Global, ids: &Ids, value: &Value) -> Result<Node, ReadRefuse
 /// The nodes of a list, or the first fault.
 pub(crate) fn nodes_in(alloc: Global, items: &Vec<Value>) -> Result<Nodes, ReadRefused>
     requires { length items.now.items ≤ 256 }
-    ensures nodes { Reads (λ n. n.list.items) result (nodes_after [] (items_view items.now.items)) }
+    ensures nodes { GivesAs (λ n. n.list.items) result (nodes_after [] (items_view items.now.items)) }
     ensures ids { IfOk result (λ n. n.ids ≡ ids_of n.list.items) }
     ensures good { IfOk result (λ n. AreNodes n.list.items) }
 {

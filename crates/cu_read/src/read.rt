@@ -4,9 +4,9 @@ ghost use Rattle.std.specs.Result.{result_map_both};
 ghost use Rattle.serde_json.specs.Find.{as_array, as_str};
 ghost use Rattle.serde_json.specs.Read.{read};
 ghost use Rattle.serde_json.specs.View.{view, items_view};
-ghost use Rattle.cu_read.specs.Faults.{IfFault, Reads};
+ghost use Rattle.cu_read.specs.Faults.{IfFault, GivesAs};
 ghost use Rattle.cu_read.specs.Form.{HasForm};
-ghost use Rattle.cu_read.specs.Read.{whole_fault, ids_of, top_member, stored_of, listed_in, AreNodes, expression_in, expression_of};
+ghost use Rattle.cu_read.specs.Read.{whole_fault, ids_of, top_member, expression_with, listed_in, AreNodes, expression_in, expression_of};
 
 use crate::faults::{ReadFault, ReadRefused};
 use crate::members::named;
@@ -95,7 +95,7 @@ fn top_text<'v>(value: &'v Value, name: &str) -> Result<&'v str, ReadFault>
 }
 
 fn expression_in(alloc: Global, value: &Value) -> Result<Expr, ReadRefused>
-    ensures { Reads (λ e. e) result (expression_in (view value.now)) }
+    ensures { GivesAs (λ e. e) result (expression_in (view value.now)) }
 {
     if !is_object_of(value, 3) {
         return Err(ReadRefused::Fault(whole_fault(NO_FORM)));
@@ -112,22 +112,22 @@ fn listed_in(
     out: &str,
     store_as: &str,
 ) -> Result<Expr, ReadRefused>
-    ensures { Reads (λ e. e) result (listed_in (items_view items.now.items) out.now store_as.now) }
+    ensures { GivesAs (λ e. e) result (listed_in (items_view items.now.items) out.now store_as.now) }
 {
     if items.len() > MOST_NODES {
         return Err(ReadRefused::Fault(whole_fault(TOO_LONG)));
     }
     match nodes_in(alloc, items) {
-        Ok(nodes) => stored_of(nodes, out, store_as),
+        Ok(nodes) => expression_with(nodes, out, store_as),
         Err(refused) => Err(refused),
     }
 }
 
 /// The expression of these nodes, of which `out` is stored under the name `store_as`.
-fn stored_of(nodes: Nodes, out: &str, store_as: &str) -> Result<Expr, ReadRefused>
+fn expression_with(nodes: Nodes, out: &str, store_as: &str) -> Result<Expr, ReadRefused>
     requires nodes { AreNodes nodes.list.items }
     requires ids { nodes.ids ≡ ids_of nodes.list.items }
-    ensures { Reads (λ e. e) result (stored_of nodes.list.items nodes.ids out.now store_as.now) }
+    ensures { GivesAs (λ e. e) result (expression_with nodes.list.items nodes.ids out.now store_as.now) }
 {
     let Nodes { list, ids } = nodes;
     let Some(number) = ids.find(out) else {

@@ -19,11 +19,11 @@ use Rattle.cu_state.specs.Left.{IsLeft, AreDone}
 use Rattle.cu_state.specs.Pieces.{PlanRun, Text, Chunk, HoldsPiece, IsComplete}
 use Rattle.cu_state.proofs.Elements.{HaveRanges, element_held}
 
-input_or_made : (m : Option ℕ) → (m ≡ None) ⊎ ((k : ℕ) × (m ≡ Some k))
+pub input_or_made : (m : Option ℕ) → (m ≡ None) ⊎ ((k : ℕ) × (m ≡ Some k))
 input_or_made None = inl refl
 input_or_made (Some k) = inr (k, refl)
 
-not_none : (m : Option ℕ) (k : ℕ) → m ≡ Some k → m ≢ None
+pub not_none : (m : Option ℕ) (k : ℕ) → m ≡ Some k → m ≢ None
 not_none m k e none = cc
 
 maker_before : (m : Option ℕ) (number k : ℕ) → m ≡ Some k → IsBefore m number → k < number
@@ -45,20 +45,21 @@ module _ (ranges : HaveRanges) (r : PlanRun) (env : Elements) (shown : Shown) (l
       ]
 
   -- the makers of what it reads are operations before its own
+  pub made_held : (before : ℕ) → AreDone r env k before shown → (c : Cell) → Contains (read_chunks r.plan.arrays (op_of r.plan k) task) c → maker_at r.plan.arrays c.array ≢ None
+      → HoldsPiece r env (Chunk c) shown
+  made_held before done c listed made =
+      let fit = fit_of r.plan left.sound k operation in
+      let chunk = read_array r.plan left.sound k (op_of r.plan k) fit task c number listed in
+      let readable = All-contains (IsReadable r.plan.arrays k) (reads_of (op_of r.plan k)) c.array fit.0 chunk.0 in
+      elim (input_or_made (maker_at r.plan.arrays c.array)) [
+        | inl given ↦ absurd (made given)
+        | inr maker ↦
+            let w = task_for r.plan left.sound maker.0 c.array c.coord (record { within = chunk.1.0; made = made; coordinate = chunk.1.1 }) maker.1 in
+            done maker.0 (task_at r.plan.arrays (op_of r.plan maker.0) c) (w.operation, w.number, inl (maker_before (maker_at r.plan.arrays c.array) k maker.0 maker.1 readable.1)) c w.cell
+      ]
+
   pub ready_after : (before : ℕ) → AreDone r env k before shown → IsReady r.plan k task env left.held
-  ready_after before done = task_ready held
-    where
-      held : (c : Cell) → Contains (read_chunks r.plan.arrays (op_of r.plan k) task) c → maker_at r.plan.arrays c.array ≢ None → HoldsPiece r env (Chunk c) shown
-      held c listed made =
-          let fit = fit_of r.plan left.sound k operation in
-          let chunk = read_array r.plan left.sound k (op_of r.plan k) fit task c number listed in
-          let readable = All-contains (IsReadable r.plan.arrays k) (reads_of (op_of r.plan k)) c.array fit.0 chunk.0 in
-          elim (input_or_made (maker_at r.plan.arrays c.array)) [
-            | inl given ↦ absurd (made given)
-            | inr maker ↦
-                let w = task_for r.plan left.sound maker.0 c.array c.coord (record { within = chunk.1.0; made = made; coordinate = chunk.1.1 }) maker.1 in
-                done maker.0 (task_at r.plan.arrays (op_of r.plan maker.0) c) (w.operation, w.number, inl (maker_before (maker_at r.plan.arrays c.array) k maker.0 maker.1 readable.1)) c w.cell
-          ]
+  ready_after before done = task_ready (made_held before done)
 
 -- each piece is held where the texts are and all tasks are done
 pub all_held : (r : PlanRun) (env : Elements) (shown : Shown) → Sound r.plan → ((n : ℕ) → n < length r.texts → HoldsPiece r env (Text n) shown) → AreDone r env (length r.plan.ops) 0 shown

@@ -1,6 +1,7 @@
 //! The program's one call.
 ghost use Rattle.std.specs.Prelude.{◌≡◌, ℕ, ◌^◌, ◌≤◌, List, Some, map, string_bytes};
 ghost use Rattle.cu_store.specs.Held.{Contents};
+ghost use Rattle.cu_command.specs.Seen.{stream, seen};
 ghost use Rattle.cu_load.specs.Load.{Loaded};
 ghost use Rattle.cu_print.specs.Print.{Printed};
 ghost use Rattle.cu_top.specs.Call.{Tells};
@@ -32,8 +33,8 @@ pub fn top<R: Source, W: Sink, D: Depot>(
     // When each answer comes, and what it leaves.
     ensures answer { Tells (command_of (map string_bytes words.now)) (IsUntouched (D.shown depot.old).held (D.shown depot.new).held (D.shown depot.old).late (D.shown depot.new).late × (R.left src.new ≡ R.left src.old) × (W.written out.new ≡ W.written out.old))
         (λ options status. RunTells (R.left src.old) (R.left src.new) (R.faults src.old) (R.faults src.new) (D.shown depot.old).held (D.shown depot.new).held (D.shown depot.old).late (D.shown depot.new).late (RanSo options (D.shown depot.old).held (D.shown depot.new).held (D.shown depot.old).late (D.shown depot.new).late (D.shown depot.old).faults (D.shown depot.new).faults (W.faults out.old) (W.faults out.new) (W.written out.old) (W.written out.new)) status × PrintsOnly status (W.written out.old) (W.written out.new))
-        (λ retries. Loaded retries (R.left src.old) (R.left src.new) (R.faults src.old) (R.faults src.new) (D.shown depot.old).held (D.shown depot.new).held (D.shown depot.old).late (D.shown depot.new).late (D.shown depot.old).faults (D.shown depot.new).faults (W.faults out.old) (W.faults out.new) (W.written out.old) (W.written out.new))
-        (λ name retries status. Printed retries name (D.shown depot.old).held (D.shown depot.new).held (D.shown depot.old).late (D.shown depot.new).late (D.shown depot.old).faults (D.shown depot.new).faults (W.faults out.old) (W.faults out.new) (W.written out.old) (W.written out.new) status × (R.left src.new ≡ R.left src.old))
+        (λ retries. Loaded retries (stream (R.left src.old) (R.faults src.old)) (stream (R.left src.new) (R.faults src.new)) (seen (stream (W.written out.old) (W.faults out.old)) (D.shown depot.old)) (seen (stream (W.written out.new) (W.faults out.new)) (D.shown depot.new)))
+        (λ name retries status. Printed retries name (seen (stream (W.written out.old) (W.faults out.old)) (D.shown depot.old)) (seen (stream (W.written out.new) (W.faults out.new)) (D.shown depot.new)) status × (R.left src.new ≡ R.left src.old))
         result }
     // Where a run is accepted, nothing is in the way and no count of faults rises, it is carried out, or memory is wanted.
     ensures complete { (text : List ℕ) (entry : Contents) → R.left src.old ≡ Some text → (D.shown depot.old).held ≡ Some entry → IsServable (map string_bytes words.now) text entry (D.shown depot.old).late
@@ -53,8 +54,8 @@ fn carry<R: Source, W: Sink, D: Depot>(
     // When each answer comes, and what it leaves.
     ensures answer { Tells (command_of (map string_bytes words.now)) (IsUntouched (D.shown depot.old).held (D.shown depot.new).held (D.shown depot.old).late (D.shown depot.new).late × (R.left src.new ≡ R.left src.old) × (W.written out.new ≡ W.written out.old))
         (λ options status. RunTells (R.left src.old) (R.left src.new) (R.faults src.old) (R.faults src.new) (D.shown depot.old).held (D.shown depot.new).held (D.shown depot.old).late (D.shown depot.new).late (RanSo options (D.shown depot.old).held (D.shown depot.new).held (D.shown depot.old).late (D.shown depot.new).late (D.shown depot.old).faults (D.shown depot.new).faults (W.faults out.old) (W.faults out.new) (W.written out.old) (W.written out.new)) status × PrintsOnly status (W.written out.old) (W.written out.new))
-        (λ retries. Loaded retries (R.left src.old) (R.left src.new) (R.faults src.old) (R.faults src.new) (D.shown depot.old).held (D.shown depot.new).held (D.shown depot.old).late (D.shown depot.new).late (D.shown depot.old).faults (D.shown depot.new).faults (W.faults out.old) (W.faults out.new) (W.written out.old) (W.written out.new))
-        (λ name retries status. Printed retries name (D.shown depot.old).held (D.shown depot.new).held (D.shown depot.old).late (D.shown depot.new).late (D.shown depot.old).faults (D.shown depot.new).faults (W.faults out.old) (W.faults out.new) (W.written out.old) (W.written out.new) status × (R.left src.new ≡ R.left src.old))
+        (λ retries. Loaded retries (stream (R.left src.old) (R.faults src.old)) (stream (R.left src.new) (R.faults src.new)) (seen (stream (W.written out.old) (W.faults out.old)) (D.shown depot.old)) (seen (stream (W.written out.new) (W.faults out.new)) (D.shown depot.new)))
+        (λ name retries status. Printed retries name (seen (stream (W.written out.old) (W.faults out.old)) (D.shown depot.old)) (seen (stream (W.written out.new) (W.faults out.new)) (D.shown depot.new)) status × (R.left src.new ≡ R.left src.old))
         result }
 {
     let asked = match read_words(words) {

@@ -5,7 +5,7 @@ use Rattle.std.proofs.lemmas.List.{get_or-drop, length-drop}
 use Rattle.std.proofs.lemmas.List.FromFn.{get_or-map-range_with_len}
 use Rattle.cu_node.specs.declared.info.NodeInfo.{NodeInfo}
 use Rattle.cu_op.specs.Operation.{IsAlignedAlong, IsAligned}
-use Rattle.cu_typing.specs.Accepted.{GoesInto, aligned_grid, grid_of}
+use Rattle.cu_typing.specs.Accepted.{GoesInto, aligned_grid, result_grid}
 use Rattle.cu_typing.specs.Joined.{lead_of, fills, aligned_on, aligned_chunk}
 use Rattle.cu_typing.proofs.Chunks.{length-aligned_chunk}
 
@@ -45,7 +45,7 @@ axis_aligned shape chunk i k goes =
       ]
     ]
 
-pub aligned_is_aligned : (result i : NodeInfo) → length result.chunk ≡ length result.dims → GoesInto i.dims result.dims → IsAligned (aligned_grid result i) (grid_of result)
+pub aligned_is_aligned : (result i : NodeInfo) → length result.chunk ≡ length result.dims → GoesInto i.dims result.dims → IsAligned (aligned_grid result i) (result_grid result)
 aligned_is_aligned result i ranks goes = record {
   rank = goes.rank;
   axes = along_from i.dims (aligned_chunk result.dims result.chunk i) (drop lead result.dims) (drop lead result.chunk) (length-aligned_chunk result.dims result.chunk i)

@@ -9,7 +9,7 @@ use Rattle.cu_shape.proofs.InsideBoth.{length-broadcast_of}
 use Rattle.cu_shape.proofs.Broadcasts.{length-aligned, none_apart}
 use Rattle.cu_node.specs.declared.info.NodeInfo.{NodeInfo}
 use Rattle.cu_typing.specs.Accepted.{GoesInto}
-use Rattle.cu_typing.specs.Joined.{rank_of_all, joined_with, joined_after, joined_shape}
+use Rattle.cu_typing.specs.Joined.{joined_rank, joined_with, joined_after, joined_shape}
 use Rattle.cu_typing.proofs.Together.{joined_two}
 
 get_or-sizes_of : (A B : List ℕ) (k : ℕ) → k < length A → k < length B → get_or (sizes_of A B) k 0 ≡ size_of (get_or A k 0) (get_or B k 0)
@@ -122,4 +122,4 @@ all_go_into shape (i ∷ is) joined h =
     )
 
 pub joined_go_into : (is : List NodeInfo) (joined : List ℕ) → joined_shape is ≡ Ok joined → All (λ i. GoesInto i.dims joined) is
-joined_go_into is joined h = (all_go_into (replicate (rank_of_all is) 1) is joined h).1
+joined_go_into is joined h = (all_go_into (replicate (joined_rank is) 1) is joined h).1

@@ -25,7 +25,7 @@ use Rattle.cu_node.specs.declared.faults.NodeFault.{NodeFault}
 use Rattle.cu_node.specs.declared.info.NodeInfo.{NodeInfo}
 use Rattle.cu_op.specs.KernelTypes.{Operand, Typed, Literal as Number, Accepts1, Accepts2, IsArgument, HaveType, KernelFits}
 use Rattle.cu_typing.specs.Joined.{arrays_of}
-use Rattle.cu_typing.specs.Kernel.{number_of, kernel_of, types_of}
+use Rattle.cu_typing.specs.Kernel.{written_number, kernel_of, types_of}
 use Rattle.cu_typing.specs.Types.{may_be, accepts_arguments, suits, met_type, pair_type, array_type, shared_type, result_type}
 use Rattle.cu_typing.specs.declared.argument.Argument.{Argument}
 use Rattle.cu_typing.specs.declared.argument.Argument.TheVariants.{Array, Written}
@@ -156,17 +156,17 @@ accepted_promoted two.LogicalXor a b t p g h = promoted_truth a b t p g h
 -- what the instruction of an argument gives
 abbrev operand : Argument → Operand
 operand (Array i) = Typed i.dtype
-operand (Written v) = Number (number_of v)
+operand (Written v) = Number (written_number v)
 
 in_range_true : (t : Dtype) (x : ℤ) → in_range t x ≡ true → InRange t x
 in_range_true t x h = search rules
 
-suits_in_range : (t : Dtype) (v : Literal) → suits t v ≡ true → InRange t (number_of v)
+suits_in_range : (t : Dtype) (v : Literal) → suits t v ≡ true → InRange t (written_number v)
 suits_in_range t (Int x) h = in_range_true t x (and_parts _ _ h).1
 suits_in_range t (Truth true) h = rw (truth_type t h) (omega (arith, ints), omega (arith, ints))
 suits_in_range t (Truth false) h = rw (truth_type t h) (omega (arith, ints), omega (arith, ints))
 
-met : (d t : Dtype) (v : Literal) → met_type d v ≡ Ok t → (d ≡ t) × InRange t (number_of v) × (suits d v ≡ true)
+met : (d t : Dtype) (v : Literal) → met_type d v ≡ Ok t → (d ≡ t) × InRange t (written_number v) × (suits d v ≡ true)
 met d t v h =
     let s = check_step_ok (suits d v) (fault Scalar) (λ _. Ok d) t h in
     let value : Dtype → Result Dtype NodeFault = λ x. Ok x in
@@ -196,14 +196,14 @@ cast_fits d a t = (Typed a.dtype, (a.dtype, refl, refl), (Typed d, (a.dtype, ref
 
 two_fits : (f : Fn2) (x y : Argument) (t : Dtype) → HaveType (operand x) (operand y) t → accepts2 f t ≡ true → KernelFits (kernel_of (Two f) t (x ∷ y ∷ [])) (types_of (arrays_of (x ∷ y ∷ []))) [] (result_type2 f t)
 two_fits f (Array a) (Array b) t h g = (Typed a.dtype, (a.dtype, refl, refl), (Typed b.dtype, (b.dtype, refl, refl), (Typed (result_type2 f t), (Typed a.dtype, Typed b.dtype, refl, refl, h, accepted2 f t g, refl), refl)))
-two_fits f (Array a) (Written v) t h g = (Typed a.dtype, (a.dtype, refl, refl), (Number (number_of v), refl, (Typed (result_type2 f t), (Typed a.dtype, Number (number_of v), refl, refl, h, accepted2 f t g, refl), refl)))
-two_fits f (Written v) (Array b) t h g = (Number (number_of v), refl, (Typed b.dtype, (b.dtype, refl, refl), (Typed (result_type2 f t), (Number (number_of v), Typed b.dtype, refl, refl, h, accepted2 f t g, refl), refl)))
+two_fits f (Array a) (Written v) t h g = (Typed a.dtype, (a.dtype, refl, refl), (Number (written_number v), refl, (Typed (result_type2 f t), (Typed a.dtype, Number (written_number v), refl, refl, h, accepted2 f t g, refl), refl)))
+two_fits f (Written v) (Array b) t h g = (Number (written_number v), refl, (Typed b.dtype, (b.dtype, refl, refl), (Typed (result_type2 f t), (Number (written_number v), Typed b.dtype, refl, refl, h, accepted2 f t g, refl), refl)))
 two_fits f (Written v) (Written w) t h g = absurd h
 
 where_fits : (c : NodeInfo) (x y : Argument) (t : Dtype) → c.dtype ≡ Bool → HaveType (operand x) (operand y) t → KernelFits (kernel_of Where t (Array c ∷ x ∷ y ∷ [])) (types_of (arrays_of (Array c ∷ x ∷ y ∷ []))) [] t
 where_fits c (Array a) (Array b) t e h = (Typed c.dtype, (c.dtype, refl, refl), (Typed a.dtype, (a.dtype, refl, refl), (Typed b.dtype, (b.dtype, refl, refl), (Typed t, (Typed a.dtype, Typed b.dtype, t, ap (λ d. Some (Typed d)) e, refl, refl, h, refl), refl))))
-where_fits c (Array a) (Written v) t e h = (Typed c.dtype, (c.dtype, refl, refl), (Typed a.dtype, (a.dtype, refl, refl), (Number (number_of v), refl, (Typed t, (Typed a.dtype, Number (number_of v), t, ap (λ d. Some (Typed d)) e, refl, refl, h, refl), refl))))
-where_fits c (Written v) (Array b) t e h = (Typed c.dtype, (c.dtype, refl, refl), (Number (number_of v), refl, (Typed b.dtype, (b.dtype, refl, refl), (Typed t, (Number (number_of v), Typed b.dtype, t, ap (λ d. Some (Typed d)) e, refl, refl, h, refl), refl))))
+where_fits c (Array a) (Written v) t e h = (Typed c.dtype, (c.dtype, refl, refl), (Typed a.dtype, (a.dtype, refl, refl), (Number (written_number v), refl, (Typed t, (Typed a.dtype, Number (written_number v), t, ap (λ d. Some (Typed d)) e, refl, refl, h, refl), refl))))
+where_fits c (Written v) (Array b) t e h = (Typed c.dtype, (c.dtype, refl, refl), (Number (written_number v), refl, (Typed b.dtype, (b.dtype, refl, refl), (Typed t, (Number (written_number v), Typed b.dtype, t, ap (λ d. Some (Typed d)) e, refl, refl, h, refl), refl))))
 where_fits c (Written v) (Written w) t e h = absurd h
 
 own_type : (a : NodeInfo) (t : Dtype) → array_type (Array a) ≡ Ok t → a.dtype ≡ t

@@ -4,6 +4,7 @@ mod Examples
 pub mod GoingInto
 pub mod Kernels
 pub mod Passed
+pub mod PassedTogether
 pub mod ProductSizes
 pub mod ReducedSizes
 pub mod Together

@@ -14,7 +14,7 @@ use Rattle.cu_node.specs.declared.faults.FaultCode.TheVariants.{Kind}
 use Rattle.cu_node.specs.declared.faults.NodeFault.{NodeFault}
 use Rattle.cu_node.specs.declared.info.NodeInfo.{NodeInfo}
 use Rattle.cu_op.specs.Operation.{IsAligned}
-use Rattle.cu_typing.specs.Accepted.{GoesInto, aligned_grid, grid_of, IsElementwise}
+use Rattle.cu_typing.specs.Accepted.{GoesInto, aligned_grid, result_grid, IsElementwise}
 use Rattle.cu_typing.specs.Elementwise.{joined_array, typed_elementwise}
 use Rattle.cu_typing.specs.Joined.{arrays_of, joined_shape, joined_chunk, aligned_chunk, aligned_within}
 use Rattle.cu_typing.specs.Types.{accepts_arguments, shared_type, result_type, typed_elements}
@@ -45,7 +45,7 @@ passed_with op args t shape accepted shared joined within =
       shape = joined;
       chunk = refl;
       broadcast = go;
-      aligned = All-weaker (λ i. GoesInto i.dims shape) (λ i. IsAligned (aligned_grid result i) (grid_of result)) (λ i g. aligned_is_aligned result i (length-joined_chunk shape (arrays_of args)) g) (arrays_of args) go;
+      aligned = All-weaker (λ i. GoesInto i.dims shape) (λ i. IsAligned (aligned_grid result i) (result_grid result)) (λ i g. aligned_is_aligned result i (length-joined_chunk shape (arrays_of args)) g) (arrays_of args) go;
       within = AllPass-from_list_all (λ i. is_chunk_within i.dtype (aligned_chunk shape (joined_chunk shape (arrays_of args)) i)) (arrays_of args) within;
       kernel = kernel_fits op args t accepted shared;
     }

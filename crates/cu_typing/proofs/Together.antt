@@ -5,14 +5,14 @@ use Rattle.cu_result.proofs.ResultSteps.{step_ok}
 use Rattle.cu_shape.specs.Broadcast.{mismatch_of, broadcast_of, rank_of}
 use Rattle.cu_shape.proofs.InsideBoth.{length-broadcast_of}
 use Rattle.cu_node.specs.declared.info.NodeInfo.{NodeInfo}
-use Rattle.cu_typing.specs.Joined.{rank_of_all, joined_or, joined_with, joined_after, joined_shape}
+use Rattle.cu_typing.specs.Joined.{joined_rank, joined_or, joined_with, joined_after, joined_shape}
 
 -- a shape that is joined with another broadcasts with it
 pub joined_two : (o : Option ℕ) (shape joined : List ℕ) → joined_or o shape ≡ Ok joined → (o ≡ None) × (joined ≡ shape)
 joined_two None shape joined h = (refl, cc)
 joined_two (Some axis) shape joined h = cc
 
-rank_after : (shape : List ℕ) (is : List NodeInfo) (joined : List ℕ) → joined_after shape is ≡ Ok joined → length joined ≡ max (length shape) (rank_of_all is)
+rank_after : (shape : List ℕ) (is : List NodeInfo) (joined : List ℕ) → joined_after shape is ≡ Ok joined → length joined ≡ max (length shape) (joined_rank is)
 rank_after shape [] joined h = let e : joined ≡ shape = cc in rw e (omega arith)
 rank_after shape (i ∷ is) joined h =
     let s = step_ok (joined_with shape i.dims) (λ joined. joined_after joined is) joined h in
@@ -22,8 +22,8 @@ rank_after shape (i ∷ is) joined h =
     omega arith
 
 -- the result has the greatest rank
-pub length-joined_shape : (is : List NodeInfo) (joined : List ℕ) → joined_shape is ≡ Ok joined → length joined ≡ rank_of_all is
+pub length-joined_shape : (is : List NodeInfo) (joined : List ℕ) → joined_shape is ≡ Ok joined → length joined ≡ joined_rank is
 length-joined_shape is joined h =
-    let rank = rank_of_all is in
+    let rank = joined_rank is in
     let same : max rank rank ≡ rank = omega arith in
     rank_after (replicate rank 1) is joined h ∙ (ap (λ n. max n rank) (length-replicate rank 1) ∙ same)

@@ -1,14 +1,20 @@
 -- What an accepted node's arguments have passed.
-use Rattle.std.specs.Prelude.{◌≡◌, ℕ, ◌+◌, ◌-◌, ◌<◌, ◌≤◌, ◌⊎◌, true, List, [], length, slice_index, All, Ok}
+use Rattle.std.specs.Prelude.{◌≡◌, ℕ, ◌+◌, ◌-◌, ◌<◌, ◌≤◌, ◌==◌, ◌&&◌, ◌⊎◌, Bool, true, false, ℤ, List, [], length, slice_index, All, Option, Some, Ok}
+use Rattle.cu_num.specs.Dtype.{is_integer}
+use Rattle.cu_num.specs.Promotion.{promotion}
 use Rattle.cu_num.specs.declared.types.Dtype.{Dtype}
+use Rattle.cu_shape.specs.Index.{product}
 use Rattle.cu_form.specs.declared.form.ElementOp.{ElementOp}
 use Rattle.cu_grid.specs.Grid.{RegularGrid}
+use Rattle.cu_node.specs.Info.{info_of}
 use Rattle.cu_node.specs.Limited.{is_chunk_within}
 use Rattle.cu_node.specs.declared.info.NodeInfo.{NodeInfo}
 use Rattle.cu_op.specs.KernelTypes.{KernelFits}
 use Rattle.cu_op.specs.Operation.{IsAligned}
 use Rattle.cu_typing.specs.Joined.{arrays_of, joined_shape, joined_chunk, aligned_chunk}
 use Rattle.cu_typing.specs.Kernel.{kernel_of, types_of}
+use Rattle.cu_typing.specs.Matmul.{left_inner, right_inner, leading_arrays, left_aligned, right_aligned, product_shape, product_chunk}
+use Rattle.cu_typing.specs.Reduction.{Rule, marks_of, reduced_sizes, kept_sizes}
 use Rattle.cu_typing.specs.Types.{accepts_arguments, shared_type, result_type}
 use Rattle.cu_typing.specs.declared.argument.Argument.{Argument}
 
@@ -21,8 +27,8 @@ pub record GoesInto (shape result : List ℕ) : Type 0 where
 abbrev pub aligned_grid : NodeInfo → NodeInfo → RegularGrid
 aligned_grid result i = record { shape = i.dims; chunk = aligned_chunk result.dims result.chunk i }
 
-abbrev pub grid_of : NodeInfo → RegularGrid
-grid_of i = record { shape = i.dims; chunk = i.chunk }
+abbrev pub result_grid : NodeInfo → RegularGrid
+result_grid i = record { shape = i.dims; chunk = i.chunk }
 
 -- what the arguments of an elementwise function have passed whose type is t together
 pub record IsElementwise (op : ElementOp) (args : List Argument) (t : Dtype) (result : NodeInfo) : Type 0 where
@@ -32,6 +38,28 @@ pub record IsElementwise (op : ElementOp) (args : List Argument) (t : Dtype) (re
   pub shape : joined_shape (arrays_of args) ≡ Ok result.dims
   pub chunk : result.chunk ≡ joined_chunk result.dims (arrays_of args)
   pub broadcast : All (λ i. GoesInto i.dims result.dims) (arrays_of args)
-  pub aligned : All (λ i. IsAligned (aligned_grid result i) (grid_of result)) (arrays_of args)
+  pub aligned : All (λ i. IsAligned (aligned_grid result i) (result_grid result)) (arrays_of args)
   pub within : All (λ i. is_chunk_within i.dtype (aligned_chunk result.dims result.chunk i) ≡ true) (arrays_of args)
   pub kernel : KernelFits (kernel_of op t args) (types_of (arrays_of args)) [] result.dtype
+
+-- what a reduction's argument has passed, whose reduced axes are these
+pub record IsReduction (rule : Rule) (axes : Option (List ℤ)) (keepdims : Bool) (i : NodeInfo) (marks : List Bool) (result : NodeInfo) : Type 0 where
+  pub accepted : rule.accepts ≡ true
+  pub named : marks_of (length i.dims) axes ≡ Some marks
+  pub elements : (rule.needs_element && product (reduced_sizes i.dims marks) == 0) ≡ false
+  pub array : result ≡ info_of rule.dtype (kept_sizes keepdims i.dims marks) (kept_sizes keepdims i.chunk marks)
+
+-- what the operands of a matrix product have passed, whose leading axes have these sizes together
+pub record IsProduct (l r : NodeInfo) (t : Dtype) (lead : List ℕ) (result : NodeInfo) : Type 0 where
+  pub left_type : is_integer l.dtype ≡ true
+  pub right_type : is_integer r.dtype ≡ true
+  pub promoted : promotion l.dtype r.dtype ≡ Some t
+  pub left_rank : 0 < length l.dims
+  pub right_rank : 0 < length r.dims
+  pub leading : joined_shape (leading_arrays l r) ≡ Ok lead
+  pub broadcast : All (λ i. GoesInto i.dims lead) (leading_arrays l r)
+  pub inner : left_inner l.dims ≡ right_inner r.dims
+  pub short : length (product_shape lead l r) ≤ 5
+  pub left_within : is_chunk_within l.dtype (left_aligned lead l r) ≡ true
+  pub right_within : is_chunk_within r.dtype (right_aligned lead l r) ≡ true
+  pub array : result ≡ info_of t (product_shape lead l r) (product_chunk lead l r)

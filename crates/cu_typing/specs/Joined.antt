@@ -20,9 +20,9 @@ arrays_of (Written v ∷ xs) = arrays_of xs
 -- ---- the shape
 
 -- the rank of the result: the greatest
-abbrev pub rank_of_all : List NodeInfo → ℕ
-rank_of_all [] = 0
-rank_of_all (i ∷ is) = max (length i.dims) (rank_of_all is)
+abbrev pub joined_rank : List NodeInfo → ℕ
+joined_rank [] = 0
+joined_rank (i ∷ is) = max (length i.dims) (joined_rank is)
 
 -- two shapes broadcast; where they don't, the fault has the last axis of the result on which they differ
 abbrev pub joined_or : Option ℕ → List ℕ → Result (List ℕ) NodeFault
@@ -39,7 +39,7 @@ joined_after shape (i ∷ is) = joined_with shape i.dims >>= λ joined. joined_a
 
 -- The shape of the result. It begins with its rank, so that an axis of a fault is one of the result.
 abbrev pub joined_shape : List NodeInfo → Result (List ℕ) NodeFault
-joined_shape is = joined_after (replicate (rank_of_all is) 1) is
+joined_shape is = joined_after (replicate (joined_rank is) 1) is
 
 -- ---- the chunks
 

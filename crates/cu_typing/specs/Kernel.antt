@@ -13,16 +13,16 @@ use Rattle.cu_typing.specs.declared.argument.Argument.{Argument}
 use Rattle.cu_typing.specs.declared.argument.Argument.TheVariants.{Array, Written}
 
 -- a written value as a number
-abbrev pub number_of : Literal → ℤ
-number_of (Int x) = x
-number_of (Truth true) = pos 1
-number_of (Truth false) = pos 0
+abbrev pub written_number : Literal → ℤ
+written_number (Int x) = x
+written_number (Truth true) = pos 1
+written_number (Truth false) = pos 0
 
 -- the arguments, where `k` arrays come before them
 abbrev pub loads_from : ℕ → List Argument → List Instr
 loads_from k [] = []
 loads_from k (Array i ∷ xs) = instr.Load k ∷ loads_from (k + 1) xs
-loads_from k (Written v ∷ xs) = instr.Const (number_of v) ∷ loads_from k xs
+loads_from k (Written v ∷ xs) = instr.Const (written_number v) ∷ loads_from k xs
 
 -- the function of arguments that have the type t together
 abbrev pub function_of : ElementOp → Dtype → Instr

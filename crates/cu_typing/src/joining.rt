@@ -2,7 +2,7 @@
 
 ghost use Rattle.std.specs.Prelude.{◌≡◌, ◌≤◌, ◌<◌, ℕ, All, IfOk, Ok, length, max, slice_index, replicate};
 ghost use Rattle.cu_node.specs.Info.{IsInfo};
-ghost use Rattle.cu_typing.specs.Joined.{arrays_of, rank_of_all, joined_with, joined_shape, fills, chunk_on, joined_chunk, aligned_on, aligned_chunk, aligned_within};
+ghost use Rattle.cu_typing.specs.Joined.{arrays_of, joined_rank, joined_with, joined_shape, fills, chunk_on, joined_chunk, aligned_on, aligned_chunk, aligned_within};
 
 use crate::argument::Argument;
 use cu_node::{FaultCode, NodeFault, NodeInfo, fault_at, is_chunk_within, size_at};
@@ -21,7 +21,7 @@ pub(crate) fn join(a: &Dims, b: &Dims) -> Result<Dims, NodeFault>
 
 /// The greatest rank of the arrays.
 fn widest(args: &[Argument]) -> u32
-    ensures rank { result ≡ rank_of_all (arrays_of args.now) }
+    ensures rank { result ≡ joined_rank (arrays_of args.now) }
     ensures short { result ≤ 6 }
 {
     let mut rank = 0;
@@ -44,7 +44,7 @@ fn ones(rank: u32) -> Dims
 /// The shape to which the arrays broadcast.
 pub(crate) fn shape_joined(args: &[Argument]) -> Result<Dims, NodeFault>
     ensures shape { result ≡ joined_shape (arrays_of args.now) }
-    ensures rank { IfOk result (λ shape. length shape ≡ rank_of_all (arrays_of args.now)) }
+    ensures rank { IfOk result (λ shape. length shape ≡ joined_rank (arrays_of args.now)) }
 {
     let mut shape = ones(widest(args));
     for arg in args {

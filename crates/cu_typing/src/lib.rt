@@ -14,6 +14,6 @@ mod types;
 pub use argument::Argument;
 pub use elementwise::type_elementwise;
 pub use joining::chunk_aligned;
-pub use laws::elementwise_law;
+pub use laws::{elementwise_law, matmul_law, reduction_law};
 pub use matmul::type_matmul;
 pub use reduction::{type_arg_place, type_reduction};

@@ -1,30 +1,39 @@
 use Rattle.std.proofs.Common.{◌≡◌, ◌<◌, ℕ, subst, arith, sym}
-use Rattle.cu_load.specs.Load.{StoresChunks, chunks_in}
+use Rattle.cu_command.proofs.SeenLemmas.{stepped, stepped_then, stepped_wider}
+use Rattle.cu_command.specs.Seen.{Stepped}
+use Rattle.cu_load.specs.Load.{ChunksPut, HoldsChunks, chunks_in}
 use Rattle.cu_load.specs.LoadForm.{given_by}
-use Rattle.cu_load.proofs.StoreLemmas.{follows_next, follows_array, more_stored, chunk_fault}
+use Rattle.cu_load.proofs.StoreLemmas.{next_put, more_put, chunk_put, chunks_put, values_stay, more_stored, chunk_fault}
 use Rattle.cu_load.proofs.store.store_chunks.Goals as goal
 
 pub returns-in-Err-clause-failed : goal.returns-in-Err-clause-failed
-returns-in-Err-clause-failed g c late entry follows =
+returns-in-Err-clause-failed g c =
     let below : c.loop-number.number < chunks_in (given_by c.args.form.now) = omega (arith, c.count-number-end.ensures.count) in
-    chunk_fault _ (given_by c.args.form.now) c.loop-number.number _ _ _ _ entry _ late _ c.in-Err.status below c.loop-number.invariant.count
-    (follows_next (given_by c.args.form.now) c.loop-number.number late _ _ entry _ _ (c.loop-number.invariant.follows late entry follows) c.store_chunk.ensures.follows)
+    let so_far = c.loop-number.invariant.step in
+    chunk_fault _ (given_by c.args.form.now) c.loop-number.number (g.D.Depot.shown c.args.depot.now) (g.D.Depot.shown c.loop-number.depot) (g.D.Depot.shown c.store_chunk.new.depot) c.in-Err.status below so_far.step.count
+    (stepped_then (stepped_wider (more_put (given_by c.args.form.now) c.loop-number.number) so_far) (stepped_wider (next_put (given_by c.args.form.now) c.loop-number.number) (stepped c.store_chunk.ensures.step)))
     c.in-Err.ensures.cause
 
 pub loop-number-preserved : goal.loop-number-preserved
 loop-number-preserved g c =
     let below : c.loop-number.number < chunks_in (given_by c.args.form.now) = omega (arith, c.count-number-end.ensures.count) in
+    let so_far = c.loop-number.invariant.step in
     record {
-      follows = λ late entry follows.
-          follows_next (given_by c.args.form.now) c.loop-number.number late _ _ entry _ _ (c.loop-number.invariant.follows late entry follows) c.store_chunk.ensures.follows;
-      stored = λ late entry calm follows.
-          more_stored (given_by c.args.form.now) _ _ c.loop-number.number below
-          (c.store_chunk.ensures.stays late entry calm (follows_array (given_by c.args.form.now) c.loop-number.number late _ entry _ (omega arith) (c.loop-number.invariant.follows late entry follows)))
-          (c.loop-number.invariant.stored late entry calm follows) c.in_default.ensures.stored;
-      count = omega (arith, c.loop-number.invariant.count, c.store_chunk.ensures.count);
+      step = stepped_then (stepped_wider (more_put (given_by c.args.form.now) c.loop-number.number) so_far) (stepped_wider (next_put (given_by c.args.form.now) c.loop-number.number) (stepped c.store_chunk.ensures.step));
+      stored = λ calm.
+          more_stored (given_by c.args.form.now) (g.D.Depot.shown c.loop-number.depot).held (g.D.Depot.shown c.store_chunk.new.depot).held c.loop-number.number below
+          (values_stay (given_by c.args.form.now) (g.D.Depot.shown c.args.depot.now).late (g.D.Depot.shown c.loop-number.depot).late (g.D.Depot.shown c.loop-number.depot).held (g.D.Depot.shown c.store_chunk.new.depot).held
+          c.requires.given calm (stepped_wider (chunks_put (given_by c.args.form.now) c.loop-number.number (omega arith)) so_far).step.late
+          (stepped_wider (chunk_put (given_by c.args.form.now) c.loop-number.number below) (stepped c.store_chunk.ensures.step)).step.lands)
+          (c.loop-number.invariant.stored calm) c.in_default.ensures.stored;
     }
 
-pub returns-clause-stored : goal.returns-clause-stored
-returns-clause-stored g c late entry calm follows =
+pub returns-clause-step : goal.returns-clause-step
+returns-clause-step g c =
     let all : chunks_in (given_by c.args.form.now) ≡ c.loop-number.number = omega (arith, c.count-number-end.ensures.count) in
-    subst (λ (n : ℕ). StoresChunks (given_by c.args.form.now) (g.D.Depot.shown c.loop-number.depot).held n) (sym all) (c.loop-number.invariant.stored late entry calm follows)
+    subst (λ (n : ℕ). Stepped (ChunksPut (given_by c.args.form.now) n) (g.D.Depot.shown c.args.depot.now) (g.D.Depot.shown c.loop-number.depot)) (sym all) c.loop-number.invariant.step
+
+pub returns-clause-stored : goal.returns-clause-stored
+returns-clause-stored g c calm =
+    let all : chunks_in (given_by c.args.form.now) ≡ c.loop-number.number = omega (arith, c.count-number-end.ensures.count) in
+    subst (λ (n : ℕ). HoldsChunks (given_by c.args.form.now) (g.D.Depot.shown c.loop-number.depot).held n) (sym all) (c.loop-number.invariant.stored calm)

@@ -21,8 +21,8 @@ extents-requires g c =
 row_is : (g : Over) (c : After-row_of-row g) → c.row_of-row.result ≡ run_length c.args.info.now.layout.grid.shape
 row_is g c = c.row_of-row.ensures ∙ ap run_length c.shape-2.ensures.value
 
-read : (g : Over) (c : After-row_of-row g) → AreFrom c.args.info.now.prefix c.args.info.now.layout c.args.start (g.D.Depot.shown c.args.depot.now).held (g.D.Depot.shown c.args.depot.now).late (numbers_of c.args.info.now.layout.dtype c.read_run.new.out c.elements-count.result)
-read g c = run_elements c.args.info.now c.run_from-region.result.lo c.run_from-region.result.hi c.read_run.new.out (g.D.Depot.shown c.args.depot.now).held (g.D.Depot.shown c.args.depot.now).late
+read : (g : Over) (c : After-row_of-row g) → AreFrom c.args.info.now.prefix c.args.info.now.layout c.args.start (g.D.Depot.shown c.args.depot.now) (numbers_of c.args.info.now.layout.dtype c.read_run.new.out c.elements-count.result)
+read g c = run_elements c.args.info.now c.run_from-region.result.lo c.run_from-region.result.hi c.read_run.new.out (g.D.Depot.shown c.args.depot.now)
     c.args.start c.elements-count.result c.run_from-region.ensures.run c.requires.start
     (c.run_from-region.ensures.lo ∙ c.index_of.ensures.index ∙ ap (λ shape. index_at shape c.args.start) c.shape.ensures.value)
     (c.elements-count.ensures ∙ ap product c.extents.ensures) c.in-Ok.ensures.read

@@ -2,6 +2,7 @@ use Rattle.cu_num.specs.Dtype.{size_of}
 use Rattle.cu_region.specs.Reading.{IsChunkKey, IsReadFault, bytes_of, key_at}
 use Rattle.cu_region.proofs.Whole.{coordinates_small}
 use Rattle.cu_shape.specs.Index.{quotients}
+use Rattle.cu_command.proofs.SeenLemmas.{stepped, stepped_then}
 use Rattle.cu_print.specs.Runs.{IsTried}
 use Rattle.cu_print.proofs.RunReads.{limits_of, read_then, if_err, tried_once}
 use Rattle.cu_print.proofs.runs.read_once.Goals as goal
@@ -11,17 +12,20 @@ read_region-requires-clause-coordinates g c coord meets =
     coordinates_small c.args.info.now.layout.grid (size_of c.args.info.now.layout.dtype) c.args.region.now.lo c.args.region.now.hi coord (limits_of c.args.info.now.layout c.requires.shown.layout) meets
 
 pub returns-clause-read : goal.returns-clause-read
-returns-clause-read g c writes entry follows steady =
-    read_then c.read_region.result c.args.info.now c.args.region.now.lo c.args.region.now.hi c.read_region.new.out writes (g.D.Depot.shown c.args.depot.now).late (g.D.Depot.shown c.read_region.new.depot).late
-    entry (g.D.Depot.shown c.args.depot.now).held (g.D.Depot.shown c.read_region.new.depot).held c.shape-shape.ensures.kept c.requires.run.region follows (c.read_region.ensures.follows writes entry follows) steady c.read_region.ensures.read
+returns-clause-read g c entry before steady =
+    read_then c.read_region.result c.args.info.now c.args.region.now.lo c.args.region.now.hi c.read_region.new.out entry (g.D.Depot.shown c.args.depot.now) (g.D.Depot.shown c.read_region.new.depot)
+    c.shape-shape.ensures.kept c.requires.run.region before (stepped_then before (stepped c.read_region.ensures.step)) steady c.read_region.ensures.read
+
+pub returns-clause-step : goal.returns-clause-step
+returns-clause-step g c = stepped c.read_region.ensures.step
 
 pub returns-clause-cause : goal.returns-clause-cause
 returns-clause-cause g c =
     if_err c.read_region.result
     (IsReadFault (g.D.Depot.shown c.args.depot.now).faults (g.D.Depot.shown c.read_region.new.depot).faults (g.D.Depot.shown c.read_region.new.depot).lacks (g.D.Depot.shown c.read_region.new.depot).held
     (IsChunkKey c.args.info.now c.args.region.now.lo c.args.region.now.hi) (bytes_of c.args.info.now.layout))
-    (IsTried 1 (g.D.Depot.shown c.args.depot.now).faults (g.D.Depot.shown c.read_region.new.depot).faults c.args.info.now.layout (g.D.Depot.shown c.read_region.new.depot).held
+    (IsTried 1 (g.D.Depot.shown c.args.depot.now) (g.D.Depot.shown c.read_region.new.depot) c.args.info.now.layout
     (key_at c.args.info.now (quotients c.args.region.now.lo c.args.info.now.layout.grid.chunk)))
-    (λ e. tried_once c.args.info.now c.args.region.now.lo c.args.region.now.hi (g.D.Depot.shown c.args.depot.now).faults (g.D.Depot.shown c.read_region.new.depot).faults (g.D.Depot.shown c.read_region.new.depot).lacks (g.D.Depot.shown c.read_region.new.depot).held e
+    (λ e. tried_once c.args.info.now c.args.region.now.lo c.args.region.now.hi (g.D.Depot.shown c.args.depot.now) (g.D.Depot.shown c.read_region.new.depot) e
     c.shape-shape.ensures.kept c.requires.run)
     c.read_region.ensures.cause

@@ -9,8 +9,8 @@ returns-then-len-gt-MOST_NODES c =
 
 pub returns-in-Ok : goal.returns-in-Ok
 returns-in-Ok c =
-    listed_ok c.args.items.now.items c.args.out.now c.args.store_as.now c.in-Ok.nodes.list.items c.in-Ok.nodes.ids c.stored_of.result
-    (omega arith) c.in-Ok.ensures.nodes c.in-Ok.ensures.ids c.stored_of.ensures
+    listed_ok c.args.items.now.items c.args.out.now c.args.store_as.now c.in-Ok.nodes.list.items c.in-Ok.nodes.ids c.expression_with.result
+    (omega arith) c.in-Ok.ensures.nodes c.in-Ok.ensures.ids c.expression_with.ensures
 
 pub returns-in-Err : goal.returns-in-Err
 returns-in-Err c = listed_err c.args.items.now.items c.args.out.now c.args.store_as.now c.in-Err.refused (omega arith) c.in-Err.ensures.nodes

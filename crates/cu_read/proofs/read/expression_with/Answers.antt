@@ -1,6 +1,6 @@
 use Rattle.std.proofs.Common.{sym}
 use Rattle.cu_read.proofs.NodesRead.{is_stored}
-use Rattle.cu_read.proofs.read.stored_of.Goals as goal
+use Rattle.cu_read.proofs.read.expression_with.Goals as goal
 
 pub make-requires : goal.make-requires
 make-requires c =

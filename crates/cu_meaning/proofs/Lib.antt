@@ -1,0 +1,4 @@
+mod Examples
+pub mod Earlier
+pub mod Equation
+pub mod InType

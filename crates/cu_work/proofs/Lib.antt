@@ -1,0 +1,4 @@
+pub mod Driving
+pub mod Lent
+pub mod Asking
+pub mod Running

@@ -1,0 +1,4 @@
+pub mod Rooms
+pub mod Drive
+pub mod Order
+pub mod Run

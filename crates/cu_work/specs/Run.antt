@@ -1,0 +1,43 @@
+-- What is stored of a plan, in its order: its record, its metadata, its chunks (this project's own rule).
+use Rattle.std.specs.Prelude.{◌≡◌, ◌⊎◌, ℕ, ◌<◌, IsTrue, List, [], ◌∷◌, length}
+use Rattle.cu_store.specs.Faults.{Rose}
+use Rattle.cu_store.specs.Steps.{Shown, Changes, PutOf, Steps}
+use Rattle.cu_op.specs.PlanView.{PlanView}
+use Rattle.cu_op.specs.Value.{Elements}
+use Rattle.cu_state.specs.Pieces.{PlanRun, Text, text_at, HoldsPiece}
+use Rattle.cu_work.specs.declared.run.Texts.{Texts}
+use Rattle.cu_work.specs.declared.run.TextFault.{TextFault}
+use Rattle.cu_work.specs.declared.run.TextFault.TheVariants.{Failed, NoMemory}
+
+-- the plan and its texts: the record, and then the metadata
+abbrev pub run_of : PlanView → Texts → PlanRun
+run_of p t = record { plan = p; texts = (t.record_key, t.record.now) ∷ (t.metadata_key, t.metadata.now) ∷ [] }
+
+-- a put of one of the texts
+abbrev pub TextPut : Texts → Changes
+TextPut t key value = PutOf t.record_key t.record.now key value ⊎ PutOf t.metadata_key t.metadata.now key value
+
+-- Of the plan nothing but the record was put, or the record is held.
+abbrev pub IsRecordFirst : PlanRun → Elements → ℕ → Shown → Shown → Type 0
+IsRecordFirst r env most old new = Steps (PutOf (text_at r 0).0 (text_at r 0).1) 0 most old new ⊎ HoldsPiece r env (Text 0) new
+
+-- Where the calls for a text failed: for the record nothing else was put, and for the metadata the record is held. Where memory was
+-- wanting either is so.
+abbrev pub IsUnstored : PlanRun → Elements → ℕ → Shown → Shown → TextFault → Type 0
+IsUnstored r env tries old new (Failed key) =
+    ((key ≡ (text_at r 0).0) × Steps (PutOf (text_at r 0).0 (text_at r 0).1) 0 tries old new) ⊎ ((key ≡ (text_at r 1).0) × HoldsPiece r env (Text 0) new)
+IsUnstored r env tries old new NoMemory = IsRecordFirst r env tries old new
+
+-- both texts are held
+abbrev pub HoldsTexts : PlanRun → Elements → Shown → Type 0
+HoldsTexts r env shown = (n : ℕ) → n < length r.texts → HoldsPiece r env (Text n) shown
+
+-- why storing the texts ended: all calls for one of them failed, the count risen in each, or the store lacks memory
+abbrev pub IsTextFault : ℕ → Texts → Shown → Shown → TextFault → Type 0
+IsTextFault tries t old new (Failed key) = ((key ≡ t.record_key) ⊎ (key ≡ t.metadata_key)) × Rose tries old.faults new.faults
+IsTextFault tries t old new NoMemory = IsTrue new.lacks
+
+-- the same of one text
+abbrev pub IsPutFault : ℕ → List ℕ → Shown → Shown → TextFault → Type 0
+IsPutFault tries key old new (Failed failed) = (failed ≡ key) × Rose tries old.faults new.faults
+IsPutFault tries key old new NoMemory = IsTrue new.lacks

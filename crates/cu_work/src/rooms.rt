@@ -1,0 +1,65 @@
+//! The memory that tasks are lent.
+ghost use Rattle.std.specs.Prelude.{◌≡◌, ◌+◌, ◌*◌, ◌<◌, IfOk, length};
+ghost use Rattle.cu_op.specs.PlanView.{operation_at};
+ghost use Rattle.cu_op.specs.Schedule.{op_of};
+ghost use Rattle.cu_work.specs.Rooms.{bytes_of, words_of, rooms_of};
+
+use cu_op::Plan;
+use cu_store::NoMemory;
+use std::alloc::Global;
+use std::marker::Model;
+
+/// The memory of one worker: the most bytes and the most words that any task of a plan is lent. It is seen as how many there are
+/// of each.
+#[derive(Drop)]
+pub struct Rooms {
+    pub(crate) bytes: Vec<u8>,
+    pub(crate) words: Vec<u64>,
+}
+
+impl Model for Rooms {
+    ghost use Rattle.std.specs.Prelude.{length};
+    ghost use Rattle.cu_work.specs.Rooms.{RoomSizes};
+
+    ghost Value = { RoomSizes };
+
+    ghost view = { λ r. record { bytes = length r.bytes.items; words = length r.words.items } };
+}
+
+impl Rooms {
+    /// The memory for the tasks of the plan.
+    pub fn make(alloc: Global, plan: &Plan) -> Result<Rooms, NoMemory>
+        ensures { IfOk result (λ rooms. rooms ≡ rooms_of plan.now) }
+    {
+        let mut most_bytes = 0;
+        let mut most_words = 0;
+        for op in 0..plan.ops().len() as u32 {
+            most_bytes = task_bytes(plan, op).max(most_bytes);
+            most_words = task_words(plan, op).max(most_words);
+        }
+        let Ok(bytes) = vec![in alloc; 0u8; most_bytes] else {
+            return Err(NoMemory);
+        };
+        let Ok(words) = vec![in alloc; 0u64; most_words] else {
+            return Err(NoMemory);
+        };
+        Ok(Rooms { bytes, words })
+    }
+}
+
+/// The bytes that a task of the operation is lent, besides its words.
+pub(crate) fn task_bytes(plan: &Plan, op: u32) -> usize
+    requires { op < length plan.now.ops }
+    ensures { result ≡ bytes_of plan.now.arrays (op_of plan.now op) }
+{
+    let planned = plan.operation(op);
+    (planned.projected - plan.reserved() - 512 * u64::from(planned.op.steps())) as usize
+}
+
+/// The words that a task of the operation is lent.
+pub(crate) fn task_words(plan: &Plan, op: u32) -> usize
+    requires { op < length plan.now.ops }
+    ensures { result ≡ words_of (op_of plan.now op) }
+{
+    64 * plan.operation(op).op.steps() as usize
+}
