@@ -1,6 +1,6 @@
 -- What the tries of a task keep, and what the tasks that are done mean for the next.
 use Rattle.std.proofs.Common.{◌≡◌, ◌≢◌, ◌⊎◌, inl, inr, ℕ, zero, suc, ◌+◌, ◌*◌, ◌^◌, ◌<◌, ◌≤◌, List, [], ◌∷◌, length, take, sum_by, Contains, Option, Some, None, refl, ap, sym, ◌∙◌, subst, arith}
-use Rattle.std.proofs.Math.Nat.{mul-le-mul_left, mul-le-mul_right, mul-add}
+use Rattle.std.proofs.Math.Nat.{mul-le-mul_left, mul-le-mul_right, mul-add, add-mul}
 use Rattle.std.proofs.lemmas.Bool.{cases_lt}
 use Rattle.std.proofs.lemmas.List.{take_more}
 use Rattle.std.proofs.lemmas.List.Sums.{sum_by-append}
@@ -291,6 +291,28 @@ pub outcome_cause : (tries : ℕ) (p : PlanView) (first now new : Shown) (end : 
 outcome_cause tries p first now new ended.UsedUp op task operation number grew cause = (operation, number, omega (arith, grew, cause))
 outcome_cause tries p first now new (ended.BadChunk key got want) op task operation number grew cause = cause
 outcome_cause tries p first now new ended.Lacked op task operation number grew cause = cause
+
+-- ---- calls by the tries that failed
+
+-- a task more, of which so many tries failed
+pub calls_more : (first now new sum calls m failed more : ℕ) → calls ≤ m → now ≤ first + sum + failed * m → new ≤ now + (more + 1) * calls → new ≤ first + (sum + calls) + (failed + more) * m
+calls_more first now new sum calls m failed more most before step =
+    let a = one_more more calls in
+    let b : more * calls ≤ more * m = mul-le-mul_left more most in
+    let c : (failed + more) * m ≡ failed * m + more * m = add-mul failed more m in
+    omega (arith, before, step, a, b, c)
+
+-- an operation more
+pub calls_then : (first now new sum calls m failed more : ℕ) → now ≤ first + sum + failed * m → new ≤ now + calls + more * m → new ≤ first + (sum + calls) + (failed + more) * m
+calls_then first now new sum calls m failed more before step =
+    let c : (failed + more) * m ≡ failed * m + more * m = add-mul failed more m in
+    omega (arith, before, step, c)
+
+pub operation_calls_more : (p : PlanView) (k task : ℕ) → operation_calls p k (task + 1) ≡ operation_calls p k task + calls_of p k task
+operation_calls_more p k task = let e : task + 1 ≡ suc task = omega arith in ap (operation_calls p k) e
+
+pub plan_calls_more : (p : PlanView) (k : ℕ) → plan_calls p (k + 1) ≡ plan_calls p k + operation_calls p k (tasks_of p.arrays (op_of p k))
+plan_calls_more p k = let e : k + 1 ≡ suc k = omega arith in ap (plan_calls p) e
 
 -- ---- the operations
 

@@ -1,5 +1,5 @@
 -- The texts of a plan and then its chunks, one after another.
-use Rattle.std.proofs.Common.{inl, inr, ℕ, zero, suc, ◌+◌, ◌*◌, ◌≤◌, length, refl, arith}
+use Rattle.std.proofs.Common.{inl, inr, ℕ, zero, suc, ◌+◌, ◌*◌, length, refl, arith, ◌≤◌}
 use Rattle.std.proofs.Math.Nat.{mul-add}
 use Rattle.cu_store.specs.Held.{Holds}
 use Rattle.cu_store.specs.Steps.{Shown, PutOf, Within, Steps}
@@ -15,8 +15,8 @@ use Rattle.cu_work.specs.declared.outcome.Outcome.TheVariants.{Complete, Broken,
 use Rattle.cu_work.specs.declared.run.Texts.{Texts}
 use Rattle.cu_work.specs.declared.run.TextFault.{TextFault}
 use Rattle.cu_work.specs.declared.run.TextFault.TheVariants.{Failed, NoMemory}
-use Rattle.cu_work.specs.Drive.{IfComplete}
-use Rattle.cu_work.specs.Run.{run_of, TextPut, IsRecordFirst, HoldsTexts, IsTextFault, IsPutFault, IsUnstored}
+use Rattle.cu_work.specs.Drive.{IfComplete, IfTried}
+use Rattle.cu_work.specs.Run.{run_of, TextPut, IsRecordFirst, HoldsTexts, IsPutFault, IsUnstored}
 
 -- a put of a text is a put of a piece
 record_within : (p : PlanView) (t : Texts) (first : Shown) → Within (PutOf t.record_key t.record.now) (RunChange (run_of p t) first)
@@ -111,11 +111,8 @@ module _ (p : PlanView) (t : Texts) (tries : ℕ) (first after : Shown) (put : S
       run_complete env (BadChunk key got want) left done = tt
       run_complete env Lacked left done = tt
 
--- why the texts weren't stored
-pub record_fault : (tries : ℕ) (t : Texts) (old new : Shown) (f : TextFault) → IsPutFault tries t.record_key old new f → IsTextFault tries t old new f
-record_fault tries t old new (Failed key) (same, rose) = (inl same, rose)
-record_fault tries t old new NoMemory cause = cause
-
-pub metadata_fault : (tries : ℕ) (t : Texts) (first old new : Shown) (f : TextFault) → first.faults ≤ old.faults → IsPutFault tries t.metadata_key old new f → IsTextFault tries t first new f
-metadata_fault tries t first old new (Failed key) grew (same, rose) = (inr same, omega (arith, grew, rose))
-metadata_fault tries t first old new NoMemory grew cause = cause
+      pub run_tries : (m : ℕ) (o : Outcome) → IfTried o (λ failed. new.calls ≤ last.calls + calls + failed * m) → IfTried o (λ failed. new.calls ≤ first.calls + 2 * tries + calls + failed * m)
+      run_tries m (Complete failed) few = let a = put.calls.1 in let b = second.calls.1 in omega (arith, a, b, few)
+      run_tries m (Broken op task) few = tt
+      run_tries m (BadChunk key got want) few = tt
+      run_tries m Lacked few = tt

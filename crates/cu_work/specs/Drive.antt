@@ -39,6 +39,10 @@ abbrev pub plan_calls : PlanView → ℕ → ℕ
 plan_calls p zero = 0
 plan_calls p (suc n) = plan_calls p n + operation_calls p n (tasks_of p.arrays (op_of p n))
 
+-- no task of the plan makes more calls than these at one try
+abbrev pub IsTaskMost : PlanView → ℕ → Type 0
+IsTaskMost p m = (k task : ℕ) → k < length p.ops → task < tasks_of p.arrays (op_of p k) → calls_of p k task ≤ m
+
 -- how many tasks the plan has
 abbrev pub task_count : PlanView → ℕ
 task_count p = sum_by (λ o. tasks_of p.arrays o.op) p.ops
@@ -93,6 +97,11 @@ IsOutcome retries old new p outcome = IsEnd (retries + 1) old new p outcome
 abbrev pub IfComplete : Outcome → Type 0 → Type 0
 IfComplete (Complete failed) P = P
 IfComplete outcome P = Unit {0}
+
+-- a fact of the number of tries that failed, where all tasks were run
+abbrev pub IfTried : Outcome → (ℕ → Type 0) → Type 0
+IfTried (Complete failed) P = P failed
+IfTried outcome P = Unit {0}
 
 abbrev pub IfBroken : Outcome → (ℕ → ℕ → Type 0) → Type 0
 IfBroken (Broken op task) P = P op task

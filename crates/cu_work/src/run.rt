@@ -1,11 +1,11 @@
 //! Storing what a plan makes: its texts, and then its chunks.
-ghost use Rattle.std.specs.Prelude.{◌≡◌, ℕ, ◌+◌, ◌*◌, length, OnOk, IfOk, IfErr};
+ghost use Rattle.std.specs.Prelude.{◌≡◌, ℕ, ◌+◌, ◌*◌, ◌≤◌, length, OnOk, IfOk, IfErr};
 ghost use Rattle.cu_store.specs.Held.{Holds};
 ghost use Rattle.cu_store.specs.Steps.{PutOf, Steps};
 ghost use Rattle.cu_op.specs.Value.{Elements};
 ghost use Rattle.cu_state.specs.Left.{IsLeft, AreDone, RunChange};
 ghost use Rattle.cu_state.specs.Pieces.{chunks_alone, IsComplete};
-ghost use Rattle.cu_work.specs.Drive.{plan_calls, IsInputKey, IsOutcome, IfComplete, IfBroken, IfBad};
+ghost use Rattle.cu_work.specs.Drive.{plan_calls, IsInputKey, IsOutcome, IsTaskMost, IfComplete, IfTried, IfBroken, IfBad};
 ghost use Rattle.cu_work.specs.Rooms.{rooms_of};
 ghost use Rattle.cu_work.specs.Run.{run_of, TextPut, IsRecordFirst, HoldsTexts, IsTextFault, IsPutFault, IsUnstored};
 
@@ -81,6 +81,8 @@ pub fn run_plan<D: Depot>(
     ensures input { (env : Elements) → IsLeft (run_of plan.now texts.now) env (D.shown depot.old) → IfOk result (λ outcome. IfBad outcome (IsInputKey plan.now)) }
     ensures cause { IfErr result (IsTextFault (retries + 1) texts.now (D.shown depot.old) (D.shown depot.new)) }
     ensures outcome { IfOk result (IsOutcome retries (D.shown depot.old) (D.shown depot.new) plan.now) }
+    ensures tries { (m : ℕ) → IsTaskMost plan.now m → IfOk result (λ outcome. IfTried outcome (λ failed. (D.shown depot.new).calls
+        ≤ (D.shown depot.old).calls + 2 * (retries + 1) + plan_calls plan.now (length plan.now.ops) + failed * m)) }
 {
     if let Err(fault) = put_text(depot, &texts.record_key, texts.record, retries) {
         return Err(fault);

@@ -8,7 +8,7 @@ ghost use Rattle.cu_op.specs.Sound.{Sound};
 ghost use Rattle.cu_op.specs.Value.{Elements};
 ghost use Rattle.cu_state.specs.Left.{IsLeft, AreDone, RunChange};
 ghost use Rattle.cu_state.specs.Pieces.{chunks_alone};
-ghost use Rattle.cu_work.specs.Drive.{DriveChange, operation_calls, plan_calls, IsInputKey, IsTaskEnd, IfBadIn, IsEnd, IsOutcome, IfComplete, IfBroken, IfBad, end_of, outcome_of};
+ghost use Rattle.cu_work.specs.Drive.{DriveChange, operation_calls, plan_calls, IsInputKey, IsTaskEnd, IfBadIn, IsEnd, IsOutcome, IsTaskMost, IfComplete, IfTried, IfBroken, IfBad, end_of, outcome_of};
 ghost use Rattle.cu_work.specs.Rooms.{rooms_of};
 ghost use Rattle.cu_task.specs.Task.{IsTaskReady, TaskChange, HoldsCells, IsTaskFault, calls_of};
 
@@ -102,6 +102,7 @@ fn finish_task<D: Depot>(
         → IfErr result (λ end. IfBadIn end (IsInputKey plan.now)) }
     ensures cause { IfErr result (IsTaskEnd (retries + 1) (D.shown depot.old) (D.shown depot.new) plan.now) }
     ensures failed { IfOk result (λ failed. (failed ≤ retries) × Rose failed (D.shown depot.old).faults (D.shown depot.new).faults) }
+    ensures tries { IfOk result (λ failed. (D.shown depot.new).calls ≤ (D.shown depot.old).calls + (failed + 1) * calls_of plan.now op task) }
 {
     range_law();
     for failed in 0..u64::from(retries) + 1 {
@@ -151,6 +152,8 @@ fn drive_operation<D: Depot>(
         → IfErr result (λ outcome. IfBad outcome (IsInputKey plan.now)) }
     ensures cause { IfErr result (IsEnd (retries + 1) (D.shown depot.old) (D.shown depot.new) plan.now) }
     ensures failed { IfOk result (λ failed. (failed ≤ retries * tasks_of plan.now.arrays (op_of plan.now op)) × Rose failed (D.shown depot.old).faults (D.shown depot.new).faults) }
+    ensures tries { (m : ℕ) → IsTaskMost plan.now m → IfOk result (λ failed. (D.shown depot.new).calls
+        ≤ (D.shown depot.old).calls + operation_calls plan.now op (tasks_of plan.now.arrays (op_of plan.now op)) + failed * m) }
 {
     let mut failed = 0;
     for task in 0..tasks(plan, op) {
@@ -179,6 +182,8 @@ fn drive_plan<D: Depot>(
         → IfBroken result (λ k task. AreDone (chunks_alone plan.now) env k task (D.shown depot.new)) }
     ensures input { (env : Elements) → IsLeft (chunks_alone plan.now) env (D.shown depot.old) → IfBad result (IsInputKey plan.now) }
     ensures cause { IsOutcome retries (D.shown depot.old) (D.shown depot.new) plan.now result }
+    ensures tries { (m : ℕ) → IsTaskMost plan.now m → IfTried result (λ failed. (D.shown depot.new).calls
+        ≤ (D.shown depot.old).calls + plan_calls plan.now (length plan.now.ops) + failed * m) }
 {
     let mut failed = 0;
     for op in 0..plan.ops().len() as u32 {
@@ -208,6 +213,8 @@ pub fn drive_alone<D: Depot>(plan: &Plan, depot: &mut D, rooms: &mut Rooms, retr
         → IfBroken result (λ k task. AreDone (chunks_alone plan.now) env k task (D.shown depot.new)) }
     ensures input { (env : Elements) → IsLeft (chunks_alone plan.now) env (D.shown depot.old) → IfBad result (IsInputKey plan.now) }
     ensures cause { IsOutcome retries (D.shown depot.old) (D.shown depot.new) plan.now result }
+    ensures tries { (m : ℕ) → IsTaskMost plan.now m → IfTried result (λ failed. (D.shown depot.new).calls
+        ≤ (D.shown depot.old).calls + plan_calls plan.now (length plan.now.ops) + failed * m) }
 {
     drive_plan(plan, depot, &mut rooms.bytes, &mut rooms.words, retries)
 }

@@ -1,11 +1,12 @@
-use Rattle.std.proofs.Common.{◌≡◌, ℕ, suc, ◌+◌, sym, ◌∙◌, subst, arith}
+use Rattle.std.proofs.Common.{◌≡◌, ℕ, suc, ◌+◌, sym, ◌∙◌, subst, arith, ◌≤◌, ◌*◌}
 use Rattle.cu_op.specs.Cells.{tasks_of}
 use Rattle.cu_op.specs.Schedule.{op_of}
 use Rattle.cu_state.specs.Left.{AreDone}
 use Rattle.cu_state.specs.Pieces.{chunks_alone}
 use Rattle.cu_work.specs.Drive.{operation_calls, IsEnd, IfBroken, IfBad, IsInputKey}
 use Rattle.cu_work.specs.declared.outcome.Outcome.{Outcome}
-use Rattle.cu_work.proofs.Driving.{failed_fits, left_between, operation_step, operation_within, operation_more, still_done, outcome_input, outcome_broken, outcome_cause, done_operation, rose_then, few_more}
+use Rattle.cu_task.specs.Task.{calls_of}
+use Rattle.cu_work.proofs.Driving.{failed_fits, left_between, operation_step, operation_within, operation_more, still_done, outcome_input, outcome_broken, outcome_cause, done_operation, rose_then, few_more, calls_more, operation_calls_more}
 use Rattle.cu_work.proofs.tasks.drive_operation.Goals as goal
 
 pub overflow_add-failed : goal.overflow_add-failed
@@ -58,6 +59,14 @@ loop-task-preserved g c =
           (operation_step c.args.plan.now c.args.op c.loop-task.task c.args.retries (operation_calls c.args.plan.now c.args.op c.loop-task.task) (g.D.Depot.shown c.args.depot.now) (g.D.Depot.shown c.loop-task.depot)
           c.loop-task.invariant.step c.loop-task.invariant.done (g.D.Depot.shown c.finish_task.new.depot) c.in-Ok.ensures.step);
       done = λ env left done. let b = before env left done in c.in-Ok.ensures.done env b.0 b.1;
+      tries = λ m most.
+          let t = c.loop-task-test.true in
+          let e = c.tasks-task-end.ensures.tasks in
+          let all = calls_more (g.D.Depot.shown c.args.depot.now).calls (g.D.Depot.shown c.loop-task.depot).calls (g.D.Depot.shown c.finish_task.new.depot).calls
+          (operation_calls c.args.plan.now c.args.op c.loop-task.task) (calls_of c.args.plan.now c.args.op c.loop-task.task) m c.loop-task.failed c.in-Ok.more
+          (most c.args.op c.loop-task.task c.requires.operation (omega (arith, e, t))) (c.loop-task.invariant.tries m most) c.in-Ok.ensures.tries in
+          let sum = operation_calls_more c.args.plan.now c.args.op c.loop-task.task in
+          omega (arith, all, sum);
       few = few_more c.loop-task.failed c.loop-task.task c.args.retries c.in-Ok.more c.loop-task.invariant.few c.in-Ok.ensures.failed.0;
       rose = rose_then c.loop-task.failed c.in-Ok.more (g.D.Depot.shown c.args.depot.now).faults (g.D.Depot.shown c.loop-task.depot).faults (g.D.Depot.shown c.finish_task.new.depot).faults
           c.loop-task.invariant.rose c.in-Ok.ensures.failed.1;
@@ -71,3 +80,12 @@ returns-clause-done g c = λ env left done.
     let all : c.loop-task.task ≡ tasks_of c.args.plan.now.arrays (op_of c.args.plan.now c.args.op) = omega (arith, e, t, a) in
     done_operation c.args.plan.now env c.args.op (g.D.Depot.shown c.loop-task.depot)
     (subst (λ (n : ℕ). AreDone (chunks_alone c.args.plan.now) env c.args.op n (g.D.Depot.shown c.loop-task.depot)) all (c.loop-task.invariant.done env left done))
+
+pub returns-clause-tries : goal.returns-clause-tries
+returns-clause-tries g c = λ m most.
+    let e = c.tasks-task-end.ensures.tasks in
+    let t = c.loop-task-test.false in
+    let a = c.loop-task.auto.task-end in
+    let all : c.loop-task.task ≡ tasks_of c.args.plan.now.arrays (op_of c.args.plan.now c.args.op) = omega (arith, e, t, a) in
+    subst (λ (n : ℕ). (g.D.Depot.shown c.loop-task.depot).calls ≤ (g.D.Depot.shown c.args.depot.now).calls + operation_calls c.args.plan.now c.args.op n + c.loop-task.failed * m) all
+    (c.loop-task.invariant.tries m most)

@@ -1,8 +1,11 @@
-use Rattle.std.proofs.Common.{◌≡◌, ℕ, suc, ◌<◌, List, length, ap, ◌∙◌, subst, arith}
+use Rattle.std.proofs.Common.{◌≡◌, ℕ, suc, ◌<◌, List, length, ap, ◌∙◌, subst, arith, ◌≤◌, ◌+◌, ◌*◌}
 use Rattle.cu_op.specs.declared.operation.Planned.{Planned}
 use Rattle.cu_state.specs.Left.{AreDone}
 use Rattle.cu_state.specs.Pieces.{chunks_alone}
-use Rattle.cu_work.proofs.Driving.{plan_step, plan_left, plan_within, plan_more, rose_then, few_operation}
+use Rattle.cu_op.specs.Cells.{tasks_of}
+use Rattle.cu_op.specs.Schedule.{op_of}
+use Rattle.cu_work.specs.Drive.{operation_calls, plan_calls}
+use Rattle.cu_work.proofs.Driving.{plan_step, plan_left, plan_within, plan_more, rose_then, few_operation, calls_then, plan_calls_more}
 use Rattle.cu_work.proofs.tasks.drive_plan.Goals as goal
 
 -- the number of the operation is one of the plan's
@@ -38,6 +41,12 @@ loop-op-preserved g c =
       done = λ env left.
           c.in-Ok.ensures.done env (plan_left c.args.plan.now c.loop-op.op c.args.retries (g.D.Depot.shown c.args.depot.now) (g.D.Depot.shown c.loop-op.depot) c.loop-op.invariant.step env left)
           (c.loop-op.invariant.done env left);
+      tries = λ m most.
+          let all = calls_then (g.D.Depot.shown c.args.depot.now).calls (g.D.Depot.shown c.loop-op.depot).calls (g.D.Depot.shown c.drive_operation.new.depot).calls
+          (plan_calls c.args.plan.now c.loop-op.op) (operation_calls c.args.plan.now c.loop-op.op (tasks_of c.args.plan.now.arrays (op_of c.args.plan.now c.loop-op.op))) m c.loop-op.failed c.in-Ok.more
+          (c.loop-op.invariant.tries m most) (c.in-Ok.ensures.tries m most) in
+          let sum = plan_calls_more c.args.plan.now c.loop-op.op in
+          omega (arith, all, sum);
       few = few_operation c.args.plan.now c.loop-op.op c.loop-op.failed c.in-Ok.more c.args.retries b c.loop-op.invariant.few c.in-Ok.ensures.failed.0;
       rose = rose_then c.loop-op.failed c.in-Ok.more (g.D.Depot.shown c.args.depot.now).faults (g.D.Depot.shown c.loop-op.depot).faults (g.D.Depot.shown c.drive_operation.new.depot).faults
           c.loop-op.invariant.rose c.in-Ok.ensures.failed.1;
@@ -56,3 +65,11 @@ returns-clause-complete g c = λ env left.
     let e = ap length c.ops.ensures.ops in
     let all : c.loop-op.op ≡ length c.args.plan.now.ops = omega (arith, a, t, e) in
     subst (λ (n : ℕ). AreDone (chunks_alone c.args.plan.now) env n 0 (g.D.Depot.shown c.loop-op.depot)) all (c.loop-op.invariant.done env left)
+
+pub returns-clause-tries : goal.returns-clause-tries
+returns-clause-tries g c = λ m most.
+    let a = c.loop-op.auto.op-end in
+    let t = c.loop-op-test.false in
+    let e = ap length c.ops.ensures.ops in
+    let all : c.loop-op.op ≡ length c.args.plan.now.ops = omega (arith, a, t, e) in
+    subst (λ (n : ℕ). (g.D.Depot.shown c.loop-op.depot).calls ≤ (g.D.Depot.shown c.args.depot.now).calls + plan_calls c.args.plan.now n + c.loop-op.failed * m) all (c.loop-op.invariant.tries m most)

@@ -16,6 +16,11 @@ returns-in-Ok-clause-done g c =
     task_done c.range_law.ensures.values c.args.plan.now c.requires.sound c.args.op c.args.task c.requires.operation c.requires.task c.loop-failed.failed (g.D.Depot.shown c.args.depot.now)
     (g.D.Depot.shown c.loop-failed.depot) c.loop-failed.invariant.step (g.D.Depot.shown c.try_task.new.depot) c.try_task.ensures.step c.in-Ok.ensures.stored
 
+pub returns-in-Ok-clause-tries : goal.returns-in-Ok-clause-tries
+returns-in-Ok-clause-tries g c =
+    (tried_step c.range_law.ensures.values c.args.plan.now c.requires.sound c.args.op c.args.task c.requires.operation c.requires.task c.loop-failed.failed (g.D.Depot.shown c.args.depot.now)
+    (g.D.Depot.shown c.loop-failed.depot) c.loop-failed.invariant.step (g.D.Depot.shown c.try_task.new.depot) c.try_task.ensures.step).calls.1
+
 pub returns-in-Some-clause-step : goal.returns-in-Some-clause-step
 returns-in-Some-clause-step g c =
     let e = c.from-failed-end.ensures in
