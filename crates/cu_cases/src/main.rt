@@ -16,6 +16,7 @@ mod numbers;
 mod regions;
 mod script;
 mod shapes;
+mod typing;
 mod watched;
 
 use anyhow::{Context, Result, bail};
@@ -35,6 +36,7 @@ use std::fmt::Write;
 use std::process::ExitCode;
 use std::rt::{Env, Files};
 use std::{env, fs};
+use typing::run_typing;
 
 /// Runs a case of this kind.
 fn run_case<R: Files + AllocGlobal + Clone + Drop>(
@@ -51,6 +53,7 @@ fn run_case<R: Files + AllocGlobal + Clone + Drop>(
         "depot" => run_depot(rt, texts, said, name, findings),
         "metadata" => run_metadata(texts, said, name, findings),
         "expressions" => run_expressions(texts, said, name, findings),
+        "typing" => run_typing(texts, said, name, findings),
         "scalars" => run_scalars(texts.alloc, said, name, findings),
         "regions" => run_regions(texts.alloc, said, name, findings),
         "keys" => run_keys(texts.alloc, said, name, findings),

@@ -39,7 +39,7 @@ fn scalar_of(row: &Value) -> Result<(i128, i128)> {
     match list_of(row)? {
         [function, dtype, x, want] => {
             let function = function_of_one(text_of(function)?)?;
-            let dtype = type_of(dtype)?;
+            let dtype = dtype_of(dtype)?;
             let x = if function == Fn1::Astype {
                 integer_of(x)?
             } else {
@@ -49,7 +49,7 @@ fn scalar_of(row: &Value) -> Result<(i128, i128)> {
         }
         [function, dtype, x, y, want] => {
             let function = function_of_two(text_of(function)?)?;
-            let dtype = type_of(dtype)?;
+            let dtype = dtype_of(dtype)?;
             let x = element_of(dtype, x)?;
             let y = element_of(dtype, y)?;
             Ok((scalar2(function, dtype, x, y), integer_of(want)?))
@@ -68,16 +68,16 @@ pub(crate) fn run_promotions(said: &Said<'_>, name: &str, findings: &mut Finding
         let want = if want.is_null() {
             None
         } else {
-            Some(type_of(want)?)
+            Some(dtype_of(want)?)
         };
-        let is = promote(type_of(first)?, type_of(second)?);
+        let is = promote(dtype_of(first)?, dtype_of(second)?);
         findings.made();
         findings.expect_so(&Place::row(name, at), is == want)?;
     }
     Ok(())
 }
 
-fn type_of(value: &Value) -> Result<Dtype> {
+pub(crate) fn dtype_of(value: &Value) -> Result<Dtype> {
     match dtype_named(text_of(value)?) {
         Some(dtype) => Ok(dtype),
         None => bail!("a type is wanted"),

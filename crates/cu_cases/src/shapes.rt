@@ -124,7 +124,7 @@ fn fault_number(fault: GridFault) -> u64 {
 }
 
 /// The sizes of a list of at most six.
-fn sizes_of(value: &Value) -> Result<Dims> {
+pub(crate) fn sizes_of(value: &Value) -> Result<Dims> {
     match sizes_in(value) {
         Some(sizes) => Ok(sizes),
         None => bail!("a list of at most six sizes is wanted"),

@@ -4,14 +4,14 @@ use Rattle.std.specs.Prelude.{ℤ}
 use Rattle.std.proofs.lemmas.Nat.{div-mul-add, mod-mul-add}
 use Rattle.cu_num.specs.Dtype.{size_of}
 use Rattle.cu_num.specs.declared.types.Dtype.{Dtype}
-use Rattle.cu_shape.specs.Index.{product, place_of, index_at, products, sums, quotients, remainders, is_inside, IsInside}
+use Rattle.cu_shape.specs.Index.{product, place_of, index_at, products, sums, quotients, remainders, is_inside, IsInside, differences}
 use Rattle.cu_shape.proofs.Axes.{get_or-axis_by_axis, length-axis_by_axis, axis_by_axis_from}
 use Rattle.cu_shape.proofs.Places.{inside-length, index-inside, place-index, test_from_inside}
 use Rattle.cu_grid.specs.Counts.{IsRegion, IsWithin}
-use Rattle.cu_grid.specs.Grid.{RegularGrid, IsGrid, IsCoordinate}
+use Rattle.cu_grid.specs.Grid.{RegularGrid, IsGrid, IsCoordinate, index_at_place}
 use Rattle.cu_grid.proofs.Covers.{bounds_of}
 use Rattle.cu_grid.proofs.Regions.{coordinate-length}
-use Rattle.cu_codec.specs.Parts.{part_at, differences, place_within, index_at_place, HasFill, IsLaid, IsOneChunk}
+use Rattle.cu_codec.specs.Parts.{part, part_at, place_within, HasFill, IsLaid, IsOneChunk}
 
 pub one_chunk_at : (chunk coord lo hi : List ℕ) (k : ℕ) → length coord ≡ length chunk → k < length chunk → IsOneChunk chunk coord lo hi
     → (get_or lo k 0 ≡ get_or coord k 0 * get_or chunk k 0) × (get_or hi k 0 ≡ get_or lo k 0 + get_or chunk k 0)
@@ -117,7 +117,7 @@ module _ (g : RegularGrid) (coord lo hi : List ℕ) (ok : IsGrid g) (here : IsCo
   one_chunk_differences = ap (λ x. differences x lo) one.1 ∙ ap (differences (sums (products coord g.chunk) g.chunk)) one.0 ∙ one_chunk_sizes g.chunk coord rank
 
   -- the region's buffer is the chunk
-  pub whole_laid : (t : Dtype) (fill : ℤ) (input : List ℕ) → IsLaid g t fill coord lo hi input input
+  pub whole_laid : (t : Dtype) (fill : ℤ) (input : List ℕ) → IsLaid t fill (part g coord lo hi) input input
   whole_laid t fill input p below =
       let i = index_at g.chunk p in
       let place : place_within lo hi (index_at_place g.chunk coord p) ≡ p =

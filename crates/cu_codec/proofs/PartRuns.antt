@@ -1,5 +1,5 @@
 -- Elements in bytes into which a run of elements was copied.
-use Rattle.std.proofs.Common.{◌≡◌, ◌≢◌, ℕ, suc, ◌+◌, ◌-◌, ◌*◌, ◌<◌, ◌≤◌, List, ◌++◌, length, take, drop, refl, sym, ap, ◌∙◌, arith, inl, inr, length-append, length-drop}
+use Rattle.std.proofs.Common.{◌≡◌, ◌≢◌, ℕ, suc, ◌+◌, ◌-◌, ◌*◌, ◌<◌, ◌≤◌, List, ◌++◌, length, take, drop, sym, ap, ◌∙◌, arith, inl, inr, length-append, length-drop}
 use Rattle.std.proofs.lemmas.Bool.{cases_lt}
 use Rattle.std.proofs.Math.Nat.{mul-le-mul_right}
 use Rattle.std.proofs.lemmas.List.{drop-drop, drop-take, take-take, length-take, length-take-le}
@@ -78,13 +78,6 @@ run_fits steps len start count size to walk fits some =
     let low = walk.below (start + (len - 1)) (omega arith) in
     let far : (to start + len) * size ≤ count * size = mul-le-mul_right size (omega arith) in
     omega arith
-
-pub done_none : (size : ℕ) (e : Endian) (count : ℕ) (to from : ℕ → ℕ) (source old : List ℕ) → Done size e 0 count to from source old old
-done_none size e count to from source old = record {
-  same_length = refl;
-  copied = λ p b. absurd (omega arith);
-  others = λ q b apart. refl;
-}
 
 -- a run in the order, by its elements
 reordered_part : (e : Endian) (size j : ℕ) (old new : List ℕ) → IsReordered e size old new → j * size + size ≤ length old

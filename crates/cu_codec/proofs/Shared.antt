@@ -1,7 +1,7 @@
 -- The elements that a chunk and a region share, as a box in each of them.
 use Rattle.std.proofs.Common.{◌≡◌, ℕ, ◌+◌, ◌-◌, ◌*◌, ◌/◌, ◌%◌, ◌^◌, ◌<◌, ◌≤◌, List, [], ◌∷◌, length, get_or, min, max, refl, sym, ap, ◌∙◌, subst, arith}
 use Rattle.std.proofs.lemmas.Nat.{div-add-mod'}
-use Rattle.cu_shape.specs.Index.{product, axis_by_axis, sums, products, quotients, remainders, IsInside}
+use Rattle.cu_shape.specs.Index.{product, axis_by_axis, sums, products, quotients, remainders, IsInside, differences}
 use Rattle.cu_shape.proofs.Axes.{length-axis_by_axis, get_or-axis_by_axis, axis_by_axis_from}
 use Rattle.cu_shape.proofs.Places.{inside-length}
 use Rattle.cu_grid.specs.Counts.{chunk_lo, chunk_hi, at_least_one, IsRegion, IsWithin}
@@ -12,7 +12,7 @@ use Rattle.cu_grid.proofs.Parting.{inner_inside, only_chunk, in_array}
 use Rattle.cu_grid.proofs.Products.{product_within, at_least_one_same}
 use Rattle.cu_grid.proofs.Regions.{inside-at, region_inside, coordinate-length}
 use Rattle.cu_codec.specs.Box.{IsSame, IsShared}
-use Rattle.cu_codec.specs.Parts.{differences}
+use Rattle.cu_codec.specs.Parts.{part}
 
 -- ---- boxes that two regions share, axis by axis
 
@@ -235,7 +235,7 @@ module _ (g : RegularGrid) (coord lo hi : List ℕ) (ok : IsGrid g) (here : IsCo
   abbrev in_region : List ℕ
   in_region = differences (first_of a lo) lo
 
-  same_of : (i idx : List ℕ) → Pair a b lo hi i idx → IsSame g coord lo hi sizes in_chunk in_region i idx
+  same_of : (i idx : List ℕ) → Pair a b lo hi i idx → IsSame (part g coord lo hi) sizes in_chunk in_region i idx
   same_of i idx p = record {
     inside = p.inside;
     chunk = p.in_first;
@@ -277,7 +277,7 @@ module _ (g : RegularGrid) (coord lo hi : List ℕ) (ok : IsGrid g) (here : IsCo
           let w : (x + 1) * c ≡ x * c + c = omega arith in
           omega arith
 
-  pub shared_of : IsShared g coord lo hi sizes in_chunk in_region
+  pub shared_of : IsShared (part g coord lo hi) sizes in_chunk in_region
   shared_of =
       let l = lengths_of a b lo hi r in
       let n = chunk_rank in

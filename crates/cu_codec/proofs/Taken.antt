@@ -7,17 +7,17 @@ use Rattle.cu_num.specs.Element.{element_bytes, in_order}
 use Rattle.cu_num.specs.declared.types.Dtype.{Dtype}
 use Rattle.cu_num.specs.declared.layout.Endian.{Endian}
 use Rattle.cu_num.specs.declared.layout.Endian.TheVariants.{Little}
-use Rattle.cu_shape.specs.Index.{place_of, index_at, sums, products, quotients, remainders, IsInside, is_inside}
+use Rattle.cu_shape.specs.Index.{place_of, index_at, sums, products, quotients, remainders, IsInside, is_inside, differences}
 use Rattle.cu_shape.proofs.Places.{inside-length, place-below, place-index, index-place, index-inside, inside_from_test, test_from_inside}
 use Rattle.cu_grid.specs.Counts.{IsRegion, IsWithin}
-use Rattle.cu_grid.specs.Grid.{RegularGrid, IsGrid, IsCoordinate, IsInChunk}
+use Rattle.cu_grid.specs.Grid.{RegularGrid, IsGrid, IsCoordinate, IsInChunk, index_at_place}
 use Rattle.cu_grid.proofs.Covers.{bounds_of}
 use Rattle.cu_grid.proofs.Meeting.{inside_from, within_of}
 use Rattle.cu_grid.proofs.Parting.{lies_within, only_chunk, in_array}
 use Rattle.cu_grid.proofs.Regions.{coordinate-length}
 use Rattle.cu_zarr.proofs.Spelled.{rejoined}
 use Rattle.cu_codec.specs.Box.{IsCopied, IsShared}
-use Rattle.cu_codec.specs.Parts.{part_at, differences, place_within, index_at_place, HasFill, IsTaken, IsLaid}
+use Rattle.cu_codec.specs.Parts.{part_at, place_within, part, HasFill, IsTaken, IsLaid}
 use Rattle.cu_codec.proofs.Shared.{within_sizes, within_same}
 
 -- what lies in a region lies in the array
@@ -41,9 +41,9 @@ corner_parts (q ∷ qs) (c ∷ cs) (x ∷ i) n h =
     (rw (div-mul-add q c x h.0, rest.0) refl, rw (mod-mul-add q c x h.0, rest.1) refl)
 
 module _ (g : RegularGrid) (coord lo hi : List ℕ) (ok : IsGrid g) (here : IsCoordinate g coord) (region : IsRegion g.shape lo hi)
-    (sizes in_chunk in_region : List ℕ) (shared : IsShared g coord lo hi sizes in_chunk in_region) where
+    (sizes in_chunk in_region : List ℕ) (shared : IsShared (part g coord lo hi) sizes in_chunk in_region) where
   pub taken_of : (size : ℕ) (e : Endian) (bytes old new : List ℕ)
-      → IsCopied size e (record { sizes = sizes; from = g.chunk; start = in_chunk; to = differences hi lo; corner = in_region }) bytes old new → IsTaken size e g.chunk coord lo hi bytes old new
+      → IsCopied size e (record { sizes = sizes; from = g.chunk; start = in_chunk; to = differences hi lo; corner = in_region }) bytes old new → IsTaken size e (part g coord lo hi) bytes old new
   taken_of size e bytes old new copy = record {
     taken = λ idx w q.
         let inside = region_in_array g.shape lo hi idx region w in
@@ -61,7 +61,7 @@ module _ (g : RegularGrid) (coord lo hi : List ℕ) (ok : IsGrid g) (here : IsCo
   pub laid_of : (t : Dtype) (fill : ℤ) (input old new : List ℕ) → ((idx : List ℕ) → IsInChunk g coord idx → IsWithin lo hi idx)
       → IsCopied (size_of t) Little (record { sizes = sizes; from = differences hi lo; start = in_region; to = g.chunk; corner = in_chunk }) input old new
       → HasFill g t fill coord old
-      → IsLaid g t fill coord lo hi input new
+      → IsLaid t fill (part g coord lo hi) input new
   laid_of t fill input old new whole copy filled p below = by_test (is_inside g.shape (index_at_place g.chunk coord p)) refl
     where
       rank : length coord ≡ length g.chunk

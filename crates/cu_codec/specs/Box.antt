@@ -2,10 +2,10 @@
 use Rattle.std.specs.Prelude.{◌≡◌, ◌≢◌, ℕ, ◌<◌, ◌≤◌, ◌^◌, List, [], ◌∷◌, length}
 use Rattle.cu_num.specs.Element.{in_order}
 use Rattle.cu_num.specs.declared.layout.Endian.{Endian}
-use Rattle.cu_shape.specs.Index.{product, place_of, sums, remainders, IsInside}
+use Rattle.cu_shape.specs.Index.{product, place_of, sums, remainders, IsInside, differences}
 use Rattle.cu_grid.specs.Counts.{IsWithin}
-use Rattle.cu_grid.specs.Grid.{RegularGrid, IsInChunk}
-use Rattle.cu_codec.specs.Parts.{part_at, differences}
+use Rattle.cu_grid.specs.Grid.{IsInChunk}
+use Rattle.cu_codec.specs.Parts.{part_at, Part}
 use Rattle.cu_codec.specs.declared.boxes.Placing.{Placing}
 
 -- a box of these sizes stands in an array of this shape with its first index at `corner`
@@ -26,17 +26,17 @@ run_length (n ∷ []) = n
 run_length (n ∷ m ∷ ns) = run_length (m ∷ ns)
 
 -- an index of the array that is index `i` of a box, which stands in a chunk and in a region
-pub record IsSame (g : RegularGrid) (coord lo hi sizes in_chunk in_region i idx : List ℕ) : Type 0 where
+pub record IsSame (p : Part) (sizes in_chunk in_region i idx : List ℕ) : Type 0 where
   pub inside : IsInside sizes i
-  pub chunk : IsInChunk g coord idx
-  pub region : IsWithin lo hi idx
-  pub of_chunk : sums in_chunk i ≡ remainders idx g.chunk
-  pub of_region : sums in_region i ≡ differences idx lo
+  pub chunk : IsInChunk p.grid p.coord idx
+  pub region : IsWithin p.lo p.hi idx
+  pub of_chunk : sums in_chunk i ≡ remainders idx p.grid.chunk
+  pub of_region : sums in_region i ≡ differences idx p.lo
 
 -- the elements that a chunk and a region share are a box of these sizes, with its first index here in each
-pub record IsShared (g : RegularGrid) (coord lo hi sizes in_chunk in_region : List ℕ) : Type 0 where
-  pub box_chunk : IsBox sizes g.chunk in_chunk
-  pub box_region : IsBox sizes (differences hi lo) in_region
+pub record IsShared (p : Part) (sizes in_chunk in_region : List ℕ) : Type 0 where
+  pub box_chunk : IsBox sizes p.grid.chunk in_chunk
+  pub box_region : IsBox sizes (differences p.hi p.lo) in_region
   pub few : product sizes ≤ 2 ^ 40
-  pub all : (idx : List ℕ) → IsInChunk g coord idx → IsWithin lo hi idx → (i : List ℕ) × IsSame g coord lo hi sizes in_chunk in_region i idx
-  pub only : (i : List ℕ) → IsInside sizes i → (idx : List ℕ) × IsSame g coord lo hi sizes in_chunk in_region i idx
+  pub all : (idx : List ℕ) → IsInChunk p.grid p.coord idx → IsWithin p.lo p.hi idx → (i : List ℕ) × IsSame p sizes in_chunk in_region i idx
+  pub only : (i : List ℕ) → IsInside sizes i → (idx : List ℕ) × IsSame p sizes in_chunk in_region i idx

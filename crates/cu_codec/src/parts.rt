@@ -2,11 +2,11 @@
 ghost use Rattle.std.specs.Prelude.{◌≡◌, ◌<◌, ◌≤◌, ◌↔◌, ◌+◌, ◌*◌, ◌^◌, ℕ, IsTrue, List, length, min, max};
 ghost use Rattle.cu_num.specs.Dtype.{size_of, InRange};
 ghost use Rattle.cu_num.specs.Element.{element_bytes, IsSize};
-ghost use Rattle.cu_shape.specs.Index.{product, axis_by_axis};
+ghost use Rattle.cu_shape.specs.Index.{product, axis_by_axis, differences};
 ghost use Rattle.cu_grid.specs.Counts.{IsRegion, IsWithin};
 ghost use Rattle.cu_grid.specs.Grid.{IsCoordinate, IsInChunk};
 ghost use Rattle.cu_codec.specs.Box.{IsShared};
-ghost use Rattle.cu_codec.specs.Parts.{part_at, differences, HasFill, IsOneChunk, IsTaken, IsLaid};
+ghost use Rattle.cu_codec.specs.Parts.{part, part_at, HasFill, IsOneChunk, IsTaken, IsLaid};
 
 use crate::boxes::{Placing, copy_box};
 use cu_grid::{Grid, Region};
@@ -29,7 +29,7 @@ pub fn take_part(
     requires region { IsRegion grid.now.shape region.now.lo region.now.hi }
     requires chunk_length { length chunk.now ≡ product grid.now.chunk * size }
     requires out_length { length out.old ≡ product (differences region.now.hi region.now.lo) * size }
-    ensures taken { IsTaken size order grid.now.chunk coord.now region.now.lo region.now.hi chunk.now out.old out.new }
+    ensures taken { IsTaken size order (part grid.now coord.now region.now.lo region.now.hi) chunk.now out.old out.new }
 {
     let shared = shared(grid, coord, region);
     let placing = Placing {
@@ -59,7 +59,7 @@ pub fn lay_part(
     requires fill { InRange t fill }
     requires input_length { length input.now ≡ product (differences region.now.hi region.now.lo) * size_of t }
     requires chunk_length { length chunk.old ≡ product grid.now.chunk * size_of t }
-    ensures laid { IsLaid grid.now t fill coord.now region.now.lo region.now.hi input.now chunk.new }
+    ensures laid { IsLaid t fill (part grid.now coord.now region.now.lo region.now.hi) input.now chunk.new }
 {
     let size = u64::from(cu_num::size(t));
     let shared = shared(grid, coord, region);
@@ -137,7 +137,7 @@ struct Common {
 fn shared(grid: &Grid, coord: &Dims, region: &Region) -> Common
     requires coordinate { IsCoordinate grid.now coord.now }
     requires region { IsRegion grid.now.shape region.now.lo region.now.hi }
-    ensures shared { IsShared grid.now coord.now region.now.lo region.now.hi result.sizes result.in_chunk result.in_region }
+    ensures shared { IsShared (part grid.now coord.now region.now.lo region.now.hi) result.sizes result.in_chunk result.in_region }
     ensures extents { result.extents ≡ differences region.now.hi region.now.lo }
 {
     let own = grid.chunk_region(coord);

@@ -1,6 +1,8 @@
+pub mod InputLemmas
+pub mod JobLemmas
+pub mod NameLemmas
 pub mod SeenLemmas
 mod StatusExample
 mod StatusLemmas
 mod StoredLemmas
 mod StreamLemmas
-pub mod WriteLemmas

@@ -1,21 +1,26 @@
 -- What each answer prints. This project's own lines; numbers are decimal.
 use Rattle.std.specs.Prelude.{ℕ, List, [], ◌++◌, codes, decimal}
+use Rattle.std.specs.Fmt.{signed_decimal}
 use Rattle.cu_command.specs.declared.status.Status.{Status}
-use Rattle.cu_command.specs.declared.status.Status.TheVariants.{Done, BadWords, OverMemory, BadMeta, NoArray, Exists, TaskFailed, ReadFault, WriteFault, BadChunk, DepotFailed, BadLoad, NotBuilt, NoMemory}
+use Rattle.cu_command.specs.declared.status.Status.TheVariants.{Done, BadWords, BadExpr, BadType, OverMemory, OverLimit, BadMeta, NoArray, Exists, TaskFailed, ReadFault, WriteFault, BadChunk, DepotFailed, Unequal, BadLoad, NotBuilt, NoMemory}
 
 -- the answer's number, which is the exit status of the program
 abbrev pub number_of : Status → ℕ
 number_of Done = 0
 number_of (BadWords code) = 2
+number_of (BadExpr code node) = 3
+number_of (BadType code node) = 4
 number_of (OverMemory node need allowed) = 5
-number_of (Exists key) = 9
+number_of (OverLimit which count) = 6
 number_of (BadMeta name code) = 7
 number_of (NoArray name) = 8
+number_of (Exists key) = 9
 number_of (TaskFailed op task) = 10
 number_of ReadFault = 11
 number_of WriteFault = 12
 number_of (BadChunk key got want) = 13
 number_of (DepotFailed key) = 16
+number_of (Unequal place stored plain) = 17
 number_of (BadLoad code) = 18
 number_of (NotBuilt node) = 19
 number_of NoMemory = 70
@@ -24,15 +29,19 @@ number_of NoMemory = 70
 abbrev pub line_of : Status → List ℕ
 line_of Done = []
 line_of (BadWords code) = codes "error 2 code=" ++ decimal code
+line_of (BadExpr code node) = codes "error 3 code=" ++ decimal code ++ codes " node=" ++ decimal node
+line_of (BadType code node) = codes "error 4 code=" ++ decimal code ++ codes " node=" ++ decimal node
 line_of (OverMemory node need allowed) = codes "error 5 node=" ++ decimal node ++ codes " need=" ++ decimal need ++ codes " allowed=" ++ decimal allowed
-line_of (Exists key) = codes "error 9 key=" ++ key
+line_of (OverLimit which count) = codes "error 6 which=" ++ decimal which ++ codes " count=" ++ decimal count
 line_of (BadMeta name code) = codes "error 7 name=" ++ name ++ codes " code=" ++ decimal code
 line_of (NoArray name) = codes "error 8 name=" ++ name
+line_of (Exists key) = codes "error 9 key=" ++ key
 line_of (TaskFailed op task) = codes "error 10 op=" ++ decimal op ++ codes " task=" ++ decimal task
 line_of ReadFault = codes "error 11"
 line_of WriteFault = codes "error 12"
 line_of (BadChunk key got want) = codes "error 13 key=" ++ key ++ codes " got=" ++ decimal got ++ codes " want=" ++ decimal want
 line_of (DepotFailed key) = codes "error 16 key=" ++ key
+line_of (Unequal place stored plain) = codes "error 17 place=" ++ decimal place ++ codes " stored=" ++ signed_decimal stored ++ codes " plain=" ++ signed_decimal plain
 line_of (BadLoad code) = codes "error 18 code=" ++ decimal code
 line_of (NotBuilt node) = codes "error 19 node=" ++ decimal node
 line_of NoMemory = codes "error 70"

@@ -1,6 +1,6 @@
 //! Calls of the depot for one key, each tried again at most `retries` times where it fails.
-ghost use Rattle.std.specs.Prelude.{◌≡◌, ℕ, ◌+◌, ◌≤◌, List, Option, IfErr, IfOk, OnOk, true, false};
-ghost use Rattle.cu_store.specs.Held.{Contents, Write, IsAmong, Lands, Follows, Holds, IsGone, OwnOrLate};
+ghost use Rattle.std.specs.Prelude.{◌≡◌, ◌+◌, IfErr, IfOk, OnOk, true, false};
+ghost use Rattle.cu_store.specs.Held.{Holds, IsGone};
 ghost use Rattle.cu_store.specs.Steps.{NoChange, PutOf, Steps};
 ghost use Rattle.cu_command.specs.Keys.{IsHeldIn, IsKeyFault};
 
@@ -12,11 +12,7 @@ pub fn ask_key<D: Depot>(depot: &mut D, key: &Key, retries: u32) -> Result<bool,
     ensures absent { IfOk result (λ held. held ≡ false → IsGone (D.shown depot.new).held key.now) }
     ensures held { IfOk result (λ held. held ≡ true → IsHeldIn (D.shown depot.new).held key.now) }
     ensures step { Steps NoChange 1 (retries + 1) (D.shown depot.old) (D.shown depot.new) }
-    ensures follows { (writes : List Write) (entry : Option Contents)
-        → Follows writes entry (D.shown depot.old).held (D.shown depot.old).late → Follows writes entry (D.shown depot.new).held (D.shown depot.new).late }
     ensures cause { IfErr result (IsKeyFault (retries + 1) (D.shown depot.old).faults (D.shown depot.new).faults (D.shown depot.new).lacks key.now) }
-    ensures count { (D.shown depot.old).faults ≤ (D.shown depot.new).faults }
-    ensures lacks { (D.shown depot.new).lacks ≡ (D.shown depot.old).lacks }
 {
     match has_tries(depot, key, retries) {
         Ok(held) => Ok(held),
@@ -34,12 +30,7 @@ pub fn put_value<D: Depot>(
 ) -> Result<(), Status>
     ensures stored { OnOk result (Holds (D.shown depot.new).held key.now bytes.now) }
     ensures step { Steps (PutOf key.now bytes.now) 1 (retries + 1) (D.shown depot.old) (D.shown depot.new) }
-    ensures follows { (writes : List Write) (entry : Option Contents) → IsAmong writes key.now bytes.now
-        → Follows writes entry (D.shown depot.old).held (D.shown depot.old).late → Follows writes entry (D.shown depot.new).held (D.shown depot.new).late }
-    ensures kept { Lands (OwnOrLate key.now bytes.now (D.shown depot.old).late) (D.shown depot.old).held (D.shown depot.new).held }
     ensures cause { IfErr result (IsKeyFault (retries + 1) (D.shown depot.old).faults (D.shown depot.new).faults (D.shown depot.new).lacks key.now) }
-    ensures count { (D.shown depot.old).faults ≤ (D.shown depot.new).faults }
-    ensures lacks { (D.shown depot.new).lacks ≡ (D.shown depot.old).lacks }
 {
     match put_tries(depot, key, bytes, retries) {
         Ok(()) => Ok(()),

@@ -1,14 +1,20 @@
 //! What the commands share: their answers, names in a value, whole texts from a source and to a sink, the depot's calls
-//! for one key, and the layout of a stored array.
+//! for one key, the layout of a stored array,
+//! and the typed expression of a text.
 #![tactic(auto)]
 
+mod inputs;
+mod job;
 mod keys;
+mod laws;
 mod name;
 mod status;
 mod stored;
 mod streams;
 
+pub use job::{Job, JobFault, read_job};
 pub use keys::{ask_key, put_value};
+pub use laws::names_law;
 pub use name::name_at;
 pub use status::{LineText, Status, number, push_field, status_line};
 pub use stored::{metadata_room, read_layout, zeros};

@@ -1,5 +1,6 @@
 //! What a command answers, and the line that says it.
 ghost use Rattle.std.specs.Prelude.{◌≡◌, ◌+◌, ◌≤◌, ◌++◌, length, codes, decimal};
+ghost use Rattle.std.specs.Fmt.{signed_decimal};
 ghost use Rattle.cu_command.specs.Status.{number_of, line_of};
 
 use arrayvec::ArrayString;
@@ -12,29 +13,76 @@ pub enum Status {
     /// 0: the command was carried out.
     Done,
     /// 2: the words are wrong. Code 1 is for the command, code 2 for its options and code 3 for a name.
-    BadWords { code: u8 },
+    BadWords {
+        code: u8,
+    },
+    /// 3: the text isn't an expression, for the reason with this code (1 to 7) at the node with this number.
+    BadExpr {
+        code: u8,
+        node: u32,
+    },
+    /// 4: the node with this number has no type, for the reason with this code (1 to 9).
+    BadType {
+        code: u8,
+        node: u32,
+    },
     /// 5: this node needs `need` bytes, and `allowed` are allowed.
-    OverMemory { node: u32, need: u64, allowed: u64 },
+    OverMemory {
+        node: u32,
+        need: u64,
+        allowed: u64,
+    },
+    /// 6: there are too many. Which 1 is for tasks, 2 for cells of tasks and 3 for elements that are compared.
+    OverLimit {
+        which: u8,
+        count: u64,
+    },
     /// 7: the metadata of this array isn't accepted, for the reason with this code (1 to 10, in the order of `MetaFault`).
-    BadMeta { name: IdText, code: u8 },
+    BadMeta {
+        name: IdText,
+        code: u8,
+    },
     /// 8: no array of this name is stored: its metadata is absent.
-    NoArray { name: IdText },
+    NoArray {
+        name: IdText,
+    },
     /// 9: this key is held already.
-    Exists { key: Key },
+    Exists {
+        key: Key,
+    },
     /// 10: the tries of this task of this operation are used up.
-    TaskFailed { op: u32, task: u32 },
+    TaskFailed {
+        op: u32,
+        task: u32,
+    },
     /// 11: a read of the source failed.
     ReadFault,
     /// 12: a write to the sink failed.
     WriteFault,
     /// 13: this chunk holds `got` bytes in place of `want`.
-    BadChunk { key: Key, got: u64, want: u64 },
+    BadChunk {
+        key: Key,
+        got: u64,
+        want: u64,
+    },
     /// 16: all tries of a call for this key failed.
-    DepotFailed { key: Key },
+    DepotFailed {
+        key: Key,
+    },
+    /// 17: the element that is stored at this place isn't the one that the expression has there.
+    Unequal {
+        place: u64,
+        stored: i128,
+        plain: i128,
+    },
     /// 18: the text isn't one that gives an array, for the reason with this code (1 to 8).
-    BadLoad { code: u8 },
+    BadLoad {
+        code: u8,
+    },
     /// 19: this node, or its array, is of a form that isn't built yet.
-    NotBuilt { node: u32 },
+    NotBuilt {
+        node: u32,
+    },
     /// 70: memory was wanted and not had.
     NoMemory,
 }
@@ -49,7 +97,10 @@ pub fn number(status: &Status) -> u8
     match status {
         Status::Done => 0,
         Status::BadWords { .. } => 2,
+        Status::BadExpr { .. } => 3,
+        Status::BadType { .. } => 4,
         Status::OverMemory { .. } => 5,
+        Status::OverLimit { .. } => 6,
         Status::BadMeta { .. } => 7,
         Status::NoArray { .. } => 8,
         Status::Exists { .. } => 9,
@@ -58,6 +109,7 @@ pub fn number(status: &Status) -> u8
         Status::WriteFault => 12,
         Status::BadChunk { .. } => 13,
         Status::DepotFailed { .. } => 16,
+        Status::Unequal { .. } => 17,
         Status::BadLoad { .. } => 18,
         Status::NotBuilt { .. } => 19,
         Status::NoMemory => 70,
@@ -72,6 +124,14 @@ pub fn status_line(status: &Status) -> LineText
     match status {
         Status::Done => {}
         Status::BadWords { code } => push_field(&mut line, "error 2 code=", *code as u64),
+        Status::BadExpr { code, node } => {
+            push_field(&mut line, "error 3 code=", *code as u64);
+            push_field(&mut line, " node=", *node as u64);
+        }
+        Status::BadType { code, node } => {
+            push_field(&mut line, "error 4 code=", *code as u64);
+            push_field(&mut line, " node=", *node as u64);
+        }
         Status::OverMemory {
             node,
             need,
@@ -80,6 +140,10 @@ pub fn status_line(status: &Status) -> LineText
             push_field(&mut line, "error 5 node=", *node as u64);
             push_field(&mut line, " need=", *need);
             push_field(&mut line, " allowed=", *allowed);
+        }
+        Status::OverLimit { which, count } => {
+            push_field(&mut line, "error 6 which=", *which as u64);
+            push_field(&mut line, " count=", *count);
         }
         Status::BadMeta { name, code } => {
             push_name(&mut line, "error 7 name=", name);
@@ -99,6 +163,15 @@ pub fn status_line(status: &Status) -> LineText
             push_field(&mut line, " want=", *want);
         }
         Status::DepotFailed { key } => push_key(&mut line, "error 16 key=", key),
+        Status::Unequal {
+            place,
+            stored,
+            plain,
+        } => {
+            push_field(&mut line, "error 17 place=", *place);
+            push_element(&mut line, " stored=", *stored);
+            push_element(&mut line, " plain=", *plain);
+        }
         Status::BadLoad { code } => push_field(&mut line, "error 18 code=", *code as u64),
         Status::NotBuilt { node } => push_field(&mut line, "error 19 node=", *node as u64),
         Status::NoMemory => line.push_str("error 70"),
@@ -134,6 +207,17 @@ pub fn push_field(line: &mut LineText, label: &str, number: u64)
 {
     line.push_str(label);
     push_number(line, number);
+}
+
+/// Appends a label and an element.
+fn push_element(line: &mut LineText, label: &str, element: i128)
+    requires { length line.old.bytes + length label.now + 40 ≤ 256 }
+    ensures bytes { line.new.bytes ≡ line.old.bytes ++ label.now ++ signed_decimal element }
+    ensures len { length line.new.bytes ≤ length line.old.bytes + length label.now + 40 }
+{
+    line.push_str(label);
+    let mut digits = itoa::Buffer::new();
+    line.push_str(digits.format(element));
 }
 
 /// Appends a number, digit by digit.

@@ -1,7 +1,6 @@
 //! The layout of a stored array, by its metadata.
-ghost use Rattle.std.specs.Prelude.{◌≡◌, ℕ, ◌+◌, ◌≤◌, List, Option, IfErr, IfOk, length};
+ghost use Rattle.std.specs.Prelude.{◌≡◌, ◌+◌, IfErr, IfOk, length};
 ghost use Rattle.cu_meta.specs.Fault.{fault_view};
-ghost use Rattle.cu_store.specs.Held.{Contents, Write, Follows};
 ghost use Rattle.cu_store.specs.Steps.{NoChange, Steps};
 ghost use Rattle.cu_zarr.specs.Key.{metadata_key_of};
 ghost use Rattle.cu_name.specs.Name.{IsArrayName};
@@ -68,11 +67,7 @@ pub fn read_layout<D: Depot>(
     ensures input { IfOk result IsArrayLayout }
     ensures found { IfOk result (HoldsLayout (D.shown depot.new).held (metadata_key_of name.now)) }
     ensures step { Steps NoChange 1 (retries + 1) (D.shown depot.old) (D.shown depot.new) }
-    ensures follows { (writes : List Write) (entry : Option Contents)
-        → Follows writes entry (D.shown depot.old).held (D.shown depot.old).late → Follows writes entry (D.shown depot.new).held (D.shown depot.new).late }
     ensures cause { IfErr result (IsMetadataFault (retries + 1) (D.shown depot.old).faults (D.shown depot.new).faults (D.shown depot.new).held name.now) }
-    ensures count { (D.shown depot.old).faults ≤ (D.shown depot.new).faults }
-    ensures lacks { (D.shown depot.new).lacks ≡ (D.shown depot.old).lacks }
 {
     let key = metadata_key(name);
     let len = match get_tries(depot, &key, buf, retries) {

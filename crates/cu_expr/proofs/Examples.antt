@@ -12,7 +12,7 @@ use Rattle.cu_num.specs.declared.functions.Fn2.TheVariants.{Add}
 use Rattle.cu_num.specs.declared.folds.FoldKind.TheVariants.{Sum, Max}
 use Rattle.cu_form.specs.declared.args.Arg.TheVariants as arg
 use Rattle.cu_form.specs.declared.expr.Node.{Node}
-use Rattle.cu_form.specs.declared.form.ElementOp.TheVariants.{One, Two}
+use Rattle.cu_node.specs.declared.element_op.ElementOp.TheVariants.{One, Two}
 use Rattle.cu_form.specs.declared.form.Form.{Form}
 use Rattle.cu_form.specs.Expression.{Expression}
 use Rattle.cu_node.specs.Info.{info_of}

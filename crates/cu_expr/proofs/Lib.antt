@@ -1,5 +1,8 @@
+pub mod AlignedChunks
 mod Examples
+pub mod Kernels
 pub mod LayoutInfo
+pub mod Maps
 pub mod Nodes
 pub mod ToldArguments
 pub mod Typed

@@ -21,7 +21,6 @@ no_info_kept = record {
   elements = omega arith;
   chunks = omega arith;
   bytes = omega arith;
-  fits = refl;
 }
 
 pub info_kept : (infos : List NodeInfo) (k : ℕ) → All IsInfo infos → IsInfo (info_at infos k)

@@ -8,14 +8,15 @@ use Rattle.cu_form.specs.declared.expr.Node.{Node}
 use Rattle.cu_form.specs.declared.form.Form.{Form}
 use Rattle.cu_node.specs.Info.{IsInfo, no_info}
 use Rattle.cu_node.specs.declared.info.NodeInfo.{NodeInfo}
-use Rattle.cu_expr.specs.Inputs.{layout_info, named_input, stored_of}
-use Rattle.cu_expr.specs.Premises.{KeepLimits}
+use Rattle.cu_expr.specs.Inputs.{named_input, stored_of}
+use Rattle.cu_expr.specs.Premises.{HasGrid, HaveGrids}
 use Rattle.cu_expr.specs.Typing.{told_of, typed_form, at_node, typed_after}
 use Rattle.cu_expr.specs.declared.inputs.InputInfo.{InputInfo}
 use Rattle.cu_expr.specs.Answer.{IsAnswer}
 use Rattle.cu_expr.specs.declared.types.TypeFault.{TypeFault}
 use Rattle.cu_expr.specs.declared.types.TypeRefused.{TypeRefused}
 use Rattle.cu_expr.specs.declared.types.TypeRefused.TheVariants.{Fault, NoMemory}
+use Rattle.cu_expr.proofs.LayoutInfo.{stored_info}
 use Rattle.cu_expr.proofs.ToldArguments.{no_info_kept}
 
 -- what two words tell alike of names, they tell alike of the input that a node uses
@@ -23,20 +24,20 @@ stored_same : (known other : List ℕ → Option NodeInfo) (form : Form) → ((q
 stored_same known other (Form.Input name) h = ap (λ o. unwrap_or o no_info) (h name)
 stored_same known other form h = refl
 
-named_kept : (inputs : List InputInfo) (q : List ℕ) → KeepLimits inputs → IsInfo (unwrap_or (named_input inputs q) no_info)
+named_kept : (inputs : List InputInfo) (q : List ℕ) → HaveGrids inputs → IsInfo (unwrap_or (named_input inputs q) no_info)
 named_kept [] q h = no_info_kept
 named_kept (i ∷ is) q h =
     elim (cases_Bool (bytes_eq q i.name)) [
-      | inl same ↦ rw same (All-head (λ i. IsInfo (layout_info i.layout)) i is h)
-      | inr other ↦ rw other (named_kept is q (All-tail (λ i. IsInfo (layout_info i.layout)) i is h))
+      | inl same ↦ rw same (stored_info i.layout (All-head (λ i. HasGrid i.layout) i is h))
+      | inr other ↦ rw other (named_kept is q (All-tail (λ i. HasGrid i.layout) i is h))
     ]
 
 -- the input that a node uses keeps the limits
-stored_kept : (inputs : List InputInfo) (form : Form) → KeepLimits inputs → IsInfo (stored_of (named_input inputs) form)
+stored_kept : (inputs : List InputInfo) (form : Form) → HaveGrids inputs → IsInfo (stored_of (named_input inputs) form)
 stored_kept inputs (Form.Input name) h = named_kept inputs name h
 stored_kept inputs form h = no_info_kept
 
-pub told_stored_kept : (inputs : List InputInfo) (known : List ℕ → Option NodeInfo) (form : Form) → ((q : List ℕ) → known q ≡ named_input inputs q) → KeepLimits inputs → IsInfo (stored_of known form)
+pub told_stored_kept : (inputs : List InputInfo) (known : List ℕ → Option NodeInfo) (form : Form) → ((q : List ℕ) → known q ≡ named_input inputs q) → HaveGrids inputs → IsInfo (stored_of known form)
 told_stored_kept inputs known form same h = rw (stored_same known (named_input inputs) form same) (stored_kept inputs form h)
 
 -- one node more

@@ -4,7 +4,7 @@ use Rattle.cu_result.specs.Results.{◌>>=◌}
 use Rattle.cu_form.specs.Expression.{Expression}
 use Rattle.cu_form.specs.Form.{args_of}
 use Rattle.cu_form.specs.declared.args.Arg.{Arg}
-use Rattle.cu_form.specs.declared.args.Literal.TheVariants as written
+use Rattle.cu_node.specs.declared.literal.Literal.TheVariants as written
 use Rattle.cu_form.specs.declared.expr.Node.{Node}
 use Rattle.cu_form.specs.declared.form.Form.{Form}
 use Rattle.cu_node.specs.Fault.{fault, code_number}

@@ -12,6 +12,6 @@ pub use cu_form::{Arg, ElementOp, Expr, Form, IndexItem, Items, Literal, Node};
 pub use cu_node::NodeInfo;
 pub use cu_num::FoldKind;
 pub use inputs::InputInfo;
-pub use laws::{input_law, typing_law};
+pub use laws::{grid_law, input_law, map_law, typing_law};
 pub use types::{TypeFault, TypeRefused, Types};
 pub use typing::type_of;

@@ -1,11 +1,11 @@
 ghost use Rattle.std.specs.Prelude.{◌≡◌, ◌<◌, ◌^◌, ℕ, List, true, All, IfOk, OnOk, ◌++◌, ◌∷◌, [], map, length, bytes_eq, slice_get, Some};
 ghost use Rattle.std.specs.HashMap.{get_by_text};
-ghost use Rattle.cu_form.specs.Form.{args_of, in_ranges, takes_args, IsForm};
+ghost use Rattle.cu_form.specs.Form.{args_of, in_ranges, takes_args, HasShortIndex, IsForm};
 ghost use Rattle.cu_node.specs.Info.{IsInfo};
 ghost use Rattle.cu_typing.specs.Joined.{arrays_of};
 ghost use Rattle.cu_expr.specs.Answer.{IsAnswer};
 ghost use Rattle.cu_expr.specs.Inputs.{stored_of, named_input};
-ghost use Rattle.cu_expr.specs.Premises.{KeepLimits, HasArrays, HasShortIndex, HasShortIndices};
+ghost use Rattle.cu_expr.specs.Premises.{HaveGrids, HasArrays};
 ghost use Rattle.cu_expr.specs.Typing.{told_of, typed_reduced, typed_form, at_node, typed_node, typed};
 
 use crate::inputs::{InputInfo, by_name, stored_info};
@@ -118,10 +118,9 @@ fn add_info(infos: &mut Vec<NodeInfo>, info: NodeInfo) -> Result<(), AllocError>
 
 /// The type, shape and chunk shape of each node's array, each node typed over those before it; or the first fault of the first
 /// node that has one. There is to be an input for each name that an input node uses; a name that no input has is told as a bool
-/// of rank 0.
+/// of rank 0. Each layout is to be one that the reader of metadata accepts.
 pub fn type_of(alloc: Global, expr: &Expr, inputs: &[InputInfo]) -> Result<Types, TypeRefused>
-    requires limits { KeepLimits inputs.now }
-    requires short { HasShortIndices expr.now }
+    requires { HaveGrids inputs.now }
     ensures answer { IsAnswer (typed inputs.now expr.now) result }
     ensures kept { IfOk result (λ types. All IsInfo types) }
 {

@@ -1,11 +1,11 @@
 -- The form of a node of an expression, apart from the text that it is read from (this project's own form).
-use Rattle.std.specs.Prelude.{ℕ, ◌^◌, ◌-◌, ◌&&◌, ◌||◌, ◌==◌, not, nat_lt, nat_le, ℤ, pos, negsuc, neg_ℤ, int_lt, Bool, true, false, List, [], ◌∷◌, length, count_by, ◌≡◌}
+use Rattle.std.specs.Prelude.{ℕ, ◌<◌, ◌^◌, ◌-◌, ◌&&◌, ◌||◌, ◌==◌, not, nat_lt, nat_le, ℤ, pos, negsuc, neg_ℤ, int_lt, Bool, true, false, List, [], ◌∷◌, length, count_by, ◌≡◌}
 use Rattle.std.specs.List.{list_all}
 use Rattle.cu_name.specs.Name.{is_name}
 use Rattle.cu_num.specs.declared.functions.Fn1.TheVariants as fn1
 use Rattle.cu_form.specs.declared.args.Arg.{Arg}
-use Rattle.cu_form.specs.declared.args.Literal.{Literal}
-use Rattle.cu_form.specs.declared.form.ElementOp.{ElementOp}
+use Rattle.cu_node.specs.declared.literal.Literal.{Literal}
+use Rattle.cu_node.specs.declared.element_op.ElementOp.{ElementOp}
 use Rattle.cu_form.specs.declared.form.Form.{Form}
 
 -- ---- arguments
@@ -116,6 +116,11 @@ in_ranges (Form.Reshape args shape) = are_new_sizes shape
 in_ranges (Form.BroadcastTo args shape chunk) = list_all is_size shape && list_all is_chunk_size chunk
 in_ranges (Form.Rechunk args chunk) = list_all is_chunk_size chunk
 in_ranges form = true
+
+-- an index has fewer than 2^32 entries
+abbrev pub HasShortIndex : Form → Type 0
+HasShortIndex (Form.Index args items) = length items < 2 ^ 32
+HasShortIndex form = Unit {0}
 
 -- the form is one of the node with this number
 pub record IsForm (number : ℕ) (form : Form) : Type 0 where

@@ -13,7 +13,8 @@ pub struct Node {
 }
 
 /// An expression: at most 256 nodes, each of which names earlier nodes alone, the one that is stored, and the name under
-/// which it is stored. A node's number is its place in the list, from 0. Ids and the name are names, and no id stands twice.
+/// which it is stored. A node's number is its place in the list, from 0. Ids and the name are names, and no id stands twice. An
+/// index has fewer than 2^32 entries.
 #[derive(Drop)]
 pub struct Expr {
     nodes: Vec<Node>,

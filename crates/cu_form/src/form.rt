@@ -2,23 +2,11 @@ ghost use Rattle.std.specs.Prelude.{◌≡◌};
 ghost use Rattle.std.specs.List.{list_all};
 ghost use Rattle.cu_form.specs.Form.{args_of, is_earlier, names_earlier, is_array, are_arrays, element_takes, takes_args};
 
-use crate::args::{Arg, IndexItem, Literal};
+use crate::args::Arg;
 use crate::items::Items;
 use cu_name::IdText;
-use cu_num::{Dtype, Fn1, Fn2, FoldKind};
-
-/// An elementwise function (Python array API, "Element-wise Functions"; `where` of "Searching Functions"; `astype`).
-#[derive(Clone, Copy, Debug, PartialEq, Eq)]
-pub enum ElementOp {
-    /// a function of one argument, other than `Fn1::Astype`
-    One(Fn1),
-    /// a function of two arguments
-    Two(Fn2),
-    /// the second argument where the first is true, else the third
-    Where,
-    /// the argument in this type
-    Astype(Dtype),
-}
+use cu_node::{ElementOp, IndexItem, Literal};
+use cu_num::{Dtype, FoldKind};
 
 /// What a node of an expression is: its operator with the members of its row. Lists may have any length. Axes and shifts
 /// that are negative count from the end or go the other way, as the operator says. Sizes are counts of elements.
@@ -133,17 +121,15 @@ pub enum Form {
 /// The most arguments of `concat` and `stack`.
 const MOST_JOINED: usize = 8;
 
-impl ElementOp {
-    /// Whether the function takes these arguments: as many, with an array where it wants one.
-    pub fn takes(&self, args: &[Arg]) -> bool
-        ensures { result ≡ element_takes self.now args.now }
-    {
-        match (self, args) {
-            (ElementOp::Two(_), [x, y]) => x.is_array() || y.is_array(),
-            (ElementOp::Where, [c, x, y]) => c.is_array() && (x.is_array() || y.is_array()),
-            (ElementOp::Two(_) | ElementOp::Where, _) => false,
-            (ElementOp::One(_) | ElementOp::Astype(_), _) => are_arrays(1, 1, args),
-        }
+/// Whether an elementwise function takes these arguments: as many, with an array where it wants one.
+fn element_takes(op: &ElementOp, args: &[Arg]) -> bool
+    ensures { result ≡ element_takes op.now args.now }
+{
+    match (op, args) {
+        (ElementOp::Two(_), [x, y]) => x.is_array() || y.is_array(),
+        (ElementOp::Where, [c, x, y]) => c.is_array() && (x.is_array() || y.is_array()),
+        (ElementOp::Two(_) | ElementOp::Where, _) => false,
+        (ElementOp::One(_) | ElementOp::Astype(_), _) => are_arrays(1, 1, args),
     }
 }
 
@@ -179,7 +165,7 @@ impl Form {
     {
         match self {
             Form::Input { .. } | Form::Full { .. } | Form::Arange { .. } | Form::Eye { .. } => true,
-            Form::Elementwise { op, args } => op.takes(args.as_slice()),
+            Form::Elementwise { op, args } => element_takes(op, args.as_slice()),
             Form::Concat { args, .. } | Form::Stack { args, .. } => {
                 are_arrays(1, MOST_JOINED, args.as_slice())
             }

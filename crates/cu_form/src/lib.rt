@@ -6,7 +6,8 @@ mod expr;
 mod form;
 mod items;
 
-pub use args::{Arg, IndexItem, Literal};
+pub use args::Arg;
+pub use cu_node::{ElementOp, IndexItem, Literal};
 pub use expr::{Expr, Node};
-pub use form::{ElementOp, Form};
+pub use form::Form;
 pub use items::Items;

@@ -12,7 +12,7 @@ use Rattle.cu_grid.specs.Counts.{at_least_one, IsRegion}
 use Rattle.cu_grid.specs.Cover.{span_on, spans_of, coordinates_from, IsWalk}
 use Rattle.cu_grid.specs.Grid.{IsGrid}
 use Rattle.cu_shape.proofs.Rounded.{counts_below}
-use Rattle.cu_grid.proofs.Products.{size_within, product_within}
+use Rattle.cu_shape.proofs.Products.{size_within, product_within}
 
 -- an interval that is empty meets no chunk
 pub span_cases : (l h c : ℕ) → ((l < h) × (span_on l h c ≡ div_ceil h c - l / c)) ⊎ ((h ≤ l) × (span_on l h c ≡ 0))

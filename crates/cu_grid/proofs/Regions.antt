@@ -10,7 +10,7 @@ use Rattle.cu_shape.proofs.Places.{inside-length}
 use Rattle.cu_grid.specs.Counts.{counts_of, chunk_lo, chunk_hi, at_least_one, IsRegion}
 use Rattle.cu_grid.specs.Grid.{RegularGrid, IsGrid, IsCoordinate}
 use Rattle.cu_shape.proofs.Rounded.{before_end}
-use Rattle.cu_grid.proofs.Products.{size_within, at_least_one_same}
+use Rattle.cu_shape.proofs.Products.{size_within, at_least_one_same}
 
 -- an index inside, read at an axis
 pub inside-at : (ds is : List ℕ) (k : ℕ) → IsInside ds is → k < length ds → get_or is k 0 < get_or ds k 0

@@ -1,11 +1,7 @@
 -- The regular chunk grid (Zarr v3 core specification, "Chunk grids"): chunks and their elements.
-use Rattle.std.specs.Prelude.{ℕ, ◌+◌, ◌*◌, ◌<◌, ◌≤◌, List, [], ◌∷◌, map, min, max}
-use Rattle.std.specs.Int.{div_ceil}
+use Rattle.std.specs.Prelude.{ℕ, ◌+◌, ◌*◌, ◌<◌, ◌≤◌, List, [], ◌∷◌, min}
 use Rattle.cu_shape.specs.Index.{axis_by_axis, products}
-
--- how many chunks each axis has: its size over the chunk size, rounded up, so an axis of size 0 has none
-abbrev pub counts_of : List ℕ → List ℕ → List ℕ
-counts_of shape chunk = axis_by_axis div_ceil shape chunk
+pub use Rattle.cu_shape.specs.Counts.{counts_of, at_least_one}
 
 -- the first index of a chunk on each axis
 abbrev pub chunk_lo : List ℕ → List ℕ → List ℕ
@@ -14,10 +10,6 @@ chunk_lo chunk coord = products coord chunk
 -- one past its last index on each axis: a chunk at the edge ends with the array
 abbrev pub chunk_hi : List ℕ → List ℕ → List ℕ → List ℕ
 chunk_hi shape chunk coord = axis_by_axis min (axis_by_axis (λ c size. (c + 1) * size) coord chunk) shape
-
--- sizes in which an axis of size 0 counts as one
-abbrev pub at_least_one : List ℕ → List ℕ
-at_least_one sizes = map (λ n. max 1 n) sizes
 
 -- an index lies in a region: on each axis from `lo` to below `hi`
 abbrev pub IsWithin : List ℕ → List ℕ → List ℕ → Type 0

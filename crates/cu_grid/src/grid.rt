@@ -9,8 +9,8 @@ ghost use Rattle.cu_grid.specs.Limits.{first_fault, IsWithinLimits};
 use crate::cover::{Cover, cover_of};
 use crate::fault::GridFault;
 use crate::region::{Region, region_of_chunk};
-use crate::sizes::{chunk_counts, has_zero, is_above, is_chunk_above, total};
-use cu_shape::Dims;
+use crate::sizes::{has_zero, is_chunk_above, total};
+use cu_shape::{Dims, chunk_counts, is_above};
 use std::marker::Model;
 
 /// The most elements of a stored array, an axis of size 0 counting as one.

@@ -4,5 +4,6 @@ pub mod Stretched
 pub mod ReadPlaces
 pub mod StepResults
 pub mod Running
+pub mod StripResults
 pub mod Pieces
 pub mod DirectValues

@@ -60,19 +60,22 @@ strip_read l t ins dims p from k h b =
     element_moved t ins l.at (place_read l.dims dims p.place) from (length ins) (p.step * k) (place_read l.dims dims (p.place + k)) h.begins (bound l t ins dims p from k h b) moved
     ∙ ap (λ d. element_at Little d (drop l.at ins) (place_read l.dims dims (p.place + k))) (sym h.dtype)
 
--- ---- how much of two runs is taken at once
+-- ---- how much of three runs is taken at once
 
-pub record Cut (all done x_run y_run count : ℕ) : Type 0 where
+pub record Cut (all done x_run y_run z_run count : ℕ) : Type 0 where
   pub some : 0 < count
   pub within : done + count ≤ all
   pub x_row : done % x_run + count ≤ x_run
   pub y_row : done % y_run + count ≤ y_run
+  pub z_row : done % z_run + count ≤ z_run
 
-pub cut : (all done x_run y_run left count : ℕ) → 0 < x_run → 0 < y_run → done < all → left ≡ min (x_run - done % x_run) (y_run - done % y_run) → count ≡ min (all - done) left → Cut all done x_run y_run count
-cut all done x_run y_run left count p q h l e =
+pub cut : (all done x_run y_run z_run count : ℕ) → 0 < x_run → 0 < y_run → 0 < z_run → done < all
+    → count ≡ min (all - done) (min (min (x_run - done % x_run) (y_run - done % y_run)) (z_run - done % z_run)) → Cut all done x_run y_run z_run count
+cut all done x_run y_run z_run count p q r h e =
     let x_low = mod_below done x_run p in
     let y_low = mod_below done y_run q in
-    record { some = omega arith; within = omega arith; x_row = omega arith; y_row = omega arith }
+    let z_low = mod_below done z_run r in
+    record { some = omega arith; within = omega arith; x_row = omega arith; y_row = omega arith; z_row = omega arith }
 
 -- the part of the result that is written
 pub part_length : (t : Dtype) (out : List ℕ) (done count all size : ℕ) → size ≡ size_of t → done + count ≤ all → length out ≡ all * size_of t

@@ -50,3 +50,8 @@ place_read shape result p = place_of shape (back shape (index_at result p))
 -- within each `run` places of the result, the place that is read moves by `step` at each
 abbrev pub IsRun : List ℕ → List ℕ → ℕ → ℕ → Type 0
 IsRun shape result run step = (p i : ℕ) → p + i < product result → p % run + i < run → place_read shape result (p + i) ≡ place_read shape result p + step * i
+
+-- the region has this type and can be read for a result of these sizes
+pub record IsSource (t : Dtype) (result : List ℕ) (l : Lay) (ins : List ℕ) : Type 0 where
+  pub fits : LayFits result (length ins) l
+  pub dtype : l.dtype ≡ t

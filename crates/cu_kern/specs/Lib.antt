@@ -1,4 +1,5 @@
 pub mod Lays
 pub mod Lanes
 pub mod Steps
+pub mod Division
 pub mod Strips

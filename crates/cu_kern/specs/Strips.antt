@@ -1,11 +1,42 @@
 -- Elements along a run of places of the result, as bytes: the next place reads the next element, or where the step is 0 the same.
-use Rattle.std.specs.Prelude.{◌≡◌, ℕ, ◌+◌, ◌*◌, ◌<◌, ◌≤◌, ℤ, List, length}
+use Rattle.std.specs.Prelude.{◌≡◌, ℕ, ◌+◌, ◌*◌, ◌/◌, ◌<◌, ◌≤◌, ℤ, List, length}
 use Rattle.cu_num.specs.Dtype.{size_of}
 use Rattle.cu_num.specs.Element.{element_at, element_bytes, bytes_at}
-use Rattle.cu_num.specs.Scalar.{op2, result_type2}
+use Rattle.cu_num.specs.Scalar.{op1, op2, result_type1, result_type2}
 use Rattle.cu_num.specs.declared.types.Dtype.{Dtype}
-use Rattle.cu_num.specs.declared.functions.Fn2.{Fn2}
+use Rattle.cu_num.specs.declared.types.Dtype.TheVariants.{Bool}
 use Rattle.cu_num.specs.declared.layout.Endian.TheVariants.{Little}
+use Rattle.cu_op.specs.Kernel.{selected}
+use Rattle.cu_op.specs.KernelTypes.{IsArgument}
+use Rattle.cu_kern.specs.declared.calls.Call.{Call}
+use Rattle.cu_kern.specs.declared.calls.Call.TheVariants.{One, Two, Select}
+
+-- the type of a call's first argument, and that of the others, which a call of one argument has in name alone
+abbrev pub first_type : Call → Dtype
+first_type (One f from t) = from
+first_type (Two f t) = t
+first_type (Select t) = Bool
+
+abbrev pub other_type : Call → Dtype
+other_type (One f from t) = from
+other_type (Two f t) = t
+other_type (Select t) = t
+
+-- the type of a call's result, and its value
+abbrev pub call_type : Call → Dtype
+call_type (One f from t) = result_type1 f t
+call_type (Two f t) = result_type2 f t
+call_type (Select t) = t
+
+abbrev pub call_value : Call → ℤ → ℤ → ℤ → ℤ
+call_value (One f from t) x y z = op1 f t x
+call_value (Two f t) x y z = op2 f t x y
+call_value (Select t) x y z = selected x y z
+
+-- a function of one argument has its type
+abbrev pub IsCall : Call → Type 0
+IsCall (One f from t) = IsArgument f from t
+IsCall call = Unit {0}
 
 pub record Strip : Type 0 where
   pub bytes : List ℕ
@@ -23,7 +54,32 @@ pub record HasPlaces (t : Dtype) (s : Strip) (count : ℕ) : Type 0 where
   pub step : s.step ≤ 1
   pub inside : (k : ℕ) → k < count → s.step * k * size_of t + size_of t ≤ length s.bytes
 
--- each element is the function's value at the elements of both
-abbrev pub HasPairs : Fn2 → Dtype → Strip → Strip → List ℕ → Type 0
-HasPairs f t x y out = (k : ℕ) → k * size_of (result_type2 f t) + size_of (result_type2 f t) ≤ length out
-    → bytes_at (result_type2 f t) out k ≡ element_bytes Little (result_type2 f t) (op2 f t (strip_element t x k) (strip_element t y k))
+-- the arguments of a call have an element for each element of a result of so many bytes
+pub record HasArguments (call : Call) (x y z : Strip) (room : ℕ) : Type 0 where
+  pub first : HasPlaces (first_type call) x (room / size_of (call_type call))
+  pub second : HasPlaces (other_type call) y (room / size_of (call_type call))
+  pub third : HasPlaces (other_type call) z (room / size_of (call_type call))
+
+-- the call's value at the elements for place k
+abbrev pub value_along : Call → Strip → Strip → Strip → ℕ → ℤ
+value_along call x y z k = call_value call (strip_element (first_type call) x k) (strip_element (other_type call) y k) (strip_element (other_type call) z k)
+
+-- each element of the result is the call's value
+abbrev pub HasResults : Call → Strip → Strip → Strip → List ℕ → Type 0
+HasResults call x y z out = (k : ℕ) → k * size_of (call_type call) + size_of (call_type call) ≤ length out
+    → bytes_at (call_type call) out k ≡ element_bytes Little (call_type call) (value_along call x y z k)
+
+-- those of the places from `from` on, in bytes of their own
+abbrev pub HasPart : Call → Strip → Strip → Strip → ℕ → List ℕ → Type 0
+HasPart call x y z from out = (k : ℕ) → k * size_of (call_type call) + size_of (call_type call) ≤ length out
+    → bytes_at (call_type call) out k ≡ element_bytes Little (call_type call) (value_along call x y z (from + k))
+
+-- the bytes have the elements for place k
+pub record HasPlace (call : Call) (x y z : Strip) (k : ℕ) : Type 0 where
+  pub first : x.step * k * size_of (first_type call) + size_of (first_type call) ≤ length x.bytes
+  pub second : y.step * k * size_of (other_type call) + size_of (other_type call) ≤ length y.bytes
+  pub third : z.step * k * size_of (other_type call) + size_of (other_type call) ≤ length z.bytes
+
+-- the elements of places before `from` are there
+abbrev pub ResultsBelow : Call → Strip → Strip → Strip → ℕ → List ℕ → Type 0
+ResultsBelow call x y z from out = (k : ℕ) → k < from → bytes_at (call_type call) out k ≡ element_bytes Little (call_type call) (value_along call x y z k)

@@ -1,230 +1,198 @@
-//! Kernels of one function, from bytes to bytes: a run of places at a time, along which each region moves evenly or rests.
+//! Kernels of one call, from bytes to bytes: a piece of places at a time, along which each region moves evenly or rests.
 ghost use Rattle.std.specs.Prelude.{◌≡◌, ◌*◌, ◌<◌, ℕ, List, [], ◌∷◌, All, IsTrue, Some, length};
-ghost use Rattle.cu_num.specs.Dtype.{size_of, InRange};
-ghost use Rattle.cu_num.specs.Element.{element_at};
-ghost use Rattle.cu_num.specs.Scalar.{op2, result_type2};
-ghost use Rattle.cu_num.specs.declared.layout.Endian.TheVariants.{Little};
+ghost use Rattle.cu_num.specs.Dtype.{size_of};
+ghost use Rattle.cu_num.specs.Scalar.{result_type1, result_type2};
 ghost use Rattle.cu_shape.specs.Index.{product, index_at};
 ghost use Rattle.cu_op.specs.KernelTypes.{KernelFits};
-ghost use Rattle.cu_kern.specs.Lays.{LayFits, HasValue, lay_element, lay_types};
+ghost use Rattle.cu_kern.specs.Lays.{LayFits, IsSource, HasValue, lay_element, lay_types};
+ghost use Rattle.cu_kern.specs.Strips.{IsCall, first_type, other_type, call_type, call_value};
 ghost use Rattle.cu_kern.specs.Steps.{value_by_place};
 
-use crate::lays::{Lay, pace_of, place_in};
-use crate::strip_functions::pair;
-use cu_num::{Dtype, Fn2, result2, save, size};
+use crate::calls::{Call, call_type};
+use crate::lays::pace_of;
+use crate::sources::{Inputs, Source, left_in, literal_of, source_of, strip_from};
+use crate::strip_functions::call_strips;
+use cu_num::{Dtype, Fn1, Fn2, size};
 use cu_op::Instr;
 use cu_shape::Dims;
 
-/// The elements of a function of two regions, each of the function's type and in a buffer of its own.
-fn pairs(
-    f: Fn2,
-    t: Dtype,
-    x: &Lay,
-    x_ins: &[u8],
-    y: &Lay,
-    y_ins: &[u8],
-    dims: &Dims,
-    out: &mut [u8],
-)
-    requires first { LayFits dims.now (length x_ins.now) x.now }
-    requires second { LayFits dims.now (length y_ins.now) y.now }
-    requires first_type { x.now.dtype ≡ t }
-    requires second_type { y.now.dtype ≡ t }
-    requires out { length out.old ≡ product dims.now * size_of (result_type2 f t) }
-    ensures { (p : ℕ) → p < product dims.now → HasValue (result_type2 f t) out.new p
-        (Some (op2 f t (lay_element x.now x_ins.now (index_at dims.now p)) (lay_element y.now y_ins.now (index_at dims.now p)))) }
+/// The elements of a call over regions of its types.
+fn pieces(call: Call, x: Source<'_>, y: Source<'_>, z: Source<'_>, dims: &Dims, out: &mut [u8])
+    requires call { IsCall call }
+    requires first { IsSource (first_type call) dims.now x.lay.now x.ins.now }
+    requires second { IsSource (other_type call) dims.now y.lay.now y.ins.now }
+    requires third { IsSource (other_type call) dims.now z.lay.now z.ins.now }
+    requires out { length out.old ≡ product dims.now * size_of (call_type call) }
+    ensures { (p : ℕ) → p < product dims.now → HasValue (call_type call) out.new p
+        (Some (call_value call (lay_element x.entry.lay.now x.entry.ins.now (index_at dims.now p)) (lay_element y.entry.lay.now y.entry.ins.now (index_at dims.now p))
+        (lay_element z.entry.lay.now z.entry.ins.now (index_at dims.now p)))) }
 {
-    let own = size(t) as usize;
-    let size = size(result2(f, t)) as usize;
+    let size = size(call_type(call)) as usize;
     let all = out.len() / size;
     if all == 0 {
         return;
     }
-    let x_pace = pace_of(&x.dims, dims);
-    let y_pace = pace_of(&y.dims, dims);
+    let x_pace = pace_of(&x.lay.dims, dims);
+    let y_pace = pace_of(&y.lay.dims, dims);
+    let z_pace = pace_of(&z.lay.dims, dims);
     let mut done = 0;
     while done < all {
         let place = done as u64;
-        let left = (x_pace.run - place % x_pace.run).min(y_pace.run - place % y_pace.run);
+        let left = left_in(x_pace, place)
+            .min(left_in(y_pace, place))
+            .min(left_in(z_pace, place));
         let count = (all - done).min(left as usize);
-        let x_from = x.at + place_in(&x.dims, dims, place) as usize * own;
-        let y_from = y.at + place_in(&y.dims, dims, place) as usize * own;
+        let first = strip_from(x, x_pace, dims, place, count);
+        let second = strip_from(y, y_pace, dims, place, count);
+        let third = strip_from(z, z_pace, dims, place, count);
         let part = &mut out[done * size..(done + count) * size];
-        pair(
-            f,
-            t,
-            &x_ins[x_from..],
-            x_pace.step as usize,
-            &y_ins[y_from..],
-            y_pace.step as usize,
-            part,
-        );
+        call_strips(call, first, second, third, part);
         done += count;
     }
 }
 
-/// The elements of a kernel of one function of two arguments that have its type; `false` where it is another kernel.
-pub(crate) fn run_direct(
-    code: &[Instr],
-    lays: &[Lay],
-    t: Dtype,
-    dims: &Dims,
-    ins: &[u8],
-    out: &mut [u8],
-) -> bool
-    requires kernel { KernelFits code.now (lay_types lays.now) [] t }
-    requires lays { All (LayFits dims.now (length ins.now)) lays.now }
-    requires out { length out.old ≡ product dims.now * size_of t }
-    ensures { IsTrue result → (p : ℕ) → p < product dims.now → HasValue t out.new p (value_by_place code.now lays.now ins.now dims.now p) }
+/// The elements of a kernel of one call over regions and literals that have its types; `false` where it is another kernel.
+pub(crate) fn run_direct(code: &[Instr], inputs: Inputs<'_>, t: Dtype, out: &mut [u8]) -> bool
+    requires kernel { KernelFits code.now (lay_types inputs.lays.now) [] t }
+    requires lays { All (LayFits inputs.dims.now (length inputs.ins.now)) inputs.lays.now }
+    requires out { length out.old ≡ product inputs.dims.now * size_of t }
+    ensures { IsTrue result → (p : ℕ) → p < product inputs.entry.dims.now → HasValue t out.new p (value_by_place code.now inputs.entry.lays.now inputs.entry.ins.now inputs.entry.dims.now p) }
 {
-    let [first, second, last] = code else {
-        return false;
-    };
-    run_last(*first, *second, *last, lays, t, dims, ins, out)
-}
-
-/// `run_direct` by the last of three steps.
-fn run_last(
-    first: Instr,
-    second: Instr,
-    last: Instr,
-    lays: &[Lay],
-    t: Dtype,
-    dims: &Dims,
-    ins: &[u8],
-    out: &mut [u8],
-) -> bool
-    requires kernel { KernelFits (first ∷ second ∷ last ∷ []) (lay_types lays.now) [] t }
-    requires lays { All (LayFits dims.now (length ins.now)) lays.now }
-    requires out { length out.old ≡ product dims.now * size_of t }
-    ensures { IsTrue result → (p : ℕ) → p < product dims.now → HasValue t out.new p (value_by_place (first ∷ second ∷ last ∷ []) lays.now ins.now dims.now p) }
-{
-    match last {
-        Instr::Two(f, kind, 0, 1) => run_two(f, kind, first, second, lays, dims, ins, out),
+    match code {
+        [first, last] => by_one(*first, *last, inputs, t, out),
+        [first, second, last] => by_two(*first, *second, *last, inputs, t, out),
+        [first, second, third, last] => {
+            if !chooses(*last) {
+                return false;
+            }
+            run_select(*first, *second, *third, inputs, t, out)
+        }
         _ => false,
     }
 }
 
-/// The function of the two steps before it.
+/// Whether a step is a choice of the first three.
+fn chooses(last: Instr) -> bool
+    ensures { IsTrue result → last ≡ Instr.Select 0 1 2 }
+{
+    matches!(last, Instr::Select(0, 1, 2))
+}
+
+/// `run_direct` of two steps.
+fn by_one(first: Instr, last: Instr, inputs: Inputs<'_>, t: Dtype, out: &mut [u8]) -> bool
+    requires kernel { KernelFits (first ∷ last ∷ []) (lay_types inputs.lays.now) [] t }
+    requires lays { All (LayFits inputs.dims.now (length inputs.ins.now)) inputs.lays.now }
+    requires out { length out.old ≡ product inputs.dims.now * size_of t }
+    ensures { IsTrue result → (p : ℕ) → p < product inputs.entry.dims.now → HasValue t out.new p (value_by_place (first ∷ last ∷ []) inputs.entry.lays.now inputs.entry.ins.now inputs.entry.dims.now p) }
+{
+    match last {
+        Instr::One(f, kind, 0) => run_one(f, kind, first, inputs, out),
+        _ => false,
+    }
+}
+
+/// `run_direct` of three steps.
+fn by_two(
+    first: Instr,
+    second: Instr,
+    last: Instr,
+    inputs: Inputs<'_>,
+    t: Dtype,
+    out: &mut [u8],
+) -> bool
+    requires kernel { KernelFits (first ∷ second ∷ last ∷ []) (lay_types inputs.lays.now) [] t }
+    requires lays { All (LayFits inputs.dims.now (length inputs.ins.now)) inputs.lays.now }
+    requires out { length out.old ≡ product inputs.dims.now * size_of t }
+    ensures { IsTrue result → (p : ℕ) → p < product inputs.entry.dims.now → HasValue t out.new p (value_by_place (first ∷ second ∷ last ∷ []) inputs.entry.lays.now inputs.entry.ins.now inputs.entry.dims.now p) }
+{
+    match last {
+        Instr::Two(f, kind, 0, 1) => run_two(f, kind, first, second, inputs, out),
+        _ => false,
+    }
+}
+
+/// A function of one argument, of a region.
+fn run_one(f: Fn1, t: Dtype, first: Instr, inputs: Inputs<'_>, out: &mut [u8]) -> bool
+    requires kernel { KernelFits (first ∷ Instr.One f t 0 ∷ []) (lay_types inputs.lays.now) [] (result_type1 f t) }
+    requires lays { All (LayFits inputs.dims.now (length inputs.ins.now)) inputs.lays.now }
+    requires out { length out.old ≡ product inputs.dims.now * size_of (result_type1 f t) }
+    ensures { IsTrue result → (p : ℕ) → p < product inputs.entry.dims.now → HasValue (result_type1 f t) out.new p (value_by_place (first ∷ Instr.One f t 0 ∷ []) inputs.entry.lays.now inputs.entry.ins.now inputs.entry.dims.now p) }
+{
+    let Instr::Load(k) = first else {
+        return false;
+    };
+    one_region(f, t, k, inputs, out)
+}
+
+/// A function of one region.
+fn one_region(f: Fn1, t: Dtype, k: u32, inputs: Inputs<'_>, out: &mut [u8]) -> bool
+    requires kernel { KernelFits (Instr.Load k ∷ Instr.One f t 0 ∷ []) (lay_types inputs.lays.now) [] (result_type1 f t) }
+    requires lays { All (LayFits inputs.dims.now (length inputs.ins.now)) inputs.lays.now }
+    requires out { length out.old ≡ product inputs.dims.now * size_of (result_type1 f t) }
+    ensures { IsTrue result → (p : ℕ) → p < product inputs.entry.dims.now → HasValue (result_type1 f t) out.new p (value_by_place (Instr.Load k ∷ Instr.One f t 0 ∷ []) inputs.entry.lays.now inputs.entry.ins.now inputs.entry.dims.now p) }
+{
+    let lay = &inputs.lays[k as usize];
+    let source = Source {
+        lay,
+        ins: inputs.ins,
+    };
+    let call = Call::One(f, lay.dtype, t);
+    pieces(call, source, source, source, inputs.dims, out);
+    true
+}
+
+/// A function of the two steps before it.
 fn run_two(
     f: Fn2,
     t: Dtype,
     first: Instr,
     second: Instr,
-    lays: &[Lay],
-    dims: &Dims,
-    ins: &[u8],
+    inputs: Inputs<'_>,
     out: &mut [u8],
 ) -> bool
-    requires kernel { KernelFits (first ∷ second ∷ Instr.Two f t 0 1 ∷ []) (lay_types lays.now) [] (result_type2 f t) }
-    requires lays { All (LayFits dims.now (length ins.now)) lays.now }
-    requires out { length out.old ≡ product dims.now * size_of (result_type2 f t) }
-    ensures { IsTrue result → (p : ℕ) → p < product dims.now → HasValue (result_type2 f t) out.new p (value_by_place (first ∷ second ∷ Instr.Two f t 0 1 ∷ []) lays.now ins.now dims.now p) }
+    requires kernel { KernelFits (first ∷ second ∷ Instr.Two f t 0 1 ∷ []) (lay_types inputs.lays.now) [] (result_type2 f t) }
+    requires lays { All (LayFits inputs.dims.now (length inputs.ins.now)) inputs.lays.now }
+    requires out { length out.old ≡ product inputs.dims.now * size_of (result_type2 f t) }
+    ensures { IsTrue result → (p : ℕ) → p < product inputs.entry.dims.now → HasValue (result_type2 f t) out.new p (value_by_place (first ∷ second ∷ Instr.Two f t 0 1 ∷ []) inputs.entry.lays.now inputs.entry.ins.now inputs.entry.dims.now p) }
 {
-    match (first, second) {
-        (Instr::Load(x), Instr::Load(y)) => two_regions(f, t, x, y, lays, dims, ins, out),
-        (Instr::Load(x), Instr::Const(y)) => with_number(f, t, x, y, lays, dims, ins, out),
-        (Instr::Const(x), Instr::Load(y)) => of_number(f, t, x, y, lays, dims, ins, out),
-        _ => false,
-    }
-}
-
-/// The function of two regions, where both have its type.
-fn two_regions(
-    f: Fn2,
-    t: Dtype,
-    x: u32,
-    y: u32,
-    lays: &[Lay],
-    dims: &Dims,
-    ins: &[u8],
-    out: &mut [u8],
-) -> bool
-    requires kernel { KernelFits (Instr.Load x ∷ Instr.Load y ∷ Instr.Two f t 0 1 ∷ []) (lay_types lays.now) [] (result_type2 f t) }
-    requires lays { All (LayFits dims.now (length ins.now)) lays.now }
-    requires out { length out.old ≡ product dims.now * size_of (result_type2 f t) }
-    ensures { IsTrue result → (p : ℕ) → p < product dims.now → HasValue (result_type2 f t) out.new p (value_by_place (Instr.Load x ∷ Instr.Load y ∷ Instr.Two f t 0 1 ∷ []) lays.now ins.now dims.now p) }
-{
-    let (x, y) = (&lays[x as usize], &lays[y as usize]);
-    if x.dtype != t || y.dtype != t {
+    let first_literal = literal_of(first, t);
+    let second_literal = literal_of(second, t);
+    let Some(x) = source_of(first, t, inputs, &first_literal) else {
         return false;
-    }
-    pairs(f, t, x, ins, y, ins, dims, out);
+    };
+    let Some(y) = source_of(second, t, inputs, &second_literal) else {
+        return false;
+    };
+    pieces(Call::Two(f, t), x, y, y, inputs.dims, out);
     true
 }
 
-/// The function of a region of its type and a literal.
-fn with_number(
-    f: Fn2,
+/// A choice of the steps before it.
+fn run_select(
+    first: Instr,
+    second: Instr,
+    third: Instr,
+    inputs: Inputs<'_>,
     t: Dtype,
-    x: u32,
-    y: i128,
-    lays: &[Lay],
-    dims: &Dims,
-    ins: &[u8],
     out: &mut [u8],
 ) -> bool
-    requires kernel { KernelFits (Instr.Load x ∷ Instr.Const y ∷ Instr.Two f t 0 1 ∷ []) (lay_types lays.now) [] (result_type2 f t) }
-    requires lays { All (LayFits dims.now (length ins.now)) lays.now }
-    requires out { length out.old ≡ product dims.now * size_of (result_type2 f t) }
-    ensures { IsTrue result → (p : ℕ) → p < product dims.now → HasValue (result_type2 f t) out.new p (value_by_place (Instr.Load x ∷ Instr.Const y ∷ Instr.Two f t 0 1 ∷ []) lays.now ins.now dims.now p) }
+    requires kernel { KernelFits (first ∷ second ∷ third ∷ Instr.Select 0 1 2 ∷ []) (lay_types inputs.lays.now) [] t }
+    requires lays { All (LayFits inputs.dims.now (length inputs.ins.now)) inputs.lays.now }
+    requires out { length out.old ≡ product inputs.dims.now * size_of t }
+    ensures { IsTrue result → (p : ℕ) → p < product inputs.entry.dims.now → HasValue t out.new p (value_by_place (first ∷ second ∷ third ∷ Instr.Select 0 1 2 ∷ []) inputs.entry.lays.now inputs.entry.ins.now inputs.entry.dims.now p) }
 {
-    let x = &lays[x as usize];
-    if x.dtype != t {
+    let choice_literal = literal_of(first, Dtype::Bool);
+    let second_literal = literal_of(second, t);
+    let third_literal = literal_of(third, t);
+    let Some(x) = source_of(first, Dtype::Bool, inputs, &choice_literal) else {
         return false;
-    }
-    let own = spelled(t, y);
-    pairs(f, t, x, ins, &single(t), &own, dims, out);
-    true
-}
-
-/// The function of a literal and a region of its type.
-fn of_number(
-    f: Fn2,
-    t: Dtype,
-    x: i128,
-    y: u32,
-    lays: &[Lay],
-    dims: &Dims,
-    ins: &[u8],
-    out: &mut [u8],
-) -> bool
-    requires kernel { KernelFits (Instr.Const x ∷ Instr.Load y ∷ Instr.Two f t 0 1 ∷ []) (lay_types lays.now) [] (result_type2 f t) }
-    requires lays { All (LayFits dims.now (length ins.now)) lays.now }
-    requires out { length out.old ≡ product dims.now * size_of (result_type2 f t) }
-    ensures { IsTrue result → (p : ℕ) → p < product dims.now → HasValue (result_type2 f t) out.new p (value_by_place (Instr.Const x ∷ Instr.Load y ∷ Instr.Two f t 0 1 ∷ []) lays.now ins.now dims.now p) }
-{
-    let y = &lays[y as usize];
-    if y.dtype != t {
+    };
+    let Some(y) = source_of(second, t, inputs, &second_literal) else {
         return false;
-    }
-    let own = spelled(t, x);
-    pairs(f, t, &single(t), &own, y, ins, dims, out);
+    };
+    let Some(z) = source_of(third, t, inputs, &third_literal) else {
+        return false;
+    };
+    pieces(Call::Select(t), x, y, z, inputs.dims, out);
     true
-}
-
-/// A region of one element, which is stretched over the whole result.
-fn single(t: Dtype) -> Lay
-    ensures at { result.at ≡ 0 }
-    ensures dtype { result.dtype ≡ t }
-    ensures dims { result.dims ≡ [] }
-{
-    match Dims::make(&[]) {
-        Ok(dims) => Lay {
-            at: 0,
-            dtype: t,
-            dims,
-        },
-        Err(_) => unreachable!(),
-    }
-}
-
-/// A number of the type as an element, with zeros behind.
-fn spelled(t: Dtype, x: i128) -> [u8; 8]
-    requires { InRange t x }
-    ensures { element_at Little t result 0 ≡ x }
-{
-    let mut bytes = [0; 8];
-    save(t, x, &mut bytes, 0);
-    bytes
 }

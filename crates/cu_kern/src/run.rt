@@ -11,6 +11,7 @@ ghost use Rattle.cu_kern.specs.Steps.{value_by_place};
 
 use crate::direct::run_direct;
 use crate::lays::Lay;
+use crate::sources::Inputs;
 use crate::steps::{ROW, run_block};
 use arrayvec::ArrayVec;
 use cu_num::{Dtype, size};
@@ -60,7 +61,8 @@ fn run_places(
     requires words { length words.old ≡ 64 * length code.now }
     ensures { (p : ℕ) → p < product dims.now → HasValue t out.new p (value_by_place code.now lays.now ins.now dims.now p) }
 {
-    if !run_direct(code, lays, t, dims, ins, out) {
+    let inputs = Inputs { lays, ins, dims };
+    if !run_direct(code, inputs, t, out) {
         run_blocks(code, lays, t, dims, ins, out, words);
     }
 }

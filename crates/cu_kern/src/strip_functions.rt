@@ -1,216 +1,329 @@
-//! One call a function of two arguments from bytes to bytes, so that the loops of each are built apart.
-ghost use Rattle.std.specs.Prelude.{◌/◌, length};
-ghost use Rattle.cu_num.specs.Dtype.{size_of};
-ghost use Rattle.cu_num.specs.Scalar.{result_type2};
-ghost use Rattle.cu_kern.specs.Strips.{strip, HasPlaces, HasPairs};
+//! One call a function from bytes to bytes, so that the loops of each are built apart.
+ghost use Rattle.std.specs.Prelude.{◌≡◌, ◌≢◌, length};
+ghost use Rattle.cu_kern.specs.Strips.{strip, IsCall, HasArguments, HasResults};
 
-use crate::strip_loops::pair_by_type;
-use cu_num::{Dtype, Fn2};
+use crate::calls::Call;
+use crate::strip_loops::{
+    astype_by_types, compare_by_type, one_by_type, pair_by_type, select_by_type,
+};
+use crate::strips::Strip;
+use cu_num::{Dtype, Fn1, Fn2};
 
-/// The elements of a function of two arguments along a run, which are numbers of the type.
-pub(crate) fn pair(
-    f: Fn2,
-    t: Dtype,
-    x: &[u8],
-    x_step: usize,
-    y: &[u8],
-    y_step: usize,
-    out: &mut [u8],
-)
-    requires first { HasPlaces t (strip x.now x_step) (length out.old / size_of (result_type2 f t)) }
-    requires second { HasPlaces t (strip y.now y_step) (length out.old / size_of (result_type2 f t)) }
-    ensures { HasPairs f t (strip x.now x_step) (strip y.now y_step) out.new }
+/// The elements of a call along a run.
+pub(crate) fn call_strips(call: Call, x: Strip<'_>, y: Strip<'_>, z: Strip<'_>, out: &mut [u8])
+    requires call { IsCall call }
+    requires arguments { HasArguments call (strip x.bytes.now x.step) (strip y.bytes.now y.step) (strip z.bytes.now z.step) (length out.old) }
+    ensures { HasResults call (strip x.entry.bytes.now x.entry.step) (strip y.entry.bytes.now y.entry.step) (strip z.entry.bytes.now z.entry.step) out.new }
+{
+    match call {
+        Call::One(f, from, t) => one(f, from, t, x, out),
+        Call::Two(f, t) => pair(f, t, x, y, out),
+        Call::Select(t) => select(t, x, y, z, out),
+    }
+}
+
+/// The elements of a function of one argument.
+fn one(f: Fn1, from: Dtype, t: Dtype, x: Strip<'_>, out: &mut [u8])
+    requires call { IsCall (Call.One f from t) }
+    requires arguments { HasArguments (Call.One f from t) (strip x.bytes.now x.step) (strip x.bytes.now x.step) (strip x.bytes.now x.step) (length out.old) }
+    ensures { HasResults (Call.One f from t) (strip x.entry.bytes.now x.entry.step) (strip x.entry.bytes.now x.entry.step) (strip x.entry.bytes.now x.entry.step) out.new }
 {
     match f {
-        Fn2::Add => pair_add(t, x, x_step, y, y_step, out),
-        Fn2::Subtract => pair_subtract(t, x, x_step, y, y_step, out),
-        Fn2::Multiply => pair_multiply(t, x, x_step, y, y_step, out),
-        Fn2::FloorDivide => pair_floor_divide(t, x, x_step, y, y_step, out),
-        Fn2::Remainder => pair_remainder(t, x, x_step, y, y_step, out),
-        Fn2::BitwiseAnd => pair_bitwise_and(t, x, x_step, y, y_step, out),
-        Fn2::BitwiseOr => pair_bitwise_or(t, x, x_step, y, y_step, out),
-        Fn2::BitwiseXor => pair_bitwise_xor(t, x, x_step, y, y_step, out),
-        Fn2::LeftShift => pair_left_shift(t, x, x_step, y, y_step, out),
-        Fn2::RightShift => pair_right_shift(t, x, x_step, y, y_step, out),
-        Fn2::Equal => pair_equal(t, x, x_step, y, y_step, out),
-        Fn2::NotEqual => pair_not_equal(t, x, x_step, y, y_step, out),
-        Fn2::Less => pair_less(t, x, x_step, y, y_step, out),
-        Fn2::LessEqual => pair_less_equal(t, x, x_step, y, y_step, out),
-        Fn2::Greater => pair_greater(t, x, x_step, y, y_step, out),
-        Fn2::GreaterEqual => pair_greater_equal(t, x, x_step, y, y_step, out),
-        Fn2::LogicalAnd => pair_logical_and(t, x, x_step, y, y_step, out),
-        Fn2::LogicalOr => pair_logical_or(t, x, x_step, y, y_step, out),
-        Fn2::LogicalXor => pair_logical_xor(t, x, x_step, y, y_step, out),
+        Fn1::Negative => one_negative(t, x, out),
+        Fn1::Positive => one_positive(t, x, out),
+        Fn1::Abs => one_abs(t, x, out),
+        Fn1::Square => one_square(t, x, out),
+        Fn1::Sign => one_sign(t, x, out),
+        Fn1::BitwiseInvert => one_bitwise_invert(t, x, out),
+        Fn1::LogicalNot => one_logical_not(t, x, out),
+        Fn1::Astype => one_astype(from, t, x, out),
+    }
+}
+
+/// The elements of a function of two arguments.
+fn pair(f: Fn2, t: Dtype, x: Strip<'_>, y: Strip<'_>, out: &mut [u8])
+    requires arguments { HasArguments (Call.Two f t) (strip x.bytes.now x.step) (strip y.bytes.now y.step) (strip y.bytes.now y.step) (length out.old) }
+    ensures { HasResults (Call.Two f t) (strip x.entry.bytes.now x.entry.step) (strip y.entry.bytes.now y.entry.step) (strip y.entry.bytes.now y.entry.step) out.new }
+{
+    match f {
+        Fn2::Add => pair_add(t, x.bytes, x.step, y.bytes, y.step, out),
+        Fn2::Subtract => pair_subtract(t, x.bytes, x.step, y.bytes, y.step, out),
+        Fn2::Multiply => pair_multiply(t, x.bytes, x.step, y.bytes, y.step, out),
+        Fn2::FloorDivide => pair_floor_divide(t, x.bytes, x.step, y.bytes, y.step, out),
+        Fn2::Remainder => pair_remainder(t, x.bytes, x.step, y.bytes, y.step, out),
+        Fn2::BitwiseAnd => pair_bitwise_and(t, x.bytes, x.step, y.bytes, y.step, out),
+        Fn2::BitwiseOr => pair_bitwise_or(t, x.bytes, x.step, y.bytes, y.step, out),
+        Fn2::BitwiseXor => pair_bitwise_xor(t, x.bytes, x.step, y.bytes, y.step, out),
+        Fn2::LeftShift => pair_left_shift(t, x.bytes, x.step, y.bytes, y.step, out),
+        Fn2::RightShift => pair_right_shift(t, x.bytes, x.step, y.bytes, y.step, out),
+        Fn2::Equal => pair_equal(t, x.bytes, x.step, y.bytes, y.step, out),
+        Fn2::NotEqual => pair_not_equal(t, x.bytes, x.step, y.bytes, y.step, out),
+        Fn2::Less => pair_less(t, x.bytes, x.step, y.bytes, y.step, out),
+        Fn2::LessEqual => pair_less_equal(t, x.bytes, x.step, y.bytes, y.step, out),
+        Fn2::Greater => pair_greater(t, x.bytes, x.step, y.bytes, y.step, out),
+        Fn2::GreaterEqual => pair_greater_equal(t, x.bytes, x.step, y.bytes, y.step, out),
+        Fn2::LogicalAnd => pair_logical_and(t, x.bytes, x.step, y.bytes, y.step, out),
+        Fn2::LogicalOr => pair_logical_or(t, x.bytes, x.step, y.bytes, y.step, out),
+        Fn2::LogicalXor => pair_logical_xor(t, x.bytes, x.step, y.bytes, y.step, out),
     }
 }
 
 #[inline(never)]
+fn one_negative(t: Dtype, x: Strip<'_>, out: &mut [u8])
+    requires arguments { HasArguments (Call.One Fn1.Negative t t) (strip x.bytes.now x.step) (strip x.bytes.now x.step) (strip x.bytes.now x.step) (length out.old) }
+    ensures { HasResults (Call.One Fn1.Negative t t) (strip x.entry.bytes.now x.entry.step) (strip x.entry.bytes.now x.entry.step) (strip x.entry.bytes.now x.entry.step) out.new }
+{
+    one_by_type(Fn1::Negative, t, x, out);
+}
+
+#[inline(never)]
+fn one_positive(t: Dtype, x: Strip<'_>, out: &mut [u8])
+    requires arguments { HasArguments (Call.One Fn1.Positive t t) (strip x.bytes.now x.step) (strip x.bytes.now x.step) (strip x.bytes.now x.step) (length out.old) }
+    ensures { HasResults (Call.One Fn1.Positive t t) (strip x.entry.bytes.now x.entry.step) (strip x.entry.bytes.now x.entry.step) (strip x.entry.bytes.now x.entry.step) out.new }
+{
+    one_by_type(Fn1::Positive, t, x, out);
+}
+
+#[inline(never)]
+fn one_abs(t: Dtype, x: Strip<'_>, out: &mut [u8])
+    requires arguments { HasArguments (Call.One Fn1.Abs t t) (strip x.bytes.now x.step) (strip x.bytes.now x.step) (strip x.bytes.now x.step) (length out.old) }
+    ensures { HasResults (Call.One Fn1.Abs t t) (strip x.entry.bytes.now x.entry.step) (strip x.entry.bytes.now x.entry.step) (strip x.entry.bytes.now x.entry.step) out.new }
+{
+    one_by_type(Fn1::Abs, t, x, out);
+}
+
+#[inline(never)]
+fn one_square(t: Dtype, x: Strip<'_>, out: &mut [u8])
+    requires arguments { HasArguments (Call.One Fn1.Square t t) (strip x.bytes.now x.step) (strip x.bytes.now x.step) (strip x.bytes.now x.step) (length out.old) }
+    ensures { HasResults (Call.One Fn1.Square t t) (strip x.entry.bytes.now x.entry.step) (strip x.entry.bytes.now x.entry.step) (strip x.entry.bytes.now x.entry.step) out.new }
+{
+    one_by_type(Fn1::Square, t, x, out);
+}
+
+#[inline(never)]
+fn one_sign(t: Dtype, x: Strip<'_>, out: &mut [u8])
+    requires arguments { HasArguments (Call.One Fn1.Sign t t) (strip x.bytes.now x.step) (strip x.bytes.now x.step) (strip x.bytes.now x.step) (length out.old) }
+    ensures { HasResults (Call.One Fn1.Sign t t) (strip x.entry.bytes.now x.entry.step) (strip x.entry.bytes.now x.entry.step) (strip x.entry.bytes.now x.entry.step) out.new }
+{
+    one_by_type(Fn1::Sign, t, x, out);
+}
+
+#[inline(never)]
+fn one_bitwise_invert(t: Dtype, x: Strip<'_>, out: &mut [u8])
+    requires arguments { HasArguments (Call.One Fn1.BitwiseInvert t t) (strip x.bytes.now x.step) (strip x.bytes.now x.step) (strip x.bytes.now x.step) (length out.old) }
+    ensures { HasResults (Call.One Fn1.BitwiseInvert t t) (strip x.entry.bytes.now x.entry.step) (strip x.entry.bytes.now x.entry.step) (strip x.entry.bytes.now x.entry.step) out.new }
+{
+    one_by_type(Fn1::BitwiseInvert, t, x, out);
+}
+
+#[inline(never)]
+fn one_logical_not(t: Dtype, x: Strip<'_>, out: &mut [u8])
+    requires arguments { HasArguments (Call.One Fn1.LogicalNot t t) (strip x.bytes.now x.step) (strip x.bytes.now x.step) (strip x.bytes.now x.step) (length out.old) }
+    ensures { HasResults (Call.One Fn1.LogicalNot t t) (strip x.entry.bytes.now x.entry.step) (strip x.entry.bytes.now x.entry.step) (strip x.entry.bytes.now x.entry.step) out.new }
+{
+    one_by_type(Fn1::LogicalNot, t, x, out);
+}
+
+#[inline(never)]
+fn one_astype(from: Dtype, t: Dtype, x: Strip<'_>, out: &mut [u8])
+    requires arguments { HasArguments (Call.One Fn1.Astype from t) (strip x.bytes.now x.step) (strip x.bytes.now x.step) (strip x.bytes.now x.step) (length out.old) }
+    ensures { HasResults (Call.One Fn1.Astype from t) (strip x.entry.bytes.now x.entry.step) (strip x.entry.bytes.now x.entry.step) (strip x.entry.bytes.now x.entry.step) out.new }
+{
+    astype_by_types(from, t, x, out);
+}
+
+#[inline(never)]
 fn pair_add(t: Dtype, x: &[u8], x_step: usize, y: &[u8], y_step: usize, out: &mut [u8])
-    requires first { HasPlaces t (strip x.now x_step) (length out.old / size_of (result_type2 Fn2.Add t)) }
-    requires second { HasPlaces t (strip y.now y_step) (length out.old / size_of (result_type2 Fn2.Add t)) }
-    ensures { HasPairs Fn2.Add t (strip x.now x_step) (strip y.now y_step) out.new }
+    requires arguments { HasArguments (Call.Two Fn2.Add t) (strip x.now x_step) (strip y.now y_step) (strip y.now y_step) (length out.old) }
+    ensures { HasResults (Call.Two Fn2.Add t) (strip x.now x_step) (strip y.now y_step) (strip y.now y_step) out.new }
 {
     pair_by_type(Fn2::Add, t, x, x_step, y, y_step, out);
 }
 
 #[inline(never)]
 fn pair_subtract(t: Dtype, x: &[u8], x_step: usize, y: &[u8], y_step: usize, out: &mut [u8])
-    requires first { HasPlaces t (strip x.now x_step) (length out.old / size_of (result_type2 Fn2.Subtract t)) }
-    requires second { HasPlaces t (strip y.now y_step) (length out.old / size_of (result_type2 Fn2.Subtract t)) }
-    ensures { HasPairs Fn2.Subtract t (strip x.now x_step) (strip y.now y_step) out.new }
+    requires arguments { HasArguments (Call.Two Fn2.Subtract t) (strip x.now x_step) (strip y.now y_step) (strip y.now y_step) (length out.old) }
+    ensures { HasResults (Call.Two Fn2.Subtract t) (strip x.now x_step) (strip y.now y_step) (strip y.now y_step) out.new }
 {
     pair_by_type(Fn2::Subtract, t, x, x_step, y, y_step, out);
 }
 
 #[inline(never)]
 fn pair_multiply(t: Dtype, x: &[u8], x_step: usize, y: &[u8], y_step: usize, out: &mut [u8])
-    requires first { HasPlaces t (strip x.now x_step) (length out.old / size_of (result_type2 Fn2.Multiply t)) }
-    requires second { HasPlaces t (strip y.now y_step) (length out.old / size_of (result_type2 Fn2.Multiply t)) }
-    ensures { HasPairs Fn2.Multiply t (strip x.now x_step) (strip y.now y_step) out.new }
+    requires arguments { HasArguments (Call.Two Fn2.Multiply t) (strip x.now x_step) (strip y.now y_step) (strip y.now y_step) (length out.old) }
+    ensures { HasResults (Call.Two Fn2.Multiply t) (strip x.now x_step) (strip y.now y_step) (strip y.now y_step) out.new }
 {
     pair_by_type(Fn2::Multiply, t, x, x_step, y, y_step, out);
 }
 
 #[inline(never)]
 fn pair_floor_divide(t: Dtype, x: &[u8], x_step: usize, y: &[u8], y_step: usize, out: &mut [u8])
-    requires first { HasPlaces t (strip x.now x_step) (length out.old / size_of (result_type2 Fn2.FloorDivide t)) }
-    requires second { HasPlaces t (strip y.now y_step) (length out.old / size_of (result_type2 Fn2.FloorDivide t)) }
-    ensures { HasPairs Fn2.FloorDivide t (strip x.now x_step) (strip y.now y_step) out.new }
+    requires arguments { HasArguments (Call.Two Fn2.FloorDivide t) (strip x.now x_step) (strip y.now y_step) (strip y.now y_step) (length out.old) }
+    ensures { HasResults (Call.Two Fn2.FloorDivide t) (strip x.now x_step) (strip y.now y_step) (strip y.now y_step) out.new }
 {
     pair_by_type(Fn2::FloorDivide, t, x, x_step, y, y_step, out);
 }
 
 #[inline(never)]
 fn pair_remainder(t: Dtype, x: &[u8], x_step: usize, y: &[u8], y_step: usize, out: &mut [u8])
-    requires first { HasPlaces t (strip x.now x_step) (length out.old / size_of (result_type2 Fn2.Remainder t)) }
-    requires second { HasPlaces t (strip y.now y_step) (length out.old / size_of (result_type2 Fn2.Remainder t)) }
-    ensures { HasPairs Fn2.Remainder t (strip x.now x_step) (strip y.now y_step) out.new }
+    requires arguments { HasArguments (Call.Two Fn2.Remainder t) (strip x.now x_step) (strip y.now y_step) (strip y.now y_step) (length out.old) }
+    ensures { HasResults (Call.Two Fn2.Remainder t) (strip x.now x_step) (strip y.now y_step) (strip y.now y_step) out.new }
 {
     pair_by_type(Fn2::Remainder, t, x, x_step, y, y_step, out);
 }
 
 #[inline(never)]
 fn pair_bitwise_and(t: Dtype, x: &[u8], x_step: usize, y: &[u8], y_step: usize, out: &mut [u8])
-    requires first { HasPlaces t (strip x.now x_step) (length out.old / size_of (result_type2 Fn2.BitwiseAnd t)) }
-    requires second { HasPlaces t (strip y.now y_step) (length out.old / size_of (result_type2 Fn2.BitwiseAnd t)) }
-    ensures { HasPairs Fn2.BitwiseAnd t (strip x.now x_step) (strip y.now y_step) out.new }
+    requires arguments { HasArguments (Call.Two Fn2.BitwiseAnd t) (strip x.now x_step) (strip y.now y_step) (strip y.now y_step) (length out.old) }
+    ensures { HasResults (Call.Two Fn2.BitwiseAnd t) (strip x.now x_step) (strip y.now y_step) (strip y.now y_step) out.new }
 {
     pair_by_type(Fn2::BitwiseAnd, t, x, x_step, y, y_step, out);
 }
 
 #[inline(never)]
 fn pair_bitwise_or(t: Dtype, x: &[u8], x_step: usize, y: &[u8], y_step: usize, out: &mut [u8])
-    requires first { HasPlaces t (strip x.now x_step) (length out.old / size_of (result_type2 Fn2.BitwiseOr t)) }
-    requires second { HasPlaces t (strip y.now y_step) (length out.old / size_of (result_type2 Fn2.BitwiseOr t)) }
-    ensures { HasPairs Fn2.BitwiseOr t (strip x.now x_step) (strip y.now y_step) out.new }
+    requires arguments { HasArguments (Call.Two Fn2.BitwiseOr t) (strip x.now x_step) (strip y.now y_step) (strip y.now y_step) (length out.old) }
+    ensures { HasResults (Call.Two Fn2.BitwiseOr t) (strip x.now x_step) (strip y.now y_step) (strip y.now y_step) out.new }
 {
     pair_by_type(Fn2::BitwiseOr, t, x, x_step, y, y_step, out);
 }
 
 #[inline(never)]
 fn pair_bitwise_xor(t: Dtype, x: &[u8], x_step: usize, y: &[u8], y_step: usize, out: &mut [u8])
-    requires first { HasPlaces t (strip x.now x_step) (length out.old / size_of (result_type2 Fn2.BitwiseXor t)) }
-    requires second { HasPlaces t (strip y.now y_step) (length out.old / size_of (result_type2 Fn2.BitwiseXor t)) }
-    ensures { HasPairs Fn2.BitwiseXor t (strip x.now x_step) (strip y.now y_step) out.new }
+    requires arguments { HasArguments (Call.Two Fn2.BitwiseXor t) (strip x.now x_step) (strip y.now y_step) (strip y.now y_step) (length out.old) }
+    ensures { HasResults (Call.Two Fn2.BitwiseXor t) (strip x.now x_step) (strip y.now y_step) (strip y.now y_step) out.new }
 {
     pair_by_type(Fn2::BitwiseXor, t, x, x_step, y, y_step, out);
 }
 
 #[inline(never)]
 fn pair_left_shift(t: Dtype, x: &[u8], x_step: usize, y: &[u8], y_step: usize, out: &mut [u8])
-    requires first { HasPlaces t (strip x.now x_step) (length out.old / size_of (result_type2 Fn2.LeftShift t)) }
-    requires second { HasPlaces t (strip y.now y_step) (length out.old / size_of (result_type2 Fn2.LeftShift t)) }
-    ensures { HasPairs Fn2.LeftShift t (strip x.now x_step) (strip y.now y_step) out.new }
+    requires arguments { HasArguments (Call.Two Fn2.LeftShift t) (strip x.now x_step) (strip y.now y_step) (strip y.now y_step) (length out.old) }
+    ensures { HasResults (Call.Two Fn2.LeftShift t) (strip x.now x_step) (strip y.now y_step) (strip y.now y_step) out.new }
 {
     pair_by_type(Fn2::LeftShift, t, x, x_step, y, y_step, out);
 }
 
 #[inline(never)]
 fn pair_right_shift(t: Dtype, x: &[u8], x_step: usize, y: &[u8], y_step: usize, out: &mut [u8])
-    requires first { HasPlaces t (strip x.now x_step) (length out.old / size_of (result_type2 Fn2.RightShift t)) }
-    requires second { HasPlaces t (strip y.now y_step) (length out.old / size_of (result_type2 Fn2.RightShift t)) }
-    ensures { HasPairs Fn2.RightShift t (strip x.now x_step) (strip y.now y_step) out.new }
+    requires arguments { HasArguments (Call.Two Fn2.RightShift t) (strip x.now x_step) (strip y.now y_step) (strip y.now y_step) (length out.old) }
+    ensures { HasResults (Call.Two Fn2.RightShift t) (strip x.now x_step) (strip y.now y_step) (strip y.now y_step) out.new }
 {
     pair_by_type(Fn2::RightShift, t, x, x_step, y, y_step, out);
 }
 
 #[inline(never)]
 fn pair_equal(t: Dtype, x: &[u8], x_step: usize, y: &[u8], y_step: usize, out: &mut [u8])
-    requires first { HasPlaces t (strip x.now x_step) (length out.old / size_of (result_type2 Fn2.Equal t)) }
-    requires second { HasPlaces t (strip y.now y_step) (length out.old / size_of (result_type2 Fn2.Equal t)) }
-    ensures { HasPairs Fn2.Equal t (strip x.now x_step) (strip y.now y_step) out.new }
+    requires arguments { HasArguments (Call.Two Fn2.Equal t) (strip x.now x_step) (strip y.now y_step) (strip y.now y_step) (length out.old) }
+    ensures { HasResults (Call.Two Fn2.Equal t) (strip x.now x_step) (strip y.now y_step) (strip y.now y_step) out.new }
 {
+    if x_step == 1 {
+        if out.len() >= 16 {
+            compare_by_type(Fn2::Equal, t, x, y, y_step, out);
+            return;
+        }
+    }
     pair_by_type(Fn2::Equal, t, x, x_step, y, y_step, out);
 }
 
 #[inline(never)]
 fn pair_not_equal(t: Dtype, x: &[u8], x_step: usize, y: &[u8], y_step: usize, out: &mut [u8])
-    requires first { HasPlaces t (strip x.now x_step) (length out.old / size_of (result_type2 Fn2.NotEqual t)) }
-    requires second { HasPlaces t (strip y.now y_step) (length out.old / size_of (result_type2 Fn2.NotEqual t)) }
-    ensures { HasPairs Fn2.NotEqual t (strip x.now x_step) (strip y.now y_step) out.new }
+    requires arguments { HasArguments (Call.Two Fn2.NotEqual t) (strip x.now x_step) (strip y.now y_step) (strip y.now y_step) (length out.old) }
+    ensures { HasResults (Call.Two Fn2.NotEqual t) (strip x.now x_step) (strip y.now y_step) (strip y.now y_step) out.new }
 {
+    if x_step == 1 {
+        if out.len() >= 16 {
+            compare_by_type(Fn2::NotEqual, t, x, y, y_step, out);
+            return;
+        }
+    }
     pair_by_type(Fn2::NotEqual, t, x, x_step, y, y_step, out);
 }
 
 #[inline(never)]
 fn pair_less(t: Dtype, x: &[u8], x_step: usize, y: &[u8], y_step: usize, out: &mut [u8])
-    requires first { HasPlaces t (strip x.now x_step) (length out.old / size_of (result_type2 Fn2.Less t)) }
-    requires second { HasPlaces t (strip y.now y_step) (length out.old / size_of (result_type2 Fn2.Less t)) }
-    ensures { HasPairs Fn2.Less t (strip x.now x_step) (strip y.now y_step) out.new }
+    requires arguments { HasArguments (Call.Two Fn2.Less t) (strip x.now x_step) (strip y.now y_step) (strip y.now y_step) (length out.old) }
+    ensures { HasResults (Call.Two Fn2.Less t) (strip x.now x_step) (strip y.now y_step) (strip y.now y_step) out.new }
 {
+    if x_step == 1 {
+        if out.len() >= 16 {
+            compare_by_type(Fn2::Less, t, x, y, y_step, out);
+            return;
+        }
+    }
     pair_by_type(Fn2::Less, t, x, x_step, y, y_step, out);
 }
 
 #[inline(never)]
 fn pair_less_equal(t: Dtype, x: &[u8], x_step: usize, y: &[u8], y_step: usize, out: &mut [u8])
-    requires first { HasPlaces t (strip x.now x_step) (length out.old / size_of (result_type2 Fn2.LessEqual t)) }
-    requires second { HasPlaces t (strip y.now y_step) (length out.old / size_of (result_type2 Fn2.LessEqual t)) }
-    ensures { HasPairs Fn2.LessEqual t (strip x.now x_step) (strip y.now y_step) out.new }
+    requires arguments { HasArguments (Call.Two Fn2.LessEqual t) (strip x.now x_step) (strip y.now y_step) (strip y.now y_step) (length out.old) }
+    ensures { HasResults (Call.Two Fn2.LessEqual t) (strip x.now x_step) (strip y.now y_step) (strip y.now y_step) out.new }
 {
+    if x_step == 1 {
+        if out.len() >= 16 {
+            compare_by_type(Fn2::LessEqual, t, x, y, y_step, out);
+            return;
+        }
+    }
     pair_by_type(Fn2::LessEqual, t, x, x_step, y, y_step, out);
 }
 
 #[inline(never)]
 fn pair_greater(t: Dtype, x: &[u8], x_step: usize, y: &[u8], y_step: usize, out: &mut [u8])
-    requires first { HasPlaces t (strip x.now x_step) (length out.old / size_of (result_type2 Fn2.Greater t)) }
-    requires second { HasPlaces t (strip y.now y_step) (length out.old / size_of (result_type2 Fn2.Greater t)) }
-    ensures { HasPairs Fn2.Greater t (strip x.now x_step) (strip y.now y_step) out.new }
+    requires arguments { HasArguments (Call.Two Fn2.Greater t) (strip x.now x_step) (strip y.now y_step) (strip y.now y_step) (length out.old) }
+    ensures { HasResults (Call.Two Fn2.Greater t) (strip x.now x_step) (strip y.now y_step) (strip y.now y_step) out.new }
 {
+    if x_step == 1 {
+        if out.len() >= 16 {
+            compare_by_type(Fn2::Greater, t, x, y, y_step, out);
+            return;
+        }
+    }
     pair_by_type(Fn2::Greater, t, x, x_step, y, y_step, out);
 }
 
 #[inline(never)]
 fn pair_greater_equal(t: Dtype, x: &[u8], x_step: usize, y: &[u8], y_step: usize, out: &mut [u8])
-    requires first { HasPlaces t (strip x.now x_step) (length out.old / size_of (result_type2 Fn2.GreaterEqual t)) }
-    requires second { HasPlaces t (strip y.now y_step) (length out.old / size_of (result_type2 Fn2.GreaterEqual t)) }
-    ensures { HasPairs Fn2.GreaterEqual t (strip x.now x_step) (strip y.now y_step) out.new }
+    requires arguments { HasArguments (Call.Two Fn2.GreaterEqual t) (strip x.now x_step) (strip y.now y_step) (strip y.now y_step) (length out.old) }
+    ensures { HasResults (Call.Two Fn2.GreaterEqual t) (strip x.now x_step) (strip y.now y_step) (strip y.now y_step) out.new }
 {
+    if x_step == 1 {
+        if out.len() >= 16 {
+            compare_by_type(Fn2::GreaterEqual, t, x, y, y_step, out);
+            return;
+        }
+    }
     pair_by_type(Fn2::GreaterEqual, t, x, x_step, y, y_step, out);
 }
 
 #[inline(never)]
 fn pair_logical_and(t: Dtype, x: &[u8], x_step: usize, y: &[u8], y_step: usize, out: &mut [u8])
-    requires first { HasPlaces t (strip x.now x_step) (length out.old / size_of (result_type2 Fn2.LogicalAnd t)) }
-    requires second { HasPlaces t (strip y.now y_step) (length out.old / size_of (result_type2 Fn2.LogicalAnd t)) }
-    ensures { HasPairs Fn2.LogicalAnd t (strip x.now x_step) (strip y.now y_step) out.new }
+    requires arguments { HasArguments (Call.Two Fn2.LogicalAnd t) (strip x.now x_step) (strip y.now y_step) (strip y.now y_step) (length out.old) }
+    ensures { HasResults (Call.Two Fn2.LogicalAnd t) (strip x.now x_step) (strip y.now y_step) (strip y.now y_step) out.new }
 {
     pair_by_type(Fn2::LogicalAnd, t, x, x_step, y, y_step, out);
 }
 
 #[inline(never)]
 fn pair_logical_or(t: Dtype, x: &[u8], x_step: usize, y: &[u8], y_step: usize, out: &mut [u8])
-    requires first { HasPlaces t (strip x.now x_step) (length out.old / size_of (result_type2 Fn2.LogicalOr t)) }
-    requires second { HasPlaces t (strip y.now y_step) (length out.old / size_of (result_type2 Fn2.LogicalOr t)) }
-    ensures { HasPairs Fn2.LogicalOr t (strip x.now x_step) (strip y.now y_step) out.new }
+    requires arguments { HasArguments (Call.Two Fn2.LogicalOr t) (strip x.now x_step) (strip y.now y_step) (strip y.now y_step) (length out.old) }
+    ensures { HasResults (Call.Two Fn2.LogicalOr t) (strip x.now x_step) (strip y.now y_step) (strip y.now y_step) out.new }
 {
     pair_by_type(Fn2::LogicalOr, t, x, x_step, y, y_step, out);
 }
 
 #[inline(never)]
 fn pair_logical_xor(t: Dtype, x: &[u8], x_step: usize, y: &[u8], y_step: usize, out: &mut [u8])
-    requires first { HasPlaces t (strip x.now x_step) (length out.old / size_of (result_type2 Fn2.LogicalXor t)) }
-    requires second { HasPlaces t (strip y.now y_step) (length out.old / size_of (result_type2 Fn2.LogicalXor t)) }
-    ensures { HasPairs Fn2.LogicalXor t (strip x.now x_step) (strip y.now y_step) out.new }
+    requires arguments { HasArguments (Call.Two Fn2.LogicalXor t) (strip x.now x_step) (strip y.now y_step) (strip y.now y_step) (length out.old) }
+    ensures { HasResults (Call.Two Fn2.LogicalXor t) (strip x.now x_step) (strip y.now y_step) (strip y.now y_step) out.new }
 {
     pair_by_type(Fn2::LogicalXor, t, x, x_step, y, y_step, out);
+}
+
+#[inline(never)]
+fn select(t: Dtype, x: Strip<'_>, y: Strip<'_>, z: Strip<'_>, out: &mut [u8])
+    requires arguments { HasArguments (Call.Select t) (strip x.bytes.now x.step) (strip y.bytes.now y.step) (strip z.bytes.now z.step) (length out.old) }
+    ensures { HasResults (Call.Select t) (strip x.entry.bytes.now x.entry.step) (strip y.entry.bytes.now y.entry.step) (strip z.entry.bytes.now z.entry.step) out.new }
+{
+    select_by_type(t, x, y, z, out);
 }

@@ -1,11 +1,70 @@
-//! Loops from bytes to bytes, one for each function, type and pair of steps: the calls give all as literals, and the loops are
-//! built for them.
-ghost use Rattle.std.specs.Prelude.{◌/◌, ◌≤◌, length};
-ghost use Rattle.cu_num.specs.Dtype.{size_of};
+//! Loops from bytes to bytes, one for each call and steps of its arguments: all are given as literals, and the loops are built for
+//! them.
+ghost use Rattle.std.specs.Prelude.{◌≤◌, ◌≡◌, ◌≢◌, ◌+◌, ◌<◌, ℕ, length};
 ghost use Rattle.cu_num.specs.Scalar.{result_type2};
-ghost use Rattle.cu_kern.specs.Strips.{strip, HasPlaces, HasPairs};
+ghost use Rattle.cu_num.specs.declared.types.Dtype.TheVariants.{Bool};
+ghost use Rattle.cu_kern.specs.Strips.{strip, IsCall, HasArguments, HasResults};
 
-use cu_num::{Dtype, Fn2, load, result2, save, scalar2, size};
+use crate::calls::Call;
+use crate::strips::{Strip, compare_each, one_from, pair_each, select_from};
+use cu_num::{Dtype, Fn1, Fn2};
+
+/// A function of one argument other than `Astype`, with loops for each type.
+#[inline(always)]
+pub(crate) fn one_by_type(f: Fn1, t: Dtype, x: Strip<'_>, out: &mut [u8])
+    requires call { IsCall (Call.One f t t) }
+    requires arguments { HasArguments (Call.One f t t) (strip x.bytes.now x.step) (strip x.bytes.now x.step) (strip x.bytes.now x.step) (length out.old) }
+    ensures { HasResults (Call.One f t t) (strip x.entry.bytes.now x.entry.step) (strip x.entry.bytes.now x.entry.step) (strip x.entry.bytes.now x.entry.step) out.new }
+{
+    match t {
+        Dtype::Bool => by_step(f, Dtype::Bool, Dtype::Bool, x, out),
+        Dtype::Int8 => by_step(f, Dtype::Int8, Dtype::Int8, x, out),
+        Dtype::Int16 => by_step(f, Dtype::Int16, Dtype::Int16, x, out),
+        Dtype::Int32 => by_step(f, Dtype::Int32, Dtype::Int32, x, out),
+        Dtype::Int64 => by_step(f, Dtype::Int64, Dtype::Int64, x, out),
+        Dtype::Uint8 => by_step(f, Dtype::Uint8, Dtype::Uint8, x, out),
+        Dtype::Uint16 => by_step(f, Dtype::Uint16, Dtype::Uint16, x, out),
+        Dtype::Uint32 => by_step(f, Dtype::Uint32, Dtype::Uint32, x, out),
+        Dtype::Uint64 => by_step(f, Dtype::Uint64, Dtype::Uint64, x, out),
+    }
+}
+
+/// `Astype`, with loops for each pair of types.
+#[inline(always)]
+pub(crate) fn astype_by_types(from: Dtype, t: Dtype, x: Strip<'_>, out: &mut [u8])
+    requires arguments { HasArguments (Call.One Fn1.Astype from t) (strip x.bytes.now x.step) (strip x.bytes.now x.step) (strip x.bytes.now x.step) (length out.old) }
+    ensures { HasResults (Call.One Fn1.Astype from t) (strip x.entry.bytes.now x.entry.step) (strip x.entry.bytes.now x.entry.step) (strip x.entry.bytes.now x.entry.step) out.new }
+{
+    match from {
+        Dtype::Bool => astype_to(Dtype::Bool, t, x, out),
+        Dtype::Int8 => astype_to(Dtype::Int8, t, x, out),
+        Dtype::Int16 => astype_to(Dtype::Int16, t, x, out),
+        Dtype::Int32 => astype_to(Dtype::Int32, t, x, out),
+        Dtype::Int64 => astype_to(Dtype::Int64, t, x, out),
+        Dtype::Uint8 => astype_to(Dtype::Uint8, t, x, out),
+        Dtype::Uint16 => astype_to(Dtype::Uint16, t, x, out),
+        Dtype::Uint32 => astype_to(Dtype::Uint32, t, x, out),
+        Dtype::Uint64 => astype_to(Dtype::Uint64, t, x, out),
+    }
+}
+
+#[inline(always)]
+fn astype_to(from: Dtype, t: Dtype, x: Strip<'_>, out: &mut [u8])
+    requires arguments { HasArguments (Call.One Fn1.Astype from t) (strip x.bytes.now x.step) (strip x.bytes.now x.step) (strip x.bytes.now x.step) (length out.old) }
+    ensures { HasResults (Call.One Fn1.Astype from t) (strip x.entry.bytes.now x.entry.step) (strip x.entry.bytes.now x.entry.step) (strip x.entry.bytes.now x.entry.step) out.new }
+{
+    match t {
+        Dtype::Bool => by_step(Fn1::Astype, from, Dtype::Bool, x, out),
+        Dtype::Int8 => by_step(Fn1::Astype, from, Dtype::Int8, x, out),
+        Dtype::Int16 => by_step(Fn1::Astype, from, Dtype::Int16, x, out),
+        Dtype::Int32 => by_step(Fn1::Astype, from, Dtype::Int32, x, out),
+        Dtype::Int64 => by_step(Fn1::Astype, from, Dtype::Int64, x, out),
+        Dtype::Uint8 => by_step(Fn1::Astype, from, Dtype::Uint8, x, out),
+        Dtype::Uint16 => by_step(Fn1::Astype, from, Dtype::Uint16, x, out),
+        Dtype::Uint32 => by_step(Fn1::Astype, from, Dtype::Uint32, x, out),
+        Dtype::Uint64 => by_step(Fn1::Astype, from, Dtype::Uint64, x, out),
+    }
+}
 
 /// A function of two arguments, with loops for each type.
 #[inline(always)]
@@ -18,38 +77,105 @@ pub(crate) fn pair_by_type(
     y_step: usize,
     out: &mut [u8],
 )
-    requires first { HasPlaces t (strip x.now x_step) (length out.old / size_of (result_type2 f t)) }
-    requires second { HasPlaces t (strip y.now y_step) (length out.old / size_of (result_type2 f t)) }
-    ensures { HasPairs f t (strip x.now x_step) (strip y.now y_step) out.new }
+    requires arguments { HasArguments (Call.Two f t) (strip x.now x_step) (strip y.now y_step) (strip y.now y_step) (length out.old) }
+    ensures { HasResults (Call.Two f t) (strip x.now x_step) (strip y.now y_step) (strip y.now y_step) out.new }
 {
     match t {
-        Dtype::Bool => pair_by_step(f, Dtype::Bool, x, x_step, y, y_step, out),
-        Dtype::Int8 => pair_by_step(f, Dtype::Int8, x, x_step, y, y_step, out),
-        Dtype::Int16 => pair_by_step(f, Dtype::Int16, x, x_step, y, y_step, out),
-        Dtype::Int32 => pair_by_step(f, Dtype::Int32, x, x_step, y, y_step, out),
-        Dtype::Int64 => pair_by_step(f, Dtype::Int64, x, x_step, y, y_step, out),
-        Dtype::Uint8 => pair_by_step(f, Dtype::Uint8, x, x_step, y, y_step, out),
-        Dtype::Uint16 => pair_by_step(f, Dtype::Uint16, x, x_step, y, y_step, out),
-        Dtype::Uint32 => pair_by_step(f, Dtype::Uint32, x, x_step, y, y_step, out),
-        Dtype::Uint64 => pair_by_step(f, Dtype::Uint64, x, x_step, y, y_step, out),
+        Dtype::Bool => by_first_step(f, Dtype::Bool, x, x_step, y, y_step, out),
+        Dtype::Int8 => by_first_step(f, Dtype::Int8, x, x_step, y, y_step, out),
+        Dtype::Int16 => by_first_step(f, Dtype::Int16, x, x_step, y, y_step, out),
+        Dtype::Int32 => by_first_step(f, Dtype::Int32, x, x_step, y, y_step, out),
+        Dtype::Int64 => by_first_step(f, Dtype::Int64, x, x_step, y, y_step, out),
+        Dtype::Uint8 => by_first_step(f, Dtype::Uint8, x, x_step, y, y_step, out),
+        Dtype::Uint16 => by_first_step(f, Dtype::Uint16, x, x_step, y, y_step, out),
+        Dtype::Uint32 => by_first_step(f, Dtype::Uint32, x, x_step, y, y_step, out),
+        Dtype::Uint64 => by_first_step(f, Dtype::Uint64, x, x_step, y, y_step, out),
+    }
+}
+
+/// A function of at least sixteen arguments of which the first move on, that gives truth values, with loops for each type.
+#[inline(always)]
+pub(crate) fn compare_by_type(f: Fn2, t: Dtype, x: &[u8], y: &[u8], y_step: usize, out: &mut [u8])
+    requires truth { result_type2 f t ≡ Bool }
+    requires some { 16 ≤ length out.old }
+    requires arguments { HasArguments (Call.Two f t) (strip x.now 1) (strip y.now y_step) (strip y.now y_step) (length out.old) }
+    ensures { HasResults (Call.Two f t) (strip x.now 1) (strip y.now y_step) (strip y.now y_step) out.new }
+{
+    match t {
+        Dtype::Bool => compare_by_step(f, Dtype::Bool, x, y, y_step, out),
+        Dtype::Int8 => compare_by_step(f, Dtype::Int8, x, y, y_step, out),
+        Dtype::Int16 => compare_by_step(f, Dtype::Int16, x, y, y_step, out),
+        Dtype::Int32 => compare_by_step(f, Dtype::Int32, x, y, y_step, out),
+        Dtype::Int64 => compare_by_step(f, Dtype::Int64, x, y, y_step, out),
+        Dtype::Uint8 => compare_by_step(f, Dtype::Uint8, x, y, y_step, out),
+        Dtype::Uint16 => compare_by_step(f, Dtype::Uint16, x, y, y_step, out),
+        Dtype::Uint32 => compare_by_step(f, Dtype::Uint32, x, y, y_step, out),
+        Dtype::Uint64 => compare_by_step(f, Dtype::Uint64, x, y, y_step, out),
     }
 }
 
 #[inline(always)]
-fn pair_by_step(f: Fn2, t: Dtype, x: &[u8], x_step: usize, y: &[u8], y_step: usize, out: &mut [u8])
-    requires first { HasPlaces t (strip x.now x_step) (length out.old / size_of (result_type2 f t)) }
-    requires second { HasPlaces t (strip y.now y_step) (length out.old / size_of (result_type2 f t)) }
-    ensures { HasPairs f t (strip x.now x_step) (strip y.now y_step) out.new }
+fn compare_by_step(f: Fn2, t: Dtype, x: &[u8], y: &[u8], y_step: usize, out: &mut [u8])
+    requires truth { result_type2 f t ≡ Bool }
+    requires some { 16 ≤ length out.old }
+    requires arguments { HasArguments (Call.Two f t) (strip x.now 1) (strip y.now y_step) (strip y.now y_step) (length out.old) }
+    ensures { HasResults (Call.Two f t) (strip x.now 1) (strip y.now y_step) (strip y.now y_step) out.new }
+{
+    if y_step == 0 {
+        compare_each(f, t, x, 1, y, 0, out);
+    } else {
+        compare_each(f, t, x, 1, y, 1, out);
+    }
+}
+
+/// A choice of two arguments, with loops for each type.
+#[inline(always)]
+pub(crate) fn select_by_type(t: Dtype, x: Strip<'_>, y: Strip<'_>, z: Strip<'_>, out: &mut [u8])
+    requires arguments { HasArguments (Call.Select t) (strip x.bytes.now x.step) (strip y.bytes.now y.step) (strip z.bytes.now z.step) (length out.old) }
+    ensures { HasResults (Call.Select t) (strip x.entry.bytes.now x.entry.step) (strip y.entry.bytes.now y.entry.step) (strip z.entry.bytes.now z.entry.step) out.new }
+{
+    match t {
+        Dtype::Bool => by_three_steps(Dtype::Bool, x, y, z, out),
+        Dtype::Int8 => by_three_steps(Dtype::Int8, x, y, z, out),
+        Dtype::Int16 => by_three_steps(Dtype::Int16, x, y, z, out),
+        Dtype::Int32 => by_three_steps(Dtype::Int32, x, y, z, out),
+        Dtype::Int64 => by_three_steps(Dtype::Int64, x, y, z, out),
+        Dtype::Uint8 => by_three_steps(Dtype::Uint8, x, y, z, out),
+        Dtype::Uint16 => by_three_steps(Dtype::Uint16, x, y, z, out),
+        Dtype::Uint32 => by_three_steps(Dtype::Uint32, x, y, z, out),
+        Dtype::Uint64 => by_three_steps(Dtype::Uint64, x, y, z, out),
+    }
+}
+
+#[inline(always)]
+fn by_step(f: Fn1, from: Dtype, t: Dtype, x: Strip<'_>, out: &mut [u8])
+    requires call { IsCall (Call.One f from t) }
+    requires arguments { HasArguments (Call.One f from t) (strip x.bytes.now x.step) (strip x.bytes.now x.step) (strip x.bytes.now x.step) (length out.old) }
+    ensures { HasResults (Call.One f from t) (strip x.entry.bytes.now x.entry.step) (strip x.entry.bytes.now x.entry.step) (strip x.entry.bytes.now x.entry.step) out.new }
+{
+    if x.step == 0 {
+        let x = x.resting();
+        one_from(f, from, t, x, 0, out);
+    } else {
+        let x = x.moving();
+        one_from(f, from, t, x, 0, out);
+    }
+}
+
+#[inline(always)]
+fn by_first_step(f: Fn2, t: Dtype, x: &[u8], x_step: usize, y: &[u8], y_step: usize, out: &mut [u8])
+    requires arguments { HasArguments (Call.Two f t) (strip x.now x_step) (strip y.now y_step) (strip y.now y_step) (length out.old) }
+    ensures { HasResults (Call.Two f t) (strip x.now x_step) (strip y.now y_step) (strip y.now y_step) out.new }
 {
     if x_step == 0 {
-        pair_by_second(f, t, x, 0, y, y_step, out);
+        by_second_step(f, t, x, 0, y, y_step, out);
     } else {
-        pair_by_second(f, t, x, 1, y, y_step, out);
+        by_second_step(f, t, x, 1, y, y_step, out);
     }
 }
 
 #[inline(always)]
-fn pair_by_second(
+fn by_second_step(
     f: Fn2,
     t: Dtype,
     x: &[u8],
@@ -58,9 +184,8 @@ fn pair_by_second(
     y_step: usize,
     out: &mut [u8],
 )
-    requires first { HasPlaces t (strip x.now x_step) (length out.old / size_of (result_type2 f t)) }
-    requires second { HasPlaces t (strip y.now y_step) (length out.old / size_of (result_type2 f t)) }
-    ensures { HasPairs f t (strip x.now x_step) (strip y.now y_step) out.new }
+    requires arguments { HasArguments (Call.Two f t) (strip x.now x_step) (strip y.now y_step) (strip y.now y_step) (length out.old) }
+    ensures { HasResults (Call.Two f t) (strip x.now x_step) (strip y.now y_step) (strip y.now y_step) out.new }
 {
     if y_step == 0 {
         pair_each(f, t, x, x_step, y, 0, out);
@@ -70,15 +195,37 @@ fn pair_by_second(
 }
 
 #[inline(always)]
-fn pair_each(f: Fn2, t: Dtype, x: &[u8], x_step: usize, y: &[u8], y_step: usize, out: &mut [u8])
-    requires first { HasPlaces t (strip x.now x_step) (length out.old / size_of (result_type2 f t)) }
-    requires second { HasPlaces t (strip y.now y_step) (length out.old / size_of (result_type2 f t)) }
-    ensures { HasPairs f t (strip x.now x_step) (strip y.now y_step) out.new }
+fn by_three_steps(t: Dtype, x: Strip<'_>, y: Strip<'_>, z: Strip<'_>, out: &mut [u8])
+    requires arguments { HasArguments (Call.Select t) (strip x.bytes.now x.step) (strip y.bytes.now y.step) (strip z.bytes.now z.step) (length out.old) }
+    ensures { HasResults (Call.Select t) (strip x.entry.bytes.now x.entry.step) (strip y.entry.bytes.now y.entry.step) (strip z.entry.bytes.now z.entry.step) out.new }
 {
-    let r = result2(f, t);
-    let count = out.len() / size(r) as usize;
-    for at in 0..count {
-        let value = scalar2(f, t, load(t, x, x_step * at), load(t, y, y_step * at));
-        save(r, value, out, at);
+    if x.step == 0 {
+        by_two_steps(t, x.resting(), y, z, out);
+    } else {
+        by_two_steps(t, x.moving(), y, z, out);
+    }
+}
+
+#[inline(always)]
+fn by_two_steps(t: Dtype, x: Strip<'_>, y: Strip<'_>, z: Strip<'_>, out: &mut [u8])
+    requires arguments { HasArguments (Call.Select t) (strip x.bytes.now x.step) (strip y.bytes.now y.step) (strip z.bytes.now z.step) (length out.old) }
+    ensures { HasResults (Call.Select t) (strip x.entry.bytes.now x.entry.step) (strip y.entry.bytes.now y.entry.step) (strip z.entry.bytes.now z.entry.step) out.new }
+{
+    if y.step == 0 {
+        by_last_step(t, x, y.resting(), z, out);
+    } else {
+        by_last_step(t, x, y.moving(), z, out);
+    }
+}
+
+#[inline(always)]
+fn by_last_step(t: Dtype, x: Strip<'_>, y: Strip<'_>, z: Strip<'_>, out: &mut [u8])
+    requires arguments { HasArguments (Call.Select t) (strip x.bytes.now x.step) (strip y.bytes.now y.step) (strip z.bytes.now z.step) (length out.old) }
+    ensures { HasResults (Call.Select t) (strip x.entry.bytes.now x.entry.step) (strip y.entry.bytes.now y.entry.step) (strip z.entry.bytes.now z.entry.step) out.new }
+{
+    if z.step == 0 {
+        select_from(t, x, y, z.resting(), 0, out);
+    } else {
+        select_from(t, x, y, z.moving(), 0, out);
     }
 }

@@ -11,7 +11,7 @@ use Rattle.cu_num.specs.Element.{element_bytes}
 use Rattle.cu_num.specs.declared.types.Dtype.{Dtype}
 use Rattle.cu_num.specs.declared.layout.Endian.TheVariants.{Little}
 use Rattle.cu_num.proofs.ElementBytes.{written_at, bytes_at-written_at_same, bytes_at-written_at_other, length-element_bytes}
-use Rattle.cu_shape.specs.Index.{product, place_of, is_inside, IsInside}
+use Rattle.cu_shape.specs.Index.{product, place_of, is_inside, IsInside, differences}
 use Rattle.cu_shape.proofs.Places.{inside-length, inside_from_test, index-inside, place-below}
 use Rattle.cu_grid.specs.Counts.{counts_of, at_least_one, IsWithin, IsRegion}
 use Rattle.cu_grid.specs.Grid.{RegularGrid, IsGrid, IsCoordinate, IsInChunk}
@@ -23,7 +23,7 @@ use Rattle.cu_grid.proofs.Regions.{inside-at}
 use Rattle.cu_zarr.specs.Layout.{chunk_bytes, index_in_chunk}
 use Rattle.cu_zarr.specs.Spelling.{padded, spelled}
 use Rattle.cu_zarr.proofs.Joined.{joined_by_place}
-use Rattle.cu_codec.specs.Parts.{part_at, place_within, differences, IsLaid}
+use Rattle.cu_codec.specs.Parts.{part, part_at, place_within, IsLaid}
 use Rattle.cu_load.specs.Load.{HasBytes, given_at, chunks_in, given_coord}
 use Rattle.cu_load.specs.LoadForm.{GivenArray, IsGiven}
 
@@ -111,7 +111,7 @@ part_given a coord lo hi input new p false ok bytes low high test laid =
 
 pub laid_value : (a : GivenArray) (coord lo hi input new : List ℕ) → IsGiven a
     → HasBytes a.layout.dtype a.elements input → lo ≡ replicate (length a.layout.shape) 0 → hi ≡ a.layout.shape
-    → IsLaid (record { shape = a.layout.shape; chunk = a.layout.chunk }) a.layout.dtype a.layout.fill coord lo hi input new → length new ≡ chunk_bytes a.layout
+    → IsLaid a.layout.dtype a.layout.fill (part (record { shape = a.layout.shape; chunk = a.layout.chunk }) coord lo hi) input new → length new ≡ chunk_bytes a.layout
     → spelled a.layout (given_at a) coord ≡ Some new
 laid_value a coord lo hi input new ok bytes low high laid long =
     joined_by_place (size_of a.layout.dtype) (product a.layout.chunk)

@@ -9,7 +9,7 @@ use Rattle.cu_command.specs.declared.status.Status.{Status}
 use Rattle.cu_command.specs.declared.status.Status.TheVariants.{Done, Exists, WriteFault, DepotFailed, NoMemory}
 use Rattle.cu_load.proofs.AskLemmas.{rose_earlier}
 use Rattle.cu_load.specs.Keys.{IsAskedFor, AreFree, IsAskFault}
-use Rattle.cu_load.specs.Load.{IsArrayKey, IsCalm, IsPutFault, IsStoreFault, Stored, Loaded}
+use Rattle.cu_load.specs.Load.{IsArrayKey, IsArrayCalm, IsPutFault, IsStoreFault, Stored, Loaded}
 use Rattle.cu_load.specs.LoadForm.{GivenArray, load_of}
 
 -- asking for the keys ended the call
@@ -22,12 +22,12 @@ ask_ended retries a name out old new status same quiet fault = absurd fault
 
 -- ---- a step without a change, and then the calls that store
 
-calm_at : (a : GivenArray) (late : List Write) (key bytes : List ℕ) → IsCalm a late → IsArrayKey a key → OrLate NoChange late key (Some bytes) → (other : List ℕ) × (bytes ≡ other) × IsAmong late key other
+calm_at : (a : GivenArray) (late : List Write) (key bytes : List ℕ) → IsArrayCalm a late → IsArrayKey a key → OrLate NoChange late key (Some bytes) → (other : List ℕ) × (bytes ≡ other) × IsAmong late key other
 calm_at a late key bytes calm of_array (inl none) = absurd none
 calm_at a late key bytes calm of_array (inr (other, is, among)) = (other, cc, among)
 
 -- the premise stands
-pub still_calm : (a : GivenArray) (late now_late : List Write) → AllLateIn now_late (OrLate NoChange late) → IsCalm a late → IsCalm a now_late
+pub still_calm : (a : GivenArray) (late now_late : List Write) → AllLateIn now_late (OrLate NoChange late) → IsArrayCalm a late → IsArrayCalm a now_late
 still_calm a late now_late stay calm key bytes among of_array =
     let (other, same, was) = calm_at a late key bytes calm of_array (stay key bytes among) in
     rw same (calm key other was of_array)

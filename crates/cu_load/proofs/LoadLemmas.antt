@@ -31,7 +31,7 @@ use Rattle.cu_meta.specs.Storable.{IsStorable}
 use Rattle.cu_meta.proofs.Accepted.{few_sizes, fill_accepted}
 use Rattle.cu_command.specs.Name.{name_in}
 use Rattle.cu_name.specs.Name.{is_name}
-use Rattle.cu_load.specs.LoadForm.{NamedLayout, GivenArray, given_by, IfCode, has_form, text_at, list_at, sizes_at, layout_given, elements_after, head_in, array_in, load_of, IsGiven}
+use Rattle.cu_load.specs.LoadForm.{NamedLayout, GivenArray, given_by, IfCode, has_form, text_member, list_member, sizes_at, layout_given, elements_after, head_in, array_in, load_of, IsGiven}
 use Rattle.cu_load.specs.declared.load_form.LoadForm.{LoadForm}
 use Rattle.cu_load.specs.declared.load_form.LoadRefused.{LoadRefused}
 
@@ -94,21 +94,21 @@ small_grid (Err f) result size is h = subst (λ r. IfSome r (λ k. product k.sha
 
 -- ---- the elements
 
-pub other_count : (d : Data) (head : NamedLayout) (items : List Value) (count : ℕ) (is : Test) → Ok head ≡ head_in d → Some (items_view items) ≡ list_at (codes "elements") d
+pub other_count : (d : Data) (head : NamedLayout) (items : List Value) (count : ℕ) (is : Test) → Ok head ≡ head_in d → Some (items_view items) ≡ list_member (codes "elements") d
     → count ≡ length items → is ≡ (count == product head.layout.shape) → is ≡ false → array_in d ≡ Err 6
 other_count d head items count is h l n e f = rw (← h, ← l, items_len-items_view items, ← n, ← e, f) refl
 
-no_elements : (d : Data) (head : NamedLayout) (items : List Value) (count : ℕ) (is : Test) → Ok head ≡ head_in d → Some (items_view items) ≡ list_at (codes "elements") d
+no_elements : (d : Data) (head : NamedLayout) (items : List Value) (count : ℕ) (is : Test) → Ok head ≡ head_in d → Some (items_view items) ≡ list_member (codes "elements") d
     → count ≡ length items → is ≡ (count == product head.layout.shape) → is ≡ true → elements_after head.layout.dtype [] (items_view items) ≡ None → array_in d ≡ Err 7
 no_elements d head items count is h l n e t none = rw (← h, ← l, items_len-items_view items, ← n, ← e, t, none) refl
 
-pub refused_for_an_element : (d : Data) (head : NamedLayout) (items : List Value) (count : ℕ) (is : Test) (e : LoadRefused) → Ok head ≡ head_in d → Some (items_view items) ≡ list_at (codes "elements") d
+pub refused_for_an_element : (d : Data) (head : NamedLayout) (items : List Value) (count : ℕ) (is : Test) (e : LoadRefused) → Ok head ≡ head_in d → Some (items_view items) ≡ list_member (codes "elements") d
     → count ≡ length items → is ≡ (count == product head.layout.shape) → is ≡ true
     → IfCode e (λ code. (code ≡ 7) × (elements_after head.layout.dtype [] (items_view items) ≡ None)) → IfCode e (λ code. array_in d ≡ Err code)
 refused_for_an_element d head items count is (LoadRefused.Code code) h l n e t k = no_elements d head items count is h l n e t k.1 ∙ ap (λ c. Err c) (sym k.0)
 refused_for_an_element d head items count is LoadRefused.NoMemory h l n e t k = tt
 
-pub all_read : (d : Data) (head : NamedLayout) (items : List Value) (count : ℕ) (is : Test) (xs : List ℤ) → Ok head ≡ head_in d → Some (items_view items) ≡ list_at (codes "elements") d
+pub all_read : (d : Data) (head : NamedLayout) (items : List Value) (count : ℕ) (is : Test) (xs : List ℤ) → Ok head ≡ head_in d → Some (items_view items) ≡ list_member (codes "elements") d
     → count ≡ length items → is ≡ (count == product head.layout.shape) → is ≡ true → elements_after head.layout.dtype [] (items_view items) ≡ Some xs
     → array_in d ≡ Ok (record { name = head.name; layout = head.layout; elements = xs })
 all_read d head items count is xs h l n e t x = rw (← h, ← l, items_len-items_view items, ← n, ← e, t, x) refl
@@ -178,7 +178,7 @@ head_accepted d head h =
     let h1 = rw form at h in
     some_of (name_in (get (codes "name") d)) (λ none. code_is_no_head 3 head (rw none at h1)) (λ name e2.
     let h2 = rw e2 at h1 in
-    some_of (option_and_then dtype_named (text_at (codes "data_type") d)) (λ none. code_is_no_head 4 head (rw none at h2)) (λ t e3.
+    some_of (option_and_then dtype_named (text_member (codes "data_type") d)) (λ none. code_is_no_head 4 head (rw none at h2)) (λ t e3.
     let h3 = rw e3 at h2 in
     some_of (sizes_at (codes "shape") d) (λ none. code_is_no_head 5 head (rw none at h3)) (λ shape e4.
     let h4 = rw e4 at h3 in
@@ -219,7 +219,7 @@ array_accepted d a h = head_found (head_in d) refl
     head_found (Ok head) e =
         let is = head_accepted d head e in
         let h1 = rw e at h in
-        some_of (list_at (codes "elements") d) (λ none. code_is_no_array 2 a (rw none at h1)) (λ items e2.
+        some_of (list_member (codes "elements") d) (λ none. code_is_no_array 2 a (rw none at h1)) (λ items e2.
         let h2 = rw e2 at h1 in
         let many = true_of (items_len items == product head.layout.shape) (λ other. code_is_no_array 6 a (rw other at h2)) in
         let h3 = rw many at h2 in

@@ -20,7 +20,7 @@ use Rattle.cu_command.specs.declared.status.Status.{Status}
 use Rattle.cu_command.specs.declared.status.Status.TheVariants.{DepotFailed, NoMemory}
 use Rattle.cu_load.proofs.AskLemmas.{rose_earlier}
 use Rattle.cu_load.proofs.ChunkLemmas.{small_coord}
-use Rattle.cu_load.specs.Load.{given_at, counts_in, chunks_in, given_coord, key_of_chunk, given_chunk, ChunkPut, ChunksPut, ArrayPut, IsArrayKey, IsCalm, IsStoreFault, HasElements, StoresGiven, HoldsChunk, HoldsChunks, ValuesStay}
+use Rattle.cu_load.specs.Load.{given_at, counts_in, chunks_in, given_coord, key_of_chunk, given_chunk, ChunkPut, ChunksPut, ArrayPut, IsArrayKey, IsArrayCalm, IsStoreFault, HasGivenElements, StoresGiven, HoldsChunk, HoldsChunks, ValuesStay}
 use Rattle.cu_load.specs.LoadForm.{GivenArray, IsGiven}
 
 -- ---- the changes of an array
@@ -73,23 +73,23 @@ array_put_key a key value (inl here) = inl here.0
 array_put_key a key value (inr (k, below, (bytes, is, put))) = inr (k, below, put.0)
 
 -- what may land on a key of the array is its one value
-late_value : (a : GivenArray) (late : List Write) (key : List ℕ) (value : Option (List ℕ)) → IsCalm a late → IsArrayKey a key → OrLate (ArrayPut a) late key value → ArrayPut a key value
+late_value : (a : GivenArray) (late : List Write) (key : List ℕ) (value : Option (List ℕ)) → IsArrayCalm a late → IsArrayKey a key → OrLate (ArrayPut a) late key value → ArrayPut a key value
 late_value a late key value calm of_array (inl own) = own
 late_value a late key value calm of_array (inr (bytes, is, among)) = subst (λ (v : Option (List ℕ)). ArrayPut a key v) (sym is) (calm key bytes among of_array)
 
-now_value : (a : GivenArray) (late now_late : List Write) (key : List ℕ) (value : Option (List ℕ)) → IsCalm a late → IsArrayKey a key → AllLateIn now_late (OrLate (ArrayPut a) late)
+now_value : (a : GivenArray) (late now_late : List Write) (key : List ℕ) (value : Option (List ℕ)) → IsArrayCalm a late → IsArrayKey a key → AllLateIn now_late (OrLate (ArrayPut a) late)
     → OrLate (ArrayPut a) now_late key value → ArrayPut a key value
 now_value a late now_late key value calm of_array stay (inl own) = own
 now_value a late now_late key value calm of_array stay (inr (bytes, is, among)) = subst (λ (v : Option (List ℕ)). ArrayPut a key v) (sym is) (late_value a late key (Some bytes) calm of_array (stay key bytes among))
 
-stays_at : (a : GivenArray) (late now_late : List Write) (held next : Contents) (key bytes : List ℕ) → IsGiven a → IsCalm a late → AllLateIn now_late (OrLate (ArrayPut a) late)
+stays_at : (a : GivenArray) (late now_late : List Write) (held next : Contents) (key bytes : List ℕ) → IsGiven a → IsArrayCalm a late → AllLateIn now_late (OrLate (ArrayPut a) late)
     → ArrayPut a key (Some bytes) → held key ≡ Some bytes → IsChangedBy (OrLate (ArrayPut a) now_late) held next key → next key ≡ Some bytes
 stays_at a late now_late held next key bytes ok calm stay write holds (inl same) = same ∙ holds
 stays_at a late now_late held next key bytes ok calm stay write holds (inr changed) =
     one_value a key (next key) (Some bytes) ok (now_value a late now_late key (next key) calm (array_put_key a key (Some bytes) write) stay changed) write
 
 -- A value of the array that is held stays held where only the array's values and late puts land.
-pub values_stay : (a : GivenArray) (late now_late : List Write) (held next : Option Contents) → IsGiven a → IsCalm a late → AllLateIn now_late (OrLate (ArrayPut a) late)
+pub values_stay : (a : GivenArray) (late now_late : List Write) (held next : Option Contents) → IsGiven a → IsArrayCalm a late → AllLateIn now_late (OrLate (ArrayPut a) late)
     → Lands (OrLate (ArrayPut a) now_late) held next → ValuesStay a held next
 values_stay a late now_late None None ok calm stay lands key bytes write holds = tt
 values_stay a late now_late None (Some next) ok calm stay lands key bytes write holds = absurd lands
@@ -114,7 +114,7 @@ pub stores_given : (a : GivenArray) (held : Option Contents) → IsGiven a → I
 stores_given a None ok grid metadata stored = tt
 stores_given a (Some held) ok grid metadata stored = (metadata, stored, elements)
   where
-    elements : HasElements a held
+    elements : HasGivenElements a held
     elements idx inside =
         let here : IsInside (counts_in a) (quotients idx a.layout.chunk) = has_coordinate (record { shape = a.layout.shape; chunk = a.layout.chunk }) idx grid inside in
         let again : given_coord a (place_of (counts_in a) (quotients idx a.layout.chunk)) ≡ quotients idx a.layout.chunk = index-place (counts_in a) (quotients idx a.layout.chunk) here in
@@ -145,7 +145,7 @@ chunk_fault tries a k old mid new status below earlier step fault = fault
 
 -- those for the metadata failed
 pub metadata_fault : (tries : ℕ) (a : GivenArray) (key : List ℕ) (old mid new : Shown) (status : Status)
-    → key ≡ metadata_key_of a.name → old.faults ≤ mid.faults → Stepped (ArrayPut a) old new → (IsCalm a old.late → HoldsChunks a new.held (chunks_in a)) → IsKeyFault tries mid.faults new.faults new.lacks key status
+    → key ≡ metadata_key_of a.name → old.faults ≤ mid.faults → Stepped (ArrayPut a) old new → (IsArrayCalm a old.late → HoldsChunks a new.held (chunks_in a)) → IsKeyFault tries mid.faults new.faults new.lacks key status
     → IsStoreFault tries a old new status
 metadata_fault tries a key old mid new (DepotFailed other) same earlier step chunks fault = (rose_earlier tries old.faults mid.faults new.faults earlier fault.1, inr (fault.0 ∙ same, step, chunks))
 metadata_fault tries a key old mid new NoMemory same earlier step chunks fault = (metadata_key_of a.name, inr (refl, step, chunks))

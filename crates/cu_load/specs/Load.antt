@@ -68,8 +68,8 @@ IsArrayKey a key = (key ≡ metadata_key_of a.name) ⊎ ((k : ℕ) × (k < chunk
 -- ---- the stored array
 
 -- the stored element at each index is the given one
-abbrev pub HasElements : GivenArray → Contents → Type 0
-HasElements a held = (idx : List ℕ) → IsInside a.layout.shape idx → (x : ℤ) × (given_at a idx ≡ Some x) × (stored_element a.layout a.name held idx ≡ Some x)
+abbrev pub HasGivenElements : GivenArray → Contents → Type 0
+HasGivenElements a held = (idx : List ℕ) → IsInside a.layout.shape idx → (x : ℤ) × (given_at a idx ≡ Some x) × (stored_element a.layout a.name held idx ≡ Some x)
 
 -- chunk number k has a value and holds it
 abbrev pub HoldsChunk : GivenArray → Option Contents → ℕ → Type 0
@@ -82,26 +82,26 @@ HoldsChunks a held n = (k : ℕ) → k < n → HoldsChunk a held k
 -- the array is stored, where the contents are told: its metadata, each chunk, and so each element
 abbrev pub StoresGiven : GivenArray → Option Contents → Type 0
 StoresGiven a None = Unit {0}
-StoresGiven a (Some held) = (held (metadata_key_of a.name) ≡ Some (metadata_text a.layout)) × HoldsChunks a (Some held) (chunks_in a) × HasElements a held
+StoresGiven a (Some held) = (held (metadata_key_of a.name) ≡ Some (metadata_text a.layout)) × HoldsChunks a (Some held) (chunks_in a) × HasGivenElements a held
 
 -- the premise: each late put on a key of the array carries its one value
-abbrev pub IsCalm : GivenArray → List Write → Type 0
-IsCalm a late = (key bytes : List ℕ) → IsAmong late key bytes → IsArrayKey a key → ArrayPut a key (Some bytes)
+abbrev pub IsArrayCalm : GivenArray → List Write → Type 0
+IsArrayCalm a late = (key bytes : List ℕ) → IsAmong late key bytes → IsArrayKey a key → ArrayPut a key (Some bytes)
 
 -- Both keys that are asked for were absent, and nothing but the array's values and puts that were late has landed. The metadata is held,
 -- and where the premise holds, the array is stored.
-pub record IsStored (a : GivenArray) (old new : Shown) : Type 0 where
+pub record IsArrayStored (a : GivenArray) (old new : Shown) : Type 0 where
   pub free : AreFree a.name old.held
   pub step : Stepped (ArrayPut a) old new
   pub metadata : Holds new.held (metadata_key_of a.name) (metadata_text a.layout)
-  pub stores : IsCalm a old.late → StoresGiven a new.held
+  pub stores : IsArrayCalm a old.late → StoresGiven a new.held
 
 -- The calls for this key failed: that of a chunk, where the chunks up to it alone were written, or that of the metadata, which is written
 -- where all chunks are held.
 abbrev pub IsPutFault : GivenArray → Shown → Shown → List ℕ → Type 0
 IsPutFault a old new key =
     ((k : ℕ) × (k < chunks_in a) × (key ≡ key_of_chunk a k) × Stepped (ChunksPut a (k + 1)) old new)
-    ⊎ ((key ≡ metadata_key_of a.name) × Stepped (ArrayPut a) old new × (IsCalm a old.late → HoldsChunks a new.held (chunks_in a)))
+    ⊎ ((key ≡ metadata_key_of a.name) × Stepped (ArrayPut a) old new × (IsArrayCalm a old.late → HoldsChunks a new.held (chunks_in a)))
 
 -- the same while storing, with the count of the depot's faults; want of memory ends the calls for some key so
 abbrev pub IsStoreFault : ℕ → GivenArray → Shown → Shown → Status → Type 0
@@ -122,8 +122,8 @@ WrotePart a front back = (n : ℕ) × (n ≤ length (load_line a)) × WroteFront
 -- ---- what storing an array that was read answers, and what it leaves
 
 abbrev pub Stored : ℕ → GivenArray → Seen → Seen → Status → Type 0
-Stored retries a old new Done = IsStored a old.depot new.depot × WroteFront old.out.told new.out.told (load_line a) (length (load_line a))
-Stored retries a old new WriteFault = Rose 1 old.out.faults new.out.faults × IsStored a old.depot new.depot × WrotePart a old.out.told new.out.told
+Stored retries a old new Done = IsArrayStored a old.depot new.depot × WroteFront old.out.told new.out.told (load_line a) (length (load_line a))
+Stored retries a old new WriteFault = Rose 1 old.out.faults new.out.faults × IsArrayStored a old.depot new.depot × WrotePart a old.out.told new.out.told
 Stored retries a old new (Exists key) = IsAskedFor a.name old.depot.held key × IsHeldIn new.depot.held key × WroteNothing old new
 Stored retries a old new (DepotFailed key) = Rose (retries + 1) old.depot.faults new.depot.faults × (new.out.told ≡ old.out.told)
     × ((IsAskedFor a.name old.depot.held key × Stepped NoChange old.depot new.depot) ⊎ (AreFree a.name old.depot.held × IsPutFault a old.depot new.depot key))

@@ -51,17 +51,17 @@ IfCode (LoadRefused.Code code) P = P code
 IfCode LoadRefused.NoMemory P = Unit {0}
 
 -- the member is there, and is a text
-abbrev pub text_at : List ℕ → Data → Option (List ℕ)
-text_at name d = option_and_then as_str (get name d)
+abbrev pub text_member : List ℕ → Data → Option (List ℕ)
+text_member name d = option_and_then as_str (get name d)
 
 -- the member is there, and is a list
-abbrev pub list_at : List ℕ → Data → Option Items
-list_at name d = option_and_then as_array (get name d)
+abbrev pub list_member : List ℕ → Data → Option Items
+list_member name d = option_and_then as_array (get name d)
 
 -- exactly the five members, two texts and three lists
 abbrev pub has_form : Data → Bool
-has_form d = is_object_of 5 d && is_some (text_at (codes "name") d) && is_some (text_at (codes "data_type") d)
-    && is_some (list_at (codes "shape") d) && is_some (list_at (codes "chunk_shape") d) && is_some (list_at (codes "elements") d)
+has_form d = is_object_of 5 d && is_some (text_member (codes "name") d) && is_some (text_member (codes "data_type") d)
+    && is_some (list_member (codes "shape") d) && is_some (list_member (codes "chunk_shape") d) && is_some (list_member (codes "elements") d)
 
 -- the sizes of at most six axes
 abbrev pub sizes_at : List ℕ → Data → Option (List ℕ)
@@ -82,7 +82,7 @@ abbrev pub head_in : Data → Result NamedLayout ℕ
 head_in d = do
   _ ← check (has_form d) 2
   name ← ok_or (name_in (get (codes "name") d)) 3
-  t ← ok_or (option_and_then dtype_named (text_at (codes "data_type") d)) 4
+  t ← ok_or (option_and_then dtype_named (text_member (codes "data_type") d)) 4
   shape ← ok_or (sizes_at (codes "shape") d) 5
   chunk ← ok_or (sizes_at (codes "chunk_shape") d) 5
   _ ← check (is_none (first_fault shape chunk (size_of t))) 5
@@ -93,7 +93,7 @@ head_in d = do
 abbrev pub array_in : Data → Result GivenArray ℕ
 array_in d = do
   head ← head_in d
-  items ← ok_or (list_at (codes "elements") d) 2
+  items ← ok_or (list_member (codes "elements") d) 2
   _ ← check (items_len items == product head.layout.shape) 6
   elements ← ok_or (elements_after head.layout.dtype [] items) 7
   Ok (record { name = head.name; layout = head.layout; elements = elements })

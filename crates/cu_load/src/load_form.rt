@@ -8,7 +8,7 @@ ghost use Rattle.cu_num.specs.Dtype.{size_of};
 ghost use Rattle.cu_shape.specs.Index.{product};
 ghost use Rattle.cu_grid.specs.Limits.{first_fault};
 ghost use Rattle.cu_num.specs.TypeName.{dtype_named};
-ghost use Rattle.cu_load.specs.LoadForm.{head_view, given_by, IfCode, text_at, list_at, has_form, sizes_at, elements_after, head_in, array_in, load_of, IsGiven};
+ghost use Rattle.cu_load.specs.LoadForm.{head_view, given_by, IfCode, text_member, list_member, has_form, sizes_at, elements_after, head_in, array_in, load_of, IsGiven};
 
 use cu_command::name_at;
 use cu_grid::Grid;
@@ -114,7 +114,7 @@ fn array_in(alloc: Global, value: &Value) -> Result<LoadForm, LoadRefused>
         Ok(head) => head,
         Err(code) => return Err(LoadRefused::Code(code)),
     };
-    let Some(items) = list_at(value, "elements") else {
+    let Some(items) = list_member(value, "elements") else {
         return Err(LoadRefused::Code(NO_FORM));
     };
     if !is_count_of(&layout.grid, items.len()) {
@@ -156,30 +156,30 @@ fn has_form(value: &Value) -> bool
     ensures { result ≡ has_form (view value.now) }
 {
     is_object_of(value, 5)
-        && text_at(value, "name").is_some()
-        && text_at(value, "data_type").is_some()
-        && list_at(value, "shape").is_some()
-        && list_at(value, "chunk_shape").is_some()
-        && list_at(value, "elements").is_some()
+        && text_member(value, "name").is_some()
+        && text_member(value, "data_type").is_some()
+        && list_member(value, "shape").is_some()
+        && list_member(value, "chunk_shape").is_some()
+        && list_member(value, "elements").is_some()
 }
 
-fn text_at<'v>(value: &'v Value, name: &str) -> Option<&'v str>
-    ensures { option_map (λ s. s.now) result ≡ text_at name.now (view value.now) }
+fn text_member<'v>(value: &'v Value, name: &str) -> Option<&'v str>
+    ensures { option_map (λ s. s.now) result ≡ text_member name.now (view value.now) }
 {
     value.get(name)?.as_str()
 }
 
-fn list_at<'v>(value: &'v Value, name: &str) -> Option<&'v Vec<Value>>
-    ensures { option_map (λ v. items_view v.now.items) result ≡ list_at name.now (view value.now) }
+fn list_member<'v>(value: &'v Value, name: &str) -> Option<&'v Vec<Value>>
+    ensures { option_map (λ v. items_view v.now.items) result ≡ list_member name.now (view value.now) }
 {
     value.get(name)?.as_array()
 }
 
 /// The type that the member `data_type` names.
 fn dtype_at(value: &Value) -> Option<Dtype>
-    ensures { result ≡ option_and_then dtype_named (text_at (codes "data_type") (view value.now)) }
+    ensures { result ≡ option_and_then dtype_named (text_member (codes "data_type") (view value.now)) }
 {
-    dtype_named(text_at(value, "data_type")?)
+    dtype_named(text_member(value, "data_type")?)
 }
 
 /// The sizes of at most six axes that stand at a member.

@@ -7,7 +7,7 @@ ghost use Rattle.cu_command.specs.Keys.{IsKeyFault};
 ghost use Rattle.cu_zarr.specs.Key.{metadata_key_of};
 ghost use Rattle.cu_zarr.specs.Layout.{chunk_bytes};
 ghost use Rattle.cu_zarr.specs.Metadata.{metadata_text};
-ghost use Rattle.cu_load.specs.Load.{ArrayPut, ChunkPut, ChunksPut, HasBytes, IsCalm, IsStoreFault, HoldsChunk, HoldsChunks, StoresGiven, chunks_in, key_of_chunk};
+ghost use Rattle.cu_load.specs.Load.{ArrayPut, ChunkPut, ChunksPut, HasBytes, IsArrayCalm, IsStoreFault, HoldsChunk, HoldsChunks, StoresGiven, chunks_in, key_of_chunk};
 ghost use Rattle.cu_load.specs.LoadForm.{IsGiven, given_by};
 
 use crate::chunk::spell_chunk;
@@ -57,7 +57,7 @@ fn store_chunks<D: Depot>(
     requires chunk_length { length chunk.old ≡ chunk_bytes (given_by form.now).layout }
     ensures step { OnOk result (Stepped (ChunksPut (given_by form.now) (chunks_in (given_by form.now))) (D.shown depot.old) (D.shown depot.new)) }
     ensures failed { IfErr result (IsStoreFault (retries + 1) (given_by form.now) (D.shown depot.old) (D.shown depot.new)) }
-    ensures stored { IsCalm (given_by form.now) (D.shown depot.old).late → OnOk result (HoldsChunks (given_by form.now) (D.shown depot.new).held (chunks_in (given_by form.now))) }
+    ensures stored { IsArrayCalm (given_by form.now) (D.shown depot.old).late → OnOk result (HoldsChunks (given_by form.now) (D.shown depot.new).held (chunks_in (given_by form.now))) }
 {
     for number in 0..form.layout.grid.count() {
         if let Err(status) = store_chunk(depot, form, number, input, chunk, retries) {
@@ -82,7 +82,7 @@ pub(crate) fn store_array<D: Depot>(
     requires chunk_length { length chunk.old ≡ chunk_bytes (given_by form.now).layout }
     ensures step { OnOk result (Stepped (ArrayPut (given_by form.now)) (D.shown depot.old) (D.shown depot.new)) }
     ensures failed { IfErr result (IsStoreFault (retries + 1) (given_by form.now) (D.shown depot.old) (D.shown depot.new)) }
-    ensures stores { IsCalm (given_by form.now) (D.shown depot.old).late → OnOk result (StoresGiven (given_by form.now) (D.shown depot.new).held) }
+    ensures stores { IsArrayCalm (given_by form.now) (D.shown depot.old).late → OnOk result (StoresGiven (given_by form.now) (D.shown depot.new).held) }
     ensures metadata { OnOk result (Holds (D.shown depot.new).held (metadata_key_of (given_by form.now).name) (metadata_text (given_by form.now).layout)) }
 {
     let _shape = form.layout.grid.shape();

@@ -8,9 +8,9 @@ use Rattle.cu_num.specs.Wrap.{wrapped}
 use Rattle.cu_num.specs.Division.{floor_quotient}
 use Rattle.cu_shape.specs.Index.{place_of, indices_of}
 use Rattle.cu_form.specs.declared.args.Arg.{Arg}
-use Rattle.cu_form.specs.declared.args.IndexItem.{IndexItem}
+use Rattle.cu_node.specs.declared.index_item.IndexItem.{IndexItem}
 use Rattle.cu_form.specs.declared.expr.Node.{Node}
-use Rattle.cu_form.specs.declared.form.ElementOp.{ElementOp}
+use Rattle.cu_node.specs.declared.element_op.ElementOp.{ElementOp}
 use Rattle.cu_form.specs.declared.form.Form.{Form}
 use Rattle.cu_node.specs.Info.{info_of}
 use Rattle.cu_node.specs.declared.info.NodeInfo.{NodeInfo}

@@ -3,7 +3,6 @@ use Rattle.std.specs.Prelude.{ℕ, ℤ, pos, List, [], Option, Some, slice_get}
 use Rattle.cu_num.specs.Scalar.{truth_number}
 use Rattle.cu_shape.specs.Index.{back}
 use Rattle.cu_form.specs.declared.args.Arg.{Arg}
-use Rattle.cu_form.specs.declared.args.Literal.{Literal}
 use Rattle.cu_node.specs.Info.{info_at}
 use Rattle.cu_node.specs.declared.info.NodeInfo.{NodeInfo}
 
@@ -14,11 +13,6 @@ NodeElements = ℕ → List ℕ → ℤ
 -- the shape of a node's array
 abbrev pub shape_at : List NodeInfo → ℕ → List ℕ
 shape_at infos k = (info_at infos k).dims
-
--- a written value as a number
-abbrev pub literal_number : Literal → ℤ
-literal_number (Literal.Int x) = x
-literal_number (Literal.Truth b) = truth_number b
 
 -- an argument's element at an index of the result: a node's through broadcasting, and a written value everywhere
 abbrev pub argument_at : List NodeInfo → NodeElements → List ℕ → Arg → ℤ

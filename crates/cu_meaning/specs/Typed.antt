@@ -7,11 +7,12 @@ use Rattle.cu_num.specs.declared.types.Dtype.TheVariants.{Int64}
 use Rattle.cu_shape.specs.Index.{product, is_inside}
 use Rattle.cu_form.specs.Form.{args_of}
 use Rattle.cu_form.specs.declared.args.Arg.{Arg}
-use Rattle.cu_form.specs.declared.form.ElementOp.{ElementOp}
+use Rattle.cu_node.specs.declared.element_op.ElementOp.{ElementOp}
 use Rattle.cu_form.specs.declared.form.Form.{Form}
 use Rattle.cu_node.specs.Info.{info_at}
+use Rattle.cu_node.specs.Literal.{literal_number}
 use Rattle.cu_node.specs.declared.info.NodeInfo.{NodeInfo}
-use Rattle.cu_meaning.specs.Argument.{NodeElements, shape_at, literal_number, source_shape}
+use Rattle.cu_meaning.specs.Argument.{NodeElements, shape_at, source_shape}
 use Rattle.cu_meaning.specs.Reduction.{reduced_box}
 use Rattle.cu_meaning.specs.Rule.{place_axes}
 use Rattle.cu_meaning.specs.View.{arange_at}

@@ -7,7 +7,7 @@ use Rattle.std.specs.Ordering.{int_eq}
 use Rattle.cu_shape.specs.Index.{place_of, index_at}
 use Rattle.cu_shape.specs.Slice.{from_end, first_of}
 use Rattle.cu_form.specs.declared.args.Arg.{Arg}
-use Rattle.cu_form.specs.declared.args.IndexItem.{IndexItem}
+use Rattle.cu_node.specs.declared.index_item.IndexItem.{IndexItem}
 use Rattle.cu_node.specs.declared.info.NodeInfo.{NodeInfo}
 use Rattle.cu_meaning.specs.Argument.{NodeElements, element_from, shape_from, source_at}
 use Rattle.cu_meaning.specs.Index.{by_axis, axis_in, is_named, natural}

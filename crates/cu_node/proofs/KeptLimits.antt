@@ -1,27 +1,15 @@
 -- What passes the limits keeps them.
-use Rattle.std.proofs.Common.{◌≡◌, ℕ, ◌*◌, ◌<◌, ◌≤◌, ◌^◌, ◌==◌, Bool, true, false, List, length, All, Result, Ok, Err, None, Some, refl, sym, inl, inr, arith}
-use Rattle.std.specs.List.{list_any}
-use Rattle.std.proofs.lemmas.Bool.{leb-true, le-ltb, le-leb, lt-leb, eq-eqb, and_parts, cases_lt}
-use Rattle.std.proofs.lemmas.List.Folds.{list_any_none}
+use Rattle.std.proofs.Common.{◌≡◌, ℕ, ◌*◌, ◌<◌, ◌≤◌, ◌^◌, Bool, true, List, length, All, Result, Ok}
+use Rattle.std.proofs.lemmas.Bool.{leb-true, and_parts}
 use Rattle.cu_result.proofs.ResultSteps.{check_step_ok}
 use Rattle.cu_num.specs.Dtype.{size_of}
 use Rattle.cu_num.specs.declared.types.Dtype.{Dtype}
+use Rattle.cu_shape.specs.Counts.{counts_of, at_least_one}
 use Rattle.cu_shape.specs.Index.{product}
-use Rattle.cu_grid.specs.Counts.{counts_of, at_least_one}
-use Rattle.cu_grid.specs.Limits.{first_fault}
-use Rattle.cu_grid.specs.declared.fault.GridFault.{GridFault}
 use Rattle.cu_node.specs.Info.{IsInfo, info_of}
 use Rattle.cu_node.specs.Limited.{limit, is_chunk_within, limited_beside}
 use Rattle.cu_node.specs.declared.faults.NodeFault.{NodeFault}
 use Rattle.cu_node.specs.declared.info.NodeInfo.{NodeInfo}
-
--- no size is 0
-pub none_zero : (xs : List ℕ) → All (λ c. 0 < c) xs → list_any (λ c. c == 0) xs ≡ false
-none_zero xs h = list_any_none (λ c. c == 0) xs (λ k d l. grind (arith, h k d l))
-
-pub fits : (t : Dtype) (shape chunk : List ℕ) → length chunk ≡ length shape → All (λ c. 0 < c) chunk → product (at_least_one shape) ≤ 2 ^ 40 → product (at_least_one (counts_of shape chunk)) ≤ 65536 → product chunk * size_of t ≤ 2 ^ 28 → first_fault shape chunk (size_of t) ≡ None
-fits t shape chunk ranks positive elements chunks bytes =
-    rw (none_zero chunk positive) (rw (eq-eqb (length shape) (length chunk) (sym ranks)) (rw (le-ltb (2 ^ 40) _ elements) (rw (le-ltb 65536 _ chunks) (rw (le-ltb (2 ^ 28) _ bytes) refl))))
 
 -- a list of checks that passed: each holds, and the array is the one that was given
 passed_all : (beside : Bool) (t : Dtype) (shape chunk : List ℕ) (i : NodeInfo) → limited_beside beside t shape chunk ≡ Ok i → (length shape ≤ 6) × (product (at_least_one shape) ≤ 2 ^ 40) × (is_chunk_within t chunk ≡ true) × (product (at_least_one (counts_of shape chunk)) ≤ 65536) × (i ≡ info_of t shape chunk) × (beside ≡ true)
@@ -52,16 +40,7 @@ record_kept beside t shape chunk i ranks positive passed =
       elements = all.1;
       chunks = all.3;
       bytes = bytes;
-      fits = fits t shape chunk ranks positive all.1 all.3 bytes;
     }
 
 pub kept : (beside : Bool) (t : Dtype) (shape chunk : List ℕ) (i : NodeInfo) → length chunk ≡ length shape → All (λ c. 0 < c) chunk → limited_beside beside t shape chunk ≡ Ok i → IsInfo i
 kept beside t shape chunk i ranks positive passed = rw (given beside t shape chunk i passed) (record_kept beside t shape chunk i ranks positive passed)
-
--- where there is a fault and the other limits are kept, there are too many chunks
-pub too_many : (beside : Bool) (t : Dtype) (shape chunk : List ℕ) (e : GridFault) → length chunk ≡ length shape → All (λ c. 0 < c) chunk → length shape ≤ 6 → product (at_least_one shape) ≤ 2 ^ 40 → is_chunk_within t chunk ≡ true → beside ≡ true → first_fault shape chunk (size_of t) ≡ Some e → Err (limit 4) ≡ limited_beside beside t shape chunk
-too_many beside t shape chunk e ranks positive short elements bytes beside_fit found =
-    elim (cases_lt 65536 (product (at_least_one (counts_of shape chunk)))) [
-      | inl more ↦ rw (le-leb (length shape) 6 short) (rw (le-leb _ (2 ^ 40) elements) (rw bytes (rw beside_fit (rw (lt-leb _ 65536 more) refl))))
-      | inr fewer ↦ let none = fits t shape chunk ranks positive elements fewer (leb-true _ _ bytes) in absurd (cc none)
-    ]

@@ -1,11 +1,10 @@
 -- What is known of the nodes of an expression, by their numbers.
-use Rattle.std.specs.Prelude.{◌≡◌, ℕ, ◌*◌, ◌^◌, ◌<◌, ◌≤◌, List, [], length, get_or, All, None}
+use Rattle.std.specs.Prelude.{◌≡◌, ℕ, ◌*◌, ◌^◌, ◌<◌, ◌≤◌, List, [], length, get_or, All}
 use Rattle.cu_num.specs.Dtype.{size_of}
 use Rattle.cu_num.specs.declared.types.Dtype.{Dtype}
 use Rattle.cu_num.specs.declared.types.Dtype.TheVariants.{Bool}
+use Rattle.cu_shape.specs.Counts.{counts_of, at_least_one}
 use Rattle.cu_shape.specs.Index.{product}
-use Rattle.cu_grid.specs.Counts.{counts_of, at_least_one}
-use Rattle.cu_grid.specs.Limits.{first_fault}
 use Rattle.cu_node.specs.declared.info.NodeInfo.{NodeInfo}
 
 -- an array of this type, shape and chunk shape
@@ -29,4 +28,3 @@ pub record IsInfo (i : NodeInfo) : Type 0 where
   pub elements : product (at_least_one i.dims) ≤ 2 ^ 40
   pub chunks : product (at_least_one (counts_of i.dims i.chunk)) ≤ 65536
   pub bytes : product i.chunk * size_of i.dtype ≤ 2 ^ 28
-  pub fits : first_fault i.dims i.chunk (size_of i.dtype) ≡ None

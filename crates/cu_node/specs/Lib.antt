@@ -2,4 +2,5 @@ pub mod Axes
 pub mod Fault
 pub mod Info
 pub mod Limited
+pub mod Literal
 pub mod Types

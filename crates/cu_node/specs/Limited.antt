@@ -3,8 +3,8 @@ use Rattle.std.specs.Prelude.{ℕ, ◌*◌, ◌^◌, nat_le, Bool, ◌&&◌, tru
 use Rattle.cu_result.specs.Results.{◌>>=◌, check}
 use Rattle.cu_num.specs.Dtype.{size_of}
 use Rattle.cu_num.specs.declared.types.Dtype.{Dtype}
+use Rattle.cu_shape.specs.Counts.{counts_of, at_least_one}
 use Rattle.cu_shape.specs.Index.{product}
-use Rattle.cu_grid.specs.Counts.{counts_of, at_least_one}
 use Rattle.cu_node.specs.Fault.{fault_at}
 use Rattle.cu_node.specs.Info.{info_of}
 use Rattle.cu_node.specs.declared.faults.FaultCode.TheVariants.{Limit}

@@ -1,14 +1,17 @@
 ghost use Rattle.std.specs.Prelude.{◌≡◌, ◌<◌, ◌≤◌, IfOk, All, Bool, true, length, nat_le, ◌&&◌};
-ghost use Rattle.cu_shape.specs.Index.{product};
-ghost use Rattle.cu_grid.specs.Counts.{at_least_one};
 ghost use Rattle.cu_node.specs.Info.{IsInfo};
 ghost use Rattle.cu_node.specs.Limited.{is_chunk_within, limited, limited_beside};
 
 use crate::faults::{FaultCode, NodeFault, fault_at};
 use crate::info::NodeInfo;
-use cu_grid::Grid;
 use cu_num::{Dtype, size};
-use cu_shape::Dims;
+use cu_shape::{Dims, chunk_counts, is_above};
+
+/// The most elements of an array, an axis of size 0 counting as one.
+const MOST_ELEMENTS: u64 = 0x100_0000_0000;
+
+/// The most chunks of an array, an axis of size 0 counting as one.
+const MOST_CHUNKS: u64 = 65_536;
 
 /// The most bytes of a chunk.
 const MOST_BYTES: u64 = 0x1000_0000;
@@ -23,17 +26,6 @@ pub fn is_chunk_within(t: Dtype, chunk: &Dims) -> bool
     }
 }
 
-/// The sizes, where a size of 0 counts as one.
-fn counted(sizes: &Dims) -> Dims
-    ensures { result ≡ at_least_one sizes.now }
-{
-    let mut counted = *sizes;
-    for axis in 0..sizes.rank() {
-        counted.put(axis, counted.at(axis).max(1));
-    }
-    counted
-}
-
 /// The array of this type, shape and chunk shape, where it keeps the limits: at most 2^40 elements, 2^28 bytes in a chunk and
 /// 65,536 chunks, an axis of size 0 counting as one element and one chunk. `beside` says that the other chunks that the node
 /// needs keep the limit of bytes.
@@ -44,20 +36,20 @@ pub fn within_limits(beside: bool, t: Dtype, dims: Dims, chunk: Dims) -> Result<
     ensures kept { IfOk result IsInfo }
 {
     let _short = dims.rank();
-    if counted(&dims).elements().is_none() {
+    if is_above(&dims, MOST_ELEMENTS) {
         return Err(fault_at(FaultCode::Limit, 2));
     }
     if !is_chunk_within(t, &chunk) || !beside {
         return Err(fault_at(FaultCode::Limit, 3));
     }
-    match Grid::make(dims, chunk, size(t)) {
-        Ok(_) => Ok(NodeInfo {
-            dtype: t,
-            dims,
-            chunk,
-        }),
-        Err(_) => Err(fault_at(FaultCode::Limit, 4)),
+    if is_above(&chunk_counts(&dims, &chunk), MOST_CHUNKS) {
+        return Err(fault_at(FaultCode::Limit, 4));
     }
+    Ok(NodeInfo {
+        dtype: t,
+        dims,
+        chunk,
+    })
 }
 
 /// The same of lists of any length: an array has at most 6 axes.

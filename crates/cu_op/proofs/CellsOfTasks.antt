@@ -1,48 +1,21 @@
 -- Chunks of a plan's arrays: how many there are, and lists of them.
-use Rattle.std.proofs.Common.{◌≡◌, ◌≢◌, ◌⊎◌, inl, inr, ℕ, zero, suc, ◌<◌, ◌≤◌, ◌*◌, ◌==◌, true, false, List, [], ◌∷◌, ◌++◌, length, map, All, Contains, Option, None, Some, refl, ap, ◌∙◌, arith}
-use Rattle.std.specs.List.{list_any}
-use Rattle.std.proofs.lemmas.Bool.Decides.{eqb_tells}
+use Rattle.std.proofs.Common.{◌≡◌, ◌≢◌, ◌⊎◌, inl, inr, ℕ, zero, suc, ◌<◌, ◌≤◌, ◌*◌, List, [], ◌∷◌, length, map, All, Contains, Option, None, Some, refl, ap, ◌∙◌, arith}
 use Rattle.std.proofs.lemmas.List.{get_or-map, length-map}
 use Rattle.std.proofs.Math.Nat.{le-mul_of_pos_right}
 use Rattle.std.proofs.lemmas.List.Elements.{All-cons, All-nil, All-weaker}
-use Rattle.std.proofs.lemmas.List.Folds.{list_any-append}
 use Rattle.std.proofs.lemmas.List.Sums.{get_or-le-sum_by}
 use Rattle.cu_shape.specs.Index.{product, IsInside}
 use Rattle.cu_shape.proofs.Places.{inside-positive}
 use Rattle.cu_op.specs.declared.cells.Cell.{Cell}
 use Rattle.cu_op.specs.Arrays.{array_at, grid_at, maker_at, grid_counts, chunk_count, no_array}
-use Rattle.cu_op.specs.Cells.{new_among}
 use Rattle.cu_op.specs.PlanView.{PlanView}
 use Rattle.cu_op.specs.Sound.{Sound, made_chunks, cells_by}
-use Rattle.cu_op.proofs.Values.{contains_any, any_contains, bool_cases}
 
 pub same_array : (c d : Cell) → c ≡ d → c.array ≡ d.array
 same_array c d e = ap (λ (x : Cell). x.array) e
 
 pub same_coord : (c d : Cell) → c ≡ d → c.coord ≡ d.coord
 same_coord c d e = ap (λ (x : Cell). x.coord) e
-
--- each number of a list is among those that are kept, once
-kept_any : (xs seen : List ℕ) (a : ℕ) → list_any (λ b. b == a) xs ≡ true → list_any (λ b. b == a) seen ≡ false → list_any (λ b. b == a) (new_among xs seen) ≡ true
-kept_any [] seen a h n = cc
-kept_any (x ∷ xs) seen a h n =
-    elim (eqb_tells x a) [
-      | inl p ↦
-          let same = p.1 in
-          let fresh : list_any (λ b. b == x) seen ≡ false = rw same n in
-          rw fresh (rw p.0 refl)
-      | inr p ↦
-          let rest : list_any (λ b. b == a) xs ≡ true = rw p.0 at h in
-          let longer : list_any (λ b. b == a) (seen ++ x ∷ []) ≡ false = rw (list_any-append, n, p.0) refl in
-          let ih = kept_any xs (seen ++ x ∷ []) a rest longer in
-          elim (bool_cases (list_any (λ b. b == x) seen)) [
-            | inl t ↦ rw t ih
-            | inr f ↦ rw f (rw (p.0, ih) refl)
-          ]
-    ]
-
-pub kept_contains : (xs : List ℕ) (a : ℕ) → Contains xs a → Contains (new_among xs []) a
-kept_contains xs a h = any_contains (new_among xs []) a (kept_any xs [] a (contains_any xs a h) refl)
 
 pub map_contains : {A B : Type 0} (f : A → B) (xs : List A) (a : A) → Contains xs a → Contains (map f xs) (f a)
 map_contains f xs a (k, l, e) = (k, (rw length-map l), get_or-map f xs k a (f a) l ∙ ap f e)

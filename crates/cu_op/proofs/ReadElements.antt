@@ -1,27 +1,22 @@
 -- The elements that an operation's rule reads lie in the chunks that its task reads.
-use Rattle.std.proofs.Common.{◌≡◌, ◌≢◌, ◌⊎◌, inl, inr, ℕ, zero, suc, ◌<◌, ◌-◌, ◌/◌, List, [], ◌∷◌, length, drop, All, Contains, Option, None, Some, refl, ap, sym, ◌∙◌, subst, arith}
+use Rattle.std.proofs.Common.{◌≡◌, ◌≢◌, ◌⊎◌, inl, inr, ℕ, zero, suc, ◌<◌, ◌-◌, ◌/◌, List, [], ◌∷◌, length, drop, All, Option, None, Some, refl, ap, sym, ◌∙◌, subst, arith}
 use Rattle.std.specs.List.{slice_get}
 use Rattle.std.specs.Option.{option_and_then}
 use Rattle.std.proofs.lemmas.Bool.Decides.{eqb_tells}
-use Rattle.std.proofs.lemmas.List.Elements.{All-contains, All-head, All-tail}
+use Rattle.std.proofs.lemmas.List.Elements.{All-head, All-tail}
 use Rattle.std.proofs.lemmas.Option.{slice_get_within, get_or_from_slice_get}
 use Rattle.cu_shape.specs.Index.{IsInside, back_along, back, quotients}
 use Rattle.cu_shape.proofs.Axes.{length-axis_by_axis}
 use Rattle.cu_shape.proofs.Places.{inside-length}
-use Rattle.cu_grid.specs.Grid.{RegularGrid, IsGrid, IsCoordinate, IsInChunk}
+use Rattle.cu_grid.specs.Grid.{RegularGrid, IsGrid}
 use Rattle.cu_op.specs.declared.layout.ArrayInfo.{ArrayInfo}
 use Rattle.cu_op.specs.declared.operation.Op.{Op}
 use Rattle.cu_op.specs.declared.operation.Op.TheVariants.{Map}
 use Rattle.cu_op.specs.Arrays.{grid_at}
-use Rattle.cu_op.specs.Operation.{reads_of, writes_of, IsAlignedAlong, IsAligned, IsReadable, IsMadeBy, Fits}
-use Rattle.cu_op.specs.Cells.{cell, task_coord, outputs_of, inputs_of, new_among, read_back}
-use Rattle.cu_op.specs.PlanView.{PlanView}
-use Rattle.cu_op.specs.Sound.{Sound}
+use Rattle.cu_op.specs.Operation.{IsAlignedAlong, IsAligned}
 use Rattle.cu_op.specs.Value.{Elements, loaded, rule, ReadsAt}
 use Rattle.cu_op.proofs.Axes.{read_on, inside_drop, axes_drop}
-use Rattle.cu_op.proofs.Plans.{grid_ok}
 use Rattle.cu_op.proofs.Values.{same_kernel}
-use Rattle.cu_op.proofs.CellsOfTasks.{kept_contains, map_contains, same_coord, same_array}
 
 -- the rule depends on what it reads alone
 at_same : (arrays : List ArrayInfo) (ins : List ℕ) (at other : Elements) (idx : List ℕ) (k : ℕ) (o : Option ℕ) → ((a : ℕ) → o ≡ Some a → at a (back (grid_at arrays a).shape idx) ≡ other a (back (grid_at arrays a).shape idx))
@@ -91,30 +86,3 @@ reads_from g r idx okg okr a h =
       inside = subst (IsInside g.shape) (sym left) along.inside;
       chunk = ap (λ is. quotients is g.chunk) left ∙ along.chunk ∙ ap (back_along g.shape) (sym cut) ∙ sym right;
     }
-
--- what holds of each index of a chunk (the law of grids)
-abbrev pub PartedBy : Type 0
-PartedBy = (g : RegularGrid) (coord idx : List ℕ) → IsGrid g → IsCoordinate g coord → IsInChunk g coord idx → (coord ≡ quotients idx g.chunk) × IsInside g.shape idx
-
-pub reads_lie : PartedBy → (op : Op) (p : PlanView) (k task array a : ℕ) (coord idx i : List ℕ)
-    → Sound p → All (IsReadable p.arrays k) (reads_of op) → All (IsMadeBy p.arrays k) (writes_of op) → Fits p.arrays op
-    → IsCoordinate (grid_at p.arrays array) coord → Contains (outputs_of p.arrays op task) (cell array coord) → IsInChunk (grid_at p.arrays array) coord idx → ReadsAt op p.arrays idx a i
-    → IsInside (grid_at p.arrays a).shape i × Contains (inputs_of p.arrays op task) (cell a (quotients i (grid_at p.arrays a).chunk))
-reads_lie parted (Map kernel ins out) p k task array a coord idx i s reads made fits inside (zero, l, e) chunk (among, from) =
-    let same : out ≡ array = same_array _ _ e in
-    let there : task_coord p.arrays (Map kernel ins out) task ≡ coord = same_coord _ _ e in
-    let r = grid_at p.arrays out in
-    let g = grid_at p.arrays a in
-    let okr = grid_ok p out s (made 0 0 (omega arith)).0 in
-    let readable = All-contains (IsReadable p.arrays k) ins.items a reads among in
-    let okg = grid_ok p a s readable.0 in
-    let aligned = All-contains (λ b. IsAligned (grid_at p.arrays b) r) ins.items a fits.inputs among in
-    let coordinate : IsCoordinate r coord = subst (λ (b : ℕ). IsCoordinate (grid_at p.arrays b) coord) (sym same) inside in
-    let within : IsInChunk r coord idx = subst (λ (b : ℕ). IsInChunk (grid_at p.arrays b) coord idx) (sym same) chunk in
-    let part = parted r coord idx okr coordinate within in
-    let read = reads_from g r idx okg okr aligned part.1 in
-    let target : quotients i g.chunk ≡ back g.shape (task_coord p.arrays (Map kernel ins out) task) =
-    ap (λ is. quotients is g.chunk) from ∙ read.chunk ∙ ap (back g.shape) (sym part.0 ∙ sym there) in
-    let listed = map_contains (read_back p.arrays (task_coord p.arrays (Map kernel ins out) task)) (new_among ins.items []) a (kept_contains ins.items a among) in
-    (subst (IsInside g.shape) (sym from) read.inside, subst (λ (c : List ℕ). Contains (inputs_of p.arrays (Map kernel ins out) task) (cell a c)) (sym target) listed)
-reads_lie parted (Map kernel ins out) p k task array a coord idx i s reads made fits inside (suc j, l, e) chunk h = absurd (let w : suc j < 1 = l in omega arith)

@@ -4,14 +4,13 @@ use Rattle.std.proofs.Math.Nat.{lt-div-mul-add, div-mul-le_self, add-mul}
 use Rattle.std.proofs.lemmas.Bool.Decides.{nat_tests}
 use Rattle.std.proofs.lemmas.List.{drop_more, drop-set}
 use Rattle.std.proofs.lemmas.Nat.{mul-le, mod_below, div_below, le-div, div-add-mod'}
-use Rattle.cu_shape.specs.Index.{product, place_of, quotients, IsInside}
+use Rattle.cu_shape.specs.Index.{product, place_of, quotients, IsInside, differences}
 use Rattle.cu_shape.proofs.Places.{mul_positive}
 use Rattle.cu_grid.specs.Counts.{IsRegion, IsWithin}
 use Rattle.cu_grid.specs.Grid.{RegularGrid, IsGrid}
 use Rattle.cu_grid.proofs.Products.{size_within, at_least_one_same}
 use Rattle.std.proofs.lemmas.List.Elements.{All-get_or}
-use Rattle.cu_codec.specs.Parts.{differences}
-use Rattle.cu_print.specs.Runs.{IsRun, end_on}
+use Rattle.cu_print.specs.Runs.{IsChunkRun, end_on}
 
 -- the index is the first, and one chunk has the whole axis, on each of these axes
 abbrev pub are_whole : List ℕ → List ℕ → List ℕ → Bool
@@ -166,7 +165,7 @@ in_order (n ∷ ns) (c ∷ cs) (i ∷ is) (j ∷ js) p e h w =
     (all_of ns cs is (tail_positive c cs p) (omega arith) h.1)
     (in_order ns cs is js (tail_positive c cs p) (omega arith) h.1 w.2)
 
-pub run_of : (g : RegularGrid) (idx : List ℕ) → IsGrid g → IsInside g.shape idx → IsRun g idx (ends g.shape g.chunk idx)
+pub run_of : (g : RegularGrid) (idx : List ℕ) → IsGrid g → IsInside g.shape idx → IsChunkRun g idx (ends g.shape g.chunk idx)
 run_of g idx ok inside = record {
   region = region g.shape g.chunk idx ok.positive ok.ranks inside;
   some = some g.shape g.chunk idx ok.positive ok.ranks inside;

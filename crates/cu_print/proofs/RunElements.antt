@@ -6,11 +6,11 @@ use Rattle.cu_num.specs.Element.{element_at}
 use Rattle.cu_num.specs.declared.types.Dtype.{Dtype}
 use Rattle.cu_num.specs.declared.layout.Endian.TheVariants.{Little}
 use Rattle.cu_num.proofs.Wrapped.{InRange-wrapped}
-use Rattle.cu_shape.specs.Index.{product, place_of, index_at, sums, IsInside}
+use Rattle.cu_shape.specs.Index.{product, place_of, index_at, sums, IsInside, differences}
 use Rattle.cu_shape.proofs.Places.{index-inside, index-place, place-index, place-below}
 use Rattle.cu_grid.specs.Counts.{IsRegion, IsWithin}
 use Rattle.cu_grid.specs.Grid.{RegularGrid}
-use Rattle.cu_codec.specs.Parts.{differences, place_within}
+use Rattle.cu_codec.specs.Parts.{place_within}
 use Rattle.cu_codec.proofs.Taken.{region_in_array}
 use Rattle.cu_op.specs.declared.layout.ArrayInfo.{ArrayInfo}
 use Rattle.cu_store.specs.Held.{Contents}
@@ -18,8 +18,8 @@ use Rattle.cu_store.specs.Steps.{Shown, NoChange}
 use Rattle.cu_command.specs.Seen.{Stepped}
 use Rattle.cu_region.specs.Reading.{ReadsRegion}
 use Rattle.cu_region.specs.Steady.{IsSteady}
-use Rattle.cu_print.specs.Print.{IsArrayChunk, IsStored}
-use Rattle.cu_print.specs.Runs.{IsRun, AreFrom, numbers_of}
+use Rattle.cu_print.specs.Print.{IsArrayChunk, IsStoredElement}
+use Rattle.cu_print.specs.Runs.{IsChunkRun, AreFrom, numbers_of}
 use Rattle.cu_print.proofs.Written.{length-numbers_of}
 
 cons : (x y : ℕ) (xs ys : List ℕ) → x ≡ y → xs ≡ ys → x ∷ xs ≡ y ∷ ys
@@ -46,7 +46,7 @@ record At (g : RegularGrid) (lo hi : List ℕ) (start k : ℕ) : Type 0 where
   place : place_within lo hi (index_at g.shape (start + k)) ≡ k
   below : start + k < product g.shape
 
-at_of : (g : RegularGrid) (lo hi : List ℕ) (start k : ℕ) → IsRun g lo hi → start < product g.shape → lo ≡ index_at g.shape start → k < product (differences hi lo) → At g lo hi start k
+at_of : (g : RegularGrid) (lo hi : List ℕ) (start k : ℕ) → IsChunkRun g lo hi → start < product g.shape → lo ≡ index_at g.shape start → k < product (differences hi lo) → At g lo hi start k
 at_of g lo hi start k run begins first below =
     let r = index_at (differences hi lo) k in
     let inner = index-inside (differences hi lo) k below in
@@ -69,12 +69,12 @@ numbers_in_range t bytes count k d below =
     subst (InRange t) (sym (get_or-map-range_with_len (element_at Little t bytes) 0 count k k d long (omega arith))) (element_in_range t bytes k)
 
 stored_at : (info : ArrayInfo) (lo hi out : List ℕ) (entry : Option Contents) (start k : ℕ) (x : ℤ) → At info.layout.grid lo hi start k → x ≡ element_at Little info.layout.dtype out k
-    → ReadsRegion info lo hi entry out → IsStored info.prefix info.layout entry (start + k) x
+    → ReadsRegion info lo hi entry out → IsStoredElement info.prefix info.layout entry (start + k) x
 stored_at info lo hi out None start k x at is reads = tt
 stored_at info lo hi out (Some entry) start k x at is reads =
     reads (index_at info.layout.grid.shape (start + k)) at.within ∙ ap (λ p. Some (element_at Little info.layout.dtype out p)) at.place ∙ ap Some (sym is)
 
-pub run_elements : (info : ArrayInfo) (lo hi out : List ℕ) (shown : Shown) (start count : ℕ) → IsRun info.layout.grid lo hi → start < product info.layout.grid.shape
+pub run_elements : (info : ArrayInfo) (lo hi out : List ℕ) (shown : Shown) (start count : ℕ) → IsChunkRun info.layout.grid lo hi → start < product info.layout.grid.shape
     → lo ≡ index_at info.layout.grid.shape start → count ≡ product (differences hi lo)
     → ((entry : Shown) → Stepped NoChange entry shown → IsSteady (IsArrayChunk info.prefix info.layout) entry.held entry.late → ReadsRegion info lo hi entry.held out)
     → AreFrom info.prefix info.layout start shown (numbers_of info.layout.dtype out count)

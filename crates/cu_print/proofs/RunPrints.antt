@@ -14,32 +14,24 @@ use Rattle.cu_command.specs.Seen.{Stream, Seen, Stepped, seen}
 use Rattle.cu_region.specs.Steady.{IsSteady}
 use Rattle.cu_command.specs.declared.status.Status.{Status}
 use Rattle.cu_command.specs.declared.status.Status.TheVariants.{Done, WriteFault, BadChunk, DepotFailed, NoMemory}
-use Rattle.cu_print.specs.Print.{IsArrayChunk, IsStored, AreFirst, PrintsTo, PrintsFront, Carries, IsNext, chunk_key_at}
+use Rattle.cu_print.specs.Print.{IsArrayChunk, IsStoredElement, AreFirst, PrintsTo, PrintsFront, Carries, IsNext, chunk_key_at}
 use Rattle.cu_print.specs.Runs.{AreFrom, PrintsRun, IsRunFault}
 use Rattle.cu_print.specs.Text.{header_text, elements_text, text_of_elements, printed_text, WroteAll, WroteSome}
-use Rattle.cu_print.proofs.Written.{elements_append, wrote_nothing, wrote_then, wrote_front}
-
-pub prints_none : (info : ArrayInfo) (shown : Shown) (out : Option (List ℕ)) → PrintsRun info 0 shown out out 0
-prints_none info shown out = record {
-  ys = [];
-  long = refl;
-  read = record { few = omega arith; numbers = All-nil (InRange info.layout.dtype); stored = λ entry step steady k below. absurd (omega arith) };
-  wrote = wrote_nothing out;
-}
+use Rattle.cu_print.proofs.Written.{elements_append, wrote_then, wrote_front}
 
 -- elements, and then more
 module _ (name : List ℕ) (l : Layout) (start : ℕ) (old now : Shown) (xs ys : List ℤ)
     (first : AreFrom name l start old xs) (second : AreFrom name l (start + length xs) now ys) (then : Stepped NoChange old now) where
   stored : (entry : Shown) → Stepped NoChange entry old → IsSteady (IsArrayChunk name l) entry.held entry.late
-      → (k : ℕ) → k < length (xs ++ ys) → (k < length xs) ⊎ (length xs ≤ k) → IsStored name l entry.held (start + k) (get_or (xs ++ ys) k (pos 0))
+      → (k : ℕ) → k < length (xs ++ ys) → (k < length xs) ⊎ (length xs ≤ k) → IsStoredElement name l entry.held (start + k) (get_or (xs ++ ys) k (pos 0))
   stored entry step steady k below (inl front) =
-      subst (IsStored name l entry.held (start + k)) (sym (get_or_append_left xs ys (pos 0) k front)) (first.stored entry step steady k front)
+      subst (IsStoredElement name l entry.held (start + k)) (sym (get_or_append_left xs ys (pos 0) k front)) (first.stored entry step steady k front)
   stored entry step steady k below (inr behind) =
       let inside : k - length xs < length ys = omega (arith, below, length-append xs ys) in
       let same : start + length xs + (k - length xs) ≡ start + k = omega arith in
       let h = second.stored entry (stepped_then step then) steady (k - length xs) inside in
-      subst (IsStored name l entry.held (start + k)) (sym (get_or-append_right xs ys (length xs) k (pos 0) refl behind))
-      (subst (λ (n : ℕ). IsStored name l entry.held n (get_or ys (k - length xs) (pos 0))) same h)
+      subst (IsStoredElement name l entry.held (start + k)) (sym (get_or-append_right xs ys (length xs) k (pos 0) refl behind))
+      (subst (λ (n : ℕ). IsStoredElement name l entry.held n (get_or ys (k - length xs) (pos 0))) same h)
 
   before_or_behind : (k n : ℕ) → (k < n) ⊎ (n ≤ k)
   before_or_behind k n = search arith
@@ -70,7 +62,7 @@ first_of : (name : List ℕ) (l : Layout) (entry shown : Shown) (xs : List ℤ) 
 first_of name l entry shown xs from step = record {
   few = let f = from.few in omega arith;
   numbers = from.numbers;
-  stored = λ steady k below. subst (λ (n : ℕ). IsStored name l entry.held n (get_or xs k (pos 0))) (zero-add k) (from.stored entry step steady k below);
+  stored = λ steady k below. subst (λ (n : ℕ). IsStoredElement name l entry.held n (get_or xs k (pos 0))) (zero-add k) (from.stored entry step steady k below);
 }
 
 -- the first line, and then so many elements

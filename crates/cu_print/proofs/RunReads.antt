@@ -14,17 +14,16 @@ use Rattle.cu_op.specs.declared.layout.ArrayInfo.{ArrayInfo}
 use Rattle.cu_op.specs.declared.layout.Layout.{Layout}
 use Rattle.cu_store.specs.Held.{Contents, Write}
 use Rattle.cu_store.specs.Steps.{Shown, NoChange}
-use Rattle.cu_store.proofs.Writes.{none_keeps, none_stays}
 use Rattle.cu_store.specs.declared.faults.TaskFault.{TaskFault}
 use Rattle.cu_store.specs.declared.faults.TaskFault.TheVariants.{Store, BadChunk, NoMemory}
-use Rattle.cu_region.specs.Reading.{key_at, IsChunkKey, IsStoredAt, ReadsRegion, IsReadFault, bytes_of}
+use Rattle.cu_region.specs.Reading.{key_at, IsChunkKey, IsStoredAt, ReadsRegion, IsChunkReadFault, bytes_of}
 use Rattle.cu_region.specs.Steady.{IsSteady, HoldSame}
 use Rattle.cu_region.proofs.SteadyKeys.{hold_same, steady_then}
 use Rattle.cu_region.proofs.Whole.{coordinates_small}
 use Rattle.cu_command.specs.Seen.{Stepped}
 use Rattle.cu_command.specs.Stored.{IsArrayLayout}
 use Rattle.cu_print.specs.Print.{IsArrayChunk}
-use Rattle.cu_print.specs.Runs.{IsRun, IsTried}
+use Rattle.cu_print.specs.Runs.{IsChunkRun, IsTried}
 
 -- ---- limits
 
@@ -78,7 +77,7 @@ steady_now : (info : ArrayInfo) (lo hi : List ℕ) (entry old : Shown) → Stepp
     → IsSteady (IsArrayChunk info.prefix info.layout) entry.held entry.late → IsSteady (IsChunkKey info lo hi) old.held old.late
 steady_now info lo hi entry old step steady =
     steady_less (IsArrayChunk info.prefix info.layout) (IsChunkKey info lo hi) old.held old.late (chunk_of_array info lo hi)
-    (steady_then (IsArrayChunk info.prefix info.layout) entry.late old.late entry.held old.held steady (none_keeps step.step) (none_stays step.step))
+    (steady_then (IsArrayChunk info.prefix info.layout) steady step.step)
 
 stored_then : (info : ArrayInfo) (lo hi out idx : List ℕ) (entry new : Option Contents) → IsGrid info.layout.grid → IsInside info.layout.grid.shape idx
     → HoldSame (IsArrayChunk info.prefix info.layout) entry new → IsStoredAt info lo hi new out idx → IsStoredAt info lo hi entry out idx
@@ -94,7 +93,7 @@ reads_then : (info : ArrayInfo) (lo hi out : List ℕ) (entry new : Shown) → I
     → Stepped NoChange entry new → IsSteady (IsArrayChunk info.prefix info.layout) entry.held entry.late → ReadsRegion info lo hi new.held out → ReadsRegion info lo hi entry.held out
 reads_then info lo hi out entry new ok region step steady reads idx within =
     stored_then info lo hi out idx entry.held new.held ok (region_in_array info.layout.grid.shape lo hi idx region within)
-    (hold_same (IsArrayChunk info.prefix info.layout) entry.late entry.held new.held steady (none_keeps step.step)) (reads idx within)
+    (hold_same (IsArrayChunk info.prefix info.layout) steady step.step) (reads idx within)
 
 pub read_then : {T E : Type 0} → (r : Result T E) (info : ArrayInfo) (lo hi out : List ℕ) (entry old new : Shown)
     → IsGrid info.layout.grid → IsRegion info.layout.grid.shape lo hi → Stepped NoChange entry old → Stepped NoChange entry new
@@ -105,13 +104,13 @@ read_then r info lo hi out entry old new ok region before after steady reads =
 
 -- ---- why a read ends
 
-own_key : (info : ArrayInfo) (lo hi key : List ℕ) → IsGrid info.layout.grid → IsRun info.layout.grid lo hi → IsChunkKey info lo hi key → key ≡ key_at info (quotients lo info.layout.grid.chunk)
+own_key : (info : ArrayInfo) (lo hi key : List ℕ) → IsGrid info.layout.grid → IsChunkRun info.layout.grid lo hi → IsChunkKey info lo hi key → key ≡ key_at info (quotients lo info.layout.grid.chunk)
 own_key info lo hi key ok run (coord, meets, same) =
     let idx = meets.1.0 in
     same ∙ ap (key_at info) (only_chunk info.layout.grid coord meets.1.0 ok meets.0 meets.1.2 ∙ run.one_chunk meets.1.0 meets.1.1)
 
-pub tried_once : (info : ArrayInfo) (lo hi : List ℕ) (old new : Shown) (e : TaskFault) → IsGrid info.layout.grid → IsRun info.layout.grid lo hi
-    → IsReadFault old.faults new.faults new.lacks new.held (IsChunkKey info lo hi) (bytes_of info.layout) e → IsTried 1 old new info.layout (key_at info (quotients lo info.layout.grid.chunk)) e
+pub tried_once : (info : ArrayInfo) (lo hi : List ℕ) (old new : Shown) (e : TaskFault) → IsGrid info.layout.grid → IsChunkRun info.layout.grid lo hi
+    → IsChunkReadFault old new (IsChunkKey info lo hi) (bytes_of info.layout) e → IsTried 1 old new info.layout (key_at info (quotients lo info.layout.grid.chunk)) e
 tried_once info lo hi old new Store ok run h = h
 tried_once info lo hi old new (BadChunk key got want) ok run h = (own_key info lo hi key ok run h.0, (h.1, h.2, h.3))
 tried_once info lo hi old new NoMemory ok run h = tt

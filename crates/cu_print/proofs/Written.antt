@@ -1,6 +1,6 @@
 -- The text of elements, and what a sink got of it.
 use Rattle.std.proofs.Common.{◌≡◌, ℕ, suc, ◌+◌, ◌≤◌, ℤ, List, [], ◌∷◌, ◌++◌, length, take, drop, Option, Some, None, refl, sym, ap, ◌∙◌, append_assoc, add-zero, arith, length-append, subst, take-append-drop}
-use Rattle.std.proofs.lemmas.List.{take-append-le, append-nil}
+use Rattle.std.proofs.lemmas.List.{take-append-le}
 use Rattle.std.proofs.lemmas.List.FromFn.{map-range_with_len_more, length-map-range_with_len, take-map-range_with_len}
 use Rattle.std.proofs.Math.Seq.{take-append-add, take-length}
 use Rattle.cu_num.specs.Element.{element_at}
@@ -17,10 +17,6 @@ elements_append t row place (x ∷ xs) ys =
     rw (elements_append t row (place + 1) xs ys, e) (sym (append_assoc (element_text t x) (sign_behind row place ∷ elements_text t row (place + 1) xs) (elements_text t row (place + suc (length xs)) ys)))
 
 -- ---- what was written
-
-pub wrote_nothing : (out : Option (List ℕ)) → WroteAll out out []
-wrote_nothing None = tt
-wrote_nothing (Some written) = rw append-nil refl
 
 pub wrote_then : (a b c : Option (List ℕ)) (x y : List ℕ) → WroteAll a b x → WroteAll b c y → WroteAll a c (x ++ y)
 wrote_then None None None x y first second = tt
@@ -64,9 +60,6 @@ moved_front a b c x p rest (f, wrote, same) (n, few, some) =
   where
     rewritten : (a c : Option (List ℕ)) (n : ℕ) (x y : List ℕ) → x ≡ y → WroteFront a c x n → WroteFront a c y n
     rewritten a c n x y e h = subst (λ (z : List ℕ). WroteFront a c z n) e h
-
-pub moved_all : (a b c : Option (List ℕ)) (x p : List ℕ) → Moves a b [] x p → WroteAll b c p → WroteAll a c x
-moved_all a b c x p (f, wrote, same) more = subst (WroteAll a c) same (wrote_then a b c f p wrote more)
 
 -- ---- numbers of a buffer
 

@@ -23,24 +23,24 @@ abbrev pub IsArrayChunk : List ℕ → Layout → List ℕ → Type 0
 IsArrayChunk name l key = (coord : List ℕ) × IsCoordinate l.grid coord × (key ≡ chunk_key_of name l.encoding coord)
 
 -- the key of its metadata
-abbrev pub IsMetadataKey : List ℕ → List ℕ → Type 0
-IsMetadataKey name key = key ≡ metadata_key_of name
+abbrev pub IsArrayMetadata : List ℕ → List ℕ → Type 0
+IsArrayMetadata name key = key ≡ metadata_key_of name
 
 -- the key of the chunk in which the element at this place in row-major order lies
 abbrev pub chunk_key_at : List ℕ → Layout → ℕ → List ℕ
 chunk_key_at name l place = chunk_key_of name l.encoding (quotients (index_at l.grid.shape place) l.grid.chunk)
 
 -- this number is stored as the element at this place, where the contents are told
-abbrev pub IsStored : List ℕ → Layout → Option Contents → ℕ → ℤ → Type 0
-IsStored name l None place x = Unit {0}
-IsStored name l (Some held) place x = stored_element (layout_view l) name held (index_at l.grid.shape place) ≡ Some x
+abbrev pub IsStoredElement : List ℕ → Layout → Option Contents → ℕ → ℤ → Type 0
+IsStoredElement name l None place x = Unit {0}
+IsStoredElement name l (Some held) place x = stored_element (layout_view l) name held (index_at l.grid.shape place) ≡ Some x
 
 -- These are the array's first elements. They are those that were held at entry, where each put that was late on a key of a chunk
 -- carries what is held there.
 pub record AreFirst (name : List ℕ) (l : Layout) (old : Shown) (xs : List ℤ) : Type 0 where
   pub few : length xs ≤ product l.grid.shape
   pub numbers : All (InRange l.dtype) xs
-  pub stored : IsSteady (IsArrayChunk name l) old.held old.late → (k : ℕ) → k < length xs → IsStored name l old.held k (slice_index_or xs k (pos 0))
+  pub stored : IsSteady (IsArrayChunk name l) old.held old.late → (k : ℕ) → k < length xs → IsStoredElement name l old.held k (slice_index_or xs k (pos 0))
 
 -- the text up to such elements was written, of which this fact holds
 abbrev pub PrintsTo : List ℕ → Layout → Shown → Option (List ℕ) → Option (List ℕ) → (List ℤ → Type 0) → Type 0
@@ -70,14 +70,14 @@ Carries tries name l old new status = ⊥
 -- The array has metadata of a layout of which this fact holds. It is that which was held at entry, where each put that was late on
 -- its key carries what is held there.
 abbrev pub OfLayout : List ℕ → Shown → (Layout → Type 0) → Type 0
-OfLayout name old fact = (l : Layout) × IsArrayLayout l × (IsSteady (IsMetadataKey name) old.held old.late → HoldsLayout old.held (metadata_key_of name) l) × fact l
+OfLayout name old fact = (l : Layout) × IsArrayLayout l × (IsSteady (IsArrayMetadata name) old.held old.late → HoldsLayout old.held (metadata_key_of name) l) × fact l
 
 -- what the call answers
 abbrev pub PrintEnds : ℕ → List ℕ → Seen → Seen → Status → Type 0
 PrintEnds tries name old new Done = OfLayout name old.depot (λ l. Carries tries name l old new Done)
 PrintEnds tries name old new WriteFault = OfLayout name old.depot (λ l. Carries tries name l old new WriteFault)
 PrintEnds tries name old new (BadChunk key got want) = OfLayout name old.depot (λ l. Carries tries name l old new (BadChunk key got want))
-PrintEnds tries name old new (DepotFailed key) = ((new.out.told ≡ old.out.told) × IsMetadataKey name key × Rose tries old.depot.faults new.depot.faults)
+PrintEnds tries name old new (DepotFailed key) = ((new.out.told ≡ old.out.told) × IsArrayMetadata name key × Rose tries old.depot.faults new.depot.faults)
     ⊎ OfLayout name old.depot (λ l. Carries tries name l old new (DepotFailed key))
 PrintEnds tries name old new NoMemory = (new.out.told ≡ old.out.told) ⊎ OfLayout name old.depot (λ l. Carries tries name l old new NoMemory)
 PrintEnds tries name old new (BadMeta refused code) = (new.out.told ≡ old.out.told) × (refused ≡ name) × HoldsRefused new.depot.held (metadata_key_of name) code

@@ -5,11 +5,11 @@ use Rattle.cu_num.specs.Dtype.{InRange}
 use Rattle.cu_num.specs.Element.{element_at}
 use Rattle.cu_num.specs.declared.types.Dtype.{Dtype}
 use Rattle.cu_num.specs.declared.layout.Endian.TheVariants.{Little}
-use Rattle.cu_shape.specs.Index.{product, place_of, quotients}
+use Rattle.cu_shape.specs.Index.{product, place_of, quotients, differences}
 use Rattle.cu_grid.specs.Counts.{IsRegion, IsWithin}
 use Rattle.cu_grid.specs.Grid.{RegularGrid}
 use Rattle.cu_codec.specs.Box.{run_length}
-use Rattle.cu_codec.specs.Parts.{differences, place_within}
+use Rattle.cu_codec.specs.Parts.{place_within}
 use Rattle.cu_op.specs.declared.layout.ArrayInfo.{ArrayInfo}
 use Rattle.cu_op.specs.declared.layout.Layout.{Layout}
 use Rattle.cu_store.specs.Faults.{Rose}
@@ -21,11 +21,11 @@ use Rattle.cu_command.specs.Seen.{Seen, Stepped}
 use Rattle.cu_command.specs.Stored.{IsArrayLayout}
 use Rattle.cu_command.specs.declared.status.Status.{Status}
 use Rattle.cu_command.specs.declared.status.Status.TheVariants.{WriteFault, BadChunk, DepotFailed, NoMemory}
-use Rattle.cu_print.specs.Print.{IsArrayChunk, IsStored, IsBad, chunk_key_at}
+use Rattle.cu_print.specs.Print.{IsArrayChunk, IsStoredElement, IsBad, chunk_key_at}
 use Rattle.cu_print.specs.Text.{elements_text, WroteAll, WroteSome}
 
 -- A box of indices from `lo` to below `hi` that lies in one chunk, and whose row-major order is that of the array.
-pub record IsRun (g : RegularGrid) (lo hi : List ℕ) : Type 0 where
+pub record IsChunkRun (g : RegularGrid) (lo hi : List ℕ) : Type 0 where
   pub region : IsRegion g.shape lo hi
   pub some : 0 < product (differences hi lo)
   pub few : product (differences hi lo) ≤ product g.chunk
@@ -53,7 +53,7 @@ pub record AreFrom (name : List ℕ) (l : Layout) (start : ℕ) (shown : Shown) 
   pub few : start + length ys ≤ product l.grid.shape
   pub numbers : All (InRange l.dtype) ys
   pub stored : (entry : Shown) → Stepped NoChange entry shown → IsSteady (IsArrayChunk name l) entry.held entry.late
-      → (k : ℕ) → k < length ys → IsStored name l entry.held (start + k) (slice_index_or ys k (pos 0))
+      → (k : ℕ) → k < length ys → IsStoredElement name l entry.held (start + k) (slice_index_or ys k (pos 0))
 
 -- the sink got the front of the pending bytes and of these, and the rest is pending
 abbrev pub Moves : Option (List ℕ) → Option (List ℕ) → List ℕ → List ℕ → List ℕ → Type 0
@@ -77,14 +77,14 @@ IsTried tries old new l key (BadPart bad got want) = (bad ≡ key) × IsBad l ne
 IsTried tries old new l key NoRoom = Unit {0}
 
 -- what is answered where reading a run of the chunk under this key ends so
-abbrev pub end_of : List ℕ → TaskFault → Status
-end_of key Store = DepotFailed key
-end_of key (BadPart bad got want) = BadChunk bad got want
-end_of key NoRoom = NoMemory
+abbrev pub read_end : List ℕ → TaskFault → Status
+read_end key Store = DepotFailed key
+read_end key (BadPart bad got want) = BadChunk bad got want
+read_end key NoRoom = NoMemory
 
 -- the answer of a read of the chunk under this key that ended so
 abbrev pub IsReadEnd : ℕ → Shown → Shown → Layout → List ℕ → Status → Type 0
-IsReadEnd tries old new l key status = (fault : TaskFault) × (status ≡ end_of key fault) × IsTried tries old new l key fault
+IsReadEnd tries old new l key status = (fault : TaskFault) × (status ≡ read_end key fault) × IsTried tries old new l key fault
 
 -- why printing the run that begins at this place ends
 abbrev pub IsRunFault : ℕ → ArrayInfo → ℕ → Seen → Seen → Status → Type 0

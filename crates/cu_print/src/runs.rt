@@ -1,15 +1,14 @@
 //! Runs of elements, read from the depot.
 ghost use Rattle.std.specs.Prelude.{◌≡◌, ℕ, ◌+◌, ◌-◌, ◌*◌, ◌^◌, ◌<◌, ◌≤◌, ◌&&◌, ◌==◌, nat_le, List, Option, All, length, IfErr, OnOk};
 ghost use Rattle.cu_num.specs.Dtype.{size_of, InRange};
-ghost use Rattle.cu_shape.specs.Index.{product, IsInside, quotients};
+ghost use Rattle.cu_shape.specs.Index.{product, IsInside, quotients, differences};
 ghost use Rattle.cu_grid.specs.Grid.{IsGrid};
-ghost use Rattle.cu_codec.specs.Parts.{differences};
 ghost use Rattle.cu_region.specs.Reading.{bytes_of, ReadsRegion, key_at};
 ghost use Rattle.cu_region.specs.Steady.{IsSteady};
 ghost use Rattle.cu_store.specs.Steps.{Shown, NoChange};
 ghost use Rattle.cu_command.specs.Seen.{Stepped};
 ghost use Rattle.cu_print.specs.Print.{IsArrayChunk};
-ghost use Rattle.cu_print.specs.Runs.{end_on, IsRun, IsShown, IsTried, IsReadEnd, end_of};
+ghost use Rattle.cu_print.specs.Runs.{end_on, IsChunkRun, IsShown, IsTried, IsReadEnd, read_end};
 
 use cu_codec::chunk_key;
 use cu_command::Status;
@@ -24,7 +23,7 @@ use cu_store::{Depot, Key, TaskFault};
 pub(crate) fn run_from(grid: &Grid, first: &Dims) -> Region
     requires { IsInside grid.now.shape first.now }
     ensures lo { result.lo ≡ first.now }
-    ensures run { IsRun grid.now result.lo result.hi }
+    ensures run { IsChunkRun grid.now result.lo result.hi }
 {
     let shape = grid.shape();
     let chunk = grid.chunk();
@@ -81,7 +80,7 @@ fn read_once<D: Depot>(
     scratch: &mut [u8],
 ) -> Result<(), TaskFault>
     requires shown { IsShown info.now }
-    requires run { IsRun info.now.layout.grid region.now.lo region.now.hi }
+    requires run { IsChunkRun info.now.layout.grid region.now.lo region.now.hi }
     requires out_length { length out.old ≡ product (differences region.now.hi region.now.lo) * size_of info.now.layout.dtype }
     requires scratch_length { bytes_of info.now.layout ≤ length scratch.old }
     ensures read { (entry : Shown) → Stepped NoChange entry (D.shown depot.old)
@@ -104,7 +103,7 @@ fn read_tries<D: Depot>(
     scratch: &mut [u8],
 ) -> Result<(), TaskFault>
     requires shown { IsShown info.now }
-    requires run { IsRun info.now.layout.grid region.now.lo region.now.hi }
+    requires run { IsChunkRun info.now.layout.grid region.now.lo region.now.hi }
     requires out_length { length out.old ≡ product (differences region.now.hi region.now.lo) * size_of info.now.layout.dtype }
     requires scratch_length { bytes_of info.now.layout ≤ length scratch.old }
     ensures read { (entry : Shown) → Stepped NoChange entry (D.shown depot.old)
@@ -136,8 +135,8 @@ fn chunk_of(grid: &Grid, idx: &Dims) -> Dims
 }
 
 /// What is answered where reading a run of this chunk ends so.
-fn end_of(fault: &TaskFault, key: &Key) -> Status
-    ensures { result ≡ end_of key.now fault.now }
+fn read_end(fault: &TaskFault, key: &Key) -> Status
+    ensures { result ≡ read_end key.now fault.now }
 {
     match fault {
         TaskFault::Store => Status::DepotFailed { key: *key },
@@ -161,7 +160,7 @@ pub(crate) fn read_run<D: Depot>(
 ) -> Result<(), Status>
     requires shown { IsShown info.now }
     requires inside { IsInside info.now.layout.grid.shape region.now.lo }
-    requires run { IsRun info.now.layout.grid region.now.lo region.now.hi }
+    requires run { IsChunkRun info.now.layout.grid region.now.lo region.now.hi }
     requires out_length { length out.old ≡ product (differences region.now.hi region.now.lo) * size_of info.now.layout.dtype }
     requires scratch_length { bytes_of info.now.layout ≤ length scratch.old }
     ensures read { (entry : Shown) → Stepped NoChange entry (D.shown depot.old)
@@ -174,6 +173,6 @@ pub(crate) fn read_run<D: Depot>(
     let key = chunk_key(&info.prefix, info.layout.encoding, &coord);
     match read_tries(depot, info, region, retries, out, scratch) {
         Ok(()) => Ok(()),
-        Err(fault) => Err(end_of(&fault, &key)),
+        Err(fault) => Err(read_end(&fault, &key)),
     }
 }

@@ -1,5 +1,5 @@
 -- What a text is read as, and the answer for it.
-use Rattle.std.proofs.Common.{◌≡◌, ap, ℕ, ◌≤◌, ◌<◌, Bool, true, false, List, length, nat_le, Some, None, IsUtf8, refl, sym, ◌∙◌, Result, Ok, Err, IfOk, IfErr, arith}
+use Rattle.std.proofs.Common.{◌≡◌, ap, ℕ, ◌≤◌, ◌<◌, Bool, true, false, List, length, nat_le, Some, None, IsUtf8, refl, sym, ◌∙◌, Err, arith}
 use Rattle.std.specs.Str.{is_utf8}
 use Rattle.std.proofs.lemmas.Bool.{le-leb}
 use Rattle.std.proofs.lemmas.Str.{IsUtf8-from_is_utf8, is_utf8-from_IsUtf8}
@@ -7,11 +7,9 @@ use Rattle.serde_json.specs.Data.{Data}
 use Rattle.serde_json.specs.Read.{read}
 use Rattle.cu_form.specs.Expression.{Expression}
 use Rattle.cu_read.specs.Faults.{IfFault, GivesAs}
-use Rattle.cu_read.specs.Form.{HasForm}
 use Rattle.cu_read.specs.Read.{whole_fault, expression_in, expression_of}
 use Rattle.cu_read.specs.declared.faults.ReadFault.{ReadFault}
 use Rattle.cu_read.specs.declared.faults.ReadRefused.{ReadRefused}
-use Rattle.cu_read.proofs.Says.{text_has_form}
 
 -- ---- the text
 
@@ -45,21 +43,7 @@ refused_for_no_value text same ReadRefused.NoMemory short utf8 is h = tt
 
 -- ---- the answer
 
-pub answered_ok : (text : List ℕ) (d : Data) (result : Result Expression ReadRefused) → expression_of text ≡ expression_in d
-    → GivesAs (λ e. e) result (expression_in d) → IfOk result (λ e. expression_of text ≡ Ok e)
-answered_ok text d (Ok e) is h = is ∙ h
-answered_ok text d (Err refused) is h = tt
-
-refused_with : (text : List ℕ) (d : Data) (e : ReadRefused) → expression_of text ≡ expression_in d
+pub refused_with : (text : List ℕ) (d : Data) (e : ReadRefused) → expression_of text ≡ expression_in d
     → GivesAs {A = Expression} {B = Expression} (λ x. x) (Err e) (expression_in d) → IfFault e (λ f. expression_of text ≡ Err f)
 refused_with text d (ReadRefused.Fault fault) is h = is ∙ h
 refused_with text d ReadRefused.NoMemory is h = tt
-
-pub answered_fault : (text : List ℕ) (d : Data) (result : Result Expression ReadRefused) → expression_of text ≡ expression_in d
-    → GivesAs (λ e. e) result (expression_in d) → IfErr result (λ e. IfFault e (λ f. expression_of text ≡ Err f))
-answered_fault text d (Ok e) is h = tt
-answered_fault text d (Err refused) is h = refused_with text d refused is h
-
-pub answered_form : (text : List ℕ) (result : Result Expression ReadRefused) → IfOk result (λ e. expression_of text ≡ Ok e) → IfOk result (λ e. HasForm text e)
-answered_form text (Ok e) h = text_has_form text e h
-answered_form text (Err refused) h = tt

@@ -4,7 +4,7 @@ use Rattle.std.specs.Str.{is_utf8, chars}
 use Rattle.serde_json.proofs.OnLiterals.{serde_json_on_literals}
 use Rattle.cu_num.specs.declared.functions.Fn2.TheVariants.{Add}
 use Rattle.cu_form.specs.declared.args.Arg.{Arg}
-use Rattle.cu_form.specs.declared.form.ElementOp.{ElementOp}
+use Rattle.cu_node.specs.declared.element_op.ElementOp.{ElementOp}
 use Rattle.cu_form.specs.declared.form.Form.{Form}
 use Rattle.cu_read.specs.Read.{expression_of}
 

@@ -1,26 +1,31 @@
 -- The loop over the items of a list of nodes.
-use Rattle.std.proofs.Common.{◌≡◌, ◌<◌, ◌≤◌, ◌+◌, ◌++◌, suc, List, [], ◌∷◌, ℕ, drop, get_or, length, false, nat_le, Some, Bool, Ok, Err, Result, OnOk, refl, sym, ap, ◌∙◌, subst, arith, add-one, drop-cons}
+use Rattle.std.proofs.Common.{◌≡◌, ◌<◌, ◌≤◌, ◌+◌, ◌++◌, ◌^◌, suc, List, [], ◌∷◌, ℕ, drop, get_or, length, false, nat_le, Some, Bool, codes, Ok, Err, Result, OnOk, refl, sym, ap, ◌∙◌, subst, arith, add-one, drop-cons}
 use Rattle.std.specs.Prelude.{bytes_eq}
 use Rattle.std.specs.List.{position}
 use Rattle.std.specs.Result.{is_err}
 use Rattle.std.proofs.Math.ListN.{drop_of_length-le}
 use Rattle.std.proofs.lemmas.Bool.{le-leb}
 use Rattle.std.proofs.lemmas.List.{map-append}
+use Rattle.serde_json.specs.Data.{Data, Items}
+use Rattle.serde_json.specs.Find.{as_array}
 use Rattle.serde_json.specs.View.{view, items_view}
 use Rattle.serde_json.specs.declared.value.Value.{Value}
 use Rattle.serde_json.proofs.Views.{items_len-items_view}
 use Rattle.cu_name.specs.Name.{is_name}
-use Rattle.cu_form.specs.Expression.{Expression, IsExpression}
+use Rattle.cu_form.specs.Expression.{Expression, IsExpression, HaveShortIndices}
 use Rattle.cu_form.specs.declared.expr.Node.{Node}
 use Rattle.cu_result.specs.Results.{◌>>=◌}
 use Rattle.cu_read.specs.Faults.{GivesAs}
-use Rattle.cu_read.specs.Members.{passing}
+use Rattle.cu_read.specs.Members.{passing, member_of}
 use Rattle.cu_read.specs.Node.{node_in}
-use Rattle.cu_read.specs.Read.{whole_fault, answer_at, ids_of, nodes_after, AreNodes, expression_with, listed_in}
+use Rattle.cu_read.specs.Read.{whole_fault, answer_at, ids_of, nodes_after, AreNodes, expression_with, listed_in, top_member}
+use Rattle.cu_read.specs.Size.{item_count, items_count}
 use Rattle.cu_read.specs.declared.faults.ReadFault.{ReadFault}
 use Rattle.cu_read.specs.declared.faults.ReadRefused.{ReadRefused}
 use Rattle.cu_read.specs.declared.nodes.Nodes.{Nodes}
-use Rattle.cu_read.proofs.Says.{length-ids, listed_nodes, stored_is, name_passes}
+use Rattle.cu_result.proofs.ResultSteps.{need_ok}
+use Rattle.cu_read.proofs.IndexLength.{list_within}
+use Rattle.cu_read.proofs.Says.{length-ids, listed_nodes, listed_short, stored_is, name_passes}
 
 -- the answer for the next item, where the nodes so far are those in front
 next_said : (v : Value) (front : List Node) (ids : List (List ℕ)) (r : Result Node ReadFault) → ids ≡ ids_of front
@@ -54,6 +59,14 @@ ids_pushed front list ids names node same is pushed =
 pub are_nodes : (items : List Value) (nodes : List Node) → length items ≤ 256 → nodes_after [] (items_view items) ≡ Ok nodes → AreNodes nodes
 are_nodes items nodes short h = listed_nodes (items_view items) nodes (rw items_len-items_view short) h
 
+-- the indices of nodes that were read
+pub are_short : (items : List Value) (nodes : List Node) → length items ≤ 256 → items_count (items_view items) < 2 ^ 32 → nodes_after [] (items_view items) ≡ Ok nodes → HaveShortIndices nodes
+are_short items nodes short few h = listed_short (items_view items) nodes (rw items_len-items_view short) few h
+
+-- the list of nodes of a value
+pub top_within : (d : Data) (items : Items) → Ok items ≡ top_member as_array (codes "nodes") d → items_count items ≤ item_count d
+top_within d items h = list_within (codes "nodes") d items (need_ok (member_of as_array (codes "nodes") d) (whole_fault 2) items (sym h))
+
 -- ---- the whole list
 
 longer : (m n : ℕ) → n < m → nat_le m n ≡ false
@@ -81,10 +94,10 @@ listed_err items out store_as ReadRefused.NoMemory short said = tt
 
 -- ---- the node that is stored
 
-pub is_stored : (nodes : List Node) (ids : List (List ℕ)) (out store_as : List ℕ) (k : ℕ) (name : List ℕ) → AreNodes nodes → ids ≡ ids_of nodes
+pub is_stored : (nodes : List Node) (ids : List (List ℕ)) (out store_as : List ℕ) (k : ℕ) (name : List ℕ) → AreNodes nodes → HaveShortIndices nodes → ids ≡ ids_of nodes
     → position (bytes_eq out) ids ≡ Some k → passing is_name store_as ≡ Some name → IsExpression (record { nodes = nodes; out = k; store_as = name })
-is_stored nodes ids out store_as k name are same at named =
-    stored_is nodes out k name are (subst (λ (names : List (List ℕ)). position (bytes_eq out) names ≡ Some k) same at) (name_passes store_as name named).1
+is_stored nodes ids out store_as k name are indices same at named =
+    stored_is nodes out k name are indices (subst (λ (names : List (List ℕ)). position (bytes_eq out) names ≡ Some k) same at) (name_passes store_as name named).1
 
 -- ---- the loop's ends
 

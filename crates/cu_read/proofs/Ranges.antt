@@ -11,8 +11,8 @@ use Rattle.cu_num.specs.declared.functions.Fn1.TheVariants.{Negative, Positive, 
 use Rattle.cu_num.specs.declared.functions.Fn2.{Fn2}
 use Rattle.cu_form.specs.Form.{is_size, is_chunk_size, is_written, is_written_arg, is_written_value, is_function, in_ranges}
 use Rattle.cu_form.specs.declared.args.Arg.{Arg}
-use Rattle.cu_form.specs.declared.args.Literal.{Literal}
-use Rattle.cu_form.specs.declared.form.ElementOp.{ElementOp}
+use Rattle.cu_node.specs.declared.literal.Literal.{Literal}
+use Rattle.cu_node.specs.declared.element_op.ElementOp.{ElementOp}
 use Rattle.cu_form.specs.declared.form.Form.{Form}
 use Rattle.cu_name.specs.Name.{is_name}
 use Rattle.cu_result.proofs.OptionSteps.{step_some}

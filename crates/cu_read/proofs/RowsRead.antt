@@ -9,7 +9,7 @@ use Rattle.cu_num.specs.declared.folds.FoldKind.{FoldKind}
 use Rattle.cu_num.specs.declared.folds.FoldKind.TheVariants.{Sum, Prod, Min, Max, Any, All}
 use Rattle.cu_form.specs.Form.{is_size}
 use Rattle.cu_form.specs.declared.args.Arg.{Arg}
-use Rattle.cu_form.specs.declared.form.ElementOp.{ElementOp}
+use Rattle.cu_node.specs.declared.element_op.ElementOp.{ElementOp}
 use Rattle.cu_form.specs.declared.form.Form.{Form}
 use Rattle.cu_result.specs.Results.{◌>>=◌, check, need}
 use Rattle.cu_read.specs.Args.{arg_of, args_in}

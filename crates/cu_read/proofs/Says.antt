@@ -1,5 +1,5 @@
 -- What a text that is read says, and that it is an expression.
-use Rattle.std.proofs.Common.{◌≡◌, ◌⊎◌, inl, inr, ◌<◌, ◌≤◌, ◌+◌, ◌++◌, ◌&&◌, ◌||◌, zero, suc, Bool, true, false, not, Option, Some, None, List, [], ◌∷◌, ℕ, length, codes, Result, Ok, Err, IfOk, refl, sym, ap, ◌∙◌, subst, get_or, arith, length-append, append_assoc}
+use Rattle.std.proofs.Common.{◌≡◌, ◌⊎◌, inl, inr, ◌<◌, ◌≤◌, ◌+◌, ◌++◌, ◌^◌, ◌&&◌, ◌||◌, zero, suc, Bool, true, false, not, Option, Some, None, List, [], ◌∷◌, ℕ, length, codes, Result, Ok, Err, IfOk, refl, sym, ap, ◌∙◌, subst, get_or, arith, length-append, append_assoc}
 use Rattle.std.specs.Prelude.{bytes_eq, nat_le, slice_get, if◌then◌else◌}
 use Rattle.std.specs.List.{list_any, position}
 use Rattle.std.specs.Str.{is_utf8}
@@ -16,18 +16,21 @@ use Rattle.cu_json.specs.Form.{is_object_of}
 use Rattle.cu_name.specs.Name.{is_name}
 use Rattle.cu_result.specs.Results.{◌>>=◌, check, need}
 use Rattle.cu_form.specs.Form.{takes_args, names_earlier}
-use Rattle.cu_form.specs.Expression.{Expression, IsExpression, IsNode, IdsDiffer}
+use Rattle.cu_form.specs.Expression.{Expression, IsExpression, IsNode, IdsDiffer, HaveShortIndices}
 use Rattle.cu_form.specs.declared.expr.Node.{Node}
 use Rattle.cu_form.specs.declared.form.Form.{Form}
 use Rattle.cu_read.specs.Form.{IsRow, SaysNode, SayNodes, SaysExpression, HasForm}
 use Rattle.cu_read.specs.Members.{passing, member_of}
 use Rattle.cu_read.specs.Node.{row_of, is_new_id, name_for, node_in}
 use Rattle.cu_read.specs.Read.{whole_fault, answer_at, ids_of, nodes_after, AreNodes, listed_in, expression_in, expression_of}
+use Rattle.cu_read.specs.Size.{item_count, items_count}
 use Rattle.cu_read.specs.declared.faults.NodeCode.{NodeCode}
 use Rattle.cu_read.specs.declared.faults.ReadFault.{ReadFault}
+use Rattle.cu_read.proofs.IndexLength.{list_within, say_short}
 use Rattle.cu_read.proofs.Ranges.{row_in_ranges}
 use Rattle.cu_read.proofs.RowForms.{row_says}
 use Rattle.cu_read.proofs.Steps.{after_need, after_step}
+use Rattle.cu_read.proofs.TextItems.{text_items}
 
 -- ---- tests
 
@@ -242,17 +245,23 @@ listed items short = listed_by items short (nodes_after [] items) (nodes_say [] 
   }
   listed_by items short (Err fault) on read = tt
 
+pub listed_short : (items : Items) (nodes : List Node) → items_len items ≤ 256 → items_count items < 2 ^ 32 → nodes_after [] items ≡ Ok nodes → HaveShortIndices nodes
+listed_short items nodes short few_items h =
+    let are : AreListed items nodes = subst (λ (r : Result (List Node) ReadFault). IfOk r (AreListed items)) h (listed items short) in
+    say_short [] items nodes few_items are.say
+
 pub listed_nodes : (items : Items) (nodes : List Node) → items_len items ≤ 256 → nodes_after [] items ≡ Ok nodes → AreNodes nodes
 listed_nodes items nodes short h =
     let are : AreListed items nodes = subst (λ (r : Result (List Node) ReadFault). IfOk r (AreListed items)) h (listed items short) in are.are
 
 -- the expression of nodes
-pub stored_is : (nodes : List Node) (out : List ℕ) (number : ℕ) (name : List ℕ) → AreNodes nodes → position (bytes_eq out) (ids_of nodes) ≡ Some number
+pub stored_is : (nodes : List Node) (out : List ℕ) (number : ℕ) (name : List ℕ) → AreNodes nodes → HaveShortIndices nodes → position (bytes_eq out) (ids_of nodes) ≡ Some number
     → is_name name ≡ true → IsExpression (record { nodes = nodes; out = number; store_as = name })
-stored_is nodes out number name are at named = record {
+stored_is nodes out number name are indices at named = record {
   few = are.few;
   nodes = are.nodes;
   ids = are.ids;
+  indices = indices;
   out = omega (arith, (found out (ids_of nodes) number at).0, length-ids nodes);
   store_as = named;
 }
@@ -290,8 +299,8 @@ top_steps true (Some i) None store_as rest P h = tt
 top_steps true None out store_as rest P h = tt
 top_steps false items out store_as rest P h = tt
 
-pub expression_says : (d : Data) → IfOk (expression_in d) (Said d)
-expression_says d =
+pub expression_says : (d : Data) → item_count d < 2 ^ 32 → IfOk (expression_in d) (Said d)
+expression_says d few_items =
     top_steps (is_object_of 3 d) (member_of as_array (codes "nodes") d) (member_of as_str (codes "out") d) (member_of as_str (codes "store_as") d) listed_in (Said d)
     (λ members items i out o store_as s.
     listed_steps (nat_le (items_len items) 256) (nodes_after [] items) (λ (nodes : List Node). position (bytes_eq out) (ids_of nodes)) (passing is_name store_as) (Said d)
@@ -308,7 +317,7 @@ expression_says d =
         stored = (found out (ids_of nodes) number p).1;
         store_as = s ∙ ap Some named.0;
       },
-      stored_is nodes out number name list.are p named.1,
+      stored_is nodes out number name list.are (say_short [] items nodes (let w = list_within (codes "nodes") d items i in omega arith) list.say) p named.1,
     )))
 
 text_steps : (a b : Bool) (value : Option Data) (rest : Data → Result Expression ReadFault) (P : Expression → Type 0)
@@ -324,7 +333,7 @@ unfolding expression_of
 text_says text =
     text_steps (nat_le (length text) 1048576) (is_utf8 text) (read text) expression_in (HasForm text) (λ short utf8 value r.
     weaker (expression_in value) (Said value) (HasForm text)
-    (λ x s. record { short = leb-true (length text) 1048576 short; utf8 = utf8; value = value; reads = r; says = s.0; expression = s.1 }) (expression_says value))
+    (λ x s. record { short = leb-true (length text) 1048576 short; utf8 = utf8; value = value; reads = r; says = s.0; expression = s.1 }) (expression_says value (let w = text_items text value r in let l = leb-true (length text) 1048576 short in omega arith)))
 
 pub text_has_form : (text : List ℕ) (e : Expression) → expression_of text ≡ Ok e → HasForm text e
 text_has_form text e h = subst (λ (r : Result Expression ReadFault). IfOk r (HasForm text)) h (text_says text)

@@ -5,7 +5,7 @@ use Rattle.std.specs.List.{position_or_len}
 use Rattle.serde_json.specs.Data.{Data}
 use Rattle.serde_json.specs.Find.{as_str, as_array}
 use Rattle.cu_form.specs.declared.args.Arg.{Arg}
-use Rattle.cu_form.specs.declared.args.Literal.{Literal}
+use Rattle.cu_node.specs.declared.literal.Literal.{Literal}
 use Rattle.cu_result.specs.Results.{◌>>=◌, need}
 use Rattle.cu_read.specs.Lists.{entries_after}
 use Rattle.cu_read.specs.Members.{literal_of}

@@ -6,7 +6,7 @@ use Rattle.cu_num.specs.declared.functions.Fn1.{Fn1}
 use Rattle.cu_num.specs.declared.functions.Fn1.TheVariants.{Negative, Positive, Abs, Square, Sign, BitwiseInvert, LogicalNot}
 use Rattle.cu_num.specs.declared.functions.Fn2.{Fn2}
 use Rattle.cu_num.specs.declared.functions.Fn2.TheVariants.{Add, Subtract, Multiply, FloorDivide, Remainder, BitwiseAnd, BitwiseOr, BitwiseXor, LeftShift, RightShift, Equal, NotEqual, Less, LessEqual, Greater, GreaterEqual, LogicalAnd, LogicalOr, LogicalXor}
-use Rattle.cu_form.specs.declared.form.ElementOp.{ElementOp}
+use Rattle.cu_node.specs.declared.element_op.ElementOp.{ElementOp}
 use Rattle.cu_form.specs.declared.form.Form.{Form}
 use Rattle.cu_result.specs.Results.{◌>>=◌}
 use Rattle.cu_read.specs.Args.{args_in}

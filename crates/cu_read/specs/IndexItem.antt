@@ -4,7 +4,7 @@ use Rattle.std.specs.Option.{option_or}
 use Rattle.serde_json.specs.Data.{Data}
 use Rattle.serde_json.specs.Find.{as_str}
 use Rattle.cu_json.specs.Form.{is_object_of}
-use Rattle.cu_form.specs.declared.args.IndexItem.{IndexItem}
+use Rattle.cu_node.specs.declared.index_item.IndexItem.{IndexItem}
 use Rattle.cu_result.specs.Options.{◌>>=◌, when}
 use Rattle.cu_read.specs.Members.{integer_of, member_or, or_null, present}
 

@@ -10,4 +10,5 @@ pub mod Node
 pub mod Read
 pub mod Reduction
 pub mod Rows
+pub mod Size
 pub mod View

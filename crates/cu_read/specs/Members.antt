@@ -5,7 +5,7 @@ use Rattle.serde_json.specs.Data.{Data}
 use Rattle.serde_json.specs.Find.{get, as_null, as_bool, as_number, as_str, as_i64, as_u64, as_integer}
 use Rattle.cu_name.specs.Name.{is_name}
 use Rattle.cu_num.specs.declared.types.Dtype.{Dtype}
-use Rattle.cu_form.specs.declared.args.Literal.{Literal}
+use Rattle.cu_node.specs.declared.literal.Literal.{Literal}
 use Rattle.cu_form.specs.Form.{is_written, is_size, is_chunk_size, are_new_sizes}
 use Rattle.cu_read.specs.Lists.{entries_of}
 use Rattle.cu_num.specs.TypeName.{dtype_named}

@@ -19,5 +19,5 @@ mod rows;
 mod view;
 
 pub use faults::{ReadFault, ReadRefused};
-pub use laws::form_law;
-pub use read::read_expr;
+pub use laws::{form_law, plain_law};
+pub use read::{ExprText, read_expr, read_with_value};

@@ -1,12 +1,14 @@
 //! The text of an expression.
-ghost use Rattle.std.specs.Prelude.{◌≡◌, Ok, Err, Some, None, IfOk, IfErr};
+ghost use Rattle.std.specs.Prelude.{◌≡◌, ◌<◌, ◌^◌, Ok, Err, Some, None, IfOk, IfErr};
 ghost use Rattle.std.specs.Result.{result_map_both};
 ghost use Rattle.serde_json.specs.Find.{as_array, as_str};
 ghost use Rattle.serde_json.specs.Read.{read};
 ghost use Rattle.serde_json.specs.View.{view, items_view};
+ghost use Rattle.cu_form.specs.Expression.{HaveShortIndices};
 ghost use Rattle.cu_read.specs.Faults.{IfFault, GivesAs};
 ghost use Rattle.cu_read.specs.Form.{HasForm};
 ghost use Rattle.cu_read.specs.Read.{whole_fault, ids_of, top_member, expression_with, listed_in, AreNodes, expression_in, expression_of};
+ghost use Rattle.cu_read.specs.Size.{item_count, items_count};
 
 use crate::faults::{ReadFault, ReadRefused};
 use crate::members::named;
@@ -46,6 +48,36 @@ pub fn read_expr(alloc: Global, bytes: &[u8]) -> Result<Expr, ReadRefused>
     ensures fault { IfErr result (λ e. IfFault e (λ f. expression_of bytes.now ≡ Err f)) }
     ensures form { IfOk result (λ e. HasForm bytes.now e) }
 {
+    match read_with_value(alloc, bytes) {
+        Ok(read) => Ok(read.into_expr()),
+        Err(refused) => Err(refused),
+    }
+}
+
+/// An expression, and the JSON value of its text.
+#[derive(Drop)]
+pub struct ExprText {
+    pub expr: Expr,
+    pub value: Value,
+}
+
+impl ExprText {
+    /// The expression alone.
+    fn into_expr(self) -> Expr
+        ensures { result ≡ self.expr }
+    {
+        let ExprText { expr, value: _ } = self;
+        expr
+    }
+}
+
+/// The expression that a text says and the value as which the text is read, or the first fault, as `read_expr` has it.
+pub fn read_with_value(alloc: Global, bytes: &[u8]) -> Result<ExprText, ReadRefused>
+    ensures ok { IfOk result (λ r. expression_of bytes.now ≡ Ok r.expr) }
+    ensures value { IfOk result (λ r. read bytes.now ≡ Some (view r.value)) }
+    ensures fault { IfErr result (λ e. IfFault e (λ f. expression_of bytes.now ≡ Err f)) }
+    ensures form { IfOk result (λ r. HasForm bytes.now r.expr) }
+{
     if bytes.len() > TEXT_BYTES {
         return Err(ReadRefused::Fault(whole_fault(TOO_LONG)));
     }
@@ -53,7 +85,10 @@ pub fn read_expr(alloc: Global, bytes: &[u8]) -> Result<Expr, ReadRefused>
         return Err(ReadRefused::Fault(whole_fault(NO_VALUE)));
     };
     let value = value_in(alloc, text)?;
-    expression_in(alloc, &value)
+    match expression_in(alloc, &value) {
+        Ok(expr) => Ok(ExprText { expr, value }),
+        Err(refused) => Err(refused),
+    }
 }
 
 /// A fault of the whole text.
@@ -95,6 +130,7 @@ fn top_text<'v>(value: &'v Value, name: &str) -> Result<&'v str, ReadFault>
 }
 
 fn expression_in(alloc: Global, value: &Value) -> Result<Expr, ReadRefused>
+    requires { item_count (view value.now) < 2 ^ 32 }
     ensures { GivesAs (λ e. e) result (expression_in (view value.now)) }
 {
     if !is_object_of(value, 3) {
@@ -112,6 +148,7 @@ fn listed_in(
     out: &str,
     store_as: &str,
 ) -> Result<Expr, ReadRefused>
+    requires { items_count (items_view items.now.items) < 2 ^ 32 }
     ensures { GivesAs (λ e. e) result (listed_in (items_view items.now.items) out.now store_as.now) }
 {
     if items.len() > MOST_NODES {
@@ -127,6 +164,7 @@ fn listed_in(
 fn expression_with(nodes: Nodes, out: &str, store_as: &str) -> Result<Expr, ReadRefused>
     requires nodes { AreNodes nodes.list.items }
     requires ids { nodes.ids ≡ ids_of nodes.list.items }
+    requires indices { HaveShortIndices nodes.list.items }
     ensures { GivesAs (λ e. e) result (expression_with nodes.list.items nodes.ids out.now store_as.now) }
 {
     let Nodes { list, ids } = nodes;

@@ -7,28 +7,29 @@ use Rattle.cu_num.specs.declared.types.Dtype.{Dtype}
 use Rattle.cu_num.specs.declared.layout.Endian.{Endian}
 use Rattle.cu_num.specs.declared.layout.Endian.TheVariants.{Little, Big}
 use Rattle.cu_num.proofs.ElementBytes.{element_at_same, element_at_own, element_at-element_bytes_in_range}
-use Rattle.cu_shape.specs.Index.{product, place_of, quotients, remainders}
+use Rattle.cu_shape.specs.Index.{product, place_of, quotients, remainders, differences}
 use Rattle.cu_shape.proofs.Places.{place-below}
 use Rattle.cu_grid.specs.Counts.{IsRegion, IsWithin}
 use Rattle.cu_grid.specs.Cover.{Meets}
 use Rattle.cu_grid.specs.Grid.{IsGrid, IsCoordinate}
+use Rattle.cu_grid.specs.declared.region.Region.{Region}
 use Rattle.cu_grid.proofs.Parting.{has_coordinate, lies_within, inner_inside}
 use Rattle.cu_store.specs.Held.{Contents}
+use Rattle.cu_store.specs.Steps.{Shown}
 use Rattle.cu_zarr.specs.Layout.{chunk_bytes}
 use Rattle.cu_zarr.specs.Stored.{element_in}
 use Rattle.cu_op.specs.Layout.{layout_view}
 use Rattle.cu_op.specs.declared.layout.ArrayInfo.{ArrayInfo}
 use Rattle.cu_op.specs.declared.layout.Layout.{Layout}
 use Rattle.cu_codec.specs.Order.{IsReordered}
-use Rattle.cu_codec.specs.Parts.{part_at, place_within, differences, IsOneChunk, IsTaken}
+use Rattle.cu_codec.specs.Parts.{part, part_at, place_within, IsOneChunk, IsTaken}
 use Rattle.cu_codec.proofs.OneChunk.{one_chunk_place}
 use Rattle.cu_codec.proofs.Shared.{within_sizes}
 use Rattle.cu_codec.proofs.Swapped.{little_reads_big}
 use Rattle.cu_codec.proofs.Taken.{region_in_array}
 use Rattle.cu_store.specs.declared.faults.TaskFault.{TaskFault}
 use Rattle.cu_store.specs.declared.faults.TaskFault.TheVariants.{Store, BadChunk, NoMemory}
-use Rattle.std.specs.Prelude.{Bool as Test}
-use Rattle.cu_region.specs.Reading.{key_at, IsChunkKey, bytes_of, IsChunkOf, IsRawOf, Fetches, ReadsChunk, HasChunk, IsStoredAt, HasPart, ReadsRegion, ReadsPart, IsReadFault}
+use Rattle.cu_region.specs.Reading.{key_at, IsChunkKey, bytes_of, IsChunkOf, IsRawOf, Fetches, ReadsChunk, HasChunk, IsStoredAt, HasChunkPart, ReadsRegion, ReadsPart, IsChunkReadFault}
 use Rattle.cu_region.specs.Settled.{IsSettled}
 use Rattle.cu_region.specs.Steady.{HoldSame}
 use Rattle.cu_region.proofs.SteadyKeys.{same_or_not, first_or_rest}
@@ -102,42 +103,42 @@ meets_own info lo hi idx ok region w =
     let inside = region_in_array info.layout.grid.shape lo hi idx region w in
     (has_coordinate info.layout.grid idx ok inside, (idx, w, lies_within info.layout.grid idx ok inside))
 
-pub reads_part : (info : ArrayInfo) (e : Endian) (coord lo hi buf old new : List ℕ) (held : Option Contents) → IsGrid info.layout.grid → IsRegion info.layout.grid.shape lo hi
+pub reads_part : (info : ArrayInfo) (e : Endian) (coord : List ℕ) (r : Region) (buf old new : List ℕ) (held : Option Contents) → IsGrid info.layout.grid → IsRegion info.layout.grid.shape r.lo r.hi
     → Fetches info.layout held (key_at info coord) e buf → length buf ≡ bytes_of info.layout → InRange info.layout.dtype info.layout.fill
-    → IsTaken (size_of info.layout.dtype) e info.layout.grid.chunk coord lo hi buf old new
-    → ReadsPart info coord lo hi held old new
-reads_part info e coord lo hi buf old new held ok region chunk long fits took = record {
+    → IsTaken (size_of info.layout.dtype) e (part info.layout.grid coord r.lo r.hi) buf old new
+    → ReadsPart info coord r held old new
+reads_part info e coord r buf old new held ok region chunk long fits took = record {
   stored = stored held chunk;
   others = took.others;
 }
   where
-    stored : (held : Option Contents) → Fetches info.layout held (key_at info coord) e buf → HasPart info coord lo hi held new
+    stored : (held : Option Contents) → Fetches info.layout held (key_at info coord) e buf → HasChunkPart info coord r.lo r.hi held new
     stored None read idx w here = tt
     stored (Some h) read idx w here =
-        let inside = region_in_array info.layout.grid.shape lo hi idx region w in
+        let inside = region_in_array info.layout.grid.shape r.lo r.hi idx region w in
         let own = subst (λ (x : List ℕ). IsRawOf info.layout (h (key_at info x)) e buf) (sym here) read in
-        element_taken info.layout (h (key_at info (quotients idx info.layout.grid.chunk))) e idx buf new (place_within lo hi idx) own long fits
+        element_taken info.layout (h (key_at info (quotients idx info.layout.grid.chunk))) e idx buf new (place_within r.lo r.hi idx) own long fits
         (place-below info.layout.grid.chunk (remainders idx info.layout.grid.chunk) (inner_inside info.layout.grid idx ok inside))
         (took.taken idx w here)
 
 -- a region that is one chunk, read into its own buffer
-pub reads_whole : (info : ArrayInfo) (coord lo hi old new : List ℕ) (held : Option Contents) → IsGrid info.layout.grid → IsRegion info.layout.grid.shape lo hi
-    → IsCoordinate info.layout.grid coord → IsOneChunk info.layout.grid.chunk coord lo hi
+pub reads_whole : (info : ArrayInfo) (coord : List ℕ) (r : Region) (old new : List ℕ) (held : Option Contents) → IsGrid info.layout.grid → IsRegion info.layout.grid.shape r.lo r.hi
+    → IsCoordinate info.layout.grid coord → IsOneChunk info.layout.grid.chunk coord r.lo r.hi
     → ReadsChunk info.layout held (key_at info coord) new → length new ≡ bytes_of info.layout → InRange info.layout.dtype info.layout.fill
-    → ReadsPart info coord lo hi held old new
-reads_whole info coord lo hi old new held ok region here one chunk long fits = record {
+    → ReadsPart info coord r held old new
+reads_whole info coord r old new held ok region here one chunk long fits = record {
   stored = stored held chunk;
-  others = λ idx w apart. absurd (apart (one_chunk_place info.layout.grid coord lo hi ok here region one idx w).0);
+  others = λ idx w apart. absurd (apart (one_chunk_place info.layout.grid coord r.lo r.hi ok here region one idx w).0);
 }
   where
-    stored : (held : Option Contents) → ReadsChunk info.layout held (key_at info coord) new → HasPart info coord lo hi held new
+    stored : (held : Option Contents) → ReadsChunk info.layout held (key_at info coord) new → HasChunkPart info coord r.lo r.hi held new
     stored None read idx w e = tt
     stored (Some h) read idx w e =
-        let inside = region_in_array info.layout.grid.shape lo hi idx region w in
+        let inside = region_in_array info.layout.grid.shape r.lo r.hi idx region w in
         let own = subst (λ (x : List ℕ). IsChunkOf info.layout (h (key_at info x)) new) (sym e) read in
-        element_read info.layout (h (key_at info (quotients idx info.layout.grid.chunk))) idx new new (place_within lo hi idx) own long fits
+        element_read info.layout (h (key_at info (quotients idx info.layout.grid.chunk))) idx new new (place_within r.lo r.hi idx) own long fits
         (place-below info.layout.grid.chunk (remainders idx info.layout.grid.chunk) (inner_inside info.layout.grid idx ok inside))
-        (ap (part_at (size_of info.layout.dtype) new) (one_chunk_place info.layout.grid coord lo hi ok here region one idx w).1)
+        (ap (part_at (size_of info.layout.dtype) new) (one_chunk_place info.layout.grid coord r.lo r.hi ok here region one idx w).1)
 
 -- a chunk that was read and settled
 pub has_chunk : (info : ArrayInfo) (coord raw buf : List ℕ) (held : Option Contents) → IsGrid info.layout.grid
@@ -180,21 +181,21 @@ stored_stays info lo hi idx old new (Some a) (Some b) ok region w same place sto
 abbrev pub ReadsSoFar : ArrayInfo → List ℕ → List ℕ → Option Contents → List (List ℕ) → List ℕ → Type 0
 ReadsSoFar info lo hi held left out = (idx : List ℕ) → IsWithin lo hi idx → Contains left (quotients idx info.layout.grid.chunk) ⊎ IsStoredAt info lo hi held out idx
 
-pub reads_more : (info : ArrayInfo) (lo hi coord old new : List ℕ) (rest : List (List ℕ)) (a b : Option Contents)
-    → IsGrid info.layout.grid → IsRegion info.layout.grid.shape lo hi → HoldSame (IsChunkKey info lo hi) a b
-    → ReadsPart info coord lo hi b old new → ReadsSoFar info lo hi a (coord ∷ rest) old → ReadsSoFar info lo hi b rest new
-reads_more info lo hi coord old new rest a b ok region same part before idx w =
+pub reads_more : (info : ArrayInfo) (r : Region) (coord old new : List ℕ) (rest : List (List ℕ)) (a b : Option Contents)
+    → IsGrid info.layout.grid → IsRegion info.layout.grid.shape r.lo r.hi → HoldSame (IsChunkKey info r.lo r.hi) a b
+    → ReadsPart info coord r b old new → ReadsSoFar info r.lo r.hi a (coord ∷ rest) old → ReadsSoFar info r.lo r.hi b rest new
+reads_more info r coord old new rest a b ok region same part before idx w =
     elim (same_or_not (quotients idx info.layout.grid.chunk) coord) [
       | inl here ↦ inr (part.stored idx w here)
       | inr apart ↦ elim (before idx w) [
         | inl left ↦ elim (first_or_rest coord rest (quotients idx info.layout.grid.chunk) left) [ inl here ↦ absurd (apart here) | inr later ↦ inl later ]
-        | inr stored ↦ inr (stored_stays info lo hi idx old new a b ok region w same (part.others idx w apart) stored)
+        | inr stored ↦ inr (stored_stays info r.lo r.hi idx old new a b ok region w same (part.others idx w apart) stored)
       ]
     ]
 
 -- a fault of one call among several
-pub fault_more : (before mid after : ℕ) (lacks : Test) (held : Option Contents) (K L : List ℕ → Type 0) (size : ℕ) (e : TaskFault) → before ≤ mid → ((key : List ℕ) → K key → L key)
-    → IsReadFault mid after lacks held K size e → IsReadFault before after lacks held L size e
-fault_more before mid after lacks held K L size Store count within cause = let c = cause in omega arith
-fault_more before mid after lacks held K L size (BadChunk key got want) count within cause = (within key cause.0, cause.1, cause.2, cause.3)
-fault_more before mid after lacks held K L size NoMemory count within cause = cause
+pub fault_more : (old mid new : Shown) (K L : List ℕ → Type 0) (size : ℕ) (e : TaskFault) → old.faults ≤ mid.faults → ((key : List ℕ) → K key → L key)
+    → IsChunkReadFault mid new K size e → IsChunkReadFault old new L size e
+fault_more old mid new K L size Store count within cause = let c = cause in omega arith
+fault_more old mid new K L size (BadChunk key got want) count within cause = (within key cause.0, cause.1, cause.2, cause.3)
+fault_more old mid new K L size NoMemory count within cause = cause

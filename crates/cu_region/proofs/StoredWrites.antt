@@ -1,6 +1,6 @@
 -- The bytes of a chunk that is laid out of a region are the chunk's spelling, and what is stored of a region stays.
 use Rattle.std.proofs.Common.{◌≡◌, ◌⊎◌, ℕ, ℤ, suc, ◌+◌, ◌*◌, ◌^◌, ◌<◌, ◌≤◌, List, ◌∷◌, length, All, Contains, Option, Some, None, Bool, true, false, option_map, refl, sym, ap, ◌∙◌, subst, inl, inr, arith}
-use Rattle.std.specs.Prelude.{if◌then◌else◌, reverse}
+use Rattle.std.specs.Prelude.{if◌then◌else◌, reverse, Result, Ok, Err, OnOk}
 use Rattle.std.proofs.lemmas.Nat.{mul-le}
 use Rattle.cu_num.specs.Dtype.{size_of}
 use Rattle.cu_num.specs.Element.{element_at, element_bytes}
@@ -11,11 +11,11 @@ use Rattle.cu_num.specs.declared.layout.Endian.TheVariants.{Little, Big}
 use Rattle.cu_num.specs.Element.{low_bytes, in_order}
 use Rattle.cu_num.proofs.ElementBytes.{element_at_own, element_at-element_bytes}
 use Rattle.cu_num.proofs.Wrapped.{wrapped-wrapped}
-use Rattle.cu_shape.specs.Index.{product, index_at, is_inside}
+use Rattle.cu_shape.specs.Index.{product, index_at, is_inside, differences}
 use Rattle.cu_shape.proofs.Places.{inside-length, inside_from_test, index-inside, place-below}
 use Rattle.cu_grid.specs.Counts.{IsRegion, IsWithin}
 use Rattle.cu_grid.specs.Cover.{Meets}
-use Rattle.cu_grid.specs.Grid.{RegularGrid, IsGrid, IsCoordinate, IsInChunk}
+use Rattle.cu_grid.specs.Grid.{RegularGrid, IsGrid, IsCoordinate, IsInChunk, index_at_place}
 use Rattle.cu_grid.proofs.Parting.{lies_within}
 use Rattle.cu_grid.proofs.Regions.{coordinate-length}
 use Rattle.cu_zarr.specs.Layout.{ArrayLayout}
@@ -24,7 +24,7 @@ use Rattle.cu_zarr.proofs.Joined.{joined_by_place}
 use Rattle.cu_op.specs.Layout.{layout_view}
 use Rattle.cu_op.specs.declared.layout.ArrayInfo.{ArrayInfo}
 use Rattle.cu_codec.specs.Order.{IsReordered}
-use Rattle.cu_codec.specs.Parts.{part_at, place_within, differences, index_at_place, IsLaid, IsOneChunk}
+use Rattle.cu_codec.specs.Parts.{part, part_at, place_within, IsLaid, IsOneChunk}
 use Rattle.cu_codec.proofs.OneChunk.{whole_laid, one_chunk_differences}
 use Rattle.cu_codec.proofs.Shared.{within_sizes}
 use Rattle.cu_codec.proofs.Swapped.{big_from_little}
@@ -33,13 +33,12 @@ use Rattle.cu_region.specs.Reading.{key_at, bytes_of}
 use Rattle.std.specs.Prelude.{Bool as Test}
 use Rattle.std.proofs.lemmas.List.{take_all}
 use Rattle.cu_codec.proofs.KeyLaws.{same_chunk}
-use Rattle.cu_store.specs.Held.{Contents, Write, IsAmong, OwnOrLate, IsKeptAt, Lands, StayAmong, Follows, Holds}
-use Rattle.cu_store.specs.Steps.{Within, PutOf}
-use Rattle.cu_store.proofs.Writes.{lands_then}
+use Rattle.cu_store.specs.Held.{Contents, Write, Holds}
+use Rattle.cu_store.specs.Steps.{Shown, Within, PutOf, OrLate, IsChangedBy, Lands, Steps}
 use Rattle.cu_store.specs.declared.faults.TaskFault.{TaskFault}
 use Rattle.cu_store.specs.declared.faults.TaskFault.TheVariants.{Store, BadChunk, NoMemory}
 use Rattle.cu_region.proofs.SteadyKeys.{first_or_rest}
-use Rattle.cu_region.specs.Writing.{AreElements, buffer_element, chunk_value, RegionPut, IsOwnOrLate, LateIsOwn, StoresChunk, HasValues, IsWriteFault}
+use Rattle.cu_region.specs.Writing.{AreElements, buffer_element, chunk_value, RegionPut, LateIsOwn, StoresChunk, IsWriteFault}
 
 wrapped_bytes : (e : Endian) (t : Dtype) (x : ℤ) → element_bytes e t (wrapped t x) ≡ element_bytes e t x
 unfolding element_bytes
@@ -77,7 +76,7 @@ part_laid g l coord lo hi input old new p false es ec test order again laid =
 pub laid_spelled : (info : ArrayInfo) (coord lo hi input old new : List ℕ) → IsGrid info.layout.grid → IsCoordinate info.layout.grid coord
     → ((idx : List ℕ) → IsInChunk info.layout.grid coord idx → IsWithin lo hi idx)
     → length input ≡ product (differences hi lo) * size_of info.layout.dtype → AreElements info.layout.dtype input
-    → IsLaid info.layout.grid info.layout.dtype info.layout.fill coord lo hi input old → IsReordered info.layout.endian (size_of info.layout.dtype) old new
+    → IsLaid info.layout.dtype info.layout.fill (part info.layout.grid coord lo hi) input old → IsReordered info.layout.endian (size_of info.layout.dtype) old new
     → length old ≡ bytes_of info.layout → length new ≡ bytes_of info.layout
     → chunk_value info lo hi input coord ≡ Some new
 laid_spelled info coord lo hi input old new ok here whole long elements laid order size_old size_new =
@@ -129,9 +128,6 @@ pub put_own : (info : ArrayInfo) (lo hi input coord bytes : List ℕ) → Meets 
     → Within (PutOf (key_at info coord) bytes) (RegionPut info lo hi input)
 put_own info lo hi input coord bytes meets value key v put = (bytes, put.1, (coord, meets, put.0, value))
 
-pub one_value : (v : Option (List ℕ)) (a b : List ℕ) → v ≡ Some a → v ≡ Some b → a ≡ b
-one_value v a b p q = cc
-
 -- ---- several chunks, one after another
 
 small_more : (xs : List ℕ) → All (λ i. i < 1048576) xs → All (λ i. i < 2 ^ 64) xs
@@ -144,63 +140,49 @@ module _ (info : ArrayInfo) (lo hi input : List ℕ) (small : (coord : List ℕ)
       let q = inside-length _ d n.0 in
       same_chunk info.prefix info.layout.encoding c d (small_more c (small c m)) (small_more d (small d n)) (p ∙ sym q) e
 
-  -- what one of these writes puts on the key of a chunk of the region is its value
-  pub own_value : (late : List Write) (c bytes : List ℕ) → LateIsOwn info lo hi input late → Meets info.layout.grid lo hi c
-      → IsOwnOrLate info lo hi input late (key_at info c) bytes → chunk_value info lo hi input c ≡ Some bytes
-  own_value late c bytes premise m (inl own) =
-      let (d, n, e, value) = own in
-      ap (chunk_value info lo hi input) (one_key c d m n e) ∙ value
-  own_value late c bytes premise m (inr among) = premise c bytes m among
+  -- what one of the region's puts, or a late one, leaves on the key of a chunk of the region is its value
+  own_value : (late : List Write) (c : List ℕ) (value : Option (List ℕ)) → LateIsOwn info lo hi input late → Meets info.layout.grid lo hi c
+      → OrLate (RegionPut info lo hi input) late (key_at info c) value → value ≡ chunk_value info lo hi input c
+  own_value late c value premise m (inl (bytes, is, (d, n, e, spells))) = is ∙ sym (ap (chunk_value info lo hi input) (one_key c d m n e) ∙ spells)
+  own_value late c value premise m (inr (bytes, is, among)) = is ∙ sym (premise c bytes m among)
 
-  pub late_own_then : (late now_late : List Write) → LateIsOwn info lo hi input late → StayAmong now_late (IsOwnOrLate info lo hi input late) → LateIsOwn info lo hi input now_late
-  late_own_then late now_late premise stay c bytes m among = own_value late c bytes premise m (stay (key_at info c) bytes among)
+  pub late_own_then : {l m : ℕ} {a b : Shown} → LateIsOwn info lo hi input a.late → Steps (RegionPut info lo hi input) l m a b → LateIsOwn info lo hi input b.late
+  late_own_then {a = a} premise step c bytes m among = sym (own_value a.late c (Some bytes) premise m (step.late (key_at info c) bytes among))
 
   chunk_stays_at : (late : List Write) (old new : Contents) (c bytes : List ℕ) → LateIsOwn info lo hi input late → Meets info.layout.grid lo hi c
       → chunk_value info lo hi input c ≡ Some bytes → old (key_at info c) ≡ Some bytes
-      → IsKeptAt (IsOwnOrLate info lo hi input late) old new (key_at info c) → new (key_at info c) ≡ Some bytes
+      → IsChangedBy (OrLate (RegionPut info lo hi input) late) old new (key_at info c) → new (key_at info c) ≡ Some bytes
   chunk_stays_at late old new c bytes premise m value holds (inl same) = same ∙ holds
-  chunk_stays_at late old new c bytes premise m value holds (inr (b, put, now)) =
-      now ∙ sym (own_value late c b premise m put) ∙ value
+  chunk_stays_at late old new c bytes premise m value holds (inr put) = own_value late c (new (key_at info c)) premise m put ∙ value
 
-  pub chunk_stays : (late : List Write) (old new : Option Contents) (c : List ℕ) → LateIsOwn info lo hi input late → Meets info.layout.grid lo hi c
-      → Lands (IsOwnOrLate info lo hi input late) old new → StoresChunk info lo hi input old c → StoresChunk info lo hi input new c
+  chunk_stays : (late : List Write) (old new : Option Contents) (c : List ℕ) → LateIsOwn info lo hi input late → Meets info.layout.grid lo hi c
+      → Lands (OrLate (RegionPut info lo hi input) late) old new → StoresChunk info lo hi input old c → StoresChunk info lo hi input new c
   chunk_stays late None None c premise m lands (bytes, value, holds) = (bytes, value, tt)
   chunk_stays late (Some old) (Some new) c premise m lands (bytes, value, holds) =
       (bytes, value, chunk_stays_at late old new c bytes premise m value holds (lands (key_at info c)))
-  chunk_stays late None (Some new) c premise m lands (bytes, value, holds) = absurd lands
-  chunk_stays late (Some old) None c premise m lands (bytes, value, holds) = absurd lands
+  chunk_stays late None (Some new) c premise m lands stored = absurd lands
+  chunk_stays late (Some old) None c premise m lands stored = absurd lands
 
   -- each chunk is among those that are left, or is stored
   abbrev pub StoredSoFar : Option Contents → List (List ℕ) → Type 0
   StoredSoFar held left = (c : List ℕ) → Meets info.layout.grid lo hi c → Contains left c ⊎ StoresChunk info lo hi input held c
 
-  pub stored_more : (late : List Write) (old new : Option Contents) (coord bytes : List ℕ) (rest : List (List ℕ)) → LateIsOwn info lo hi input late
-      → Lands (IsOwnOrLate info lo hi input late) old new → chunk_value info lo hi input coord ≡ Some bytes → Holds new (key_at info coord) bytes
-      → StoredSoFar old (coord ∷ rest) → StoredSoFar new rest
-  stored_more late old new coord bytes rest premise lands value holds before c m =
+  pub stored_more : {l m : ℕ} {a b : Shown} → (coord : List ℕ) (rest : List (List ℕ)) → LateIsOwn info lo hi input a.late
+      → Steps (RegionPut info lo hi input) l m a b → StoresChunk info lo hi input b.held coord → StoredSoFar a.held (coord ∷ rest) → StoredSoFar b.held rest
+  stored_more {a = a} {b = b} coord rest premise step stores before c m =
       elim (before c m) [
         | inl left ↦ elim (first_or_rest coord rest c left) [
-          | inl here ↦ inr (subst (λ (x : List ℕ). StoresChunk info lo hi input new x) (sym here) (bytes, value, holds))
+          | inl here ↦ inr (subst (λ (x : List ℕ). StoresChunk info lo hi input b.held x) (sym here) stores)
           | inr later ↦ inl later
         ]
-        | inr stored ↦ inr (chunk_stays late old new c premise m lands stored)
+        | inr stored ↦ inr (chunk_stays a.late a.held b.held c premise m step.lands stored)
       ]
 
--- the write of one chunk's value, after others
-pub own_within : (info : ArrayInfo) (lo hi input coord bytes : List ℕ) (late now_late : List Write) → Meets info.layout.grid lo hi coord → chunk_value info lo hi input coord ≡ Some bytes
-    → StayAmong now_late (IsOwnOrLate info lo hi input late) → (k b : List ℕ) → OwnOrLate (key_at info coord) bytes now_late k b → IsOwnOrLate info lo hi input late k b
-own_within info lo hi input coord bytes late now_late m value stay k b (inl own) = inl (coord, m, own.0, value ∙ ap Some (sym own.1))
-own_within info lo hi input coord bytes late now_late m value stay k b (inr among) = stay k b among
-
-pub follows_own : (info : ArrayInfo) (lo hi input : List ℕ) (writes late now_late : List Write) (entry held now : Option Contents) → HasValues info lo hi input writes
-    → Lands (IsOwnOrLate info lo hi input late) held now → StayAmong now_late (IsOwnOrLate info lo hi input late)
-    → Follows writes entry held late → Follows writes entry now now_late
-follows_own info lo hi input writes late now_late entry held now values lands stay follows =
-    (lands_then entry held now within follows.0 lands, λ k b among. within k b (stay k b among))
-  where
-    within : (k b : List ℕ) → IsOwnOrLate info lo hi input late k b → IsAmong writes k b
-    within k b (inl own) = values k b own
-    within k b (inr among) = follows.1 k b among
+-- a chunk that was put
+pub chunk_stored : {T E : Type 0} → (r : Result T E) (info : ArrayInfo) (lo hi input coord bytes : List ℕ) (held : Option Contents) → chunk_value info lo hi input coord ≡ Some bytes
+    → OnOk r (Holds held (key_at info coord) bytes) → OnOk r (StoresChunk info lo hi input held coord)
+chunk_stored (Ok x) info lo hi input coord bytes held value holds = (bytes, value, holds)
+chunk_stored (Err e) info lo hi input coord bytes held value holds = tt
 
 -- a fault of one call among several
 pub write_fault_more : (before mid after : ℕ) (lacks : Test) (e : TaskFault) → before ≤ mid → IsWriteFault mid after lacks e → IsWriteFault before after lacks e

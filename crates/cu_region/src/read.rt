@@ -1,14 +1,12 @@
 //! Regions that are read.
-ghost use Rattle.std.specs.Prelude.{◌≡◌, ℕ, ◌+◌, ◌*◌, ◌<◌, ◌≤◌, List, Option, All, length, IfOk, IfErr, OnOk};
+ghost use Rattle.std.specs.Prelude.{◌≡◌, ℕ, ◌*◌, ◌<◌, ◌≤◌, List, All, length, IfOk, IfErr, OnOk};
 ghost use Rattle.cu_num.specs.Dtype.{size_of, InRange};
-ghost use Rattle.cu_shape.specs.Index.{product};
+ghost use Rattle.cu_shape.specs.Index.{product, differences};
 ghost use Rattle.cu_grid.specs.Counts.{IsRegion};
 ghost use Rattle.cu_grid.specs.Cover.{Meets};
 ghost use Rattle.cu_grid.specs.Grid.{IsGrid};
-ghost use Rattle.cu_store.specs.Held.{Contents, Write, IsAmong, Lands, StayAmong, Follows};
-ghost use Rattle.cu_store.specs.Steps.{MadeCalls, NoChange, Steps};
-ghost use Rattle.cu_codec.specs.Parts.{differences};
-ghost use Rattle.cu_region.specs.Reading.{key_at, IsChunkKey, bytes_of, Fetches, ReadsChunk, HasChunk, ReadsRegion, ReadsPart, IsReadFault};
+ghost use Rattle.cu_store.specs.Steps.{NoChange, Steps};
+ghost use Rattle.cu_region.specs.Reading.{key_at, IsChunkKey, bytes_of, Fetches, ReadsChunk, HasChunk, ReadsRegion, ReadsPart, IsChunkReadFault};
 ghost use Rattle.cu_region.specs.Calls.{chunks_met, Made};
 ghost use Rattle.cu_region.specs.Steady.{IsSteady, HoldSame};
 ghost use Rattle.cu_region.specs.Writing.{AreElements};
@@ -46,16 +44,9 @@ pub fn read_region<D: Depot>(
     ensures steady { IsSteady (IsChunkKey info.now region.now.lo region.now.hi) (D.shown depot.old).held (D.shown depot.old).late
         → IsSteady (IsChunkKey info.now region.now.lo region.now.hi) (D.shown depot.new).held (D.shown depot.new).late }
     ensures step { Steps NoChange 0 (chunks_met info.now.layout.grid region.now.lo region.now.hi) (D.shown depot.old) (D.shown depot.new) }
-    ensures kept { Lands (IsAmong (D.shown depot.old).late) (D.shown depot.old).held (D.shown depot.new).held }
-    ensures late { StayAmong (D.shown depot.new).late (IsAmong (D.shown depot.old).late) }
-    ensures follows { (writes : List Write) (entry : Option Contents)
-        → Follows writes entry (D.shown depot.old).held (D.shown depot.old).late → Follows writes entry (D.shown depot.new).held (D.shown depot.new).late }
-    ensures cause { IfErr result (IsReadFault (D.shown depot.old).faults (D.shown depot.new).faults (D.shown depot.new).lacks (D.shown depot.new).held
+    ensures cause { IfErr result (IsChunkReadFault (D.shown depot.old) (D.shown depot.new)
         (IsChunkKey info.now region.now.lo region.now.hi) (bytes_of info.now.layout)) }
-    ensures count { (D.shown depot.old).faults ≤ (D.shown depot.new).faults }
-    ensures calls { (D.shown depot.new).calls ≤ (D.shown depot.old).calls + chunks_met info.now.layout.grid region.now.lo region.now.hi }
     ensures calls_all { OnOk result (Made (chunks_met info.now.layout.grid region.now.lo region.now.hi) (D.shown depot.old).calls (D.shown depot.new).calls) }
-    ensures lacks { (D.shown depot.new).lacks ≡ (D.shown depot.old).lacks }
 {
     for coord in info.layout.grid.cover(region) {
         read_part(depot, info, &coord, region, out, scratch)?;
@@ -79,13 +70,8 @@ pub fn read_chunk<D: Depot>(
     ensures read { OnOk result (HasChunk info.now coord.now (D.shown depot.new).held buf.new) }
     ensures elements { OnOk result (AreElements info.now.layout.dtype buf.new) }
     ensures step { Steps NoChange 1 1 (D.shown depot.old) (D.shown depot.new) }
-    ensures kept { Lands (IsAmong (D.shown depot.old).late) (D.shown depot.old).held (D.shown depot.new).held }
-    ensures late { StayAmong (D.shown depot.new).late (IsAmong (D.shown depot.old).late) }
-    ensures cause { IfErr result (IsReadFault (D.shown depot.old).faults (D.shown depot.new).faults (D.shown depot.new).lacks (D.shown depot.new).held
+    ensures cause { IfErr result (IsChunkReadFault (D.shown depot.old) (D.shown depot.new)
         (λ key. key ≡ key_at info.now coord.now) (bytes_of info.now.layout)) }
-    ensures count { (D.shown depot.old).faults ≤ (D.shown depot.new).faults }
-    ensures calls { MadeCalls 1 1 (D.shown depot.old).calls (D.shown depot.new).calls }
-    ensures lacks { (D.shown depot.new).lacks ≡ (D.shown depot.old).lacks }
 {
     let _grid = info.layout.grid.shape();
     let key = chunk_key(&info.prefix, info.layout.encoding, coord);
@@ -111,15 +97,10 @@ fn read_part<D: Depot>(
     requires coordinate { All (λ i. i < 1048576) coord.now }
     requires out_length { length out.old ≡ product (differences region.now.hi region.now.lo) * size_of info.now.layout.dtype }
     requires scratch_length { bytes_of info.now.layout ≤ length scratch.old }
-    ensures part { OnOk result (ReadsPart info.now coord.now region.now.lo region.now.hi (D.shown depot.new).held out.old out.new) }
+    ensures part { OnOk result (ReadsPart info.now coord.now region.now (D.shown depot.new).held out.old out.new) }
     ensures step { Steps NoChange 1 1 (D.shown depot.old) (D.shown depot.new) }
-    ensures kept { Lands (IsAmong (D.shown depot.old).late) (D.shown depot.old).held (D.shown depot.new).held }
-    ensures late { StayAmong (D.shown depot.new).late (IsAmong (D.shown depot.old).late) }
-    ensures cause { IfErr result (IsReadFault (D.shown depot.old).faults (D.shown depot.new).faults (D.shown depot.new).lacks (D.shown depot.new).held
+    ensures cause { IfErr result (IsChunkReadFault (D.shown depot.old) (D.shown depot.new)
         (λ key. key ≡ key_at info.now coord.now) (bytes_of info.now.layout)) }
-    ensures count { (D.shown depot.old).faults ≤ (D.shown depot.new).faults }
-    ensures calls { MadeCalls 1 1 (D.shown depot.old).calls (D.shown depot.new).calls }
-    ensures lacks { (D.shown depot.new).lacks ≡ (D.shown depot.old).lacks }
 {
     let layout = &info.layout;
     let key = chunk_key(&info.prefix, layout.encoding, coord);
@@ -151,13 +132,8 @@ fn read_bytes<D: Depot>(
     requires { length buf.old ≡ bytes_of layout.now }
     ensures read { OnOk result (ReadsChunk layout.now (D.shown depot.new).held key.now buf.new) }
     ensures step { Steps NoChange 1 1 (D.shown depot.old) (D.shown depot.new) }
-    ensures kept { Lands (IsAmong (D.shown depot.old).late) (D.shown depot.old).held (D.shown depot.new).held }
-    ensures late { StayAmong (D.shown depot.new).late (IsAmong (D.shown depot.old).late) }
-    ensures cause { IfErr result (IsReadFault (D.shown depot.old).faults (D.shown depot.new).faults (D.shown depot.new).lacks (D.shown depot.new).held
+    ensures cause { IfErr result (IsChunkReadFault (D.shown depot.old) (D.shown depot.new)
         (λ bad. bad ≡ key.now) (bytes_of layout.now)) }
-    ensures count { (D.shown depot.old).faults ≤ (D.shown depot.new).faults }
-    ensures calls { MadeCalls 1 1 (D.shown depot.old).calls (D.shown depot.new).calls }
-    ensures lacks { (D.shown depot.new).lacks ≡ (D.shown depot.old).lacks }
 {
     let order = fetch(depot, key, layout, buf)?;
     reorder(order, u64::from(size(layout.dtype)), buf);
@@ -175,13 +151,8 @@ fn fetch<D: Depot>(
     requires { length buf.old ≡ bytes_of layout.now }
     ensures fetched { IfOk result (λ e. Fetches layout.now (D.shown depot.new).held key.now e buf.new) }
     ensures step { Steps NoChange 1 1 (D.shown depot.old) (D.shown depot.new) }
-    ensures kept { Lands (IsAmong (D.shown depot.old).late) (D.shown depot.old).held (D.shown depot.new).held }
-    ensures late { StayAmong (D.shown depot.new).late (IsAmong (D.shown depot.old).late) }
-    ensures cause { IfErr result (IsReadFault (D.shown depot.old).faults (D.shown depot.new).faults (D.shown depot.new).lacks (D.shown depot.new).held
+    ensures cause { IfErr result (IsChunkReadFault (D.shown depot.old) (D.shown depot.new)
         (λ bad. bad ≡ key.now) (bytes_of layout.now)) }
-    ensures count { (D.shown depot.old).faults ≤ (D.shown depot.new).faults }
-    ensures calls { MadeCalls 1 1 (D.shown depot.old).calls (D.shown depot.new).calls }
-    ensures lacks { (D.shown depot.new).lacks ≡ (D.shown depot.old).lacks }
 {
     match depot.get(key, buf) {
         Ok(Got::Absent) => {

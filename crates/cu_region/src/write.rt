@@ -1,16 +1,16 @@
 //! Regions that are written.
-ghost use Rattle.std.specs.Prelude.{◌≡◌, ℕ, ◌+◌, ◌*◌, ◌<◌, ◌≤◌, List, Option, Some, All, IsTrue, length, IfErr, OnOk};
+ghost use Rattle.std.specs.Prelude.{◌≡◌, ℕ, ◌*◌, ◌<◌, ◌≤◌, List, Some, All, IsTrue, length, IfErr, OnOk};
 ghost use Rattle.cu_num.specs.Dtype.{size_of, InRange};
-ghost use Rattle.cu_shape.specs.Index.{product};
+ghost use Rattle.cu_shape.specs.Index.{product, differences};
 ghost use Rattle.cu_grid.specs.Counts.{IsRegion};
 ghost use Rattle.cu_grid.specs.Cover.{Meets};
 ghost use Rattle.cu_grid.specs.Grid.{IsGrid, IsCoordinate};
-ghost use Rattle.cu_store.specs.Held.{Contents, Write, OwnOrLate, Lands, StayAmong, Follows, Holds};
-ghost use Rattle.cu_store.specs.Steps.{MadeCalls, PutOf, Steps};
-ghost use Rattle.cu_codec.specs.Parts.{differences, IsOneChunk};
+ghost use Rattle.cu_store.specs.Held.{Holds};
+ghost use Rattle.cu_store.specs.Steps.{PutOf, Steps};
+ghost use Rattle.cu_codec.specs.Parts.{IsOneChunk};
 ghost use Rattle.cu_region.specs.Calls.{chunks_met, Made};
-ghost use Rattle.cu_region.specs.Reading.{key_at, bytes_of};
-ghost use Rattle.cu_region.specs.Writing.{AreElements, HasWholeChunks, chunk_value, RegionPut, IsOwnOrLate, LateIsOwn, StoresRegion, HasValues, IsWriteFault};
+ghost use Rattle.cu_region.specs.Reading.{bytes_of};
+ghost use Rattle.cu_region.specs.Writing.{AreElements, HasWholeChunks, chunk_value, RegionPut, LateIsOwn, StoresChunk, StoresRegion, IsWriteFault};
 
 use cu_codec::{chunk_bytes, chunk_key, is_one_chunk, lay_part, reorder};
 use cu_grid::Region;
@@ -40,19 +40,10 @@ pub fn write_region<D: Depot>(
     requires scratch_length { bytes_of info.now.layout ≤ length scratch.old }
     ensures stored { LateIsOwn info.now region.now.lo region.now.hi input.now (D.shown depot.old).late
         → OnOk result (StoresRegion info.now region.now.lo region.now.hi input.now (D.shown depot.new).held) }
-    ensures late_own { LateIsOwn info.now region.now.lo region.now.hi input.now (D.shown depot.old).late
-        → LateIsOwn info.now region.now.lo region.now.hi input.now (D.shown depot.new).late }
     ensures step { Steps (RegionPut info.now region.now.lo region.now.hi input.now) 0 (chunks_met info.now.layout.grid region.now.lo region.now.hi)
         (D.shown depot.old) (D.shown depot.new) }
-    ensures kept { Lands (IsOwnOrLate info.now region.now.lo region.now.hi input.now (D.shown depot.old).late) (D.shown depot.old).held (D.shown depot.new).held }
-    ensures late { StayAmong (D.shown depot.new).late (IsOwnOrLate info.now region.now.lo region.now.hi input.now (D.shown depot.old).late) }
-    ensures follows { (writes : List Write) (entry : Option Contents) → HasValues info.now region.now.lo region.now.hi input.now writes
-        → Follows writes entry (D.shown depot.old).held (D.shown depot.old).late → Follows writes entry (D.shown depot.new).held (D.shown depot.new).late }
     ensures cause { IfErr result (IsWriteFault (D.shown depot.old).faults (D.shown depot.new).faults (D.shown depot.new).lacks) }
-    ensures count { (D.shown depot.old).faults ≤ (D.shown depot.new).faults }
-    ensures calls { (D.shown depot.new).calls ≤ (D.shown depot.old).calls + chunks_met info.now.layout.grid region.now.lo region.now.hi }
     ensures calls_all { OnOk result (Made (chunks_met info.now.layout.grid region.now.lo region.now.hi) (D.shown depot.old).calls (D.shown depot.new).calls) }
-    ensures lacks { (D.shown depot.new).lacks ≡ (D.shown depot.old).lacks }
 {
     for coord in info.layout.grid.cover(region) {
         write_part(depot, info, &coord, region, input, scratch)?;
@@ -79,18 +70,9 @@ fn write_part<D: Depot>(
     requires input_length { length input.now ≡ product (differences region.now.hi region.now.lo) * size_of info.now.layout.dtype }
     requires elements { AreElements info.now.layout.dtype input.now }
     requires scratch_length { bytes_of info.now.layout ≤ length scratch.old }
-    ensures value { (bytes : List ℕ) × (chunk_value info.now region.now.lo region.now.hi input.now coord.now ≡ Some bytes) }
-    ensures stored { (bytes : List ℕ) → chunk_value info.now region.now.lo region.now.hi input.now coord.now ≡ Some bytes
-        → OnOk result (Holds (D.shown depot.new).held (key_at info.now coord.now) bytes) }
+    ensures stored { OnOk result (StoresChunk info.now region.now.lo region.now.hi input.now (D.shown depot.new).held coord.now) }
     ensures step { Steps (RegionPut info.now region.now.lo region.now.hi input.now) 1 1 (D.shown depot.old) (D.shown depot.new) }
-    ensures kept { (bytes : List ℕ) → chunk_value info.now region.now.lo region.now.hi input.now coord.now ≡ Some bytes
-        → Lands (OwnOrLate (key_at info.now coord.now) bytes (D.shown depot.old).late) (D.shown depot.old).held (D.shown depot.new).held }
-    ensures late { (bytes : List ℕ) → chunk_value info.now region.now.lo region.now.hi input.now coord.now ≡ Some bytes
-        → StayAmong (D.shown depot.new).late (OwnOrLate (key_at info.now coord.now) bytes (D.shown depot.old).late) }
     ensures cause { IfErr result (IsWriteFault (D.shown depot.old).faults (D.shown depot.new).faults (D.shown depot.new).lacks) }
-    ensures count { (D.shown depot.old).faults ≤ (D.shown depot.new).faults }
-    ensures calls { MadeCalls 1 1 (D.shown depot.old).calls (D.shown depot.new).calls }
-    ensures lacks { (D.shown depot.new).lacks ≡ (D.shown depot.old).lacks }
 {
     let key = chunk_key(&info.prefix, info.layout.encoding, coord);
     if lies_stored(info, coord, region) {
@@ -118,12 +100,7 @@ fn lies_stored(info: &ArrayInfo, coord: &Dims, region: &Region) -> bool
 fn put_chunk<D: Depot>(depot: &mut D, key: &Key, bytes: &[u8]) -> Result<(), TaskFault>
     ensures stored { OnOk result (Holds (D.shown depot.new).held key.now bytes.now) }
     ensures step { Steps (PutOf key.now bytes.now) 1 1 (D.shown depot.old) (D.shown depot.new) }
-    ensures kept { Lands (OwnOrLate key.now bytes.now (D.shown depot.old).late) (D.shown depot.old).held (D.shown depot.new).held }
-    ensures late { StayAmong (D.shown depot.new).late (OwnOrLate key.now bytes.now (D.shown depot.old).late) }
     ensures cause { IfErr result (IsWriteFault (D.shown depot.old).faults (D.shown depot.new).faults (D.shown depot.new).lacks) }
-    ensures count { (D.shown depot.old).faults ≤ (D.shown depot.new).faults }
-    ensures calls { MadeCalls 1 1 (D.shown depot.old).calls (D.shown depot.new).calls }
-    ensures lacks { (D.shown depot.new).lacks ≡ (D.shown depot.old).lacks }
 {
     match depot.put(key, bytes) {
         Ok(()) => Ok(()),

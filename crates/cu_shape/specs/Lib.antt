@@ -1,4 +1,5 @@
 pub mod Broadcast
+pub mod Counts
 pub mod Index
 pub mod Padded
 pub mod PaddedBack

@@ -4,6 +4,7 @@
 
 mod broadcasting;
 mod changes;
+mod counts;
 mod dims;
 mod fault;
 mod index;
@@ -12,6 +13,7 @@ mod several;
 mod slice;
 
 pub use broadcasting::broadcast;
+pub use counts::{chunk_counts, is_above};
 pub use dims::Dims;
 pub use fault::ShapeFault;
 pub use index::{back, difference, index_of, is_inside, place};

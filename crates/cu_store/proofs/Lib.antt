@@ -1,3 +1,2 @@
 mod Keys
 pub mod Steps
-pub mod Writes

@@ -1,13 +1,11 @@
 -- The region of one chunk.
-use Rattle.std.proofs.Common.{◌≡◌, ℕ, suc, ◌+◌, ◌-◌, ◌*◌, ◌≤◌, min, List, [], ◌∷◌, length, refl, sym, ap, ◌∙◌, subst, arith}
+use Rattle.std.proofs.Common.{◌≡◌, ℕ, ◌+◌, ◌-◌, ◌*◌, ◌≤◌, min, List, [], ◌∷◌, length, sym, ◌∙◌, subst, arith}
 use Rattle.std.proofs.lemmas.Nat.{mul-le}
-use Rattle.cu_shape.specs.Index.{product}
+use Rattle.cu_shape.specs.Index.{product, differences}
 use Rattle.cu_grid.specs.Counts.{chunk_lo, chunk_hi}
 use Rattle.cu_grid.specs.Cover.{Meets}
 use Rattle.cu_grid.specs.Grid.{RegularGrid, IsGrid, IsCoordinate, IsInChunk}
 use Rattle.cu_grid.proofs.Parting.{only_chunk}
-use Rattle.cu_grid.proofs.Regions.{coordinate-length}
-use Rattle.cu_codec.specs.Parts.{differences}
 use Rattle.cu_region.specs.Writing.{HasWholeChunks}
 
 -- on one axis a chunk has at most the chunk size
@@ -26,15 +24,6 @@ region_small [] (c ∷ cs) coord p q = absurd (omega arith)
 region_small (n ∷ ns) [] coord p q = absurd (omega arith)
 region_small (n ∷ ns) (c ∷ cs) [] p q = absurd (omega arith)
 
-pub region_ranks : (shape chunk coord : List ℕ) → length chunk ≡ length shape → length coord ≡ length chunk
-    → length (chunk_lo chunk coord) ≡ length (chunk_hi shape chunk coord)
-region_ranks [] [] [] p q = refl
-region_ranks (n ∷ ns) (c ∷ cs) (i ∷ is) p q = ap suc (region_ranks ns cs is (omega arith) (omega arith))
-region_ranks [] [] (i ∷ is) p q = absurd (omega arith)
-region_ranks [] (c ∷ cs) coord p q = absurd (omega arith)
-region_ranks (n ∷ ns) [] coord p q = absurd (omega arith)
-region_ranks (n ∷ ns) (c ∷ cs) [] p q = absurd (omega arith)
-
 -- a chunk that shares an element with a chunk's region is that chunk
 pub meets_one : (g : RegularGrid) (coord other : List ℕ) → IsGrid g → IsCoordinate g coord
     → Meets g (chunk_lo g.chunk coord) (chunk_hi g.shape g.chunk coord) other → other ≡ coord
@@ -43,8 +32,3 @@ meets_one g coord other ok here (there, (idx, within, own)) = only_chunk g other
 pub whole_chunk : (g : RegularGrid) (coord : List ℕ) → IsGrid g → IsCoordinate g coord
     → HasWholeChunks g (chunk_lo g.chunk coord) (chunk_hi g.shape g.chunk coord)
 whole_chunk g coord ok here other m idx own = subst (λ (x : List ℕ). IsInChunk g x idx) (meets_one g coord other ok here m) own
-
-pub region_few : (g : RegularGrid) (coord lo hi sizes : List ℕ) → IsGrid g → IsCoordinate g coord → lo ≡ chunk_lo g.chunk coord → hi ≡ chunk_hi g.shape g.chunk coord
-    → sizes ≡ differences hi lo → product sizes ≤ product g.chunk
-region_few g coord lo hi sizes ok here low high e =
-    rw (e, low, high) (region_small g.shape g.chunk coord ok.ranks (coordinate-length g coord ok here ∙ sym ok.ranks))

@@ -8,7 +8,7 @@ use Rattle.std.proofs.Math.Seq.{drop-append_seam}
 use Rattle.cu_num.specs.Dtype.{size_of}
 use Rattle.cu_num.specs.declared.layout.Endian.TheVariants.{Little}
 use Rattle.cu_num.proofs.ElementBytes.{element_at_same}
-use Rattle.cu_shape.specs.Index.{product, quotients}
+use Rattle.cu_shape.specs.Index.{product, quotients, differences}
 use Rattle.cu_shape.proofs.Places.{place-below}
 use Rattle.cu_grid.specs.Counts.{IsRegion}
 use Rattle.cu_grid.specs.Grid.{IsGrid}
@@ -17,7 +17,7 @@ use Rattle.cu_store.specs.Steps.{Shown, Changes, NoChange, OrLate, IsChangedBy, 
 use Rattle.cu_store.specs.declared.faults.TaskFault.{TaskFault}
 use Rattle.cu_store.specs.declared.faults.TaskFault.TheVariants.{Store, BadChunk, NoMemory}
 use Rattle.cu_zarr.specs.Stored.{element_in}
-use Rattle.cu_codec.specs.Parts.{part_at, place_within, differences}
+use Rattle.cu_codec.specs.Parts.{part_at, place_within}
 use Rattle.cu_codec.proofs.Shared.{within_sizes}
 use Rattle.cu_op.specs.Arrays.{array_at, grid_at, type_at, chunk_room}
 use Rattle.cu_op.specs.Cells.{cell}
@@ -28,10 +28,10 @@ use Rattle.cu_op.specs.declared.layout.ArrayInfo.{ArrayInfo}
 use Rattle.cu_op.specs.declared.walks.Walk.{Walk}
 use Rattle.cu_op.proofs.WalkCells.{meets_walk, from_walk}
 use Rattle.cu_region.specs.Calls.{Made}
-use Rattle.cu_region.specs.Reading.{key_at, IsChunkKey, bytes_of, ReadsRegion, IsReadFault}
+use Rattle.cu_region.specs.Reading.{key_at, IsChunkKey, bytes_of, ReadsRegion, IsChunkReadFault}
 use Rattle.cu_region.specs.Steady.{IsSteady, HoldSame}
 use Rattle.cu_region.proofs.StoredReads.{meets_own}
-use Rattle.cu_task.specs.Inputs.{IsReadWalk, HasRegions, IsWalkKey, IsInputFault}
+use Rattle.cu_task.specs.Inputs.{IsReadWalk, HasRegions, IsWalkKey, IsTaskInputFault}
 
 -- ---- a region at the front of a buffer
 
@@ -65,8 +65,8 @@ walk_key arrays w key ok over (coord, m, e) =
     (cell w.array coord, from_walk arrays (w ∷ []) w (cell w.array coord) (0, omega arith, refl) (meets_walk arrays w coord ok over m), e)
 
 pub walk_fault : (old new : Shown) (arrays : List ArrayInfo) (w : Walk) (e : TaskFault) → IsGrid (grid_at arrays w.array) → IsWalkOver arrays w
-    → IsReadFault old.faults new.faults new.lacks new.held (IsChunkKey (array_at arrays w.array) w.region.lo w.region.hi) (bytes_of (array_at arrays w.array).layout) e
-    → IsInputFault old new arrays (w ∷ []) e
+    → IsChunkReadFault old new (IsChunkKey (array_at arrays w.array) w.region.lo w.region.hi) (bytes_of (array_at arrays w.array).layout) e
+    → IsTaskInputFault old new arrays (w ∷ []) e
 walk_fault old new arrays w Store ok over h = h
 walk_fault old new arrays w (BadChunk key got want) ok over ((coord, m, e), size, other, holds) =
     (cell w.array coord, from_walk arrays (w ∷ []) w (cell w.array coord) (0, omega arith, refl) (meets_walk arrays w coord ok over m), e, size, other, holds)
@@ -93,12 +93,12 @@ first_key arrays w ws key (c, h, e) = (c, first_cells arrays w ws c h, e)
 pub rest_key : (arrays : List ArrayInfo) (w : Walk) (ws : List Walk) (key : List ℕ) → IsWalkKey arrays ws key → IsWalkKey arrays (w ∷ ws) key
 rest_key arrays w ws key (c, h, e) = (c, rest_cells arrays w ws c h, e)
 
-pub first_fault : (old new : Shown) (arrays : List ArrayInfo) (w : Walk) (ws : List Walk) (e : TaskFault) → IsInputFault old new arrays (w ∷ []) e → IsInputFault old new arrays (w ∷ ws) e
+pub first_fault : (old new : Shown) (arrays : List ArrayInfo) (w : Walk) (ws : List Walk) (e : TaskFault) → IsTaskInputFault old new arrays (w ∷ []) e → IsTaskInputFault old new arrays (w ∷ ws) e
 first_fault old new arrays w ws Store h = h
 first_fault old new arrays w ws (BadChunk key got want) (c, h, key_is, size, other, holds) = (c, first_cells arrays w ws c h, key_is, size, other, holds)
 first_fault old new arrays w ws NoMemory h = h
 
-pub rest_fault : (old mid new : Shown) (arrays : List ArrayInfo) (w : Walk) (ws : List Walk) (e : TaskFault) → old.faults ≤ mid.faults → IsInputFault mid new arrays ws e → IsInputFault old new arrays (w ∷ ws) e
+pub rest_fault : (old mid new : Shown) (arrays : List ArrayInfo) (w : Walk) (ws : List Walk) (e : TaskFault) → old.faults ≤ mid.faults → IsTaskInputFault mid new arrays ws e → IsTaskInputFault old new arrays (w ∷ ws) e
 rest_fault old mid new arrays w ws Store count h = let rose = h in omega arith
 rest_fault old mid new arrays w ws (BadChunk key got want) count (c, h, key_is, size, other, holds) = (c, rest_cells arrays w ws c h, key_is, size, other, holds)
 rest_fault old mid new arrays w ws NoMemory count h = h

@@ -1,10 +1,5 @@
-pub mod SumPlaces
-pub mod Additions
 pub mod ChunkRegions
-pub mod Tasks
 pub mod InputReads
 pub mod MapTask
 pub mod ReadRegions
-pub mod Readiness
-pub mod TaskCalls
 pub mod TaskSteps

@@ -10,7 +10,7 @@ use Rattle.cu_num.specs.Dtype.{size_of}
 use Rattle.cu_num.specs.Element.{element_at}
 use Rattle.cu_num.specs.declared.types.Dtype.{Dtype}
 use Rattle.cu_num.specs.declared.layout.Endian.TheVariants.{Little}
-use Rattle.cu_shape.specs.Index.{product, place_of, sums, back, IsInside}
+use Rattle.cu_shape.specs.Index.{product, place_of, sums, back, IsInside, differences}
 use Rattle.cu_shape.proofs.Places.{index-inside}
 use Rattle.cu_grid.specs.Counts.{IsRegion, IsWithin}
 use Rattle.cu_grid.specs.Cover.{Meets, covering}
@@ -18,7 +18,6 @@ use Rattle.cu_grid.specs.Grid.{IsCoordinate}
 use Rattle.cu_grid.specs.declared.region.Region.{Region}
 use Rattle.cu_grid.proofs.Regions.{region_inside, coordinate-length}
 use Rattle.cu_store.specs.Held.{Contents}
-use Rattle.cu_codec.specs.Parts.{differences}
 use Rattle.cu_codec.proofs.Shared.{within_sizes}
 use Rattle.cu_op.specs.Arrays.{grid_at, type_at, grid_counts, chunk_room}
 use Rattle.cu_op.specs.Cells.{cell, tasks_of, task_coord, task_lo, task_hi}

@@ -4,12 +4,11 @@ use Rattle.std.proofs.lemmas.Bool.Decides.{eqb_tells}
 use Rattle.std.proofs.lemmas.List.{length-drop}
 use Rattle.std.proofs.lemmas.List.Elements.{All-head, All-tail}
 use Rattle.std.proofs.lemmas.Nat.{mul-le}
-use Rattle.cu_shape.specs.Index.{product, sums, back, back_along, axis_by_axis, IsInside}
+use Rattle.cu_shape.specs.Index.{product, sums, back, back_along, axis_by_axis, IsInside, differences}
 use Rattle.cu_shape.proofs.Axes.{length-axis_by_axis}
 use Rattle.cu_shape.proofs.Places.{inside-length}
 use Rattle.cu_grid.specs.Counts.{chunk_lo, chunk_hi}
 use Rattle.cu_grid.specs.Grid.{RegularGrid, IsGrid}
-use Rattle.cu_codec.specs.Parts.{differences}
 use Rattle.cu_op.specs.Operation.{IsAlignedAlong, IsAligned}
 use Rattle.cu_op.specs.Walks.{back_as}
 use Rattle.cu_op.proofs.Axes.{axes_drop, inside_drop}

@@ -21,7 +21,7 @@ use Rattle.cu_op.proofs.TaskCells.{fit_of, ready_rule}
 use Rattle.cu_op.proofs.WalkCells.{one_walk, from_walk, kept_walk}
 use Rattle.cu_region.specs.Steady.{IsSteady}
 use Rattle.cu_region.specs.Writing.{buffer_element, chunk_value, RegionPut, LateIsOwn, StoresRegion, IsWriteFault}
-use Rattle.cu_task.specs.Inputs.{HasRegions, IsWalkKey, IsInputFault}
+use Rattle.cu_task.specs.Inputs.{HasRegions, IsWalkKey, IsTaskInputFault}
 use Rattle.cu_task.specs.Task.{IsTaskReady, TaskChange, HoldsCells, IsTaskFault}
 use Rattle.cu_task.proofs.MapTask.{TaskRegions, task_regions}
 
@@ -45,7 +45,7 @@ module _ (p : PlanView) (s : Sound p) (k task : ℕ) (below : k < length p.ops) 
 
   -- ---- faults
 
-  pub read_fault : (old new : Shown) (e : TaskFault) → IsInputFault old new p.arrays (input_walks p.arrays (op_of p k) task) e → IsTaskFault old new p k task e
+  pub read_fault : (old new : Shown) (e : TaskFault) → IsTaskInputFault old new p.arrays (input_walks p.arrays (op_of p k) task) e → IsTaskFault old new p k task e
   read_fault old new Store h = h
   read_fault old new (BadChunk key got want) (c, there, is, size, other, holds) = (c, kept_cells c there, is, size, other, holds)
   read_fault old new NoMemory h = h

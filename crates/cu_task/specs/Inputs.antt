@@ -1,12 +1,11 @@
 -- The regions that a task reads, one behind another in its memory. This project's own rules.
 use Rattle.std.specs.Prelude.{◌≡◌, ◌≢◌, ℕ, ◌+◌, ◌≤◌, IsTrue, List, [], ◌∷◌, drop, sum_by, Contains, Some}
-use Rattle.cu_shape.specs.Index.{product}
+use Rattle.cu_shape.specs.Index.{product, differences}
 use Rattle.cu_store.specs.Faults.{Rose}
 use Rattle.cu_store.specs.Held.{Contents}
 use Rattle.cu_store.specs.Steps.{Shown}
 use Rattle.cu_store.specs.declared.faults.TaskFault.{TaskFault}
 use Rattle.cu_store.specs.declared.faults.TaskFault.TheVariants.{Store, BadChunk, NoMemory}
-use Rattle.cu_codec.specs.Parts.{differences}
 use Rattle.cu_op.specs.Arrays.{array_at, grid_at, type_at, chunk_room}
 use Rattle.cu_op.specs.Schedule.{key_of}
 use Rattle.cu_op.specs.Walks.{IsWalkOver, cells_of_walks}
@@ -44,11 +43,11 @@ abbrev pub IsWalkKey : List ArrayInfo → List Walk → List ℕ → Type 0
 IsWalkKey arrays walks key = (c : Cell) × Contains (cells_of_walks arrays walks) c × (key ≡ key_of arrays c)
 
 -- why the regions aren't read
-abbrev pub IsInputFault : Shown → Shown → List ArrayInfo → List Walk → TaskFault → Type 0
-IsInputFault old new arrays walks Store = Rose 1 old.faults new.faults
-IsInputFault old new arrays walks (BadChunk key got want) =
+abbrev pub IsTaskInputFault : Shown → Shown → List ArrayInfo → List Walk → TaskFault → Type 0
+IsTaskInputFault old new arrays walks Store = Rose 1 old.faults new.faults
+IsTaskInputFault old new arrays walks (BadChunk key got want) =
     (c : Cell) × Contains (cells_of_walks arrays walks) c × (key ≡ key_of arrays c) × (want ≡ chunk_room arrays c.array) × (got ≢ want) × HoldsLength new.held key got
-IsInputFault old new arrays walks NoMemory = IsTrue new.lacks
+IsTaskInputFault old new arrays walks NoMemory = IsTrue new.lacks
 
 -- the operation is a map of this kernel
 abbrev pub IsMapOf : Op → Kernel → Type 0

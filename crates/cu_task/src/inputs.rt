@@ -1,16 +1,15 @@
 //! The regions that a task reads, one behind another in its memory.
 ghost use Rattle.std.specs.Prelude.{◌≡◌, ℕ, ◌+◌, ◌*◌, ◌<◌, ◌≤◌, ◌^◌, [], ◌∷◌, Some, All, length, IfErr, OnOk};
 ghost use Rattle.cu_num.specs.Dtype.{size_of};
-ghost use Rattle.cu_shape.specs.Index.{product};
+ghost use Rattle.cu_shape.specs.Index.{product, differences};
 ghost use Rattle.cu_store.specs.Held.{Contents};
 ghost use Rattle.cu_store.specs.Steps.{NoChange, Steps};
-ghost use Rattle.cu_codec.specs.Parts.{differences};
 ghost use Rattle.cu_op.specs.Arrays.{array_at, type_at, chunk_room};
 ghost use Rattle.cu_op.specs.Walks.{walk_cells, cells_of_walks};
 ghost use Rattle.cu_region.specs.Reading.{ReadsRegion};
 ghost use Rattle.cu_region.specs.Calls.{Made};
 ghost use Rattle.cu_region.specs.Steady.{IsSteady};
-ghost use Rattle.cu_task.specs.Inputs.{IsReadWalk, room_of_walks, HasRegions, lays_from, IsWalkKey, IsInputFault};
+ghost use Rattle.cu_task.specs.Inputs.{IsReadWalk, room_of_walks, HasRegions, lays_from, IsWalkKey, IsTaskInputFault};
 
 use arrayvec::ArrayVec;
 use cu_codec::chunk_bytes;
@@ -37,7 +36,7 @@ pub(crate) fn read_inputs<D: Depot>(
         → OnOk result (HasRegions plan.now.arrays held walks.now inputs.new) }
     ensures step { Steps NoChange 0 (length (cells_of_walks plan.now.arrays walks.now)) (D.shown depot.old) (D.shown depot.new) }
     ensures all { OnOk result (Made (length (cells_of_walks plan.now.arrays walks.now)) (D.shown depot.old).calls (D.shown depot.new).calls) }
-    ensures cause { IfErr result (IsInputFault (D.shown depot.old) (D.shown depot.new) plan.now.arrays walks.now) }
+    ensures cause { IfErr result (IsTaskInputFault (D.shown depot.old) (D.shown depot.new) plan.now.arrays walks.now) }
 {
     match walks {
         [] => Ok(()),
@@ -65,7 +64,7 @@ fn read_walk<D: Depot>(
         → OnOk result (ReadsRegion (array_at plan.now.arrays walk.now.array) walk.now.region.lo walk.now.region.hi (Some held) room.new) }
     ensures step { Steps NoChange 0 (length (walk_cells plan.now.arrays walk.now)) (D.shown depot.old) (D.shown depot.new) }
     ensures all { OnOk result (Made (length (walk_cells plan.now.arrays walk.now)) (D.shown depot.old).calls (D.shown depot.new).calls) }
-    ensures cause { IfErr result (IsInputFault (D.shown depot.old) (D.shown depot.new) plan.now.arrays (walk.now ∷ [])) }
+    ensures cause { IfErr result (IsTaskInputFault (D.shown depot.old) (D.shown depot.new) plan.now.arrays (walk.now ∷ [])) }
 {
     let bytes = walk_bytes(plan, walk);
     read_region(

@@ -1,11 +1,10 @@
 //! Tasks that are run.
 ghost use Rattle.std.specs.Prelude.{◌≡◌, ℕ, ◌+◌, ◌*◌, ◌<◌, ◌≤◌, List, length, IfErr, OnOk};
 ghost use Rattle.cu_num.specs.Dtype.{size_of};
-ghost use Rattle.cu_shape.specs.Index.{product};
+ghost use Rattle.cu_shape.specs.Index.{product, differences};
 ghost use Rattle.cu_grid.specs.Counts.{IsWithin};
 ghost use Rattle.cu_store.specs.Held.{Contents};
 ghost use Rattle.cu_store.specs.Steps.{Steps};
-ghost use Rattle.cu_codec.specs.Parts.{differences};
 ghost use Rattle.cu_op.specs.Arrays.{array_at, type_at, chunk_room};
 ghost use Rattle.cu_op.specs.Cells.{tasks_of, task_lo, task_hi};
 ghost use Rattle.cu_op.specs.Operation.{target_of};

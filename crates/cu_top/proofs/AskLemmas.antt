@@ -1,80 +1,82 @@
--- Keys that were found absent.
-use Rattle.std.proofs.Common.{◌⊎◌, Result, Ok, Err, OnOk, IfErr, ◌≡◌, ℕ, ◌+◌, List, Option, Some, None, sym, ◌∙◌, inl, inr, arith, below_more, Bool, subst}
-use Rattle.cu_store.specs.Held.{Contents, Write, IsAmong, IsKeptAt, Follows, IsGone}
+-- Asking for the keys of a plan.
+use Rattle.std.proofs.Common.{◌≡◌, inl, inr, true, false, Bool, ℕ, zero, suc, List, [], ◌∷◌, All, Option, Some, None, Result, Ok, Err, IfErr, refl, sym, subst, arith}
+use Rattle.std.specs.Prelude.{IsSome}
+use Rattle.std.proofs.lemmas.List.Elements.{All-nil, All-cons}
+use Rattle.cu_store.specs.Faults.{Rose}
+use Rattle.cu_store.specs.Held.{Contents, Answers, IsGone}
+use Rattle.cu_store.specs.Steps.{Shown, NoChange, Caused}
+use Rattle.cu_store.specs.declared.faults.DepotFault.{DepotFault}
+use Rattle.cu_store.specs.declared.faults.DepotFault.TheVariants as fault
 use Rattle.cu_zarr.specs.Key.{metadata_key_of}
-use Rattle.cu_top.specs.Job.{IsFree, IsOutKey, chunks_of, key_of_chunk, out_array}
-use Rattle.cu_command.specs.Keys.{IsKeyFault}
-use Rattle.cu_top.specs.Run.{IsFreeBelow, IfAsked, IsFirstOfOut, IsFirstInWay, IsPlanFree}
 use Rattle.cu_name.specs.Keys.{record_key_of}
-use Rattle.cu_command.specs.declared.status.Status.{Status}
-use Rattle.cu_command.specs.declared.status.Status.TheVariants.{Done, BadWords, OverMemory, BadMeta, NoArray, Exists, TaskFailed, ReadFault, WriteFault, BadChunk, DepotFailed, BadLoad, NotBuilt, NoMemory}
-use Rattle.cu_top.specs.declared.job.Job.{Job}
+use Rattle.cu_work.specs.Order.{IsFree, IsHeldIn, IsAsked}
+use Rattle.cu_work.specs.declared.way.WayFault.{WayFault}
+use Rattle.cu_work.specs.declared.way.WayFault.TheVariants.{Held, Failed, NoMemory}
+use Rattle.cu_command.specs.Seen.{Stepped}
+use Rattle.cu_command.proofs.SeenLemmas.{gone_before}
+use Rattle.cu_form.specs.Expression.{Expression}
+use Rattle.cu_command.specs.declared.job.Job.{Job}
+use Rattle.cu_top.specs.Ask.{IsFirstOf, IsAskEnd}
+use Rattle.cu_top.specs.Prepare.{is_own_input, IsApart, keys_of}
+use Rattle.cu_lower.specs.declared.options.Options.{Options}
 
-kept_absent : (W : List ℕ → List ℕ → Type 0) (entry held : Contents) (key : List ℕ) → held key ≡ None → IsKeptAt W entry held key → entry key ≡ None
-kept_absent W entry held key gone (inl same) = sym same ∙ gone
-kept_absent W entry held key gone (inr (bytes, write, now)) = cc
+some_bytes : (o : Option (List ℕ)) → IsSome o → (bytes : List ℕ) × (o ≡ Some bytes)
+some_bytes None h = cc
+some_bytes (Some bytes) h = (bytes, refl)
 
--- A key that is absent now was absent then, where writes alone have landed since.
-pub absent_at_entry : (writes late : List Write) (entry : Contents) (held : Option Contents) (key : List ℕ) → Follows writes (Some entry) held late → IsGone held key → entry key ≡ None
-absent_at_entry writes late entry None key follows gone = absurd follows.0
-absent_at_entry writes late entry (Some held) key follows gone = kept_absent (IsAmong writes) entry held key gone (follows.0 key)
+held_in : (h : Option Contents) (key : List ℕ) → Answers h key (Ok true) → IsHeldIn h key
+held_in None key answer = tt
+held_in (Some held) key answer = some_bytes (held key) (answer.0 refl)
 
-pub none_below : (job : Job) (entry : Contents) → entry (metadata_key_of job.names.out) ≡ None → IsFreeBelow job entry 0
-none_below job entry metadata = (metadata, λ k below. absurd (omega arith))
-
-pub one_more_free : (job : Job) (entry : Contents) (n : ℕ) → IsFreeBelow job entry n → entry (key_of_chunk (out_array job) n) ≡ None → IsFreeBelow job entry (n + 1)
-one_more_free job entry n so_far here = (so_far.0, below_more _ _ so_far.1 here)
-
-pub all_free : (job : Job) (entry : Contents) (n : ℕ) → chunks_of job ≡ n → IsFreeBelow job entry n → IsFree job entry
-all_free job entry n all below key (inl metadata) = rw metadata below.0
-all_free job entry n all below key (inr (k, small, chunk)) = rw chunk (below.1 k (omega (arith, all, small)))
-
--- A call that fails for a key names this key.
-pub key_fault_asked : (tries : ℕ) (before after : ℕ) (lacks : Bool) (key : List ℕ) (status : Status) (P : List ℕ → Type 0) → IsKeyFault tries before after lacks key status → P key → IfAsked status P
-key_fault_asked tries before after lacks key (DepotFailed failed) P fault here = subst P (sym fault.0) here
-key_fault_asked tries before after lacks key NoMemory P fault here = tt
-key_fault_asked tries before after lacks key Done P fault here = tt
-key_fault_asked tries before after lacks key (BadWords code) P fault here = tt
-key_fault_asked tries before after lacks key (OverMemory node need allowed) P fault here = tt
-key_fault_asked tries before after lacks key (Exists held) P fault here = absurd fault
-key_fault_asked tries before after lacks key (BadMeta name code) P fault here = tt
-key_fault_asked tries before after lacks key (NoArray name) P fault here = tt
-key_fault_asked tries before after lacks key (TaskFailed op task) P fault here = tt
-key_fault_asked tries before after lacks key ReadFault P fault here = tt
-key_fault_asked tries before after lacks key (BadLoad code) P fault here = tt
-key_fault_asked tries before after lacks key WriteFault P fault here = tt
-key_fault_asked tries before after lacks key (BadChunk bad got want) P fault here = tt
-key_fault_asked tries before after lacks key (NotBuilt node) P fault here = tt
-
--- ---- the record and the output
-
--- where the record and the keys of the output were absent, no key of the plan was held
-pub plan_free : {T E : Type 0} (result : Result T E) (job : Job) (entry : Contents) → entry (record_key_of job.names.out) ≡ None → OnOk result (IsFree job entry) → OnOk result (IsPlanFree job entry)
-plan_free (Err e) job entry gone free = tt
-plan_free (Ok x) job entry gone free = λ key of_plan. free_at key of_plan
+gone_in : (h : Option Contents) (key : List ℕ) → Answers h key (Ok false) → IsGone h key
+gone_in None key answer = tt
+gone_in (Some held) key answer = none_of (held key) (λ some. false_true (answer.1 some))
   where
-    free_at : (key : List ℕ) → (key ≡ record_key_of job.names.out) ⊎ IsOutKey job key → entry key ≡ None
-    free_at key (inl here) = rw here gone
-    free_at key (inr of_out) = free key of_out
+    none_of : (o : Option (List ℕ)) → (IsSome o → ⊥) → o ≡ None
+    none_of None h = refl
+    none_of (Some bytes) h = absurd (h refl)
 
-asked_at : (status : Status) (P Q : List ℕ → Type 0) → ((key : List ℕ) → P key → Q key) → IfAsked status P → IfAsked status Q
-asked_at (Exists key) P Q step h = step key h
-asked_at (DepotFailed key) P Q step h = step key h
-asked_at NoMemory P Q step h = tt
-asked_at Done P Q step h = tt
-asked_at (BadWords code) P Q step h = tt
-asked_at (OverMemory node need allowed) P Q step h = tt
-asked_at (BadMeta name code) P Q step h = tt
-asked_at (NoArray name) P Q step h = tt
-asked_at (TaskFailed op task) P Q step h = tt
-asked_at ReadFault P Q step h = tt
-asked_at WriteFault P Q step h = tt
-asked_at (BadChunk bad got want) P Q step h = tt
-asked_at (BadLoad code) P Q step h = tt
-asked_at (NotBuilt node) P Q step h = tt
+    false_true : false ≡ true → ⊥
+    false_true e = cc
 
--- a key of the output that was asked, where the record was absent
-pub asked_behind : {T : Type 0} (result : Result T Status) (job : Job) (entry : Contents) → entry (record_key_of job.names.out) ≡ None
-    → IfErr result (λ status. IfAsked status (IsFirstOfOut job entry)) → IfErr result (λ status. IfAsked status (IsFirstInWay job entry))
-asked_behind (Ok x) job entry gone h = tt
-asked_behind (Err status) job entry gone h = asked_at status (IsFirstOfOut job entry) (IsFirstInWay job entry) (λ key first. inr (gone, first)) h
+pub caused_rose : (n : ℕ) (old new : Shown) (f : DepotFault) → f ≡ fault.Failed → Caused {T = Bool} n old new (Err f) → Rose n old.faults new.faults
+caused_rose n old new fault.Failed e cause = cause.0
+caused_rose n old new fault.NoMemory e cause = cc
+
+-- ---- a plan whose output is one of its inputs
+
+module _ (tries : ℕ) (job : Job) (options : Options) (old new : Shown) (record_key : List ℕ) (is : record_key ≡ record_key_of job.expr.store_as) where
+  at_record : IsFirstOf old (keys_of options job) record_key
+  at_record = subst (λ (key : List ℕ). IsFirstOf old (keys_of options job) key) (sym is) ((zero, omega arith, refl), λ entry told. ([], _, refl, All-nil (IsFree entry)))
+
+  pub own_held : Answers new.held record_key (Ok true) → IsAskEnd tries job.expr (keys_of options job) old new (Held record_key)
+  own_held answer = (at_record, inl (held_in new.held record_key answer), λ own. inl is)
+
+  pub own_failed : Rose tries old.faults new.faults → IsAskEnd tries job.expr (keys_of options job) old new (Failed record_key)
+  own_failed rose = (at_record, rose)
+
+  pub own_metadata : (key : List ℕ) → key ≡ metadata_key_of job.expr.store_as → is_own_input job.expr ≡ true → Stepped NoChange old new → Answers new.held record_key (Ok false)
+      → IsAskEnd tries job.expr (keys_of options job) old new (Held key)
+  own_metadata key same own step answer =
+      (subst (λ (k : List ℕ). IsFirstOf old (keys_of options job) k) (sym same) ((suc zero, omega arith, refl), λ entry told. (record_key_of job.expr.store_as ∷ [], _, refl, free entry told)), inr (same, own), λ again. inr same)
+    where
+      free : (entry : Contents) → old.held ≡ Some entry → All (IsFree entry) (record_key_of job.expr.store_as ∷ [])
+      free entry told =
+          All-cons (IsFree entry) (record_key_of job.expr.store_as) []
+          (subst (λ (h : Option Contents). IsGone h (record_key_of job.expr.store_as)) told
+          (gone_before old new (record_key_of job.expr.store_as) step (subst (λ (key : List ℕ). IsGone new.held key) is (gone_in new.held record_key answer)))) (All-nil (IsFree entry))
+
+-- ---- any other plan
+
+true_false : (b : Bool) → b ≡ true → b ≡ false → ⊥
+true_false b holds fails = cc
+
+asked_end : (tries : ℕ) (e : Expression) (keys : List (List ℕ)) (old new : Shown) (f : WayFault) → IsAsked tries old new keys (Err f) → IsApart e → IsAskEnd tries e keys old new f
+asked_end tries e keys old new (Held key) asked apart = ((asked.listed, asked.first), inl asked.cause, λ own. absurd (true_false (is_own_input e) own apart))
+asked_end tries e keys old new (Failed key) asked apart = ((asked.listed, asked.first), asked.cause)
+asked_end tries e keys old new NoMemory asked apart = tt
+
+pub plan_asked : (tries : ℕ) (e : Expression) (keys all : List (List ℕ)) (old new : Shown) (result : Result (Unit {0}) WayFault) → keys ≡ all → IsAsked tries old new keys result → IsApart e
+    → IfErr result (IsAskEnd tries e all old new)
+plan_asked tries e keys all old new (Ok x) same asked apart = tt
+plan_asked tries e keys all old new (Err f) same asked apart = asked_end tries e all old new f (subst (λ (ks : List (List ℕ)). IsAsked tries old new ks (Err f)) same asked) apart

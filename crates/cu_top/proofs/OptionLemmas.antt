@@ -4,7 +4,7 @@ use Rattle.std.specs.Str.Parse.{without_leading_plus, digits_value}
 use Rattle.cu_name.specs.Name.{is_name}
 use Rattle.cu_top.specs.Words.{Command, run, load, print, is_number, memory_of, retries_of, once, given_with, options_from, or_code, nothing_given, retries_in, is_plain, print_of, print_in, command_of}
 use Rattle.cu_top.specs.declared.words.Given.{Given}
-use Rattle.cu_top.specs.declared.words.Options.{Options}
+use Rattle.cu_lower.specs.declared.options.Options.{Options}
 
 abbrev AtMost : ℕ → Option ℕ → Type 0
 AtMost most None = Unit {0}

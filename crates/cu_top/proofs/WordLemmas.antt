@@ -6,7 +6,7 @@ use Rattle.std.proofs.lemmas.Bool.{and_from, and_parts, le-leb, leb-true, lt-ltb
 use Rattle.std.proofs.lemmas.Str.Parse.{IsNumeralModel, numerals_by_value, tells_all_ascii_digits}
 use Rattle.cu_top.specs.Words.{is_number, given_with, options_from, print_in}
 use Rattle.cu_top.specs.declared.words.Given.{Given}
-use Rattle.cu_top.specs.declared.words.Options.{Options}
+use Rattle.cu_lower.specs.declared.options.Options.{Options}
 
 numerals : IsNumeralModel (λ ds. all_ascii_digits ds ≡ true) (digits_value 10)
 numerals = numerals_by_value _ tells_all_ascii_digits

@@ -1,59 +1,50 @@
 -- When a run is served: what its premises are, and what it then answers.
-use Rattle.std.specs.Prelude.{◌≡◌, ℕ, ◌<◌, List, length, Some, None, Ok}
-use Rattle.cu_store.specs.Faults.{last_count}
-use Rattle.cu_store.specs.Held.{Contents, Write, IsAmong}
-use Rattle.cu_top.specs.Expression.{addition_of}
-use Rattle.cu_top.specs.Inputs.{AreAddable}
-use Rattle.cu_top.specs.Job.{HasInputs, IsInputKey, IsInputChunk}
-use Rattle.cu_top.specs.Plan.{room_of, over_memory}
-use Rattle.cu_top.specs.Run.{HasNames, IsPlanKey, IsPlanFree}
-use Rattle.cu_top.specs.Top.{text_names}
-use Rattle.cu_top.specs.Words.{command_of, run}
-use Rattle.cu_top.specs.declared.job.Job.{Job}
-use Rattle.cu_top.specs.declared.job.Names.{Names as ArrayNames}
+use Rattle.std.specs.Prelude.{◌≡◌, ℕ, List, length, All, Some, None, Ok}
+use Rattle.cu_store.specs.Held.{Contents, IsAmong}
+use Rattle.cu_store.specs.Steps.{Shown}
+use Rattle.cu_need.specs.Counts.{plan_counts, over_limit}
+use Rattle.cu_need.specs.Need.{first_over, first_unbuilt}
+use Rattle.cu_op.specs.declared.cells.Cell.{Cell}
+use Rattle.cu_op.specs.Arrays.{chunk_room}
+use Rattle.cu_op.specs.PlanView.{PlanView}
+use Rattle.cu_op.specs.Schedule.{key_of}
+use Rattle.cu_state.specs.Pieces.{IsInputChunk}
+use Rattle.cu_work.specs.Drive.{IsInputKey}
+use Rattle.cu_work.specs.Order.{IsFree}
+use Rattle.cu_command.specs.Job.{IsJob, IsTypable}
+use Rattle.cu_command.specs.declared.job.Job.{Job}
 use Rattle.cu_command.specs.declared.status.Status.{Status}
-use Rattle.cu_command.specs.declared.status.Status.TheVariants.{Done, BadWords, OverMemory, BadMeta, NoArray, Exists, TaskFailed, ReadFault, WriteFault, BadChunk, DepotFailed, BadLoad, NotBuilt, NoMemory}
-use Rattle.cu_top.specs.declared.words.Options.{Options}
+use Rattle.cu_command.specs.declared.status.Status.TheVariants.{Done, NoMemory}
+use Rattle.cu_lower.specs.declared.options.Options.{Options}
+use Rattle.cu_top.specs.Prepare.{job_plan, keys_of, IsApart}
+use Rattle.cu_top.specs.Words.{command_of, run}
 
--- the count didn't rise, and doesn't stand at its last value
-abbrev pub StoodStill : ℕ → ℕ → Type 0
-StoodStill before after = (after ≡ before) × (before < last_count)
+-- each chunk of an input is absent or whole
+abbrev pub AreWhole : PlanView → Contents → Type 0
+AreWhole p entry = (k : Cell) (bytes : List ℕ) → IsInputChunk p.arrays k → entry (key_of p.arrays k) ≡ Some bytes → length bytes ≡ chunk_room p.arrays k.array
 
--- a chunk is absent or whole
-abbrev pub IsWhole : Job → Contents → List ℕ → Type 0
-IsWhole job entry key = (bytes : List ℕ) → entry key ≡ Some bytes → length bytes ≡ room_of job
+-- The live nodes are built, none needs more than is allowed, and the counts keep their limits. The output is no input, and no key of the
+-- plan is held. No put is late on a key of the plan, and each that is late on a chunk of an input carries what is held there. Each
+-- chunk of an input is absent or whole.
+pub record IsAtRest (options : Options) (job : Job) (entry : Contents) (old : Shown) : Type 0 where
+  pub built : first_unbuilt job.expr job.types ≡ None
+  pub memory : first_over options.allowed options.reserved job.expr job.types ≡ None
+  pub counts : over_limit (plan_counts job.expr job.types) ≡ None
+  pub own : IsApart job.expr
+  pub free : All (IsFree entry) (keys_of options job)
+  pub settled : All (λ key. (bytes : List ℕ) → IsAmong old.late key bytes → ⊥) (keys_of options job)
+  pub calm : (key bytes : List ℕ) → IsAmong old.late key bytes → IsInputKey (job_plan options job) key → entry key ≡ Some bytes
+  pub whole : AreWhole (job_plan options job) entry
 
--- The words and the text are accepted, and both inputs have metadata of layouts that can be added. No put is late on a key of the plan,
--- and each that is late on a key of an input carries what is held there. No more is needed than is allowed, no key of the plan is
--- held, and each chunk of an input is absent or whole.
-pub record IsServable (words : List (List ℕ)) (left : List ℕ) (entry : Contents) (late : List Write) : Type 0 where
+-- The words are accepted, the text has a job, its inputs and types accepted, and all is at rest for the job. A text has at most one.
+pub record IsServable (words : List (List ℕ)) (text : List ℕ) (entry : Contents) (old : Shown) : Type 0 where
   pub options : Options
   pub words_give : command_of words ≡ Ok (run options)
-  pub names : ArrayNames
-  pub adds : addition_of left ≡ Some (text_names names)
-  pub job : Job
-  pub has_names : HasNames names job
-  pub alike : AreAddable job.left job.right
-  pub inputs : HasInputs job entry
-  pub settled : (key bytes : List ℕ) → IsAmong late key bytes → IsPlanKey job key → ⊥
-  pub calm : (key bytes : List ℕ) → IsAmong late key bytes → IsInputKey job key → entry key ≡ Some bytes
-  pub fits : over_memory options job ≡ None
-  pub free : IsPlanFree job entry
-  pub whole : (key : List ℕ) → IsInputChunk job key → IsWhole job entry key
+  pub typable : IsTypable old text
+  pub rest : (job : Job) → IsJob old text job → IsAtRest options job entry old
 
 -- the run was carried out, or memory was wanted
 abbrev pub IsServed : Status → Type 0
 IsServed Done = Unit {0}
 IsServed NoMemory = Unit {0}
-IsServed (BadWords code) = ⊥
-IsServed (OverMemory node need allowed) = ⊥
-IsServed (Exists key) = ⊥
-IsServed (BadMeta name code) = ⊥
-IsServed (NoArray name) = ⊥
-IsServed (TaskFailed op task) = ⊥
-IsServed ReadFault = ⊥
-IsServed (BadLoad code) = ⊥
-IsServed WriteFault = ⊥
-IsServed (BadChunk key got want) = ⊥
-IsServed (DepotFailed key) = ⊥
-IsServed (NotBuilt node) = ⊥
+IsServed status = ⊥

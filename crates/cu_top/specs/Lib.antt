@@ -1,12 +1,8 @@
+pub mod Ask
 pub mod Call
 pub mod Complete
-pub mod Expression
-pub mod Inputs
-pub mod Job
-pub mod Plan
+pub mod Prepare
 pub mod Record
 pub mod Report
 pub mod Run
-pub mod Tasks
-pub mod Top
 pub mod Words

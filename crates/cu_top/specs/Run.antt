@@ -1,328 +1,296 @@
--- What a run answers, and what it leaves.
-use Rattle.std.specs.Prelude.{◌≡◌, ◌⊎◌, ℕ, ◌+◌, ◌<◌, Bool, IsTrue, List, [], ◌∷◌, ◌++◌, codes, Option, Some, None}
-use Rattle.std.specs.Fmt.{decimal}
+-- What a run answers, and what it leaves. This project's own rules.
+use Rattle.std.specs.Prelude.{◌≡◌, ◌⊎◌, ℕ, ◌+◌, ◌*◌, ◌<◌, ◌≤◌, ℤ, pos, List, length, slice_get, All, Contains, Option, Some, None, Result, Ok, Err, unwrap_or}
+use Rattle.cu_shape.specs.Index.{IsInside}
 use Rattle.cu_store.specs.Faults.{Rose}
-use Rattle.cu_store.specs.Held.{Contents, Write, IsAmong, Lands, StayAmong, Follows, Holds, IsGone}
+use Rattle.cu_store.specs.Held.{Contents}
+use Rattle.cu_store.specs.Steps.{Shown, Changes, NoChange, PutOf}
 use Rattle.cu_zarr.specs.Key.{metadata_key_of}
-use Rattle.cu_op.specs.declared.layout.Layout.{Layout}
-use Rattle.cu_command.specs.Keys.{IsHeldIn}
+use Rattle.cu_zarr.specs.Stored.{stored_element}
 use Rattle.cu_name.specs.Keys.{record_key_of}
-use Rattle.cu_command.specs.Stored.{HoldsRefused}
-use Rattle.cu_top.specs.Inputs.{AreAddable}
-use Rattle.cu_top.specs.Job.{HasMetadata, IsOutKey, out_writes, IsQuiet, HasInputs, IsComplete, chunks_of, key_of_chunk, out_array, out_metadata}
-use Rattle.cu_top.specs.Plan.{need_of}
-use Rattle.cu_top.specs.Tasks.{IsBad}
-use Rattle.cu_top.specs.declared.job.Job.{Job}
-use Rattle.cu_top.specs.declared.job.Names.{Names as ArrayNames}
+use Rattle.cu_op.specs.declared.cells.Cell.{Cell}
+use Rattle.cu_op.specs.Cells.{tasks_of}
+use Rattle.cu_op.specs.Layout.{layout_view}
+use Rattle.cu_op.specs.PlanView.{PlanView}
+use Rattle.cu_op.specs.Schedule.{op_of, key_of}
+use Rattle.cu_op.specs.Sound.{Sound}
+use Rattle.cu_op.specs.Value.{Elements, stored_inputs}
+use Rattle.cu_op.specs.Walks.{written_chunks}
+use Rattle.cu_form.specs.declared.expr.Node.{Node}
+use Rattle.cu_form.specs.declared.form.Form.{Form}
+use Rattle.cu_meaning.specs.Argument.{NodeElements, shape_at}
+use Rattle.cu_meaning.specs.Meaning.{meaning_of}
+use Rattle.cu_lower.specs.Inputs.{layout_named}
+use Rattle.cu_lower.specs.Premises.{run_of as plan_run}
+use Rattle.cu_lower.specs.declared.options.Options.{Options}
+use Rattle.cu_state.specs.Pieces.{PlanRun, Text, chunks_alone, KeysApart, HoldsPiece, IsComplete}
+use Rattle.cu_state.specs.Left.{IsQuiet, IsLeft, RunChange, AreDone}
+use Rattle.cu_work.specs.Drive.{task_count, IsBadChunk, IsInputKey}
+use Rattle.cu_work.specs.Order.{IsFree}
+use Rattle.cu_work.specs.Run.{HoldsTexts}
+use Rattle.cu_work.specs.Tasks.{IsUsedUp}
+use Rattle.cu_work.specs.declared.outcome.Outcome.{Outcome}
+use Rattle.cu_work.specs.declared.outcome.Outcome.TheVariants as ended
+use Rattle.cu_work.specs.declared.run.TextFault.{TextFault}
+use Rattle.cu_work.specs.declared.run.TextFault.TheVariants as text
+use Rattle.cu_command.specs.Job.{IsJob, IsJobFault}
+use Rattle.cu_command.specs.Seen.{Stream, Stepped}
+use Rattle.cu_command.specs.Streams.{WroteFront}
+use Rattle.cu_command.specs.declared.job.Job.{Job}
+use Rattle.cu_command.specs.declared.job.JobFault.{JobFault}
+use Rattle.cu_command.specs.declared.job.JobFault.TheVariants as fault
 use Rattle.cu_command.specs.declared.status.Status.{Status}
-use Rattle.cu_command.specs.declared.status.Status.TheVariants.{Done, BadWords, OverMemory, BadMeta, NoArray, Exists, TaskFailed, ReadFault, WriteFault, BadChunk, DepotFailed, BadLoad, NotBuilt, NoMemory}
-use Rattle.cu_top.specs.declared.words.Options.{Options}
+use Rattle.cu_command.specs.declared.status.Status.TheVariants.{Done, BadExpr, BadType, OverMemory, OverLimit, BadMeta, NoArray, Exists, TaskFailed, WriteFault, BadChunk, DepotFailed, NotBuilt, NoMemory}
+use Rattle.cu_top.specs.Ask.{IsFirstOf, IsInWay, IsOwnFirst}
+use Rattle.cu_top.specs.Prepare.{job_plan, keys_of, out_layout, out_metadata, HasPlan, IsUnplanned, IsApart, IsLentWithin}
+use Rattle.cu_top.specs.Record.{record_text}
+use Rattle.cu_top.specs.Report.{report_line}
 
--- the job adds the arrays of these names
-abbrev pub HasNames : ArrayNames → Job → Type 0
-HasNames names job = job.names ≡ names
+-- what is seen of the outside at one moment: the source, the sink and the depot
+pub record Scene : Type 0 where
+  pub source : Stream
+  pub sink : Stream
+  pub depot : Shown
 
--- ---- the keys of the plan: the record's, and those of the output
+abbrev pub scene : Stream → Stream → Shown → Scene
+scene source sink depot = record { source = source; sink = sink; depot = depot }
 
-abbrev pub IsPlanKey : Job → List ℕ → Type 0
-IsPlanKey job key = (key ≡ record_key_of job.names.out) ⊎ IsOutKey job key
+-- a run: its options, the text of its expression, and what is seen when it begins and when it ends
+pub record RunCase : Type 0 where
+  pub options : Options
+  pub text : List ℕ
+  pub old : Scene
+  pub new : Scene
 
--- the record of this text, as a write
-abbrev pub record_write : Job → List ℕ → Write
-record_write job text = (record_key_of job.names.out, text)
+abbrev pub case : Options → List ℕ → Scene → Scene → RunCase
+case options text old new = record { options = options; text = text; old = old; new = new }
 
--- the one value of each key of the plan whose record is this text
-abbrev pub plan_writes : Job → List ℕ → Contents → List Write
-plan_writes job text entry = record_write job text ∷ out_writes job entry
+-- ---- the plan of an accepted job
 
--- a key of the plan, or a put that was late
-abbrev pub IsPlanOrLate : Job → List Write → List ℕ → List ℕ → Type 0
-IsPlanOrLate job late key bytes = IsPlanKey job key ⊎ IsAmong late key bytes
+abbrev pub plan_in : RunCase → Job → PlanView
+plan_in c job = job_plan c.options job
 
--- From what was held at some moment no key but the plan's has changed, late puts aside, and what is late is on a key of the plan, or was late
--- then.
-abbrev pub PlanAlone : Job → List Write → Option Contents → Option Contents → List Write → Type 0
-PlanAlone job late entry held now_late = Lands (IsPlanOrLate job late) entry held × StayAmong now_late (IsPlanOrLate job late)
+-- the plan and its two texts, the record and the output's metadata
+abbrev pub job_run : RunCase → Job → PlanRun
+job_run c job = plan_run job.expr (plan_in c job) (record_text c.options job) (out_metadata job)
 
--- no key of the plan is held
-abbrev pub IsPlanFree : Job → Contents → Type 0
-IsPlanFree job entry = (key : List ℕ) → IsPlanKey job key → entry key ≡ None
+-- the elements of the inputs, by what the depot held when the run began
+abbrev pub env_of : RunCase → Job → Contents → Elements
+env_of c job entry = stored_inputs (plan_in c job).arrays entry
 
--- ---- keys in the way
+-- The premise: no put that was late when the run began carries another value of the plan, or another content of a chunk of an input.
+abbrev pub IsQuietEntry : RunCase → Job → Contents → Type 0
+IsQuietEntry c job entry = IsQuiet (job_run c job) (env_of c job entry) entry c.old.depot.late
 
--- the metadata and the chunks below n are absent
-abbrev pub IsFreeBelow : Job → Contents → ℕ → Type 0
-IsFreeBelow job entry n = (entry (metadata_key_of job.names.out) ≡ None) × ((k : ℕ) → k < n → entry (key_of_chunk (out_array job) k) ≡ None)
+-- a fact of the elements of the inputs, where the depot told its contents and the premise holds
+abbrev pub WhereQuiet : RunCase → Job → (Elements → Type 0) → Type 0
+WhereQuiet c job fact = (entry : Contents) → c.old.depot.held ≡ Some entry → IsQuietEntry c job entry → fact (env_of c job entry)
 
--- a key of the output, before which the others of the output were absent
-abbrev pub IsFirstOfOut : Job → Contents → List ℕ → Type 0
-IsFirstOfOut job entry key = (key ≡ metadata_key_of job.names.out) ⊎ ((k : ℕ) × (k < chunks_of job) × (key ≡ key_of_chunk (out_array job) k) × IsFreeBelow job entry k)
+-- ---- before a run is started
 
--- a key of the plan, before which the others were absent: the record's, and, where that was absent, one of the output
-abbrev pub IsFirstInWay : Job → Contents → List ℕ → Type 0
-IsFirstInWay job entry key = (key ≡ record_key_of job.names.out) ⊎ ((entry (record_key_of job.names.out) ≡ None) × IsFirstOfOut job entry key)
+-- nothing but puts that were late has landed
+abbrev pub IsSpared : RunCase → Type 0
+IsSpared c = Stepped NoChange c.old.depot c.new.depot
 
--- the output is one of the inputs
-abbrev pub IsOwnInput : Job → Type 0
-IsOwnInput job = (job.names.out ≡ job.names.left) ⊎ (job.names.out ≡ job.names.right)
+-- The job is that of the text.
+abbrev pub IsAccepted : RunCase → Job → Type 0
+IsAccepted c job = IsJob c.old.depot c.text job
 
--- A key of the plan that is held. The metadata of an output that is also an input counts as held.
-abbrev pub IsInWay : Job → Option Contents → List ℕ → Type 0
-IsInWay job held key = IsPlanKey job key × (IsHeldIn held key ⊎ ((key ≡ metadata_key_of job.names.out) × IsOwnInput job))
+-- a job that was accepted, with a fact of it
+abbrev pub OfJob : RunCase → (Job → Type 0) → Type 0
+OfJob c fact = (job : Job) × IsAccepted c job × fact job
 
--- why asking for the keys ends: one is in the way, or the calls for one failed
-abbrev pub IsAskFault : ℕ → Job → ℕ → ℕ → Bool → Option Contents → Status → Type 0
-IsAskFault tries job before after lacks held (Exists key) = IsInWay job held key
-IsAskFault tries job before after lacks held (BadMeta name code) = ⊥
-IsAskFault tries job before after lacks held (NoArray name) = ⊥
-IsAskFault tries job before after lacks held (TaskFailed op task) = ⊥
-IsAskFault tries job before after lacks held (DepotFailed key) = IsPlanKey job key × Rose tries before after
-IsAskFault tries job before after lacks held NoMemory = IsTrue lacks
-IsAskFault tries job before after lacks held Done = ⊥
-IsAskFault tries job before after lacks held (BadWords code) = ⊥
-IsAskFault tries job before after lacks held (OverMemory node need allowed) = ⊥
-IsAskFault tries job before after lacks held ReadFault = ⊥
-IsAskFault tries job before after lacks held (BadLoad code) = ⊥
-IsAskFault tries job before after lacks held WriteFault = ⊥
-IsAskFault tries job before after lacks held (BadChunk bad got want) = ⊥
-IsAskFault tries job before after lacks held (NotBuilt node) = ⊥
+-- one that has a plan
+abbrev pub OfPlanned : RunCase → (Job → Type 0) → Type 0
+OfPlanned c fact = OfJob c (λ job. HasPlan c.options job × fact job)
 
--- the output isn't an input
-abbrev pub IsApart : Job → Type 0
-IsApart job = (job.names.out ≡ job.names.left → ⊥) × (job.names.out ≡ job.names.right → ⊥)
+-- ---- a run that was started
 
--- where the output is an input, the key in the way is the record's or its metadata's
-abbrev pub IsOwnFirst : Job → List ℕ → Type 0
-IsOwnFirst job key = IsOwnInput job → (key ≡ record_key_of job.names.out) ⊎ (key ≡ metadata_key_of job.names.out)
+-- the record is put
+abbrev pub RecordPut : RunCase → Job → Changes
+RecordPut c job = PutOf (record_key_of job.expr.store_as) (record_text c.options job)
 
--- a fact of the key at which the asking ended
-abbrev pub IfAsked : Status → (List ℕ → Type 0) → Type 0
-IfAsked (Exists key) P = P key
-IfAsked (BadMeta name code) P = Unit {0}
-IfAsked (NoArray name) P = Unit {0}
-IfAsked (TaskFailed op task) P = Unit {0}
-IfAsked (DepotFailed key) P = P key
-IfAsked Done P = Unit {0}
-IfAsked (BadWords code) P = Unit {0}
-IfAsked (OverMemory node need allowed) P = Unit {0}
-IfAsked ReadFault P = Unit {0}
-IfAsked (BadLoad code) P = Unit {0}
-IfAsked WriteFault P = Unit {0}
-IfAsked (BadChunk key got want) P = Unit {0}
-IfAsked (NotBuilt node) P = Unit {0}
-IfAsked NoMemory P = Unit {0}
+-- The record is held, or nothing else of the plan was put.
+abbrev pub IsRecordFirst : RunCase → Job → Elements → Type 0
+IsRecordFirst c job env = HoldsPiece (job_run c job) env (Text 0) c.new.depot ⊎ Stepped (RecordPut c job) c.old.depot c.new.depot
 
--- a fact of the key in the way, where that is the answer
-abbrev pub IfExists : Status → (List ℕ → Type 0) → Type 0
-IfExists (Exists key) P = P key
-IfExists (BadMeta name code) P = Unit {0}
-IfExists (NoArray name) P = Unit {0}
-IfExists (TaskFailed op task) P = Unit {0}
-IfExists Done P = Unit {0}
-IfExists (BadWords code) P = Unit {0}
-IfExists (OverMemory node need allowed) P = Unit {0}
-IfExists ReadFault P = Unit {0}
-IfExists (BadLoad code) P = Unit {0}
-IfExists WriteFault P = Unit {0}
-IfExists (BadChunk key got want) P = Unit {0}
-IfExists (DepotFailed key) P = Unit {0}
-IfExists (NotBuilt node) P = Unit {0}
-IfExists NoMemory P = Unit {0}
+-- It was accepted and has a plan, and its output is no input. No key of the plan was held, nothing but values was put
+-- under these keys, and each of them is absent or holds its one value.
+pub record IsStarted (c : RunCase) (job : Job) : Type 0 where
+  pub accepted : IsAccepted c job
+  pub planned : HasPlan c.options job
+  pub sound : Sound (plan_in c job)
+  pub room : IsLentWithin (plan_in c job)
+  pub own : IsApart job.expr
+  pub apart : KeysApart (job_run c job)
+  pub free : (entry : Contents) → c.old.depot.held ≡ Some entry → All (IsFree entry) (keys_of c.options job)
+  pub step : Stepped (RunChange (job_run c job) c.old.depot) c.old.depot c.new.depot
+  pub left : WhereQuiet c job (λ env. IsLeft (job_run c job) env c.new.depot)
+  pub first : WhereQuiet c job (IsRecordFirst c job)
 
--- ---- inputs
+-- such a run, with a fact of its job
+abbrev pub Started : RunCase → (Job → Type 0) → Type 0
+Started c fact = (job : Job) × IsStarted c job × fact job
 
--- a fact of the answer that something isn't built
-abbrev pub IfNotBuilt : Status → Type 0 → Type 0
-IfNotBuilt (NotBuilt node) P = (node ≡ 0) × P
-IfNotBuilt Done P = Unit {0}
-IfNotBuilt (BadWords code) P = Unit {0}
-IfNotBuilt (OverMemory node need allowed) P = Unit {0}
-IfNotBuilt (Exists key) P = Unit {0}
-IfNotBuilt (BadMeta name code) P = Unit {0}
-IfNotBuilt (NoArray name) P = Unit {0}
-IfNotBuilt (TaskFailed op task) P = Unit {0}
-IfNotBuilt ReadFault P = Unit {0}
-IfNotBuilt (BadLoad code) P = Unit {0}
-IfNotBuilt WriteFault P = Unit {0}
-IfNotBuilt (BadChunk key got want) P = Unit {0}
-IfNotBuilt (DepotFailed key) P = Unit {0}
-IfNotBuilt NoMemory P = Unit {0}
+-- both texts are held
+abbrev pub HoldsBoth : RunCase → Job → Type 0
+HoldsBoth c job = WhereQuiet c job (λ env. HoldsTexts (job_run c job) env c.new.depot)
 
--- the metadata key of an input
-abbrev pub IsMetadataKey : ArrayNames → List ℕ → Type 0
-IsMetadataKey names key = (key ≡ metadata_key_of names.left) ⊎ (key ≡ metadata_key_of names.right)
+-- ---- the output
 
--- each put that is late on an input's metadata carries what is held there
-abbrev pub IsCalmMetadata : ArrayNames → Contents → List Write → Type 0
-IsCalmMetadata names entry late = (key bytes : List ℕ) → IsAmong late key bytes → IsMetadataKey names key → entry key ≡ Some bytes
+-- the element of the array that an input node uses, by what was held; 0 where it has none, and for any other node
+abbrev pub form_element : Job → Contents → List ℕ → Form → ℤ
+form_element job entry idx (Form.Input name) = unwrap_or (stored_element (layout_view (layout_named job.inputs.items name)) name entry idx) (pos 0)
+form_element job entry idx form = pos 0
 
--- this is the name of one of the inputs
-abbrev pub IsInputName : ArrayNames → List ℕ → Type 0
-IsInputName names name = (name ≡ names.left) ⊎ (name ≡ names.right)
+abbrev pub used_element : Job → Contents → List ℕ → Option Node → ℤ
+used_element job entry idx (Some node) = form_element job entry idx node.form
+used_element job entry idx None = pos 0
 
--- the metadata of this input is held, and is refused with this code
-abbrev pub IsRefusedInput : ArrayNames → Option Contents → List ℕ → ℕ → Type 0
-IsRefusedInput names held name code = IsInputName names name × HoldsRefused held (metadata_key_of name) code
+-- the elements of the input nodes
+abbrev pub elements_of : Job → Contents → NodeElements
+elements_of job entry k idx = used_element job entry idx (slice_get job.expr.nodes k)
 
--- this input has no metadata
-abbrev pub IsMissingInput : ArrayNames → Option Contents → List ℕ → Type 0
-IsMissingInput names held name = IsInputName names name × IsGone held (metadata_key_of name)
+-- Each stored element of the output is what the expression means there, over the elements that the inputs had.
+abbrev pub IsMeant : Job → Contents → Contents → Type 0
+IsMeant job entry now = (idx : List ℕ) → IsInside (shape_at job.types job.expr.out) idx
+    → stored_element (layout_view (out_layout job)) job.expr.store_as now idx ≡ Some (meaning_of job.expr job.types (elements_of job entry) job.expr.out idx)
 
--- Inputs are read in their order: this is the first one's name, or the first one had metadata when the call began.
-abbrev pub IsInOrder : ArrayNames → Contents → List Write → List ℕ → Type 0
-IsInOrder names entry late name = (name ≡ names.left) ⊎ (IsCalmMetadata names entry late → (l : Layout) × HasMetadata entry names.left l)
+-- each key of the plan holds its one value, and the output is what the expression means
+abbrev pub HoldsAll : RunCase → Job → Type 0
+HoldsAll c job = WhereQuiet c job (λ env. IsComplete (job_run c job) env c.new.depot)
+    × ((entry now : Contents) → c.old.depot.held ≡ Some entry → IsQuietEntry c job entry → c.new.depot.held ≡ Some now → IsMeant job entry now)
 
--- a fact of the name of the input that is missing or refused, or for whose metadata the calls failed
-abbrev pub IfInput : Status → (List ℕ → Type 0) → Type 0
-IfInput (BadMeta name code) P = P name
-IfInput (NoArray name) P = P name
-IfInput Done P = Unit {0}
-IfInput (BadWords code) P = Unit {0}
-IfInput (OverMemory node need allowed) P = Unit {0}
-IfInput (Exists key) P = Unit {0}
-IfInput (TaskFailed op task) P = Unit {0}
-IfInput ReadFault P = Unit {0}
-IfInput (BadLoad code) P = Unit {0}
-IfInput WriteFault P = Unit {0}
-IfInput (BadChunk bad got want) P = Unit {0}
-IfInput (DepotFailed key) P = (name : List ℕ) × (key ≡ metadata_key_of name) × P name
-IfInput (NotBuilt node) P = Unit {0}
-IfInput NoMemory P = Unit {0}
+-- So many tries of tasks failed, each of which raised the count of the depot's faults; a task that was finished had at most as many of them as
+-- it is tried again. With a fact of the line that reports them.
+abbrev pub Counted : RunCase → Job → (List ℕ → Type 0) → Type 0
+Counted c job fact = (failed : ℕ) × Rose failed c.old.depot.faults c.new.depot.faults × (failed ≤ c.options.retries * task_count (plan_in c job)) × fact (report_line (plan_in c job) failed)
 
--- why reading the metadata of the inputs ends
-abbrev pub IsInputFault : ℕ → ArrayNames → ℕ → ℕ → Option Contents → Status → Type 0
-IsInputFault tries names before after held (DepotFailed key) = ((key ≡ metadata_key_of names.left) ⊎ (key ≡ metadata_key_of names.right)) × Rose tries before after
-IsInputFault tries names before after held (BadMeta name code) = IsRefusedInput names held name code
-IsInputFault tries names before after held (NoArray name) = IsMissingInput names held name
-IsInputFault tries names before after held (NotBuilt node) = node ≡ 0
-IsInputFault tries names before after held NoMemory = Unit {0}
-IsInputFault tries names before after held Done = ⊥
-IsInputFault tries names before after held (BadWords code) = ⊥
-IsInputFault tries names before after held (OverMemory node need allowed) = ⊥
-IsInputFault tries names before after held (Exists key) = ⊥
-IsInputFault tries names before after held (TaskFailed op task) = ⊥
-IsInputFault tries names before after held ReadFault = ⊥
-IsInputFault tries names before after held (BadLoad code) = ⊥
-IsInputFault tries names before after held WriteFault = ⊥
-IsInputFault tries names before after held (BadChunk bad got want) = ⊥
+-- the first n bytes of the line were written
+abbrev pub WroteTo : RunCase → List ℕ → ℕ → Type 0
+WroteTo c line n = WroteFront c.old.sink.told c.new.sink.told line n
 
--- each put that is late on the record's key carries this text
-abbrev pub IsCalmRecord : Job → List Write → List ℕ → Type 0
-IsCalmRecord job late text = (bytes : List ℕ) → IsAmong late (record_key_of job.names.out) bytes → bytes ≡ text
+-- ---- the answers
 
--- The premise of a run: no write of another content of an input, or of another value of the plan, is still to land. It is said of
--- the sizes that both inputs have.
-pub record IsCalm (names : ArrayNames) (texts : Job → List ℕ) (entry : Contents) (late : List Write) : Type 0 where
-  pub metadata : IsCalmMetadata names entry late
-  pub jobs : (job : Job) → HasNames names job → HasInputs job entry → IsQuiet job entry late
-  pub records : (job : Job) → HasNames names job → HasInputs job entry → IsCalmRecord job late (texts job)
+-- 0: the output is complete, and the whole line was written
+abbrev pub IsDone : RunCase → Type 0
+IsDone c = Started c (λ job. HoldsAll c job × Counted c job (λ line. WroteTo c line (length line)))
 
--- both inputs have metadata, of layouts that can't be added, where the contents are told
-abbrev pub AreUnlike : ArrayNames → Contents → List Write → Type 0
-AreUnlike names entry late = IsCalmMetadata names entry late → (left : Layout) × (right : Layout) × HasMetadata entry names.left left × HasMetadata entry names.right right × (AreAddable left right → ⊥)
+-- 12: the output is complete, the sink failed, and a front of the line was written
+abbrev pub IsUnreported : RunCase → Type 0
+IsUnreported c = Rose 1 c.old.sink.faults c.new.sink.faults
+    × Started c (λ job. HoldsAll c job × Counted c job (λ line. (n : ℕ) × (n ≤ length line) × WroteTo c line n))
 
--- ---- the report
+-- one of the texts is put
+abbrev pub TextPut : RunCase → Job → Changes
+TextPut c job key value = RecordPut c job key value ⊎ PutOf (metadata_key_of job.expr.store_as) (out_metadata job) key value
 
--- `ok ops=1 tasks=T starts=S failed=F peak=P`, with a line feed: a task that failed is started once more
-unfoldable pub report_line : Options → Job → ℕ → List ℕ
-report_line options job failed = codes "ok ops=1 tasks=" ++ decimal (chunks_of job) ++ codes " starts=" ++ decimal (chunks_of job + failed) ++ codes " failed=" ++ decimal failed ++ codes " peak=" ++ decimal (need_of options job) ++ 10 ∷ []
+-- From a moment at which nothing but the texts had been put, the tasks before this one alone were run, and then this one alone, until each
+-- of its tries had failed.
+abbrev pub HasNoTriesLeft : RunCase → Job → ℕ → ℕ → Type 0
+HasNoTriesLeft c job op task = (begin : Shown) × Stepped (TextPut c job) c.old.depot begin × IsUsedUp (plan_in c job) (c.options.retries + 1) begin c.new.depot op task
 
--- ---- storing the output
+-- 10: all tries of this task of this operation failed, and its chunks were absent when the run began. Where the contents were told and the
+-- premise holds, the texts are held, and the tasks before it are done.
+abbrev pub IsTaskFailed : RunCase → ℕ → ℕ → Type 0
+IsTaskFailed c op task = Rose (c.options.retries + 1) c.old.depot.faults c.new.depot.faults
+    × Started c (λ job. (op < length (plan_in c job).ops) × (task < tasks_of (plan_in c job).arrays (op_of (plan_in c job) op))
+    × ((entry : Contents) (k : Cell) → c.old.depot.held ≡ Some entry → Contains (written_chunks (plan_in c job).arrays (op_of (plan_in c job) op) task) k
+    → entry (key_of (plan_in c job).arrays k) ≡ None)
+    × HoldsBoth c job × WhereQuiet c job (λ env. AreDone (chunks_alone (plan_in c job)) env op task c.new.depot) × HasNoTriesLeft c job op task)
 
--- each key of the output holds its one value, where the contents are told
-abbrev pub StoresOutput : Job → Contents → Option Contents → Type 0
-StoresOutput job entry None = Unit {0}
-StoresOutput job entry (Some held) = IsComplete job entry held
+-- 13: this chunk, which a task reads, holds `got` bytes and not the `want` bytes of a chunk. Where the contents were told and the premise
+-- holds, it is an input's, and the texts are held.
+abbrev pub IsBadInput : RunCase → List ℕ → ℕ → ℕ → Type 0
+IsBadInput c key got want = Started c (λ job. IsBadChunk (plan_in c job) c.new.depot key got want × HoldsBoth c job × WhereQuiet c job (λ env. IsInputKey (plan_in c job) key))
 
--- each key of the plan holds its one value, where the contents are told
-pub record Completes (job : Job) (text : List ℕ) (entry : Contents) (held : Option Contents) : Type 0 where
-  pub record_held : Holds held (record_key_of job.names.out) text
-  pub output : StoresOutput job entry held
+-- The calls for the record failed, and nothing but it was put; or those for the output's metadata, the record is held, and nothing but both
+-- was put.
+abbrev pub IsUnstored : RunCase → Job → List ℕ → Type 0
+IsUnstored c job key = ((key ≡ record_key_of job.expr.store_as) ⊎ (key ≡ metadata_key_of job.expr.store_as)) × Stepped (TextPut c job) c.old.depot c.new.depot
+    × WhereQuiet c job (λ env. ((key ≡ record_key_of job.expr.store_as) × Stepped (RecordPut c job) c.old.depot c.new.depot)
+    ⊎ ((key ≡ metadata_key_of job.expr.store_as) × HoldsPiece (job_run c job) env (Text 0) c.new.depot))
 
--- Of the plan nothing but the record was written, or the record is held.
-abbrev pub IsRecordFirst : Job → List ℕ → Contents → List Write → Option Contents → List Write → Type 0
-IsRecordFirst job text entry late held now_late =
-    Holds held (record_key_of job.names.out) text ⊎ Follows (record_write job text ∷ late) (Some entry) held now_late
+-- reading the text, the inputs and the types ended so, and nothing was stored
+abbrev pub HasNoJob : RunCase → JobFault → Type 0
+HasNoJob c f = IsSpared c × IsJobFault (c.options.retries + 1) c.text c.old.depot c.new.depot f
 
--- why storing the plan's values ends: the record or the output's metadata wasn't stored, or a task ended the run
-abbrev pub IsStoreFault : ℕ → Job → ℕ → ℕ → Option Contents → Status → Type 0
-IsStoreFault tries job before after held (DepotFailed key) = ((key ≡ record_key_of job.names.out) ⊎ (key ≡ metadata_key_of job.names.out)) × Rose tries before after
-IsStoreFault tries job before after held (BadMeta name code) = ⊥
-IsStoreFault tries job before after held (NoArray name) = ⊥
-IsStoreFault tries job before after held (TaskFailed op task) = (op ≡ 0) × (task < chunks_of job) × Rose tries before after
-IsStoreFault tries job before after held (BadChunk key got want) = IsBad held key got want job
-IsStoreFault tries job before after held NoMemory = Unit {0}
-IsStoreFault tries job before after held Done = ⊥
-IsStoreFault tries job before after held (BadWords code) = ⊥
-IsStoreFault tries job before after held (OverMemory node need allowed) = ⊥
-IsStoreFault tries job before after held (Exists key) = ⊥
-IsStoreFault tries job before after held ReadFault = ⊥
-IsStoreFault tries job before after held (BadLoad code) = ⊥
-IsStoreFault tries job before after held WriteFault = ⊥
-IsStoreFault tries job before after held (NotBuilt node) = ⊥
+-- 3 and 4: the text is no expression, or the expression has no types
+abbrev pub IsBadExpr : RunCase → ℕ → ℕ → Type 0
+IsBadExpr c code node = HasNoJob c (fault.Expression code node)
 
--- a fact of the task that an answer names
-abbrev pub IfTaskFailed : Status → (ℕ → ℕ → Type 0) → Type 0
-IfTaskFailed (TaskFailed op task) P = P op task
-IfTaskFailed (DepotFailed key) P = Unit {0}
-IfTaskFailed Done P = Unit {0}
-IfTaskFailed (BadWords code) P = Unit {0}
-IfTaskFailed (OverMemory node need allowed) P = Unit {0}
-IfTaskFailed (BadMeta name code) P = Unit {0}
-IfTaskFailed (NoArray name) P = Unit {0}
-IfTaskFailed (Exists key) P = Unit {0}
-IfTaskFailed ReadFault P = Unit {0}
-IfTaskFailed (BadLoad code) P = Unit {0}
-IfTaskFailed WriteFault P = Unit {0}
-IfTaskFailed (BadChunk bad got want) P = Unit {0}
-IfTaskFailed (NotBuilt node) P = Unit {0}
-IfTaskFailed NoMemory P = Unit {0}
+abbrev pub IsBadType : RunCase → ℕ → ℕ → Type 0
+IsBadType c code node = HasNoJob c (fault.Typing code node)
 
--- a fact of the answers that a task gives
-abbrev pub IfTaskEnded : Status → Type 0 → Type 0
-IfTaskEnded (TaskFailed op task) P = P
-IfTaskEnded (BadChunk bad got want) P = P
-IfTaskEnded (DepotFailed key) P = Unit {0}
-IfTaskEnded Done P = Unit {0}
-IfTaskEnded (BadWords code) P = Unit {0}
-IfTaskEnded (OverMemory node need allowed) P = Unit {0}
-IfTaskEnded (BadMeta name code) P = Unit {0}
-IfTaskEnded (NoArray name) P = Unit {0}
-IfTaskEnded (Exists key) P = Unit {0}
-IfTaskEnded ReadFault P = Unit {0}
-IfTaskEnded (BadLoad code) P = Unit {0}
-IfTaskEnded WriteFault P = Unit {0}
-IfTaskEnded (NotBuilt node) P = Unit {0}
-IfTaskEnded NoMemory P = Unit {0}
+-- 8 and 7: this input had no metadata when the run began, or metadata that is refused with this code
+abbrev pub IsMissing : RunCase → List ℕ → Type 0
+IsMissing c name = HasNoJob c (fault.NoArray name)
 
--- the output's metadata, as a write
-abbrev pub metadata_write : Job → Write
-metadata_write job = (metadata_key_of job.names.out, out_metadata job)
+abbrev pub IsRefused : RunCase → List ℕ → ℕ → Type 0
+IsRefused c name code = HasNoJob c (fault.BadMeta name code)
 
--- the record and the output's metadata, as writes
-abbrev pub first_writes : Job → List ℕ → List Write
-first_writes job text = metadata_write job ∷ record_write job text ∷ []
+-- 16: all calls for this key failed. Nothing was stored, and the key is that of an input's metadata in its turn, or one of the plan's, before which
+-- the others were found absent; or the run was started, and the key is that of one of its texts.
+abbrev pub IsDepotFailed : RunCase → List ℕ → Type 0
+IsDepotFailed c key = Rose (c.options.retries + 1) c.old.depot.faults c.new.depot.faults
+    × (HasNoJob c (fault.DepotFailed key) ⊎ ((IsSpared c × OfPlanned c (λ job. IsFirstOf c.old.depot (keys_of c.options job) key)) ⊎ Started c (λ job. IsUnstored c job key)))
 
--- A key's calls failed once the run was started: the record's, and of the plan it alone was written, or the metadata's, and the record is held
--- and both alone were written.
-abbrev pub IsFirstFailed : Job → List ℕ → Contents → List Write → Option Contents → List Write → List ℕ → Type 0
-IsFirstFailed job text entry late held now_late key =
-    ((key ≡ record_key_of job.names.out) × Follows (record_write job text ∷ late) (Some entry) held now_late)
-    ⊎ ((key ≡ metadata_key_of job.names.out) × Holds held (record_key_of job.names.out) text × Follows (first_writes job text ++ late) (Some entry) held now_late)
+-- 19, 5 and 6: the job has no plan
+abbrev pub HasNoPlan : RunCase → Status → Type 0
+HasNoPlan c status = IsSpared c × OfJob c (λ job. IsUnplanned c.options job status)
 
--- a fact of the key whose calls failed once the run was started
-abbrev pub IfDepotFailed : Status → (List ℕ → Type 0) → Type 0
-IfDepotFailed (DepotFailed key) P = P key
-IfDepotFailed (BadMeta name code) P = Unit {0}
-IfDepotFailed (NoArray name) P = Unit {0}
-IfDepotFailed (TaskFailed op task) P = Unit {0}
-IfDepotFailed Done P = Unit {0}
-IfDepotFailed (BadWords code) P = Unit {0}
-IfDepotFailed (OverMemory node need allowed) P = Unit {0}
-IfDepotFailed (Exists key) P = Unit {0}
-IfDepotFailed ReadFault P = Unit {0}
-IfDepotFailed (BadLoad code) P = Unit {0}
-IfDepotFailed WriteFault P = Unit {0}
-IfDepotFailed (BadChunk bad got want) P = Unit {0}
-IfDepotFailed (NotBuilt node) P = Unit {0}
-IfDepotFailed NoMemory P = Unit {0}
+-- 9: this key of the plan is the first that is in the way
+abbrev pub IsBlocked : RunCase → List ℕ → Type 0
+IsBlocked c key = IsSpared c × OfPlanned c (λ job. IsFirstOf c.old.depot (keys_of c.options job) key × IsInWay job.expr c.new.depot key × IsOwnFirst job.expr key)
+
+-- 70: nothing was stored, or the run was started
+abbrev pub IsWanting : RunCase → Type 0
+IsWanting c = IsSpared c ⊎ Started c (λ job. Unit {0})
+
+-- what a run answers
+abbrev pub Ran : RunCase → Status → Type 0
+Ran c Done = IsDone c
+Ran c WriteFault = IsUnreported c
+Ran c (TaskFailed op task) = IsTaskFailed c op task
+Ran c (BadChunk key got want) = IsBadInput c key got want
+Ran c (DepotFailed key) = IsDepotFailed c key
+Ran c (OverMemory node need allowed) = HasNoPlan c (OverMemory node need allowed)
+Ran c (OverLimit which count) = HasNoPlan c (OverLimit which count)
+Ran c (NotBuilt node) = HasNoPlan c (NotBuilt node)
+Ran c (Exists key) = IsBlocked c key
+Ran c (NoArray name) = IsMissing c name
+Ran c (BadMeta name code) = IsRefused c name code
+Ran c (BadExpr code node) = IsBadExpr c code node
+Ran c (BadType code node) = IsBadType c code node
+Ran c NoMemory = IsWanting c
+Ran c status = ⊥
+
+-- nothing was printed but by the report
+abbrev pub PrintsOnly : Status → Option (List ℕ) → Option (List ℕ) → Type 0
+PrintsOnly Done old new = Unit {0}
+PrintsOnly WriteFault old new = Unit {0}
+PrintsOnly status old new = new ≡ old
+
+-- ---- what the parts of a run rest on
+
+-- The way is free: the job was accepted and has a plan, its output is no input, no key of the plan is held, and nothing
+-- was stored so far.
+pub record IsCleared (options : Options) (text : List ℕ) (old start : Shown) (job : Job) : Type 0 where
+  pub accepted : IsJob old text job
+  pub planned : HasPlan options job
+  pub own : IsApart job.expr
+  pub free : (entry : Contents) → old.held ≡ Some entry → All (IsFree entry) (keys_of options job)
+  pub spared : Stepped NoChange old start
+
+-- how many tries failed, where all tasks were run; else what the run answers
+abbrev pub failed_of : Result Outcome TextFault → Result ℕ Status
+failed_of (Ok (ended.Complete failed)) = Ok failed
+failed_of (Ok (ended.Broken op task)) = Err (TaskFailed op task)
+failed_of (Ok (ended.BadChunk key got want)) = Err (BadChunk key got want)
+failed_of (Ok ended.Lacked) = Err NoMemory
+failed_of (Err (text.Failed key)) = Err (DepotFailed key)
+failed_of (Err text.NoMemory) = Err NoMemory
+
+-- what storing comes to: how many tries failed in a run whose output is complete, or what the run answers
+abbrev pub Ended : RunCase → Job → Result ℕ Status → Type 0
+Ended c job (Ok failed) = IsStarted c job × HoldsAll c job × Rose failed c.old.depot.faults c.new.depot.faults × (failed ≤ c.options.retries * task_count (plan_in c job))
+Ended c job (Err status) = Ran c status

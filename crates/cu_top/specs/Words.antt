@@ -4,7 +4,7 @@ use Rattle.std.specs.Str.{all_ascii_digits}
 use Rattle.std.specs.Str.Parse.{without_leading_plus, digits_value}
 use Rattle.cu_name.specs.Name.{is_name}
 use Rattle.cu_top.specs.declared.words.Given.{Given}
-use Rattle.cu_top.specs.declared.words.Options.{Options}
+use Rattle.cu_lower.specs.declared.options.Options.{Options}
 
 -- a decimal number as Rust's `u64::from_str` reads it: one digit or more, which a plus may lead
 abbrev pub is_number : List ℕ → Bool

@@ -1,97 +1,112 @@
-//! The keys that would be in the way of a run.
-ghost use Rattle.std.specs.Prelude.{◌≡◌, ◌⊎◌, ℕ, ◌+◌, ◌<◌, ◌≤◌, List, Option, Some, IfErr, OnOk, true, false};
-ghost use Rattle.cu_store.specs.Held.{Contents, Write, Follows};
-ghost use Rattle.cu_top.specs.Job.{IsJob, IsFree, chunks_of, key_of_chunk, out_array};
-ghost use Rattle.cu_top.specs.Run.{IsPlanFree, IsFirstOfOut, IsFirstInWay, IsAskFault, IfAsked, IfExists, IsApart, IsOwnFirst, IsOwnInput};
+//! The keys of the plan that would be in the way of a run.
+ghost use Rattle.std.specs.Prelude.{◌≡◌, ◌+◌, IfErr, OnOk, All, Some, true, false};
+ghost use Rattle.cu_store.specs.Held.{Contents};
+ghost use Rattle.cu_store.specs.Steps.{NoChange, Steps};
+ghost use Rattle.cu_command.specs.Seen.{Stepped};
+ghost use Rattle.cu_lower.specs.declared.options.Options.{Options};
+ghost use Rattle.cu_name.specs.Keys.{record_key_of};
+ghost use Rattle.cu_work.specs.Order.{IsFree};
+ghost use Rattle.cu_zarr.specs.Key.{metadata_key_of};
+ghost use Rattle.cu_top.specs.Ask.{IsAskEnd, answer_of};
+ghost use Rattle.cu_top.specs.Prepare.{reads_array, is_own_input, IsApart, keys_of, job_plan};
 
-use crate::job::Job;
-use cu_codec::{chunk_key, metadata_key};
-use cu_command::{Status, ask_key};
-use cu_name::record_key;
-use cu_shape::index_of;
-use cu_store::{Depot, Key};
+use cu_codec::metadata_key;
+use cu_command::{Job, Status};
+use cu_form::{Expr, Form};
+use cu_name::{IdText, key_of_name, record_key};
+use cu_op::Plan;
+use cu_store::{Depot, DepotFault, Key, has_tries};
+use cu_work::{WayFault, ask_keys};
+
+/// The keys of the two texts that a run stores.
+#[derive(Clone, Copy)]
+pub struct TextKeys {
+    /// The key of the plan's record.
+    pub record: Key,
+    /// The key of the output's metadata.
+    pub metadata: Key,
+}
+
+/// The keys of the texts of an expression's plan.
+pub fn text_keys(expr: &Expr) -> TextKeys
+    ensures record { result.«record» ≡ record_key_of expr.now.store_as }
+    ensures metadata { result.metadata ≡ metadata_key_of expr.now.store_as }
+{
+    let name = key_of_name(expr.store_as());
+    TextKeys {
+        record: record_key(&name),
+        metadata: metadata_key(&name),
+    }
+}
+
+/// Whether a node of this form reads the array with this name.
+fn reads_array(name: &IdText, form: &Form) -> bool
+    ensures { result ≡ reads_array name.now form.now }
+{
+    match form {
+        Form::Input { name: used } => used.text().as_bytes() == name.text().as_bytes(),
+        _ => false,
+    }
+}
 
 /// Whether the output is one of the inputs.
-fn is_own_input(job: &Job) -> bool
-    ensures own { result ≡ true → IsOwnInput job.now }
-    ensures apart { result ≡ false → IsApart job.now }
+fn is_own_input(expr: &Expr) -> bool
+    ensures { result ≡ is_own_input expr.now }
 {
-    job.names.out.is(&job.names.left) || job.names.out.is(&job.names.right)
-}
-
-/// The key of chunk `number` of the output, chunks counted row-major.
-fn key_of(job: &Job, number: u64) -> Key
-    requires job { IsJob job.now }
-    requires number { number < chunks_of job.now }
-    ensures { result ≡ key_of_chunk (out_array job.now) number }
-{
-    let made = job.made();
-    let coord = index_of(&made.grid.counts(), number);
-    chunk_key(&job.names.out, made.encoding, &coord)
-}
-
-/// Asks for the keys of the plan, the record's first and then those of the output, and refuses the first that is held.
-pub fn ask_keys<D: Depot>(depot: &mut D, job: &Job, retries: u32) -> Result<(), Status>
-    requires { IsJob job.now }
-    ensures free { (writes : List Write) (entry : Contents)
-        → Follows writes (Some entry) (D.shown depot.old).held (D.shown depot.old).late → OnOk result (IsPlanFree job.now entry) }
-    ensures first { (writes : List Write) (entry : Contents)
-        → Follows writes (Some entry) (D.shown depot.old).held (D.shown depot.old).late → IfErr result (λ status. IfAsked status (IsFirstInWay job.now entry)) }
-    ensures apart { OnOk result (IsApart job.now) }
-    ensures own { IfErr result (λ status. IfExists status (IsOwnFirst job.now)) }
-    ensures follows { (writes : List Write) (entry : Option Contents)
-        → Follows writes entry (D.shown depot.old).held (D.shown depot.old).late → Follows writes entry (D.shown depot.new).held (D.shown depot.new).late }
-    ensures cause { IfErr result (IsAskFault (retries + 1) job.now (D.shown depot.old).faults (D.shown depot.new).faults (D.shown depot.new).lacks (D.shown depot.new).held) }
-    ensures count { (D.shown depot.old).faults ≤ (D.shown depot.new).faults }
-    ensures lacks { (D.shown depot.new).lacks ≡ (D.shown depot.old).lacks }
-{
-    let record = record_key(&job.names.out);
-    let held = match ask_key(depot, &record, retries) {
-        Ok(held) => held,
-        Err(status) => return Err(status),
-    };
-    if held {
-        return Err(Status::Exists { key: record });
-    }
-    ask_output(depot, job, retries)
-}
-
-/// Asks for the keys of the output, the metadata first and then the chunks in order, and refuses the first that is held.
-/// The metadata of an output that is also an input counts as held.
-fn ask_output<D: Depot>(depot: &mut D, job: &Job, retries: u32) -> Result<(), Status>
-    requires { IsJob job.now }
-    ensures free { (writes : List Write) (entry : Contents)
-        → Follows writes (Some entry) (D.shown depot.old).held (D.shown depot.old).late → OnOk result (IsFree job.now entry) }
-    ensures first { (writes : List Write) (entry : Contents)
-        → Follows writes (Some entry) (D.shown depot.old).held (D.shown depot.old).late → IfErr result (λ status. IfAsked status (IsFirstOfOut job.now entry)) }
-    ensures apart { OnOk result (IsApart job.now) }
-    ensures own { IfErr result (λ status. IfExists status (IsOwnFirst job.now)) }
-    ensures follows { (writes : List Write) (entry : Option Contents)
-        → Follows writes entry (D.shown depot.old).held (D.shown depot.old).late → Follows writes entry (D.shown depot.new).held (D.shown depot.new).late }
-    ensures cause { IfErr result (IsAskFault (retries + 1) job.now (D.shown depot.old).faults (D.shown depot.new).faults (D.shown depot.new).lacks (D.shown depot.new).held) }
-    ensures count { (D.shown depot.old).faults ≤ (D.shown depot.new).faults }
-    ensures lacks { (D.shown depot.new).lacks ≡ (D.shown depot.old).lacks }
-{
-    let metadata = metadata_key(&job.names.out);
-    if is_own_input(job) {
-        return Err(Status::Exists { key: metadata });
-    }
-    let held = match ask_key(depot, &metadata, retries) {
-        Ok(held) => held,
-        Err(status) => return Err(status),
-    };
-    if held {
-        return Err(Status::Exists { key: metadata });
-    }
-    for number in 0..job.chunks() {
-        let key = key_of(job, number);
-        let is_held = match ask_key(depot, &key, retries) {
-            Ok(is_held) => is_held,
-            Err(status) => return Err(status),
-        };
-        if is_held {
-            return Err(Status::Exists { key });
+    let nodes = expr.nodes();
+    for k in 0..nodes.len() {
+        if reads_array(expr.store_as(), &nodes[k].form) {
+            return true;
         }
     }
-    Ok(())
+    false
+}
+
+/// Asks for the keys of a plan whose output is one of its inputs. The input's metadata was read, and counts as held: so this ends
+/// at the output's metadata, where it didn't end at the record.
+fn ask_own<D: Depot>(depot: &mut D, job: &Job, retries: u32) -> WayFault
+    requires own { is_own_input job.now.expr ≡ true }
+    ensures step { Steps NoChange 1 (retries + 1) (D.shown depot.old) (D.shown depot.new) }
+    ensures refused { (options : Options) → IsAskEnd (retries + 1) job.now.expr (keys_of options job.now) (D.shown depot.old) (D.shown depot.new) result }
+{
+    let keys = text_keys(&job.expr);
+    match has_tries(depot, &keys.record, retries) {
+        Ok(true) => WayFault::Held(keys.record),
+        Ok(false) => WayFault::Held(keys.metadata),
+        Err(DepotFault::Failed) => WayFault::Failed(keys.record),
+        Err(DepotFault::NoMemory) => WayFault::NoMemory,
+    }
+}
+
+/// Asks for the keys of the plan, the record's first, then the output's metadata's and then those of its chunks, and refuses the first
+/// that is held.
+pub fn ask_plan<D: Depot>(
+    depot: &mut D,
+    job: &Job,
+    plan: &Plan,
+    retries: u32,
+) -> Result<(), WayFault>
+    ensures free { (options : Options) (entry : Contents) → plan.now ≡ job_plan options job.now → (D.shown depot.old).held ≡ Some entry
+        → OnOk result (All (IsFree entry) (keys_of options job.now)) }
+    ensures apart { OnOk result (IsApart job.now.expr) }
+    ensures step { Stepped NoChange (D.shown depot.old) (D.shown depot.new) }
+    ensures refused { (options : Options) → plan.now ≡ job_plan options job.now
+        → IfErr result (IsAskEnd (retries + 1) job.now.expr (keys_of options job.now) (D.shown depot.old) (D.shown depot.new)) }
+{
+    if is_own_input(&job.expr) {
+        return Err(ask_own(depot, job, retries));
+    }
+    let keys = text_keys(&job.expr);
+    ask_keys(plan, depot, &[keys.record, keys.metadata], retries)
+}
+
+/// What a run answers where asking for its keys ended so.
+pub fn answer_of(fault: WayFault) -> Status
+    ensures { result ≡ answer_of fault }
+{
+    match fault {
+        WayFault::Held(key) => Status::Exists { key },
+        WayFault::Failed(key) => Status::DepotFailed { key },
+        WayFault::NoMemory => Status::NoMemory,
+    }
 }

@@ -1,21 +1,23 @@
 //! The program's one call.
-ghost use Rattle.std.specs.Prelude.{◌≡◌, ℕ, ◌^◌, ◌≤◌, List, Some, map, string_bytes};
+ghost use Rattle.std.specs.Prelude.{◌≡◌, ℕ, ◌^◌, ◌≤◌, List, Some, Ok, Err, map, string_bytes};
+ghost use Rattle.cu_read.specs.Read.{expression_of};
+ghost use Rattle.cu_read.specs.declared.faults.ReadFault.{ReadFault as TextFault};
 ghost use Rattle.cu_store.specs.Held.{Contents};
+ghost use Rattle.cu_command.specs.Job.{StoodStill};
 ghost use Rattle.cu_command.specs.Seen.{stream, seen};
 ghost use Rattle.cu_load.specs.Load.{Loaded};
+ghost use Rattle.cu_lower.specs.declared.options.Options.{Options};
 ghost use Rattle.cu_print.specs.Print.{Printed};
-ghost use Rattle.cu_top.specs.Call.{Tells};
-ghost use Rattle.cu_top.specs.Complete.{IsServable, StoodStill, IsServed};
-ghost use Rattle.cu_command.specs.Writes.{IsUntouched};
-ghost use Rattle.cu_top.specs.Top.{RunTells, RanSo, PrintsOnly};
-ghost use Rattle.cu_top.specs.Words.{command_of};
+ghost use Rattle.cu_top.specs.Call.{CameToRun, DidNothing, IsReadFault, IsShort, IsRefusedText, RunTells};
+ghost use Rattle.cu_top.specs.Complete.{IsServable, IsServed};
+ghost use Rattle.cu_top.specs.Run.{scene, IsDone, IsUnreported, IsTaskFailed, IsBadInput, IsDepotFailed, HasNoPlan, IsBlocked, IsMissing, IsRefused, IsBadExpr, IsBadType, PrintsOnly};
+ghost use Rattle.cu_top.specs.Words.{run, load, print, command_of};
 
-use crate::expression::{NotAddition, read_expression};
-use crate::job::names_in;
 use crate::run::run;
-use crate::words::{Asked, Options, read_words};
+use crate::words::{Asked, read_words};
 use cu_command::{ReadRefused, Status, read_all};
 use cu_load::load;
+use cu_lower::Options;
 use cu_name::key_of_name;
 use cu_print::print;
 use cu_store::{Depot, Sink, Source};
@@ -30,15 +32,71 @@ pub fn top<R: Source, W: Sink, D: Depot>(
     out: &mut W,
     depot: &mut D,
 ) -> Status
-    // When each answer comes, and what it leaves.
-    ensures answer { Tells (command_of (map string_bytes words.now)) (IsUntouched (D.shown depot.old).held (D.shown depot.new).held (D.shown depot.old).late (D.shown depot.new).late × (R.left src.new ≡ R.left src.old) × (W.written out.new ≡ W.written out.old))
-        (λ options status. RunTells (R.left src.old) (R.left src.new) (R.faults src.old) (R.faults src.new) (D.shown depot.old).held (D.shown depot.new).held (D.shown depot.old).late (D.shown depot.new).late (RanSo options (D.shown depot.old).held (D.shown depot.new).held (D.shown depot.old).late (D.shown depot.new).late (D.shown depot.old).faults (D.shown depot.new).faults (W.faults out.old) (W.faults out.new) (W.written out.old) (W.written out.new)) status × PrintsOnly status (W.written out.old) (W.written out.new))
-        (λ retries. Loaded retries (stream (R.left src.old) (R.faults src.old)) (stream (R.left src.new) (R.faults src.new)) (seen (stream (W.written out.old) (W.faults out.old)) (D.shown depot.old)) (seen (stream (W.written out.new) (W.faults out.new)) (D.shown depot.new)))
-        (λ name retries status. Printed retries name (seen (stream (W.written out.old) (W.faults out.old)) (D.shown depot.old)) (seen (stream (W.written out.new) (W.faults out.new)) (D.shown depot.new)) status × (R.left src.new ≡ R.left src.old))
-        result }
+    // The words that are refused, and by no other answer's cause.
+    ensures words { (code : ℕ) → command_of (map string_bytes words.now) ≡ Err code → (result ≡ Status.BadWords code) × DidNothing (scene (stream (R.left src.old) (R.faults src.old)) (stream (W.written out.old) (W.faults out.old)) (D.shown depot.old))
+        (scene (stream (R.left src.new) (R.faults src.new)) (stream (W.written out.new) (W.faults out.new)) (D.shown depot.new)) }
+    // What `run` answers, and what it leaves.
+    ensures done { (options : Options) → command_of (map string_bytes words.now) ≡ Ok (run options) → result ≡ Status.Done
+        → CameToRun options (scene (stream (R.left src.old) (R.faults src.old)) (stream (W.written out.old) (W.faults out.old)) (D.shown depot.old))
+        (scene (stream (R.left src.new) (R.faults src.new)) (stream (W.written out.new) (W.faults out.new)) (D.shown depot.new)) IsDone }
+    ensures unreported { (options : Options) → command_of (map string_bytes words.now) ≡ Ok (run options) → result ≡ Status.WriteFault
+        → CameToRun options (scene (stream (R.left src.old) (R.faults src.old)) (stream (W.written out.old) (W.faults out.old)) (D.shown depot.old))
+        (scene (stream (R.left src.new) (R.faults src.new)) (stream (W.written out.new) (W.faults out.new)) (D.shown depot.new)) IsUnreported }
+    ensures task_failed { (options : Options) (op task : ℕ) → command_of (map string_bytes words.now) ≡ Ok (run options) → result ≡ Status.TaskFailed op task
+        → CameToRun options (scene (stream (R.left src.old) (R.faults src.old)) (stream (W.written out.old) (W.faults out.old)) (D.shown depot.old))
+        (scene (stream (R.left src.new) (R.faults src.new)) (stream (W.written out.new) (W.faults out.new)) (D.shown depot.new)) (λ c. IsTaskFailed c op task) }
+    ensures bad_chunk { (options : Options) (key : List ℕ) (got want : ℕ) → command_of (map string_bytes words.now) ≡ Ok (run options) → result ≡ Status.BadChunk key got want
+        → CameToRun options (scene (stream (R.left src.old) (R.faults src.old)) (stream (W.written out.old) (W.faults out.old)) (D.shown depot.old))
+        (scene (stream (R.left src.new) (R.faults src.new)) (stream (W.written out.new) (W.faults out.new)) (D.shown depot.new)) (λ c. IsBadInput c key got want) }
+    ensures depot_failed { (options : Options) (key : List ℕ) → command_of (map string_bytes words.now) ≡ Ok (run options) → result ≡ Status.DepotFailed key
+        → CameToRun options (scene (stream (R.left src.old) (R.faults src.old)) (stream (W.written out.old) (W.faults out.old)) (D.shown depot.old))
+        (scene (stream (R.left src.new) (R.faults src.new)) (stream (W.written out.new) (W.faults out.new)) (D.shown depot.new)) (λ c. IsDepotFailed c key) }
+    ensures not_built { (options : Options) (node : ℕ) → command_of (map string_bytes words.now) ≡ Ok (run options) → result ≡ Status.NotBuilt node
+        → CameToRun options (scene (stream (R.left src.old) (R.faults src.old)) (stream (W.written out.old) (W.faults out.old)) (D.shown depot.old))
+        (scene (stream (R.left src.new) (R.faults src.new)) (stream (W.written out.new) (W.faults out.new)) (D.shown depot.new)) (λ c. HasNoPlan c (Status.NotBuilt node)) }
+    ensures over_memory { (options : Options) (node need allowed : ℕ) → command_of (map string_bytes words.now) ≡ Ok (run options) → result ≡ Status.OverMemory node need allowed
+        → CameToRun options (scene (stream (R.left src.old) (R.faults src.old)) (stream (W.written out.old) (W.faults out.old)) (D.shown depot.old))
+        (scene (stream (R.left src.new) (R.faults src.new)) (stream (W.written out.new) (W.faults out.new)) (D.shown depot.new)) (λ c. HasNoPlan c (Status.OverMemory node need allowed)) }
+    ensures over_limit { (options : Options) (which count : ℕ) → command_of (map string_bytes words.now) ≡ Ok (run options) → result ≡ Status.OverLimit which count
+        → CameToRun options (scene (stream (R.left src.old) (R.faults src.old)) (stream (W.written out.old) (W.faults out.old)) (D.shown depot.old))
+        (scene (stream (R.left src.new) (R.faults src.new)) (stream (W.written out.new) (W.faults out.new)) (D.shown depot.new)) (λ c. HasNoPlan c (Status.OverLimit which count)) }
+    ensures exists { (options : Options) (key : List ℕ) → command_of (map string_bytes words.now) ≡ Ok (run options) → result ≡ Status.Exists key
+        → CameToRun options (scene (stream (R.left src.old) (R.faults src.old)) (stream (W.written out.old) (W.faults out.old)) (D.shown depot.old))
+        (scene (stream (R.left src.new) (R.faults src.new)) (stream (W.written out.new) (W.faults out.new)) (D.shown depot.new)) (λ c. IsBlocked c key) }
+    ensures no_array { (options : Options) (name : List ℕ) → command_of (map string_bytes words.now) ≡ Ok (run options) → result ≡ Status.NoArray name
+        → CameToRun options (scene (stream (R.left src.old) (R.faults src.old)) (stream (W.written out.old) (W.faults out.old)) (D.shown depot.old))
+        (scene (stream (R.left src.new) (R.faults src.new)) (stream (W.written out.new) (W.faults out.new)) (D.shown depot.new)) (λ c. IsMissing c name) }
+    ensures bad_meta { (options : Options) (name : List ℕ) (code : ℕ) → command_of (map string_bytes words.now) ≡ Ok (run options) → result ≡ Status.BadMeta name code
+        → CameToRun options (scene (stream (R.left src.old) (R.faults src.old)) (stream (W.written out.old) (W.faults out.old)) (D.shown depot.old))
+        (scene (stream (R.left src.new) (R.faults src.new)) (stream (W.written out.new) (W.faults out.new)) (D.shown depot.new)) (λ c. IsRefused c name code) }
+    ensures bad_expr { (options : Options) (code node : ℕ) → command_of (map string_bytes words.now) ≡ Ok (run options) → result ≡ Status.BadExpr code node
+        → CameToRun options (scene (stream (R.left src.old) (R.faults src.old)) (stream (W.written out.old) (W.faults out.old)) (D.shown depot.old))
+        (scene (stream (R.left src.new) (R.faults src.new)) (stream (W.written out.new) (W.faults out.new)) (D.shown depot.new)) (λ c. IsBadExpr c code node) }
+    ensures bad_type { (options : Options) (code node : ℕ) → command_of (map string_bytes words.now) ≡ Ok (run options) → result ≡ Status.BadType code node
+        → CameToRun options (scene (stream (R.left src.old) (R.faults src.old)) (stream (W.written out.old) (W.faults out.old)) (D.shown depot.old))
+        (scene (stream (R.left src.new) (R.faults src.new)) (stream (W.written out.new) (W.faults out.new)) (D.shown depot.new)) (λ c. IsBadType c code node) }
+    // A text that is no expression is refused, with its first fault.
+    ensures refused_text { (options : Options) (text : List ℕ) (fault : TextFault) → command_of (map string_bytes words.now) ≡ Ok (run options) → R.left src.old ≡ Some text
+        → expression_of text ≡ Err fault → IsRefusedText fault result }
+    ensures read_fault { (options : Options) → command_of (map string_bytes words.now) ≡ Ok (run options) → result ≡ Status.ReadFault
+        → IsReadFault (scene (stream (R.left src.old) (R.faults src.old)) (stream (W.written out.old) (W.faults out.old)) (D.shown depot.old))
+        (scene (stream (R.left src.new) (R.faults src.new)) (stream (W.written out.new) (W.faults out.new)) (D.shown depot.new)) }
+    ensures no_memory { (options : Options) → command_of (map string_bytes words.now) ≡ Ok (run options) → result ≡ Status.NoMemory
+        → IsShort options (scene (stream (R.left src.old) (R.faults src.old)) (stream (W.written out.old) (W.faults out.old)) (D.shown depot.old))
+        (scene (stream (R.left src.new) (R.faults src.new)) (stream (W.written out.new) (W.faults out.new)) (D.shown depot.new)) }
+    // No other answer comes, and the table of all of them.
+    ensures runs { (options : Options) → command_of (map string_bytes words.now) ≡ Ok (run options) → RunTells options (scene (stream (R.left src.old) (R.faults src.old)) (stream (W.written out.old) (W.faults out.old)) (D.shown depot.old))
+        (scene (stream (R.left src.new) (R.faults src.new)) (stream (W.written out.new) (W.faults out.new)) (D.shown depot.new)) result }
+    ensures prints { (options : Options) → command_of (map string_bytes words.now) ≡ Ok (run options) → PrintsOnly result (W.written out.old) (W.written out.new) }
     // Where a run is accepted, nothing is in the way and no count of faults rises, it is carried out, or memory is wanted.
-    ensures complete { (text : List ℕ) (entry : Contents) → R.left src.old ≡ Some text → (D.shown depot.old).held ≡ Some entry → IsServable (map string_bytes words.now) text entry (D.shown depot.old).late
+    ensures complete { (text : List ℕ) (entry : Contents) → R.left src.old ≡ Some text → (D.shown depot.old).held ≡ Some entry → IsServable (map string_bytes words.now) text entry (D.shown depot.old)
         → StoodStill (R.faults src.old) (R.faults src.new) → StoodStill (W.faults out.old) (W.faults out.new) → StoodStill (D.shown depot.old).faults (D.shown depot.new).faults → IsServed result }
+    // What `load` and `print` answer, and what they leave.
+    ensures loads { (retries : ℕ) → command_of (map string_bytes words.now) ≡ Ok (load retries) → Loaded retries (stream (R.left src.old) (R.faults src.old)) (stream (R.left src.new) (R.faults src.new))
+        (seen (stream (W.written out.old) (W.faults out.old)) (D.shown depot.old)) (seen (stream (W.written out.new) (W.faults out.new)) (D.shown depot.new)) result }
+    ensures print_kept { (name : List ℕ) (retries : ℕ) → command_of (map string_bytes words.now) ≡ Ok (print name retries) → R.left src.new ≡ R.left src.old }
+    ensures prints_array { (name : List ℕ) (retries : ℕ) → command_of (map string_bytes words.now) ≡ Ok (print name retries)
+        → Printed retries name (seen (stream (W.written out.old) (W.faults out.old)) (D.shown depot.old)) (seen (stream (W.written out.new) (W.faults out.new)) (D.shown depot.new)) result }
 {
     carry(alloc, words, src, out, depot)
 }
@@ -51,19 +109,23 @@ fn carry<R: Source, W: Sink, D: Depot>(
     out: &mut W,
     depot: &mut D,
 ) -> Status
-    // When each answer comes, and what it leaves.
-    ensures answer { Tells (command_of (map string_bytes words.now)) (IsUntouched (D.shown depot.old).held (D.shown depot.new).held (D.shown depot.old).late (D.shown depot.new).late × (R.left src.new ≡ R.left src.old) × (W.written out.new ≡ W.written out.old))
-        (λ options status. RunTells (R.left src.old) (R.left src.new) (R.faults src.old) (R.faults src.new) (D.shown depot.old).held (D.shown depot.new).held (D.shown depot.old).late (D.shown depot.new).late (RanSo options (D.shown depot.old).held (D.shown depot.new).held (D.shown depot.old).late (D.shown depot.new).late (D.shown depot.old).faults (D.shown depot.new).faults (W.faults out.old) (W.faults out.new) (W.written out.old) (W.written out.new)) status × PrintsOnly status (W.written out.old) (W.written out.new))
-        (λ retries. Loaded retries (stream (R.left src.old) (R.faults src.old)) (stream (R.left src.new) (R.faults src.new)) (seen (stream (W.written out.old) (W.faults out.old)) (D.shown depot.old)) (seen (stream (W.written out.new) (W.faults out.new)) (D.shown depot.new)))
-        (λ name retries status. Printed retries name (seen (stream (W.written out.old) (W.faults out.old)) (D.shown depot.old)) (seen (stream (W.written out.new) (W.faults out.new)) (D.shown depot.new)) status × (R.left src.new ≡ R.left src.old))
-        result }
+    ensures words { (code : ℕ) → command_of (map string_bytes words.now) ≡ Err code → (result ≡ Status.BadWords code) × DidNothing (scene (stream (R.left src.old) (R.faults src.old)) (stream (W.written out.old) (W.faults out.old)) (D.shown depot.old))
+        (scene (stream (R.left src.new) (R.faults src.new)) (stream (W.written out.new) (W.faults out.new)) (D.shown depot.new)) }
+    ensures runs { (options : Options) → command_of (map string_bytes words.now) ≡ Ok (run options) → RunTells options (scene (stream (R.left src.old) (R.faults src.old)) (stream (W.written out.old) (W.faults out.old)) (D.shown depot.old))
+        (scene (stream (R.left src.new) (R.faults src.new)) (stream (W.written out.new) (W.faults out.new)) (D.shown depot.new)) result }
+    ensures prints { (options : Options) → command_of (map string_bytes words.now) ≡ Ok (run options) → PrintsOnly result (W.written out.old) (W.written out.new) }
+    ensures loads { (retries : ℕ) → command_of (map string_bytes words.now) ≡ Ok (load retries) → Loaded retries (stream (R.left src.old) (R.faults src.old)) (stream (R.left src.new) (R.faults src.new))
+        (seen (stream (W.written out.old) (W.faults out.old)) (D.shown depot.old)) (seen (stream (W.written out.new) (W.faults out.new)) (D.shown depot.new)) result }
+    ensures print_kept { (name : List ℕ) (retries : ℕ) → command_of (map string_bytes words.now) ≡ Ok (print name retries) → R.left src.new ≡ R.left src.old }
+    ensures prints_array { (name : List ℕ) (retries : ℕ) → command_of (map string_bytes words.now) ≡ Ok (print name retries)
+        → Printed retries name (seen (stream (W.written out.old) (W.faults out.old)) (D.shown depot.old)) (seen (stream (W.written out.new) (W.faults out.new)) (D.shown depot.new)) result }
 {
     let asked = match read_words(words) {
         Ok(asked) => asked,
         Err(code) => return Status::BadWords { code },
     };
     match &asked {
-        Asked::Run(options) => run_command(alloc, *options, src, out, depot),
+        Asked::Run(options) => run_command(alloc, options, src, out, depot),
         Asked::Load { retries } => load(alloc, *retries, src, out, depot),
         Asked::Print { name, retries } => { print(alloc, *retries, &key_of_name(name), out, depot) }
     }
@@ -72,27 +134,21 @@ fn carry<R: Source, W: Sink, D: Depot>(
 /// Computes the expression that the source has.
 fn run_command<R: Source, W: Sink, D: Depot>(
     alloc: Global,
-    options: Options,
+    options: &Options,
     src: &mut R,
     out: &mut W,
     depot: &mut D,
 ) -> Status
-    requires reserved { options.reserved ≤ 2 ^ 40 }
-    requires retries { options.retries ≤ 8 }
-    ensures answer { RunTells (R.left src.old) (R.left src.new) (R.faults src.old) (R.faults src.new) (D.shown depot.old).held (D.shown depot.new).held (D.shown depot.old).late (D.shown depot.new).late
-        (RanSo options (D.shown depot.old).held (D.shown depot.new).held (D.shown depot.old).late (D.shown depot.new).late (D.shown depot.old).faults (D.shown depot.new).faults (W.faults out.old) (W.faults out.new) (W.written out.old) (W.written out.new)) result }
+    requires allowed { options.now.allowed ≤ 2 ^ 40 }
+    requires reserved { options.now.reserved ≤ 2 ^ 40 }
+    requires retries { options.now.retries ≤ 8 }
+    ensures answer { RunTells options.now (scene (stream (R.left src.old) (R.faults src.old)) (stream (W.written out.old) (W.faults out.old)) (D.shown depot.old))
+        (scene (stream (R.left src.new) (R.faults src.new)) (stream (W.written out.new) (W.faults out.new)) (D.shown depot.new)) result }
     ensures prints { PrintsOnly result (W.written out.old) (W.written out.new) }
 {
-    let text = match read_all(alloc, src) {
-        Ok(text) => text,
-        Err(ReadRefused::Fault) => return Status::ReadFault,
-        Err(ReadRefused::NoMemory) => return Status::NoMemory,
-    };
-    let expression = match read_expression(alloc, &text) {
-        Ok(expression) => expression,
-        Err(NotAddition::Form) => return Status::NotBuilt { node: 0 },
-        Err(NotAddition::NoMemory) => return Status::NoMemory,
-    };
-    let names = names_in(&expression.addition);
-    run(alloc, options, &expression.value, &names, out, depot)
+    match read_all(alloc, src) {
+        Ok(text) => run(alloc, options, &text, out, depot),
+        Err(ReadRefused::Fault) => Status::ReadFault,
+        Err(ReadRefused::NoMemory) => Status::NoMemory,
+    }
 }

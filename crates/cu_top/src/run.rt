@@ -1,150 +1,137 @@
-//! A run: what is checked before anything is stored, and what is stored then.
-ghost use Rattle.std.specs.Prelude.{◌≡◌, ℕ, ◌^◌, ◌≤◌, List, Option, Some, None, IfErr, IfOk, false};
+//! A run: what is stored, once the job was accepted and nothing is in the way.
+ghost use Rattle.std.specs.Prelude.{◌≡◌, ℕ, ◌^◌, ◌≤◌, List, IfOk, false};
 ghost use Rattle.serde_json.specs.View.{view};
 ghost use Rattle.serde_json.specs.Written.{has_float};
-ghost use Rattle.cu_store.specs.Held.{Contents, Write, Follows};
-ghost use Rattle.cu_top.specs.Job.{IsJob, AreArrayNames, out_metadata};
-ghost use Rattle.cu_top.specs.Plan.{over_memory};
+ghost use Rattle.cu_store.specs.Steps.{Shown};
+ghost use Rattle.cu_command.specs.Seen.{Stream, stream};
+ghost use Rattle.cu_top.specs.Prepare.{job_plan, out_metadata, HasPlan};
 ghost use Rattle.cu_top.specs.Record.{record_text};
-ghost use Rattle.cu_top.specs.Run.{Completes, IsPlanFree, IsApart, IfDepotFailed, IfTaskEnded, IsFirstFailed, IsRecordFirst, PlanAlone};
-ghost use Rattle.cu_top.specs.Top.{HasFirst, IsAccepted, IsBegun, Refuses, Carries, IfStored, PrintsOnly, RanSo};
+ghost use Rattle.cu_top.specs.Run.{scene, case, Ran, PrintsOnly, IsCleared, Ended, failed_of};
 
-use crate::ask::ask_keys;
-use crate::inputs::read_inputs;
-use crate::job::{Job, Names};
-use crate::memory::{check_memory, report};
-use crate::output::{Texts, store_plan};
-use crate::plan::{ROOM_WORDS, chunk_bytes, make_plan};
+use crate::ask::text_keys;
+use crate::prepare::{Prepared, prepare};
 use crate::record::record_text;
-use crate::words::Options;
+use crate::report::report;
 use cu_command::Status;
+use cu_lower::{Options, array_law, plan_law, value_law};
 use cu_meta::write_meta;
+use cu_need::live_law;
+use cu_read::plain_law;
+use cu_state::{complete_law, left_law};
 use cu_store::{Depot, NoMemory, Sink};
-use serde_json::Value;
+use cu_work::{Outcome, Rooms, TextFault, Texts, run_plan};
 use std::alloc::Global;
 
-/// Checks what can be refused before anything is stored: the inputs' metadata, the memory, and the keys in the way, in this order.
-pub fn prepare<D: Depot>(
-    alloc: Global,
-    options: Options,
-    names: &Names,
-    depot: &mut D,
-) -> Result<Job, Status>
-    requires names { AreArrayNames names.now }
-    requires reserved { options.reserved ≤ 2 ^ 40 }
-    requires retries { options.retries ≤ 8 }
-    ensures accepted { IfOk result (IsAccepted names.now options (D.shown depot.old).held (D.shown depot.old).late) }
-    ensures job { IfOk result IsJob }
-    ensures fits { IfOk result (λ job. over_memory options job ≡ None) }
-    ensures apart { IfOk result IsApart }
-    ensures free { (entry : Contents) → (D.shown depot.old).held ≡ Some entry → IfOk result (λ job. IsPlanFree job entry) }
-    ensures refused { IfErr result (Refuses names.now options (D.shown depot.old).held (D.shown depot.new).held (D.shown depot.old).late (D.shown depot.old).faults (D.shown depot.new).faults) }
-    ensures follows { (writes : List Write) (entry : Option Contents)
-        → Follows writes entry (D.shown depot.old).held (D.shown depot.old).late → Follows writes entry (D.shown depot.new).held (D.shown depot.new).late }
-    ensures count { (D.shown depot.old).faults ≤ (D.shown depot.new).faults }
-{
-    let job = match read_inputs(alloc, depot, names, options.retries) {
-        Ok(job) => job,
-        Err(status) => return Err(status),
-    };
-    if let Err(status) = check_memory(options, &job) {
-        return Err(status);
-    }
-    match ask_keys(depot, &job, options.retries) {
-        Ok(()) => Ok(job),
-        Err(status) => Err(status),
-    }
+/// The texts that a run stores in front of its chunks.
+#[derive(Drop)]
+struct BothTexts {
+    /// The record of the plan.
+    plan: Vec<u8>,
+    /// The metadata of the output.
+    array: Vec<u8>,
 }
 
 /// The texts that the run stores.
-fn make_texts(alloc: Global, options: Options, expr: &Value, job: &Job) -> Result<Texts, NoMemory>
-    requires { has_float (view expr.now) ≡ false }
-    ensures record { IfOk result (λ texts. texts.record.items ≡ record_text options (view expr.now) job.now) }
-    ensures metadata { IfOk result (λ texts. texts.metadata.items ≡ out_metadata job.now) }
+fn make_texts(alloc: Global, options: &Options, prepared: &Prepared) -> Result<BothTexts, NoMemory>
+    requires planned { HasPlan options.now prepared.now.job }
+    requires plan { prepared.now.plan ≡ job_plan options.now prepared.now.job }
+    requires plain { has_float (view prepared.now.job.value) ≡ false }
+    ensures record { IfOk result (λ texts. texts.plan.items ≡ record_text options.now prepared.now.job) }
+    ensures metadata { IfOk result (λ texts. texts.array.items ≡ out_metadata prepared.now.job) }
 {
-    let record = record_text(alloc, options, expr, job)?;
-    let metadata = write_meta(alloc, &job.made())?;
-    Ok(Texts { record, metadata })
+    array_law();
+    let record = record_text(alloc, options, &prepared.job)?;
+    let metadata = write_meta(alloc, &prepared.plan.array(prepared.plan.out()).layout)?;
+    Ok(BothTexts {
+        plan: record,
+        array: metadata,
+    })
 }
 
-/// Makes the plan and the texts, takes the room of its tasks, stores the values of the plan and writes the report.
-pub fn carry_out<W: Sink, D: Depot>(
-    alloc: Global,
-    options: Options,
-    expr: &Value,
-    job: &Job,
-    out: &mut W,
-    depot: &mut D,
-) -> Status
-    requires job { IsJob job.now }
-    requires reserved { options.reserved ≤ 2 ^ 40 }
-    requires retries { options.retries ≤ 8 }
-    requires plain { has_float (view expr.now) ≡ false }
-    ensures answer { Carries job.now options (D.shown depot.old).faults (D.shown depot.new).faults (D.shown depot.new).held (W.faults out.old) (W.faults out.new) (W.written out.old) (W.written out.new) result }
-    ensures prints { PrintsOnly result (W.written out.old) (W.written out.new) }
-    ensures others { (late : List Write) (entry : Option Contents)
-        → PlanAlone job.now late entry (D.shown depot.old).held (D.shown depot.old).late → PlanAlone job.now late entry (D.shown depot.new).held (D.shown depot.new).late }
-    ensures started { (entry : Contents) (late : List Write)
-        → IsBegun job.now (record_text options (view expr.now) job.now) entry late (D.shown depot.old).held (D.shown depot.old).late
-        → IsBegun job.now (record_text options (view expr.now) job.now) entry late (D.shown depot.new).held (D.shown depot.new).late }
-    ensures stored { (entry : Contents) (late : List Write)
-        → IsBegun job.now (record_text options (view expr.now) job.now) entry late (D.shown depot.old).held (D.shown depot.old).late
-        → IfStored result (Completes job.now (record_text options (view expr.now) job.now) entry (D.shown depot.new).held) }
-    ensures first { (entry : Contents) (late : List Write)
-        → IsBegun job.now (record_text options (view expr.now) job.now) entry late (D.shown depot.old).held (D.shown depot.old).late → Follows late (Some entry) (D.shown depot.old).held (D.shown depot.old).late
-        → IsRecordFirst job.now (record_text options (view expr.now) job.now) entry late (D.shown depot.new).held (D.shown depot.new).late }
-    ensures failed_first { (entry : Contents) (late : List Write)
-        → IsBegun job.now (record_text options (view expr.now) job.now) entry late (D.shown depot.old).held (D.shown depot.old).late → Follows late (Some entry) (D.shown depot.old).held (D.shown depot.old).late
-        → IfDepotFailed result (IsFirstFailed job.now (record_text options (view expr.now) job.now) entry late (D.shown depot.new).held (D.shown depot.new).late) }
-    ensures first_held { (entry : Contents) (late : List Write)
-        → IsBegun job.now (record_text options (view expr.now) job.now) entry late (D.shown depot.old).held (D.shown depot.old).late
-        → IfTaskEnded result (HasFirst (D.shown depot.new).held job.now (record_text options (view expr.now) job.now)) }
+/// How many tries of tasks failed, where all tasks were run; else what the run answers.
+fn failed_of(ended: &Result<Outcome, TextFault>) -> Result<u64, Status>
+    ensures { result ≡ failed_of ended.now }
 {
-    let Ok(plan) = make_plan(alloc, options, job) else {
-        return Status::NoMemory;
-    };
-    let Ok(texts) = make_texts(alloc, options, expr, job) else {
-        return Status::NoMemory;
-    };
-    let room = 4 * chunk_bytes(job) as usize;
-    let Ok(mut bytes) = vec![in alloc; 0u8; room] else {
-        return Status::NoMemory;
-    };
-    let Ok(mut words) = vec![in alloc; 0u64; ROOM_WORDS] else {
-        return Status::NoMemory;
-    };
-    match store_plan(
-        depot,
-        job,
-        &texts,
-        &plan,
-        options.retries,
-        &mut bytes,
-        &mut words,
-    ) {
-        Ok(failed) => report(out, options, job, failed),
-        Err(status) => status,
+    match ended {
+        Ok(Outcome::Complete { failed }) => Ok(*failed),
+        Ok(Outcome::Broken { op, task }) => Err(Status::TaskFailed {
+            op: *op,
+            task: *task,
+        }),
+        Ok(Outcome::BadChunk { key, got, want }) => Err(Status::BadChunk {
+            key: *key,
+            got: *got,
+            want: *want,
+        }),
+        Ok(Outcome::Lacked) => Err(Status::NoMemory),
+        Err(TextFault::Failed(key)) => Err(Status::DepotFailed { key: *key }),
+        Err(TextFault::NoMemory) => Err(Status::NoMemory),
     }
 }
 
-/// Adds the arrays of these names, by the expression that was read as this value.
+/// Makes the texts, takes the memory of the tasks, and stores what the plan makes. Says how many tries of tasks failed.
+fn store_plan<D: Depot>(
+    alloc: Global,
+    options: &Options,
+    prepared: &Prepared,
+    depot: &mut D,
+) -> Result<u64, Status>
+    requires planned { HasPlan options.now prepared.now.job }
+    requires plan { prepared.now.plan ≡ job_plan options.now prepared.now.job }
+    requires retries { options.now.retries ≤ 8 }
+    requires plain { has_float (view prepared.now.job.value) ≡ false }
+    ensures ended { (text : List ℕ) (old : Shown) (source next sink after : Stream) → IsCleared options.now text old (D.shown depot.old) prepared.now.job
+        → Ended (case options.now text (scene source sink old) (scene next after (D.shown depot.new))) prepared.now.job result }
+    ensures few { IfOk result (λ failed. failed ≤ 2 ^ 20) }
+{
+    left_law();
+    complete_law();
+    plan_law();
+    array_law();
+    value_law();
+    live_law();
+    let Ok(texts) = make_texts(alloc, options, prepared) else {
+        return Err(Status::NoMemory);
+    };
+    let Ok(mut rooms) = Rooms::make(alloc, &prepared.plan) else {
+        return Err(Status::NoMemory);
+    };
+    let keys = text_keys(&prepared.job.expr);
+    let stored = Texts {
+        record_key: keys.record,
+        record: &texts.plan,
+        metadata_key: keys.metadata,
+        metadata: &texts.array,
+    };
+    let ended = run_plan(&prepared.plan, depot, &stored, &mut rooms, options.retries);
+    failed_of(&ended)
+}
+
+/// Computes the expression of a text over the stored arrays, stores the array that it makes, and writes the report.
 pub fn run<W: Sink, D: Depot>(
     alloc: Global,
-    options: Options,
-    expr: &Value,
-    names: &Names,
+    options: &Options,
+    text: &[u8],
     out: &mut W,
     depot: &mut D,
 ) -> Status
-    requires names { AreArrayNames names.now }
-    requires reserved { options.reserved ≤ 2 ^ 40 }
-    requires retries { options.retries ≤ 8 }
-    requires plain { has_float (view expr.now) ≡ false }
-    ensures answer { RanSo options (D.shown depot.old).held (D.shown depot.new).held (D.shown depot.old).late (D.shown depot.new).late (D.shown depot.old).faults (D.shown depot.new).faults (W.faults out.old) (W.faults out.new) (W.written out.old) (W.written out.new) names.now (view expr.now) result }
+    requires allowed { options.now.allowed ≤ 2 ^ 40 }
+    requires reserved { options.now.reserved ≤ 2 ^ 40 }
+    requires retries { options.now.retries ≤ 8 }
+    ensures answer { (source next : Stream) → Ran (case options.now text.now (scene source (stream (W.written out.old) (W.faults out.old)) (D.shown depot.old))
+        (scene next (stream (W.written out.new) (W.faults out.new)) (D.shown depot.new))) result }
     ensures prints { PrintsOnly result (W.written out.old) (W.written out.new) }
 {
-    match prepare(alloc, options, names, depot) {
-        Ok(job) => carry_out(alloc, options, expr, &job, out, depot),
+    plain_law();
+    let prepared = match prepare(alloc, options, text, depot) {
+        Ok(prepared) => prepared,
+        Err(status) => return status,
+    };
+    match store_plan(alloc, options, &prepared, depot) {
+        Ok(failed) => match report(out, &prepared.plan, failed) {
+            Ok(()) => Status::Done,
+            Err(_) => Status::WriteFault,
+        },
         Err(status) => status,
     }
 }

@@ -4,6 +4,7 @@ ghost use Rattle.std.specs.Result.{result_map_both};
 ghost use Rattle.cu_top.specs.Call.{command_view};
 ghost use Rattle.cu_top.specs.Words.{memory_of, retries_of, once, nothing_given, given_with, options_from, retries_in, is_plain, print_of, print_in, command_of};
 
+use cu_lower::Options;
 use cu_name::{IdText, is_name};
 
 /// The most bytes that may be allowed or reserved: 2^40.
@@ -11,17 +12,6 @@ const MOST_MEMORY: u64 = 1 << 40;
 
 /// The most times that a call or a task is tried again.
 const MOST_RETRIES: u64 = 8;
-
-/// The options of a run; memory is in bytes.
-#[derive(Clone, Copy, Debug)]
-pub struct Options {
-    /// The memory that a task may take, the reserved memory among it.
-    pub allowed: u64,
-    /// The memory that is set aside for what isn't counted.
-    pub reserved: u64,
-    /// How often a call for a key, or a task, is tried again.
-    pub retries: u32,
-}
 
 /// The numbers that were given so far.
 #[derive(Clone, Copy)]

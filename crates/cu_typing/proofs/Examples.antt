@@ -4,8 +4,8 @@ use Rattle.cu_num.specs.Promotion.{promotion}
 use Rattle.cu_num.specs.declared.types.Dtype.{Dtype}
 use Rattle.cu_num.specs.declared.types.Dtype.TheVariants.{Bool, Int8, Int16, Int32, Int64, Uint8, Uint64}
 use Rattle.cu_num.specs.declared.functions.Fn2.TheVariants.{Add, Equal}
-use Rattle.cu_form.specs.declared.args.Literal.TheVariants.{Int, Truth}
-use Rattle.cu_form.specs.declared.form.ElementOp.TheVariants.{Two, Where, Astype}
+use Rattle.cu_node.specs.declared.literal.Literal.TheVariants.{Int, Truth}
+use Rattle.cu_node.specs.declared.element_op.ElementOp.TheVariants.{Two, Where, Astype}
 use Rattle.cu_num.specs.declared.folds.FoldKind.TheVariants as fold
 use Rattle.cu_node.specs.Fault.{fault, fault_at}
 use Rattle.cu_node.specs.Info.{info_of}

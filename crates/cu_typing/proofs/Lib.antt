@@ -1,8 +1,6 @@
-pub mod AlignedChunks
 pub mod Chunks
 mod Examples
 pub mod GoingInto
-pub mod Kernels
 pub mod Passed
 pub mod PassedTogether
 pub mod ProductSizes

@@ -1,11 +1,10 @@
 -- What an accepted elementwise function's arguments have passed.
 use Rattle.std.proofs.Common.{◌≡◌, ℕ, true, List, Result, Ok, refl}
-use Rattle.std.proofs.lemmas.List.Elements.{All-weaker}
 use Rattle.std.proofs.lemmas.List.Sums.{AllPass-from_list_all}
 use Rattle.cu_result.specs.Results.{◌>>=◌}
 use Rattle.cu_result.proofs.ResultSteps.{step_ok, check_step_ok}
 use Rattle.cu_num.specs.declared.types.Dtype.{Dtype}
-use Rattle.cu_form.specs.declared.form.ElementOp.{ElementOp}
+use Rattle.cu_node.specs.declared.element_op.ElementOp.{ElementOp}
 use Rattle.cu_node.specs.Fault.{fault}
 use Rattle.cu_node.specs.Info.{info_of}
 use Rattle.cu_node.specs.Limited.{is_chunk_within}
@@ -13,16 +12,12 @@ use Rattle.cu_node.proofs.KeptLimits.{given, beside_kept}
 use Rattle.cu_node.specs.declared.faults.FaultCode.TheVariants.{Kind}
 use Rattle.cu_node.specs.declared.faults.NodeFault.{NodeFault}
 use Rattle.cu_node.specs.declared.info.NodeInfo.{NodeInfo}
-use Rattle.cu_op.specs.Operation.{IsAligned}
-use Rattle.cu_typing.specs.Accepted.{GoesInto, aligned_grid, result_grid, IsElementwise}
+use Rattle.cu_typing.specs.Accepted.{IsElementwise}
 use Rattle.cu_typing.specs.Elementwise.{joined_array, typed_elementwise}
 use Rattle.cu_typing.specs.Joined.{arrays_of, joined_shape, joined_chunk, aligned_chunk, aligned_within}
 use Rattle.cu_typing.specs.Types.{accepts_arguments, shared_type, result_type, typed_elements}
 use Rattle.cu_typing.specs.declared.argument.Argument.{Argument}
-use Rattle.cu_typing.proofs.AlignedChunks.{aligned_is_aligned}
-use Rattle.cu_typing.proofs.Chunks.{length-joined_chunk}
 use Rattle.cu_typing.proofs.GoingInto.{joined_go_into}
-use Rattle.cu_typing.proofs.Kernels.{kernel_fits}
 
 -- the types have passed
 types_passed : (op : ElementOp) (args : List Argument) (d : Dtype) → typed_elements op args ≡ Ok d → (t : Dtype) × (accepts_arguments op args ≡ true) × (shared_type op args ≡ Ok t) × (d ≡ result_type op t)
@@ -36,18 +31,14 @@ types_passed op args d h =
 -- so have the shape and the chunks
 passed_with : (op : ElementOp) (args : List Argument) (t : Dtype) (shape : List ℕ) → accepts_arguments op args ≡ true → shared_type op args ≡ Ok t → joined_shape (arrays_of args) ≡ Ok shape → aligned_within shape (joined_chunk shape (arrays_of args)) (arrays_of args) ≡ true → IsElementwise op args t (info_of (result_type op t) shape (joined_chunk shape (arrays_of args)))
 passed_with op args t shape accepted shared joined within =
-    let result = info_of (result_type op t) shape (joined_chunk shape (arrays_of args)) in
-    let go = joined_go_into (arrays_of args) shape joined in
     record {
       accepted = accepted;
       shared = shared;
       dtype = refl;
       shape = joined;
       chunk = refl;
-      broadcast = go;
-      aligned = All-weaker (λ i. GoesInto i.dims shape) (λ i. IsAligned (aligned_grid result i) (result_grid result)) (λ i g. aligned_is_aligned result i (length-joined_chunk shape (arrays_of args)) g) (arrays_of args) go;
+      broadcast = joined_go_into (arrays_of args) shape joined;
       within = AllPass-from_list_all (λ i. is_chunk_within i.dtype (aligned_chunk shape (joined_chunk shape (arrays_of args)) i)) (arrays_of args) within;
-      kernel = kernel_fits op args t accepted shared;
     }
 
 same_array : (op : ElementOp) (args : List Argument) (t d : Dtype) (shape chunk : List ℕ) (i : NodeInfo) → d ≡ result_type op t → i ≡ info_of d shape chunk → IsElementwise op args t (info_of (result_type op t) shape chunk) → IsElementwise op args t i

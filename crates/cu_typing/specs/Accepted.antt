@@ -1,18 +1,14 @@
 -- What an accepted node's arguments have passed.
-use Rattle.std.specs.Prelude.{◌≡◌, ℕ, ◌+◌, ◌-◌, ◌<◌, ◌≤◌, ◌==◌, ◌&&◌, ◌⊎◌, Bool, true, false, ℤ, List, [], length, slice_index, All, Option, Some, Ok}
+use Rattle.std.specs.Prelude.{◌≡◌, ℕ, ◌+◌, ◌-◌, ◌<◌, ◌≤◌, ◌==◌, ◌&&◌, ◌⊎◌, Bool, true, false, ℤ, List, length, slice_index, All, Option, Some, Ok}
 use Rattle.cu_num.specs.Dtype.{is_integer}
 use Rattle.cu_num.specs.Promotion.{promotion}
 use Rattle.cu_num.specs.declared.types.Dtype.{Dtype}
 use Rattle.cu_shape.specs.Index.{product}
-use Rattle.cu_form.specs.declared.form.ElementOp.{ElementOp}
-use Rattle.cu_grid.specs.Grid.{RegularGrid}
+use Rattle.cu_node.specs.declared.element_op.ElementOp.{ElementOp}
 use Rattle.cu_node.specs.Info.{info_of}
 use Rattle.cu_node.specs.Limited.{is_chunk_within}
 use Rattle.cu_node.specs.declared.info.NodeInfo.{NodeInfo}
-use Rattle.cu_op.specs.KernelTypes.{KernelFits}
-use Rattle.cu_op.specs.Operation.{IsAligned}
 use Rattle.cu_typing.specs.Joined.{arrays_of, joined_shape, joined_chunk, aligned_chunk}
-use Rattle.cu_typing.specs.Kernel.{kernel_of, types_of}
 use Rattle.cu_typing.specs.Matmul.{left_inner, right_inner, leading_arrays, left_aligned, right_aligned, product_shape, product_chunk}
 use Rattle.cu_typing.specs.Reduction.{Rule, marks_of, reduced_sizes, kept_sizes}
 use Rattle.cu_typing.specs.Types.{accepts_arguments, shared_type, result_type}
@@ -23,13 +19,6 @@ pub record GoesInto (shape result : List ℕ) : Type 0 where
   pub rank : length shape ≤ length result
   pub axes : (k : ℕ) → k < length shape → (slice_index shape k ≡ slice_index result (k + (length result - length shape))) ⊎ (slice_index shape k ≡ 1)
 
--- the grid of an array whose chunks are those to which it is aligned, and the result's
-abbrev pub aligned_grid : NodeInfo → NodeInfo → RegularGrid
-aligned_grid result i = record { shape = i.dims; chunk = aligned_chunk result.dims result.chunk i }
-
-abbrev pub result_grid : NodeInfo → RegularGrid
-result_grid i = record { shape = i.dims; chunk = i.chunk }
-
 -- what the arguments of an elementwise function have passed whose type is t together
 pub record IsElementwise (op : ElementOp) (args : List Argument) (t : Dtype) (result : NodeInfo) : Type 0 where
   pub accepted : accepts_arguments op args ≡ true
@@ -38,9 +27,7 @@ pub record IsElementwise (op : ElementOp) (args : List Argument) (t : Dtype) (re
   pub shape : joined_shape (arrays_of args) ≡ Ok result.dims
   pub chunk : result.chunk ≡ joined_chunk result.dims (arrays_of args)
   pub broadcast : All (λ i. GoesInto i.dims result.dims) (arrays_of args)
-  pub aligned : All (λ i. IsAligned (aligned_grid result i) (result_grid result)) (arrays_of args)
   pub within : All (λ i. is_chunk_within i.dtype (aligned_chunk result.dims result.chunk i) ≡ true) (arrays_of args)
-  pub kernel : KernelFits (kernel_of op t args) (types_of (arrays_of args)) [] result.dtype
 
 -- what a reduction's argument has passed, whose reduced axes are these
 pub record IsReduction (rule : Rule) (axes : Option (List ℤ)) (keepdims : Bool) (i : NodeInfo) (marks : List Bool) (result : NodeInfo) : Type 0 where

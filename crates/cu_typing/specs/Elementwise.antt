@@ -2,7 +2,7 @@
 -- `astype`; the order of the faults is this project's rule).
 use Rattle.std.specs.Prelude.{List, Result}
 use Rattle.cu_result.specs.Results.{◌>>=◌}
-use Rattle.cu_form.specs.declared.form.ElementOp.{ElementOp}
+use Rattle.cu_node.specs.declared.element_op.ElementOp.{ElementOp}
 use Rattle.cu_node.specs.Limited.{limited_beside}
 use Rattle.cu_node.specs.declared.faults.NodeFault.{NodeFault}
 use Rattle.cu_node.specs.declared.info.NodeInfo.{NodeInfo}

@@ -1,7 +1,6 @@
 pub mod Accepted
 pub mod Elementwise
 pub mod Joined
-pub mod Kernel
 pub mod Matmul
 pub mod Reduction
 pub mod Types

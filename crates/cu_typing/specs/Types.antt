@@ -3,17 +3,16 @@
 use Rattle.std.specs.Prelude.{true, false, ◌&&◌, List, [], ◌∷◌, Result, Ok, Err}
 use Rattle.std.specs.Prelude.{Bool as Test}
 use Rattle.cu_result.specs.Results.{◌>>=◌, check, need}
-use Rattle.cu_num.specs.Dtype.{is_bool, is_integer}
+use Rattle.cu_num.specs.Dtype.{is_bool}
 use Rattle.cu_num.specs.Functions.{accepts1, accepts2}
 use Rattle.cu_num.specs.Promotion.{promotion}
 use Rattle.cu_num.specs.Scalar.{result_type1, result_type2}
 use Rattle.cu_num.specs.declared.types.Dtype.{Dtype}
-use Rattle.cu_form.specs.declared.args.Literal.{Literal}
-use Rattle.cu_form.specs.declared.args.Literal.TheVariants.{Int, Truth}
-use Rattle.cu_form.specs.declared.form.ElementOp.{ElementOp}
-use Rattle.cu_form.specs.declared.form.ElementOp.TheVariants.{One, Two, Where, Astype}
+use Rattle.cu_node.specs.declared.literal.Literal.{Literal}
+use Rattle.cu_node.specs.declared.element_op.ElementOp.{ElementOp}
+use Rattle.cu_node.specs.declared.element_op.ElementOp.TheVariants.{One, Two, Where, Astype}
 use Rattle.cu_node.specs.Fault.{fault}
-use Rattle.cu_node.specs.Types.{in_range}
+use Rattle.cu_node.specs.Literal.{suits}
 use Rattle.cu_node.specs.declared.faults.FaultCode.TheVariants.{Kind, Scalar, Promote}
 use Rattle.cu_node.specs.declared.faults.NodeFault.{NodeFault}
 use Rattle.cu_typing.specs.declared.argument.Argument.{Argument}
@@ -40,11 +39,6 @@ accepts_arguments (Astype t) (x ∷ []) = is_array_of (λ d. true) x
 accepts_arguments op args = false
 
 -- ---- the type that the arguments have together
-
--- a written integer is a number of an integer type, a truth value one of bool
-abbrev pub suits : Dtype → Literal → Test
-suits t (Int x) = is_integer t && in_range t x
-suits t (Truth b) = is_bool t
 
 -- the type of a written value is that of the array that it meets
 abbrev pub met_type : Dtype → Literal → Result Dtype NodeFault

@@ -1,5 +1,4 @@
-use cu_form::Literal;
-use cu_node::NodeInfo;
+use cu_node::{Literal, NodeInfo};
 
 /// An argument of an elementwise function.
 #[derive(Clone, Copy, Debug, PartialEq, Eq)]

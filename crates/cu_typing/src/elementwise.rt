@@ -6,8 +6,7 @@ ghost use Rattle.cu_typing.specs.Joined.{arrays_of};
 use crate::argument::Argument;
 use crate::joining::{are_aligned_within, chunk_joined, shape_joined};
 use crate::types::element_type;
-use cu_form::ElementOp;
-use cu_node::{NodeFault, NodeInfo, within_limits};
+use cu_node::{ElementOp, NodeFault, NodeInfo, within_limits};
 use cu_num::Dtype;
 use cu_shape::Dims;
 

@@ -6,11 +6,10 @@ ghost use Rattle.cu_num.specs.Functions.{accepts2};
 ghost use Rattle.cu_num.specs.Promotion.{promotion};
 ghost use Rattle.cu_node.specs.Fault.{fault};
 ghost use Rattle.cu_node.specs.declared.faults.FaultCode.TheVariants.{Promote};
-ghost use Rattle.cu_typing.specs.Types.{may_be, accepts_arguments, typed_elements, suits, met_type, pair_type, array_type, shared_type, result_type};
+ghost use Rattle.cu_typing.specs.Types.{may_be, accepts_arguments, typed_elements, met_type, pair_type, array_type, shared_type, result_type};
 
 use crate::argument::Argument;
-use cu_form::{ElementOp, Literal};
-use cu_node::{FaultCode, NodeFault, fault, in_range, is_integer};
+use cu_node::{ElementOp, FaultCode, Literal, NodeFault, fault};
 use cu_num::{Dtype, Fn2, accepts1, accepts2, is_bool, promote, result1, result2};
 
 /// Whether each array has a type that the function accepts.
@@ -36,21 +35,11 @@ fn accepts_either(f: Fn2, arg: &Argument) -> bool
     }
 }
 
-/// Whether a written value is one of the type.
-fn is_suited(t: Dtype, v: Literal) -> bool
-    ensures { result ≡ suits t v }
-{
-    match v {
-        Literal::Int(x) => is_integer(t) && in_range(t, x),
-        Literal::Truth(_) => is_bool(t),
-    }
-}
-
 /// The type of a written value that meets an array of type `t`.
 fn type_met(t: Dtype, v: Literal) -> Result<Dtype, NodeFault>
     ensures { result ≡ met_type t v }
 {
-    if is_suited(t, v) {
+    if v.suits(t) {
         Ok(t)
     } else {
         Err(fault(FaultCode::Scalar))

@@ -2,9 +2,9 @@
 use Rattle.std.proofs.Common.{◌≡◌, true, [], ◌∷◌, Some, None, Ok, Err, pos, negsuc, refl}
 use Rattle.cu_num.specs.declared.types.Dtype.TheVariants.{Bool, Int8, Int16, Int32, Uint8}
 use Rattle.cu_num.specs.Promotion.{promotion}
-use Rattle.cu_form.specs.declared.args.Literal.TheVariants.{Int, Truth}
-use Rattle.cu_form.specs.declared.args.IndexItem.{IndexItem}
-use Rattle.cu_form.specs.declared.args.IndexItem.TheVariants.{At, Slice, New, Ellipsis}
+use Rattle.cu_node.specs.declared.literal.Literal.TheVariants.{Int, Truth}
+use Rattle.cu_node.specs.declared.index_item.IndexItem.{IndexItem}
+use Rattle.cu_node.specs.declared.index_item.IndexItem.TheVariants.{At, Slice, New, Ellipsis}
 use Rattle.cu_node.specs.Fault.{fault, fault_at}
 use Rattle.cu_node.specs.Info.{info_of}
 use Rattle.cu_node.specs.declared.faults.FaultCode.TheVariants.{Promote, Shape, Axis, Scalar, Kind, Limit, ReshapeSize, Index}

@@ -4,7 +4,7 @@ use Rattle.std.proofs.lemmas.Bool.{lt-leb, cases_lt}
 use Rattle.std.proofs.Math.ListN.{get_or-eq_default}
 use Rattle.cu_num.specs.declared.types.Dtype.{Dtype}
 use Rattle.cu_shape.specs.Index.{product}
-use Rattle.cu_grid.proofs.Products.{size_within, product_within}
+use Rattle.cu_shape.proofs.Products.{size_within, product_within}
 use Rattle.cu_node.specs.Info.{IsInfo}
 use Rattle.cu_node.specs.Limited.{limit, limited}
 use Rattle.cu_typing_view.specs.Reshaped.{can_hold, reshaped, chunk_of, typed_reshape}

@@ -6,8 +6,8 @@ use Rattle.std.proofs.lemmas.List.{length-append, length-drop, length-take}
 use Rattle.std.proofs.lemmas.List.Elements.{All-head, All-tail, All-cons, All-append, All-take, All-drop}
 use Rattle.cu_shape.specs.Index.{axis_by_axis}
 use Rattle.cu_shape.proofs.Axes.{length-axis_by_axis}
-use Rattle.cu_form.specs.declared.args.IndexItem.{IndexItem}
-use Rattle.cu_form.specs.declared.args.IndexItem.TheVariants.{At, Slice, New, Ellipsis}
+use Rattle.cu_node.specs.declared.index_item.IndexItem.{IndexItem}
+use Rattle.cu_node.specs.declared.index_item.IndexItem.TheVariants.{At, Slice, New, Ellipsis}
 use Rattle.cu_typing_view.specs.Entries.{width_of, is_ellipsis, count_taken, cut, is_wrong, first_wrong, sizes_left, index_shape, chunk_left, index_chunk}
 use Rattle.cu_typing_view.proofs.PositiveSizes.{Positive, none_positive}
 

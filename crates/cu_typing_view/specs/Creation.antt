@@ -8,24 +8,19 @@ use Rattle.std.specs.Ordering.{int_eq}
 use Rattle.cu_result.specs.Results.{◌>>=◌, check}
 use Rattle.cu_num.specs.declared.types.Dtype.{Dtype}
 use Rattle.cu_shape.specs.Slice.{gap_between, at_least_zero}
-use Rattle.cu_form.specs.declared.args.Literal.{Literal}
-use Rattle.cu_form.specs.declared.args.Literal.TheVariants.{Int, Truth}
+use Rattle.cu_node.specs.declared.literal.Literal.{Literal}
 use Rattle.cu_node.specs.Fault.{fault}
 use Rattle.cu_node.specs.Limited.{limited}
+use Rattle.cu_node.specs.Literal.{suits}
 use Rattle.cu_node.specs.Types.{is_integer, in_range}
 use Rattle.cu_node.specs.declared.faults.FaultCode.TheVariants.{Kind, Scalar, Index, Shape}
 use Rattle.cu_node.specs.declared.faults.NodeFault.{NodeFault}
 use Rattle.cu_node.specs.declared.info.NodeInfo.{NodeInfo}
 
--- a written integer is a number of an integer type, a truth value one of bool
-abbrev pub holds : Dtype → Literal → Test
-holds t (Int x) = is_integer t && in_range t x
-holds t (Truth b) = not (is_integer t)
-
 -- one value everywhere
 abbrev pub typed_full : List ℕ → Dtype → Literal → List ℕ → Result NodeInfo NodeFault
 typed_full shape t value chunk = do
-  _ ← check (holds t value) (fault Scalar)
+  _ ← check (suits t value) (fault Scalar)
   _ ← check (length chunk == length shape) (fault Shape)
   limited t shape chunk
 

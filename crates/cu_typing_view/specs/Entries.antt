@@ -4,8 +4,8 @@ use Rattle.std.specs.Prelude.{ℕ, ◌+◌, ◌-◌, not, nat_lt, ◌&&◌, ◌|
 use Rattle.std.specs.Ordering.{int_eq}
 use Rattle.cu_shape.specs.Index.{axis_by_axis}
 use Rattle.cu_shape.specs.Slice.{count_of}
-use Rattle.cu_form.specs.declared.args.IndexItem.{IndexItem}
-use Rattle.cu_form.specs.declared.args.IndexItem.TheVariants.{At, Slice, New, Ellipsis}
+use Rattle.cu_node.specs.declared.index_item.IndexItem.{IndexItem}
+use Rattle.cu_node.specs.declared.index_item.IndexItem.TheVariants.{At, Slice, New, Ellipsis}
 use Rattle.cu_node.specs.Fault.{fault_at}
 use Rattle.cu_node.specs.Limited.{limited}
 use Rattle.cu_node.specs.declared.faults.FaultCode.TheVariants.{Index}

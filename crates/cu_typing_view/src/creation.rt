@@ -2,10 +2,11 @@
 ghost use Rattle.std.specs.Prelude.{◌≡◌, ◌-◌, ◌^◌, ◌<◌, ◌≤ℤ◌, pos, All, IfOk};
 ghost use Rattle.cu_node.specs.Info.{IsInfo};
 ghost use Rattle.cu_shape.specs.Slice.{gap_between, at_least_zero};
-ghost use Rattle.cu_typing_view.specs.Creation.{holds, holds_ends, arange_at, arange_count, typed_full, typed_numbers, typed_arange, typed_eye};
+ghost use Rattle.cu_typing_view.specs.Creation.{holds_ends, arange_at, arange_count, typed_full, typed_numbers, typed_arange, typed_eye};
 
-use cu_form::Literal;
-use cu_node::{FaultCode, NodeFault, NodeInfo, fault, in_range, is_integer, within_limits_list};
+use cu_node::{
+    FaultCode, Literal, NodeFault, NodeInfo, fault, in_range, is_integer, within_limits_list,
+};
 use cu_num::Dtype;
 
 /// One value everywhere, in an array of this shape. The first of these faults is answered: Scalar where the value is of another
@@ -20,7 +21,7 @@ pub fn type_full(
     ensures value { result ≡ typed_full shape.now t value chunk.now }
     ensures kept { IfOk result IsInfo }
 {
-    if !holds(t, value) {
+    if !value.suits(t) {
         return Err(fault(FaultCode::Scalar));
     }
     if chunk.len() != shape.len() {
@@ -87,16 +88,6 @@ pub fn type_eye(rows: u64, cols: u64, t: Dtype, chunk: &[u64]) -> Result<NodeInf
         return Err(fault(FaultCode::Shape));
     }
     within_limits_list(t, &[rows, cols], chunk)
-}
-
-/// Whether a written value is one of the type.
-fn holds(t: Dtype, value: Literal) -> bool
-    ensures { result ≡ holds t value }
-{
-    match value {
-        Literal::Int(x) => is_integer(t) && in_range(t, x),
-        Literal::Truth(_) => !is_integer(t),
-    }
 }
 
 /// How many numbers there are; none where the step is 0.

@@ -5,8 +5,7 @@ ghost use Rattle.cu_node.specs.Info.{IsInfo};
 ghost use Rattle.cu_node.specs.Limited.{limited};
 ghost use Rattle.cu_typing_view.specs.Entries.{takes_axis, is_ellipsis, width_of, is_index, suits_axis, count_taken, cut, untaken, is_wrong, first_wrong, sizes_left, chunk_left, index_shape, index_chunk, typed_index};
 
-use cu_form::IndexItem;
-use cu_node::{FaultCode, NodeFault, NodeInfo, fault_at, size_at, within_limits};
+use cu_node::{FaultCode, IndexItem, NodeFault, NodeInfo, fault_at, size_at, within_limits};
 use cu_shape::{Dims, slice_of};
 
 /// The array at an index, in chunks as the array has them, cut to the indices that are taken. The first of these faults is

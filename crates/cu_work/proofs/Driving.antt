@@ -31,7 +31,7 @@ use Rattle.cu_work.specs.declared.outcome.Outcome.{Outcome}
 use Rattle.cu_work.specs.declared.outcome.Outcome.TheVariants.{Complete, Broken, BadChunk, Lacked}
 use Rattle.cu_work.specs.declared.tasks.TaskEnd.{TaskEnd}
 use Rattle.cu_work.specs.declared.tasks.TaskEnd.TheVariants as ended
-use Rattle.cu_work.specs.Drive.{DriveChange, operation_calls, plan_calls, IsInputKey, IsTaskEnd, IfBadIn, IsEnd, IfBroken, IfBad, end_of, outcome_of}
+use Rattle.cu_work.specs.Drive.{DriveChange, operation_calls, plan_calls, IsInputKey, IsTaskEnd, IfBadIn, IsRoundEnd, IfBroken, IfBad, end_of, outcome_of}
 use Rattle.cu_task.specs.Task.{IsTaskReady, TaskChange, HoldsCells, IsTaskFault, calls_of}
 
 module _ (p : PlanView) (env : Elements) where
@@ -287,7 +287,7 @@ outcome_broken (ended.BadChunk key got want) op task P h = tt
 outcome_broken ended.Lacked op task P h = tt
 
 pub outcome_cause : (tries : ℕ) (p : PlanView) (first now new : Shown) (end : TaskEnd) (op task : ℕ) → op < length p.ops → task < tasks_of p.arrays (op_of p op) → first.faults ≤ now.faults
-    → IsTaskEnd tries now new p end → IsEnd tries first new p (outcome_of end op task)
+    → IsTaskEnd tries now new p end → IsRoundEnd tries first new p (outcome_of end op task)
 outcome_cause tries p first now new ended.UsedUp op task operation number grew cause = (operation, number, omega (arith, grew, cause))
 outcome_cause tries p first now new (ended.BadChunk key got want) op task operation number grew cause = cause
 outcome_cause tries p first now new ended.Lacked op task operation number grew cause = cause
@@ -372,7 +372,7 @@ plan_within p r n m first new h step =
     steps_wider (run_within p first) (omega arith) (mul-le-mul_left (r + 1) fewer) step
 
 -- a count of faults since an earlier moment
-pub end_earlier : (tries : ℕ) (p : PlanView) (first now new : Shown) (o : Outcome) → first.faults ≤ now.faults → IsEnd tries now new p o → IsEnd tries first new p o
+pub end_earlier : (tries : ℕ) (p : PlanView) (first now new : Shown) (o : Outcome) → first.faults ≤ now.faults → IsRoundEnd tries now new p o → IsRoundEnd tries first new p o
 end_earlier tries p first now new (Complete failed) grew cause = cause
 end_earlier tries p first now new (Broken op task) grew (operation, number, rose) = (operation, number, omega (arith, grew, rose))
 end_earlier tries p first now new (BadChunk key got want) grew cause = cause

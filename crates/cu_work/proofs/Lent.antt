@@ -5,18 +5,18 @@ use Rattle.std.proofs.lemmas.List.{map_more}
 use Rattle.cu_op.specs.PlanView.{PlanView, operation_at, no_operation}
 use Rattle.cu_op.specs.Projection.{greatest}
 use Rattle.cu_op.specs.Schedule.{op_of}
-use Rattle.cu_work.specs.Rooms.{bytes_of, words_of, rooms_of}
+use Rattle.cu_work.specs.Rooms.{task_bytes, task_words, rooms_of}
 
 most_at : (f : Planned → ℕ) (ops : List Planned) (k : ℕ) → k < length ops → f (operation_at ops k) ≤ greatest (map f ops)
 most_at f [] k h = absurd (omega arith)
 most_at f (o ∷ os) zero h = omega arith
 most_at f (o ∷ os) (suc k) h = let rest = most_at f os k (omega arith) in omega (arith, rest)
 
-pub bytes_lent : (p : PlanView) (k n : ℕ) (xs : List ℕ) → k < length p.ops → n ≡ bytes_of p.arrays (op_of p k) → length xs ≡ (rooms_of p).bytes → n ≤ length xs
-bytes_lent p k n xs h e long = let most = most_at (λ o. bytes_of p.arrays o.op) p.ops k h in omega (arith, most, e, long)
+pub bytes_lent : (p : PlanView) (k n : ℕ) (xs : List ℕ) → k < length p.ops → n ≡ task_bytes p.arrays (op_of p k) → length xs ≡ (rooms_of p).bytes → n ≤ length xs
+bytes_lent p k n xs h e long = let most = most_at (λ o. task_bytes p.arrays o.op) p.ops k h in omega (arith, most, e, long)
 
-pub words_lent : (p : PlanView) (k n : ℕ) (xs : List ℕ) → k < length p.ops → n ≡ words_of (op_of p k) → length xs ≡ (rooms_of p).words → n ≤ length xs
-words_lent p k n xs h e long = let most = most_at (λ o. words_of o.op) p.ops k h in omega (arith, most, e, long)
+pub words_lent : (p : PlanView) (k n : ℕ) (xs : List ℕ) → k < length p.ops → n ≡ task_words (op_of p k) → length xs ≡ (rooms_of p).words → n ≤ length xs
+words_lent p k n xs h e long = let most = most_at (λ o. task_words o.op) p.ops k h in omega (arith, most, e, long)
 
 -- the most of the operations below k + 1
 pub most_more : (f : Planned → ℕ) (ops : List Planned) (k : ℕ) → k < length ops → greatest (map f (take (k + 1) ops)) ≡ max (f (operation_at ops k)) (greatest (map f (take k ops)))

@@ -2,3 +2,4 @@ pub mod Driving
 pub mod Lent
 pub mod Asking
 pub mod Running
+pub mod UsedUp

@@ -16,7 +16,7 @@ use Rattle.cu_work.specs.declared.run.Texts.{Texts}
 use Rattle.cu_work.specs.declared.run.TextFault.{TextFault}
 use Rattle.cu_work.specs.declared.run.TextFault.TheVariants.{Failed, NoMemory}
 use Rattle.cu_work.specs.Drive.{IfComplete, IfTried}
-use Rattle.cu_work.specs.Run.{run_of, TextPut, IsRecordFirst, HoldsTexts, IsPutFault, IsUnstored}
+use Rattle.cu_work.specs.Run.{run_of, TextPut, IsRecordFirst, HoldsTexts, IsTextPutFault, IsUnstored}
 
 -- a put of a text is a put of a piece
 record_within : (p : PlanView) (t : Texts) (first : Shown) → Within (PutOf t.record_key t.record.now) (RunChange (run_of p t) first)
@@ -42,7 +42,7 @@ module _ (p : PlanView) (t : Texts) (tries : ℕ) (first after : Shown) (put : S
   pub record_alone : (env : Elements) → IsRecordFirst (run_of p t) env tries first after
   record_alone env = inl (steps_wider (λ key value change. change) (omega arith) (omega arith) put)
 
-  pub record_unstored : (env : Elements) (f : TextFault) → IsPutFault tries t.record_key first after f → IsUnstored (run_of p t) env tries first after f
+  pub record_unstored : (env : Elements) (f : TextFault) → IsTextPutFault tries t.record_key first after f → IsUnstored (run_of p t) env tries first after f
   record_unstored env (Failed key) (same, rose) = inl (same, steps_wider (λ k value change. change) (omega arith) (omega arith) put)
   record_unstored env NoMemory cause = record_alone env
 
@@ -75,7 +75,7 @@ module _ (p : PlanView) (t : Texts) (tries : ℕ) (first after : Shown) (put : S
     pub record_first : (env : Elements) → IsLeft (run_of p t) env first → IsRecordFirst (run_of p t) env tries first last
     record_first env left = inr (record_held env left)
 
-    pub metadata_unstored : (f : TextFault) → IsPutFault tries t.metadata_key after last f → (env : Elements) → IsLeft (run_of p t) env first → IsUnstored (run_of p t) env tries first last f
+    pub metadata_unstored : (f : TextFault) → IsTextPutFault tries t.metadata_key after last f → (env : Elements) → IsLeft (run_of p t) env first → IsUnstored (run_of p t) env tries first last f
     metadata_unstored (Failed key) (same, rose) env left = inr (same, record_held env left)
     metadata_unstored NoMemory cause env left = record_first env left
 

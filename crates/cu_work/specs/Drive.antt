@@ -82,16 +82,16 @@ outcome_of (ended.BadChunk key got want) op task = BadChunk key got want
 outcome_of ended.Lacked op task = Lacked
 
 -- Why a task ends the round. Broken: all tries of the task failed, the count risen in each.
-abbrev pub IsEnd : ℕ → Shown → Shown → PlanView → Outcome → Type 0
-IsEnd tries old new p (Complete failed) = ⊥
-IsEnd tries old new p (Broken op task) = (op < length p.ops) × (task < tasks_of p.arrays (op_of p op)) × Rose tries old.faults new.faults
-IsEnd tries old new p (BadChunk key got want) = IsBadChunk p new key got want
-IsEnd tries old new p Lacked = IsTrue new.lacks
+abbrev pub IsRoundEnd : ℕ → Shown → Shown → PlanView → Outcome → Type 0
+IsRoundEnd tries old new p (Complete failed) = ⊥
+IsRoundEnd tries old new p (Broken op task) = (op < length p.ops) × (task < tasks_of p.arrays (op_of p op)) × Rose tries old.faults new.faults
+IsRoundEnd tries old new p (BadChunk key got want) = IsBadChunk p new key got want
+IsRoundEnd tries old new p Lacked = IsTrue new.lacks
 
 -- Why the round ends. Complete: each failed try raised the count.
 abbrev pub IsOutcome : ℕ → Shown → Shown → PlanView → Outcome → Type 0
 IsOutcome retries old new p (Complete failed) = Rose failed old.faults new.faults × (failed ≤ retries * task_count p)
-IsOutcome retries old new p outcome = IsEnd (retries + 1) old new p outcome
+IsOutcome retries old new p outcome = IsRoundEnd (retries + 1) old new p outcome
 
 -- a fact of a round that ran all tasks, of the task whose tries were used up, and of the bad chunk
 abbrev pub IfComplete : Outcome → Type 0 → Type 0

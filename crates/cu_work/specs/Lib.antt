@@ -2,3 +2,4 @@ pub mod Rooms
 pub mod Drive
 pub mod Order
 pub mod Run
+pub mod Tasks

@@ -7,12 +7,12 @@ use Rattle.cu_op.specs.PlanView.{PlanView}
 use Rattle.cu_op.specs.Projection.{greatest, scratch_room, input_room, output_room, instruction_count}
 
 -- a task's scratch, the regions that it reads, and those that it writes
-abbrev pub bytes_of : List ArrayInfo → Op → ℕ
-bytes_of arrays op = scratch_room arrays op + input_room arrays op + output_room arrays op
+abbrev pub task_bytes : List ArrayInfo → Op → ℕ
+task_bytes arrays op = scratch_room arrays op + input_room arrays op + output_room arrays op
 
 -- 64 words for each instruction of its kernel
-abbrev pub words_of : Op → ℕ
-words_of op = 64 * instruction_count op
+abbrev pub task_words : Op → ℕ
+task_words op = 64 * instruction_count op
 
 -- how many bytes and words there are
 pub record RoomSizes : Type 0 where
@@ -21,4 +21,4 @@ pub record RoomSizes : Type 0 where
 
 -- the most that any task of the plan is lent of each
 abbrev pub rooms_of : PlanView → RoomSizes
-rooms_of p = record { bytes = greatest (map (λ o. bytes_of p.arrays o.op) p.ops); words = greatest (map (λ o. words_of o.op) p.ops) }
+rooms_of p = record { bytes = greatest (map (λ o. task_bytes p.arrays o.op) p.ops); words = greatest (map (λ o. task_words o.op) p.ops) }

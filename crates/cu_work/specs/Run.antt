@@ -38,6 +38,6 @@ IsTextFault tries t old new (Failed key) = ((key ≡ t.record_key) ⊎ (key ≡ 
 IsTextFault tries t old new NoMemory = IsTrue new.lacks
 
 -- the same of one text
-abbrev pub IsPutFault : ℕ → List ℕ → Shown → Shown → TextFault → Type 0
-IsPutFault tries key old new (Failed failed) = (failed ≡ key) × Rose tries old.faults new.faults
-IsPutFault tries key old new NoMemory = IsTrue new.lacks
+abbrev pub IsTextPutFault : ℕ → List ℕ → Shown → Shown → TextFault → Type 0
+IsTextPutFault tries key old new (Failed failed) = (failed ≡ key) × Rose tries old.faults new.faults
+IsTextPutFault tries key old new NoMemory = IsTrue new.lacks

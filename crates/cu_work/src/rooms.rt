@@ -2,7 +2,7 @@
 ghost use Rattle.std.specs.Prelude.{◌≡◌, ◌+◌, ◌*◌, ◌<◌, IfOk, length};
 ghost use Rattle.cu_op.specs.PlanView.{operation_at};
 ghost use Rattle.cu_op.specs.Schedule.{op_of};
-ghost use Rattle.cu_work.specs.Rooms.{bytes_of, words_of, rooms_of};
+ghost use Rattle.cu_work.specs.Rooms.{task_bytes, task_words, rooms_of};
 
 use cu_op::Plan;
 use cu_store::NoMemory;
@@ -50,7 +50,7 @@ impl Rooms {
 /// The bytes that a task of the operation is lent, besides its words.
 pub(crate) fn task_bytes(plan: &Plan, op: u32) -> usize
     requires { op < length plan.now.ops }
-    ensures { result ≡ bytes_of plan.now.arrays (op_of plan.now op) }
+    ensures { result ≡ task_bytes plan.now.arrays (op_of plan.now op) }
 {
     let planned = plan.operation(op);
     (planned.projected - plan.reserved() - 512 * u64::from(planned.op.steps())) as usize
@@ -59,7 +59,7 @@ pub(crate) fn task_bytes(plan: &Plan, op: u32) -> usize
 /// The words that a task of the operation is lent.
 pub(crate) fn task_words(plan: &Plan, op: u32) -> usize
     requires { op < length plan.now.ops }
-    ensures { result ≡ words_of (op_of plan.now op) }
+    ensures { result ≡ task_words (op_of plan.now op) }
 {
     64 * plan.operation(op).op.steps() as usize
 }

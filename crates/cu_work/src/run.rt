@@ -1,13 +1,14 @@
 //! Storing what a plan makes: its texts, and then its chunks.
 ghost use Rattle.std.specs.Prelude.{◌≡◌, ℕ, ◌+◌, ◌*◌, ◌≤◌, length, OnOk, IfOk, IfErr};
 ghost use Rattle.cu_store.specs.Held.{Holds};
-ghost use Rattle.cu_store.specs.Steps.{PutOf, Steps};
+ghost use Rattle.cu_store.specs.Steps.{Shown, PutOf, Steps};
 ghost use Rattle.cu_op.specs.Value.{Elements};
 ghost use Rattle.cu_state.specs.Left.{IsLeft, AreDone, RunChange};
 ghost use Rattle.cu_state.specs.Pieces.{chunks_alone, IsComplete};
+ghost use Rattle.cu_work.specs.Tasks.{IsUsedUp};
 ghost use Rattle.cu_work.specs.Drive.{plan_calls, IsInputKey, IsOutcome, IsTaskMost, IfComplete, IfTried, IfBroken, IfBad};
 ghost use Rattle.cu_work.specs.Rooms.{rooms_of};
-ghost use Rattle.cu_work.specs.Run.{run_of, TextPut, IsRecordFirst, HoldsTexts, IsTextFault, IsPutFault, IsUnstored};
+ghost use Rattle.cu_work.specs.Run.{run_of, TextPut, IsRecordFirst, HoldsTexts, IsTextFault, IsTextPutFault, IsUnstored};
 
 use crate::outcome::Outcome;
 use crate::rooms::Rooms;
@@ -41,7 +42,7 @@ pub enum TextFault {
 fn put_text<D: Depot>(depot: &mut D, key: &Key, text: &[u8], retries: u32) -> Result<(), TextFault>
     ensures stored { OnOk result (Holds (D.shown depot.new).held key.now text.now) }
     ensures step { Steps (PutOf key.now text.now) 1 (retries + 1) (D.shown depot.old) (D.shown depot.new) }
-    ensures cause { IfErr result (IsPutFault (retries + 1) key.now (D.shown depot.old) (D.shown depot.new)) }
+    ensures cause { IfErr result (IsTextPutFault (retries + 1) key.now (D.shown depot.old) (D.shown depot.new)) }
 {
     match put_tries(depot, key, text, retries) {
         Ok(()) => Ok(()),
@@ -78,6 +79,8 @@ pub fn run_plan<D: Depot>(
         → IfOk result (λ outcome. IfComplete outcome (IsComplete (run_of plan.now texts.now) env (D.shown depot.new))) }
     ensures broken { (env : Elements) → IsLeft (run_of plan.now texts.now) env (D.shown depot.old)
         → IfOk result (λ outcome. IfBroken outcome (λ k task. AreDone (chunks_alone plan.now) env k task (D.shown depot.new))) }
+    ensures used_up { IfOk result (λ outcome. IfBroken outcome (λ k task. (start : Shown) × Steps (TextPut texts.now) 0 (2 * (retries + 1)) (D.shown depot.old) start
+        × IsUsedUp plan.now (retries + 1) start (D.shown depot.new) k task)) }
     ensures input { (env : Elements) → IsLeft (run_of plan.now texts.now) env (D.shown depot.old) → IfOk result (λ outcome. IfBad outcome (IsInputKey plan.now)) }
     ensures cause { IfErr result (IsTextFault (retries + 1) texts.now (D.shown depot.old) (D.shown depot.new)) }
     ensures outcome { IfOk result (IsOutcome retries (D.shown depot.old) (D.shown depot.new) plan.now) }

@@ -1,16 +1,17 @@
 //! The round over the tasks of a plan: each is tried until it ends.
 ghost use Rattle.std.specs.Prelude.{◌≡◌, ℕ, ◌+◌, ◌*◌, ◌<◌, ◌≤◌, length, OnOk, IfOk, IfErr};
 ghost use Rattle.cu_store.specs.Faults.{Rose};
-ghost use Rattle.cu_store.specs.Steps.{Steps};
+ghost use Rattle.cu_store.specs.Steps.{Shown, Steps};
 ghost use Rattle.cu_op.specs.Cells.{tasks_of};
 ghost use Rattle.cu_op.specs.Schedule.{op_of};
 ghost use Rattle.cu_op.specs.Sound.{Sound};
 ghost use Rattle.cu_op.specs.Value.{Elements};
 ghost use Rattle.cu_state.specs.Left.{IsLeft, AreDone, RunChange};
 ghost use Rattle.cu_state.specs.Pieces.{chunks_alone};
-ghost use Rattle.cu_work.specs.Drive.{DriveChange, operation_calls, plan_calls, IsInputKey, IsTaskEnd, IfBadIn, IsEnd, IsOutcome, IsTaskMost, IfComplete, IfTried, IfBroken, IfBad, end_of, outcome_of};
+ghost use Rattle.cu_work.specs.Drive.{DriveChange, operation_calls, plan_calls, IsInputKey, IsTaskEnd, IfBadIn, IsRoundEnd, IsOutcome, IsTaskMost, IfComplete, IfTried, IfBroken, IfBad, end_of, outcome_of};
 ghost use Rattle.cu_work.specs.Rooms.{rooms_of};
 ghost use Rattle.cu_task.specs.Task.{IsTaskReady, TaskChange, HoldsCells, IsTaskFault, calls_of};
+ghost use Rattle.cu_work.specs.Tasks.{TaskPut, AreRun, IsUsedUp};
 
 use crate::outcome::Outcome;
 use crate::rooms::{Rooms, task_bytes, task_words};
@@ -96,6 +97,7 @@ fn finish_task<D: Depot>(
     requires bytes { length bytes.old ≡ (rooms_of plan.now).bytes }
     requires words { length words.old ≡ (rooms_of plan.now).words }
     ensures step { Steps (DriveChange plan.now op task (D.shown depot.old)) 0 ((retries + 1) * calls_of plan.now op task) (D.shown depot.old) (D.shown depot.new) }
+    ensures own { Steps (TaskPut plan.now op task) 0 ((retries + 1) * calls_of plan.now op task) (D.shown depot.old) (D.shown depot.new) }
     ensures done { (env : Elements) → IsLeft (chunks_alone plan.now) env (D.shown depot.old) → AreDone (chunks_alone plan.now) env op task (D.shown depot.old)
         → OnOk result (AreDone (chunks_alone plan.now) env op (task + 1) (D.shown depot.new)) }
     ensures input { (env : Elements) → IsLeft (chunks_alone plan.now) env (D.shown depot.old) → AreDone (chunks_alone plan.now) env op task (D.shown depot.old)
@@ -148,9 +150,11 @@ fn drive_operation<D: Depot>(
         → OnOk result (AreDone (chunks_alone plan.now) env (op + 1) 0 (D.shown depot.new)) }
     ensures broken { (env : Elements) → IsLeft (chunks_alone plan.now) env (D.shown depot.old) → AreDone (chunks_alone plan.now) env op 0 (D.shown depot.old)
         → IfErr result (λ outcome. IfBroken outcome (λ k task. AreDone (chunks_alone plan.now) env k task (D.shown depot.new))) }
+    ensures run { (start : Shown) → AreRun plan.now start (D.shown depot.old) op 0 → OnOk result (AreRun plan.now start (D.shown depot.new) (op + 1) 0) }
+    ensures used_up { (start : Shown) → AreRun plan.now start (D.shown depot.old) op 0 → IfErr result (λ outcome. IfBroken outcome (IsUsedUp plan.now (retries + 1) start (D.shown depot.new))) }
     ensures input { (env : Elements) → IsLeft (chunks_alone plan.now) env (D.shown depot.old) → AreDone (chunks_alone plan.now) env op 0 (D.shown depot.old)
         → IfErr result (λ outcome. IfBad outcome (IsInputKey plan.now)) }
-    ensures cause { IfErr result (IsEnd (retries + 1) (D.shown depot.old) (D.shown depot.new) plan.now) }
+    ensures cause { IfErr result (IsRoundEnd (retries + 1) (D.shown depot.old) (D.shown depot.new) plan.now) }
     ensures failed { IfOk result (λ failed. (failed ≤ retries * tasks_of plan.now.arrays (op_of plan.now op)) × Rose failed (D.shown depot.old).faults (D.shown depot.new).faults) }
     ensures tries { (m : ℕ) → IsTaskMost plan.now m → IfOk result (λ failed. (D.shown depot.new).calls
         ≤ (D.shown depot.old).calls + operation_calls plan.now op (tasks_of plan.now.arrays (op_of plan.now op)) + failed * m) }
@@ -180,6 +184,7 @@ fn drive_plan<D: Depot>(
         → IfComplete result (AreDone (chunks_alone plan.now) env (length plan.now.ops) 0 (D.shown depot.new)) }
     ensures broken { (env : Elements) → IsLeft (chunks_alone plan.now) env (D.shown depot.old)
         → IfBroken result (λ k task. AreDone (chunks_alone plan.now) env k task (D.shown depot.new)) }
+    ensures used_up { IfBroken result (IsUsedUp plan.now (retries + 1) (D.shown depot.old) (D.shown depot.new)) }
     ensures input { (env : Elements) → IsLeft (chunks_alone plan.now) env (D.shown depot.old) → IfBad result (IsInputKey plan.now) }
     ensures cause { IsOutcome retries (D.shown depot.old) (D.shown depot.new) plan.now result }
     ensures tries { (m : ℕ) → IsTaskMost plan.now m → IfTried result (λ failed. (D.shown depot.new).calls
@@ -211,6 +216,7 @@ pub fn drive_alone<D: Depot>(plan: &Plan, depot: &mut D, rooms: &mut Rooms, retr
         → IfComplete result (AreDone (chunks_alone plan.now) env (length plan.now.ops) 0 (D.shown depot.new)) }
     ensures broken { (env : Elements) → IsLeft (chunks_alone plan.now) env (D.shown depot.old)
         → IfBroken result (λ k task. AreDone (chunks_alone plan.now) env k task (D.shown depot.new)) }
+    ensures used_up { IfBroken result (IsUsedUp plan.now (retries + 1) (D.shown depot.old) (D.shown depot.new)) }
     ensures input { (env : Elements) → IsLeft (chunks_alone plan.now) env (D.shown depot.old) → IfBad result (IsInputKey plan.now) }
     ensures cause { IsOutcome retries (D.shown depot.old) (D.shown depot.new) plan.now result }
     ensures tries { (m : ℕ) → IsTaskMost plan.now m → IfTried result (λ failed. (D.shown depot.new).calls

@@ -1,7 +1,6 @@
 use Rattle.std.proofs.Common.{length, max, min, sym, ap, ◌∙◌}
-use Rattle.cu_shape.specs.Index.{axis_by_axis}
+use Rattle.cu_shape.specs.Index.{axis_by_axis, differences}
 use Rattle.cu_grid.specs.Counts.{chunk_lo, chunk_hi}
-use Rattle.cu_codec.specs.Parts.{differences}
 use Rattle.cu_codec.proofs.Shared.{ranks_of, lengths_of, shared_of, first_of}
 use Rattle.cu_codec.proofs.parts.shared.Goals as goal
 

@@ -21,11 +21,13 @@ type_node-requires-clause-form c =
     rw number own.form
 
 pub type_node-requires-clause-short : goal.type_node-requires-clause-short
-type_node-requires-clause-short c = c.requires.short c.loop-node.node-index c.node-item.result (at_index c)
+type_node-requires-clause-short c =
+    let known = c.nodes-node-items.ensures.form in
+    known.indices c.loop-node.node-index c.node-item.result (at_index c)
 
 pub type_node-requires-clause-stored : goal.type_node-requires-clause-stored
 type_node-requires-clause-stored c =
-    told_stored_kept c.args.inputs.now (get_by_text c.in_ok-named.named) c.node-item.result.form c.in_ok-named.ensures c.requires.limits
+    told_stored_kept c.args.inputs.now (get_by_text c.in_ok-named.named) c.node-item.result.form c.in_ok-named.ensures c.requires
 
 pub returns-in-Err-clause-answer : goal.returns-in-Err-clause-answer
 returns-in-Err-clause-answer c =

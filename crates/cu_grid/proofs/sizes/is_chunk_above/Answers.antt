@@ -3,7 +3,7 @@ use Rattle.std.proofs.lemmas.Bool.{ltb-true, lt-ltb, le-ltb, ltb-false}
 use Rattle.std.specs.Bool.{OnFalse}
 use Rattle.std.proofs.Math.Nat.{div-le_self}
 use Rattle.cu_shape.specs.Index.{product}
-use Rattle.cu_grid.proofs.Products.{at_least_one_same, bytes_over, bytes_within}
+use Rattle.cu_shape.proofs.Products.{at_least_one_same, bytes_over, bytes_within}
 use Rattle.cu_grid.proofs.sizes.is_chunk_above.Goals as goal
 
 by_test : (p size limit : ℕ) (b : Bool) → 0 < size → nat_lt (limit / size) p ≡ b → nat_lt (limit / size) p ≡ nat_lt limit (p * size)

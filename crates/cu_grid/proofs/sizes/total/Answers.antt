@@ -1,5 +1,5 @@
 use Rattle.std.proofs.Common.{◌<◌, ◌*◌, ◌^◌, arith}
-use Rattle.cu_grid.proofs.Products.{total_step}
+use Rattle.cu_shape.proofs.Products.{total_step}
 use Rattle.cu_grid.proofs.sizes.total.Goals as goal
 
 pub overflow_mul-count : goal.overflow_mul-count

@@ -1,7 +1,7 @@
 use Rattle.std.proofs.Common.{◌≡◌, ap, ◌∙◌, arith}
 use Rattle.cu_zarr.specs.Key.{metadata_key_of}
 use Rattle.cu_command.proofs.SeenLemmas.{stepped, stepped_then, stepped_wider}
-use Rattle.cu_load.specs.Load.{IsCalm, chunks_in}
+use Rattle.cu_load.specs.Load.{IsArrayCalm, chunks_in}
 use Rattle.cu_load.specs.LoadForm.{given_by}
 use Rattle.cu_load.proofs.AskLemmas.{on_ok, always_ok, if_err}
 use Rattle.cu_load.proofs.StoreLemmas.{chunks_put, metadata_put, values_stay, all_stay, stores_given, metadata_fault}
@@ -19,7 +19,7 @@ returns-clause-failed g c =
     let key : c.metadata_key-key.result ≡ metadata_key_of (given_by c.args.form.now).name = c.metadata_key-key.ensures ∙ ap metadata_key_of c.key_of_name-name.ensures.key in
     let before = stepped_wider (chunks_put (given_by c.args.form.now) (chunks_in (given_by c.args.form.now)) (omega arith)) c.in_default.ensures.step in
     let put = stepped_wider (metadata_put (given_by c.args.form.now) c.metadata_key-key.result c.args.metadata.now key c.requires.metadata) (stepped c.put_value.ensures.step) in
-    let chunks = λ (calm : IsCalm (given_by c.args.form.now) (g.D.Depot.shown c.args.depot.now).late).
+    let chunks = λ (calm : IsArrayCalm (given_by c.args.form.now) (g.D.Depot.shown c.args.depot.now).late).
     all_stay (given_by c.args.form.now) (g.D.Depot.shown c.store_chunks.new.depot).held (g.D.Depot.shown c.put_value.new.depot).held
     (values_stay (given_by c.args.form.now) (g.D.Depot.shown c.args.depot.now).late (g.D.Depot.shown c.store_chunks.new.depot).late (g.D.Depot.shown c.store_chunks.new.depot).held (g.D.Depot.shown c.put_value.new.depot).held
     c.requires.given calm before.step.late put.step.lands)
@@ -32,7 +32,7 @@ returns-clause-stores g c calm =
     let key : c.metadata_key-key.result ≡ metadata_key_of (given_by c.args.form.now).name = c.metadata_key-key.ensures ∙ ap metadata_key_of c.key_of_name-name.ensures.key in
     let before = stepped_wider (chunks_put (given_by c.args.form.now) (chunks_in (given_by c.args.form.now)) (omega arith)) c.in_default.ensures.step in
     let put = stepped_wider (metadata_put (given_by c.args.form.now) c.metadata_key-key.result c.args.metadata.now key c.requires.metadata) (stepped c.put_value.ensures.step) in
-    let chunks = λ (calm : IsCalm (given_by c.args.form.now) (g.D.Depot.shown c.args.depot.now).late).
+    let chunks = λ (calm : IsArrayCalm (given_by c.args.form.now) (g.D.Depot.shown c.args.depot.now).late).
     all_stay (given_by c.args.form.now) (g.D.Depot.shown c.store_chunks.new.depot).held (g.D.Depot.shown c.put_value.new.depot).held
     (values_stay (given_by c.args.form.now) (g.D.Depot.shown c.args.depot.now).late (g.D.Depot.shown c.store_chunks.new.depot).late (g.D.Depot.shown c.store_chunks.new.depot).held (g.D.Depot.shown c.put_value.new.depot).held
     c.requires.given calm before.step.late put.step.lands)

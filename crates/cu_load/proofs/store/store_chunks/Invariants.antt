@@ -1,10 +1,10 @@
 use Rattle.cu_command.specs.Seen.{Stepped}
-use Rattle.cu_load.specs.Load.{ChunksPut, IsCalm, HoldsChunks}
+use Rattle.cu_load.specs.Load.{ChunksPut, IsArrayCalm, HoldsChunks}
 use Rattle.cu_load.specs.LoadForm.{given_by}
 use Rattle.cu_load.proofs.store.store_chunks.Given as goal
 
 abbrev pub invariant-loop-number : goal.invariant-loop-number
 invariant-loop-number g l = record {
   step : Stepped (ChunksPut (given_by l.form) l.number) (g.D.Depot.shown l.fn.depot) (g.D.Depot.shown l.depot);
-  stored : IsCalm (given_by l.form) (g.D.Depot.shown l.fn.depot).late → HoldsChunks (given_by l.form) (g.D.Depot.shown l.depot).held l.number;
+  stored : IsArrayCalm (given_by l.form) (g.D.Depot.shown l.fn.depot).late → HoldsChunks (given_by l.form) (g.D.Depot.shown l.depot).held l.number;
 }

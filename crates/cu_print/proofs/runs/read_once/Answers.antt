@@ -1,5 +1,5 @@
 use Rattle.cu_num.specs.Dtype.{size_of}
-use Rattle.cu_region.specs.Reading.{IsChunkKey, IsReadFault, bytes_of, key_at}
+use Rattle.cu_region.specs.Reading.{IsChunkKey, IsChunkReadFault, bytes_of, key_at}
 use Rattle.cu_region.proofs.Whole.{coordinates_small}
 use Rattle.cu_shape.specs.Index.{quotients}
 use Rattle.cu_command.proofs.SeenLemmas.{stepped, stepped_then}
@@ -22,7 +22,7 @@ returns-clause-step g c = stepped c.read_region.ensures.step
 pub returns-clause-cause : goal.returns-clause-cause
 returns-clause-cause g c =
     if_err c.read_region.result
-    (IsReadFault (g.D.Depot.shown c.args.depot.now).faults (g.D.Depot.shown c.read_region.new.depot).faults (g.D.Depot.shown c.read_region.new.depot).lacks (g.D.Depot.shown c.read_region.new.depot).held
+    (IsChunkReadFault (g.D.Depot.shown c.args.depot.now) (g.D.Depot.shown c.read_region.new.depot)
     (IsChunkKey c.args.info.now c.args.region.now.lo c.args.region.now.hi) (bytes_of c.args.info.now.layout))
     (IsTried 1 (g.D.Depot.shown c.args.depot.now) (g.D.Depot.shown c.read_region.new.depot) c.args.info.now.layout
     (key_at c.args.info.now (quotients c.args.region.now.lo c.args.info.now.layout.grid.chunk)))

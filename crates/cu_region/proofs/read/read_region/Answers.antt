@@ -1,12 +1,11 @@
-use Rattle.std.proofs.Common.{◌≡◌, ◌+◌, ◌≤◌, List, [], ℕ, length, min, ap, ◌∷◌, Contains, refl, sym, ◌∙◌, subst, inl, inr, arith}
+use Rattle.std.proofs.Common.{◌≡◌, List, [], ℕ, length, ap, ◌∷◌, Contains, sym, ◌∙◌, subst, inl, inr}
 use Rattle.cu_shape.specs.Index.{quotients}
-use Rattle.cu_store.proofs.Writes.{lands_same, lands_then, follows_call}
 use Rattle.std.proofs.lemmas.Result.{err_from_is_err_and}
 use Rattle.cu_region.specs.Reading.{IsChunkKey, key_at, bytes_of}
-use Rattle.cu_store.specs.Faults.{last_count}
 use Rattle.cu_store.specs.Steps.{NoChange}
+use Rattle.cu_store.proofs.Steps.{steps_then}
 use Rattle.cu_region.specs.Calls.{chunks_met}
-use Rattle.cu_region.proofs.Calls.{at_most_more, all_more, StepsSoFar, steps_none_yet, steps_one_more, steps_most}
+use Rattle.cu_region.proofs.Calls.{StepsSoFar, steps_none_yet, steps_one_more, steps_most, steps_made}
 use Rattle.cu_region.proofs.SteadyKeys.{hold_same, steady_then, first_contains, rest_contains, none_contained}
 use Rattle.cu_region.proofs.StoredReads.{ReadsSoFar, reads_more, meets_own, fault_more, settled_region}
 use Rattle.cu_region.proofs.read.read_region.Goals as goal
@@ -14,17 +13,11 @@ use Rattle.cu_region.proofs.read.read_region.Goals as goal
 pub loop-coord-init : goal.loop-coord-init
 loop-coord-init g c =
     let e : c.into_iter-coord-iterator.result ≡ c.cover-coord-items.result = c.into_iter-coord-iterator.ensures.into_iter_gives in
-    let n : length c.into_iter-coord-iterator.result ≡ length c.cover-coord-items.result = ap length e in
-    let m : length c.cover-coord-items.result ≡ chunks_met c.args.info.now.layout.grid c.args.region.now.lo c.args.region.now.hi = ap length c.cover-coord-items.ensures.chunks in
+    let long : length c.into_iter-coord-iterator.result ≡ length c.cover-coord-items.result = ap length e in
+    let all : length c.cover-coord-items.result ≡ chunks_met c.args.info.now.layout.grid c.args.region.now.lo c.args.region.now.hi = ap length c.cover-coord-items.ensures.chunks in
     record {
       left = λ coord has. (c.cover-coord-items.ensures.exactly coord).0 (subst (λ (x : List (List ℕ)). Contains x coord) e has);
-      step = steps_none_yet NoChange (chunks_met c.args.info.now.layout.grid c.args.region.now.lo c.args.region.now.hi) (length c.into_iter-coord-iterator.result) (g.D.Depot.shown c.args.depot.now) (n ∙ m);
-      lands = lands_same _ (g.D.Depot.shown c.args.depot.now).held;
-      late = λ key bytes among. among;
-      count = omega arith;
-      calls = omega (arith, n, m);
-      calls_all = ap (λ k. min ((g.D.Depot.shown c.args.depot.now).calls + k) last_count) n ∙ ap (λ k. min ((g.D.Depot.shown c.args.depot.now).calls + k) last_count) m;
-      lacks = refl;
+      step = steps_none_yet NoChange (chunks_met c.args.info.now.layout.grid c.args.region.now.lo c.args.region.now.hi) (length c.into_iter-coord-iterator.result) (g.D.Depot.shown c.args.depot.now) (long ∙ all);
       read = λ steady idx w. inl (subst (λ (x : List (List ℕ)). Contains x (quotients idx c.args.info.now.layout.grid.chunk)) (sym e)
           ((c.cover-coord-items.ensures.exactly (quotients idx c.args.info.now.layout.grid.chunk)).1
           (meets_own c.args.info.now c.args.region.now.lo c.args.region.now.hi idx c.cover-coord-items.ensures.kept c.requires.region w)));
@@ -38,47 +31,54 @@ read_part-requires-clause-meets g c =
 pub loop-coord-preserved : goal.loop-coord-preserved
 loop-coord-preserved g c =
     let e : c.loop-coord.coord-iterator ≡ c.in-Some.coord ∷ c.next.new.self = c.in-Some.ensures.steps in
+    let so_far = subst (λ (x : List (List ℕ)). StepsSoFar NoChange (chunks_met c.args.info.now.layout.grid c.args.region.now.lo c.args.region.now.hi) (length x) (g.D.Depot.shown c.args.depot.now) (g.D.Depot.shown c.loop-coord.depot)) e c.loop-coord.invariant.step in
     record {
       left = λ coord has. c.loop-coord.invariant.left coord (subst (λ (x : List (List ℕ)). Contains x coord) (sym e) (rest_contains c.in-Some.coord c.next.new.self coord has));
-      step = steps_one_more NoChange (chunks_met c.args.info.now.layout.grid c.args.region.now.lo c.args.region.now.hi) (length c.next.new.self) (g.D.Depot.shown c.args.depot.now) (g.D.Depot.shown c.loop-coord.depot) (g.D.Depot.shown c.read_part.new.depot)
-          (subst (λ (x : List (List ℕ)). StepsSoFar NoChange (chunks_met c.args.info.now.layout.grid c.args.region.now.lo c.args.region.now.hi) (length x) (g.D.Depot.shown c.args.depot.now) (g.D.Depot.shown c.loop-coord.depot)) e c.loop-coord.invariant.step) c.read_part.ensures.step;
-      lands = lands_then (g.D.Depot.shown c.args.depot.now).held (g.D.Depot.shown c.loop-coord.depot).held (g.D.Depot.shown c.read_part.new.depot).held c.loop-coord.invariant.late c.loop-coord.invariant.lands c.read_part.ensures.kept;
-      late = λ key bytes among. c.loop-coord.invariant.late key bytes (c.read_part.ensures.late key bytes among);
-      count = omega (arith, c.loop-coord.invariant.count, c.read_part.ensures.count);
-      calls = at_most_more (g.D.Depot.shown c.args.depot.now).calls (g.D.Depot.shown c.loop-coord.depot).calls (g.D.Depot.shown c.read_part.new.depot).calls (chunks_met c.args.info.now.layout.grid c.args.region.now.lo c.args.region.now.hi) (length c.next.new.self) c.read_part.ensures.calls
-          (subst (λ (x : List (List ℕ)). (g.D.Depot.shown c.loop-coord.depot).calls + length x ≤ (g.D.Depot.shown c.args.depot.now).calls + chunks_met c.args.info.now.layout.grid c.args.region.now.lo c.args.region.now.hi) e c.loop-coord.invariant.calls);
-      calls_all = all_more (g.D.Depot.shown c.args.depot.now).calls (g.D.Depot.shown c.loop-coord.depot).calls (g.D.Depot.shown c.read_part.new.depot).calls (chunks_met c.args.info.now.layout.grid c.args.region.now.lo c.args.region.now.hi) (length c.next.new.self) c.read_part.ensures.calls
-          (subst (λ (x : List (List ℕ)). min ((g.D.Depot.shown c.loop-coord.depot).calls + length x) last_count ≡ min ((g.D.Depot.shown c.args.depot.now).calls + chunks_met c.args.info.now.layout.grid c.args.region.now.lo c.args.region.now.hi) last_count) e c.loop-coord.invariant.calls_all);
-      lacks = c.read_part.ensures.lacks ∙ c.loop-coord.invariant.lacks;
+      step = steps_one_more NoChange (chunks_met c.args.info.now.layout.grid c.args.region.now.lo c.args.region.now.hi) (length c.next.new.self) (g.D.Depot.shown c.args.depot.now) (g.D.Depot.shown c.loop-coord.depot) (g.D.Depot.shown c.read_part.new.depot) so_far c.read_part.ensures.step;
       read = λ steady.
-          let mid = steady_then (IsChunkKey c.args.info.now c.args.region.now.lo c.args.region.now.hi) (g.D.Depot.shown c.args.depot.now).late (g.D.Depot.shown c.loop-coord.depot).late (g.D.Depot.shown c.args.depot.now).held (g.D.Depot.shown c.loop-coord.depot).held
-          steady c.loop-coord.invariant.lands c.loop-coord.invariant.late in
-          let same = hold_same (IsChunkKey c.args.info.now c.args.region.now.lo c.args.region.now.hi) (g.D.Depot.shown c.loop-coord.depot).late (g.D.Depot.shown c.loop-coord.depot).held (g.D.Depot.shown c.read_part.new.depot).held mid c.read_part.ensures.kept in
-          reads_more c.args.info.now c.args.region.now.lo c.args.region.now.hi c.in-Some.coord c.loop-coord.out c.read_part.new.out c.next.new.self
-          (g.D.Depot.shown c.loop-coord.depot).held (g.D.Depot.shown c.read_part.new.depot).held c.cover-coord-items.ensures.kept c.requires.region same c.in_ok-read_part.ensures.part
+          let mid = steady_then (IsChunkKey c.args.info.now c.args.region.now.lo c.args.region.now.hi) steady c.loop-coord.invariant.step.2 in
+          reads_more c.args.info.now c.args.region.now c.in-Some.coord c.loop-coord.out c.read_part.new.out c.next.new.self
+          (g.D.Depot.shown c.loop-coord.depot).held (g.D.Depot.shown c.read_part.new.depot).held c.cover-coord-items.ensures.kept c.requires.region (hold_same (IsChunkKey c.args.info.now c.args.region.now.lo c.args.region.now.hi) mid c.read_part.ensures.step) c.in_ok-read_part.ensures.part
           (subst (λ (x : List (List ℕ)). ReadsSoFar c.args.info.now c.args.region.now.lo c.args.region.now.hi (g.D.Depot.shown c.loop-coord.depot).held x c.loop-coord.out) e (c.loop-coord.invariant.read steady));
     }
 
+pub returns-in_err-read_part-clause-step : goal.returns-in_err-read_part-clause-step
+returns-in_err-read_part-clause-step g c =
+    let e : c.loop-coord.coord-iterator ≡ c.in-Some.coord ∷ c.next.new.self = c.in-Some.ensures.steps in
+    let so_far = subst (λ (x : List (List ℕ)). StepsSoFar NoChange (chunks_met c.args.info.now.layout.grid c.args.region.now.lo c.args.region.now.hi) (length x) (g.D.Depot.shown c.args.depot.now) (g.D.Depot.shown c.loop-coord.depot)) e c.loop-coord.invariant.step in
+    steps_most NoChange (chunks_met c.args.info.now.layout.grid c.args.region.now.lo c.args.region.now.hi) (length c.next.new.self) (g.D.Depot.shown c.args.depot.now) (g.D.Depot.shown c.read_part.new.depot)
+    (steps_one_more NoChange (chunks_met c.args.info.now.layout.grid c.args.region.now.lo c.args.region.now.hi) (length c.next.new.self) (g.D.Depot.shown c.args.depot.now) (g.D.Depot.shown c.loop-coord.depot) (g.D.Depot.shown c.read_part.new.depot) so_far c.read_part.ensures.step)
+
+pub returns-clause-step : goal.returns-clause-step
+returns-clause-step g c = steps_most NoChange (chunks_met c.args.info.now.layout.grid c.args.region.now.lo c.args.region.now.hi) (length c.loop-coord.coord-iterator) (g.D.Depot.shown c.args.depot.now) (g.D.Depot.shown c.loop-coord.depot) c.loop-coord.invariant.step
+
+pub returns-clause-calls_all : goal.returns-clause-calls_all
+returns-clause-calls_all g c =
+    let e : c.loop-coord.coord-iterator ≡ [] = c.in-None.ensures.steps.0 in
+    steps_made NoChange (chunks_met c.args.info.now.layout.grid c.args.region.now.lo c.args.region.now.hi) (g.D.Depot.shown c.args.depot.now) (g.D.Depot.shown c.loop-coord.depot)
+    (subst (λ (x : List (List ℕ)). StepsSoFar NoChange (chunks_met c.args.info.now.layout.grid c.args.region.now.lo c.args.region.now.hi) (length x) (g.D.Depot.shown c.args.depot.now) (g.D.Depot.shown c.loop-coord.depot)) e c.loop-coord.invariant.step)
+
 pub returns-in_err-read_part-clause-steady : goal.returns-in_err-read_part-clause-steady
-returns-in_err-read_part-clause-steady g c steady =
-    steady_then (IsChunkKey c.args.info.now c.args.region.now.lo c.args.region.now.hi) (g.D.Depot.shown c.args.depot.now).late (g.D.Depot.shown c.read_part.new.depot).late (g.D.Depot.shown c.args.depot.now).held (g.D.Depot.shown c.read_part.new.depot).held steady
-    (lands_then (g.D.Depot.shown c.args.depot.now).held (g.D.Depot.shown c.loop-coord.depot).held (g.D.Depot.shown c.read_part.new.depot).held c.loop-coord.invariant.late c.loop-coord.invariant.lands c.read_part.ensures.kept)
-    (λ key bytes among. c.loop-coord.invariant.late key bytes (c.read_part.ensures.late key bytes among))
+returns-in_err-read_part-clause-steady g c steady = steady_then (IsChunkKey c.args.info.now c.args.region.now.lo c.args.region.now.hi) steady (steps_then c.loop-coord.invariant.step.2 c.read_part.ensures.step)
+
+pub returns-in_err-read_part-clause-same : goal.returns-in_err-read_part-clause-same
+returns-in_err-read_part-clause-same g c steady = hold_same (IsChunkKey c.args.info.now c.args.region.now.lo c.args.region.now.hi) steady (steps_then c.loop-coord.invariant.step.2 c.read_part.ensures.step)
 
 pub returns-in_err-read_part-clause-cause : goal.returns-in_err-read_part-clause-cause
 returns-in_err-read_part-clause-cause g c =
     let e : c.loop-coord.coord-iterator ≡ c.in-Some.coord ∷ c.next.new.self = c.in-Some.ensures.steps in
     let p = err_from_is_err_and c.from_residual.result c.from_residual.ensures.1 in
-    rw (p.1, p.2) (fault_more (g.D.Depot.shown c.args.depot.now).faults (g.D.Depot.shown c.loop-coord.depot).faults (g.D.Depot.shown c.read_part.new.depot).faults (g.D.Depot.shown c.read_part.new.depot).lacks (g.D.Depot.shown c.read_part.new.depot).held
+    rw (p.1, p.2) (fault_more (g.D.Depot.shown c.args.depot.now) (g.D.Depot.shown c.loop-coord.depot) (g.D.Depot.shown c.read_part.new.depot)
     (λ key. key ≡ key_at c.args.info.now c.in-Some.coord) (IsChunkKey c.args.info.now c.args.region.now.lo c.args.region.now.hi) (bytes_of c.args.info.now.layout) c.in_err-read_part.field-0.0
-    c.loop-coord.invariant.count
+    c.loop-coord.invariant.step.2.count
     (λ key same. (c.in-Some.coord, c.loop-coord.invariant.left c.in-Some.coord (subst (λ (x : List (List ℕ)). Contains x c.in-Some.coord) (sym e) (first_contains c.in-Some.coord c.next.new.self)), same))
     c.in_err-read_part.ensures.cause)
 
 pub returns-clause-steady : goal.returns-clause-steady
-returns-clause-steady g c steady =
-    steady_then (IsChunkKey c.args.info.now c.args.region.now.lo c.args.region.now.hi) (g.D.Depot.shown c.args.depot.now).late (g.D.Depot.shown c.loop-coord.depot).late (g.D.Depot.shown c.args.depot.now).held (g.D.Depot.shown c.loop-coord.depot).held
-    steady c.loop-coord.invariant.lands c.loop-coord.invariant.late
+returns-clause-steady g c steady = steady_then (IsChunkKey c.args.info.now c.args.region.now.lo c.args.region.now.hi) steady c.loop-coord.invariant.step.2
+
+pub returns-clause-same : goal.returns-clause-same
+returns-clause-same g c steady = hold_same (IsChunkKey c.args.info.now c.args.region.now.lo c.args.region.now.hi) steady c.loop-coord.invariant.step.2
 
 pub returns-clause-read : goal.returns-clause-read
 returns-clause-read g c steady =
@@ -88,28 +88,3 @@ returns-clause-read g c steady =
       | inl left ↦ absurd (none_contained (quotients idx c.args.info.now.layout.grid.chunk) (subst (λ (x : List (List ℕ)). Contains x (quotients idx c.args.info.now.layout.grid.chunk)) e left))
       | inr stored ↦ stored
     ])
-
-pub returns-in_err-read_part-clause-step : goal.returns-in_err-read_part-clause-step
-returns-in_err-read_part-clause-step g c =
-    let e : c.loop-coord.coord-iterator ≡ c.in-Some.coord ∷ c.next.new.self = c.in-Some.ensures.steps in
-    steps_most NoChange (chunks_met c.args.info.now.layout.grid c.args.region.now.lo c.args.region.now.hi) (length c.next.new.self) (g.D.Depot.shown c.args.depot.now) (g.D.Depot.shown c.read_part.new.depot)
-    (steps_one_more NoChange (chunks_met c.args.info.now.layout.grid c.args.region.now.lo c.args.region.now.hi) (length c.next.new.self) (g.D.Depot.shown c.args.depot.now) (g.D.Depot.shown c.loop-coord.depot) (g.D.Depot.shown c.read_part.new.depot)
-    (subst (λ (x : List (List ℕ)). StepsSoFar NoChange (chunks_met c.args.info.now.layout.grid c.args.region.now.lo c.args.region.now.hi) (length x) (g.D.Depot.shown c.args.depot.now) (g.D.Depot.shown c.loop-coord.depot)) e c.loop-coord.invariant.step) c.read_part.ensures.step)
-
-pub returns-clause-step : goal.returns-clause-step
-returns-clause-step g c = steps_most NoChange (chunks_met c.args.info.now.layout.grid c.args.region.now.lo c.args.region.now.hi) (length c.loop-coord.coord-iterator) (g.D.Depot.shown c.args.depot.now) (g.D.Depot.shown c.loop-coord.depot) c.loop-coord.invariant.step
-
-pub returns-in_err-read_part-clause-same : goal.returns-in_err-read_part-clause-same
-returns-in_err-read_part-clause-same g c steady =
-    hold_same (IsChunkKey c.args.info.now c.args.region.now.lo c.args.region.now.hi) (g.D.Depot.shown c.args.depot.now).late (g.D.Depot.shown c.args.depot.now).held (g.D.Depot.shown c.read_part.new.depot).held steady
-    (lands_then (g.D.Depot.shown c.args.depot.now).held (g.D.Depot.shown c.loop-coord.depot).held (g.D.Depot.shown c.read_part.new.depot).held c.loop-coord.invariant.late c.loop-coord.invariant.lands c.read_part.ensures.kept)
-
-pub returns-in_err-read_part-clause-follows : goal.returns-in_err-read_part-clause-follows
-returns-in_err-read_part-clause-follows g c writes entry follows =
-    follows_call writes (g.D.Depot.shown c.args.depot.now).late (g.D.Depot.shown c.read_part.new.depot).late entry (g.D.Depot.shown c.args.depot.now).held (g.D.Depot.shown c.read_part.new.depot).held
-    (lands_then (g.D.Depot.shown c.args.depot.now).held (g.D.Depot.shown c.loop-coord.depot).held (g.D.Depot.shown c.read_part.new.depot).held c.loop-coord.invariant.late c.loop-coord.invariant.lands c.read_part.ensures.kept)
-    (λ key bytes among. c.loop-coord.invariant.late key bytes (c.read_part.ensures.late key bytes among)) follows
-
-pub returns-clause-same : goal.returns-clause-same
-returns-clause-same g c steady =
-    hold_same (IsChunkKey c.args.info.now c.args.region.now.lo c.args.region.now.hi) (g.D.Depot.shown c.args.depot.now).late (g.D.Depot.shown c.args.depot.now).held (g.D.Depot.shown c.loop-coord.depot).held steady c.loop-coord.invariant.lands

@@ -14,7 +14,7 @@ use Rattle.cu_op.specs.declared.walks.Walk.{Walk}
 use Rattle.cu_op.proofs.Plans.{grid_ok}
 use Rattle.cu_region.specs.Calls.{Made}
 use Rattle.cu_region.specs.Steady.{IsSteady}
-use Rattle.cu_task.specs.Inputs.{IsReadWalk, room_of_walks, HasRegions, IsWalkKey, IsInputFault}
+use Rattle.cu_task.specs.Inputs.{IsReadWalk, room_of_walks, HasRegions, IsWalkKey, IsTaskInputFault}
 use Rattle.cu_task.proofs.InputReads.{split_first, first_key, rest_key, first_fault, rest_fault, on_err_more, on_ok_then, stays, regions_before, regions_more, all_made}
 use Rattle.cu_task.proofs.inputs.+read_inputs.Goals as goal
 
@@ -54,7 +54,7 @@ pub returns-in_err-read_walk-in-len1-up-clause-cause : goal.returns-in_err-read_
 returns-in_err-read_walk-in-len1-up-clause-cause g t c =
     let split = split_first c.args.walks.now c.walk-item.result (omega arith) c.walk-item.is in
     let p = err_from_is_err_and c.from_residual.result c.from_residual.ensures.1 in
-    rw (p.1, p.2) (subst (λ (ws : List Walk). IsInputFault (g.D.Depot.shown c.args.depot.now) (g.D.Depot.shown c.read_walk.new.depot) c.args.plan.now.arrays ws c.in_err-read_walk-in-len1-up.field-0.0) (sym split)
+    rw (p.1, p.2) (subst (λ (ws : List Walk). IsTaskInputFault (g.D.Depot.shown c.args.depot.now) (g.D.Depot.shown c.read_walk.new.depot) c.args.plan.now.arrays ws c.in_err-read_walk-in-len1-up.field-0.0) (sym split)
     (first_fault (g.D.Depot.shown c.args.depot.now) (g.D.Depot.shown c.read_walk.new.depot) c.args.plan.now.arrays c.walk-item.result (take (length c.args.walks.now - 1) (drop 1 c.args.walks.now))
     c.in_err-read_walk-in-len1-up.field-0.0 c.in_err-read_walk-in-len1-up.ensures.cause))
 
@@ -107,7 +107,7 @@ pub returns-in_ok-read_walk-in-len1-up-clause-cause : goal.returns-in_ok-read_wa
 returns-in_ok-read_walk-in-len1-up-clause-cause g t c =
     let split = split_first c.args.walks.now c.walk-item.result (omega arith) c.walk-item.is in
     on_err_more c.read_inputs.result
-    (λ e h. subst (λ (ws : List Walk). IsInputFault (g.D.Depot.shown c.args.depot.now) (g.D.Depot.shown c.read_inputs.new.depot) c.args.plan.now.arrays ws e) (sym split)
+    (λ e h. subst (λ (ws : List Walk). IsTaskInputFault (g.D.Depot.shown c.args.depot.now) (g.D.Depot.shown c.read_inputs.new.depot) c.args.plan.now.arrays ws e) (sym split)
     (rest_fault (g.D.Depot.shown c.args.depot.now) (g.D.Depot.shown c.read_walk.new.depot) (g.D.Depot.shown c.read_inputs.new.depot) c.args.plan.now.arrays c.walk-item.result
     (take (length c.args.walks.now - 1) (drop 1 c.args.walks.now)) e c.read_walk.ensures.step.count h))
     c.read_inputs.ensures.cause

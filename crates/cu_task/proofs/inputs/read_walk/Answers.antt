@@ -1,10 +1,9 @@
 use Rattle.std.proofs.Common.{◌*◌, ◌≤◌, ℕ, List, length, Some, Option, sym, subst, arith}
 use Rattle.std.proofs.lemmas.List.{length-take-le}
 use Rattle.cu_num.specs.Dtype.{size_of}
-use Rattle.cu_shape.specs.Index.{product}
+use Rattle.cu_shape.specs.Index.{product, differences}
 use Rattle.cu_grid.specs.Cover.{Meets}
 use Rattle.cu_store.specs.Held.{Contents}
-use Rattle.cu_codec.specs.Parts.{differences}
 use Rattle.cu_op.specs.Arrays.{array_at, type_at}
 use Rattle.cu_op.specs.declared.layout.ArrayInfo.{ArrayInfo}
 use Rattle.cu_op.proofs.CellsOfTasks.{coordinates_small}

@@ -4,8 +4,8 @@ use Rattle.std.proofs.lemmas.Nat.{mul-le}
 use Rattle.cu_num.specs.Dtype.{size_of}
 use Rattle.cu_num.specs.Element.{element_at, element_bytes}
 use Rattle.cu_num.specs.declared.layout.Endian.TheVariants.{Little}
-use Rattle.cu_shape.specs.Index.{product, place_of, IsInside}
-use Rattle.cu_codec.specs.Parts.{part_at, differences}
+use Rattle.cu_shape.specs.Index.{product, place_of, IsInside, differences}
+use Rattle.cu_codec.specs.Parts.{part_at}
 use Rattle.cu_op.specs.Arrays.{array_at, type_at}
 use Rattle.cu_op.specs.Cells.{task_lo, task_hi}
 use Rattle.cu_op.specs.Kernel.{kernel_value}

@@ -1,7 +1,6 @@
 use Rattle.std.proofs.Common.{◌≡◌, ◌*◌, ◌≤◌, ℕ, sym, ap, ◌∙◌, subst}
 use Rattle.cu_num.specs.Dtype.{size_of}
-use Rattle.cu_shape.specs.Index.{product}
-use Rattle.cu_codec.specs.Parts.{differences}
+use Rattle.cu_shape.specs.Index.{product, differences}
 use Rattle.cu_op.specs.Arrays.{type_at, chunk_room}
 use Rattle.cu_op.specs.Operation.{target_of}
 use Rattle.cu_op.specs.Schedule.{op_of}

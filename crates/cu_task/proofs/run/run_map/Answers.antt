@@ -12,7 +12,7 @@ use Rattle.cu_op.specs.declared.walks.Walk.{Walk}
 use Rattle.cu_op.proofs.TaskCells.{fit_of}
 use Rattle.cu_region.specs.Calls.{Made}
 use Rattle.cu_region.specs.Steady.{IsSteady}
-use Rattle.cu_task.specs.Inputs.{IsReadWalk, room_of_walks, HasRegions, IsWalkKey, IsInputFault}
+use Rattle.cu_task.specs.Inputs.{IsReadWalk, room_of_walks, HasRegions, IsWalkKey, IsTaskInputFault}
 use Rattle.cu_task.specs.Task.{TaskChange}
 use Rattle.cu_task.proofs.InputReads.{on_err_more, on_ok_then, all_made}
 use Rattle.cu_task.proofs.MapTask.{task_regions, rooms_of}
@@ -87,7 +87,7 @@ pub returns-in_err-read_inputs-clause-cause : goal.returns-in_err-read_inputs-cl
 returns-in_err-read_inputs-clause-cause g c =
     let walks : c.deref-2.result.now ≡ (input_walks c.args.plan.now.arrays (op_of c.args.plan.now c.args.op) c.args.task) = c.deref-2.ensures.0 ∙ c.input_walks-walks.ensures.walks in
     let p = err_from_is_err_and c.from_residual.result c.from_residual.ensures.1 in
-    let cause = subst (λ (ws : List Walk). IsInputFault (g.D.Depot.shown c.args.depot.now) (g.D.Depot.shown c.read_inputs.new.depot) c.args.plan.now.arrays ws c.in_err-read_inputs.field-0.0) walks c.in_err-read_inputs.ensures.cause in
+    let cause = subst (λ (ws : List Walk). IsTaskInputFault (g.D.Depot.shown c.args.depot.now) (g.D.Depot.shown c.read_inputs.new.depot) c.args.plan.now.arrays ws c.in_err-read_inputs.field-0.0) walks c.in_err-read_inputs.ensures.cause in
     rw (p.1, p.2) (read_fault c.args.plan.now c.output_bytes-output.ensures.sound c.args.op c.args.task c.requires.operation c.requires.task (g.D.Depot.shown c.args.depot.now) (g.D.Depot.shown c.read_inputs.new.depot) c.in_err-read_inputs.field-0.0 cause)
 
 pub compute-requires-clause-inputs : goal.compute-requires-clause-inputs

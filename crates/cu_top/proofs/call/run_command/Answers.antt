@@ -1,13 +1,14 @@
-use Rattle.cu_top.proofs.TopLemmas.{told_run}
+use Rattle.std.proofs.Common.{subst, List, ℕ}
+use Rattle.cu_command.specs.Seen.{stream}
+use Rattle.cu_top.proofs.CallLemmas.{told_run}
+use Rattle.cu_top.specs.Run.{scene, case, Ran}
 use Rattle.cu_top.proofs.call.run_command.Goals as goal
 
-pub returns-clause-answer : goal.returns-clause-answer
-returns-clause-answer g c =
-    told_run _ _ _ _ _ _ _ _ _ _ _ _ _ _ c.args.options c.names_in-names.result _ c.run.result
-    (record {
-      text = c.in-Ok.text.items;
-      read = c.in-Ok.ensures.text;
-      value = rw c.deref.ensures.value at c.in-Ok-read_expression.ensures.value;
-      adds = rw (c.names_in-names.ensures.left, c.names_in-names.ensures.right, c.names_in-names.ensures.out) (rw c.deref.ensures.value at c.in-Ok-read_expression.ensures.ok);
-    })
-    c.run.ensures.answer
+pub returns-in-Ok-clause-answer : goal.returns-in-Ok-clause-answer
+returns-in-Ok-clause-answer g c =
+    let source = stream (g.R.Source.left c.args.src.now) (g.R.Source.faults c.args.src.now) in
+    let next = stream (g.R.Source.left c.read_all.new.src) (g.R.Source.faults c.read_all.new.src) in
+    let old = scene source (stream (g.W.Sink.written c.args.out.now) (g.W.Sink.faults c.args.out.now)) (g.D.Depot.shown c.args.depot.now) in
+    let new = scene next (stream (g.W.Sink.written c.run.new.out) (g.W.Sink.faults c.run.new.out)) (g.D.Depot.shown c.run.new.depot) in
+    told_run c.args.options.now old new c.in-Ok.text.items c.run.result c.in-Ok.ensures.text
+    (subst (λ (text : List ℕ). Ran (case c.args.options.now text old new) c.run.result) c.deref.ensures.value (c.run.ensures.answer source next))

@@ -1,6 +1,16 @@
+use Rattle.cu_command.specs.Seen.{stream}
+use Rattle.cu_top.proofs.CallLemmas.{refused_text}
 use Rattle.cu_top.proofs.Completeness.{served}
+use Rattle.cu_top.specs.Run.{scene}
 use Rattle.cu_top.proofs.call.top.Goals as goal
 
+pub returns-clause-refused_text : goal.returns-clause-refused_text
+returns-clause-refused_text g c = λ options text fault words told err.
+    refused_text options (scene (stream (g.R.Source.left c.args.src.now) (g.R.Source.faults c.args.src.now)) (stream (g.W.Sink.written c.args.out.now) (g.W.Sink.faults c.args.out.now)) (g.D.Depot.shown c.args.depot.now))
+    (scene (stream (g.R.Source.left c.carry.new.src) (g.R.Source.faults c.carry.new.src)) (stream (g.W.Sink.written c.carry.new.out) (g.W.Sink.faults c.carry.new.out)) (g.D.Depot.shown c.carry.new.depot))
+    text fault c.carry.result told err (c.carry.ensures.runs options words)
+
 pub returns-clause-complete : goal.returns-clause-complete
-returns-clause-complete g c text entry told_src told premise source sink depot =
-    served _ _ _ text _ _ entry _ _ _ _ _ _ _ _ _ _ _ _ _ c.carry.result told_src told premise source sink depot c.carry.ensures.answer
+returns-clause-complete g c = λ text entry told_left told premise source sink depot.
+    served _ text entry (scene (stream (g.R.Source.left c.args.src.now) (g.R.Source.faults c.args.src.now)) (stream (g.W.Sink.written c.args.out.now) (g.W.Sink.faults c.args.out.now)) (g.D.Depot.shown c.args.depot.now))
+    (scene (stream (g.R.Source.left c.carry.new.src) (g.R.Source.faults c.carry.new.src)) (stream (g.W.Sink.written c.carry.new.out) (g.W.Sink.faults c.carry.new.out)) (g.D.Depot.shown c.carry.new.depot)) told_left told premise source sink depot c.carry.result c.carry.ensures.runs

@@ -1,21 +1,42 @@
-use Rattle.std.proofs.Common.{Some}
-use Rattle.serde_json.specs.View.{view}
-use Rattle.cu_top.proofs.AloneLemmas.{alone_start}
-use Rattle.cu_top.proofs.TopLemmas.{follows_start, untouched_start, begins, ran_refused, ran_carried}
-use Rattle.cu_top.specs.Record.{record_text}
+use Rattle.std.proofs.Common.{ℕ, ◌≤◌, length, subst}
+use Rattle.cu_op.specs.PlanView.{PlanView}
+use Rattle.cu_command.specs.Seen.{stream}
+use Rattle.cu_command.specs.Streams.{WroteFront}
+use Rattle.cu_top.proofs.RunLemmas.{run_done, run_unreported}
+use Rattle.cu_top.specs.Report.{report_line}
+use Rattle.cu_top.specs.Run.{scene, case}
 use Rattle.cu_top.proofs.run.run.Goals as goal
 
-pub returns-in-Err-clause-answer : goal.returns-in-Err-clause-answer
-returns-in-Err-clause-answer g c =
-    ran_refused c.args.names.now c.args.options (record_text c.args.options (view c.args.expr.now)) _ _ _ _ _ _ _ _ _ _ c.in-Err.status c.in-Err.ensures.refused (c.prepare.ensures.follows _ _ (untouched_start _ _))
+pub store_plan-requires-clause-plain : goal.store_plan-requires-clause-plain
+store_plan-requires-clause-plain g c = c.plain_law.ensures c.args.text.now c.in-Ok.prepared.job.expr _ c.in-Ok.ensures.cleared.accepted.said c.in-Ok.ensures.cleared.accepted.value
 
-pub returns-in-Ok-clause-answer : goal.returns-in-Ok-clause-answer
-returns-in-Ok-clause-answer g c =
-    let texts = record_text c.args.options (view c.args.expr.now) in
-    ran_carried c.args.names.now c.args.options texts _ _ _ _ _ _ _ _ _ _ _ c.in-Ok.job c.carry_out.result c.carry_out.ensures.answer c.in-Ok.ensures.accepted c.in-Ok.ensures.fits c.in-Ok.ensures.apart c.prepare.ensures.count c.in-Ok.ensures.free
-    (c.carry_out.ensures.others _ _ (alone_start c.in-Ok.job _ _ _ _ (c.prepare.ensures.follows _ _ (untouched_start _ _))))
-    (λ entry same calm. c.carry_out.ensures.started entry _ (begins c.args.names.now c.args.options texts _ entry _ _ _ c.in-Ok.job c.in-Ok.ensures.accepted same calm (c.in-Ok.ensures.free entry same) (c.prepare.ensures.follows _ (Some entry) (follows_start _ entry _ same))))
-    (λ entry same calm. c.carry_out.ensures.first entry _ (begins c.args.names.now c.args.options texts _ entry _ _ _ c.in-Ok.job c.in-Ok.ensures.accepted same calm (c.in-Ok.ensures.free entry same) (c.prepare.ensures.follows _ (Some entry) (follows_start _ entry _ same))) (c.prepare.ensures.follows _ (Some entry) (follows_start _ entry _ same)))
-    (λ entry same calm. c.carry_out.ensures.stored entry _ (begins c.args.names.now c.args.options texts _ entry _ _ _ c.in-Ok.job c.in-Ok.ensures.accepted same calm (c.in-Ok.ensures.free entry same) (c.prepare.ensures.follows _ (Some entry) (follows_start _ entry _ same))))
-    (λ entry same calm. c.carry_out.ensures.failed_first entry _ (begins c.args.names.now c.args.options texts _ entry _ _ _ c.in-Ok.job c.in-Ok.ensures.accepted same calm (c.in-Ok.ensures.free entry same) (c.prepare.ensures.follows _ (Some entry) (follows_start _ entry _ same))) (c.prepare.ensures.follows _ (Some entry) (follows_start _ entry _ same)))
-    (λ entry same calm. c.carry_out.ensures.first_held entry _ (begins c.args.names.now c.args.options texts _ entry _ _ _ c.in-Ok.job c.in-Ok.ensures.accepted same calm (c.in-Ok.ensures.free entry same) (c.prepare.ensures.follows _ (Some entry) (follows_start _ entry _ same))))
+pub returns-in-Err-clause-answer : goal.returns-in-Err-clause-answer
+returns-in-Err-clause-answer g c = λ source next.
+    let out = stream (g.W.Sink.written c.args.out.now) (g.W.Sink.faults c.args.out.now) in
+    c.in-Err.ensures.refused source next out out
+
+pub returns-in-Ok-report-clause-answer : goal.returns-in-Ok-report-clause-answer
+returns-in-Ok-report-clause-answer g c = λ source next.
+    let start = g.D.Depot.shown c.args.depot.now in
+    let now = g.D.Depot.shown c.store_plan.new.depot in
+    let out = stream (g.W.Sink.written c.args.out.now) (g.W.Sink.faults c.args.out.now) in
+    let after = stream (g.W.Sink.written c.report.new.out) (g.W.Sink.faults c.report.new.out) in
+    run_done (case c.args.options.now c.args.text.now (scene source out start) (scene next after now)) c.in-Ok.prepared.job c.in-Ok-store_plan.failed
+    (c.in-Ok-store_plan.ensures.ended c.args.text.now start source next out after c.in-Ok.ensures.cleared)
+    (subst (λ (p : PlanView). WroteFront out.told after.told (report_line p c.in-Ok-store_plan.failed) (length (report_line p c.in-Ok-store_plan.failed))) c.in-Ok.ensures.plan c.in-Ok-report.ensures.all)
+
+pub returns-in-Ok-store_plan-clause-answer : goal.returns-in-Ok-store_plan-clause-answer
+returns-in-Ok-store_plan-clause-answer g c = λ source next.
+    let start = g.D.Depot.shown c.args.depot.now in
+    let now = g.D.Depot.shown c.store_plan.new.depot in
+    let out = stream (g.W.Sink.written c.args.out.now) (g.W.Sink.faults c.args.out.now) in
+    let after = stream (g.W.Sink.written c.report.new.out) (g.W.Sink.faults c.report.new.out) in
+    run_unreported (case c.args.options.now c.args.text.now (scene source out start) (scene next after now)) c.in-Ok.prepared.job c.in-Ok-store_plan.failed
+    (c.in-Ok-store_plan.ensures.ended c.args.text.now start source next out after c.in-Ok.ensures.cleared) c.in-Err-report.ensures.cause
+    (subst (λ (p : PlanView). (n : ℕ) × (n ≤ length (report_line p c.in-Ok-store_plan.failed)) × WroteFront out.told after.told (report_line p c.in-Ok-store_plan.failed) n) c.in-Ok.ensures.plan
+    c.in-Err-report.ensures.front)
+
+pub returns-clause-answer : goal.returns-clause-answer
+returns-clause-answer g c = λ source next.
+    let out = stream (g.W.Sink.written c.args.out.now) (g.W.Sink.faults c.args.out.now) in
+    c.in-Err-store_plan.ensures.ended c.args.text.now (g.D.Depot.shown c.args.depot.now) source next out out c.in-Ok.ensures.cleared

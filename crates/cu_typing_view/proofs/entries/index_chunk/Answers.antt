@@ -2,7 +2,7 @@ use Rattle.std.proofs.Common.{◌≡◌, ◌<◌, ◌++◌, [], ℕ, List, lengt
 use Rattle.std.proofs.Math.ListN.{drop_of_length-le}
 use Rattle.std.proofs.lemmas.List.{length-append}
 use Rattle.cu_shape.proofs.Axes.{length-axis_by_axis}
-use Rattle.cu_form.specs.declared.args.IndexItem.{IndexItem}
+use Rattle.cu_node.specs.declared.index_item.IndexItem.{IndexItem}
 use Rattle.cu_typing_view.specs.Entries.{cut, index_chunk}
 use Rattle.cu_typing_view.proofs.AxisRanges.{axes_rest}
 use Rattle.cu_typing_view.proofs.entries.index_chunk.Goals as goal

@@ -1,6 +1,6 @@
 use Rattle.std.proofs.Common.{◌≡◌, ◌+◌, ◌<◌, ◌++◌, ℕ, List, length, take, drop, IfSome, IfNone, ap, sym, subst, ◌∙◌, arith}
 use Rattle.cu_shape.proofs.Axes.{length-axis_by_axis}
-use Rattle.cu_form.specs.declared.args.IndexItem.{IndexItem}
+use Rattle.cu_node.specs.declared.index_item.IndexItem.{IndexItem}
 use Rattle.cu_typing_view.specs.Entries.{cut, chunk_left}
 use Rattle.cu_typing_view.proofs.AxisRanges.{axes_range}
 use Rattle.cu_typing_view.proofs.entries.with_chunk.Goals as goal

@@ -1,6 +1,7 @@
 use Rattle.std.proofs.Common.{◌+◌, length}
 use Rattle.cu_work.specs.Drive.{plan_calls}
 use Rattle.cu_work.proofs.Running.{record_most, texts_most, texts_refused, record_first, run_step, run_record, texts_held, run_complete, left_alone_after, record_unstored, metadata_unstored, run_tries}
+use Rattle.cu_work.proofs.UsedUp.{used_since}
 use Rattle.cu_work.proofs.run.run_plan.Goals as goal
 
 pub returns-in-Err-clause-step : goal.returns-in-Err-clause-step
@@ -78,3 +79,10 @@ returns-clause-tries g c = λ m most.
     run_tries c.args.plan.now c.args.texts.now (c.args.retries + 1) (g.D.Depot.shown c.args.depot.now) (g.D.Depot.shown c.put_text.new.depot) c.put_text.ensures.step c.in_default.ensures.stored
     (g.D.Depot.shown c.put_text-2.new.depot) c.put_text-2.ensures.step c.in_default-put_text.ensures.stored (plan_calls c.args.plan.now (length c.args.plan.now.ops)) (g.D.Depot.shown c.drive_alone.new.depot)
     c.drive_alone.ensures.step m c.drive_alone.result (c.drive_alone.ensures.tries m most)
+
+pub returns-clause-used_up : goal.returns-clause-used_up
+returns-clause-used_up g c =
+    used_since c.args.plan.now c.args.texts.now (c.args.retries + 1) (g.D.Depot.shown c.args.depot.now) (g.D.Depot.shown c.put_text-2.new.depot) (g.D.Depot.shown c.drive_alone.new.depot) c.drive_alone.result
+    (texts_refused c.args.plan.now c.args.texts.now (c.args.retries + 1) (g.D.Depot.shown c.args.depot.now) (g.D.Depot.shown c.put_text.new.depot) c.put_text.ensures.step c.in_default.ensures.stored
+    (g.D.Depot.shown c.put_text-2.new.depot) c.put_text-2.ensures.step)
+    c.drive_alone.ensures.used_up

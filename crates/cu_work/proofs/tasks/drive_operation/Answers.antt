@@ -3,10 +3,12 @@ use Rattle.cu_op.specs.Cells.{tasks_of}
 use Rattle.cu_op.specs.Schedule.{op_of}
 use Rattle.cu_state.specs.Left.{AreDone}
 use Rattle.cu_state.specs.Pieces.{chunks_alone}
-use Rattle.cu_work.specs.Drive.{operation_calls, IsEnd, IfBroken, IfBad, IsInputKey}
+use Rattle.cu_work.specs.Drive.{operation_calls, IsRoundEnd, IfBroken, IfBad, IsInputKey}
 use Rattle.cu_work.specs.declared.outcome.Outcome.{Outcome}
 use Rattle.cu_task.specs.Task.{calls_of}
 use Rattle.cu_work.proofs.Driving.{failed_fits, left_between, operation_step, operation_within, operation_more, still_done, outcome_input, outcome_broken, outcome_cause, done_operation, rose_then, few_more, calls_more, operation_calls_more}
+use Rattle.cu_work.specs.Tasks.{AreRun, IsUsedUp}
+use Rattle.cu_work.proofs.UsedUp.{run_more, run_operation, outcome_used}
 use Rattle.cu_work.proofs.tasks.drive_operation.Goals as goal
 
 pub overflow_add-failed : goal.overflow_add-failed
@@ -44,7 +46,7 @@ pub returns-in-Err-clause-cause : goal.returns-in-Err-clause-cause
 returns-in-Err-clause-cause g c =
     let e = c.tasks-task-end.ensures.tasks in
     let t = c.loop-task-test.true in
-    subst (λ (o : Outcome). IsEnd (c.args.retries + 1) (g.D.Depot.shown c.args.depot.now) (g.D.Depot.shown c.finish_task.new.depot) c.args.plan.now o) (sym c.outcome_of.ensures)
+    subst (λ (o : Outcome). IsRoundEnd (c.args.retries + 1) (g.D.Depot.shown c.args.depot.now) (g.D.Depot.shown c.finish_task.new.depot) c.args.plan.now o) (sym c.outcome_of.ensures)
     (outcome_cause (c.args.retries + 1) c.args.plan.now (g.D.Depot.shown c.args.depot.now) (g.D.Depot.shown c.loop-task.depot) (g.D.Depot.shown c.finish_task.new.depot) c.in-Err.end c.args.op c.loop-task.task
     c.requires.operation (omega (arith, e, t)) c.loop-task.invariant.step.count c.in-Err.ensures.cause)
 
@@ -59,6 +61,11 @@ loop-task-preserved g c =
           (operation_step c.args.plan.now c.args.op c.loop-task.task c.args.retries (operation_calls c.args.plan.now c.args.op c.loop-task.task) (g.D.Depot.shown c.args.depot.now) (g.D.Depot.shown c.loop-task.depot)
           c.loop-task.invariant.step c.loop-task.invariant.done (g.D.Depot.shown c.finish_task.new.depot) c.in-Ok.ensures.step);
       done = λ env left done. let b = before env left done in c.in-Ok.ensures.done env b.0 b.1;
+      run = λ start run.
+          let t = c.loop-task-test.true in
+          let e = c.tasks-task-end.ensures.tasks in
+          run_more c.args.plan.now c.args.op c.loop-task.task ((c.args.retries + 1) * calls_of c.args.plan.now c.args.op c.loop-task.task) c.in-Ok.more start (g.D.Depot.shown c.loop-task.depot)
+          (g.D.Depot.shown c.finish_task.new.depot) c.requires.operation (omega (arith, e, t)) (c.loop-task.invariant.run start run) c.in-Ok.ensures.own c.in-Ok.ensures.failed.1 c.in-Ok.ensures.tries;
       tries = λ m most.
           let t = c.loop-task-test.true in
           let e = c.tasks-task-end.ensures.tasks in
@@ -89,3 +96,18 @@ returns-clause-tries g c = λ m most.
     let all : c.loop-task.task ≡ tasks_of c.args.plan.now.arrays (op_of c.args.plan.now c.args.op) = omega (arith, e, t, a) in
     subst (λ (n : ℕ). (g.D.Depot.shown c.loop-task.depot).calls ≤ (g.D.Depot.shown c.args.depot.now).calls + operation_calls c.args.plan.now c.args.op n + c.loop-task.failed * m) all
     (c.loop-task.invariant.tries m most)
+
+pub returns-in-Err-clause-used_up : goal.returns-in-Err-clause-used_up
+returns-in-Err-clause-used_up g c = λ start run.
+    subst (λ (o : Outcome). IfBroken o (IsUsedUp c.args.plan.now (c.args.retries + 1) start (g.D.Depot.shown c.finish_task.new.depot))) (sym c.outcome_of.ensures)
+    (outcome_used c.args.plan.now (c.args.retries + 1) start (g.D.Depot.shown c.loop-task.depot) (g.D.Depot.shown c.finish_task.new.depot) c.in-Err.end c.args.op c.loop-task.task
+    (c.loop-task.invariant.run start run) c.in-Err.ensures.own c.in-Err.ensures.cause)
+
+pub returns-clause-run : goal.returns-clause-run
+returns-clause-run g c = λ start run.
+    let e = c.tasks-task-end.ensures.tasks in
+    let t = c.loop-task-test.false in
+    let a = c.loop-task.auto.task-end in
+    let all : c.loop-task.task ≡ tasks_of c.args.plan.now.arrays (op_of c.args.plan.now c.args.op) = omega (arith, e, t, a) in
+    run_operation c.args.plan.now c.args.op start (g.D.Depot.shown c.loop-task.depot)
+    (subst (λ (n : ℕ). AreRun c.args.plan.now start (g.D.Depot.shown c.loop-task.depot) c.args.op n) all (c.loop-task.invariant.run start run))

@@ -6,6 +6,7 @@ use Rattle.cu_op.specs.Cells.{tasks_of}
 use Rattle.cu_op.specs.Schedule.{op_of}
 use Rattle.cu_work.specs.Drive.{operation_calls, plan_calls}
 use Rattle.cu_work.proofs.Driving.{plan_step, plan_left, plan_within, plan_more, rose_then, few_operation, calls_then, plan_calls_more}
+use Rattle.cu_work.proofs.UsedUp.{none_run}
 use Rattle.cu_work.proofs.tasks.drive_plan.Goals as goal
 
 -- the number of the operation is one of the plan's
@@ -41,6 +42,7 @@ loop-op-preserved g c =
       done = λ env left.
           c.in-Ok.ensures.done env (plan_left c.args.plan.now c.loop-op.op c.args.retries (g.D.Depot.shown c.args.depot.now) (g.D.Depot.shown c.loop-op.depot) c.loop-op.invariant.step env left)
           (c.loop-op.invariant.done env left);
+      run = λ start run. c.in-Ok.ensures.run start (c.loop-op.invariant.run start run);
       tries = λ m most.
           let all = calls_then (g.D.Depot.shown c.args.depot.now).calls (g.D.Depot.shown c.loop-op.depot).calls (g.D.Depot.shown c.drive_operation.new.depot).calls
           (plan_calls c.args.plan.now c.loop-op.op) (operation_calls c.args.plan.now c.loop-op.op (tasks_of c.args.plan.now.arrays (op_of c.args.plan.now c.loop-op.op))) m c.loop-op.failed c.in-Ok.more
@@ -73,3 +75,8 @@ returns-clause-tries g c = λ m most.
     let e = ap length c.ops.ensures.ops in
     let all : c.loop-op.op ≡ length c.args.plan.now.ops = omega (arith, a, t, e) in
     subst (λ (n : ℕ). (g.D.Depot.shown c.loop-op.depot).calls ≤ (g.D.Depot.shown c.args.depot.now).calls + plan_calls c.args.plan.now n + c.loop-op.failed * m) all (c.loop-op.invariant.tries m most)
+
+pub returns-in-Err-clause-used_up : goal.returns-in-Err-clause-used_up
+returns-in-Err-clause-used_up g c =
+    let first = g.D.Depot.shown c.args.depot.now in
+    c.in-Err.ensures.used_up first (c.loop-op.invariant.run first (none_run c.args.plan.now first))

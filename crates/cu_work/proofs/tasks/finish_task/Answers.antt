@@ -2,6 +2,7 @@ use Rattle.std.proofs.Common.{◌≡◌, ◌+◌, Some, None, refl, sym, ◌∙�
 use Rattle.std.specs.Prelude.{Option}
 use Rattle.cu_work.specs.declared.tasks.TaskEnd.{TaskEnd}
 use Rattle.cu_work.proofs.Driving.{tried_within, tried_step, task_done, bad_is_input, rose_more}
+use Rattle.cu_work.proofs.UsedUp.{own_step, own_within}
 use Rattle.cu_work.proofs.tasks.finish_task.Goals as goal
 
 pub returns-in-Ok-clause-step : goal.returns-in-Ok-clause-step
@@ -45,6 +46,22 @@ loop-failed-preserved g c = record {
   words = c.try_task.auto.words ∙ c.loop-failed.invariant.words;
   step = tried_step c.range_law.ensures.values c.args.plan.now c.requires.sound c.args.op c.args.task c.requires.operation c.requires.task c.loop-failed.failed (g.D.Depot.shown c.args.depot.now)
       (g.D.Depot.shown c.loop-failed.depot) c.loop-failed.invariant.step (g.D.Depot.shown c.try_task.new.depot) c.try_task.ensures.step;
+  own = own_step c.args.plan.now c.args.op c.args.task c.loop-failed.failed (g.D.Depot.shown c.args.depot.now) (g.D.Depot.shown c.loop-failed.depot) (g.D.Depot.shown c.try_task.new.depot)
+      c.loop-failed.invariant.own c.try_task.ensures.step;
   rose = rose_more c.loop-failed.failed c.args.plan.now c.args.op c.args.task (g.D.Depot.shown c.args.depot.now) (g.D.Depot.shown c.loop-failed.depot) (g.D.Depot.shown c.try_task.new.depot) c.in-Err.fault
       (sym c.end_of.ensures ∙ none_told c.end_of.result c.in_default.not-Some) c.in-Err.ensures.cause c.loop-failed.invariant.rose;
 }
+
+pub returns-in-Ok-clause-own : goal.returns-in-Ok-clause-own
+returns-in-Ok-clause-own g c =
+    let e = c.from-failed-end.ensures in
+    let h = c.loop-failed-test.true in
+    own_within c.args.plan.now c.args.op c.args.task c.loop-failed.failed (g.D.Depot.shown c.args.depot.now) (g.D.Depot.shown c.loop-failed.depot) (g.D.Depot.shown c.try_task.new.depot)
+    c.loop-failed.invariant.own c.try_task.ensures.step (c.args.retries + 1) (omega (arith, e, h))
+
+pub returns-in-Some-clause-own : goal.returns-in-Some-clause-own
+returns-in-Some-clause-own g c =
+    let e = c.from-failed-end.ensures in
+    let h = c.loop-failed-test.true in
+    own_within c.args.plan.now c.args.op c.args.task c.loop-failed.failed (g.D.Depot.shown c.args.depot.now) (g.D.Depot.shown c.loop-failed.depot) (g.D.Depot.shown c.try_task.new.depot)
+    c.loop-failed.invariant.own c.try_task.ensures.step (c.args.retries + 1) (omega (arith, e, h))

@@ -1,7 +1,7 @@
 use Rattle.std.proofs.Common.{◌≤◌, ◌^◌, arith}
 use Rattle.cu_shape.specs.Index.{product}
 use Rattle.cu_grid.specs.Counts.{at_least_one}
-use Rattle.cu_grid.proofs.Products.{counts_within, product_within}
+use Rattle.cu_shape.proofs.Products.{counts_within, product_within}
 use Rattle.cu_grid.proofs.grid.Grid.count.Goals as goal
 
 within : (c : goal.After-total-arg-1) → product (at_least_one c.chunk_counts.result) ≤ 2 ^ 56

@@ -2,7 +2,7 @@ use Rattle.std.proofs.Common.{◌≡◌, ℕ, ◌+◌, ◌<◌, List, length, ma
 use Rattle.cu_op.specs.declared.operation.Planned.{Planned}
 use Rattle.cu_op.specs.PlanView.{operation_at}
 use Rattle.cu_op.specs.Projection.{greatest}
-use Rattle.cu_work.specs.Rooms.{bytes_of, words_of}
+use Rattle.cu_work.specs.Rooms.{task_bytes, task_words}
 use Rattle.cu_work.proofs.Lent.{most_more}
 use Rattle.cu_work.proofs.rooms.Rooms.make.Goals as goal
 
@@ -15,8 +15,8 @@ pub loop-op-preserved : goal.loop-op-preserved
 loop-op-preserved c =
     let h = subst (λ (os : List Planned). c.loop-op.op < length os) c.ops.ensures.ops c.loop-op-test.true in
     record {
-      bytes = one_more (λ o. bytes_of c.args.plan.now.arrays o.op) c.args.plan.now.ops c.loop-op.op c.max-most_bytes.result c.task_bytes.result c.loop-op.most_bytes h c.max-most_bytes.ensures
+      bytes = one_more (λ o. task_bytes c.args.plan.now.arrays o.op) c.args.plan.now.ops c.loop-op.op c.max-most_bytes.result c.task_bytes.result c.loop-op.most_bytes h c.max-most_bytes.ensures
           c.task_bytes.ensures c.loop-op.invariant.bytes;
-      words = one_more (λ o. words_of o.op) c.args.plan.now.ops c.loop-op.op c.max-most_words.result c.task_words.result c.loop-op.most_words h c.max-most_words.ensures c.task_words.ensures
+      words = one_more (λ o. task_words o.op) c.args.plan.now.ops c.loop-op.op c.max-most_words.result c.task_words.result c.loop-op.most_words h c.max-most_words.ensures c.task_words.ensures
           c.loop-op.invariant.words;
     }

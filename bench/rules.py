@@ -1,0 +1,718 @@
+"""What `run` must answer for an expression, read anew from the public standards and this project's own rules: the text (3), the
+metadata of the inputs (8, 7), types and shapes (4), what isn't built yet (19), memory (5), counts (6), keys in the way (9), the
+record, the keys of the arrays that are made, and the elements of elementwise functions as exact whole numbers.
+
+Nothing here comes from the program. bench/compare.py and tools/elementwise_cases.py use it; the first takes the elements from
+NumPy instead. Of operators that aren't elementwise it types those of `OTHERS`.
+"""
+import itertools
+import json
+import math
+import re
+
+SIZES = {"bool": 1, "int8": 1, "int16": 2, "int32": 4, "int64": 8, "uint8": 1, "uint16": 2, "uint32": 4, "uint64": 8}
+NAME = re.compile(r"[A-Za-z0-9][A-Za-z0-9_.-]{0,31}\Z")
+MOST_TEXT, MOST_NODES, MOST_RANK = 1 << 20, 256, 6
+MOST_ELEMENTS, MOST_CHUNK_BYTES, MOST_CHUNKS, MOST_TASKS = 1 << 40, 1 << 28, 1 << 16, 1 << 16
+
+
+class Refused(Exception):
+    """An answer other than `ok`, as its line without `error `."""
+
+
+def refuse(status, **fields):
+    raise Refused(" ".join([str(status)] + [f"{name}={value}" for name, value in fields.items()]))
+
+
+# Types
+
+def limits(dtype):
+    """Returns the least and the greatest value of a type."""
+    if dtype == "bool":
+        return 0, 1
+    bits = 8 * SIZES[dtype]
+    return (0, 2**bits - 1) if dtype.startswith("u") else (-(2 ** (bits - 1)), 2 ** (bits - 1) - 1)
+
+
+def promoted(left, right):
+    """Returns the type that two types share, or nothing."""
+    if left == right:
+        return left
+    if "bool" in (left, right):
+        return None
+    if left.startswith("u") == right.startswith("u"):
+        return max(left, right, key=SIZES.get)
+    signed, unsigned = (right, left) if left.startswith("u") else (left, right)
+    size = SIZES[signed] if SIZES[unsigned] < SIZES[signed] else 2 * SIZES[unsigned]
+    return f"int{8 * size}" if size <= 8 else None
+
+
+def wrapped(dtype, value):
+    """Returns a whole number, wrapped to an integer type."""
+    low = limits(dtype)[0]
+    return (value - low) % 2 ** (8 * SIZES[dtype]) + low
+
+
+# Elementwise functions: the count of arguments, what they accept, and the exact value of numbers of a width
+
+def shifted_right(width, x, y):
+    return x >> y if 0 <= y < width else (-1 if x < 0 else 0)
+
+
+ARITHMETIC = {
+    "add": (2, lambda w, x, y: x + y), "subtract": (2, lambda w, x, y: x - y), "multiply": (2, lambda w, x, y: x * y),
+    "floor_divide": (2, lambda w, x, y: x // y if y else 0), "remainder": (2, lambda w, x, y: x - y * (x // y) if y else 0),
+    "bitwise_left_shift": (2, lambda w, x, y: x * 2**y if 0 <= y < w else 0), "bitwise_right_shift": (2, shifted_right),
+    "negative": (1, lambda w, x: -x), "positive": (1, lambda w, x: x), "abs": (1, lambda w, x: abs(x)),
+    "square": (1, lambda w, x: x * x), "sign": (1, lambda w, x: (x > 0) - (x < 0))}
+BITWISE = {
+    "bitwise_and": (2, lambda w, x, y: x & y), "bitwise_or": (2, lambda w, x, y: x | y),
+    "bitwise_xor": (2, lambda w, x, y: x ^ y), "bitwise_invert": (1, lambda w, x: ~x)}
+EQUALITY = {"equal": (2, lambda w, x, y: x == y), "not_equal": (2, lambda w, x, y: x != y)}
+ORDER = {
+    "less": (2, lambda w, x, y: x < y), "less_equal": (2, lambda w, x, y: x <= y),
+    "greater": (2, lambda w, x, y: x > y), "greater_equal": (2, lambda w, x, y: x >= y)}
+LOGICAL = {
+    "logical_and": (2, lambda w, x, y: x & y), "logical_or": (2, lambda w, x, y: x | y),
+    "logical_xor": (2, lambda w, x, y: x ^ y), "logical_not": (1, lambda w, x: 1 - x)}
+FUNCTIONS = {**ARITHMETIC, **BITWISE, **EQUALITY, **ORDER, **LOGICAL, "where": (3, None), "astype": (1, None)}
+
+
+def accepts(op, dtype):
+    """Whether a function accepts an argument of this type; of `where` each but the first."""
+    if op in LOGICAL:
+        return dtype == "bool"
+    return dtype != "bool" or op in BITWISE or op in EQUALITY or op in ("where", "astype")
+
+
+def value_of(op, shared, result, args):
+    """Returns the element that a function gives for elements of the shared type."""
+    if op == "where":
+        return args[1] if args[0] else args[2]
+    if op == "astype":
+        return int(args[0] != 0) if result == "bool" else wrapped(result, args[0])
+    exact = int(FUNCTIONS[op][1](8 * SIZES[shared], *args))
+    return exact & 1 if result == "bool" else wrapped(result, exact)
+
+
+# The text: forms of nodes
+
+def whole(low, high):
+    return lambda value: type(value) is int and low <= value <= high
+
+
+def listed(kind):
+    return lambda value: type(value) is list and all(kind(entry) for entry in value)
+
+
+def is_name(value):
+    return type(value) is str and bool(NAME.match(value))
+
+
+def is_null_or(kind):
+    return lambda value: value is None or kind(value)
+
+
+def is_entry(value):
+    """Whether a value is an entry of `index`."""
+    if type(value) is dict:
+        return set(value) <= {"start", "stop", "step"} and all(is_null_or(INT64)(part) for part in value.values())
+    return INT64(value) or value in ("new", "...")
+
+
+def is_new_shape(value):
+    return listed(whole(-1, 2**40))(value) and value.count(-1) <= 1
+
+
+INT64, SIZE, SIDE = whole(-(2**63), 2**63 - 1), whole(0, 2**40), whole(1, 2**40)
+LITERAL = whole(-(2**63), 2**64 - 1)
+AXES, FLAG = listed(INT64), lambda value: type(value) is bool
+DTYPE = lambda value: type(value) is str and value in SIZES
+SIZES_LIST, CHUNK = listed(SIZE), listed(SIDE)
+
+
+def is_literal(value):
+    return FLAG(value) or LITERAL(value)
+
+
+# Of each operator the least and greatest count of arguments (nothing: it has no `args`), its members and those that may be absent.
+ONE, MANY = (1, 1), (1, 8)
+ROWS = {
+    "input": (None, {"name": is_name}, {}),
+    **{op: ((row[0], row[0]), {"dtype": DTYPE} if op == "astype" else {}, {}) for op, row in FUNCTIONS.items()},
+    "full": (None, {"shape": SIZES_LIST, "dtype": DTYPE, "value": is_literal, "chunk": CHUNK}, {}),
+    "arange": (None, {"start": INT64, "stop": INT64, "step": INT64, "dtype": DTYPE, "chunk": CHUNK}, {}),
+    "eye": (None, {"rows": SIZE, "cols": SIZE, "k": INT64, "dtype": DTYPE, "chunk": CHUNK}, {}),
+    "tril": (ONE, {"k": INT64}, {}), "triu": (ONE, {"k": INT64}, {}),
+    "index": (ONE, {"index": listed(is_entry)}, {}),
+    "concat": (MANY, {"axis": INT64}, {}), "stack": (MANY, {"axis": INT64}, {}),
+    "permute_dims": (ONE, {"axes": AXES}, {}), "reshape": (ONE, {"shape": is_new_shape}, {}),
+    "expand_dims": (ONE, {"axis": INT64}, {}), "squeeze": (ONE, {"axes": AXES}, {}),
+    "flip": (ONE, {}, {"axes": is_null_or(AXES)}), "roll": (ONE, {"shifts": AXES, "axes": AXES}, {}),
+    "broadcast_to": (ONE, {"shape": SIZES_LIST, "chunk": CHUNK}, {}), "rechunk": (ONE, {"chunk": CHUNK}, {}),
+    **{op: (ONE, {}, {"axes": is_null_or(AXES), "keepdims": FLAG}) for op in ("sum", "prod", "min", "max", "any", "all")},
+    **{op: (ONE, {}, {"axis": is_null_or(INT64), "keepdims": FLAG}) for op in ("argmin", "argmax")},
+    "matmul": ((2, 2), {}, {})}
+
+
+def whole_number(text):
+    """Reads a number as an integer only where it is one of 64 bits, and not minus zero."""
+    number = int(text)
+    return number if text != "-0" and -(2**63) <= number < 2**64 else float(number)
+
+
+def no_constant(text):
+    raise ValueError(text)
+
+
+def nesting(text):
+    """Returns how deep the lists and objects of a text stand in one another."""
+    depth = most = 0
+    for mark in re.sub(r'"(\\.|[^"\\])*"', "", text):
+        depth += (mark in "[{") - (mark in "]}")
+        most = max(most, depth)
+    return most
+
+
+def json_of(data):
+    """Reads a JSON value as serde_json does."""
+    text = data.decode("utf-8")
+    if nesting(text) > 127:
+        raise ValueError("too deep")
+    value = json.loads(text, parse_int=whole_number, parse_constant=no_constant)
+    text.encode("utf-8")
+    json.dumps(value, ensure_ascii=False).encode("utf-8")
+    return value
+
+
+def read(data):
+    """Returns the expression that a text is, or refuses it with 3."""
+    if len(data) > MOST_TEXT:
+        refuse(3, code=7, node=0)
+    try:
+        value = json_of(data)
+    except (ValueError, RecursionError):
+        refuse(3, code=1, node=0)
+    if type(value) is not dict or set(value) != {"nodes", "out", "store_as"} or type(value["nodes"]) is not list \
+            or type(value["out"]) is not str or type(value["store_as"]) is not str:
+        refuse(3, code=2, node=0)
+    if len(value["nodes"]) > MOST_NODES:
+        refuse(3, code=7, node=0)
+    ids = []
+    for number, node in enumerate(value["nodes"]):
+        code = node_code(node, ids)
+        if code:
+            refuse(3, code=code, node=number)
+        ids.append(node["id"])
+    if value["out"] not in ids or not is_name(value["store_as"]):
+        refuse(3, code=2, node=0)
+    return value
+
+
+def node_code(node, ids):
+    """Returns the code of a node's first fault, and 0 where it has none."""
+    if type(node) is not dict or type(node.get("id")) is not str or type(node.get("op")) is not str:
+        return 3
+    if node["op"] not in ROWS:
+        return 4
+    count, members, optional = ROWS[node["op"]]
+    wanted = {"id", "op", *members, *(["args"] if count else [])}
+    if not wanted <= set(node) <= wanted | set(optional):
+        return 3
+    kinds = {**members, **optional}
+    if any(not kinds[name](node[name]) for name in kinds if name in node) or count and type(node["args"]) is not list:
+        return 3
+    if count and not are_arguments(node, count):
+        return 5
+    if not is_name(node["id"]) or node["id"] in ids:
+        return 6
+    return 6 if any(arg not in ids for arg in node.get("args", []) if type(arg) is str) else 0
+
+
+def are_arguments(node, count):
+    """Whether a node's arguments are as many as they must be, each of its form, and arrays where they must be."""
+    args = node["args"]
+    if not count[0] <= len(args) <= count[1] or any(type(arg) is not str and not is_literal(arg) for arg in args):
+        return False
+    arrays = [type(arg) is str for arg in args]
+    if node["op"] == "where":
+        return arrays[0] and (arrays[1] or arrays[2])
+    return any(arrays) if node["op"] in FUNCTIONS else all(arrays)
+
+
+# Metadata
+
+REQUIRED = ["zarr_format", "node_type", "shape", "data_type", "chunk_grid", "chunk_key_encoding", "fill_value", "codecs"]
+
+
+class Array:
+    """What metadata says of an array."""
+
+    def __init__(self, dtype, shape, chunk, fill=0, endian="little", encoding="default", separator="/"):
+        self.dtype, self.shape, self.chunk, self.fill = dtype, list(shape), list(chunk), fill
+        self.endian, self.encoding, self.separator = endian, encoding, separator
+
+    def info(self):
+        return self.dtype, self.shape, self.chunk
+
+    def key(self, name, place):
+        return f"{name}/{chunk_key(self.encoding, self.separator, place)}"
+
+    def written(self):
+        """Returns the metadata as the program writes it."""
+        codec = {"name": "bytes"}
+        if SIZES[self.dtype] > 1:
+            codec["configuration"] = {"endian": self.endian}
+        return {
+            "chunk_grid": {"configuration": {"chunk_shape": self.chunk}, "name": "regular"},
+            "chunk_key_encoding": {"configuration": {"separator": self.separator}, "name": self.encoding},
+            "codecs": [codec], "data_type": self.dtype, "fill_value": bool(self.fill) if self.dtype == "bool" else self.fill,
+            "node_type": "array", "shape": self.shape, "zarr_format": 3}
+
+    def bytes_of(self, elements):
+        """Returns the bytes of elements, in the array's byte order."""
+        size, low = SIZES[self.dtype], limits(self.dtype)[0]
+        return b"".join(int(x).to_bytes(size, self.endian, signed=low < 0) for x in elements)
+
+
+def chunk_key(encoding, separator, place):
+    parts = [str(part) for part in place]
+    return separator.join(["c"] + parts) if encoding == "default" else separator.join(parts) or "0"
+
+
+def compact(value):
+    return json.dumps(value, sort_keys=True, separators=(",", ":"))
+
+
+def part_of(value, needs):
+    """Returns the name and the configuration of a part of the metadata, or nothing."""
+    if type(value) is str and not needs:
+        return value, {}
+    if type(value) is not dict or not set(value) <= {"name", "configuration", "must_understand"} \
+            or type(value.get("name")) is not str or type(value.get("configuration", {})) is not dict \
+            or type(value.get("must_understand", True)) is not bool or needs and "configuration" not in value:
+        return None
+    return value["name"], value.get("configuration", {})
+
+
+def meta_of(name, data):
+    """Returns the array that metadata describes, or refuses it with 7."""
+    array = meta_or_code(data)
+    if type(array) is int:
+        refuse(7, name=name, code=array)
+    return array
+
+
+def meta_or_code(data):
+    if len(data) > MOST_TEXT:
+        return 10
+    try:
+        told = json_of(data)
+    except (ValueError, RecursionError):
+        return 1
+    if type(told) is not dict:
+        return 1
+    if type(told.get("zarr_format")) is not int or told["zarr_format"] != 3 or told.get("node_type") != "array":
+        return 2
+    if any(name not in told for name in REQUIRED):
+        return 3
+    dtype = part_of(told["data_type"], False)
+    if dtype is None or dtype[0] not in SIZES or dtype[1]:
+        return 4
+    grid = part_of(told["chunk_grid"], True)
+    if not is_grid(told["shape"], grid, SIZES[dtype[0]]):
+        return 5
+    return layout_or_code(told, Array(dtype[0], told["shape"], grid[1]["chunk_shape"]))
+
+
+def is_grid(shape, grid, size):
+    if grid is None or grid[0] != "regular" or set(grid[1]) != {"chunk_shape"}:
+        return False
+    chunk = grid[1]["chunk_shape"]
+    return listed(whole(0, 2**64))(shape) and listed(whole(1, 2**64))(chunk) and len(shape) == len(chunk) \
+        and limit_place(shape, chunk, size) == 0
+
+
+def layout_or_code(told, array):
+    encoding = part_of(told["chunk_key_encoding"], False)
+    if encoding is None or encoding[0] not in ("default", "v2") or not set(encoding[1]) <= {"separator"} \
+            or encoding[1].get("separator", "/") not in ("/", "."):
+        return 6
+    array.encoding = encoding[0]
+    array.separator = encoding[1].get("separator", "/" if encoding[0] == "default" else ".")
+    fill = told["fill_value"]
+    if array.dtype == "bool" and not FLAG(fill) or array.dtype != "bool" and not whole(*limits(array.dtype))(fill):
+        return 7
+    array.fill = int(fill)
+    codecs = told["codecs"]
+    codec = part_of(codecs[0], False) if type(codecs) is list and len(codecs) == 1 else None
+    if codec is None or codec[0] != "bytes" or not set(codec[1]) <= {"endian"} \
+            or codec[1].get("endian", "little") not in ("little", "big") or SIZES[array.dtype] > 1 and not codec[1]:
+        return 8
+    array.endian = codec[1].get("endian", "little") if SIZES[array.dtype] > 1 else "little"
+    return others_code(told, array) or array
+
+
+def others_code(told, array):
+    names = told.get("dimension_names")
+    is_named = names is None or type(names) is list and len(names) == len(array.shape) \
+        and all(name is None or type(name) is str for name in names)
+    if type(told.get("attributes", {})) is not dict or not is_named or told.get("storage_transformers", []) != []:
+        return 3
+    others = set(told) - set(REQUIRED) - {"attributes", "dimension_names", "storage_transformers"}
+    return 9 if any(type(told[name]) is not dict or told[name].get("must_understand") is not False for name in others) else 0
+
+
+# Types and shapes
+
+def size_of(shape):
+    return math.prod(max(1, size) for size in shape)
+
+
+def grid_of(shape, chunk):
+    return [-(-size // side) for size, side in zip(shape, chunk)]
+
+
+def limit_place(shape, chunk, size):
+    """Returns which limit an array exceeds: 1 rank, 2 elements, 3 bytes of a chunk, 4 chunks, and 0 where it exceeds none."""
+    if len(shape) > MOST_RANK:
+        return 1
+    if size_of(shape) > MOST_ELEMENTS:
+        return 2
+    if size * math.prod(chunk) > MOST_CHUNK_BYTES:
+        return 3
+    return 4 if size_of(grid_of(shape, chunk)) > MOST_CHUNKS else 0
+
+
+def broadcast(shapes):
+    """Returns the shape that all shapes have together, or nothing."""
+    rank = max(map(len, shapes))
+    sizes = []
+    for column in zip(*[[1] * (rank - len(shape)) + list(shape) for shape in shapes]):
+        wide = {size for size in column if size != 1}
+        if len(wide) > 1:
+            return None
+        sizes.append(wide.pop() if wide else 1)
+    return sizes
+
+
+def chunk_for(shape, arrays):
+    """Returns the chunk shape of an elementwise result: on each axis that of the first argument that isn't stretched there."""
+    chunk = []
+    for axis, size in enumerate(shape):
+        for _, sizes, sides in arrays:
+            at = axis - len(shape) + len(sizes)
+            if at >= 0 and sizes[at] == size:
+                chunk.append(sides[at])
+                break
+    return chunk
+
+
+def aligned(shape, chunk, array):
+    """Returns the aligned chunk shape of an argument of a result of this shape and chunk shape."""
+    _, sizes, sides = array
+    return [to if size == of else side
+            for size, side, of, to in zip(sizes, sides, shape[len(shape) - len(sizes):], chunk[len(shape) - len(sizes):])]
+
+
+def typed(expr, metas):
+    """Returns the type, shape and chunk shape of each node, or refuses the first faulty one with 4."""
+    infos, told = [], {}
+    for number, node in enumerate(expr["nodes"]):
+        if node["op"] == "input":
+            info = metas[node["name"]].info()
+        else:
+            args = [told[arg] if type(arg) is str else arg for arg in node.get("args", [])]
+            info = elementwise(node, args) if node["op"] in FUNCTIONS else other(node, args)
+        if type(info) is int:
+            refuse(4, code=info, node=number)
+        infos.append(info)
+        told[node["id"]] = info
+    return infos
+
+
+def elementwise(node, args):
+    """Returns what is known of an elementwise node, or the code of its first fault."""
+    op = node["op"]
+    arrays = [arg for arg in args if type(arg) is tuple]
+    values = args[1:] if op == "where" else args
+    typed_values = [arg[0] for arg in values if type(arg) is tuple]
+    if op == "where" and args[0][0] != "bool" or any(not accepts(op, dtype) for dtype in typed_values):
+        return 6
+    shared = typed_values[0]
+    if any(not is_value(shared, arg) for arg in values if type(arg) is not tuple):
+        return 5
+    for dtype in typed_values[1:]:
+        shared = promoted(shared, dtype)
+        if shared is None:
+            return 1
+    shape = broadcast([sizes for _, sizes, _ in arrays])
+    if shape is None:
+        return 2
+    result = node["dtype"] if op == "astype" else "bool" if op in EQUALITY or op in ORDER else shared
+    chunk = chunk_for(shape, arrays)
+    sizes = [SIZES[array[0]] * math.prod(aligned(shape, chunk, array)) for array in arrays]
+    return 7 if limit_place(shape, chunk, SIZES[result]) or max(sizes) > MOST_CHUNK_BYTES else (result, shape, chunk)
+
+
+def is_value(dtype, value):
+    """Whether a literal is a value of a type."""
+    return type(value) is bool if dtype == "bool" else whole(*limits(dtype))(value)
+
+
+def limited(dtype, shape, chunk):
+    return 7 if limit_place(shape, chunk, SIZES[dtype]) else (dtype, shape, chunk)
+
+
+def axis_in(axis, rank):
+    """Returns the axis counted from the front, or nothing."""
+    return axis % rank if -rank <= axis < rank else None
+
+
+def axes_in(axes, rank):
+    """Returns distinct axes counted from the front, or nothing."""
+    found = [axis_in(axis, rank) if rank else None for axis in (range(rank) if axes is None else axes)]
+    return None if None in found or len(set(found)) < len(found) else found
+
+
+def made_full(node, args):
+    if not is_value(node["dtype"], node["value"]):
+        return 5
+    return 2 if len(node["chunk"]) != len(node["shape"]) else limited(node["dtype"], node["shape"], node["chunk"])
+
+
+def made_arange(node, args):
+    if node["dtype"] == "bool":
+        return 6
+    if node["step"] == 0:
+        return 9
+    values = range(node["start"], node["stop"], node["step"])
+    count = max(0, -(-(node["stop"] - node["start"]) // node["step"]))
+    if count and not all(whole(*limits(node["dtype"]))(value) for value in (values[0], node["start"] + (count - 1) * node["step"])):
+        return 5
+    return 2 if len(node["chunk"]) != 1 else limited(node["dtype"], [count], node["chunk"])
+
+
+def made_eye(node, args):
+    if node["dtype"] == "bool":
+        return 6
+    return 2 if len(node["chunk"]) != 2 else limited(node["dtype"], [node["rows"], node["cols"]], node["chunk"])
+
+
+def flipped(node, args):
+    return args[0] if axes_in(node.get("axes"), len(args[0][1])) is not None else 3
+
+
+def permuted(node, args):
+    dtype, shape, chunk = args[0]
+    axes = node["axes"]
+    return (dtype, [shape[a] for a in axes], [chunk[a] for a in axes]) if sorted(axes) == list(range(len(shape))) else 3
+
+
+def expanded(node, args):
+    dtype, shape, chunk = args[0]
+    axis = axis_in(node["axis"], len(shape) + 1)
+    if axis is None:
+        return 3
+    return limited(dtype, shape[:axis] + [1] + shape[axis:], chunk[:axis] + [1] + chunk[axis:])
+
+
+def rechunked(node, args):
+    dtype, shape, _ = args[0]
+    return 2 if len(node["chunk"]) != len(shape) else limited(dtype, shape, node["chunk"])
+
+
+def reduced(node, args):
+    """Sums, products, least and greatest, any and all."""
+    dtype, shape, chunk = args[0]
+    if dtype == "bool" and node["op"] not in ("any", "all"):
+        return 6
+    axes = axes_in(node.get("axes"), len(shape))
+    if axes is None:
+        return 3
+    if node["op"] in ("min", "max") and math.prod(shape[axis] for axis in axes) == 0:
+        return 4
+    if node["op"] in ("any", "all"):
+        dtype = "bool"
+    elif node["op"] in ("sum", "prod"):
+        dtype = "uint64" if dtype.startswith("u") else "int64"
+    if node.get("keepdims", False):
+        return limited(dtype, *[[1 if k in axes else side for k, side in enumerate(sides)] for sides in (shape, chunk)])
+    return limited(dtype, *[[side for k, side in enumerate(sides) if k not in axes] for sides in (shape, chunk)])
+
+
+OTHERS = {"full": made_full, "arange": made_arange, "eye": made_eye, "flip": flipped, "permute_dims": permuted,
+          "expand_dims": expanded, "rechunk": rechunked, **{op: reduced for op in ("sum", "prod", "min", "max", "any", "all")}}
+
+
+def other(node, args):
+    return OTHERS[node["op"]](node, args)
+
+
+# The plan
+
+class Plan:
+    """What `run` carries out: of each operation its node, the prefix of its array, and what its tasks read."""
+
+    def __init__(self, expr, metas, infos):
+        self.expr, self.metas, self.infos = expr, metas, infos
+        self.places = {node["id"]: number for number, node in enumerate(expr["nodes"])}
+        self.out = self.places[expr["out"]]
+        self.live = self.marks()
+        self.made = [k for k, node in enumerate(expr["nodes"]) if self.live[k] and node["op"] != "input"]
+        name = expr["store_as"]
+        others = [k for k in self.made if k != self.out]
+        self.prefixes = {k: f"_cubed/{name}/{number}" for number, k in enumerate(others)} | {self.out: name}
+
+    def marks(self):
+        live = [False] * len(self.infos)
+        live[self.out] = True
+        for k in range(self.out, -1, -1):
+            if live[k]:
+                for arg in self.arrays(k):
+                    live[arg] = True
+        return live
+
+    def arrays(self, k):
+        """Returns the numbers of the nodes that are a node's arguments, in order."""
+        return [self.places[arg] for arg in self.expr["nodes"][k].get("args", []) if type(arg) is str]
+
+    def literals(self, k):
+        return len(self.expr["nodes"][k].get("args", [])) - len(self.arrays(k))
+
+    def aligned_bytes(self, k):
+        _, shape, chunk = self.infos[k]
+        return [SIZES[self.infos[arg][0]] * math.prod(aligned(shape, chunk, self.infos[arg])) for arg in self.arrays(k)]
+
+    def unbuilt(self):
+        """Returns the first live node that `run` can't carry out, or nothing."""
+        for k, node in enumerate(self.expr["nodes"]):
+            if not self.live[k]:
+                continue
+            if node["op"] == "input":
+                if k == self.out:
+                    return k
+                continue
+            _, shape, chunk = self.infos[k]
+            if node["op"] not in FUNCTIONS or any(aligned(shape, chunk, self.infos[arg]) != self.infos[arg][2]
+                                                  for arg in self.arrays(k)):
+                return k
+        return None
+
+    def need(self, k, reserved):
+        """Returns the bytes that a node needs."""
+        if self.expr["nodes"][k]["op"] == "input":
+            return reserved
+        dtype, _, chunk = self.infos[k]
+        result, args = SIZES[dtype] * math.prod(chunk), self.aligned_bytes(k)
+        steps = len(args) + self.literals(k) + 1
+        return reserved + max([*args, result]) + sum(args) + result + 512 * steps
+
+    def tasks(self, k):
+        return math.prod(grid_of(*self.infos[k][1:]))
+
+    def peak(self, reserved):
+        return max(self.need(k, reserved) for k in self.made)
+
+    def chunks(self, k):
+        """Returns the places of the chunks of a node."""
+        return list(itertools.product(*map(range, grid_of(*self.infos[k][1:]))))
+
+    def key(self, k, place):
+        if self.expr["nodes"][k]["op"] == "input":
+            name = self.expr["nodes"][k]["name"]
+            return self.metas[name].key(name, place)
+        return f"{self.prefixes[k]}/{chunk_key('default', '/', place)}"
+
+    def task_inputs(self, k, place):
+        """Returns the node and the chunk of each argument that a task reads."""
+        shape = self.infos[k][1]
+        found = []
+        for arg in self.arrays(k):
+            sizes = self.infos[arg][1]
+            rest = len(shape) - len(sizes)
+            found.append((arg, tuple(place[rest + at] if size == shape[rest + at] else 0 for at, size in enumerate(sizes))))
+        return found
+
+    def keys_in_the_way(self):
+        """Returns the keys that are asked for, in order."""
+        name = self.expr["store_as"]
+        return [f"_cubed/{name}/plan.json", f"{name}/zarr.json"] + [self.key(k, place) for k in self.made for place in self.chunks(k)]
+
+    def record(self, allowed, reserved):
+        names = sorted({node["name"] for node in self.expr["nodes"] if node["op"] == "input"})
+        return {"allowed": allowed, "cubed": 1, "expr": self.expr, "inputs": {name: self.metas[name].written() for name in names},
+                "reserved": reserved, "split_every": 4}
+
+    def array(self, k):
+        """Returns the array in which a node's elements are stored."""
+        return Array(*self.infos[k])
+
+
+def plan_of(data, held, allowed, reserved):
+    """Returns the plan of a text over what is held, or refuses it. `held` gives the bytes of a key, or nothing."""
+    expr = read(data)
+    metas = {}
+    for node in expr["nodes"]:
+        if node["op"] == "input":
+            metadata = held(f"{node['name']}/zarr.json")
+            if metadata is None:
+                refuse(8, name=node["name"])
+            metas[node["name"]] = meta_of(node["name"], metadata)
+    plan = Plan(expr, metas, typed(expr, metas))
+    node = plan.unbuilt()
+    if node is not None:
+        refuse(19, node=node)
+    for k, live in enumerate(plan.live):
+        if live and plan.need(k, reserved) > allowed:
+            refuse(5, node=k, need=plan.need(k, reserved), allowed=allowed)
+    count = sum(map(plan.tasks, plan.made))
+    if count > MOST_TASKS:
+        refuse(6, which=1, count=count)
+    for key in plan.keys_in_the_way():
+        if held(key) is not None:
+            refuse(9, key=key)
+    return plan
+
+
+# Elements, as exact whole numbers: of each array a map from indices
+
+def indices(shape):
+    return itertools.product(*map(range, shape))
+
+
+def meant(plan, inputs):
+    """Returns the elements of each live node. `inputs` has those of each input's name, as a map from indices."""
+    found = {}
+    for k, node in enumerate(plan.expr["nodes"]):
+        if plan.live[k]:
+            found[k] = inputs[node["name"]] if node["op"] == "input" else meant_node(plan, k, node, found)
+    return found
+
+
+def meant_node(plan, k, node, found):
+    result, shape, _ = plan.infos[k]
+    values = node["args"][1:] if node["op"] == "where" else node["args"]
+    shared = None
+    for arg in values:
+        if type(arg) is str:
+            dtype = plan.infos[plan.places[arg]][0]
+            shared = dtype if shared is None else promoted(shared, dtype)
+    def element(arg, index):
+        if type(arg) is not str:
+            return int(arg)
+        sizes = plan.infos[plan.places[arg]][1]
+        own = index[len(index) - len(sizes):]
+        return found[plan.places[arg]][tuple(0 if size == 1 else i for size, i in zip(sizes, own))]
+
+    return {index: value_of(node["op"], shared, result, [element(arg, index) for arg in node["args"]]) for index in indices(shape)}
+
+
+def chunk_bytes(array, elements, place, past=0):
+    """Returns the bytes of a chunk, with `past` behind the edge of the array."""
+    whole_chunk = []
+    for inside in indices(array.chunk):
+        index = tuple(i * side + j for i, side, j in zip(place, array.chunk, inside))
+        is_there = all(i < size for i, size in zip(index, array.shape))
+        whole_chunk.append(elements[index] if is_there else past)
+    return array.bytes_of(whole_chunk)

@@ -1,0 +1,35 @@
+use Rattle.std.proofs.Common.{◌≡◌, ℕ, ◌+◌, ◌*◌, List, [], drop, length, Some, refl, sym, ap, ◌∙◌, subst}
+use Rattle.std.specs.Prelude.{slice_get}
+use Rattle.std.proofs.lemmas.Option.{slice_get_read}
+use Rattle.cu_form.specs.declared.expr.Node.{Node}
+use Rattle.cu_store.specs.Steps.{NoChange, Steps}
+use Rattle.cu_command.specs.Inputs.{name_before, used_names, names_from, names_of, names_in, IsInputFault}
+use Rattle.cu_command.proofs.InputLemmas.{next_names}
+use Rattle.cu_command.proofs.inputs.read_inputs.Goals as goal
+
+pub read_next-requires-clause-ranges : goal.read_next-requires-clause-ranges
+read_next-requires-clause-ranges g c =
+    let at : slice_get c.args.expr.now.nodes c.loop-node.node-index ≡ Some c.node-item.result =
+    rw (← c.nodes-node-items.ensures.nodes) (slice_get_read c.nodes-node-items.result.now _ c.loop-node.node-index c.node-item.result refl c.loop-node-test.true c.node-item.is) in
+    let own = c.nodes-node-items.ensures.form.nodes c.loop-node.node-index c.node-item.result at in
+    own.form.ranges
+
+pub returns-in-Err-clause-step : goal.returns-in-Err-clause-step
+returns-in-Err-clause-step g c =
+    let nodes = c.nodes-node-items.result.now in
+    let rest = used_names (drop (c.loop-node.node-index + 1) nodes) in
+    let all : names_in c.args.expr.now ≡ names_from (names_of c.loop-node.inputs.items) (name_before c.node-item.result.form rest) =
+    ap (λ (ns : List Node). names_from [] (used_names ns)) (sym c.nodes-node-items.ensures.nodes)
+    ∙ next_names (names_from [] (used_names nodes)) nodes c.loop-node.node-index c.node-item.result c.loop-node.inputs.items c.loop-node-test.true c.node-item.is c.loop-node.invariant.whole in
+    subst (λ (names : List (List ℕ)). Steps NoChange 0 ((c.args.retries + 1) * length names) (g.D.Depot.shown c.args.depot.now) (g.D.Depot.shown c.read_next.new.depot)) (sym all)
+    (c.in-Err.ensures.step (g.D.Depot.shown c.args.depot.now) rest c.loop-node.invariant.read)
+
+pub returns-in-Err-clause-cause : goal.returns-in-Err-clause-cause
+returns-in-Err-clause-cause g c =
+    let nodes = c.nodes-node-items.result.now in
+    let rest = used_names (drop (c.loop-node.node-index + 1) nodes) in
+    let all : names_in c.args.expr.now ≡ names_from (names_of c.loop-node.inputs.items) (name_before c.node-item.result.form rest) =
+    ap (λ (ns : List Node). names_from [] (used_names ns)) (sym c.nodes-node-items.ensures.nodes)
+    ∙ next_names (names_from [] (used_names nodes)) nodes c.loop-node.node-index c.node-item.result c.loop-node.inputs.items c.loop-node-test.true c.node-item.is c.loop-node.invariant.whole in
+    subst (λ (names : List (List ℕ)). IsInputFault (c.args.retries + 1) names (g.D.Depot.shown c.args.depot.now) (g.D.Depot.shown c.read_next.new.depot) c.in-Err.fault) (sym all)
+    (c.in-Err.ensures.cause (g.D.Depot.shown c.args.depot.now) rest c.loop-node.invariant.read)

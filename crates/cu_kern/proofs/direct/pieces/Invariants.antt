@@ -1,0 +1,16 @@
+use Rattle.std.proofs.Common.{◌≡◌, ◌<◌, ◌≤◌, ◌-◌, ℕ, Some, length}
+use Rattle.cu_shape.specs.Index.{index_at}
+use Rattle.cu_kern.specs.Lays.{HasValue, lay_element}
+use Rattle.cu_kern.specs.Strips.{call_type, call_value}
+use Rattle.cu_kern.proofs.direct.pieces.Given as goal
+
+abbrev pub invariant-loop-done : goal.invariant-loop-done
+invariant-loop-done l = record {
+  within : l.done ≤ l.all;
+  out_length : length l.out ≡ length l.fn.out;
+  values : (p : ℕ) → p < l.done → HasValue (call_type l.call) l.out p
+      (Some (call_value l.call (lay_element l.x.lay.now l.x.ins.now (index_at l.dims p)) (lay_element l.y.lay.now l.y.ins.now (index_at l.dims p)) (lay_element l.z.lay.now l.z.ins.now (index_at l.dims p))));
+}
+
+abbrev pub decreases-loop-done : goal.decreases-loop-done
+decreases-loop-done l = l.all - l.done

@@ -1,0 +1,32 @@
+use Rattle.std.proofs.Common.{◌≡◌, ◌≢◌, ◌≤◌, ◌+◌, ◌*◌, length, arith, ap, ◌∙◌, below_more}
+use Rattle.cu_num.specs.Dtype.{size_of}
+use Rattle.cu_num.specs.Element.{bytes_at, element_bytes}
+use Rattle.cu_num.specs.declared.layout.Endian.TheVariants.{Little}
+use Rattle.cu_num.proofs.ElementBytes.{bytes_at-written_at_same, bytes_at-written_at_other, length-written_at, length-element_bytes}
+use Rattle.cu_kern.specs.Strips.{call_type}
+use Rattle.cu_kern.specs.declared.calls.Call.TheVariants.{One}
+use Rattle.cu_kern.proofs.LaneWords.{kept}
+use Rattle.cu_kern.proofs.Parts.{element_fits}
+use Rattle.cu_kern.proofs.strips.one_from.Goals as goal
+
+pub loop-at-preserved : goal.loop-at-preserved
+loop-at-preserved c =
+    let r = call_type (One c.args.f c.args.origin c.args.t) in
+    let at = c.loop-at.at in
+    let out = c.loop-at.out in
+    let same = c.loop-at.invariant.same_length in
+    let size : c.size.result ≡ size_of r = c.size.ensures ∙ ap size_of c.result1-r.ensures in
+    let fits : at * size_of r + size_of r ≤ length out = rw same (element_fits r at c.size.result (length c.args.out.now) size c.loop-at-test.true) in
+    let written = rw c.result1-r.ensures at c.save.ensures in
+    let value = kept c.one_at.result (record { sfits = c.one_at.type_inv }) ∙ c.one_at.ensures in
+    record {
+      same_length = ap length written ∙ (length-written_at _ r out at _ fits ∙ same);
+      done = below_more _ _
+          (λ k b. let apart : k ≢ at = omega arith in
+          ap (λ all. bytes_at r all k) written
+          ∙ bytes_at-written_at_other r out _ at k apart (length-element_bytes _ r _) fits
+          ∙ c.loop-at.invariant.done k b)
+          (ap (λ all. bytes_at r all at) written
+          ∙ bytes_at-written_at_same r out _ at (length-element_bytes _ r _) fits
+          ∙ ap (element_bytes Little r) value);
+    }

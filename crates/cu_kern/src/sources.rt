@@ -1,0 +1,164 @@
+//! What a kernel reads: regions and literals, along runs of places.
+ghost use Rattle.std.specs.Prelude.{◌≡◌, ◌+◌, ◌-◌, ◌*◌, ◌%◌, ◌^◌, ◌≤◌, ◌<◌, ℕ, ℤ, List, [], All, IfSome, Some, length};
+ghost use Rattle.cu_num.specs.Dtype.{InRange};
+ghost use Rattle.cu_num.specs.Element.{element_at};
+ghost use Rattle.cu_num.specs.declared.layout.Endian.TheVariants.{Little};
+ghost use Rattle.cu_shape.specs.Index.{product, index_at};
+ghost use Rattle.cu_op.specs.declared.kernel.Instr.TheVariants.{Load, Const};
+ghost use Rattle.cu_op.specs.Kernel.{instruction_value};
+ghost use Rattle.cu_kern.specs.Lays.{LayFits, IsRun, IsSource, lay_element, loaded_at};
+ghost use Rattle.cu_kern.specs.Strips.{strip, strip_element, HasPlaces};
+
+use crate::lays::{Lay, Pace, place_in};
+use crate::strips::Strip;
+use cu_num::{Dtype, save, size};
+use cu_op::Instr;
+use cu_shape::Dims;
+
+/// The regions of a kernel, in one buffer, and the sizes to which they are stretched.
+#[derive(Clone, Copy)]
+pub(crate) struct Inputs<'a> {
+    pub(crate) lays: &'a [Lay],
+    pub(crate) ins: &'a [u8],
+    pub(crate) dims: &'a Dims,
+}
+
+/// A region and the buffer in which it lies.
+#[derive(Clone, Copy)]
+pub(crate) struct Source<'a> {
+    pub(crate) lay: &'a Lay,
+    pub(crate) ins: &'a [u8],
+}
+
+/// A region of one element, which is stretched over the whole result, and its bytes with zeros behind.
+#[derive(Clone, Copy)]
+pub(crate) struct Literal {
+    pub(crate) lay: Lay,
+    pub(crate) bytes: [u8; 8],
+}
+
+/// The elements that `count` places from `place` on read, all of one piece at this pace.
+pub(crate) fn strip_from<'a>(
+    source: Source<'a>,
+    pace: Pace,
+    dims: &Dims,
+    place: u64,
+    count: usize,
+) -> Strip<'a>
+    requires fits { LayFits dims.now (length source.ins.now) source.lay.now }
+    requires pace { IsRun source.lay.now.dims dims.now pace.run pace.step }
+    requires step { pace.step ≤ 1 }
+    requires some { 0 < count }
+    requires within { place + count ≤ product dims.now }
+    requires row { place % pace.run + count ≤ pace.run }
+    requires small { product dims.now < 2 ^ 63 }
+    ensures places { HasPlaces source.entry.lay.now.dtype (strip result.bytes.now result.step) count }
+    ensures elements { (k : ℕ) → k < count
+        → strip_element source.entry.lay.now.dtype (strip result.bytes.now result.step) k ≡ lay_element source.entry.lay.now source.entry.ins.now (index_at dims.now (place + k)) }
+{
+    let own = size(source.lay.dtype) as usize;
+    let from = source.lay.at + place_in(&source.lay.dims, dims, place) as usize * own;
+    Strip {
+        bytes: &source.ins[from..],
+        step: pace.step as usize,
+    }
+}
+
+/// The places that are left in the piece of `place`.
+#[inline(always)]
+pub(crate) fn left_in(pace: Pace, place: u64) -> u64
+    requires { 0 < pace.run }
+    ensures { result ≡ pace.run - place % pace.run }
+{
+    pace.run - place % pace.run
+}
+
+/// The region that a step loads, or the element of a literal; none where it is another step or has another type.
+pub(crate) fn source_of<'a>(
+    instr: Instr,
+    t: Dtype,
+    inputs: Inputs<'a>,
+    literal: &'a Literal,
+) -> Option<Source<'a>>
+    requires named { (k : ℕ) → instr ≡ Load k → k < length inputs.lays.now }
+    requires lays { All (LayFits inputs.dims.now (length inputs.ins.now)) inputs.lays.now }
+    requires at { literal.now.lay.at ≡ 0 }
+    requires dtype { literal.now.lay.dtype ≡ t }
+    requires dims { literal.now.lay.dims ≡ [] }
+    requires element { (y : ℤ) → instr ≡ Const y → element_at Little t literal.now.bytes 0 ≡ y }
+    ensures source { IfSome result (λ s. IsSource t inputs.entry.dims.now s.lay.now s.ins.now) }
+    ensures value { IfSome result (λ s. (idx : List ℕ) (results : List ℤ)
+        → instruction_value instr (loaded_at inputs.entry.lays.now inputs.entry.ins.now idx) results ≡ Some (lay_element s.lay.now s.ins.now idx)) }
+{
+    match instr {
+        Instr::Load(k) => region_of(k, t, inputs),
+        Instr::Const(_) => Some(Source {
+            lay: &literal.lay,
+            ins: &literal.bytes,
+        }),
+        _ => None,
+    }
+}
+
+/// A region, where it has the type.
+fn region_of<'a>(k: u32, t: Dtype, inputs: Inputs<'a>) -> Option<Source<'a>>
+    requires named { k < length inputs.lays.now }
+    requires lays { All (LayFits inputs.dims.now (length inputs.ins.now)) inputs.lays.now }
+    ensures source { IfSome result (λ s. IsSource t inputs.entry.dims.now s.lay.now s.ins.now) }
+    ensures value { IfSome result (λ s. (idx : List ℕ) → loaded_at inputs.entry.lays.now inputs.entry.ins.now idx k ≡ Some (lay_element s.lay.now s.ins.now idx)) }
+{
+    let lay = &inputs.lays[k as usize];
+    if lay.dtype != t {
+        return None;
+    }
+    Some(Source {
+        lay,
+        ins: inputs.ins,
+    })
+}
+
+/// The element of a literal; of another step zeros.
+pub(crate) fn literal_of(instr: Instr, t: Dtype) -> Literal
+    requires { (y : ℤ) → instr ≡ Const y → InRange t y }
+    ensures at { result.lay.at ≡ 0 }
+    ensures dtype { result.lay.dtype ≡ t }
+    ensures dims { result.lay.dims ≡ [] }
+    ensures element { (y : ℤ) → instr ≡ Const y → element_at Little t result.bytes 0 ≡ y }
+{
+    match instr {
+        Instr::Const(y) => Literal {
+            lay: single(t),
+            bytes: spelled(t, y),
+        },
+        _ => Literal {
+            lay: single(t),
+            bytes: [0; 8],
+        },
+    }
+}
+
+/// A region of one element, which is stretched over the whole result.
+fn single(t: Dtype) -> Lay
+    ensures at { result.at ≡ 0 }
+    ensures dtype { result.dtype ≡ t }
+    ensures dims { result.dims ≡ [] }
+{
+    match Dims::make(&[]) {
+        Ok(dims) => Lay {
+            at: 0,
+            dtype: t,
+            dims,
+        },
+        Err(_) => unreachable!(),
+    }
+}
+
+/// A number of the type as an element, with zeros behind.
+pub(crate) fn spelled(t: Dtype, x: i128) -> [u8; 8]
+    requires { InRange t x }
+    ensures { element_at Little t result 0 ≡ x }
+{
+    let mut bytes = [0; 8];
+    save(t, x, &mut bytes, 0);
+    bytes
+}

@@ -1,0 +1,167 @@
+-- What a plan's user wants to know of it, from where its parts stand.
+use Rattle.std.proofs.Common.{◌≡◌, ◌≢◌, ℕ, ◌<◌, ◌≤◌, ◌==◌, ℤ, Bool, true, false, List, Option, Some, None, length, get_or, refl, ap, sym, ◌∙◌, subst, inl, inr, [], arith}
+use Rattle.std.specs.Prelude.{slice_get}
+use Rattle.std.proofs.lemmas.Bool.{cases_Bool, eq-eqb}
+use Rattle.std.proofs.lemmas.Option.{slice_get-get_or}
+use Rattle.cu_name.specs.Name.{IsArrayName}
+use Rattle.cu_num.specs.declared.layout.Encoding.TheVariants.{Plain}
+use Rattle.cu_num.specs.declared.layout.Sep.TheVariants.{Slash}
+use Rattle.cu_shape.specs.Index.{IsInside}
+use Rattle.cu_op.specs.Arrays.{array_at, maker_at}
+use Rattle.cu_op.specs.PlanView.{operation_at}
+use Rattle.cu_op.specs.Value.{Elements, plan_value}
+use Rattle.cu_op.specs.declared.layout.ArrayInfo.{ArrayInfo}
+use Rattle.cu_state.specs.Names.{HasPlanNames}
+use Rattle.cu_form.specs.Expression.{Expression}
+use Rattle.cu_form.specs.declared.args.Arg.{Arg}
+use Rattle.cu_form.specs.declared.expr.Node.{Node}
+use Rattle.cu_node.specs.declared.element_op.ElementOp.{ElementOp}
+use Rattle.cu_form.specs.declared.form.Form.{Form}
+use Rattle.cu_node.specs.declared.info.NodeInfo.{NodeInfo}
+use Rattle.cu_meaning.specs.Argument.{NodeElements, shape_at}
+use Rattle.cu_meaning.specs.Meaning.{meaning_of}
+use Rattle.cu_expr.specs.declared.inputs.InputInfo.{InputInfo}
+use Rattle.cu_need.specs.Live.{is_live, IsClosed}
+use Rattle.cu_need.specs.Need.{is_built, need_of}
+use Rattle.cu_lower.specs.Inputs.{input_array, input_names}
+use Rattle.cu_lower.specs.Plan.{lowered, place_in, plan_of}
+use Rattle.cu_lower.specs.Parts.{Grown}
+use Rattle.cu_lower.specs.Premises.{IsLowerable, IsLiveInput, OutputDiffers, AreThere, HaveElements, IsOfNode, IsOutput, run_of}
+use Rattle.cu_lower.specs.declared.options.Options.{Options}
+use Rattle.cu_lower.proofs.Applied.{Told}
+use Rattle.cu_lower.proofs.Fitting as fitting
+use Rattle.cu_lower.proofs.Meanings as meanings
+use Rattle.cu_lower.proofs.Meanings.{HaveRanges}
+use Rattle.cu_lower.proofs.Names.{array_name, used_is_name}
+use Rattle.cu_lower.proofs.Placed as placed
+use Rattle.cu_lower.proofs.Soundness as soundness
+use Rattle.cu_lower.proofs.Soundness.{no_node}
+use Rattle.cu_lower.proofs.Standing as standing
+
+-- the live nodes are a closed set, none of which has a number past the stored node's (the law of live nodes)
+pub record LiveLaw (e : Expression) : Type 0 where
+  pub closed : IsClosed e (is_live e)
+  pub below : (j : ℕ) → is_live e j ≡ true → j ≤ e.out
+
+told_some : {T : Type 0} (must : Bool) (o : Option T) (x y : T) → Told must o x → o ≡ Some y → y ≡ x
+told_some must o x y (inl some) is = let e : Some y ≡ Some x = sym is ∙ some in cc
+told_some must o x y (inr none) is = let n = none.1 in cc
+
+told_there : {T : Type 0} (o : Option T) (x : T) → Told true o x → o ≡ Some x
+told_there o x (inl some) = some
+told_there o x (inr none) = let n = none.0 in cc
+
+module _ (e : Expression) (infos : List NodeInfo) (inputs : List InputInfo) (options : Options) (ok : IsLowerable e infos inputs options) (lives : LiveLaw e) where
+  abbrev grown : Grown
+  grown = placed.grown e infos inputs options ok
+
+  abbrev given : ℕ
+  given = length (input_names e)
+
+  abbrev Stands : ℕ → ElementOp → List Arg → ℕ → Type 0
+  Stands k op args j = placed.Stands e infos inputs options ok k op args j
+
+  -- ---- needs
+
+  pub of_node : (j : ℕ) → j < length grown.ops → IsOfNode e infos options (operation_at grown.ops j)
+  of_node j below =
+      let w = soundness.stood e infos inputs options ok lives.closed j below in
+      let s = w.stands in
+      let within = fitting.needs_within e infos inputs options ok lives.closed w.k j w.op w.args s in
+      let same = ap (λ f. need_of options.reserved infos w.k f) s.is in
+      subst (IsOfNode e infos options) (sym s.operation) (record {
+        node = s.node;
+        at = s.at;
+        live = s.live;
+        need = omega (arith, same);
+        allowed = within;
+      })
+
+  -- ---- names
+
+  pub named : (recorded metadata : List ℕ) → OutputDiffers e → HasPlanNames (run_of e (plan_of e infos inputs options) recorded metadata) e.store_as recorded metadata
+  named recorded metadata differs = record {
+    named = array_name e.store_as ok.form.store_as;
+    texts = refl;
+    encodings = λ a below made.
+        let o = soundness.made_number e infos inputs options ok lives.closed a below made in
+        subst (λ (b : ℕ). (array_at grown.arrays b).layout.encoding ≡ Plain Slash) (sym o.1) (soundness.encoding_at e infos inputs options ok lives.closed o.0 o.2);
+    made = λ a below made.
+        let o = soundness.made_number e infos inputs options ok lives.closed a below made in
+        let s = soundness.stood e infos inputs options ok lives.closed o.0 o.2 in
+        let few = soundness.ops_few e infos inputs options ok lives.closed in
+        let l = o.2 in
+        let here = ap (λ b. (array_at grown.arrays b).prefix) o.1 in
+        elim (cases_Bool (s.k == e.out)) [
+          | inl is ↦ inl (here ∙ soundness.prefix_out e infos inputs options ok lives.closed o.0 s is)
+          | inr other ↦ inr (o.0, omega (arith, l, few), here ∙ soundness.prefix_number e infos inputs options ok lives.closed o.0 s other)
+        ];
+    inputs = λ a below none.
+        let name = get_or (input_names e) a [] in
+        elim (soundness.by_array e infos inputs options ok lives.closed a below) [
+          | inl l ↦
+              let prefix : (array_at grown.arrays a).prefix ≡ get_or (input_names e) a [] = ap (λ (x : ArrayInfo). x.prefix) (soundness.input_at e infos inputs options ok lives.closed a l) in
+              let (k, u) = soundness.used e infos inputs options ok lives.closed a l in
+              subst (λ (q : List ℕ). IsArrayName q × (q ≢ e.store_as)) (sym prefix)
+              (array_name (get_or (input_names e) a []) (used_is_name e (get_or (input_names e) a []) ok.form (k, u)), differs k (get_or (input_names e) a []) u)
+          | inr o ↦
+              let some = ap (maker_at grown.arrays) o.1 ∙ soundness.made_maker e infos inputs options ok lives.closed o.0 (soundness.stood e infos inputs options ok lives.closed o.0 o.2) in
+              let no : None ≡ Some o.0 = sym none ∙ some in cc
+        ];
+  }
+
+  -- ---- arrays
+
+  output_of : (n : Node) (f : Form) → slice_get e.nodes e.out ≡ Some n → n.form ≡ f → is_built infos e.out e.out f ≡ true → IsOutput e infos (array_at grown.arrays (place_in grown e.out))
+  output_of n (Form.Input name) at is built = let same = eq-eqb e.out e.out refl in cc
+  output_of n (Form.Elementwise op args) at is built =
+      let (j, s) = standing.from_node e infos inputs options.reserved ok.form (placed.are_built e infos inputs options ok) e.out n op args at is lives.closed.stored in
+      let array = ap (array_at grown.arrays) s.place ∙ s.array in
+      subst (IsOutput e infos) (sym array) (record {
+        name = (let same = eq-eqb e.out e.out refl in rw same refl);
+        layout = refl;
+        made = λ none. cc;
+      })
+  output_of n f at is built = cc
+
+  pub output : IsOutput e infos (array_at grown.arrays (place_in grown e.out))
+  output =
+      let n = get_or e.nodes e.out no_node in
+      let at = slice_get-get_or e.nodes e.out no_node ok.form.out in
+      output_of n n.form at refl (placed.are_built e infos inputs options ok e.out n at lives.closed.stored)
+
+  pub input : (k : ℕ) (name : List ℕ) → IsLiveInput e k name → array_at grown.arrays (place_in grown k) ≡ input_array inputs name
+  input k name u = (standing.from_input e infos inputs options.reserved ok.form (placed.are_built e infos inputs options ok) k u.node name u.at u.form u.live).1
+
+  pub only : (a : ℕ) → a < length grown.arrays → maker_at grown.arrays a ≡ None → (k : ℕ) × (name : List ℕ) × IsLiveInput e k name × (array_at grown.arrays a ≡ input_array inputs name)
+  only a below none =
+      elim (soundness.by_array e infos inputs options ok lives.closed a below) [
+        | inl l ↦ let (k, u) = soundness.used e infos inputs options ok lives.closed a l in (k, get_or (input_names e) a [], u, soundness.input_at e infos inputs options ok lives.closed a l)
+        | inr o ↦
+            let some = ap (maker_at grown.arrays) o.1 ∙ soundness.made_maker e infos inputs options ok lives.closed o.0 (soundness.stood e infos inputs options ok lives.closed o.0 o.2) in
+            let no : None ≡ Some o.0 = sym none ∙ some in cc
+      ]
+
+-- ---- values
+
+module _ (e : Expression) (infos : List NodeInfo) (inputs : List InputInfo) (options : Options) (env : Elements) (elements : NodeElements)
+    (have : HaveElements e infos inputs options env elements) (lives : LiveLaw e) (ranges : HaveRanges) where
+  carried : (must : Bool) → (must ≡ true → AreThere e infos (lowered e infos inputs options.reserved) env) → (k : ℕ) (idx : List ℕ) → is_live e k ≡ true → IsInside (shape_at infos k) idx
+      → Told must (plan_value (plan_of e infos inputs options) env (place_in (lowered e infos inputs options.reserved) k) idx) (meaning_of e infos elements k idx)
+  carried must there k idx live inside =
+      let out = have.lowerable.form.out in
+      let low = lives.below k live in
+      meanings.carries e infos inputs options have.lowerable lives.closed ranges must env elements have.typed have.given there
+      k (get_or e.nodes k no_node) (slice_get-get_or e.nodes k no_node (omega (arith, out, low))) live idx inside
+
+  pub equal : (k : ℕ) (idx : List ℕ) (x : ℤ) → is_live e k ≡ true → IsInside (shape_at infos k) idx
+      → plan_value (plan_of e infos inputs options) env (place_in (lowered e infos inputs options.reserved) k) idx ≡ Some x → x ≡ meaning_of e infos elements k idx
+  equal k idx x live inside is =
+      told_some false (plan_value (plan_of e infos inputs options) env (place_in (lowered e infos inputs options.reserved) k) idx) (meaning_of e infos elements k idx) x
+      (carried false (λ wanted. cc) k idx live inside) is
+
+  pub defined : AreThere e infos (lowered e infos inputs options.reserved) env → (k : ℕ) (idx : List ℕ) → is_live e k ≡ true → IsInside (shape_at infos k) idx
+      → plan_value (plan_of e infos inputs options) env (place_in (lowered e infos inputs options.reserved) k) idx ≡ Some (meaning_of e infos elements k idx)
+  defined there k idx live inside =
+      told_there (plan_value (plan_of e infos inputs options) env (place_in (lowered e infos inputs options.reserved) k) idx) (meaning_of e infos elements k idx)
+      (carried true (λ wanted. there) k idx live inside)

@@ -1,0 +1,89 @@
+-- What the plan of an expression takes for granted, and what it has in return (this project's own rule).
+use Rattle.std.specs.Prelude.{◌≡◌, ◌≢◌, ℕ, ◌≤◌, ◌^◌, ℤ, pos, true, List, [], ◌∷◌, All, sum_by, slice_get, Some, None, Ok, unwrap_or}
+use Rattle.cu_shape.specs.Index.{IsInside}
+use Rattle.cu_op.specs.Layout.{IsLayout}
+use Rattle.cu_op.specs.Cells.{tasks_of}
+use Rattle.cu_op.specs.PlanView.{PlanView}
+use Rattle.cu_op.specs.Sound.{made_chunks}
+use Rattle.cu_op.specs.Value.{Elements, HasTypes}
+use Rattle.cu_op.specs.declared.layout.ArrayInfo.{ArrayInfo}
+use Rattle.cu_op.specs.declared.operation.Planned.{Planned}
+use Rattle.cu_name.specs.Keys.{record_key_of}
+use Rattle.cu_state.specs.Pieces.{PlanRun}
+use Rattle.cu_zarr.specs.Key.{metadata_key_of}
+use Rattle.cu_form.specs.Expression.{Expression, IsExpression}
+use Rattle.cu_form.specs.declared.expr.Node.{Node}
+use Rattle.cu_form.specs.declared.form.Form.{Form}
+use Rattle.cu_node.specs.Info.{IsInfo, info_at}
+use Rattle.cu_node.specs.declared.info.NodeInfo.{NodeInfo}
+use Rattle.cu_meaning.specs.Argument.{NodeElements, shape_at}
+use Rattle.cu_expr.specs.Typing.{typed}
+use Rattle.cu_expr.specs.declared.inputs.InputInfo.{InputInfo}
+use Rattle.cu_need.specs.Counts.{plan_counts, over_limit}
+use Rattle.cu_need.specs.Live.{is_live}
+use Rattle.cu_need.specs.declared.counts.PlanCounts.{PlanCounts}
+use Rattle.cu_need.specs.Need.{need_of, first_unbuilt, first_over}
+use Rattle.cu_lower.specs.Plan.{lowered, place_in, plan_of}
+use Rattle.cu_lower.specs.Parts.{Grown, made_layout}
+use Rattle.cu_lower.specs.declared.options.Options.{Options}
+
+-- an accepted expression, each live node of which is one that the operations of today make, with no more memory than is allowed; and
+-- the plan keeps its limits
+pub record IsLowerable (e : Expression) (infos : List NodeInfo) (inputs : List InputInfo) (options : Options) : Type 0 where
+  pub form : IsExpression e
+  pub types : typed inputs e ≡ Ok infos
+  pub kept : All IsInfo infos
+  pub fills : All (λ i. IsLayout i.layout) inputs
+  pub built : first_unbuilt e infos ≡ None
+  pub memory : first_over options.allowed options.reserved e infos ≡ None
+  pub counts : over_limit (plan_counts e infos) ≡ None
+  pub allowed : options.allowed ≤ 2 ^ 40
+
+-- node number k is live, and is the stored array with this name
+pub record IsLiveInput (e : Expression) (k : ℕ) (name : List ℕ) : Type 0 where
+  pub node : Node
+  pub at : slice_get e.nodes k ≡ Some node
+  pub form : node.form ≡ Form.Input name
+  pub live : is_live e k ≡ true
+
+-- no live input node uses the output's name
+abbrev pub OutputDiffers : Expression → Type 0
+OutputDiffers e = (k : ℕ) (name : List ℕ) → IsLiveInput e k name → name ≢ e.store_as
+
+-- these are the elements of the live input nodes: those of their arrays, 0 where an array has none
+abbrev pub AreOfInputs : Expression → List NodeInfo → Grown → Elements → NodeElements → Type 0
+AreOfInputs e infos g env elements =
+    (k : ℕ) (name idx : List ℕ) → IsLiveInput e k name → IsInside (shape_at infos k) idx → elements k idx ≡ unwrap_or (env (place_in g k) idx) (pos 0)
+
+-- the arrays of the live input nodes have an element at each of their indices
+abbrev pub AreThere : Expression → List NodeInfo → Grown → Elements → Type 0
+AreThere e infos g env = (k : ℕ) (name idx : List ℕ) → IsLiveInput e k name → IsInside (shape_at infos k) idx → (x : ℤ) × (env (place_in g k) idx ≡ Some x)
+
+-- the inputs' arrays have elements of their types, and nodes these elements
+pub record HaveElements (e : Expression) (infos : List NodeInfo) (inputs : List InputInfo) (options : Options) (env : Elements) (elements : NodeElements) : Type 0 where
+  pub lowerable : IsLowerable e infos inputs options
+  pub typed : HasTypes (plan_of e infos inputs options).arrays env
+  pub given : AreOfInputs e infos (lowered e infos inputs options.reserved) env elements
+
+-- an operation belongs to a live node; it needs at most what the node needs, which is at most what is allowed
+pub record IsOfNode (e : Expression) (infos : List NodeInfo) (options : Options) (o : Planned) : Type 0 where
+  pub node : Node
+  pub at : slice_get e.nodes o.node ≡ Some node
+  pub live : is_live e o.node ≡ true
+  pub need : o.projected ≤ need_of options.reserved infos o.node node.form
+  pub allowed : o.projected ≤ options.allowed
+
+-- the tasks of the plan's operations and the chunks of its made arrays are as many as are counted
+pub record HasCounts (plan : PlanView) (counts : PlanCounts) : Type 0 where
+  pub tasks : sum_by (λ o. tasks_of plan.arrays o.op) plan.ops ≡ counts.tasks
+  pub cells : sum_by made_chunks plan.arrays ≡ counts.cells
+
+-- the array of the stored node has the output's name and the node's type, shape and chunk shape, and an operation makes it
+pub record IsOutput (e : Expression) (infos : List NodeInfo) (a : ArrayInfo) : Type 0 where
+  pub name : a.prefix ≡ e.store_as
+  pub layout : a.layout ≡ made_layout (info_at infos e.out)
+  pub made : a.maker ≢ None
+
+-- the run of a plan with a record and metadata, under the keys of the output's name
+abbrev pub run_of : Expression → PlanView → List ℕ → List ℕ → PlanRun
+run_of e plan recorded metadata = record { plan = plan; texts = (record_key_of e.store_as, recorded) ∷ (metadata_key_of e.store_as, metadata) ∷ [] }

@@ -1,0 +1,12 @@
+//! The plan of an expression: its arrays, and the operations that make them.
+#![tactic(auto)]
+
+mod inputs;
+mod laws;
+mod options;
+mod parts;
+mod plan;
+
+pub use laws::{array_law, plan_law, value_law};
+pub use options::Options;
+pub use plan::lower;

@@ -1,0 +1,10 @@
+/// The options of a run; memory is in bytes.
+#[derive(Clone, Copy, Debug)]
+pub struct Options {
+    /// The memory that a task may take, the reserved memory among it.
+    pub allowed: u64,
+    /// The memory that is set aside for what isn't counted.
+    pub reserved: u64,
+    /// How often a call for a key, or a task, is tried again.
+    pub retries: u32,
+}

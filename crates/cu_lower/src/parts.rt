@@ -1,0 +1,173 @@
+//! What an elementwise node adds to a plan.
+
+ghost use Rattle.std.specs.Prelude.{◌≡◌, ◌<◌, ◌≤◌, ◌^◌, ℕ, List, [], ◌∷◌, IsOk, map, true, length};
+ghost use Rattle.std.specs.List.{list_all};
+ghost use Rattle.cu_form.specs.Form.{is_earlier, element_takes};
+ghost use Rattle.cu_node.specs.Info.{IsInfo, info_at};
+ghost use Rattle.cu_node.specs.declared.info.NodeInfo.{NodeInfo as Known};
+ghost use Rattle.cu_expr.specs.Kernel.{loads_from, function_of};
+ghost use Rattle.cu_typing.specs.Types.{array_type, pair_type, shared_type};
+ghost use Rattle.cu_expr.specs.Typing.{argument_of};
+ghost use Rattle.cu_lower.specs.Parts.{type_or_bool, steps_of, made_layout, made_array, array_places, map_of};
+
+use arrayvec::ArrayVec;
+use cu_form::{Arg, ElementOp, Expr};
+use cu_grid::Grid;
+use cu_name::{key_of_name, made_prefix};
+use cu_node::{NodeInfo, info_at};
+use cu_num::{Dtype, Encoding, Endian, Fn1, Sep, promote};
+use cu_op::{ArrayInfo, Instr, Kernel, Layout, Op};
+
+/// The type of an argument that is an array.
+fn array_type(infos: &[NodeInfo], x: &Arg) -> Dtype
+    ensures { result ≡ type_or_bool (array_type (argument_of infos.now x.now)) }
+{
+    match x {
+        Arg::Node(n) => info_at(infos, *n).dtype,
+        Arg::Int(_) | Arg::Truth(_) => Dtype::Bool,
+    }
+}
+
+/// The type of two arguments together, of which a number or a truth value has that of the array.
+fn pair_type(infos: &[NodeInfo], x: &Arg, y: &Arg) -> Dtype
+    requires { IsOk (pair_type (argument_of infos.now x.now) (argument_of infos.now y.now)) }
+    ensures { result ≡ type_or_bool (pair_type (argument_of infos.now x.now) (argument_of infos.now y.now)) }
+{
+    match (x, y) {
+        (Arg::Node(m), Arg::Node(n)) => {
+            promote(info_at(infos, *m).dtype, info_at(infos, *n).dtype).unwrap_or(Dtype::Bool)
+        }
+        (Arg::Node(m), Arg::Int(_) | Arg::Truth(_)) => info_at(infos, *m).dtype,
+        (Arg::Int(_) | Arg::Truth(_), Arg::Node(n)) => info_at(infos, *n).dtype,
+        (Arg::Int(_) | Arg::Truth(_), Arg::Int(_) | Arg::Truth(_)) => Dtype::Bool,
+    }
+}
+
+/// The type of the arguments of a function together.
+fn shared_type(op: ElementOp, infos: &[NodeInfo], args: &[Arg]) -> Dtype
+    requires { IsOk (shared_type op (map (argument_of infos.now) args.now)) }
+    ensures { result ≡ type_or_bool (shared_type op (map (argument_of infos.now) args.now)) }
+{
+    match (op, args) {
+        (ElementOp::One(_) | ElementOp::Astype(_), [x]) => array_type(infos, x),
+        (ElementOp::Two(_), [x, y]) => pair_type(infos, x, y),
+        (ElementOp::Where, [_, x, y]) => pair_type(infos, x, y),
+        _ => Dtype::Bool,
+    }
+}
+
+/// The instruction of a function whose arguments have this type together.
+fn function_of(op: ElementOp, t: Dtype) -> Instr
+    ensures { result ≡ function_of op t }
+{
+    match op {
+        ElementOp::One(f) => Instr::One(f, t, 0),
+        ElementOp::Two(f) => Instr::Two(f, t, 0, 1),
+        ElementOp::Where => Instr::Select(0, 1, 2),
+        ElementOp::Astype(d) => Instr::One(Fn1::Astype, d, 0),
+    }
+}
+
+/// The instruction of an argument, where `arrays` arrays come before it.
+fn load_of(arg: &Arg, arrays: u32) -> Instr
+    ensures { (infos : List Known) → loads_from arrays (argument_of infos arg.now ∷ []) ≡ result ∷ [] }
+{
+    match arg {
+        Arg::Node(_) => Instr::Load(arrays),
+        Arg::Int(x) => Instr::Const(*x),
+        Arg::Truth(true) => Instr::Const(1),
+        Arg::Truth(false) => Instr::Const(0),
+    }
+}
+
+/// A load or a literal for each argument, in order.
+fn loads(args: &[Arg]) -> ArrayVec<Instr, 32>
+    requires { length args.now ≤ 3 }
+    ensures few { length result.items ≤ 3 }
+    ensures code { (infos : List Known) → result.items ≡ loads_from 0 (map (argument_of infos) args.now) }
+{
+    let mut code = ArrayVec::new();
+    let mut arrays = 0;
+    for arg in args {
+        code.push(load_of(arg, arrays));
+        if arg.is_array() {
+            arrays += 1;
+        }
+    }
+    code
+}
+
+/// The arrays of the arguments that are arrays, in order, where nodes have these arrays.
+fn array_places(places: &[u32], args: &[Arg]) -> ArrayVec<u32, 8>
+    requires few { length args.now ≤ 3 }
+    requires earlier { list_all (is_earlier (length places.now)) args.now ≡ true }
+    ensures { result.items ≡ array_places places.now args.now }
+{
+    let mut ins = ArrayVec::new();
+    for arg in args {
+        if let Arg::Node(n) = arg {
+            ins.push(places[*n as usize]);
+        }
+    }
+    ins
+}
+
+/// The map that makes array `out` of the arguments, where nodes have these arrays.
+pub(crate) fn map_of(
+    infos: &[NodeInfo],
+    places: &[u32],
+    op: ElementOp,
+    args: &[Arg],
+    out: u32,
+) -> Op
+    requires takes { element_takes op args.now ≡ true }
+    requires earlier { list_all (is_earlier (length places.now)) args.now ≡ true }
+    requires typed { IsOk (shared_type op (map (argument_of infos.now) args.now)) }
+    ensures { result ≡ map_of infos.now places.now op args.now out }
+{
+    let mut code = loads(args);
+    code.push(function_of(op, shared_type(op, infos, args)));
+    Op::Map {
+        kernel: Kernel { code },
+        ins: array_places(places, args),
+        out,
+    }
+}
+
+/// The layout of a made array.
+fn made_layout(info: &NodeInfo) -> Layout
+    requires { IsInfo info.now }
+    ensures { result ≡ made_layout info.now }
+{
+    Layout {
+        dtype: info.dtype,
+        grid: Grid::make_middle(info.dims, info.chunk),
+        encoding: Encoding::Plain(Sep::Slash),
+        endian: Endian::Little,
+        fill: 0,
+    }
+}
+
+/// The array of a node that the operation `maker` makes, where `others` made arrays come before it.
+pub(crate) fn made_array(
+    expr: &Expr,
+    info: &NodeInfo,
+    node: u32,
+    others: u32,
+    maker: u32,
+) -> ArrayInfo
+    requires { IsInfo info.now }
+    ensures { result ≡ made_array expr.now info.now node others maker }
+{
+    let name = key_of_name(expr.store_as());
+    let prefix = if node == expr.out() {
+        name
+    } else {
+        made_prefix(&name, others)
+    };
+    ArrayInfo {
+        prefix,
+        layout: made_layout(info),
+        maker: Some(maker),
+    }
+}

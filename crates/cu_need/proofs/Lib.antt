@@ -1,0 +1,6 @@
+pub mod AlignedNeed
+mod Examples
+pub mod FirstLive
+pub mod LiveNodes
+pub mod LiveSteps
+pub mod TypedNodes

@@ -1,0 +1,26 @@
+use Rattle.std.proofs.Common.{ℕ, sym, ◌∙◌, arith}
+use Rattle.cu_form.specs.declared.expr.Node.{Node}
+use Rattle.cu_need.specs.Counts.{tasks_of, cells_of}
+use Rattle.cu_need.proofs.LiveSteps.{summed_here, summed_past}
+use Rattle.cu_need.proofs.counts.plan_counts.Goals as goal
+use Rattle.cu_need.proofs.counts.plan_counts.Goals.{then-marks-k, else-marks-k}
+
+pub loop-k-preserved : goal.loop-k-preserved
+loop-k-preserved c =
+    let tasks = λ (numbered : ℕ × Node). tasks_of c.args.infos.now numbered.0 numbered.1.form in
+    let cells = λ (numbered : ℕ × Node). cells_of c.args.infos.now numbered.0 numbered.1.form in
+    let seen = sym (c.live_marks-marks.ensures c.loop-k.k) in
+    elim c.if-marks-k.branch [
+      | then-marks-k w ↦ record {
+        few_tasks = omega (arith, w.tasks-is, w.tasks_of-tasks.ensures.few, c.loop-k.invariant.few_tasks);
+        few_cells = omega (arith, w.cells-is, w.cells_of-cells.ensures.few, c.loop-k.invariant.few_cells);
+        tasks = summed_here c.args.expr.now c.nodes-nodes.result.now c.loop-k.k w.index-nodes-k.result tasks c.loop-k.tasks w.tasks_of-tasks.result c.if-marks-k.tasks _ c.loop-k-test.true (seen ∙ w.if-marks-k.true) w.tasks_of-tasks.ensures.tasks w.tasks-is c.loop-k.invariant.tasks;
+        cells = summed_here c.args.expr.now c.nodes-nodes.result.now c.loop-k.k w.index-nodes-k.result cells c.loop-k.cells w.cells_of-cells.result c.if-marks-k.cells _ c.loop-k-test.true (seen ∙ w.if-marks-k.true) w.cells_of-cells.ensures.cells w.cells-is c.loop-k.invariant.cells;
+      }
+      | else-marks-k w ↦ record {
+        few_tasks = omega (arith, w.tasks-is, c.loop-k.invariant.few_tasks);
+        few_cells = omega (arith, w.cells-is, c.loop-k.invariant.few_cells);
+        tasks = summed_past c.args.expr.now c.nodes-nodes.result.now c.loop-k.k tasks c.loop-k.tasks c.if-marks-k.tasks _ c.loop-k-test.true (seen ∙ w.if-marks-k.false) w.tasks-is c.loop-k.invariant.tasks;
+        cells = summed_past c.args.expr.now c.nodes-nodes.result.now c.loop-k.k cells c.loop-k.cells c.if-marks-k.cells _ c.loop-k-test.true (seen ∙ w.if-marks-k.false) w.cells-is c.loop-k.invariant.cells;
+      }
+    ]

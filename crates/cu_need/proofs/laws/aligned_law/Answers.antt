@@ -1,0 +1,5 @@
+use Rattle.cu_need.proofs.AlignedNeed.{aligned_exactly, aligned_need}
+use Rattle.cu_need.proofs.laws.aligned_law.Goals as goal
+
+pub returns : goal.returns
+returns c = record { chunk = aligned_exactly; need = aligned_need }

@@ -1,0 +1,5 @@
+use Rattle.cu_need.proofs.TypedNodes.{typed_within}
+use Rattle.cu_need.proofs.laws.typed_law.Goals as goal
+
+pub returns : goal.returns
+returns c = λ e infos arrays typed. record { arrays = arrays; aligned = λ k node at. typed_within infos k node.form (typed k node at) }

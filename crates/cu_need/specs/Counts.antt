@@ -1,0 +1,34 @@
+-- The counts of an expression's plan in which nothing is merged, and their limits (this project's own rule).
+use Rattle.std.specs.Prelude.{ℕ, nat_lt, List, Option, Some, None, sum_by, if◌then◌else◌}
+use Rattle.cu_form.specs.Expression.{Expression}
+use Rattle.cu_form.specs.declared.form.Form.{Form}
+use Rattle.cu_node.specs.Info.{info_at}
+use Rattle.cu_node.specs.declared.info.NodeInfo.{NodeInfo}
+use Rattle.cu_need.specs.Chunks.{chunk_count}
+use Rattle.cu_need.specs.Live.{live_nodes}
+use Rattle.cu_need.specs.declared.counts.PlanCounts.{PlanCounts}
+use Rattle.cu_need.specs.declared.counts.OverLimit.{OverLimit}
+
+-- the tasks that make node k: an elementwise node has one for each chunk, an input none
+abbrev pub tasks_of : List NodeInfo → ℕ → Form → ℕ
+tasks_of infos k (Form.Elementwise op args) = chunk_count (info_at infos k)
+tasks_of infos k form = 0
+
+-- the chunks that they store
+abbrev pub cells_of : List NodeInfo → ℕ → Form → ℕ
+cells_of infos k (Form.Elementwise op args) = chunk_count (info_at infos k)
+cells_of infos k form = 0
+
+-- the sums over the live nodes
+abbrev pub plan_counts : Expression → List NodeInfo → PlanCounts
+plan_counts e infos = record {
+  tasks = sum_by (λ numbered. tasks_of infos numbered.0 numbered.1.form) (live_nodes e);
+  cells = sum_by (λ numbered. cells_of infos numbered.0 numbered.1.form) (live_nodes e);
+}
+
+-- The first limit that a plan exceeds, with the count: 1 is that of 65,536 tasks, 2 that of 262,144 stored chunks.
+abbrev pub over_limit : PlanCounts → Option OverLimit
+over_limit c =
+    if nat_lt 65536 c.tasks then Some (record { which = 1; count = c.tasks })
+    else if nat_lt 262144 c.cells then Some (record { which = 2; count = c.cells })
+    else None

@@ -1,0 +1,5 @@
+pub mod Chunks
+pub mod Counts
+pub mod Elementwise
+pub mod Live
+pub mod Need

@@ -1,0 +1,99 @@
+//! The counts of a plan, and their limits.
+
+ghost use Rattle.std.specs.Prelude.{◌≡◌, ◌≤◌, ◌*◌, All};
+ghost use Rattle.cu_node.specs.Info.{IsInfo};
+ghost use Rattle.cu_need.specs.Counts.{tasks_of, cells_of, plan_counts, over_limit};
+
+use crate::chunks::chunk_count;
+use crate::live::live_marks;
+use cu_form::{Expr, Form};
+use cu_node::{NodeInfo, info_at, info_law};
+
+/// The most tasks of a plan.
+const MOST_TASKS: u64 = 65_536;
+
+/// The most chunks that a plan stores.
+const MOST_CELLS: u64 = 262_144;
+
+/// What is counted of a plan in which nothing is merged.
+#[derive(Clone, Copy, Debug, PartialEq, Eq)]
+pub struct PlanCounts {
+    /// The tasks of all operations.
+    pub tasks: u64,
+    /// The chunks of all arrays that are made.
+    pub cells: u64,
+}
+
+/// A limit that is exceeded, and the count that exceeds it.
+#[derive(Clone, Copy, Debug, PartialEq, Eq)]
+pub struct OverLimit {
+    /// 1: more than 65,536 tasks; 2: more than 262,144 stored chunks.
+    pub which: u8,
+    pub count: u64,
+}
+
+/// The tasks that make the node with this number.
+fn tasks_of(infos: &[NodeInfo], number: u32, form: &Form) -> u64
+    requires { All IsInfo infos.now }
+    ensures tasks { result ≡ tasks_of infos.now number form.now }
+    ensures few { result ≤ 65536 }
+{
+    info_law();
+    match form {
+        Form::Elementwise { .. } => chunk_count(&info_at(infos, number)),
+        _ => 0,
+    }
+}
+
+/// The chunks that they store.
+fn cells_of(infos: &[NodeInfo], number: u32, form: &Form) -> u64
+    requires { All IsInfo infos.now }
+    ensures cells { result ≡ cells_of infos.now number form.now }
+    ensures few { result ≤ 65536 }
+{
+    info_law();
+    match form {
+        Form::Elementwise { .. } => chunk_count(&info_at(infos, number)),
+        _ => 0,
+    }
+}
+
+/// The tasks of the expression's plan in which nothing is merged, and the chunks that they store: the sums over the live nodes.
+pub fn plan_counts(expr: &Expr, infos: &[NodeInfo]) -> PlanCounts
+    requires { All IsInfo infos.now }
+    ensures { result ≡ plan_counts expr.now infos.now }
+{
+    let marks = live_marks(expr);
+    let nodes = expr.nodes();
+    let mut tasks = 0;
+    let mut cells = 0;
+    for k in 0..nodes.len() {
+        if marks[k] {
+            let form = &nodes[k].form;
+            tasks += tasks_of(infos, k as u32, form);
+            cells += cells_of(infos, k as u32, form);
+        }
+    }
+    PlanCounts { tasks, cells }
+}
+
+impl PlanCounts {
+    /// The first limit that is exceeded: that of the tasks, then that of the stored chunks. None where both are kept.
+    pub fn over_limit(&self) -> Option<OverLimit>
+        ensures { result ≡ over_limit self.now }
+    {
+        if self.tasks > MOST_TASKS {
+            return Some(OverLimit {
+                which: 1,
+                count: self.tasks,
+            });
+        }
+        if self.cells > MOST_CELLS {
+            return Some(OverLimit {
+                which: 2,
+                count: self.cells,
+            });
+        }
+        None
+    }
+}

@@ -1,0 +1,95 @@
+//! The memory of each node, and which nodes are built.
+
+ghost use Rattle.std.specs.Prelude.{◌≡◌, ◌≤◌, ◌^◌, true, All};
+ghost use Rattle.cu_form.specs.Form.{takes_args};
+ghost use Rattle.cu_node.specs.Info.{IsInfo};
+ghost use Rattle.cu_need.specs.Need.{is_built, first_unbuilt, need_of, first_over, IsAlignedWithin, AreWithinLimits};
+
+use crate::elementwise::{are_aligned, elementwise_need};
+use crate::live::live_marks;
+use cu_form::{Expr, Form};
+use cu_node::{NodeInfo, info_at, info_law};
+
+/// A node, and the bytes that it needs.
+#[derive(Clone, Copy, Debug, PartialEq, Eq)]
+pub struct NodeNeed {
+    /// The number of the node.
+    pub node: u32,
+    /// The bytes that it needs.
+    pub need: u64,
+}
+
+/// Whether the operations of today make the node with this number.
+fn is_built(infos: &[NodeInfo], out: u32, number: u32, form: &Form) -> bool
+    ensures { result ≡ is_built infos.now out number form.now }
+{
+    match form {
+        Form::Input { .. } => number != out,
+        Form::Elementwise { args, .. } => are_aligned(
+            &info_at(infos, number),
+            infos,
+            args.as_slice(),
+        ),
+        _ => false,
+    }
+}
+
+/// The number of the first live node that no operation of today makes: an input that is itself stored, an elementwise node with an
+/// argument whose chunks are not those to which it is aligned, or a node of any other form. None where each live node is made.
+pub fn first_unbuilt(expr: &Expr, infos: &[NodeInfo]) -> Option<u32>
+    ensures { result ≡ first_unbuilt expr.now infos.now }
+{
+    let marks = live_marks(expr);
+    let nodes = expr.nodes();
+    let out = expr.out();
+    for k in 0..nodes.len() {
+        if marks[k] && !is_built(infos, out, k as u32, &nodes[k].form) {
+            return Some(k as u32);
+        }
+    }
+    None
+}
+
+/// The bytes that the node with this number needs, of which `reserved` are kept for everything else: the greatest that one of its
+/// operations needs. An input is read by the nodes that use it, and needs the reserved bytes alone; so does a node that no operation of
+/// today makes, but for an elementwise one.
+pub fn need_of(reserved: u64, infos: &[NodeInfo], number: u32, form: &Form) -> u64
+    requires reserved { reserved ≤ 2 ^ 40 }
+    requires args { takes_args form.now ≡ true }
+    requires infos { All IsInfo infos.now }
+    requires within { IsAlignedWithin infos.now number form.now }
+    ensures { result ≡ need_of reserved infos.now number form.now }
+{
+    info_law();
+    match form {
+        Form::Elementwise { args, .. } => elementwise_need(
+            reserved,
+            infos,
+            &info_at(infos, number),
+            args.as_slice(),
+        ),
+        _ => reserved,
+    }
+}
+
+/// The first live node that needs more bytes than are allowed, with what it needs. None where no live node does.
+pub fn first_over(allowed: u64, reserved: u64, expr: &Expr, infos: &[NodeInfo]) -> Option<NodeNeed>
+    requires reserved { reserved ≤ 2 ^ 40 }
+    requires limits { AreWithinLimits expr.now infos.now }
+    ensures { result ≡ first_over allowed reserved expr.now infos.now }
+{
+    let marks = live_marks(expr);
+    let nodes = expr.nodes();
+    for k in 0..nodes.len() {
+        if marks[k] {
+            let need = need_of(reserved, infos, k as u32, &nodes[k].form);
+            if need > allowed {
+                return Some(NodeNeed {
+                    node: k as u32,
+                    need,
+                });
+            }
+        }
+    }
+    None
+}

@@ -1,0 +1,108 @@
+-- What the command `run` answers, from the text on.
+use Rattle.std.proofs.Common.{◌≡◌, ◌⊎◌, inl, inr, ℕ, ◌<◌, false, nat_le, List, [], ◌∷◌, ◌++◌, length, Option, Some, None, Result, Ok, Err, refl, sym, ap, ◌∙◌, subst, arith, length-append}
+use Rattle.std.proofs.lemmas.List.{append-nil}
+use Rattle.cu_form.specs.Expression.{Expression}
+use Rattle.cu_read.specs.Read.{expression_of, whole_fault}
+use Rattle.cu_read.specs.declared.faults.ReadFault.{ReadFault as TextFault}
+use Rattle.cu_store.specs.Steps.{Shown}
+use Rattle.cu_expr.specs.declared.inputs.InputInfo.{InputInfo}
+use Rattle.cu_command.specs.Inputs.{IsTurn, names_of}
+use Rattle.cu_command.specs.Job.{names_or_none, IsJob}
+use Rattle.cu_command.specs.Streams.{ReadsAll}
+use Rattle.cu_command.specs.declared.job.Job.{Job}
+use Rattle.cu_command.specs.declared.status.Status.{Status}
+use Rattle.cu_command.specs.declared.status.Status.TheVariants.{Done, BadWords, BadExpr, BadType, OverMemory, OverLimit, BadMeta, NoArray, Exists, TaskFailed, ReadFault, WriteFault, BadChunk, DepotFailed, NotBuilt, BadLoad, NoMemory}
+use Rattle.cu_lower.specs.declared.options.Options.{Options}
+use Rattle.cu_top.specs.Call.{RunTells, IsRefusedText}
+use Rattle.cu_top.specs.Run.{Scene, RunCase, case, Ran}
+
+module _ (options : Options) (old new : Scene) where
+  -- what a run of the text answers
+  pub told_run : (text : List ℕ) (status : Status) → ReadsAll old.source.told new.source.told text → Ran (case options text old new) status → RunTells options old new status
+  told_run text ReadFault read ran = absurd ran
+  told_run text NoMemory read ran = inr (text, read, ran)
+  told_run text status read ran = (text, read, ran)
+
+  -- one of its answers
+  pub told_as : (status other : Status) → RunTells options old new status → status ≡ other → RunTells options old new other
+  told_as status other tells same = subst (RunTells options old new) same tells
+
+  -- it never answers that words or a text to load are wrong
+  pub never : (status : Status) (code : ℕ) → RunTells options old new status → (status ≡ BadWords code) ⊎ (status ≡ BadLoad code) → ⊥
+  never status code tells (inl same) = let (text, read, ran) = told_as status (BadWords code) tells same in ran
+  never status code tells (inr same) = let (text, read, ran) = told_as status (BadLoad code) tells same in ran
+
+-- ---- the text that was read
+
+long_fault : (text : List ℕ) → 1048576 < length text → expression_of text ≡ Err (whole_fault 7)
+unfolding expression_of
+long_fault text long =
+    let test : nat_le (length text) 1048576 ≡ false = grind arith in
+    rw test refl
+
+-- what was read says what was there
+pub same_expression : (left text : List ℕ) (next : Option (List ℕ)) → ReadsAll (Some left) next text → expression_of text ≡ expression_of left
+same_expression left text None read = absurd read.0
+same_expression left text (Some rest) (took, inl ended) = ap expression_of (sym (took ∙ ap (λ (r : List ℕ). text ++ r) ended ∙ append-nil text))
+same_expression left text (Some rest) (took, inr long) =
+    long_fault text (omega (arith, long)) ∙ sym (long_fault left (omega (arith, long, ap length took, length-append text rest)))
+
+err_or_ok : (r : Result Expression TextFault) (e : Expression) (f : TextFault) → r ≡ Ok e → r ≡ Err f → ⊥
+err_or_ok r e f ok err = cc
+
+-- a text that says an expression is read whole
+pub same_text : (left text : List ℕ) (next : Option (List ℕ)) (e : Expression) → ReadsAll (Some left) next text → expression_of left ≡ Ok e → text ≡ left
+same_text left text None e read said = absurd read.0
+same_text left text (Some rest) e (took, inl ended) said = sym (took ∙ ap (λ (r : List ℕ). text ++ r) ended ∙ append-nil text)
+same_text left text (Some rest) e (took, inr long) said =
+    absurd (err_or_ok (expression_of left) e (whole_fault 7) said (long_fault left (omega (arith, long, ap length took, length-append text rest))))
+
+-- ---- a text that is no expression
+
+not_both : (r : Result Expression TextFault) (e : Expression) (f : TextFault) → r ≡ Ok e → r ≡ Err f → ⊥
+not_both r e f ok err = cc
+
+same_fault : (r : Result Expression TextFault) (f g : TextFault) → r ≡ Err f → r ≡ Err g → f ≡ g
+same_fault r f g one other = cc
+
+no_turn : (r : Result Expression TextFault) (f : TextFault) (entry : Shown) (name : List ℕ) → r ≡ Err f → IsTurn (names_or_none r) entry name → ⊥
+no_turn r f entry name err turn = ends (subst (λ (x : Result Expression TextFault). IsTurn (names_or_none x) entry name) err turn).before _ _ (subst (λ (x : Result Expression TextFault). IsTurn (names_or_none x) entry name) err turn).place
+  where
+    ends : (before : List InputInfo) (name : List ℕ) (behind : List (List ℕ)) → [] ≡ names_of before ++ name ∷ behind → ⊥
+    ends [] name behind e = cc
+    ends (i ∷ is) name behind e = cc
+
+module _ (c : RunCase) (f : TextFault) (err : expression_of c.text ≡ Err f) where
+  no_job : (job : Job) → IsJob c.old.depot c.text job → ⊥
+  no_job job is = not_both (expression_of c.text) job.expr f is.said err
+
+  -- it is refused, or memory was wanted
+  pub refused_run : (status : Status) → Ran c status → IsRefusedText f status
+  refused_run (BadExpr code node) ran =
+      let same = same_fault (expression_of c.text) f (record { code = code; node = node }) err ran.1 in
+      (sym (ap (λ (x : TextFault). x.code) same), sym (ap (λ (x : TextFault). x.node) same))
+  refused_run NoMemory ran = tt
+  refused_run (BadType code node) ran = not_both (expression_of c.text) ran.1.expr f ran.1.said err
+  refused_run (NoArray name) ran = no_turn (expression_of c.text) f c.old.depot name err ran.1.0
+  refused_run (BadMeta name code) ran = no_turn (expression_of c.text) f c.old.depot name err ran.1.0
+  refused_run (DepotFailed key) (rose, inl unread) = no_turn (expression_of c.text) f c.old.depot unread.1.0 err unread.1.2
+  refused_run (DepotFailed key) (rose, inr (inl (spared, (job, accepted, first)))) = no_job job accepted
+  refused_run (DepotFailed key) (rose, inr (inr (job, started, unstored))) = no_job job started.accepted
+  refused_run (NotBuilt node) (spared, (job, accepted, why)) = no_job job accepted
+  refused_run (OverMemory node need allowed) (spared, (job, accepted, why)) = no_job job accepted
+  refused_run (OverLimit which count) (spared, (job, accepted, why)) = no_job job accepted
+  refused_run (Exists key) (spared, (job, accepted, why)) = no_job job accepted
+  refused_run Done (job, started, ran) = no_job job started.accepted
+  refused_run WriteFault (rose, (job, started, ran)) = no_job job started.accepted
+  refused_run (TaskFailed op task) (rose, (job, started, ran)) = no_job job started.accepted
+  refused_run (BadChunk key got want) (job, started, ran) = no_job job started.accepted
+  refused_run status ran = absurd ran
+
+-- so does the command
+pub refused_text : (options : Options) (old new : Scene) (left : List ℕ) (f : TextFault) (status : Status) → old.source.told ≡ Some left → expression_of left ≡ Err f → RunTells options old new status
+    → IsRefusedText f status
+refused_text options old new left f ReadFault told err tells = tt
+refused_text options old new left f NoMemory told err tells = tt
+refused_text options old new left f status told err (text, read, ran) =
+    refused_run (case options text old new) f
+    (same_expression left text new.source.told (subst (λ (o : Option (List ℕ)). ReadsAll o new.source.told text) told read) ∙ err) status ran

@@ -1,0 +1,87 @@
+-- The plan of a job, why a job has none, and what its plan stores. This project's own rules.
+use Rattle.std.specs.Prelude.{◌≡◌, ℕ, ◌≤◌, Bool, false, List, ◌∷◌, All, length, map, bytes_eq, Some, None}
+use Rattle.std.specs.List.{list_any}
+use Rattle.cu_form.specs.Expression.{Expression}
+use Rattle.cu_form.specs.declared.form.Form.{Form}
+use Rattle.cu_lower.specs.Parts.{made_layout}
+use Rattle.cu_lower.specs.Plan.{plan_of}
+use Rattle.cu_lower.specs.Premises.{IsLowerable}
+use Rattle.cu_lower.specs.declared.options.Options.{Options}
+use Rattle.cu_name.specs.Keys.{record_key_of}
+use Rattle.cu_need.specs.Counts.{plan_counts, over_limit}
+use Rattle.cu_need.specs.Need.{first_over, first_unbuilt}
+use Rattle.cu_node.specs.Info.{info_at}
+use Rattle.cu_op.specs.Layout.{layout_view}
+use Rattle.cu_op.specs.PlanView.{PlanView}
+use Rattle.cu_op.specs.Projection.{projection, greatest}
+use Rattle.cu_op.specs.declared.layout.Layout.{Layout}
+use Rattle.cu_zarr.specs.Key.{metadata_key_of}
+use Rattle.cu_zarr.specs.Metadata.{metadata_text}
+use Rattle.cu_work.specs.Order.{plan_keys}
+use Rattle.cu_command.specs.declared.job.Job.{Job}
+use Rattle.cu_command.specs.declared.status.Status.{Status}
+use Rattle.cu_command.specs.declared.status.Status.TheVariants.{NotBuilt, OverMemory, OverLimit, NoMemory}
+
+-- ---- the plan
+
+-- the plan of a job's expression
+abbrev pub job_plan : Options → Job → PlanView
+job_plan options job = plan_of job.expr job.types job.inputs.items options
+
+-- the keys of the plan in the order in which they are asked for: its record's, the output's metadata's, and those of its chunks
+abbrev pub keys_of : Options → Job → List (List ℕ)
+keys_of options job = record_key_of job.expr.store_as ∷ metadata_key_of job.expr.store_as ∷ plan_keys (job_plan options job) (length (job_plan options job).ops)
+
+-- the layout of the output: the type, shape and chunk shape of the stored node
+abbrev pub out_layout : Job → Layout
+out_layout job = made_layout (info_at job.types job.expr.out)
+
+-- the text that is written as the output's metadata
+abbrev pub out_metadata : Job → List ℕ
+out_metadata job = metadata_text (layout_view (out_layout job))
+
+-- ---- why there is none
+
+-- 19, 5 and 6, in this order: the first live node that isn't built; the first live node that needs more than is allowed; and the first
+-- limit of a plan that is exceeded.
+abbrev pub IsUnplanned : Options → Job → Status → Type 0
+IsUnplanned options job (NotBuilt node) = first_unbuilt job.expr job.types ≡ Some node
+IsUnplanned options job (OverMemory node need allowed) =
+    (first_unbuilt job.expr job.types ≡ None) × (allowed ≡ options.allowed) × (first_over options.allowed options.reserved job.expr job.types ≡ Some (record { node = node; need = need }))
+IsUnplanned options job (OverLimit which count) = (first_unbuilt job.expr job.types ≡ None) × (first_over options.allowed options.reserved job.expr job.types ≡ None)
+    × (over_limit (plan_counts job.expr job.types) ≡ Some (record { which = which; count = count }))
+IsUnplanned options job status = ⊥
+
+-- the job's expression has a plan
+abbrev pub HasPlan : Options → Job → Type 0
+HasPlan options job = IsLowerable job.expr job.types job.inputs.items options
+
+-- why making the plan ends
+abbrev pub IsPlanEnd : Options → Job → Status → Type 0
+IsPlanEnd options job NoMemory = Unit {0}
+IsPlanEnd options job status = IsUnplanned options job status
+
+-- ---- the output's name
+
+-- a node of this form reads the array with this name
+abbrev pub reads_array : List ℕ → Form → Bool
+reads_array name (Form.Input used) = bytes_eq used name
+reads_array name form = false
+
+-- a node of the expression, live or not, reads the array that has the output's name
+abbrev pub is_own_input : Expression → Bool
+is_own_input e = list_any (λ node. reads_array e.store_as node.form) e.nodes
+
+-- none does
+abbrev pub IsApart : Expression → Type 0
+IsApart e = is_own_input e ≡ false
+
+-- ---- what tasks are lent
+
+-- what each operation of the plan was projected to need is its projection, and at most what is allowed
+abbrev pub IsLentWithin : PlanView → Type 0
+IsLentWithin p = All (λ o. (o.projected ≡ projection p.arrays p.reserved o.op) × (o.projected ≤ p.allowed)) p.ops
+
+-- the greatest of them
+abbrev pub peak_of : PlanView → ℕ
+peak_of p = greatest (map (λ o. o.projected) p.ops)

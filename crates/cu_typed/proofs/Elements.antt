@@ -1,0 +1,93 @@
+-- The result of an elementwise function has the function's type.
+use Rattle.std.proofs.Common.{◌≡◌, List, [], ◌∷◌, map, drop, All, Ok, refl, sym}
+use Rattle.std.proofs.lemmas.List.Elements.{All-nil, All-cons}
+use Rattle.cu_result.proofs.ResultSteps.{need_ok}
+use Rattle.cu_num.specs.Promotion.{promotion}
+use Rattle.cu_num.specs.Scalar.{result_type1, result_type2}
+use Rattle.cu_num.specs.declared.types.Dtype.{Dtype}
+use Rattle.cu_num.specs.declared.functions.Fn1.{Fn1}
+use Rattle.cu_num.specs.declared.functions.Fn1.TheVariants as one
+use Rattle.cu_num.specs.declared.functions.Fn2.{Fn2}
+use Rattle.cu_num.specs.declared.functions.Fn2.TheVariants as two
+use Rattle.cu_num.proofs.Promoted.{first_in_range, second_in_range}
+use Rattle.cu_form.specs.declared.args.Arg.{Arg}
+use Rattle.cu_node.specs.Fault.{fault}
+use Rattle.cu_node.specs.declared.element_op.ElementOp.{ElementOp}
+use Rattle.cu_node.specs.declared.faults.FaultCode.TheVariants.{Promote}
+use Rattle.cu_node.specs.declared.info.NodeInfo.{NodeInfo}
+use Rattle.cu_node.specs.declared.literal.Literal.TheVariants as written
+use Rattle.cu_typing.specs.Elementwise.{typed_elementwise}
+use Rattle.cu_typing.specs.Types.{pair_type, shared_type, result_type}
+use Rattle.cu_typing.proofs.Passed.{passed}
+use Rattle.cu_expr.specs.Typing.{argument_of}
+use Rattle.cu_expr.proofs.Kernels.{met}
+use Rattle.cu_meaning.specs.Typed.{type_at, FitsType, IsResultType}
+
+one_again : (f : Fn1) (t : Dtype) → result_type1 f (result_type1 f t) ≡ result_type1 f t
+one_again one.Negative t = refl
+one_again one.Positive t = refl
+one_again one.Abs t = refl
+one_again one.Square t = refl
+one_again one.Sign t = refl
+one_again one.BitwiseInvert t = refl
+one_again one.LogicalNot t = refl
+one_again one.Astype t = refl
+
+two_again : (f : Fn2) (t : Dtype) → result_type2 f (result_type2 f t) ≡ result_type2 f t
+two_again two.Add t = refl
+two_again two.Subtract t = refl
+two_again two.Multiply t = refl
+two_again two.FloorDivide t = refl
+two_again two.Remainder t = refl
+two_again two.BitwiseAnd t = refl
+two_again two.BitwiseOr t = refl
+two_again two.BitwiseXor t = refl
+two_again two.LeftShift t = refl
+two_again two.RightShift t = refl
+two_again two.Equal t = refl
+two_again two.NotEqual t = refl
+two_again two.Less t = refl
+two_again two.LessEqual t = refl
+two_again two.Greater t = refl
+two_again two.GreaterEqual t = refl
+two_again two.LogicalAnd t = refl
+two_again two.LogicalOr t = refl
+two_again two.LogicalXor t = refl
+
+-- a type has its own numbers
+own_numbers : (infos : List NodeInfo) (n : _) (t : Dtype) → type_at infos n ≡ t → FitsType infos t (Arg.Node n)
+own_numbers infos n t e = λ x r. rw (← e) r
+
+-- both of two arguments fit the type that they have together
+pair_fits : (infos : List NodeInfo) (x y : Arg) (t : Dtype) → pair_type (argument_of infos x) (argument_of infos y) ≡ Ok t → FitsType infos t x × FitsType infos t y
+pair_fits infos (Arg.Node m) (Arg.Node n) t h =
+    let p = need_ok (promotion (type_at infos m) (type_at infos n)) (fault Promote) t h in
+    (first_in_range (type_at infos m) (type_at infos n) t p, second_in_range (type_at infos m) (type_at infos n) t p)
+pair_fits infos (Arg.Node m) (Arg.Int x) t h = let w = met (type_at infos m) t (written.Int x) h in (own_numbers infos m t w.0, w.1)
+pair_fits infos (Arg.Node m) (Arg.Truth b) t h = let w = met (type_at infos m) t (written.Truth b) h in (own_numbers infos m t w.0, w.1)
+pair_fits infos (Arg.Int x) (Arg.Node n) t h = let w = met (type_at infos n) t (written.Int x) h in (w.1, own_numbers infos n t w.0)
+pair_fits infos (Arg.Truth b) (Arg.Node n) t h = let w = met (type_at infos n) t (written.Truth b) h in (w.1, own_numbers infos n t w.0)
+pair_fits infos (Arg.Int x) (Arg.Int y) t h = cc
+pair_fits infos (Arg.Int x) (Arg.Truth c) t h = cc
+pair_fits infos (Arg.Truth b) (Arg.Int y) t h = cc
+pair_fits infos (Arg.Truth b) (Arg.Truth c) t h = cc
+
+choice_fits : (infos : List NodeInfo) (t : Dtype) (args : List Arg) → shared_type ElementOp.Where (map (argument_of infos) args) ≡ Ok t → All (FitsType infos t) (drop 1 args)
+choice_fits infos t [] h = cc
+choice_fits infos t (c ∷ []) h = cc
+choice_fits infos t (c ∷ x ∷ []) h = cc
+choice_fits infos t (c ∷ x ∷ y ∷ []) h =
+    let both = pair_fits infos x y t h in
+    All-cons (FitsType infos t) x (y ∷ []) both.0 (All-cons (FitsType infos t) y [] both.1 (All-nil (FitsType infos t)))
+choice_fits infos t (c ∷ x ∷ y ∷ z ∷ zs) h = cc
+
+result_fits : (infos : List NodeInfo) (op : ElementOp) (args : List Arg) (t d : Dtype) → d ≡ result_type op t → shared_type op (map (argument_of infos) args) ≡ Ok t → IsResultType infos d op args
+result_fits infos (ElementOp.One f) args t d e h = rw e (one_again f t)
+result_fits infos (ElementOp.Two f) args t d e h = rw e (two_again f t)
+result_fits infos ElementOp.Where args t d e h = rw e (choice_fits infos t args h)
+result_fits infos (ElementOp.Astype c) args t d e h = sym e
+
+pub elementwise_fits : (infos : List NodeInfo) (op : ElementOp) (args : List Arg) (i : NodeInfo) → typed_elementwise op (map (argument_of infos) args) ≡ Ok i → IsResultType infos i.dtype op args
+elementwise_fits infos op args i h =
+    let p = passed op (map (argument_of infos) args) i h in
+    result_fits infos op args p.0 i.dtype p.1.dtype p.1.shared

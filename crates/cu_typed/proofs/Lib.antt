@@ -1,0 +1,5 @@
+mod Elements
+mod Kept
+mod Numbers
+mod Together
+mod Views

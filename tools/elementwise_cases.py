@@ -1,0 +1,674 @@
+#!/usr/bin/env python3
+"""Writes the tables of cases of `run` over elementwise expressions: elementwise.json and refusals.json in crates/cu_cases/data.
+
+usage: tools/elementwise_cases.py
+
+Expected bytes, records, counts and lines come from bench/rules.py, as exact whole numbers and by the rules' own formulas; where
+NumPy can be imported each element is compared with NumPy's too. A line whose rule isn't there is written by hand. Nothing
+comes from the program.
+"""
+import os
+import sys
+
+TOP = os.path.dirname(os.path.dirname(os.path.realpath(__file__)))
+sys.path.insert(0, f"{TOP}/bench")
+import rules  # noqa: E402
+from rules import Array, compact  # noqa: E402
+
+try:
+    import compare
+except ImportError:
+    compare = None
+    print("NumPy can't be imported: the elements are those of bench/rules.py alone", file=sys.stderr)
+
+BEFORE = "error 9 key=_cubed/y/plan.json"
+
+
+class Stored:
+    """An array that a depot holds: what its metadata says, its elements, and which of its chunks are absent."""
+
+    def __init__(self, array, values, absent=(), past=0, raw=None, metadata=None):
+        self.array, self.absent, self.past, self.raw = array, absent, past, raw or {}
+        self.metadata = array.written() if metadata is None else metadata
+        self.elements = dict(zip(rules.indices(array.shape), values))
+        for index in self.elements:
+            if tuple(i // side for i, side in zip(index, array.chunk)) in absent:
+                self.elements[index] = array.fill
+
+    def holds(self, name):
+        pairs = [[f"{name}/zarr.json", self.metadata]]
+        for place in rules.itertools.product(*map(range, rules.grid_of(self.array.shape, self.array.chunk))):
+            if place not in self.absent:
+                pairs.append([self.array.key(name, place), self.raw.get(place) or self.spelled(place)])
+        return pairs
+
+    def spelled(self, place):
+        return spelled(self.array, rules.chunk_bytes(self.array, self.elements, place, self.past))
+
+
+def spelled(array, data):
+    """Returns the bytes of a chunk as a table writes them, with a space between elements."""
+    size = rules.SIZES[array.dtype]
+    return {"hex": " ".join(data[at:at + size].hex() for at in range(0, len(data), size))}
+
+
+def stored(dtype, shape, chunk, values, absent=(), past=0, raw=None, metadata=None, **layout):
+    return Stored(Array(dtype, shape, chunk, **layout), values, absent, past, raw, metadata)
+
+
+def node(ident, op, *args, **members):
+    """Returns a node; without arguments it has no `args`."""
+    return {"id": ident, "op": op, **({"args": list(args)} if args else {}), **members}
+
+
+def inputs_of(*names):
+    return [node(name, "input", name=name) for name in names]
+
+
+def expression(nodes, out=None, store_as="y"):
+    return {"nodes": nodes, "out": out or nodes[-1]["id"], "store_as": store_as}
+
+
+def holds_of(arrays):
+    return [pair for name, array in arrays.items() for pair in array.holds(name)]
+
+
+def text_of(value):
+    """Returns the bytes of a table's text or other JSON value."""
+    return value.encode() if isinstance(value, str) else compact(value).encode()
+
+
+def plan_over(text, arrays, allowed, reserved=0):
+    held = {key: text_of(value) for key, value in holds_of(arrays)}
+    return rules.plan_of(text_of(text), held.get, allowed, reserved)
+
+
+def words_of(allowed, reserved):
+    words = ["run"] if allowed is None else ["run", "--allowed-mem", str(allowed)]
+    return words + (["--reserved-mem", str(reserved)] if reserved else [])
+
+
+def report(plan, reserved, failed=0):
+    tasks = sum(map(plan.tasks, plan.made))
+    return f"ok ops={len(plan.made)} tasks={tasks} starts={tasks + failed} failed={failed} peak={plan.peak(reserved)}\n"
+
+
+def made_by(plan, arrays):
+    """Returns the chunks that a plan makes, in the order of its tasks."""
+    found = rules.meant(plan, {name: array.elements for name, array in arrays.items()})
+    if compare:
+        compare.same_as_numpy(plan, {name: array.elements for name, array in arrays.items()}, found)
+    return [[plan.key(k, place), spelled(plan.array(k), rules.chunk_bytes(plan.array(k), found[k], place))]
+            for k in plan.made for place in plan.chunks(k)]
+
+
+def ran(arrays, text, allowed=None, reserved=0, **more):
+    """Returns the row of a run that ends with 0."""
+    plan = plan_over(text, arrays, 200000000 if allowed is None else allowed, reserved)
+    record = plan.record(200000000 if allowed is None else allowed, reserved)
+    texts = [[f"_cubed/{plan.expr['store_as']}/plan.json", record],
+             [f"{plan.expr['store_as']}/zarr.json", plan.array(plan.out).written()]]
+    return {"words": words_of(allowed, reserved), "input": text, "holds": holds_of(arrays), **more,
+            "output": report(plan, reserved), "leaves": texts + made_by(plan, arrays)}
+
+
+def refused(arrays, text, line=None, allowed=None, reserved=0, **more):
+    """Returns the row of a run that is refused; without a line, with that of the rules."""
+    if line is None:
+        try:
+            plan_over(text, arrays, 200000000 if allowed is None else allowed, reserved)
+            raise SystemExit(f"{text} isn't refused")
+        except rules.Refused as answer:
+            line = f"error {answer}"
+    return {"words": words_of(allowed, reserved), "input": text, "holds": holds_of(arrays), **more, "line": line}
+
+
+def calls_of(plan):
+    """Returns the calls of the depot that a run makes, of which none fails: kind, key and the line where it fails for good, with
+    how many keys are stored then. Each input has a name of its own, and no task reads one array twice."""
+    names = [entry["name"] for entry in plan.expr["nodes"] if entry["op"] == "input"]
+    calls = [("get", f"{name}/zarr.json", 0, None) for name in names]
+    calls += [("has", key, 0, None) for key in plan.keys_in_the_way()]
+    calls += [("put", key, number, None) for number, key in enumerate(plan.keys_in_the_way()[:2])]
+    done = 2
+    for op, k in enumerate(plan.made):
+        for task, place in enumerate(plan.chunks(k)):
+            keys = [("get", plan.key(arg, where)) for arg, where in plan.task_inputs(k, place)] + [("put", plan.key(k, place))]
+            calls += [(kind, key, done, (op, task)) for kind, key in keys]
+            done += 1
+    return calls
+
+
+def looped(arrays, text, allowed, late):
+    """Returns a run with each of its calls failing once and for good, a stop before each, and each put late."""
+    plan = plan_over(text, arrays, allowed)
+    calls, ends = calls_of(plan), []
+    for _, key, done, task in calls:
+        line = f"error 10 op={task[0]} task={task[1]}" if task else f"error 16 key={key}"
+        ends.append([line, done, BEFORE if done else ""])
+    first = next(at for at, call in enumerate(calls) if call[3])
+    loops = {"ends": ends, "once": {"from": first, "output": report(plan, 0, 1)}, "late": late, "sinks": True}
+    return {**ran(arrays, text, allowed), "calls": len(calls), "loops": loops}
+
+
+# The arrays of the worked examples
+
+def six(values, **layout):
+    return stored("int32", [6], [4], values, **layout)
+
+
+def a_and_b():
+    return {"a": six([1, 2, 3, 4, 5, 6]), "b": six([10, 20, 30, 40, 50, 60])}
+
+
+def line_of(dtype, values, chunk=4, **layout):
+    return stored(dtype, [len(values)], [chunk], values, **layout)
+
+
+def number(dtype, value, **layout):
+    return stored(dtype, [], [], [value], **layout)
+
+
+ADDED = [*inputs_of("a", "b"), node("s", "add", "a", "b")]
+DOUBLED = [*ADDED, node("t", "multiply", "s", 2)]
+
+
+# Worked examples whose bytes, record and metadata stand here as texts
+
+LITERAL_EXPRESSION = '{"nodes":[{"id":"a","op":"input","name":"a"},{"id":"b","op":"input","name":"b"},' \
+    '{"id":"s","op":"add","args":["a","b"]},{"id":"t","op":"multiply","args":["s",2]}],"out":"t","store_as":"y"}'
+LITERAL_METADATA = '{"chunk_grid":{"configuration":{"chunk_shape":[4]},"name":"regular"},"chunk_key_encoding":{"configuration":' \
+    '{"separator":"/"},"name":"default"},"codecs":[{"configuration":{"endian":"little"},"name":"bytes"}],"data_type":"int32",' \
+    '"fill_value":0,"node_type":"array","shape":[6],"zarr_format":3}'
+LITERAL_RECORD = '{"allowed":1600,"cubed":1,"expr":{"nodes":[{"id":"a","name":"a","op":"input"},{"id":"b","name":"b","op":"input"},' \
+    '{"args":["a","b"],"id":"s","op":"add"},{"args":["s",2],"id":"t","op":"multiply"}],"out":"t","store_as":"y"},"inputs":{"a":' \
+    f'{LITERAL_METADATA},"b":{LITERAL_METADATA}' + '},"reserved":0,"split_every":4}'
+LITERAL_CHUNKS = [
+    ["_cubed/y/0/c/0", {"hex": "0b000000 16000000 21000000 2c000000"}],
+    ["_cubed/y/0/c/1", {"hex": "37000000 42000000 00000000 00000000"}],
+    ["y/c/0", {"hex": "16000000 2c000000 42000000 58000000"}],
+    ["y/c/1", {"hex": "6e000000 84000000 00000000 00000000"}]]
+
+
+def fused_later():
+    """Two maps, with all that is stored as literal texts, which must be what the rules say."""
+    row = ran(a_and_b(), expression(DOUBLED), 1600)
+    leaves = [["_cubed/y/plan.json", LITERAL_RECORD], ["y/zarr.json", LITERAL_METADATA], *LITERAL_CHUNKS]
+    assert [[key, text_of(value)] for key, value in leaves] == [[key, text_of(value)] for key, value in row["leaves"]]
+    assert row["output"] == "ok ops=2 tasks=4 starts=4 failed=0 peak=1600\n"
+    return {**row, "input": LITERAL_EXPRESSION, "leaves": leaves, "calls": 20}
+
+
+def truth_byte():
+    array = number("bool", 1, raw={(): {"hex": "07"}})
+    row = ran({"x": array}, expression([*inputs_of("x"), node("n", "logical_not", "x")]), 1027)
+    assert row["output"].endswith("peak=1027\n") and row["leaves"][-1] == ["y/c", {"hex": "00"}]
+    return row
+
+
+def big_endian():
+    array = stored("int16", [4], [2], [258, -2, 0, 0], absent={(1,)}, endian="big", fill=-1, raw={(0,): {"hex": "0102 fffe"}})
+    row = ran({"x": array}, expression([*inputs_of("x"), node("n", "negative", "x")]))
+    assert row["leaves"][-2:] == [["y/c/0", {"hex": "fefe 0200"}], ["y/c/1", {"hex": "0100 0100"}]]
+    return row
+
+
+def broadcast_rows():
+    matrix = stored("int32", [2, 3], [2, 2], [1, 2, 3, 4, 5, 6])
+    row = stored("int32", [3], [2], [10, 20, 30])
+    column = stored("int32", [2, 1], [1, 1], [100, 200])
+    return [ran({"a": matrix, "b": row}, expression(ADDED)),
+            ran({"a": row, "b": matrix}, expression(ADDED)),
+            ran({"a": stored("int32", [2, 3], [1, 2], [1, 2, 3, 4, 5, 6]), "b": column}, expression(ADDED)),
+            ran({"a": column, "b": stored("int32", [3], [2], [1, 2, 3])}, expression(ADDED)),
+            refused({"a": matrix, "b": stored("int32", [2], [2], [1, 2])}, expression(ADDED), "error 4 code=2 node=2")]
+
+
+def promoted_rows():
+    plus = [*inputs_of("a"), node("s", "add", "a", 1)]
+    return [ran({"a": line_of("int8", [127])}, expression(plus)),
+            ran({"a": line_of("uint8", [255]), "b": line_of("int8", [-1])}, expression(ADDED)),
+            refused({"a": line_of("int64", [1]), "b": line_of("uint64", [1])}, expression(ADDED), "error 4 code=1 node=2"),
+            ran({"a": line_of("int32", [-(2**31), 7]), "b": line_of("uint32", [2**32 - 1, 0])}, expression(ADDED)),
+            ran({"a": line_of("uint16", [65535, 1]), "b": line_of("int8", [1, -1])}, expression(ADDED))]
+
+
+def divided_rows():
+    arrays = {"a": line_of("int8", [-7, -7, -128, 5]), "b": line_of("int8", [2, 0, -1, -3])}
+    return [ran(arrays, expression([*inputs_of("a", "b"), node("q", op, "a", "b")])) for op in ("floor_divide", "remainder")]
+
+
+# Each function, over values at the ends of the types
+
+SIGNED = [-128, -127, -8, -1, 0, 1, 9, 127]
+UNSIGNED = [0, 1, 2, 8, 127, 128, 254, 255]
+WIDE = {"int64": ([-(2**63), -(2**63), 2**63 - 1, -1, 5, 0], [-1, 2**63 - 1, 2, 63, -64, 64]),
+        "uint64": ([0, 2**64 - 1, 2**64 - 1, 2**63, 5, 1], [1, 2**64 - 1, 2, 0, 64, 63])}
+
+
+def folded(ops, first, second, both):
+    """Returns nodes of each function over two nodes, and those that put the results together so that each is live."""
+    nodes = [node(f"f{at}", op, *[first, second][:rules.FUNCTIONS[op][0]]) for at, op in enumerate(ops)]
+    last = "f0"
+    for at in range(1, len(ops)):
+        nodes.append(node(f"x{at}", both, last, f"f{at}"))
+        last = f"x{at}"
+    return nodes
+
+
+def each_of(ops, arrays, both="bitwise_xor"):
+    return ran(arrays, expression([*inputs_of("a", "b"), *folded(ops, "a", "b", both)]))
+
+
+def function_cases():
+    whole = [*rules.ARITHMETIC, *rules.BITWISE]
+    pairs = {"int8": {"a": stored("int8", [8, 1], [4, 1], SIGNED), "b": stored("int8", [1, 7], [1, 7], [-128, -9, -1, 0, 3, 8, 127])},
+             "uint8": {"a": stored("uint8", [8, 1], [4, 1], UNSIGNED), "b": stored("uint8", [1, 7], [1, 7], [0, 1, 3, 7, 8, 200, 255])}}
+    wide = {dtype: {"a": line_of(dtype, left, 6), "b": line_of(dtype, right, 6)} for dtype, (left, right) in WIDE.items()}
+    truths = {"a": line_of("bool", [0, 0, 1, 1], 3, raw={(1,): {"hex": "ff 01 01"}}), "b": line_of("bool", [0, 1, 0, 1], 3)}
+    mixed = {"a": line_of("int8", [-128, -1, 0, 1, 127, 5]), "b": line_of("uint8", [128, 255, 0, 1, 127, 6])}
+    compared = [*rules.EQUALITY, *rules.ORDER]
+    return [
+        {"name": "each function of integers, over pairs of small numbers at the ends of their types", "rows": [
+            each_of(whole, pairs["int8"]), each_of(whole, pairs["uint8"])]},
+        {"name": "each function of integers of 64 bits, at the ends of their types", "rows": [
+            each_of(whole, wide["int64"]), each_of(whole, wide["uint64"])]},
+        {"name": "each comparison, of one type and of two", "rows": [
+            each_of(compared, arrays, "logical_xor") for arrays in (mixed, wide["int64"], wide["uint64"])]},
+        {"name": "each logical function and each function of bits over truth values, a stored byte other than 0 being true", "rows": [
+            each_of([*rules.LOGICAL], truths, "logical_xor"), each_of([*rules.BITWISE], truths, "not_equal"),
+            each_of([*rules.EQUALITY], truths, "logical_or")]},
+        {"name": "a type is converted to each type", "rows": [
+            ran({"a": line_of("int16", [-32768, -129, -1, 0, 1, 255, 256, 32767])},
+                expression([*inputs_of("a"), node("t", "astype", "a", dtype=dtype)])) for dtype in rules.SIZES]},
+        {"name": "truth values and unsigned numbers are converted", "rows": [
+            ran({"a": line_of(dtype, values)}, expression([*inputs_of("a"), node("t", "astype", "a", dtype=to)]))
+            for dtype, values, to in (("bool", [0, 1], "int64"), ("uint64", [2**64 - 1, 2**63, 0], "int32"),
+                                      ("uint64", [2**64 - 2**8, 0], "bool"), ("bool", [1, 0], "bool"))]}]
+
+
+def where_rows():
+    nodes = [*inputs_of("c", "a", "b"), node("w", "where", "c", "a", "b")]
+    truth = line_of("bool", [1, 0, 1], 2)
+    arrays = {"c": truth, "a": line_of("int8", [-1, -2, -3], 2), "b": line_of("uint8", [200, 201, 202], 2)}
+    matrix = {**arrays, "b": stored("uint8", [2, 3], [1, 2], [1, 2, 3, 4, 5, 6])}
+    two = {name: arrays[name] for name in ("c", "a")}
+    return [ran(arrays, expression(nodes)), ran(matrix, expression(nodes)),
+            ran({"c": number("bool", 1), "a": number("int16", -5), "b": line_of("int16", [1, 2, 3], 2)}, expression(nodes)),
+            ran({"c": truth, "a": truth, "b": line_of("bool", [0, 0, 1], 2)}, expression(nodes)),
+            ran(two, expression([*inputs_of("c", "a"), node("w", "where", "c", "a", 127)])),
+            ran(two, expression([*inputs_of("c", "a"), node("w", "where", "c", -128, "a")])),
+            ran({"c": truth}, expression([*inputs_of("c"), node("w", "where", "c", "c", True)]))]
+
+
+def literal_rows():
+    array = {"a": line_of("int8", [-128, -1, 0, 127])}
+    ends = {"a": line_of("uint64", [0, 1, 2**64 - 1])}
+    truth = {"a": line_of("bool", [0, 1])}
+    return [ran(arrays, expression([*inputs_of("a"), node("s", op, *args)])) for arrays, op, args in (
+        (array, "subtract", (-128, "a")), (array, "subtract", ("a", 127)), (array, "bitwise_left_shift", (1, "a")),
+        (array, "less", (0, "a")), (ends, "equal", ("a", 2**64 - 1)), (ends, "floor_divide", ("a", 0)),
+        (truth, "logical_xor", (True, "a")), (truth, "not_equal", ("a", False)), (truth, "bitwise_or", (False, "a")))]
+
+
+# Shapes of plans
+
+def chain(count):
+    """Returns nodes of so many functions, each of the one before."""
+    nodes = inputs_of("a")
+    for at in range(count):
+        op, rest = (("add", (at,)), ("multiply", (3,)), ("negative", ()), ("bitwise_xor", (85,)))[at % 4]
+        nodes.append(node(f"m{at}", op, nodes[-1]["id"], *rest))
+    return nodes
+
+
+def chained_rows():
+    array = {"a": stored("int16", [5], [3], [1, -2, 3, -4, 32767])}
+    return [ran(array, expression(chain(count))) for count in (1, 2, 40)]
+
+
+def used_twice_rows():
+    return [ran(a_and_b(), expression([*ADDED, node("t", "multiply", "s", "s"), node("u", "subtract", "s", "t")]), 1600),
+            ran({"a": six([1, 2, 3, 4, 5, 6])}, expression([*inputs_of("a"), node("t", "multiply", "a", "a")]), 1600),
+            ran({"a": six([1, 2, 3, 4, 5, 6])}, expression(
+                [node("p", "input", name="a"), node("q", "input", name="a"), node("s", "add", "p", "q"), node("t", "add", "s", "q")]))]
+
+
+def dead_rows():
+    """A dead input is read and stands in the record; its chunks are neither read nor needed, and no dead node is carried out."""
+    large = stored("int64", [4000], [2000], [0] * 4000, absent={(0,), (1,)})
+    short = six([1, 2, 3, 4, 5, 6], raw={(0,): {"hex": "01"}})
+    nodes = [*inputs_of("a", "b", "d"), node("n", "negative", "d"), node("s", "add", "a", "b"), node("v", "square", "s"),
+             node("m", "sum", "d"), node("r", "rechunk", "s", chunk=[1])]
+    first = [*inputs_of("d", "a", "b"), node("n", "abs", "d"), node("s", "add", "a", "b"), node("t", "negative", "s")]
+    return [ran({**a_and_b(), "d": large}, expression(nodes, "s"), 1600, calls=15),
+            ran({**a_and_b(), "d": short}, expression(nodes, "s"), 1600, calls=15),
+            ran({**a_and_b(), "d": large}, expression(first), 1600, calls=21),
+            ran({**a_and_b(), "d": large}, expression([*inputs_of("a", "b", "d"), node("s", "add", "a", "b"),
+                                                       node("u", "add", "s", 1)], "s"), 1600, calls=15)]
+
+
+def rank_zero_rows():
+    one = {"a": number("int8", 100), "b": number("int8", 100)}
+    return [ran(one, expression(ADDED)), ran(one, expression([*inputs_of("a"), node("s", "square", "a")])),
+            ran({"a": number("int8", 100), "b": line_of("int16", [1, 2, 3], 2)}, expression(ADDED)),
+            ran({"a": stored("int16", [2, 1], [1, 1], [1, 2]), "b": number("uint8", 200, absent={()}, fill=255)}, expression(ADDED))]
+
+
+def empty_rows():
+    nothing = stored("int32", [0], [4], [])
+    return [ran({"a": nothing, "b": nothing}, expression(ADDED), 1600),
+            ran({"a": nothing, "b": stored("int32", [1], [4], [7])}, expression(DOUBLED), 1600),
+            ran({"a": stored("int8", [2, 0], [1, 3], []), "b": stored("int8", [2, 1], [1, 3], [1, 2])}, expression(ADDED))]
+
+
+def layouts_row():
+    arrays = {"a": stored("int16", [3, 3], [2, 2], list(range(9)), past=77, endian="big", encoding="v2", separator="."),
+              "b": stored("int16", [3, 3], [2, 2], [10 * k for k in range(9)], absent={(0, 1)}, fill=-3, separator="."),
+              "c": stored("uint8", [3], [2], [1, 2, 3], past=9, encoding="v2", separator="/")}
+    return ran(arrays, expression([*inputs_of("a", "b", "c"), node("s", "add", "a", "b"), node("t", "multiply", "s", "c")]))
+
+
+def reserved_rows():
+    return [ran(a_and_b(), expression(DOUBLED), 1607, 7), refused(a_and_b(), expression(DOUBLED), None, 1606, 7)]
+
+
+def three_operations():
+    return looped(a_and_b(), expression([*ADDED, node("t", "multiply", "s", 2), node("u", "subtract", "t", "a")]), 1600, 20)
+
+
+def broken_rows():
+    """Faults inside the tasks of a later operation."""
+    nodes = [*ADDED, node("t", "multiply", "s", 2), node("u", "subtract", "t", "c")]
+    text = expression([nodes[0], nodes[1], node("c", "input", name="c"), *nodes[2:]])
+    arrays = {**a_and_b(), "c": six([1, 1, 1, 1, 1, 1])}
+    whole = ran(arrays, text, 1600)
+    texts, chunks = whole["leaves"][:2], whole["leaves"][2:]
+    short = {**arrays, "c": six([1, 1, 1, 1, 1, 1], raw={(1,): {"hex": "01000000 01000000 00000000 000000"}})}
+    # A task of the last operation is tried until it has failed three times, or is done.
+    failing = {key: [entry for entry in chunks if entry[0] != key] for key in ("y/c/1", "_cubed/y/1/c/0")}
+    return [
+        {**whole, "holds": holds_of(short), "output": "", "line": "error 13 key=c/c/1 got=15 want=16", "leaves": texts,
+         "may_leave": failing["y/c/1"]},
+        {**whole, "faults": [{"call": "put", "key": "y/c/1", "times": 2}], "output": whole["output"].replace("6 failed=0", "8 failed=2")},
+        {**whole, "faults": [{"call": "put", "key": "y/c/1", "times": 3}], "output": "", "line": "error 10 op=2 task=1",
+         "leaves": texts, "may_leave": failing["y/c/1"]},
+        {**whole, "faults": [{"call": "get", "key": "_cubed/y/0/c/0", "times": 3}], "output": "", "line": "error 10 op=1 task=0",
+         "leaves": texts, "may_leave": [entry for entry in failing["_cubed/y/1/c/0"] if entry[0] != "y/c/0"]},
+        {**whole, "faults": [{"call": "put", "key": "_cubed/y/1/c/0", "times": 1, "land": 1}],
+         "output": whole["output"].replace("6 failed=0", "7 failed=1")}]
+
+
+def elementwise_cases():
+    return [
+        {"name": "two maps, with all that they store", **fused_later()},
+        {"name": "types are promoted, and sums wrap once", "rows": promoted_rows()},
+        {"name": "quotients are rounded down, and by zero all is zero", "rows": divided_rows()},
+        {"name": "a truth value that is stored as 7", **truth_byte()},
+        {"name": "big-endian numbers, and a chunk that is absent", **big_endian()},
+        {"name": "shapes broadcast", "rows": broadcast_rows()},
+        {"name": "three operations, whichever call fails", **three_operations()},
+        {"name": "faults in the tasks of later operations", "rows": broken_rows()},
+        {"name": "chains of 1, 2 and 40 functions", "rows": chained_rows()},
+        {"name": "a node and an input are used twice", "rows": used_twice_rows()},
+        {"name": "dead nodes are neither carried out nor refused for memory, and chunks of dead inputs aren't read", "rows": dead_rows()},
+        {"name": "arrays without an axis", "rows": rank_zero_rows()},
+        {"name": "arrays without elements", "rows": empty_rows()},
+        {"name": "inputs of other layouts, with other bytes past the edge", **layouts_row()},
+        {"name": "memory that is set aside", "rows": reserved_rows()},
+        {"name": "where", "rows": where_rows()},
+        {"name": "literals", "rows": literal_rows()},
+        *function_cases()]
+
+
+# Refusals
+
+def metadata_of(dtype, shape, chunk):
+    """Returns an array of which no chunk is held."""
+    array = stored(dtype, [0] * len(shape), chunk, [])
+    array.array = Array(dtype, shape, chunk)
+    array.metadata = array.array.written()
+    array.holds = lambda name: [[f"{name}/zarr.json", array.metadata]]
+    return array
+
+
+def text_rows():
+    """Each code of 3, in its order."""
+    a, sum_of = inputs_of("a")[0], node("s", "add", "a", "a")
+    nodes = [node(f"n{at}", "input", name="a") for at in range(257)]
+    texts = ['{"nodes":[', "", "{}", {**expression([a, sum_of]), "more": 1}, expression([a, sum_of], "q"), expression([a, sum_of], "s", "_y"),
+             expression([a, sum_of], "s", "../x"), expression([a, 7], "a"), expression([a, {**sum_of, "more": 1}]),
+             expression([a, node("s", "sort", "a")]), expression([a, node("s", "Add", "a", "a")]),
+             expression([a, node("s", "add", "a")]), expression([a, node("s", "add", 1, 2)]), expression([a, node("s", "negative", 5)]),
+             expression([a, node("a", "negative", "a")], "a"), expression([a, node("s", "add", "a", "q")]), expression(nodes),
+             '{"nodes":[{"id":"a","op":"input","name":"a"},{"id":"s","op":"add","args":["a",1.0]}],"out":"s","store_as":"y"}',
+             '{"nodes":[{"id":"a","op":"input","name":"a"},{"id":"s","op":"add","args":["a",-0]}],"out":"s","store_as":"y"}',
+             '{"nodes":[{"id":"a","op":"input","name":"a"},{"id":"s","op":"add","args":["a",18446744073709551616]}],"out":"s","store_as":"y"}']
+    rows = [refused(a_and_b(), text, calls=0) for text in texts]
+    long = {"join": [compact(expression([a, sum_of])), {"repeat": [" ", 1048576]}]}
+    return rows + [{"words": ["run"], "input": long, "holds": [], "line": "error 3 code=7 node=0", "calls": 0}]
+
+
+def type_rows():
+    """Each code of 4, in its order; those of operators that aren't elementwise by hand."""
+    lines = {"a": line_of("int8", [1, 2, 3]), "c": line_of("bool", [1, 0, 1])}
+    cube = {"a": stored("int32", [2, 3], [1, 2], [1, 2, 3, 4, 5, 6])}
+    wide = {"a": metadata_of("int8", [2**20, 1], [2**20, 1]), "b": metadata_of("int8", [1, 2**21], [1, 2**21])}
+    deep = {"a": metadata_of("int64", [1, 2**14], [1, 2**14]), "b": metadata_of("int64", [2**14, 1], [2**14, 1])}
+    many = {"a": metadata_of("int8", [2**9, 1], [1, 1]), "b": metadata_of("int8", [1, 2**9], [1, 1])}
+    sole = inputs_of("a")
+    of_two = inputs_of("a", "c")
+    by_rules = [
+        (lines, [*of_two, node("s", "add", "c", 1)]), (lines, [*of_two, node("s", "logical_not", "a")]),
+        (lines, [*of_two, node("s", "where", "a", "c", "c")]), (lines, [*of_two, node("s", "less", "c", "c")]),
+        (lines, [*of_two, node("s", "add", "a", 128)]), (lines, [*of_two, node("s", "add", "a", True)]),
+        (lines, [*of_two, node("s", "where", "c", "c", 1)]), (lines, [*of_two, node("s", "equal", "a", "c")]),
+        (lines, [*of_two, node("s", "bitwise_and", "c", "a")]), (lines, [*of_two, node("s", "where", "c", "a", "c")]),
+        (wide, ADDED), (deep, ADDED), (many, ADDED)]
+    by_hand = [
+        (cube, [*sole, node("s", "permute_dims", "a", axes=[0, 0])], 3), (cube, [*sole, node("s", "flip", "a", axes=[2])], 3),
+        (cube, [*sole, node("s", "index", "a", index=[2])], 9),
+        ({}, [node("s", "arange", start=0, stop=6, step=0, dtype="int32", chunk=[4])], 9),
+        (cube, [*sole, node("s", "reshape", "a", shape=[4, -1])], 8),
+        ({"a": stored("int32", [0], [4], [])}, [*sole, node("s", "max", "a")], 4),
+        (cube, [*sole, node("s", "broadcast_to", "a", shape=[2, 4], chunk=[1, 1])], 2),
+        (cube, [*sole, node("s", "concat", "a", "a", axis=2)], 3)]
+    return [refused(arrays, expression(nodes)) for arrays, nodes in by_rules] + \
+        [refused(arrays, expression(nodes), f"error 4 code={code} node={len(nodes) - 1}") for arrays, nodes, code in by_hand]
+
+
+def type_order_rows():
+    """The first faulty node, live or not, and of one node's faults the first of their order."""
+    arrays = {"a": line_of("int8", [1, 2, 3]), "b": line_of("int16", [1, 2]), "c": line_of("bool", [1, 0, 1])}
+    three = inputs_of("a", "b", "c")
+    return [refused(arrays, expression(nodes, out)) for nodes, out in (
+        ([*three, node("p", "add", "c", "a"), node("q", "add", "a", "b")], "q"),
+        ([*three, node("p", "add", "a", "b"), node("q", "add", "c", "a")], "p"),
+        ([*three, node("p", "add", "a", 1), node("q", "negative", "c")], "p"),
+        ([*three, node("p", "add", "c", 1000)], "p"), ([*three, node("p", "where", "c", "b", 40000)], "p"),
+        ([*three, node("p", "bitwise_or", "c", "b")], "p"), ([*three, node("p", "where", "c", "c", "b")], "p"))]
+
+
+def unbuilt_rows():
+    other = {"a": six([1, 2, 3, 4, 5, 6]), "b": stored("int32", [6], [3], [1, 2, 3, 4, 5, 6])}
+    one = {"a": stored("int32", [1], [4], [1]), "b": stored("int32", [1], [1], [1])}
+    sole = inputs_of("a")
+    stretched = {"a": stored("int32", [2, 3], [2, 2], [1, 2, 3, 4, 5, 6]), "b": stored("int32", [3], [3], [1, 2, 3])}
+    texts = [
+        (other, ADDED, None), (stretched, ADDED, None), (one, ADDED, None), (a_and_b(), inputs_of("a"), None),
+        (a_and_b(), ADDED, "b"), (other, DOUBLED, None), (other, [*inputs_of("a", "b"), node("n", "negative", "b"), node("s", "add", "a", "n")], None),
+        (a_and_b(), [*sole, node("m", "sum", "a")], None),
+        (a_and_b(), [*sole, node("n", "negative", "a"), node("m", "max", "n"), node("r", "rechunk", "m", chunk=[])], None),
+        ({}, [node("f", "full", shape=[6], dtype="int32", value=1, chunk=[4]), node("n", "negative", "f")], None),
+        ({}, [node("f", "arange", start=0, stop=6, step=1, dtype="int32", chunk=[4])], None),
+        (other, [*inputs_of("a", "b"), node("d", "add", "a", "b"), node("n", "negative", "a"), node("m", "flip", "n")], None)]
+    return [refused(arrays, expression(nodes, out)) for arrays, nodes, out in texts]
+
+
+def memory_rows():
+    """At the border, and the first such node: an input too where more is set aside than allowed, but no dead one."""
+    bytes_of = {"a": line_of("int8", [1, 2, 3, 4, 5], 3), "b": line_of("int64", [1, 2, 3, 4, 5], 3)}
+    nodes = [*inputs_of("a", "b"), node("n", "negative", "a"), node("s", "add", "n", "b"), node("t", "square", "s")]
+    select = [*inputs_of("a", "b"), node("l", "less", "a", 3), node("w", "where", "l", "b", -1)]
+    rows = []
+    for text in (expression(nodes), expression(select)):
+        plan = plan_over(text, bytes_of, 10**6)
+        for k in plan.made:
+            rows.append(refused(bytes_of, text, None, plan.need(k, 0) - 1))
+        rows.append(ran(bytes_of, text, plan.peak(0)))
+    return rows + [
+        refused(a_and_b(), expression(ADDED), "error 5 node=0 need=1601 allowed=1600", 1600, 1601),
+        refused(a_and_b(), expression([*inputs_of("a", "b"), node("n", "negative", "b")]), "error 5 node=1 need=9 allowed=8", 8, 9),
+        refused(a_and_b(), expression(ADDED), "error 5 node=2 need=1600 allowed=0", 0),
+        refused({"a": metadata_of("int64", [2**28], [2**25])}, expression([*inputs_of("a"), node("n", "negative", "a")]), None)]
+
+
+def count_rows():
+    """Tasks at the border, where the record that is held is named, and one more. Metadata alone is read."""
+    def line(count):
+        return metadata_of("int8", [count], [1])
+
+    held = [["_cubed/y/plan.json", "{}"]]
+    square = [*inputs_of("a"), node("p", "square", "a"), node("q", "square", "p")]
+    more = [*inputs_of("a", "o"), node("p", "square", "a"), node("q", "square", "o"), node("r", "add", "p", "q")]
+    dead = [*square, node("d", "square", "q")]
+    arrays = {"a": line(32768)}
+    edge = refused(arrays, expression(square), BEFORE)
+    beside = refused(arrays, expression(dead, "q"), BEFORE)
+    return [{**edge, "holds": edge["holds"] + held}, {**beside, "holds": beside["holds"] + held},
+            refused({"a": line(32768), "o": metadata_of("int8", [], [])}, expression(more), "error 6 which=1 count=65537"),
+            refused({"a": line(65536)}, expression(square), "error 6 which=1 count=131072"),
+            refused({"a": line(40000)}, expression([*square, node("r", "add", "p", "q")]), "error 6 which=1 count=120000"),
+            refused({"a": line(65536)}, expression([*inputs_of("a"), *[node(f"n{k}", "square", f"n{k - 1}" if k else "a") for k in range(5)]]),
+                    "error 6 which=1 count=327680")]
+
+
+def way_rows():
+    """The keys in the way in their order: record, metadata, and the chunks of each array that is made."""
+    arrays = {name: metadata_of("int32", [6], [4]) for name in "ab"}
+    text = expression(DOUBLED)
+    keys = plan_over(text, arrays, 1600).keys_in_the_way()
+    rows = []
+    for at, key in enumerate(keys):
+        later = [[other, {"hex": "07"}] for other in keys[at:]]
+        rows.append({**refused(arrays, text, f"error 9 key={key}", 1600, calls=2 + at + 1), "holds": holds_of(arrays) + later})
+    same = expression(ADDED, "s", "b")
+    dead = expression([*inputs_of("a", "y"), node("n", "negative", "a")])
+    return rows + [refused(arrays, same, "error 9 key=b/zarr.json"),
+                   {**refused(arrays, same, "error 9 key=_cubed/b/plan.json"), "holds": holds_of(arrays) + [["_cubed/b/plan.json", ""]]},
+                   refused({"a": arrays["a"], "y": arrays["b"]}, dead, "error 9 key=y/zarr.json")]
+
+
+def pair_rows():
+    """Two faults at once, of which the earlier in the order of refusals is named."""
+    both = {name: metadata_of("int32", [6], [4]) for name in "ab"}
+    bad = metadata_of("int32", [6], [4])
+    bad.metadata = "[]"
+    odd = {"a": both["a"], "b": metadata_of("int32", [5], [4])}
+    misaligned = {"a": both["a"], "b": metadata_of("int32", [6], [5])}
+    many = {"a": metadata_of("int8", [65536], [1])}
+    twice = expression([*inputs_of("a"), node("p", "square", "a"), node("q", "square", "p")])
+    text, no_text = expression(ADDED), expression([*ADDED, 3], "s")
+    held = [["_cubed/y/plan.json", ""]]
+
+    def failing(key, call="get"):
+        return [{"call": call, "key": key, "times": 3}]
+
+    def row(arrays, line, text=text, more_holds=(), **more):
+        allowed = more.pop("allowed", None)
+        made = refused(arrays, text, f"error {line}", allowed, **more)
+        return {**made, "holds": made["holds"] + list(more_holds)}
+
+    return [
+        {**row(both, "2 code=2", source_fails_at=0), "words": ["run", "--retries", "9"]},
+        row(both, "11", no_text, source_fails_at=0), row(both, "11", no_text, source_fails_at=1),
+        row(both, "3 code=3 node=3", no_text, faults=failing("a/zarr.json"), calls=0),
+        row({"b": bad}, "16 key=a/zarr.json", faults=failing("a/zarr.json"), calls=3),
+        row({"b": both["b"]}, "8 name=a", faults=failing("b/zarr.json"), calls=1),
+        row({"b": bad}, "8 name=a", calls=1), row({"a": bad}, "7 name=a code=1", calls=1),
+        row({"a": bad, "b": both["b"]}, "7 name=a code=1", faults=failing("b/zarr.json"), calls=1),
+        row({"a": odd["a"], "b": bad}, "7 name=b code=1", expression([*inputs_of("a", "b"), node("s", "logical_not", "a")])),
+        row({"a": both["a"]}, "8 name=b", expression([*inputs_of("a"), node("n", "logical_not", "a"), *inputs_of("b")], "n")),
+        row(odd, "4 code=2 node=2"), row(odd, "4 code=2 node=3", expression([*inputs_of("a", "b"), node("m", "sum", "a"), node("s", "add", "a", "b")], "m")),
+        row(odd, "4 code=2 node=2", allowed=0), row(odd, "4 code=2 node=2", more_holds=held),
+        row(misaligned, "19 node=2", allowed=0), row(misaligned, "19 node=3", expression([*inputs_of("a", "b"), node("n", "square", "a"), node("s", "add", "n", "b")]), allowed=0),
+        row(misaligned, "19 node=2", more_holds=held),
+        row(many, "5 node=1 need=1027 allowed=1026", twice, allowed=1026),
+        row(many, "6 which=1 count=131072", twice, more_holds=held, allowed=1027),
+        row(both, "5 node=2 need=1600 allowed=1599", more_holds=held, allowed=1599),
+        row(both, "5 node=2 need=1600 allowed=1599", faults=failing("_cubed/y/plan.json", "has"), allowed=1599, calls=2),
+        row(both, "16 key=_cubed/y/plan.json", faults=failing("_cubed/y/plan.json", "has"), more_holds=[["y/zarr.json", ""]]),
+        row(both, "9 key=_cubed/y/plan.json", faults=failing("y/zarr.json", "has"), more_holds=held),
+        row(both, "16 key=_cubed/y/0/c/1", expression(DOUBLED), faults=failing("_cubed/y/0/c/1", "has"), more_holds=[["y/c/0", ""]]),
+        row({"a": six([1, 2, 3, 4, 5, 6], raw={(0,): {"hex": "01"}}), "b": both["b"]}, "9 key=y/c/1", more_holds=[["y/c/1", ""]])]
+
+
+def refusal_cases():
+    return [
+        {"name": "texts that are no expressions", "rows": text_rows()},
+        {"name": "nodes that have no type", "rows": type_rows()},
+        {"name": "the first faulty node, and its first fault", "rows": type_order_rows()},
+        {"name": "the first live node that isn't built yet", "rows": unbuilt_rows()},
+        {"name": "the first live node that needs more than is allowed", "rows": memory_rows()},
+        {"name": "more tasks than a plan may have", "rows": count_rows()},
+        {"name": "the first key in the way", "rows": way_rows()},
+        {"name": "of two faults the earlier is named", "rows": pair_rows()}]
+
+
+# Writing
+
+def joined(parts, indent):
+    return "[\n" + ",\n".join(indent + part for part in parts) + "]"
+
+
+def case_text(case):
+    """Returns a case as text, with a line for each row."""
+    members = []
+    for name, value in case.items():
+        spelled_value = joined(map(rules.json.dumps, value), "  ") if name == "rows" else rules.json.dumps(value)
+        members.append(f'"{name}": {spelled_value}')
+    return "{" + ",\n ".join(members) + "}"
+
+
+def memory_of(words):
+    """Returns what words allow and set aside, or nothing where they are refused."""
+    told = dict(zip(words[1::2], words[2::2]))
+    if "--retries" in told:
+        return None
+    return int(told.get("--allowed-mem", 200000000)), int(told.get("--reserved-mem", 0))
+
+
+def check(name, row):
+    """Compares the line of a row with the rules, where no call fails and they say it."""
+    told = memory_of(row["words"])
+    if told is None or any(member in row for member in ("faults", "source_fails_at")) or not isinstance(row["input"], (str, dict)) \
+            or "join" in row["input"] or row.get("line", "").startswith("error 13"):
+        return
+    held = {key: text_of(value) if isinstance(value, str) or "hex" not in value else b"" for key, value in row["holds"]}
+    try:
+        rules.plan_of(text_of(row["input"]), held.get, *told)
+        line = ""
+    except rules.Refused as answer:
+        line = f"error {answer}"
+    except KeyError as op:
+        print(f"{name}: by hand, {op}: {row['line']}")
+        return
+    if line != row.get("line", ""):
+        raise SystemExit(f"{name}: {row} says another line than {line}")
+
+
+def write(file, cases):
+    for case in cases:
+        for row in case.get("rows", [case]):
+            check(case["name"], row)
+    with open(f"{TOP}/crates/cu_cases/data/{file}", "w", encoding="ascii") as out:
+        out.write('{\n"kind": "calls",\n"cases": ' + joined(map(case_text, cases), "") + "\n}\n")
+
+
+def main():
+    write("elementwise.json", elementwise_cases())
+    write("refusals.json", refusal_cases())
+
+
+if __name__ == "__main__":
+    main()
