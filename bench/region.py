@@ -42,7 +42,7 @@ ghost use Rattle.cu_num.specs.Dtype.{size_of, InRange};
 ghost use Rattle.cu_shape.specs.Index.{product};
 ghost use Rattle.cu_grid.specs.Counts.{IsRegion};
 ghost use Rattle.cu_grid.specs.Limits.{IsWithinLimits};
-ghost use Rattle.cu_codec.specs.Parts.{differences};
+ghost use Rattle.cu_shape.specs.Index.{differences};
 ghost use Rattle.cu_region.specs.Reading.{bytes_of};
 
 use cu_dir::DirDepot;
