@@ -23,6 +23,8 @@ ELEMENTS, CHUNK = 1 << 24, 1 << 18
 CHUNKS, CHUNK_BYTES = ELEMENTS // CHUNK, 4 * CHUNK
 SMALL_TASKS, SMALL = 1 << 14, 1 << 8
 HERE = os.path.dirname(os.path.abspath(__file__))
+# As ./cubed has it: large buffers lie in huge pages where the system gives them on demand, as NumPy's do.
+os.environ.setdefault("GLIBC_TUNABLES", "glibc.malloc.hugetlb=1")
 GNU_TIME = "/usr/bin/time"
 OUTPUTS = {"cubed": "y", "numpy": "z"}
 PROGRAM = os.path.join(HERE, "..", "crates", "cu_bin", "out", "cu_bin")

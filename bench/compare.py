@@ -1,15 +1,17 @@
 #!/usr/bin/env python3
 """Computes small random expressions with the program and with NumPy, and compares each byte of what is stored.
 
-  compare.py [--program FILE] [--dir FOLDER] [--cases N] [--seed N] [--first N]
+  compare.py [--program FILE] [--dir FOLDER] [--cases N] [--seed N] [--first N] [--only run|views|check]
 
 A case has up to three stored arrays of any type, up to four axes, any chunk shape, either byte order, either encoding of keys
 with either separator, members of the metadata in any order, any fill value, chunks that are absent, any bytes past the edge, and
-any bytes for truth values; and an expression of up to ten nodes over them: every elementwise function, literals, broadcast
-shapes, nodes that are used twice, and dead nodes, among them other operators. What must be stored is computed by NumPy, and what
-must be answered by bench/rules.py. One case in four is damaged, in one or two of: the text, an argument, metadata, a chunk, a key
-in the way, memory, counts, operators that aren't built. Some arrays are printed too, and some loaded. Prints how often each
-answer came, and ends with 1 at the first case that differs, whose folder is kept; `--first` goes on at that case.
+any bytes for truth values; and an expression of up to ten nodes over them: every elementwise function and every view, literals,
+broadcast shapes, nodes that are used twice, and dead nodes, among them other operators. One case in three is a chain of views
+alone. What must be stored is computed by NumPy, and what must be answered by bench/rules.py. One case in four is damaged, in one
+or two of: the text, an argument, metadata, a chunk, a key in the way, memory, counts, operators that aren't built. Some arrays are
+printed too, and some loaded. In one case of eight NumPy stores the output of an expression of every operator, now and then with
+one element changed, and the program checks it. Prints how often each answer came, and ends with 1 at the first case that differs,
+whose folder is kept; `--first` goes on at that case.
 """
 import argparse
 import collections
@@ -24,14 +26,16 @@ import tempfile
 
 import numpy
 
+import operators
 import rules
+import values
 from rules import FUNCTIONS, Array, compact
 
 HERE = os.path.dirname(os.path.abspath(__file__))
 PROGRAM = os.path.join(HERE, "..", "crates", "cu_bin", "out", "cu_bin")
 TYPES = list(rules.SIZES)
 ALLOWED = 1000000
-NAMES = {"bitwise_left_shift": "left_shift", "bitwise_right_shift": "right_shift", "bitwise_invert": "invert"}
+
 
 
 # NumPy's meaning of an expression
@@ -46,18 +50,8 @@ def numpy_values(plan, arrays):
 
 
 def numpy_node(plan, k, node, found):
-    result = numpy.dtype(plan.infos[k][0])
-    args = [found[plan.places[arg]] if type(arg) is str else arg for arg in node["args"]]
-    values = args[1:] if node["op"] == "where" else args
-    dtypes = [value.dtype for value in values if isinstance(value, numpy.ndarray)]
-    shared = numpy.result_type(*dtypes)
-    values = [numpy.asarray(value, shared) for value in values]
-    with numpy.errstate(all="ignore"):
-        if node["op"] == "where":
-            return numpy.asarray(numpy.where(args[0], *values), result)
-        if node["op"] == "astype":
-            return numpy.asarray(values[0].astype(result))
-        return numpy.asarray(getattr(numpy, NAMES.get(node["op"], node["op"]))(*values), result)
+    args = [found[plan.places[arg]] if type(arg) is str else arg for arg in node.get("args", [])]
+    return values.value(node, args, numpy.dtype(plan.infos[k][0]))
 
 
 def same_as_numpy(plan, inputs, found):
@@ -196,23 +190,103 @@ def random_function(pick, ident, told):
     return {**node, "dtype": pick.choice(TYPES)} if op == "astype" else node
 
 
-def random_other(pick, ident, told):
-    """Returns a node of another operator."""
-    op = pick.choice(list(rules.OTHERS))
+def random_made(pick, ident, op):
+    """Returns a node of an array that is made from nothing."""
+    dtype = pick.choice(TYPES)
+    node = {"id": ident, "op": op, "dtype": dtype}
     if op == "full":
-        dtype = pick.choice(TYPES)
         shape = random_shape(pick)
-        return {"id": ident, "op": op, "shape": shape, "dtype": dtype, "value": literal_for(pick, dtype), "chunk": sides(pick, len(shape))}
+        return {**node, "shape": shape, "value": literal_for(pick, dtype), "chunk": sides(pick, len(shape))}
     if op == "arange":
-        return {"id": ident, "op": op, "start": pick.randint(-5, 5), "stop": pick.randint(-5, 20), "step": pick.choice([1, 2, -1]),
-                "dtype": pick.choice(["int8", "int64"]), "chunk": [4]}
-    if op == "eye":
-        return {"id": ident, "op": op, "rows": 3, "cols": pick.randint(0, 4), "k": 0, "dtype": "uint8", "chunk": [2, 2]}
+        return {**node, "start": pick.randint(-5, 9), "stop": pick.randint(-9, 30), "step": pick.choice([1, 1, 2, 3, -1, -2, 2**40]),
+                "chunk": [pick.randint(1, 5)]}
+    return {**node, "rows": pick.randint(0, 6), "cols": pick.randint(0, 6), "k": random_diagonal(pick), "chunk": sides(pick, 2)}
+
+
+def random_diagonal(pick):
+    return pick.choice([0, 0, 1, -1, 2, -2, 5, -5, 2**63 - 1, -(2**63)])
+
+
+def random_entry(pick, size):
+    """Returns an entry of an index that takes an axis of this size."""
+    if size and pick.random() < 0.3:
+        return pick.randint(-size, size - 1)
+    ends = [None, *range(-size - 1, size + 2)]
+    entry = {"start": pick.choice(ends), "stop": pick.choice(ends), "step": pick.choice([None, 1, 1, 2, 3, -1, -1, -2])}
+    return {name: end for name, end in entry.items() if end is not None or pick.random() < 0.3}
+
+
+def random_index(pick, shape):
+    items = [random_entry(pick, size) for size in shape]
+    if items and pick.random() < 0.3:
+        at = pick.randrange(len(items))
+        items[at:pick.randint(at, len(items))] = ["..."]
+    elif pick.random() < 0.3:
+        items = items[:pick.randint(0, len(items))]
+    while len(shape) < 5 and pick.random() < 0.2:
+        items.insert(pick.randint(0, len(items)), "new")
+    return items
+
+
+def random_sizes(pick, count):
+    """Returns a shape of so many elements, now and then with a -1."""
+    shape = []
+    while len(shape) < 4 and pick.random() < 0.7:
+        side = pick.choice([n for n in range(1, 13) if count % n == 0] if count else [0, 1, 2])
+        shape.append(side)
+        count = count // side if side else 0
+    shape.insert(pick.randint(0, len(shape)), count)
+    if 0 not in shape and pick.random() < 0.4:
+        shape[pick.randrange(len(shape))] = -1
+    return shape
+
+
+def random_axes(pick, rank):
+    return [axis - pick.choice([0, rank]) for axis in pick.sample(range(rank), pick.randint(0, rank))]
+
+
+def random_view(pick, ident, told):
+    """Returns a view of nodes that are told, or an array that is made."""
+    op = pick.choice(list(operators.PULLS))
+    if op in operators.CREATION:
+        return random_made(pick, ident, op)
+    arg = pick.choice(list(told))
+    shape = told[arg][1]
+    rank = len(shape)
+    args = [arg]
+    if op in ("concat", "stack"):
+        alike = [other for other, (_, sizes, _) in told.items() if len(sizes) == rank]
+        args = [pick.choice(alike) if pick.random() < 0.7 else arg for _ in range(pick.randint(1, 4))]
+    axes = random_axes(pick, rank)
+    wide = [pick.randint(1, 3)] * pick.randint(0, max(0, 4 - rank)) + [pick.randint(1, 4) if size == 1 else size for size in shape]
+    members = {
+        "tril": {"k": random_diagonal(pick)}, "triu": {"k": random_diagonal(pick)}, "index": {"index": random_index(pick, shape)},
+        "concat": {"axis": pick.randint(-rank, max(0, rank - 1))}, "stack": {"axis": pick.randint(-rank - 1, rank)},
+        "permute_dims": {"axes": pick.sample(range(rank), rank)}, "reshape": {"shape": random_sizes(pick, int(numpy.prod(shape, dtype=int)))},
+        "expand_dims": {"axis": pick.randint(-rank - 1, rank)},
+        "squeeze": {"axes": [axis for axis, size in enumerate(shape) if size == 1 and pick.random() < 0.8]},
+        "flip": pick.choice([{}, {"axes": None}, {"axes": axes}]),
+        "roll": {"shifts": [pick.choice([pick.randint(-9, 9), 2**63 - 1, -(2**63)]) for _ in axes], "axes": axes},
+        "broadcast_to": {"shape": wide, "chunk": sides(pick, len(wide))}}
+    return {"id": ident, "op": op, "args": args, **members[op]}
+
+
+def random_other(pick, ident, told):
+    """Returns a node of a reduction, a product, or a change of chunks."""
+    op = pick.choice([op for op in rules.OTHERS if op not in operators.PULLS])
     arg = pick.choice(list(told))
     rank = len(told[arg][1])
-    members = {"permute_dims": {"axes": pick.sample(range(rank), rank)}, "expand_dims": {"axis": pick.randint(-rank - 1, rank)},
-               "rechunk": {"chunk": sides(pick, rank)}}
-    return {"id": ident, "op": op, "args": [arg], **members.get(op, {"axes": None} if pick.random() < 0.5 else {})}
+    keeps = pick.choice([{}, {"keepdims": pick.random() < 0.5}])
+    if op == "rechunk":
+        return {"id": ident, "op": op, "args": [arg], "chunk": sides(pick, rank)}
+    if op == "matmul":
+        inner = told[arg][1][-1:]
+        fit = [other for other, (_, shape, _) in told.items() if shape[-2:][:1] == inner] or list(told)
+        return {"id": ident, "op": op, "args": [arg, pick.choice(fit)]}
+    if op in ("argmin", "argmax"):
+        axis = pick.choice([{}, {"axis": None}, {"axis": pick.randint(-rank, max(0, rank - 1))}])
+        return {"id": ident, "op": op, "args": [arg], **axis, **keeps}
+    return {"id": ident, "op": op, "args": [arg], **pick.choice([{}, {"axes": None}, {"axes": random_axes(pick, rank)}]), **keeps}
 
 
 def info_of(node, told):
@@ -220,7 +294,31 @@ def info_of(node, told):
     return rules.elementwise(node, args) if node["op"] in FUNCTIONS else rules.other(node, args)
 
 
-def random_nodes(pick, inputs):
+class Mix:
+    """How often a node is a view, and how often one of another operator that isn't elementwise."""
+
+    def __init__(self, views, others):
+        self.views, self.others = views, others
+
+    def draw(self, pick):
+        chance = pick.random()
+        return random_other if chance < self.others else random_view if chance < self.others + self.views else random_function
+
+
+RUN, VIEWS, CHECK = Mix(0.15, 0.02), Mix(0.97, 0.01), Mix(0.35, 0.35)
+
+
+def is_aligned(node, info, told):
+    """Whether the arguments of an elementwise node have their aligned chunks."""
+    args = [told[arg] for arg in node.get("args", []) if type(arg) is str]
+    return node["op"] not in FUNCTIONS or all(rules.aligned(info[1], info[2], arg) == arg[2] for arg in args)
+
+
+def is_small(info):
+    return numpy.prod(info[1], dtype=object) <= 3000 and rules.size_of(rules.grid_of(info[1], info[2])) <= 600
+
+
+def random_nodes(pick, inputs, mix):
     """Returns nodes of which few have no type, over input nodes of each array."""
     nodes = [{"id": f"i{at}", "op": "input", "name": entry.name} for at, entry in enumerate(inputs)]
     if pick.random() < 0.2:
@@ -229,11 +327,15 @@ def random_nodes(pick, inputs):
     told = {node["id"]: arrays[node["name"]].info() for node in nodes}
     for at in range(pick.randint(1, 7)):
         for _ in range(60):
-            draw = random_other if pick.random() < 0.02 else random_function
-            node = draw(pick, f"n{at}", told)
+            node = mix.draw(pick)(pick, f"n{at}", told)
             info = info_of(node, told)
-            if type(info) is tuple or pick.random() < 0.002:
+            if type(info) is not tuple:
+                if pick.random() < 0.002:
+                    break
+            elif is_small(info) and (mix is CHECK or is_aligned(node, info, told) or pick.random() < 0.02):
                 break
+        if type(info) is tuple and not is_small(info):
+            break
         nodes.append(node)
         if type(info) is not tuple:
             break
@@ -241,9 +343,9 @@ def random_nodes(pick, inputs):
     return nodes
 
 
-def random_expression(pick, inputs):
-    nodes = random_nodes(pick, inputs)
-    made = [node["id"] for node in nodes if node["op"] in FUNCTIONS]
+def random_expression(pick, inputs, mix):
+    nodes = random_nodes(pick, inputs, mix)
+    made = [node["id"] for node in nodes if node["op"] != "input"]
     out = pick.choice(made) if made and pick.random() < 0.3 else nodes[-1]["id"]
     if pick.random() < 0.01:
         out = pick.choice(nodes)["id"]
@@ -338,12 +440,12 @@ def damaged_metadata(pick, members):
 class Case:
     """What the program is given: a folder, a text, and words."""
 
-    def __init__(self, pick, folder):
+    def __init__(self, pick, folder, mix):
         self.pick, self.folder = pick, folder
         shape = random_shape(pick)
         chunk = sides(pick, len(shape))
         self.inputs = [Input(pick, folder, name, random_array(pick, shape, chunk)) for name in "abc"[:pick.randint(1, 3)]]
-        self.text = spelled(pick, random_expression(pick, self.inputs))
+        self.text = spelled(pick, random_expression(pick, self.inputs, mix))
         self.allowed, self.reserved = ALLOWED, pick.choice([0, 0, 0, 7, 4096])
 
     def held(self, key):
@@ -406,19 +508,25 @@ class Case:
             put(self.folder, f"{entry.name}/zarr.json", compact(array.written()).encode())
         put(self.folder, "_cubed/y/plan.json", b"{}")
 
+    def bad_chunk(self, plan, arg, where):
+        """Returns the line for a chunk of another length of an input, or nothing."""
+        key = plan.key(arg, where)
+        path = os.path.join(self.folder, key)
+        dtype, _, chunk = plan.infos[arg]
+        want = rules.SIZES[dtype] * int(numpy.prod(chunk, dtype=object))
+        if plan.expr["nodes"][arg]["op"] == "input" and os.path.isfile(path) and os.path.getsize(path) != want:
+            return f"error 13 key={key} got={os.path.getsize(path)} want={want}\n"
+        return None
+
     def bad_chunks(self, plan):
-        """Returns the lines for chunks of another length that a task reads."""
-        lines = set()
+        """Returns the lines for chunks of another length that a task reads, and those for such that it may read: a reshape may
+        read a chunk of which it needs no element."""
+        read, perhaps = set(), set()
         for k in plan.made:
-            for place in plan.chunks(k):
-                for arg, where in plan.task_inputs(k, place):
-                    key = plan.key(arg, where)
-                    path = os.path.join(self.folder, key)
-                    dtype, _, chunk = plan.infos[arg]
-                    want = rules.SIZES[dtype] * int(numpy.prod(chunk, dtype=object))
-                    if plan.expr["nodes"][arg]["op"] == "input" and os.path.isfile(path) and os.path.getsize(path) != want:
-                        lines.add(f"error 13 key={key} got={os.path.getsize(path)} want={want}\n")
-        return lines
+            read |= {self.bad_chunk(plan, arg, where) for arg, where in chunks_read(plan, k)}
+            if plan.expr["nodes"][k]["op"] in ("reshape", "squeeze", "expand_dims"):
+                perhaps |= {self.bad_chunk(plan, arg, where) for arg in plan.arrays(k) for where in plan.chunks(arg)}
+        return read - {None}, perhaps - {None}
 
     def words(self, program):
         words = ["--allowed-mem", str(self.allowed), "--reserved-mem", str(self.reserved)]
@@ -428,6 +536,26 @@ class Case:
 
 
 # Comparing
+
+def chunks_read(plan, k):
+    """Returns the arguments and the chunks of them that the tasks of a node read."""
+    node = plan.expr["nodes"][k]
+    if node["op"] in FUNCTIONS:
+        return {read for place in plan.chunks(k) for read in plan.task_inputs(k, place)}
+    found, first = set(), 0
+    places = values.origins(node, [plan.infos[arg][1] for arg in plan.arrays(k)])
+    for arg in plan.arrays(k):
+        _, shape, chunk = plan.infos[arg]
+        count = int(numpy.prod(shape, dtype=int))
+        own = numpy.unique(places[(places >= first) & (places < first + count)]) - first
+        if shape:
+            own = numpy.unique(numpy.stack(numpy.unravel_index(own, shape), -1) // numpy.array(chunk), axis=0) if own.size else []
+            found |= {(arg, tuple(map(int, where))) for where in own}
+        elif own.size:
+            found.add((arg, ()))
+        first += count
+    return found
+
 
 def files_in(folder):
     """Returns the keys of all files of a folder, with their sizes."""
@@ -440,26 +568,26 @@ def must_be_stored(case, plan):
     name = plan.expr["store_as"]
     stored = {f"_cubed/{name}/plan.json": compact(plan.record(case.allowed, case.reserved)).encode(),
               f"{name}/zarr.json": compact(plan.array(plan.out).written()).encode()}
-    values = numpy_values(plan, {entry.name: entry.elements for entry in case.inputs})
+    elements = numpy_values(plan, {entry.name: entry.elements for entry in case.inputs})
     for k in plan.made:
         array = plan.array(k)
         for place in plan.chunks(k):
-            stored[plan.key(k, place)] = bytes_of(array, whole_chunk(array, values[k], place))
+            stored[plan.key(k, place)] = bytes_of(array, whole_chunk(array, elements[k], place))
     return stored
 
 
 def expected(case):
-    """Returns the status, the lines of which one must come, and what must be stored."""
+    """Returns the statuses and lines of which one must come, and what must be stored."""
     try:
         plan = case.plan()
     except rules.Refused as answer:
-        return int(str(answer).split()[0]), {f"error {answer}\n"}, None
-    lines = case.bad_chunks(plan)
-    if lines:
-        return 13, lines, must_be_stored(case, plan)
-    tasks = sum(map(plan.tasks, plan.made))
-    report = f"ok ops={len(plan.made)} tasks={tasks} starts={tasks} failed=0 peak={plan.peak(case.reserved)}\n"
-    return 0, {report}, must_be_stored(case, plan)
+        return {(int(str(answer).split()[0]), f"error {answer}\n")}, None
+    read, perhaps = case.bad_chunks(plan)
+    ends = {(13, line) for line in read | perhaps}
+    if not read:
+        tasks = sum(map(plan.tasks, plan.made))
+        ends.add((0, f"ok ops={len(plan.made)} tasks={tasks} starts={tasks} failed=0 peak={plan.peak(case.reserved)}\n"))
+    return ends, must_be_stored(case, plan)
 
 
 def wrong_files(case, before, stored, is_whole):
@@ -476,30 +604,110 @@ def wrong_files(case, before, stored, is_whole):
     return f"{missing} are missing" if is_whole and missing else None
 
 
-def run_case(pick, program, folder, counts):
+def run_case(pick, program, folder, counts, only):
     """Runs one case, and tells why it is wrong, or nothing."""
-    case = Case(pick, folder)
+    kind = only or pick.choice(["run", "run", "run", "run", "views", "views", "views", "check"])
+    case = Case(pick, folder, {"run": RUN, "views": VIEWS, "check": CHECK}[kind])
     if pick.random() < 0.1:
         wrong = next(filter(None, (printed_wrong(program, folder, entry) for entry in case.inputs)), None) or loaded_wrong(pick, program, folder)
         if wrong:
             return wrong
+    if kind == "check":
+        return checked_wrong(case, program, counts)
     if pick.random() < 0.25:
         for _ in range(pick.choice([1, 1, 1, 2])):
             case.damage()
-    status, lines, stored = expected(case)
-    counts[status] += 1
+    ends, stored = expected(case)
     before = files_in(folder)
     ended = subprocess.run(case.words(program), input=case.text.encode(), capture_output=True, check=False)
-    wrong = wrong_end(ended, status, lines) or wrong_files(case, before, stored or {}, status == 0)
+    counts[f"run {ended.returncode}"] += 1
+    wrong = wrong_end(ended, ends) or wrong_files(case, before, stored or {}, ended.returncode == 0)
     return f"{' '.join(ended.args)} <<< '{case.text}': {wrong}" if wrong else None
 
 
-def wrong_end(ended, status, lines):
-    """Why the program's end isn't this, or nothing."""
-    printed, empty = (ended.stderr, ended.stdout) if status else (ended.stdout, ended.stderr)
-    if ended.returncode != status or printed.decode() not in lines or empty:
-        return f"it ended with {ended.returncode} {ended.stdout} {ended.stderr}, not {status} {lines}"
+def wrong_end(ended, ends):
+    """Why the program's end is none of these, or nothing."""
+    printed, empty = (ended.stderr, ended.stdout) if ended.returncode else (ended.stdout, ended.stderr)
+    if (ended.returncode, printed.decode()) not in ends or empty:
+        return f"it ended with {ended.returncode} {ended.stdout} {ended.stderr}, not {ends}"
     return None
+
+
+# Outputs that NumPy stores
+
+def output_of(case, plan, pick):
+    """Stores the output of an expression in any layout, and returns its elements and its layout."""
+    elements = numpy_values(plan, {entry.name: entry.elements for entry in case.inputs})[plan.out]
+    dtype, shape, _ = plan.infos[plan.out]
+    array = random_layout(pick, dtype, list(shape), sides(pick, len(shape)))
+    put(case.folder, "y/zarr.json", json.dumps(metadata_of(pick, array)).encode())
+    for place in chunks_of(array):
+        whole = whole_chunk(array, elements, place)
+        if pick.random() < 0.2 and (elements[place_of(place, array)] == array.fill).all():
+            continue
+        put(case.folder, array.key("y", place), bytes_of(array, whole))
+    return elements, array
+
+
+def spoil_element(case, pick, elements, array):
+    """Stores another number at one index of the output, and returns the line that must come."""
+    at = pick.randrange(elements.size)
+    index = numpy.unravel_index(at, elements.shape) if elements.ndim else ()
+    low, high = rules.limits(array.dtype)
+    plain = int(elements[index])
+    stored = plain + 1 if plain < high else plain - 1
+    spoiled = numpy.array(elements)
+    spoiled[index] = stored
+    place = tuple(int(i) // side for i, side in zip(index, array.chunk))
+    put(case.folder, array.key("y", place), bytes_of(array, whole_chunk(array, spoiled, place)))
+    return 17, f"error 17 place={at} stored={stored} plain={plain}\n"
+
+
+def checked_wrong(case, program, counts):
+    """Stores the output of an expression as NumPy computes it, and tells why the program doesn't find it equal, or nothing."""
+    pick = case.pick
+    try:
+        plan = rules.typed_plan(case.text.encode(), case.held)
+    except rules.Refused as answer:
+        return None if int(str(answer).split()[0]) == 4 else f"{case.text}: {answer}"
+    elements, array = output_of(case, plan, pick)
+    end = (0, f"equal {elements.size}\n")
+    kind = pick.choice(["right", "right", "element", "element", "type", "shape", "absent", "chunk"])
+    if kind == "element" and elements.size:
+        end = spoil_element(case, pick, elements, array)
+    elif kind in ("type", "shape"):
+        other = random_layout(pick, array.dtype, array.shape, array.chunk)
+        if kind == "type":
+            other.dtype = pick.choice([dtype for dtype in TYPES if dtype != array.dtype])
+            other.fill, other.endian = 0, "little"
+        else:
+            other.shape, other.chunk = array.shape + [1], array.chunk + [1]
+        if len(other.shape) <= 6:
+            put(case.folder, "y/zarr.json", compact(other.written()).encode())
+            end = (7, "error 7 name=y code=11\n")
+    elif kind == "absent":
+        os.remove(os.path.join(case.folder, "y/zarr.json"))
+        end = (8, "error 8 name=y\n")
+    elif kind == "chunk":
+        end = spoil_length(case, pick, array) or end
+    before = files_in(case.folder)
+    ended = subprocess.run([program, case.folder, "check"], input=case.text.encode(), capture_output=True, check=False)
+    counts[f"check {ended.returncode}"] += 1
+    wrong = wrong_end(ended, {end}) or wrong_files(case, before, {}, False)
+    return f"{' '.join(ended.args)} <<< '{case.text}': {wrong}" if wrong else None
+
+
+def spoil_length(case, pick, array):
+    """Cuts a chunk of the output, and returns the end that must come, or nothing where none is stored."""
+    keys = [array.key("y", place) for place in chunks_of(array)]
+    held = [key for key in keys if case.held(key) is not None]
+    if not held:
+        return None
+    key = pick.choice(held)
+    path = os.path.join(case.folder, key)
+    want = os.path.getsize(path)
+    os.truncate(path, want - 1)
+    return 13, f"error 13 key={key} got={want - 1} want={want}\n"
 
 
 # The other commands
@@ -557,16 +765,17 @@ def main():
     words.add_argument("--cases", type=int, default=20000)
     words.add_argument("--seed", type=int, default=1)
     words.add_argument("--first", type=int, default=0)
+    words.add_argument("--only", choices=["run", "views", "check"])
     given = words.parse_args()
     counts = collections.Counter()
     for number in range(given.first, given.cases):
         folder = tempfile.mkdtemp(dir=given.dir, prefix="cubed-compare-")
-        wrong = run_case(random.Random(f"{given.seed} {number}"), os.path.abspath(given.program), folder, counts)
+        wrong = run_case(random.Random(f"{given.seed} {number}"), os.path.abspath(given.program), folder, counts, given.only)
         if wrong:
             print(f"case {number} of seed {given.seed} in {folder}: {wrong}")
             return 1
         shutil.rmtree(folder)
-    print(f"{given.cases - given.first} cases agree: " + ", ".join(f"{count} of status {status}" for status, count in sorted(counts.items())))
+    print(f"{given.cases - given.first} cases agree: " + ", ".join(f"{count} of {status}" for status, count in sorted(counts.items())))
     return 0
 
 

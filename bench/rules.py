@@ -3,17 +3,18 @@ metadata of the inputs (8, 7), types and shapes (4), what isn't built yet (19), 
 record, the keys of the arrays that are made, and the elements of elementwise functions as exact whole numbers.
 
 Nothing here comes from the program. bench/compare.py and tools/elementwise_cases.py use it; the first takes the elements from
-NumPy instead. Of operators that aren't elementwise it types those of `OTHERS`.
+NumPy instead.
 """
 import itertools
 import json
 import math
 import re
 
-SIZES = {"bool": 1, "int8": 1, "int16": 2, "int32": 4, "int64": 8, "uint8": 1, "uint16": 2, "uint32": 4, "uint64": 8}
+from limits import MOST_CHUNK_BYTES, MOST_CHUNKS, MOST_ELEMENTS, MOST_RANK, SIZES, aligned, broadcast, chunk_for, grid_of, is_value, limit_place, limits, promoted, size_of, whole, wrapped
+from operators import OTHERS, PULLS
+
 NAME = re.compile(r"[A-Za-z0-9][A-Za-z0-9_.-]{0,31}\Z")
-MOST_TEXT, MOST_NODES, MOST_RANK = 1 << 20, 256, 6
-MOST_ELEMENTS, MOST_CHUNK_BYTES, MOST_CHUNKS, MOST_TASKS = 1 << 40, 1 << 28, 1 << 16, 1 << 16
+MOST_TEXT, MOST_NODES, MOST_TASKS = 1 << 20, 256, 1 << 16
 
 
 class Refused(Exception):
@@ -22,35 +23,6 @@ class Refused(Exception):
 
 def refuse(status, **fields):
     raise Refused(" ".join([str(status)] + [f"{name}={value}" for name, value in fields.items()]))
-
-
-# Types
-
-def limits(dtype):
-    """Returns the least and the greatest value of a type."""
-    if dtype == "bool":
-        return 0, 1
-    bits = 8 * SIZES[dtype]
-    return (0, 2**bits - 1) if dtype.startswith("u") else (-(2 ** (bits - 1)), 2 ** (bits - 1) - 1)
-
-
-def promoted(left, right):
-    """Returns the type that two types share, or nothing."""
-    if left == right:
-        return left
-    if "bool" in (left, right):
-        return None
-    if left.startswith("u") == right.startswith("u"):
-        return max(left, right, key=SIZES.get)
-    signed, unsigned = (right, left) if left.startswith("u") else (left, right)
-    size = SIZES[signed] if SIZES[unsigned] < SIZES[signed] else 2 * SIZES[unsigned]
-    return f"int{8 * size}" if size <= 8 else None
-
-
-def wrapped(dtype, value):
-    """Returns a whole number, wrapped to an integer type."""
-    low = limits(dtype)[0]
-    return (value - low) % 2 ** (8 * SIZES[dtype]) + low
 
 
 # Elementwise functions: the count of arguments, what they accept, and the exact value of numbers of a width
@@ -96,10 +68,6 @@ def value_of(op, shared, result, args):
 
 
 # The text: forms of nodes
-
-def whole(low, high):
-    return lambda value: type(value) is int and low <= value <= high
-
 
 def listed(kind):
     return lambda value: type(value) is list and all(kind(entry) for entry in value)
@@ -365,56 +333,6 @@ def others_code(told, array):
 
 # Types and shapes
 
-def size_of(shape):
-    return math.prod(max(1, size) for size in shape)
-
-
-def grid_of(shape, chunk):
-    return [-(-size // side) for size, side in zip(shape, chunk)]
-
-
-def limit_place(shape, chunk, size):
-    """Returns which limit an array exceeds: 1 rank, 2 elements, 3 bytes of a chunk, 4 chunks, and 0 where it exceeds none."""
-    if len(shape) > MOST_RANK:
-        return 1
-    if size_of(shape) > MOST_ELEMENTS:
-        return 2
-    if size * math.prod(chunk) > MOST_CHUNK_BYTES:
-        return 3
-    return 4 if size_of(grid_of(shape, chunk)) > MOST_CHUNKS else 0
-
-
-def broadcast(shapes):
-    """Returns the shape that all shapes have together, or nothing."""
-    rank = max(map(len, shapes))
-    sizes = []
-    for column in zip(*[[1] * (rank - len(shape)) + list(shape) for shape in shapes]):
-        wide = {size for size in column if size != 1}
-        if len(wide) > 1:
-            return None
-        sizes.append(wide.pop() if wide else 1)
-    return sizes
-
-
-def chunk_for(shape, arrays):
-    """Returns the chunk shape of an elementwise result: on each axis that of the first argument that isn't stretched there."""
-    chunk = []
-    for axis, size in enumerate(shape):
-        for _, sizes, sides in arrays:
-            at = axis - len(shape) + len(sizes)
-            if at >= 0 and sizes[at] == size:
-                chunk.append(sides[at])
-                break
-    return chunk
-
-
-def aligned(shape, chunk, array):
-    """Returns the aligned chunk shape of an argument of a result of this shape and chunk shape."""
-    _, sizes, sides = array
-    return [to if size == of else side
-            for size, side, of, to in zip(sizes, sides, shape[len(shape) - len(sizes):], chunk[len(shape) - len(sizes):])]
-
-
 def typed(expr, metas):
     """Returns the type, shape and chunk shape of each node, or refuses the first faulty one with 4."""
     infos, told = [], {}
@@ -453,96 +371,6 @@ def elementwise(node, args):
     chunk = chunk_for(shape, arrays)
     sizes = [SIZES[array[0]] * math.prod(aligned(shape, chunk, array)) for array in arrays]
     return 7 if limit_place(shape, chunk, SIZES[result]) or max(sizes) > MOST_CHUNK_BYTES else (result, shape, chunk)
-
-
-def is_value(dtype, value):
-    """Whether a literal is a value of a type."""
-    return type(value) is bool if dtype == "bool" else whole(*limits(dtype))(value)
-
-
-def limited(dtype, shape, chunk):
-    return 7 if limit_place(shape, chunk, SIZES[dtype]) else (dtype, shape, chunk)
-
-
-def axis_in(axis, rank):
-    """Returns the axis counted from the front, or nothing."""
-    return axis % rank if -rank <= axis < rank else None
-
-
-def axes_in(axes, rank):
-    """Returns distinct axes counted from the front, or nothing."""
-    found = [axis_in(axis, rank) if rank else None for axis in (range(rank) if axes is None else axes)]
-    return None if None in found or len(set(found)) < len(found) else found
-
-
-def made_full(node, args):
-    if not is_value(node["dtype"], node["value"]):
-        return 5
-    return 2 if len(node["chunk"]) != len(node["shape"]) else limited(node["dtype"], node["shape"], node["chunk"])
-
-
-def made_arange(node, args):
-    if node["dtype"] == "bool":
-        return 6
-    if node["step"] == 0:
-        return 9
-    values = range(node["start"], node["stop"], node["step"])
-    count = max(0, -(-(node["stop"] - node["start"]) // node["step"]))
-    if count and not all(whole(*limits(node["dtype"]))(value) for value in (values[0], node["start"] + (count - 1) * node["step"])):
-        return 5
-    return 2 if len(node["chunk"]) != 1 else limited(node["dtype"], [count], node["chunk"])
-
-
-def made_eye(node, args):
-    if node["dtype"] == "bool":
-        return 6
-    return 2 if len(node["chunk"]) != 2 else limited(node["dtype"], [node["rows"], node["cols"]], node["chunk"])
-
-
-def flipped(node, args):
-    return args[0] if axes_in(node.get("axes"), len(args[0][1])) is not None else 3
-
-
-def permuted(node, args):
-    dtype, shape, chunk = args[0]
-    axes = node["axes"]
-    return (dtype, [shape[a] for a in axes], [chunk[a] for a in axes]) if sorted(axes) == list(range(len(shape))) else 3
-
-
-def expanded(node, args):
-    dtype, shape, chunk = args[0]
-    axis = axis_in(node["axis"], len(shape) + 1)
-    if axis is None:
-        return 3
-    return limited(dtype, shape[:axis] + [1] + shape[axis:], chunk[:axis] + [1] + chunk[axis:])
-
-
-def rechunked(node, args):
-    dtype, shape, _ = args[0]
-    return 2 if len(node["chunk"]) != len(shape) else limited(dtype, shape, node["chunk"])
-
-
-def reduced(node, args):
-    """Sums, products, least and greatest, any and all."""
-    dtype, shape, chunk = args[0]
-    if dtype == "bool" and node["op"] not in ("any", "all"):
-        return 6
-    axes = axes_in(node.get("axes"), len(shape))
-    if axes is None:
-        return 3
-    if node["op"] in ("min", "max") and math.prod(shape[axis] for axis in axes) == 0:
-        return 4
-    if node["op"] in ("any", "all"):
-        dtype = "bool"
-    elif node["op"] in ("sum", "prod"):
-        dtype = "uint64" if dtype.startswith("u") else "int64"
-    if node.get("keepdims", False):
-        return limited(dtype, *[[1 if k in axes else side for k, side in enumerate(sides)] for sides in (shape, chunk)])
-    return limited(dtype, *[[side for k, side in enumerate(sides) if k not in axes] for sides in (shape, chunk)])
-
-
-OTHERS = {"full": made_full, "arange": made_arange, "eye": made_eye, "flip": flipped, "permute_dims": permuted,
-          "expand_dims": expanded, "rechunk": rechunked, **{op: reduced for op in ("sum", "prod", "min", "max", "any", "all")}}
 
 
 def other(node, args):
@@ -594,6 +422,8 @@ class Plan:
                     return k
                 continue
             _, shape, chunk = self.infos[k]
+            if node["op"] in PULLS:
+                continue
             if node["op"] not in FUNCTIONS or any(aligned(shape, chunk, self.infos[arg]) != self.infos[arg][2]
                                                   for arg in self.arrays(k)):
                 return k
@@ -604,7 +434,11 @@ class Plan:
         if self.expr["nodes"][k]["op"] == "input":
             return reserved
         dtype, _, chunk = self.infos[k]
-        result, args = SIZES[dtype] * math.prod(chunk), self.aligned_bytes(k)
+        result = SIZES[dtype] * math.prod(chunk)
+        if self.expr["nodes"][k]["op"] in PULLS:
+            sources = [SIZES[of] * math.prod(sides) for of, _, sides in (self.infos[arg] for arg in self.arrays(k))]
+            return reserved + max([*sources, result]) + result
+        args = self.aligned_bytes(k)
         steps = len(args) + self.literals(k) + 1
         return reserved + max([*args, result]) + sum(args) + result + 512 * steps
 
@@ -649,8 +483,8 @@ class Plan:
         return Array(*self.infos[k])
 
 
-def plan_of(data, held, allowed, reserved):
-    """Returns the plan of a text over what is held, or refuses it. `held` gives the bytes of a key, or nothing."""
+def typed_plan(data, held):
+    """Returns a text as a plan that isn't tested yet, over what is held, or refuses it. `held` gives the bytes of a key, or nothing."""
     expr = read(data)
     metas = {}
     for node in expr["nodes"]:
@@ -659,7 +493,12 @@ def plan_of(data, held, allowed, reserved):
             if metadata is None:
                 refuse(8, name=node["name"])
             metas[node["name"]] = meta_of(node["name"], metadata)
-    plan = Plan(expr, metas, typed(expr, metas))
+    return Plan(expr, metas, typed(expr, metas))
+
+
+def plan_of(data, held, allowed, reserved):
+    """Returns the plan of a text, or refuses it."""
+    plan = typed_plan(data, held)
     node = plan.unbuilt()
     if node is not None:
         refuse(19, node=node)

@@ -499,9 +499,10 @@ def unbuilt_rows():
         (a_and_b(), ADDED, "b"), (other, DOUBLED, None), (other, [*inputs_of("a", "b"), node("n", "negative", "b"), node("s", "add", "a", "n")], None),
         (a_and_b(), [*sole, node("m", "sum", "a")], None),
         (a_and_b(), [*sole, node("n", "negative", "a"), node("m", "max", "n"), node("r", "rechunk", "m", chunk=[])], None),
-        ({}, [node("f", "full", shape=[6], dtype="int32", value=1, chunk=[4]), node("n", "negative", "f")], None),
-        ({}, [node("f", "arange", start=0, stop=6, step=1, dtype="int32", chunk=[4])], None),
-        (other, [*inputs_of("a", "b"), node("d", "add", "a", "b"), node("n", "negative", "a"), node("m", "flip", "n")], None)]
+        ({}, [node("f", "full", shape=[6], dtype="int32", value=1, chunk=[4]), node("n", "prod", "f"), node("m", "negative", "n")], None),
+        ({}, [node("f", "arange", start=0, stop=6, step=1, dtype="int32", chunk=[4]), node("m", "argmax", "f")], None),
+        (other, [*inputs_of("a", "b"), node("d", "add", "a", "b"), node("n", "flip", "a"), node("m", "any", "n")], None),
+        (a_and_b(), [*inputs_of("a", "b"), node("d", "rechunk", "a", chunk=[6]), node("m", "matmul", "a", "b"), node("s", "stack", "m", axis=0)], None)]
     return [refused(arrays, expression(nodes, out)) for arrays, nodes, out in texts]
 
 

@@ -1,13 +1,16 @@
 #!/usr/bin/env python3
 """Proves and builds the program and the crates that it stands on, side by side, and shows how far it is.
 
-What was proved before is kept: a run that was broken off goes on where it was. Each crate's words are in its out/build.log.
+rt lets only one command work over a crate at a time, those below it included. So each crate is proved in a copy of its own, with
+what was built of the crates below it, and what it leaves is moved into the repository when it is proved. What was proved before is
+kept: a run that was broken off goes on where it was. Each crate's words are in its out/build.log.
 usage: tools/prove.py [--jobs N] [--times]
   --jobs N     on N processors; where it isn't given, on all that there are and that the memory suffices for
   --times      prints the processor seconds of each crate at the end
 """
 import argparse
 import os
+import shutil
 import signal
 import subprocess
 import sys
@@ -15,6 +18,9 @@ import time
 
 TOP = os.path.dirname(os.path.dirname(os.path.realpath(__file__)))
 PROGRAM = "cu_bin"
+COPIES = f"{TOP}/crates/{PROGRAM}/out/copies"
+# What a copy of a crate has of it.
+PARTS = ("src", "specs", "proofs")
 # The memory that a proof may take for each of its processors, in bytes.
 EACH = 1_500_000_000
 
@@ -65,6 +71,63 @@ def chains(below):
     return found
 
 
+def all_below(below, name):
+    """Returns the crates that a crate stands on, lowest first, and the crate."""
+    found = []
+
+    def take(it):
+        if it not in found:
+            for dep in below[it]:
+                take(dep)
+            found.append(it)
+
+    take(name)
+    return found
+
+
+def link(source, target):
+    try:
+        os.link(source, target)
+    except OSError:
+        shutil.copy2(source, target)
+
+
+def copied(below, name):
+    """Makes a copy of a crate and those below it, which are built, and returns the crate's folder in it."""
+    top, names = f"{COPIES}/{name}", all_below(below, name)
+    for it in names:
+        folder = f"{top}/crates/{it}"
+        os.makedirs(folder, exist_ok=True)
+        for part in PARTS:
+            shutil.rmtree(f"{folder}/{part}", ignore_errors=True)
+            if os.path.isdir(f"{TOP}/crates/{it}/{part}"):
+                shutil.copytree(f"{TOP}/crates/{it}/{part}", f"{folder}/{part}")
+        if it == name:
+            moved(f"{TOP}/crates/{name}/out", f"{folder}/out")
+        else:
+            shutil.rmtree(f"{folder}/out", ignore_errors=True)
+            shutil.copytree(f"{TOP}/crates/{it}/out/rlib", f"{folder}/out/rlib", copy_function=link)
+    with open(f"{TOP}/crates.txt", encoding="utf-8") as lines, open(f"{top}/crates.txt", "w", encoding="utf-8") as out:
+        out.writelines(line for line in lines if line.split(":")[0] in names)
+    shutil.copy(f"{TOP}/HANDLES", f"{top}/HANDLES")
+    return f"{top}/crates/{name}"
+
+
+def moved(source, target):
+    """Moves what rt built and kept of a crate from one folder to another, in place of what is there."""
+    for part in ("rlib", "incremental"):
+        if os.path.isdir(f"{source}/{part}"):
+            os.makedirs(target, exist_ok=True)
+            shutil.rmtree(f"{target}/{part}", ignore_errors=True)
+            os.rename(f"{source}/{part}", f"{target}/{part}")
+
+
+def brought(name):
+    """Moves what a proved crate left in its copy into the repository."""
+    moved(f"{COPIES}/{name}/crates/{name}/out", f"{TOP}/crates/{name}/out")
+    shutil.rmtree(f"{COPIES}/{name}")
+
+
 def free_memory():
     with open("/proc/meminfo", encoding="utf-8") as file:
         for line in file:
@@ -93,11 +156,12 @@ class Work:
 
     def begin(self, name, jobs):
         """Begins to prove a crate on so many processors."""
-        folder = f"{TOP}/crates/{name}"
-        os.makedirs(f"{folder}/out", exist_ok=True)
+        out = f"{TOP}/crates/{name}/out"
+        os.makedirs(out, exist_ok=True)
+        folder = f"{TOP}/crates/{name}" if name == PROGRAM else copied(self.below, name)
         # rt also runs the program that it built, which without a word refuses and does nothing else.
         command = ["rt", "run" if name == PROGRAM else "lib", "--jobs", str(jobs)]
-        with open(f"{folder}/out/build.log", "wb") as log:
+        with open(f"{out}/build.log", "wb") as log:
             process = subprocess.Popen(command, cwd=folder, stdin=subprocess.DEVNULL, stdout=log,
                                        stderr=subprocess.STDOUT, start_new_session=True)
         self.running[name] = (process, jobs)
@@ -160,6 +224,8 @@ class Work:
                 sys.stderr.write(self.log(name))
                 sys.stderr.write(f"cubed: {name} wasn't proved and built\n")
                 return 1
+            if name != PROGRAM:
+                brought(name)
         self.show_end()
         return 0
 

@@ -1,14 +1,12 @@
 //! The kind of case that calls the program: one call, rows of it over depots of their own, or steps over one depot.
 
-use crate::bytes::Texts;
 use crate::case::{Case, Content, add_contents};
-use crate::findings::{Findings, Place};
 use crate::loops::{Trial, run_loops};
-use crate::members::{Said, refuse_others};
 use crate::script::script_of;
 use crate::watched::Watched;
 use anyhow::{Result, bail};
 use cu_mem::MemDepot;
+use cu_rows::{Findings, Place, Said, Texts, refuse_others};
 use serde_json::Value;
 
 /// What a call may say. Only a case has rows.

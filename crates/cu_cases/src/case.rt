@@ -1,12 +1,9 @@
 //! Calls of the program over a depot in memory, and what must come of them.
 
-use crate::bytes::Texts;
-use crate::findings::{Findings, Place};
-use crate::members::{Said, list_of, pair_of, text_of};
-use crate::script::key_of;
 use crate::watched::Watched;
 use anyhow::{Result, bail};
 use cu_mem::{MemDepot, MemSink, MemSource, Script};
+use cu_rows::{Findings, Place, Said, Texts, key_of, list_of, pair_of, text_of};
 use cu_store::{Depot, Got, Key};
 use cu_top::{Status, number, status_line, top};
 use serde_json::Value;

@@ -1,11 +1,8 @@
 //! The kind of case that makes single calls of a folder of the system as a depot.
 
-use crate::bytes::Texts;
-use crate::findings::{Findings, Place};
-use crate::members::{Said, refuse_others};
-use crate::script::key_of;
 use anyhow::{Result, bail};
 use cu_dir::DirDepot;
+use cu_rows::{Findings, Place, Said, Texts, key_of, refuse_others};
 use cu_store::{Depot, DepotFault, Got, Key};
 use std::alloc::Global;
 use std::fs;

@@ -1,11 +1,9 @@
 //! The kind of case that calls the program over a folder of the system.
 
-use crate::bytes::Texts;
 use crate::case::Case;
-use crate::findings::{Findings, Place};
-use crate::members::{Said, refuse_others};
 use anyhow::{Result, bail};
 use cu_dir::DirDepot;
+use cu_rows::{Findings, Place, Said, Texts, refuse_others};
 use std::fs;
 use std::rt::Files;
 

@@ -3,13 +3,11 @@
 ghost use Rattle.std.specs.Prelude.{◌≡◌, IfOk, None};
 ghost use Rattle.cu_mem.specs.Script.{LandsOnce};
 
-use crate::bytes::Texts;
 use crate::case::{Case, Wanted};
-use crate::findings::{Findings, Place};
-use crate::members::{Said, list_of, number_of, refuse_others, text_of};
 use crate::watched::{Made, Watched};
 use anyhow::{Result, bail};
 use cu_mem::{CallKind, MemDepot, Rule, Script};
+use cu_rows::{Findings, Place, Said, Texts, list_of, number_of, refuse_others, text_of};
 use serde_json::Value;
 
 /// A case that was run, and the calls that it made of the depot.

@@ -2,41 +2,27 @@
 //! table. A line for each case comes on standard output; what isn't as it must be comes on standard error, with status 1.
 #![tactic(auto)]
 
-mod bytes;
 mod calls;
 mod case;
 mod depots;
-mod expressions;
-mod findings;
 mod folder;
 mod loops;
-mod members;
-mod metadata;
-mod numbers;
-mod regions;
 mod script;
-mod shapes;
-mod typing;
 mod watched;
 
 use anyhow::{Context, Result, bail};
-use bytes::Texts;
 use calls::run_calls;
+use cu_rows::{
+    Findings, Said, Texts, list_of, refuse_others, run_expressions, run_keys, run_metadata,
+    run_promotions, run_regions, run_scalars, run_shapes, run_typing, text_of,
+};
 use depots::run_depot;
-use expressions::run_expressions;
-use findings::Findings;
 use folder::run_folder;
-use members::{Said, list_of, refuse_others, text_of};
-use metadata::run_metadata;
-use numbers::{run_promotions, run_scalars};
-use regions::{run_keys, run_regions};
 use serde_json::Value;
-use shapes::run_shapes;
 use std::fmt::Write;
 use std::process::ExitCode;
 use std::rt::{Env, Files};
 use std::{env, fs};
-use typing::run_typing;
 
 /// Runs a case of this kind.
 fn run_case<R: Files + AllocGlobal + Clone + Drop>(

@@ -2,10 +2,9 @@
 ghost use Rattle.std.specs.Prelude.{◌≡◌, IfOk, IsSome};
 ghost use Rattle.cu_mem.specs.Script.{LandsOnce};
 
-use crate::members::{Said, refuse_others};
 use anyhow::{Result, bail};
 use cu_mem::{CallKind, Rule, Script};
-use cu_store::Key;
+use cu_rows::{Said, key_of, refuse_others};
 use serde_json::Value;
 
 /// The script of these rules, by which each call after so many fails too.
@@ -80,13 +79,5 @@ fn small(number: u64) -> Result<u32> {
     match u32::try_from(number) {
         Ok(small) => Ok(small),
         Err(_) => bail!("{number} is too large"),
-    }
-}
-
-/// The key of a text.
-pub(crate) fn key_of(text: &str) -> Result<Key> {
-    match Key::make(text) {
-        Some(key) => Ok(key),
-        None => bail!("{text} is longer than 96 bytes"),
     }
 }

@@ -1,6 +1,6 @@
 -- What is read of the metadata of a stored array.
 use Rattle.std.specs.Prelude.{◌≡◌, ℕ, List, Option, Some, None, Ok, Err}
-use Rattle.cu_grid.specs.Grid.{IsGrid}
+use Rattle.cu_grid.specs.Grid.{IsGrid, IsCoordinate}
 use Rattle.cu_meta.specs.Fault.{Fault, json, format, field, dtype, grid, key_encoding, fill, codec, unknown, too_long, other}
 use Rattle.cu_meta.specs.Metadata.{read_metadata}
 use Rattle.cu_meta.specs.Storable.{IsStorable}
@@ -8,7 +8,7 @@ use Rattle.cu_op.specs.Layout.{layout_view}
 use Rattle.cu_op.specs.declared.layout.Layout.{Layout}
 use Rattle.cu_store.specs.Faults.{Rose}
 use Rattle.cu_store.specs.Held.{Contents, IsGone}
-use Rattle.cu_zarr.specs.Key.{metadata_key_of}
+use Rattle.cu_zarr.specs.Key.{chunk_key_of, metadata_key_of}
 use Rattle.cu_command.specs.declared.status.Status.{Status}
 use Rattle.cu_command.specs.declared.status.Status.TheVariants.{DepotFailed, BadMeta, NoArray, NoMemory}
 
@@ -16,6 +16,10 @@ use Rattle.cu_command.specs.declared.status.Status.TheVariants.{DepotFailed, Bad
 pub record IsArrayLayout (l : Layout) : Type 0 where
   pub grid : IsGrid l.grid
   pub storable : IsStorable (layout_view l)
+
+-- the keys of the chunks of the array with this name
+abbrev pub IsArrayChunk : List ℕ → Layout → List ℕ → Type 0
+IsArrayChunk name l key = (coord : List ℕ) × IsCoordinate l.grid coord × (key ≡ chunk_key_of name l.encoding coord)
 
 -- this text is the metadata of such a layout
 pub record IsMetadata (l : Layout) (text : List ℕ) : Type 0 where

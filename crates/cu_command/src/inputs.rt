@@ -38,8 +38,9 @@ fn metadata_fault(status: Status) -> JobFault
     }
 }
 
-/// Reads the metadata of the array with this name.
-fn read_input<D: Depot>(
+/// Reads the metadata of the array with this name, with at most `retries + 1` calls. `room` has the bytes of the longest text of metadata
+/// and one more.
+pub fn read_input<D: Depot>(
     alloc: Global,
     depot: &mut D,
     name: &IdText,
@@ -101,7 +102,7 @@ fn read_next<D: Depot>(
 
 /// Reads the metadata of the arrays that an expression uses: for the names of its input nodes in node order, each name's once, at
 /// the first node that uses it.
-pub(crate) fn read_inputs<D: Depot>(
+pub fn read_inputs<D: Depot>(
     alloc: Global,
     depot: &mut D,
     expr: &Expr,

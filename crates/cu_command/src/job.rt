@@ -64,8 +64,8 @@ impl From<JobFault> for Status {
     }
 }
 
-/// The expression of a text, and the text's value.
-fn said_in(alloc: Global, text: &[u8]) -> Result<ExprText, JobFault>
+/// The expression of a text, and the text's JSON value.
+pub fn said_in(alloc: Global, text: &[u8]) -> Result<ExprText, JobFault>
     ensures said { IfOk result (λ said. expression_of text.now ≡ Ok said.expr) }
     ensures value { IfOk result (λ said. read text.now ≡ Some (view said.value)) }
     ensures fault { IfErr result (IsUnread text.now) }
@@ -80,8 +80,8 @@ fn said_in(alloc: Global, text: &[u8]) -> Result<ExprText, JobFault>
     }
 }
 
-/// The types of an expression over inputs that were read.
-fn types_in(alloc: Global, expr: &Expr, inputs: &[InputInfo]) -> Result<Types, JobFault>
+/// The types of an expression over inputs that were read, or its first fault.
+pub fn types_in(alloc: Global, expr: &Expr, inputs: &[InputInfo]) -> Result<Types, JobFault>
     requires { All (λ i. IsArrayLayout i.layout) inputs.now }
     ensures types { IfOk result (λ types. typed inputs.now expr.now ≡ Ok types) }
     ensures fault { IfErr result (IsUntyped inputs.now expr.now) }

@@ -12,9 +12,10 @@ mod status;
 mod stored;
 mod streams;
 
-pub use job::{Job, JobFault, read_job};
+pub use inputs::{read_input, read_inputs};
+pub use job::{Job, JobFault, read_job, said_in, types_in};
 pub use keys::{ask_key, put_value};
-pub use laws::names_law;
+pub use laws::{names_law, stored_law};
 pub use name::name_at;
 pub use status::{LineText, Status, number, push_field, status_line};
 pub use stored::{metadata_room, read_layout, zeros};

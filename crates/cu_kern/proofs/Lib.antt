@@ -7,3 +7,5 @@ pub mod Running
 pub mod StripResults
 pub mod Pieces
 pub mod DirectValues
+pub mod RowResults
+pub mod RowSteps

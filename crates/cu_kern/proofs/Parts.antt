@@ -16,7 +16,7 @@ use Rattle.cu_num.specs.declared.types.Dtype.{Dtype}
 use Rattle.cu_num.specs.declared.layout.Endian.TheVariants.{Little}
 
 -- so many bytes from place j on of the first m
-part_inside : (n j m : ℕ) (xs : List ℕ) → j + n ≤ m → take n (drop j (take m xs)) ≡ take n (drop j xs)
+pub part_inside : (n j m : ℕ) (xs : List ℕ) → j + n ≤ m → take n (drop j (take m xs)) ≡ take n (drop j xs)
 part_inside n j m xs h =
     let sum : m ≡ j + (m - j) = omega arith in
     ap (λ k. take n (drop j (take k xs))) sum ∙ ap (take n) (drop-take j (m - j) xs) ∙ take-take n (m - j) (drop j xs) (omega arith)

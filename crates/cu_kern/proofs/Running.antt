@@ -89,7 +89,7 @@ stepped_of front back out words number count e n short m = record {
 pub length-stepped : (front back out words : List ℕ) (count : ℕ) → words ≡ front ++ back → length out ≡ count → count ≤ length back → length (front ++ (out ++ drop count back)) ≡ length words
 length-stepped front back out words count e n h = simp (length-append, length-drop) (let all = ap length e ∙ length-append front back in omega arith)
 
-slice_get_push : (xs : List ℤ) (x y : ℤ) (a : ℕ) → slice_get (xs ++ x ∷ []) a ≡ Some y → (slice_get xs a ≡ Some y) ⊎ ((a ≡ length xs) × (x ≡ y))
+pub slice_get_push : (xs : List ℤ) (x y : ℤ) (a : ℕ) → slice_get (xs ++ x ∷ []) a ≡ Some y → (slice_get xs a ≡ Some y) ⊎ ((a ≡ length xs) × (x ≡ y))
 slice_get_push [] x y zero e = inr (refl, same_Some x y e)
 slice_get_push [] x y (suc a) e = cc
 slice_get_push (z ∷ xs) x y zero e = inl e

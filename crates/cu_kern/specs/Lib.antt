@@ -3,3 +3,4 @@ pub mod Lanes
 pub mod Steps
 pub mod Division
 pub mod Strips
+pub mod Rows

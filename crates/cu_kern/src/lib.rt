@@ -1,6 +1,7 @@
 //! Kernels: what a map computes for each element of its result, over regions of elements as bytes.
 #![tactic(auto)]
 
+mod by_rows;
 mod calls;
 mod direct;
 mod division;
@@ -8,6 +9,7 @@ mod lane_functions;
 mod lane_loops;
 mod lanes;
 mod lays;
+mod rows;
 mod run;
 mod sources;
 mod steps;

@@ -9,6 +9,7 @@ ghost use Rattle.cu_op.specs.KernelTypes.{KernelFits};
 ghost use Rattle.cu_kern.specs.Lays.{LayFits, lay_types, loaded_at, HasValue};
 ghost use Rattle.cu_kern.specs.Steps.{value_by_place};
 
+use crate::by_rows::run_by_rows;
 use crate::direct::run_direct;
 use crate::lays::Lay;
 use crate::sources::Inputs;
@@ -45,7 +46,8 @@ pub fn run_kernel(
     run_places(code, lays, t, dims, ins, out, words);
 }
 
-/// `run_kernel`, place by place: from bytes to bytes where the kernel is one function, else in blocks of words.
+/// `run_kernel`, place by place: from bytes to bytes where the kernel is one function, by rows of bytes where no types
+/// differ, else in blocks of words.
 fn run_places(
     code: &[Instr],
     lays: &[Lay],
@@ -62,9 +64,13 @@ fn run_places(
     ensures { (p : ℕ) → p < product dims.now → HasValue t out.new p (value_by_place code.now lays.now ins.now dims.now p) }
 {
     let inputs = Inputs { lays, ins, dims };
-    if !run_direct(code, inputs, t, out) {
-        run_blocks(code, lays, t, dims, ins, out, words);
+    if run_direct(code, inputs, t, out) {
+        return;
     }
+    if run_by_rows(code, inputs, t, out) {
+        return;
+    }
+    run_blocks(code, lays, t, dims, ins, out, words);
 }
 
 /// `run_kernel` by blocks of 64 places, the last of which may be shorter.

@@ -9,7 +9,6 @@ use Rattle.cu_form.specs.Expression.{Expression, IsExpression}
 use Rattle.cu_form.specs.Form.{args_of, is_earlier}
 use Rattle.cu_form.specs.declared.args.Arg.{Arg}
 use Rattle.cu_form.specs.declared.expr.Node.{Node}
-use Rattle.cu_node.specs.declared.element_op.ElementOp.{ElementOp}
 use Rattle.cu_form.specs.declared.form.Form.{Form}
 use Rattle.cu_node.specs.Info.{info_at}
 use Rattle.cu_node.specs.declared.info.NodeInfo.{NodeInfo}
@@ -39,11 +38,11 @@ pub record IsEarlierNode (e : Expression) (k n : ℕ) : Type 0 where
   pub node : Node
   pub at : slice_get e.nodes n ≡ Some node
 
-pub live_arguments : (e : Expression) → IsExpression e → IsClosed e (is_live e) → (k : ℕ) (node : Node) (op : ElementOp) (args : List Arg) → slice_get e.nodes k ≡ Some node
-    → node.form ≡ Form.Elementwise op args → is_live e k ≡ true → Each (IsEarlierNode e k) args
-live_arguments e form closed k node op args at is live =
-    over args (subst (λ (f : Form). list_all (is_earlier k) (args_of f) ≡ true) is (form.nodes k node at).form.earlier)
-    (λ j has. closed.arguments k j node at live (ap (λ f. list_any (is_node j) (args_of f)) is ∙ has))
+pub live_arguments : (e : Expression) → IsExpression e → IsClosed e (is_live e) → (k : ℕ) (node : Node) (f : Form) → slice_get e.nodes k ≡ Some node
+    → node.form ≡ f → is_live e k ≡ true → Each (IsEarlierNode e k) (args_of f)
+live_arguments e form closed k node f at is live =
+    over (args_of f) (subst (λ (x : Form). list_all (is_earlier k) (args_of x) ≡ true) is (form.nodes k node at).form.earlier)
+    (λ j has. closed.arguments k j node at live (ap (λ x. list_any (is_node j) (args_of x)) is ∙ has))
   where
     over : (rest : List Arg) → list_all (is_earlier k) rest ≡ true → ((j : ℕ) → list_any (is_node j) rest ≡ true → is_live e j ≡ true) → Each (IsEarlierNode e k) rest
     over [] earlier alive = tt

@@ -6,6 +6,7 @@ use Rattle.std.proofs.lemmas.List.Sums.{sum_by-append, sum_by-cons}
 use Rattle.cu_op.specs.Sound.{made_chunks}
 use Rattle.cu_op.specs.declared.operation.Planned.{Planned}
 use Rattle.cu_form.specs.Expression.{Expression}
+use Rattle.cu_form.specs.Form.{args_of}
 use Rattle.cu_form.specs.declared.expr.Node.{Node}
 use Rattle.cu_form.specs.declared.form.Form.{Form}
 use Rattle.cu_node.specs.Info.{info_at}
@@ -18,8 +19,9 @@ use Rattle.cu_need.specs.declared.counts.PlanCounts.{PlanCounts}
 use Rattle.cu_lower.specs.Inputs.{input_array, input_names}
 use Rattle.cu_lower.specs.Plan.{grown_after}
 use Rattle.cu_need.specs.Need.{need_of}
-use Rattle.cu_lower.specs.Parts.{Grown, made_array, map_of, part_of, live_part}
+use Rattle.cu_lower.specs.Parts.{Grown, Part, is_made, made_op, array_places, made_array, part_of, live_part}
 use Rattle.cu_lower.proofs.Growing as growing
+use Rattle.cu_lower.proofs.FormKinds.{part_made, part_other, tasks_made, tasks_other, cells_made, cells_other}
 use Rattle.std.proofs.lemmas.List.{length-append, append-nil}
 
 -- the live nodes behind a node
@@ -38,14 +40,26 @@ sum_one f x = let e = sum_by-cons f x [] in omega (arith, e)
 
 module _ (e : Expression) (infos : List NodeInfo) (reserved : ℕ) where
   part_tasks : (g : Grown) (k : ℕ) (f : Form) → length g.places ≡ k → sum_by (node_chunks infos) (part_of e infos reserved g f).ops ≡ tasks_of infos k f
-  part_tasks g k (Form.Elementwise op args) number =
-      sum_one (node_chunks infos) (record { op = map_of infos g.places op args (length g.arrays); node = length g.places; projected = need_of reserved infos (length g.places) (Form.Elementwise op args) }) ∙ ap (λ i. chunk_count (info_at infos i)) number
-  part_tasks g k f number = refl
+  part_tasks g k f number =
+      elim (cases_Bool (is_made f)) [
+        | inl made ↦
+            ap (λ (p : Part). sum_by (node_chunks infos) p.ops) (part_made e infos reserved g f made)
+            ∙ sum_one (node_chunks infos) (record { op = made_op infos f (array_places g.places (args_of f)) (length g.arrays); node = length g.places; projected = need_of reserved infos (length g.places) f })
+            ∙ ap (λ i. chunk_count (info_at infos i)) number
+            ∙ sym (tasks_made infos k f made)
+        | inr other ↦ ap (sum_by (node_chunks infos)) (part_other e infos reserved g f other).1 ∙ sym (tasks_other infos k f other)
+      ]
 
   part_cells : (g : Grown) (k : ℕ) (f : Form) → length g.places ≡ k → sum_by made_chunks (part_of e infos reserved g f).arrays ≡ cells_of infos k f
-  part_cells g k (Form.Elementwise op args) number =
-      sum_one made_chunks (made_array e (info_at infos (length g.places)) (length g.places) (length g.arrays - length (input_names e)) (length g.ops)) ∙ ap (λ i. chunk_count (info_at infos i)) number
-  part_cells g k f number = refl
+  part_cells g k f number =
+      elim (cases_Bool (is_made f)) [
+        | inl made ↦
+            ap (λ (p : Part). sum_by made_chunks p.arrays) (part_made e infos reserved g f made)
+            ∙ sum_one made_chunks (made_array e (info_at infos (length g.places)) (length g.places) (length g.arrays - length (input_names e)) (length g.ops))
+            ∙ ap (λ i. chunk_count (info_at infos i)) number
+            ∙ sym (cells_made infos k f made)
+        | inr other ↦ ap (sum_by made_chunks) (part_other e infos reserved g f other).0 ∙ sym (cells_other infos k f other)
+      ]
 
   -- a sum over what is grown, to which each live node adds its own
   grows_by : (total : Grown → ℕ) (f : ℕ × Node → ℕ)

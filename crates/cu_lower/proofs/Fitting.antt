@@ -1,5 +1,5 @@
--- The operation of an elementwise node fits its arrays, and its projection is the node's need.
-use Rattle.std.proofs.Common.{◌≡◌, ℕ, suc, ◌≤◌, ◌+◌, ◌*◌, true, max, List, [], ◌∷◌, ◌++◌, All, Option, Some, length, map, sum_by, refl, ap, sym, ◌∙◌, subst, inl, inr, arith}
+-- What is known of a node's operation; that of an elementwise node fits its arrays, and its projection is the node's need.
+use Rattle.std.proofs.Common.{◌≡◌, ℕ, suc, ◌<◌, ◌≤◌, ◌+◌, ◌*◌, ◌^◌, true, max, List, [], ◌∷◌, ◌++◌, All, Option, Some, length, map, sum_by, refl, ap, sym, ◌∙◌, subst, inl, inr, arith}
 use Rattle.std.proofs.lemmas.List.{length-append, length-map}
 use Rattle.std.proofs.lemmas.List.Elements.{All-nil, All-cons}
 use Rattle.std.proofs.lemmas.List.Sums.{sum_by-cons}
@@ -18,6 +18,7 @@ use Rattle.cu_op.proofs.Lists.{greatest_push}
 use Rattle.cu_op.specs.declared.kernel.Instr.{Instr}
 use Rattle.cu_op.specs.declared.layout.ArrayInfo.{ArrayInfo}
 use Rattle.cu_form.specs.Expression.{Expression}
+use Rattle.cu_form.specs.Form.{args_of}
 use Rattle.cu_form.specs.declared.args.Arg.{Arg}
 use Rattle.cu_node.specs.declared.element_op.ElementOp.{ElementOp}
 use Rattle.cu_form.specs.declared.form.Form.{Form}
@@ -72,8 +73,12 @@ module _ (e : Expression) (infos : List NodeInfo) (inputs : List InputInfo) (opt
   abbrev grown : Grown
   grown = placed.grown e infos inputs options ok
 
-  abbrev Stands : ℕ → ElementOp → List Arg → ℕ → Type 0
-  Stands k op args j = placed.Stands e infos inputs options ok k op args j
+  abbrev pub Stands : ℕ → Form → ℕ → Type 0
+  Stands k f j = placed.Stands e infos inputs options ok k f j
+
+  -- those of an elementwise function
+  abbrev Applies : ℕ → ElementOp → List Arg → ℕ → Type 0
+  Applies k op args j = Stands k (Form.Elementwise op args) j
 
   abbrev IsPlaced : ℕ → Type 0
   IsPlaced k = placed.IsPlaced e infos inputs options ok k
@@ -81,32 +86,32 @@ module _ (e : Expression) (infos : List NodeInfo) (inputs : List InputInfo) (opt
   abbrev given : ℕ
   given = length (input_names e)
 
-  pub arguments : (k j : ℕ) (op : ElementOp) (args : List Arg) → Stands k op args j → Each (IsEarlierNode e k) args
-  arguments k j op args s = live_arguments e ok.form closed k s.node op args s.at s.is s.live
+  pub arguments : (k j : ℕ) (f : Form) → Stands k f j → Each (IsEarlierNode e k) (args_of f)
+  arguments k j f s = live_arguments e ok.form closed k s.node f s.at s.is s.live
 
-  pub arguments_placed : (k j : ℕ) (op : ElementOp) (args : List Arg) → Stands k op args j → Each IsPlaced args
-  arguments_placed k j op args s = each_so (IsEarlierNode e k) IsPlaced (λ n a. placed.live_placed e infos inputs options ok n a.node a.at a.live) args (arguments k j op args s)
+  pub arguments_placed : (k j : ℕ) (f : Form) → Stands k f j → Each IsPlaced (args_of f)
+  arguments_placed k j f s = each_so (IsEarlierNode e k) IsPlaced (λ n a. placed.live_placed e infos inputs options ok n a.node a.at a.live) (args_of f) (arguments k j f s)
 
-  pub types_of_node : (k j : ℕ) (op : ElementOp) (args : List Arg) → Stands k op args j → (t : Dtype) × IsElementwise op (map (argument_of infos) args) t (info_at infos k)
+  pub types_of_node : (k j : ℕ) (op : ElementOp) (args : List Arg) → Applies k op args j → (t : Dtype) × IsElementwise op (map (argument_of infos) args) t (info_at infos k)
   types_of_node k j op args s = placed.elementwise e infos inputs options ok k s.node op args s.at s.is
 
-  pub aligned_test : (k j : ℕ) (op : ElementOp) (args : List Arg) → Stands k op args j → are_aligned (info_at infos k) (arrays_in infos args) ≡ true
+  pub aligned_test : (k j : ℕ) (op : ElementOp) (args : List Arg) → Applies k op args j → are_aligned (info_at infos k) (arrays_in infos args) ≡ true
   aligned_test k j op args s = subst (λ (f : Form). is_built infos e.out k f ≡ true) s.is (placed.are_built e infos inputs options ok k s.node s.at s.live)
 
   -- the array of its result
-  made_grid : (k j : ℕ) (op : ElementOp) (args : List Arg) → Stands k op args j → grid_at grown.arrays (given + j) ≡ result_grid (info_at infos k)
-  made_grid k j op args s = ap (λ (a : ArrayInfo). a.layout.grid) s.array
+  pub made_grid : (k j : ℕ) (f : Form) → Stands k f j → grid_at grown.arrays (given + j) ≡ result_grid (info_at infos k)
+  made_grid k j f s = ap (λ (a : ArrayInfo). a.layout.grid) s.array
 
-  made_type : (k j : ℕ) (op : ElementOp) (args : List Arg) → Stands k op args j → type_at grown.arrays (given + j) ≡ (info_at infos k).dtype
-  made_type k j op args s = ap (λ (a : ArrayInfo). a.layout.dtype) s.array
+  pub made_type : (k j : ℕ) (f : Form) → Stands k f j → type_at grown.arrays (given + j) ≡ (info_at infos k).dtype
+  made_type k j f s = ap (λ (a : ArrayInfo). a.layout.dtype) s.array
 
-  pub made_maker : (k j : ℕ) (op : ElementOp) (args : List Arg) → Stands k op args j → maker_at grown.arrays (given + j) ≡ Some j
-  made_maker k j op args s = ap (λ (a : ArrayInfo). a.maker) s.array
+  pub made_maker : (k j : ℕ) (f : Form) → Stands k f j → maker_at grown.arrays (given + j) ≡ Some j
+  made_maker k j f s = ap (λ (a : ArrayInfo). a.maker) s.array
 
   -- ---- what it reads
 
-  read_before : (k j : ℕ) (op : ElementOp) (args : List Arg) → Stands k op args j → (n : ℕ) → IsEarlierNode e k n → IsReadable grown.arrays j (place_in grown n)
-  read_before k j op args s n a =
+  read_before : (k j : ℕ) (f : Form) → Stands k f j → (n : ℕ) → IsEarlierNode e k n → IsReadable grown.arrays j (place_in grown n)
+  read_before k j f s n a =
       let p = placed.live_placed e infos inputs options ok n a.node a.at a.live in
       let early = s.earlier n a.below a.live in (
         p.within,
@@ -116,19 +121,19 @@ module _ (e : Expression) (infos : List NodeInfo) (inputs : List InputInfo) (opt
               subst (λ (m : Option ℕ). IsBefore m j) (sym none) tt
           | inr o ↦
               let w = standing.from_operation e infos inputs options.reserved ok.form (placed.are_built e infos inputs options ok) o.0 o.2 in
-              let some = ap (maker_at grown.arrays) o.1 ∙ made_maker w.k o.0 w.op w.args w.stands in
+              let some = ap (maker_at grown.arrays) o.1 ∙ made_maker w.k o.0 w.operator w.stands in
               let at = o.1 in
               subst (λ (m : Option ℕ). IsBefore m j) (sym some) (omega (arith, at, early))
         ],
       )
 
-  reads : (k j : ℕ) (op : ElementOp) (args : List Arg) → Stands k op args j → All (IsReadable grown.arrays j) (array_places grown.places args)
-  reads k j op args s =
-      all_places grown.places (IsReadable grown.arrays j) args (each_so (IsEarlierNode e k) (λ n. IsReadable grown.arrays j (place_in grown n)) (read_before k j op args s) args (arguments k j op args s))
+  pub reads : (k j : ℕ) (f : Form) → Stands k f j → All (IsReadable grown.arrays j) (array_places grown.places (args_of f))
+  reads k j f s =
+      all_places grown.places (IsReadable grown.arrays j) (args_of f) (each_so (IsEarlierNode e k) (λ n. IsReadable grown.arrays j (place_in grown n)) (read_before k j f s) (args_of f) (arguments k j f s))
 
   -- ---- how it fits
 
-  aligned_one : (k j : ℕ) (op : ElementOp) (args : List Arg) → Stands k op args j → (n : ℕ) → IsPlaced n
+  aligned_one : (k j : ℕ) (op : ElementOp) (args : List Arg) → Applies k op args j → (n : ℕ) → IsPlaced n
       → IsAligned (aligned_grid (info_at infos k) (info_at infos n)) (result_grid (info_at infos k)) × (is_aligned (info_at infos k) (info_at infos n) ≡ true)
       → IsAligned (grid_at grown.arrays (place_in grown n)) (grid_at grown.arrays (given + j))
   aligned_one k j op args s n p a =
@@ -136,10 +141,10 @@ module _ (e : Expression) (infos : List NodeInfo) (inputs : List InputInfo) (opt
       let i = info_at infos n in
       let G : List ℕ → RegularGrid = λ c. record { shape = i.dims; chunk = c } in
       let own : IsAligned (result_grid i) (result_grid r) = subst (λ (c : List ℕ). IsAligned (G c) (result_grid r)) (sym ((aligned_exactly r i).0 a.1)) a.0 in
-      subst (λ (g : RegularGrid). IsAligned (grid_at grown.arrays (place_in grown n)) g) (sym (made_grid k j op args s))
+      subst (λ (g : RegularGrid). IsAligned (grid_at grown.arrays (place_in grown n)) g) (sym (made_grid k j (Form.Elementwise op args) s))
       (subst (λ (g : RegularGrid). IsAligned g (result_grid r)) (sym p.grid) own)
 
-  pub aligned : (k j : ℕ) (op : ElementOp) (args : List Arg) → Stands k op args j → Each (λ n. IsAligned (grid_at grown.arrays (place_in grown n)) (grid_at grown.arrays (given + j))) args
+  pub aligned : (k j : ℕ) (op : ElementOp) (args : List Arg) → Applies k op args j → Each (λ n. IsAligned (grid_at grown.arrays (place_in grown n)) (grid_at grown.arrays (given + j))) args
   aligned k j op args s =
       let r = info_at infos k in
       let t = types_of_node k j op args s in
@@ -148,27 +153,27 @@ module _ (e : Expression) (infos : List NodeInfo) (inputs : List InputInfo) (opt
       let both = each_both (λ n. A (info_at infos n)) (λ n. is_aligned r (info_at infos n) ≡ true) (λ n. A (info_at infos n) × (is_aligned r (info_at infos n) ≡ true)) (λ n p q. (p, q)) args
       (each_array infos A args all) (each_tested infos (is_aligned r) args (aligned_test k j op args s)) in
       each_both IsPlaced (λ n. A (info_at infos n) × (is_aligned r (info_at infos n) ≡ true)) (λ n. IsAligned (grid_at grown.arrays (place_in grown n)) (grid_at grown.arrays (given + j)))
-      (aligned_one k j op args s) args (arguments_placed k j op args s) both
+      (aligned_one k j op args s) args (arguments_placed k j (Form.Elementwise op args) s) both
 
   -- the code of the node is the kernel of its function
-  pub code_is : (k j : ℕ) (op : ElementOp) (args : List Arg) → Stands k op args j → (t : Dtype) → IsElementwise op (map (argument_of infos) args) t (info_at infos k)
+  pub code_is : (k j : ℕ) (op : ElementOp) (args : List Arg) → Applies k op args j → (t : Dtype) → IsElementwise op (map (argument_of infos) args) t (info_at infos k)
       → steps_of op (map (argument_of infos) args) ≡ kernel_of op t (map (argument_of infos) args)
   code_is k j op args s t passed = ap (λ r. kernel_of op (type_or_bool r) (map (argument_of infos) args)) passed.shared
 
-  read_types : (k j : ℕ) (op : ElementOp) (args : List Arg) → Stands k op args j → map (type_at grown.arrays) (array_places grown.places args) ≡ types_of (arrays_of (map (argument_of infos) args))
+  read_types : (k j : ℕ) (op : ElementOp) (args : List Arg) → Applies k op args j → map (type_at grown.arrays) (array_places grown.places args) ≡ types_of (arrays_of (map (argument_of infos) args))
   read_types k j op args s =
       mapped_places grown.places infos (type_at grown.arrays) (λ (i : NodeInfo). i.dtype) args
-      (each_so IsPlaced (λ n. type_at grown.arrays (place_in grown n) ≡ (info_at infos n).dtype) (λ n p. p.dtype) args (arguments_placed k j op args s))
+      (each_so IsPlaced (λ n. type_at grown.arrays (place_in grown n) ≡ (info_at infos n).dtype) (λ n p. p.dtype) args (arguments_placed k j (Form.Elementwise op args) s))
       ∙ ap types_of (sym (arrays_told infos args))
 
-  fits : (k j : ℕ) (op : ElementOp) (args : List Arg) → Stands k op args j → MapFits grown.arrays (steps_of op (map (argument_of infos) args)) (array_places grown.places args) (given + j)
+  fits : (k j : ℕ) (op : ElementOp) (args : List Arg) → Applies k op args j → MapFits grown.arrays (steps_of op (map (argument_of infos) args)) (array_places grown.places args) (given + j)
   fits k j op args s =
       let (t, passed) = types_of_node k j op args s in
       record {
         inputs = all_places grown.places (λ a. IsAligned (grid_at grown.arrays a) (grid_at grown.arrays (given + j))) args (aligned k j op args s);
         kernel =
             subst (λ (c : List Instr). KernelFits c (map (type_at grown.arrays) (array_places grown.places args)) [] (type_at grown.arrays (given + j))) (sym (code_is k j op args s t passed))
-            (subst (λ (d : Dtype). KernelFits (kernel_of op t (map (argument_of infos) args)) (map (type_at grown.arrays) (array_places grown.places args)) [] d) (sym (made_type k j op args s))
+            (subst (λ (d : Dtype). KernelFits (kernel_of op t (map (argument_of infos) args)) (map (type_at grown.arrays) (array_places grown.places args)) [] d) (sym (made_type k j (Form.Elementwise op args) s))
             (subst (λ (ts : List Dtype). KernelFits (kernel_of op t (map (argument_of infos) args)) ts [] (info_at infos k).dtype) (sym (read_types k j op args s)) (elementwise_map op (map (argument_of infos) args) t (info_at infos k) passed).kernel));
       }
 
@@ -177,45 +182,63 @@ module _ (e : Expression) (infos : List NodeInfo) (inputs : List InputInfo) (opt
   room_of_node : (n : ℕ) → IsPlaced n → chunk_room grown.arrays (place_in grown n) ≡ chunk_bytes (info_at infos n)
   room_of_node n p = ap (λ (g : RegularGrid). product g.chunk * size_of (type_at grown.arrays (place_in grown n))) p.grid ∙ ap (λ d. product (info_at infos n).chunk * size_of d) p.dtype
 
-  rooms : (k j : ℕ) (op : ElementOp) (args : List Arg) → Stands k op args j → map (chunk_room grown.arrays) (array_places grown.places args) ≡ map chunk_bytes (arrays_in infos args)
-  rooms k j op args s =
-      mapped_places grown.places infos (chunk_room grown.arrays) chunk_bytes args
-      (each_so IsPlaced (λ n. chunk_room grown.arrays (place_in grown n) ≡ chunk_bytes (info_at infos n)) room_of_node args (arguments_placed k j op args s))
+  pub rooms : (k j : ℕ) (f : Form) → Stands k f j → map (chunk_room grown.arrays) (array_places grown.places (args_of f)) ≡ map chunk_bytes (arrays_in infos (args_of f))
+  rooms k j f s =
+      mapped_places grown.places infos (chunk_room grown.arrays) chunk_bytes (args_of f)
+      (each_so IsPlaced (λ n. chunk_room grown.arrays (place_in grown n) ≡ chunk_bytes (info_at infos n)) room_of_node (args_of f) (arguments_placed k j f s))
 
-  pub projected : (k j : ℕ) (op : ElementOp) (args : List Arg) → Stands k op args j
-      → need_of options.reserved infos k (Form.Elementwise op args) ≡ projection grown.arrays options.reserved (map_of infos grown.places op args (given + j))
+  pub result_room : (k j : ℕ) (f : Form) → Stands k f j → chunk_room grown.arrays (given + j) ≡ chunk_bytes (info_at infos k)
+  result_room k j f s = ap (chunk_room grown.arrays) (sym s.place) ∙ room_of_node k (placed.stood_placed e infos inputs options ok k j f s)
+
+  -- the greatest chunk of the arrays that are read and of the result
+  pub greatest_room : (k j : ℕ) (f : Form) → Stands k f j
+      → room.greatest (map (chunk_room grown.arrays) (array_places grown.places (args_of f) ++ (given + j) ∷ [])) ≡ greatest (chunk_bytes (info_at infos k) ∷ map chunk_bytes (arrays_in infos (args_of f)))
+  greatest_room k j f s =
+      let ins = array_places grown.places (args_of f) in
+      let is = arrays_in infos (args_of f) in
+      ap room.greatest (map_push (chunk_room grown.arrays) ins (given + j))
+      ∙ greatest_push (map (chunk_room grown.arrays) ins) (chunk_room grown.arrays (given + j))
+      ∙ ap (λ r. max r (room.greatest (map (chunk_room grown.arrays) ins))) (result_room k j f s)
+      ∙ ap (max (chunk_bytes (info_at infos k))) (ap room.greatest (rooms k j f s) ∙ sym (same_greatest (map chunk_bytes is)))
+
+  pub projected : (k j : ℕ) (op : ElementOp) (args : List Arg) → Applies k op args j
+      → need_of options.reserved infos k (Form.Elementwise op args) ≡ projection grown.arrays options.reserved (map_of infos op args (array_places grown.places args) (given + j))
   projected k j op args s =
       let r = info_at infos k in
+      let f = Form.Elementwise op args in
       let (t, passed) = types_of_node k j op args s in
       let is = arrays_in infos args in
       let ins = array_places grown.places args in
       let need = aligned_need options.reserved infos r args (aligned_test k j op args s) in
-      let each = rooms k j op args s in
-      let out : chunk_room grown.arrays (given + j) ≡ chunk_bytes r = ap (chunk_room grown.arrays) (sym s.place) ∙ room_of_node k (placed.stood_placed e infos inputs options ok k j op args s) in
-      let scratch : room.greatest (map (chunk_room grown.arrays) (ins ++ (given + j) ∷ [])) ≡ max (chunk_room grown.arrays (given + j)) (room.greatest (map (chunk_room grown.arrays) ins))
-      = ap room.greatest (map_push (chunk_room grown.arrays) ins (given + j)) ∙ greatest_push (map (chunk_room grown.arrays) ins) (chunk_room grown.arrays (given + j)) in
-      let read : room.greatest (map (chunk_room grown.arrays) ins) ≡ greatest (map chunk_bytes is) = ap room.greatest each ∙ sym (same_greatest (map chunk_bytes is)) in
-      let sums : sum_by (chunk_room grown.arrays) ins ≡ sum_by chunk_bytes is = sum_mapped (chunk_room grown.arrays) ins ∙ ap (sum_by (λ n. n)) each ∙ sym (sum_mapped chunk_bytes is) in
+      let out = result_room k j f s in
+      let scratch = greatest_room k j f s in
+      let sums : sum_by (chunk_room grown.arrays) ins ≡ sum_by chunk_bytes is = sum_mapped (chunk_room grown.arrays) ins ∙ ap (sum_by (λ n. n)) (rooms k j f s) ∙ sym (sum_mapped chunk_bytes is) in
       let steps : length (steps_of op (map (argument_of infos) args)) ≡ length args + 1 =
       ap length (code_is k j op args s t passed) ∙ kernel_long op t (map (argument_of infos) args) ∙ ap (λ n. n + 1) (length-map args (argument_of infos)) in
-      need ∙ (let whole : options.reserved + greatest (map chunk_bytes (r ∷ is)) + sum_by chunk_bytes is + chunk_bytes r + 512 * (length args + 1) ≡ projection grown.arrays options.reserved (map_of infos grown.places op args (given + j)) = omega (arith, out, scratch, read, sums, steps) in whole)
+      need ∙ (let whole : options.reserved + greatest (map chunk_bytes (r ∷ is)) + sum_by chunk_bytes is + chunk_bytes r + 512 * (length args + 1) ≡ projection grown.arrays options.reserved (map_of infos op args ins (given + j)) = omega (arith, out, scratch, sums, steps) in whole)
 
   -- ---- the operation
 
-  writes : (k j : ℕ) (op : ElementOp) (args : List Arg) → Stands k op args j → All (IsMadeBy grown.arrays j) ((given + j) ∷ [])
-  writes k j op args s = All-cons (IsMadeBy grown.arrays j) (given + j) [] (s.within_arrays, made_maker k j op args s) (All-nil (IsMadeBy grown.arrays j))
+  pub writes : (k j : ℕ) (f : Form) → Stands k f j → All (IsMadeBy grown.arrays j) ((given + j) ∷ [])
+  writes k j f s = All-cons (IsMadeBy grown.arrays j) (given + j) [] (s.within_arrays, made_maker k j f s) (All-nil (IsMadeBy grown.arrays j))
 
-  pub needs_within : (k j : ℕ) (op : ElementOp) (args : List Arg) → Stands k op args j → need_of options.reserved infos k (Form.Elementwise op args) ≤ options.allowed
-  needs_within k j op args s = subst (λ (f : Form). need_of options.reserved infos k f ≤ options.allowed) s.is (placed.need_within e infos inputs options ok k s.node s.at s.live)
+  pub needs_within : (k j : ℕ) (f : Form) → Stands k f j → need_of options.reserved infos k f ≤ options.allowed
+  needs_within k j f s = subst (λ (x : Form). need_of options.reserved infos k x ≤ options.allowed) s.is (placed.need_within e infos inputs options ok k s.node s.at s.live)
 
-  pub operation_fits : (k j : ℕ) (op : ElementOp) (args : List Arg) → Stands k op args j → IsOperation grown.arrays options.reserved j (operation_at grown.ops j)
-  operation_fits k j op args s =
-      let small = needs_within k j op args s in
+  -- its number is below 2^64
+  pub need_small : (k j : ℕ) (f : Form) → Stands k f j → need_of options.reserved infos k f < 2 ^ 64
+  need_small k j f s =
+      let small = needs_within k j f s in
       let most = ok.allowed in
+      omega (arith, small, most)
+
+  -- that of an elementwise function fits
+  pub map_fits : (k j : ℕ) (op : ElementOp) (args : List Arg) → Applies k op args j → IsOperation grown.arrays options.reserved j (operation_at grown.ops j)
+  map_fits k j op args s =
       subst (IsOperation grown.arrays options.reserved j) (sym s.operation) (record {
-        reads = reads k j op args s;
-        writes = writes k j op args s;
+        reads = reads k j (Form.Elementwise op args) s;
+        writes = writes k j (Form.Elementwise op args) s;
         fits = fits k j op args s;
         projected = projected k j op args s;
-        room = omega (arith, small, most);
+        room = need_small k j (Form.Elementwise op args) s;
       })

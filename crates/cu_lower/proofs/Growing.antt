@@ -13,8 +13,9 @@ use Rattle.cu_need.specs.Live.{is_live}
 use Rattle.cu_need.specs.Need.{is_built}
 use Rattle.cu_lower.specs.Inputs.{input_names, input_place}
 use Rattle.cu_lower.specs.Plan.{grown_after}
-use Rattle.cu_lower.specs.Parts.{Grown, IsGrown, Part, no_part, part_of, live_part, with_part}
+use Rattle.cu_lower.specs.Parts.{Grown, IsGrown, Part, no_part, made_part, part_of, live_part, with_part}
 use Rattle.cu_lower.proofs.InputNames.{input_placed}
+use Rattle.cu_lower.proofs.FormKinds.{built_kind, part_made}
 
 -- what was grown first stands in front of what was grown later
 pub record Front (g f : Grown) : Type 0 where
@@ -74,18 +75,22 @@ module _ (e : Expression) (infos : List NodeInfo) (reserved : ℕ) where
   front_after g [] = front_here g
   front_after g (n ∷ ns) = front_then g (step g n.form) (grown_after e infos reserved g (n ∷ ns)) (front_step g n.form) (front_after (step g n.form) ns)
 
-  -- each live node is one that the operations of today make
+  -- each live node is one that is built
   abbrev pub AreBuilt : Type 0
   AreBuilt = (k : ℕ) (n : Node) → slice_get e.nodes k ≡ Some n → is_live e k ≡ true → is_built infos e.out k n.form ≡ true
 
-  live_grown : (g : Grown) (form : Form) → is_built infos e.out (length g.places) form ≡ true
-      → ((name : List ℕ) → form ≡ Form.Input name → input_place e name < length (input_names e)) → IsGrown e g → IsGrown e (with_part g (part_of e infos reserved g form))
-  live_grown g (Form.Input name) built placed known =
-      let w = placed name refl in
+  input_grown : (g : Grown) (name : List ℕ) → input_place e name < length (input_names e) → IsGrown e g → IsGrown e (with_part g (part_of e infos reserved g (Form.Input name)))
+  input_grown g name w known =
       let c = known.counted in
       part_grown e g (part_of e infos reserved g (Form.Input name)) refl (omega arith) (λ live. omega (arith, w, c)) known
-  live_grown g (Form.Elementwise op args) built placed known = part_grown e g (part_of e infos reserved g (Form.Elementwise op args)) refl (omega arith) (λ live. omega arith) known
-  live_grown g form built placed known = cc
+
+  live_grown : (g : Grown) (form : Form) → is_built infos e.out (length g.places) form ≡ true
+      → ((name : List ℕ) → form ≡ Form.Input name → input_place e name < length (input_names e)) → IsGrown e g → IsGrown e (with_part g (part_of e infos reserved g form))
+  live_grown g form built placed known =
+      elim (built_kind infos e.out (length g.places) form built) [
+        | inl input ↦ subst (λ (f : Form). IsGrown e (with_part g (part_of e infos reserved g f))) (sym input.1) (input_grown g input.0 (placed input.0 input.1) known)
+        | inr made ↦ subst (λ (p : Part). IsGrown e (with_part g p)) (sym (part_made e infos reserved g form made)) (part_grown e g (made_part e infos reserved g form) refl (omega arith) (λ live. omega arith) known)
+      ]
 
   pub step_grown : AreBuilt → (g : Grown) (n : Node) → slice_get e.nodes (length g.places) ≡ Some n → IsGrown e g → IsGrown e (step g n.form)
   step_grown built g n at known =

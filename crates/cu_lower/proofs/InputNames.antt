@@ -2,8 +2,8 @@
 use Rattle.std.proofs.Common.{◌≡◌, ◌↔◌, IsTrue, drop, ℕ, zero, suc, ◌<◌, ◌+◌, Bool, true, false, List, [], ◌∷◌, ◌++◌, Some, length, get_or, refl, ap, sym, ◌∙◌, subst, inl, inr, arith}
 use Rattle.std.specs.Prelude.{slice_get, nat_lt, bytes_eq, if◌then◌else◌, unwrap_or}
 use Rattle.std.specs.List.{list_any, position_or_len}
-use Rattle.std.proofs.lemmas.Bool.{cases_Bool, lt-ltb, le-ltb}
-use Rattle.std.proofs.lemmas.List.{drop_more}
+use Rattle.std.proofs.lemmas.Bool.{cases_Bool, cases_lt, lt-ltb, le-ltb}
+use Rattle.std.proofs.lemmas.List.{drop_more, length_push, get_or_append_left, get_or_at}
 use Rattle.std.proofs.lemmas.Slice.Eq.{bytes_eq-Decides}
 use Rattle.cu_form.specs.Expression.{Expression}
 use Rattle.cu_form.specs.declared.expr.Node.{Node}
@@ -103,6 +103,62 @@ found_place q (x ∷ xs) h =
 pub input_placed : (e : Expression) (k : ℕ) (n : Node) (name : List ℕ) → slice_get e.nodes k ≡ Some n → is_live e k ≡ true → n.form ≡ Form.Input name
     → (input_place e name < length (input_names e)) × (get_or (input_names e) (input_place e name) [] ≡ name)
 input_placed e k n name at live form = found_place name (input_names e) (name_listed e k n name at live form)
+
+-- ---- no name is listed twice
+
+-- names at different places differ
+abbrev IsOnce : List (List ℕ) → Type 0
+IsOnce names = (a b : ℕ) → a < length names → b < length names → get_or names a [] ≡ get_or names b [] → a ≡ b
+
+-- a name that isn't listed stands at no place
+not_listed : (q : List ℕ) (names : List (List ℕ)) (a : ℕ) → list_any (bytes_eq q) names ≡ false → a < length names → get_or names a [] ≡ q → ⊥
+not_listed q [] a none below same = omega arith
+not_listed q (x ∷ xs) zero none below same =
+    let here : bytes_eq q x ≡ true = subst (λ (y : List ℕ). bytes_eq q y ≡ true) (sym same) (equal_text q) in
+    let e : list_any (bytes_eq q) (x ∷ xs) ≡ true = rw here refl in
+    cc
+not_listed q (x ∷ xs) (suc a) none below same =
+    elim (cases_Bool (bytes_eq q x)) [
+      | inl here ↦ let e : list_any (bytes_eq q) (x ∷ xs) ≡ true = rw here refl in cc
+      | inr other ↦ not_listed q xs a (let e : list_any (bytes_eq q) (x ∷ xs) ≡ list_any (bytes_eq q) xs = rw other refl in sym e ∙ none) (omega arith) same
+    ]
+
+once_more : (names : List (List ℕ)) (name : List ℕ) → list_any (bytes_eq name) names ≡ false → IsOnce names → IsOnce (names ++ name ∷ [])
+once_more names name none once a b la lb same =
+    let l = length_push names name in
+    elim (cases_lt a (length names)) [
+      | inl fa ↦ elim (cases_lt b (length names)) [
+        | inl fb ↦ once a b fa fb (sym (get_or_append_left names (name ∷ []) [] a fa) ∙ same ∙ get_or_append_left names (name ∷ []) [] b fb)
+        | inr fb ↦
+            let last : b ≡ length names = omega (arith, l, lb, fb) in
+            absurd (not_listed name names a none fa (sym (get_or_append_left names (name ∷ []) [] a fa) ∙ same ∙ get_or_at names name [] [] b (sym last)))
+      ]
+      | inr fa ↦
+          let last : a ≡ length names = omega (arith, l, la, fa) in
+          elim (cases_lt b (length names)) [
+            | inl fb ↦ absurd (not_listed name names b none fb (sym (get_or_append_left names (name ∷ []) [] b fb) ∙ sym same ∙ get_or_at names name [] [] a (sym last)))
+            | inr fb ↦ omega (arith, l, lb, fb, last)
+          ]
+    ]
+
+once_named : (names : List (List ℕ)) (form : Form) → IsOnce names → IsOnce (with_name names form)
+once_named names (Form.Input name) once =
+    elim (cases_Bool (list_any (bytes_eq name) names)) [
+      | inl there ↦ rw there once
+      | inr none ↦ rw none (once_more names name none once)
+    ]
+once_named names form once = once
+
+once_after : (live : ℕ → Bool) (k : ℕ) (ns : List Node) (names : List (List ℕ)) → IsOnce names → IsOnce (names_after live k ns names)
+once_after live k [] names once = once
+once_after live k (n ∷ ns) names once =
+    elim (cases_Bool (live k)) [
+      | inl holds ↦ rw holds (once_after live (k + 1) ns (with_name names n.form) (once_named names n.form once))
+      | inr fails ↦ rw fails (once_after live (k + 1) ns names once)
+    ]
+
+pub names_once : (e : Expression) → IsOnce (input_names e)
+names_once e = once_after (is_live e) 0 e.nodes [] (λ a b la lb same. absurd (omega arith))
 
 -- ---- the layout of a name
 

@@ -13,9 +13,7 @@ use Rattle.cu_op.specs.Value.{Elements, plan_value}
 use Rattle.cu_op.specs.declared.layout.ArrayInfo.{ArrayInfo}
 use Rattle.cu_state.specs.Names.{HasPlanNames}
 use Rattle.cu_form.specs.Expression.{Expression}
-use Rattle.cu_form.specs.declared.args.Arg.{Arg}
 use Rattle.cu_form.specs.declared.expr.Node.{Node}
-use Rattle.cu_node.specs.declared.element_op.ElementOp.{ElementOp}
 use Rattle.cu_form.specs.declared.form.Form.{Form}
 use Rattle.cu_node.specs.declared.info.NodeInfo.{NodeInfo}
 use Rattle.cu_meaning.specs.Argument.{NodeElements, shape_at}
@@ -25,7 +23,7 @@ use Rattle.cu_need.specs.Live.{is_live, IsClosed}
 use Rattle.cu_need.specs.Need.{is_built, need_of}
 use Rattle.cu_lower.specs.Inputs.{input_array, input_names}
 use Rattle.cu_lower.specs.Plan.{lowered, place_in, plan_of}
-use Rattle.cu_lower.specs.Parts.{Grown}
+use Rattle.cu_lower.specs.Parts.{Grown, is_made}
 use Rattle.cu_lower.specs.Premises.{IsLowerable, IsLiveInput, OutputDiffers, AreThere, HaveElements, IsOfNode, IsOutput, run_of}
 use Rattle.cu_lower.specs.declared.options.Options.{Options}
 use Rattle.cu_lower.proofs.Applied.{Told}
@@ -33,6 +31,9 @@ use Rattle.cu_lower.proofs.Fitting as fitting
 use Rattle.cu_lower.proofs.Meanings as meanings
 use Rattle.cu_lower.proofs.Meanings.{HaveRanges}
 use Rattle.cu_lower.proofs.Names.{array_name, used_is_name}
+use Rattle.cu_lower.proofs.InputNames.{names_once}
+use Rattle.cu_lower.proofs.FormKinds.{built_kind}
+use Rattle.cu_lower.proofs.Operations.{HavePulls}
 use Rattle.cu_lower.proofs.Placed as placed
 use Rattle.cu_lower.proofs.Soundness as soundness
 use Rattle.cu_lower.proofs.Soundness.{no_node}
@@ -58,16 +59,13 @@ module _ (e : Expression) (infos : List NodeInfo) (inputs : List InputInfo) (opt
   abbrev given : ℕ
   given = length (input_names e)
 
-  abbrev Stands : ℕ → ElementOp → List Arg → ℕ → Type 0
-  Stands k op args j = placed.Stands e infos inputs options ok k op args j
-
   -- ---- needs
 
   pub of_node : (j : ℕ) → j < length grown.ops → IsOfNode e infos options (operation_at grown.ops j)
   of_node j below =
       let w = soundness.stood e infos inputs options ok lives.closed j below in
       let s = w.stands in
-      let within = fitting.needs_within e infos inputs options ok lives.closed w.k j w.op w.args s in
+      let within = fitting.needs_within e infos inputs options ok lives.closed w.k j w.operator s in
       let same = ap (λ f. need_of options.reserved infos w.k f) s.is in
       subst (IsOfNode e infos options) (sym s.operation) (record {
         node = s.node;
@@ -112,17 +110,30 @@ module _ (e : Expression) (infos : List NodeInfo) (inputs : List InputInfo) (opt
 
   -- ---- arrays
 
-  output_of : (n : Node) (f : Form) → slice_get e.nodes e.out ≡ Some n → n.form ≡ f → is_built infos e.out e.out f ≡ true → IsOutput e infos (array_at grown.arrays (place_in grown e.out))
-  output_of n (Form.Input name) at is built = let same = eq-eqb e.out e.out refl in cc
-  output_of n (Form.Elementwise op args) at is built =
-      let (j, s) = standing.from_node e infos inputs options.reserved ok.form (placed.are_built e infos inputs options ok) e.out n op args at is lives.closed.stored in
+  made_output : (n : Node) (f : Form) → slice_get e.nodes e.out ≡ Some n → n.form ≡ f → is_made f ≡ true → IsOutput e infos (array_at grown.arrays (place_in grown e.out))
+  made_output n f at is made =
+      let (j, s) = standing.from_node e infos inputs options.reserved ok.form (placed.are_built e infos inputs options ok) e.out n f at is made lives.closed.stored in
       let array = ap (array_at grown.arrays) s.place ∙ s.array in
       subst (IsOutput e infos) (sym array) (record {
         name = (let same = eq-eqb e.out e.out refl in rw same refl);
         layout = refl;
         made = λ none. cc;
       })
-  output_of n f at is built = cc
+
+  -- an input that is stored isn't built
+  not_stored : (f : Form) (name : List ℕ) → f ≡ Form.Input name → is_built infos e.out e.out f ≡ true → ⊥
+  not_stored f name is built =
+      let same = eq-eqb e.out e.out refl in
+      let b : is_built infos e.out e.out (Form.Input name) ≡ true = subst (λ (x : Form). is_built infos e.out e.out x ≡ true) is built in
+      let no : is_built infos e.out e.out (Form.Input name) ≡ false = rw same refl in
+      cc
+
+  output_of : (n : Node) (f : Form) → slice_get e.nodes e.out ≡ Some n → n.form ≡ f → is_built infos e.out e.out f ≡ true → IsOutput e infos (array_at grown.arrays (place_in grown e.out))
+  output_of n f at is built =
+      elim (built_kind infos e.out e.out f built) [
+        | inl input ↦ absurd (not_stored f input.0 input.1 built)
+        | inr made ↦ made_output n f at is made
+      ]
 
   pub output : IsOutput e infos (array_at grown.arrays (place_in grown e.out))
   output =
@@ -142,16 +153,34 @@ module _ (e : Expression) (infos : List NodeInfo) (inputs : List InputInfo) (opt
             let no : None ≡ Some o.0 = sym none ∙ some in cc
       ]
 
+  pub once : (a b : ℕ) → a < length grown.arrays → b < length grown.arrays → maker_at grown.arrays a ≡ None → maker_at grown.arrays b ≡ None
+      → (array_at grown.arrays a).prefix ≡ (array_at grown.arrays b).prefix → a ≡ b
+  once a b la lb na nb same =
+      let ga = given_of a la na in
+      let gb = given_of b lb nb in
+      let pa = ap (λ (x : ArrayInfo). x.prefix) (soundness.input_at e infos inputs options ok lives.closed a ga) in
+      let pb = ap (λ (x : ArrayInfo). x.prefix) (soundness.input_at e infos inputs options ok lives.closed b gb) in
+      names_once e a b ga gb (sym pa ∙ same ∙ pb)
+    where
+      given_of : (a : ℕ) → a < length grown.arrays → maker_at grown.arrays a ≡ None → a < given
+      given_of a below none =
+          elim (soundness.by_array e infos inputs options ok lives.closed a below) [
+            | inl l ↦ l
+            | inr o ↦
+                let some = ap (maker_at grown.arrays) o.1 ∙ soundness.made_maker e infos inputs options ok lives.closed o.0 (soundness.stood e infos inputs options ok lives.closed o.0 o.2) in
+                let no : None ≡ Some o.0 = sym none ∙ some in cc
+          ]
+
 -- ---- values
 
 module _ (e : Expression) (infos : List NodeInfo) (inputs : List InputInfo) (options : Options) (env : Elements) (elements : NodeElements)
-    (have : HaveElements e infos inputs options env elements) (lives : LiveLaw e) (ranges : HaveRanges) where
+    (have : HaveElements e infos inputs options env elements) (lives : LiveLaw e) (ranges : HaveRanges) (pulls : HavePulls) where
   carried : (must : Bool) → (must ≡ true → AreThere e infos (lowered e infos inputs options.reserved) env) → (k : ℕ) (idx : List ℕ) → is_live e k ≡ true → IsInside (shape_at infos k) idx
       → Told must (plan_value (plan_of e infos inputs options) env (place_in (lowered e infos inputs options.reserved) k) idx) (meaning_of e infos elements k idx)
   carried must there k idx live inside =
       let out = have.lowerable.form.out in
       let low = lives.below k live in
-      meanings.carries e infos inputs options have.lowerable lives.closed ranges must env elements have.typed have.given there
+      meanings.carries e infos inputs options have.lowerable lives.closed ranges pulls must env elements have.typed have.given there
       k (get_or e.nodes k no_node) (slice_get-get_or e.nodes k no_node (omega (arith, out, low))) live idx inside
 
   pub equal : (k : ℕ) (idx : List ℕ) (x : ℤ) → is_live e k ≡ true → IsInside (shape_at infos k) idx

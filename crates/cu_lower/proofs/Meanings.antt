@@ -1,6 +1,7 @@
 -- The value of a live node's array is the meaning of the node.
 use Rattle.std.proofs.Common.{◌≡◌, ℕ, zero, suc, ◌<◌, ◌+◌, ℤ, pos, Bool, true, List, [], ◌∷◌, Contains, Option, Some, None, length, map, get_or, refl, ap, sym, ◌∙◌, subst, inl, inr, arith, if◌then◌else◌}
-use Rattle.std.specs.Prelude.{slice_get, unwrap_or, option_and_then}
+use Rattle.std.specs.Prelude.{slice_get, slice_index_or, unwrap_or, option_and_then}
+use Rattle.std.specs.List.{list_all}
 use Rattle.std.proofs.lemmas.Bool.{cases_Bool}
 use Rattle.std.proofs.lemmas.Option.{slice_get_within, slice_get-get_or}
 use Rattle.cu_num.specs.Dtype.{InRange}
@@ -13,7 +14,12 @@ use Rattle.cu_op.specs.Kernel.{kernel_value}
 use Rattle.cu_op.specs.Operation.{IsAligned, writes_of}
 use Rattle.cu_op.specs.PlanView.{PlanView, operation_at}
 use Rattle.cu_op.specs.Sound.{Sound}
-use Rattle.cu_op.specs.Value.{Elements, loaded, rule, plan_value, HasTypes, Solves}
+use Rattle.cu_pull.specs.Pull.{origin_of, IsInSources}
+use Rattle.cu_pull.specs.declared.provenance.Provenance.{Provenance}
+use Rattle.cu_pull.specs.declared.provenance.Provenance.TheVariants.{From, Const}
+use Rattle.cu_pull.proofs.OriginsInside.{inside_sources}
+use Rattle.cu_lower_view.specs.Sources.{sources_of, shapes_of, source_shapes}
+use Rattle.cu_op.specs.Value.{Elements, loaded, pulled, rule, plan_value, HasTypes, Solves}
 use Rattle.cu_op.specs.declared.kernel.Instr.{Instr}
 use Rattle.cu_op.specs.declared.operation.Planned.{Planned}
 use Rattle.cu_op.specs.declared.layout.ArrayInfo.{ArrayInfo}
@@ -21,6 +27,7 @@ use Rattle.cu_op.proofs.Plans.{grid_ok}
 use Rattle.cu_op.proofs.ReadElements.{reads_from}
 use Rattle.cu_op.proofs.Values.{value_solves}
 use Rattle.cu_form.specs.Expression.{Expression}
+use Rattle.cu_form.specs.Form.{args_of, is_array}
 use Rattle.cu_form.specs.declared.args.Arg.{Arg}
 use Rattle.cu_form.specs.declared.expr.Node.{Node}
 use Rattle.cu_node.specs.declared.element_op.ElementOp.{ElementOp}
@@ -38,21 +45,27 @@ use Rattle.cu_expr.specs.Typing.{argument_of}
 use Rattle.cu_expr.specs.declared.inputs.InputInfo.{InputInfo}
 use Rattle.cu_need.specs.Live.{is_live, IsClosed}
 use Rattle.cu_need.specs.Need.{is_built}
+use Rattle.cu_need.specs.View.{is_view}
 use Rattle.cu_lower.specs.Inputs.{input_names}
 use Rattle.cu_lower.specs.Plan.{place_in, as_plan}
-use Rattle.cu_lower.specs.Parts.{Grown, array_places}
+use Rattle.cu_lower.specs.Parts.{Grown, array_places, pull_in}
 use Rattle.cu_lower.specs.Premises.{IsLowerable, IsLiveInput, AreOfInputs, AreThere}
 use Rattle.cu_lower.specs.declared.options.Options.{Options}
 use Rattle.cu_lower.proofs.Applied.{Told, Loaded, kernel_told}
 use Rattle.cu_lower.proofs.Arguments.{Each, each_both, IsEarlierNode}
 use Rattle.cu_lower.proofs.Fitting as fitting
+use Rattle.cu_lower.proofs.AxisIndices.{taken_from}
+use Rattle.cu_lower.proofs.FormKinds.{built_kind, made_kind, view_arrays}
+use Rattle.cu_lower.proofs.Operations as operations
+use Rattle.cu_lower.proofs.Operations.{HavePulls}
 use Rattle.cu_lower.proofs.Placed as placed
 use Rattle.cu_lower.proofs.Soundness as soundness
 use Rattle.cu_lower.proofs.Standing as standing
+use Rattle.cu_lower.proofs.ViewRules.{view_takes}
 
 -- the values of a sound plan are numbers of their arrays' types
 abbrev pub HaveRanges : Type 0
-HaveRanges = (p : PlanView) (env : Elements) (a : ℕ) (idx : List ℕ) (x : ℤ) → Sound p → HasTypes p.arrays env → a < length p.arrays → plan_value p env a idx ≡ Some x → InRange (type_at p.arrays a) x
+HaveRanges = (p : PlanView) (env : Elements) (a : ℕ) (idx : List ℕ) (x : ℤ) → Sound p → HasTypes p.arrays env → a < length p.arrays → IsInside (grid_at p.arrays a).shape idx → plan_value p env a idx ≡ Some x → InRange (type_at p.arrays a) x
 
 -- an element, and 0 where there is none
 told_or_zero : (must : Bool) (o : Option ℤ) → (must ≡ true → (x : ℤ) × (o ≡ Some x)) → Told must o (unwrap_or o (pos 0))
@@ -64,21 +77,25 @@ told_or_zero must None there =
     ]
 
 module _ (e : Expression) (infos : List NodeInfo) (inputs : List InputInfo) (options : Options) (ok : IsLowerable e infos inputs options) (closed : IsClosed e (is_live e))
-    (ranges : HaveRanges) (must : Bool) (env : Elements) (elements : NodeElements) where
+    (ranges : HaveRanges) (pulls : HavePulls) (must : Bool) (env : Elements) (elements : NodeElements) where
   abbrev grown : Grown
   grown = placed.grown e infos inputs options ok
 
   abbrev given : ℕ
   given = length (input_names e)
 
-  abbrev Stands : ℕ → ElementOp → List Arg → ℕ → Type 0
-  Stands k op args j = placed.Stands e infos inputs options ok k op args j
+  abbrev Stands : ℕ → Form → ℕ → Type 0
+  Stands k f j = placed.Stands e infos inputs options ok k f j
+
+  -- where an elementwise node stands
+  abbrev Applies : ℕ → ElementOp → List Arg → ℕ → Type 0
+  Applies k op args j = Stands k (Form.Elementwise op args) j
 
   abbrev plan : PlanView
   plan = as_plan e options grown
 
   sound : Sound plan
-  sound = soundness.sound e infos inputs options ok closed
+  sound = soundness.sound e infos inputs options ok closed pulls
 
   abbrev at : Elements
   at = plan_value plan env
@@ -125,7 +142,7 @@ module _ (e : Expression) (infos : List NodeInfo) (inputs : List InputInfo) (opt
   abbrev IsTold : List ℕ → ℕ → Type 0
   IsTold idx n = Told must (read_at idx n) (read idx n) × (read_at idx n ≡ Some (read idx n) → InRange (info_at infos n).dtype (read idx n))
 
-  argument_told : HasTypes grown.arrays env → (k j : ℕ) (op : ElementOp) (args : List Arg) → Stands k op args j → (idx : List ℕ) → IsInside (shape_at infos k) idx
+  argument_told : HasTypes grown.arrays env → (k j : ℕ) (op : ElementOp) (args : List Arg) → Applies k op args j → (idx : List ℕ) → IsInside (shape_at infos k) idx
       → ((n : ℕ) → n < k → is_live e n ≡ true → Carries n) → (n : ℕ) → IsEarlierNode e k n → IsAligned (grid_at grown.arrays (place_in grown n)) (grid_at grown.arrays (given + j)) → IsTold idx n
   argument_told typed k j op args s idx inside earlier n a aligned =
       let p = placed.live_placed e infos inputs options ok n a.node a.at a.live in
@@ -136,7 +153,7 @@ module _ (e : Expression) (infos : List NodeInfo) (inputs : List InputInfo) (opt
       let there : IsInside (shape_at infos n) (back (shape_at infos n) idx) = subst (λ (ds : List ℕ). IsInside ds (back ds idx)) shape from.inside in
       let told = earlier n a.below a.live (back (shape_at infos n) idx) there in (
         subst (λ (ds : List ℕ). Told must (at (place_in grown n) (back ds idx)) (read idx n)) (sym shape) told,
-        λ some. subst (λ (d : Dtype). InRange d (read idx n)) p.dtype (ranges plan env (place_in grown n) (back (grid_at grown.arrays (place_in grown n)).shape idx) (read idx n) sound typed p.within some),
+        λ some. subst (λ (d : Dtype). InRange d (read idx n)) p.dtype (ranges plan env (place_in grown n) (back (grid_at grown.arrays (place_in grown n)).shape idx) (read idx n) sound typed p.within (subst (λ (ds : List ℕ). IsInside ds (back ds idx)) (sym shape) there) some),
       )
 
   all_loaded : (ins : List ℕ) (idx : List ℕ) (k : ℕ) (args : List Arg) → ((i : ℕ) → slice_get ins (k + i) ≡ slice_get (array_places grown.places args) i) → Each (IsTold idx) args
@@ -152,7 +169,7 @@ module _ (e : Expression) (infos : List NodeInfo) (inputs : List InputInfo) (opt
   all_loaded ins idx k (Arg.Int x ∷ args) from each = all_loaded ins idx k args from each
   all_loaded ins idx k (Arg.Truth b ∷ args) from each = all_loaded ins idx k args from each
 
-  value_is : (k j : ℕ) (op : ElementOp) (args : List Arg) → Stands k op args j → (idx : List ℕ) (t : Dtype) → IsElementwise op (map (argument_of infos) args) t (info_at infos k)
+  value_is : (k j : ℕ) (op : ElementOp) (args : List Arg) → Applies k op args j → (idx : List ℕ) (t : Dtype) → IsElementwise op (map (argument_of infos) args) t (info_at infos k)
       → at (place_in grown k) idx ≡ kernel_value (kernel_of op t (map (argument_of infos) args)) (loaded grown.arrays (array_places grown.places args) at idx)
   value_is k j op args s idx t passed =
       let load = loaded grown.arrays (array_places grown.places args) at idx in
@@ -163,12 +180,12 @@ module _ (e : Expression) (infos : List NodeInfo) (inputs : List InputInfo) (opt
       ∙ ap (λ (x : Planned). rule x.op grown.arrays at (given + j) idx) s.operation
       ∙ ap (λ (c : List Instr). kernel_value c load) (fitting.code_is e infos inputs options ok closed k j op args s t passed)
 
-  stood_carries : HasTypes grown.arrays env → (k j : ℕ) (op : ElementOp) (args : List Arg) → Stands k op args j → ((n : ℕ) → n < k → is_live e n ≡ true → Carries n) → Carries k
+  stood_carries : HasTypes grown.arrays env → (k j : ℕ) (op : ElementOp) (args : List Arg) → Applies k op args j → ((n : ℕ) → n < k → is_live e n ≡ true → Carries n) → Carries k
   stood_carries typed k j op args s earlier idx inside =
       let (t, passed) = fitting.types_of_node e infos inputs options ok closed k j op args s in
       let load = loaded grown.arrays (array_places grown.places args) at idx in
       let each : Each (IsTold idx) args = each_both (IsEarlierNode e k) (λ n. IsAligned (grid_at grown.arrays (place_in grown n)) (grid_at grown.arrays (given + j))) (IsTold idx)
-      (argument_told typed k j op args s idx inside earlier) args (fitting.arguments e infos inputs options ok closed k j op args s) (fitting.aligned e infos inputs options ok closed k j op args s) in
+      (argument_told typed k j op args s idx inside earlier) args (fitting.arguments e infos inputs options ok closed k j (Form.Elementwise op args) s) (fitting.aligned e infos inputs options ok closed k j op args s) in
       let all = all_loaded (array_places grown.places args) idx 0 args (λ i. ap (slice_get (array_places grown.places args)) (let z : 0 + i ≡ i = omega arith in z)) each in
       let told = kernel_told must infos meaning idx load op t args passed.accepted all in
       let same : meaning k idx ≡ function_value op (result_type op t) (map (argument_at infos meaning idx) args) =
@@ -176,16 +193,65 @@ module _ (e : Expression) (infos : List NodeInfo) (inputs : List InputInfo) (opt
       subst (λ (x : ℤ). Told must (at (place_in grown k) idx) x) (sym same)
       (subst (λ (o : Option ℤ). Told must o (function_value op (result_type op t) (map (argument_at infos meaning idx) args))) (sym (value_is k j op args s idx t passed)) told)
 
+  -- ---- a view
+
+  -- what a pull takes of the arrays of arguments is what it takes of their nodes
+  taken_told : (k : ℕ) (args : List Arg) (source : ℕ) (idx : List ℕ) → Each (IsEarlierNode e k) args → list_all is_array args ≡ true → ((n : ℕ) → n < k → is_live e n ≡ true → Carries n)
+      → source < length (shapes_of (sources_of infos args)) → IsInside (slice_index_or (shapes_of (sources_of infos args)) source []) idx
+      → Told must (pulled (array_places grown.places args) at (From source idx)) (taken_from meaning args (From source idx))
+  taken_told k [] source idx each arrays earlier below inside = absurd (omega arith)
+  taken_told k (Arg.Node n ∷ args) zero idx each arrays earlier below inside = earlier n each.0.below each.0.live idx inside
+  taken_told k (Arg.Node n ∷ args) (suc source) idx each arrays earlier below inside = taken_told k args source idx each.1 arrays earlier (omega arith) inside
+  taken_told k (Arg.Int x ∷ args) source idx each arrays earlier below inside = cc
+  taken_told k (Arg.Truth b ∷ args) source idx each arrays earlier below inside = cc
+
+  provenance_told : (k : ℕ) (args : List Arg) (from : Provenance) → Each (IsEarlierNode e k) args → list_all is_array args ≡ true → ((n : ℕ) → n < k → is_live e n ≡ true → Carries n)
+      → IsInSources (shapes_of (sources_of infos args)) from → Told must (pulled (array_places grown.places args) at from) (taken_from meaning args from)
+  provenance_told k args (From source idx) each arrays earlier inside = taken_told k args source idx each arrays earlier inside.0 inside.1
+  provenance_told k args (Const x) each arrays earlier inside = inl refl
+
+  view_value : (k j : ℕ) (f : Form) → Stands k f j → is_view f ≡ true → (idx : List ℕ)
+      → at (place_in grown k) idx ≡ pulled (array_places grown.places (args_of f)) at (origin_of (pull_in infos f) (source_shapes infos f) (info_at infos k).dims idx)
+  view_value k j f s viewed idx =
+      let ins = array_places grown.places (args_of f) in
+      let operation = operations.view_operation e infos inputs options ok closed pulls k j f s viewed in
+      let writes : writes_of (operation_at grown.ops j).op ≡ (given + j) ∷ [] = ap (λ (x : Planned). writes_of x.op) operation in
+      let among : Contains (writes_of (operation_at grown.ops j).op) (given + j) = subst (λ (ws : List ℕ). Contains ws (given + j)) (sym writes) (0, omega arith, refl) in
+      ap (λ a. at a idx) s.place
+      ∙ solves.made j (given + j) idx s.within_ops among
+      ∙ ap (λ (x : Planned). rule x.op grown.arrays at (given + j) idx) operation
+      ∙ ap (λ ss. pulled ins at (origin_of (pull_in infos f) ss (grid_at grown.arrays (given + j)).shape idx)) (operations.read_shapes e infos inputs options ok closed pulls k j f s)
+      ∙ ap (λ ds. pulled ins at (origin_of (pull_in infos f) (source_shapes infos f) ds idx)) (operations.result_shape e infos inputs options ok closed pulls k j f s)
+
+  view_carries : (k j : ℕ) (f : Form) → Stands k f j → is_view f ≡ true → ((n : ℕ) → n < k → is_live e n ≡ true → Carries n) → Carries k
+  view_carries k j f s viewed earlier idx inside =
+      let p = pull_in infos f in
+      let own = operations.pull_is e infos inputs options ok closed pulls k j f s viewed in
+      let typed = placed.view e infos inputs options ok k s.node f s.at s.is viewed in
+      let from = origin_of p (source_shapes infos f) (info_at infos k).dims idx in
+      let lies = inside_sources p (source_shapes infos f) (info_at infos k).dims idx own.fits inside in
+      let told = provenance_told k (args_of f) from (fitting.arguments e infos inputs options ok closed k j f s) (view_arrays f viewed typed.args) earlier lies in
+      let same = meaning_is k s.node f idx s.at s.is inside ∙ view_takes infos elements meaning k p idx inside f typed own in
+      subst (λ (x : ℤ). Told must (at (place_in grown k) idx) x) (sym same)
+      (subst (λ (o : Option ℤ). Told must o (taken_from meaning (args_of f) from)) (sym (view_value k j f s viewed idx)) told)
+
   -- ---- each live node
 
   module _ (typed : HasTypes grown.arrays env) (of_inputs : AreOfInputs e infos grown env elements) (there : must ≡ true → AreThere e infos grown env) where
+    made_carries : (k j : ℕ) (f : Form) → Stands k f j → ((m : ℕ) → m < k → is_live e m ≡ true → Carries m) → Carries k
+    made_carries k j f s earlier =
+        elim (made_kind f s.made) [
+          | inl m ↦ stood_carries typed k j m.0 m.1 (subst (λ (x : Form). Stands k x j) m.2 s) earlier
+          | inr viewed ↦ view_carries k j f s viewed earlier
+        ]
+
     form_carries : (k : ℕ) (n : Node) (f : Form) → slice_get e.nodes k ≡ Some n → n.form ≡ f → is_live e k ≡ true → is_built infos e.out k f ≡ true
         → ((m : ℕ) → m < k → is_live e m ≡ true → Carries m) → Carries k
-    form_carries k n (Form.Input name) node is live built earlier = input_carries of_inputs there k n name node is live
-    form_carries k n (Form.Elementwise op args) node is live built earlier =
-        let s = standing.from_node e infos inputs options.reserved ok.form (placed.are_built e infos inputs options ok) k n op args node is live in
-        stood_carries typed k s.0 op args s.1 earlier
-    form_carries k n f node is live built earlier = cc
+    form_carries k n f node is live built earlier =
+        elim (built_kind infos e.out k f built) [
+          | inl input ↦ input_carries of_inputs there k n input.0 node (is ∙ input.1) live
+          | inr made ↦ let s = standing.from_node e infos inputs options.reserved ok.form (placed.are_built e infos inputs options ok) k n f node is made live in made_carries k s.0 f s.1 earlier
+        ]
 
     carries_below : (most k : ℕ) (n : Node) → k < most → slice_get e.nodes k ≡ Some n → is_live e k ≡ true → Carries k
     carries_below zero k n below node live = absurd (omega arith)

@@ -1,12 +1,13 @@
 -- What each node's part takes for granted, where the expression can be lowered.
-use Rattle.std.proofs.Common.{◌≡◌, ℕ, ◌≤◌, ◌+◌, ◌^◌, Bool, true, List, [], ◌∷◌, All, Some, Ok, length, get_or, refl, subst, arith}
+use Rattle.std.proofs.Common.{◌≡◌, ℕ, ◌≤◌, ◌+◌, ◌^◌, Bool, true, List, [], ◌∷◌, All, Some, Ok, length, get_or, inl, inr, refl, subst, arith}
 use Rattle.std.specs.Prelude.{slice_get, IsOk}
 use Rattle.std.specs.List.{list_all}
+use Rattle.std.proofs.lemmas.Bool.{cases_Bool}
 use Rattle.std.proofs.lemmas.List.Elements.{All-head, All-tail}
 use Rattle.std.proofs.lemmas.Option.{slice_get-get_or}
 use Rattle.cu_name.specs.Name.{is_name}
 use Rattle.cu_form.specs.Expression.{Expression}
-use Rattle.cu_form.specs.Form.{takes_args, names_earlier}
+use Rattle.cu_form.specs.Form.{takes_args, names_earlier, HasShortIndex}
 use Rattle.cu_form.specs.declared.expr.Node.{Node}
 use Rattle.cu_form.specs.declared.form.Form.{Form}
 use Rattle.cu_node.specs.Limited.{is_chunk_within}
@@ -19,11 +20,13 @@ use Rattle.cu_need.specs.Chunks.{arrays_in}
 use Rattle.cu_need.specs.Elementwise.{function_need}
 use Rattle.cu_need.specs.Live.{is_live, IsClosed}
 use Rattle.cu_need.specs.Need.{need_of}
+use Rattle.cu_need.specs.View.{is_view}
 use Rattle.cu_lower.specs.Inputs.{input_names}
 use Rattle.cu_lower.specs.Parts.{CanGrow}
 use Rattle.cu_lower.specs.Premises.{IsLowerable}
 use Rattle.cu_lower.specs.declared.options.Options.{Options}
 use Rattle.cu_lower.proofs.Arguments.{arrays_told}
+use Rattle.cu_lower.proofs.FormKinds.{view_needs, other_needs}
 use Rattle.cu_lower.proofs.Names.{input_used, used_is_name}
 use Rattle.cu_lower.proofs.Placed as placed
 use Rattle.cu_lower.proofs.Soundness.{no_node}
@@ -50,7 +53,13 @@ module _ (e : Expression) (infos : List NodeInfo) (inputs : List InputInfo) (opt
         typed = some_ok _ t.0 t.1.shared;
         within = all_tested (λ i. is_chunk_within i.dtype (aligned_chunk (info_at infos k).dims (info_at infos k).chunk i)) (arrays_in infos args) (subst (λ (is : List NodeInfo). All P is) (arrays_told infos args) t.1.within);
       }
-  form_ready k n f at is = tt
+  form_ready k n f at is =
+      let own = (ok.form.nodes k n at).form in
+      record {
+        takes = subst (λ (g : Form). takes_args g ≡ true) is own.args;
+        earlier = subst (λ (g : Form). names_earlier k g ≡ true) is own.earlier;
+        short = subst HasShortIndex is (ok.form.indices k n at);
+      }
 
   pub node_ready : (k : ℕ) (n : Node) → slice_get e.nodes k ≡ Some n → CanGrow infos k n.form
   node_ready k n at = form_ready k n n.form at refl
@@ -65,7 +74,11 @@ module _ (e : Expression) (infos : List NodeInfo) (inputs : List InputInfo) (opt
       let own : options.reserved ≤ f = omega arith in
       let most : f ≤ need_of options.reserved infos k (Form.Elementwise op args) = omega arith in
       omega (arith, own, most)
-  form_need k f = omega arith
+  form_need k f =
+      elim (cases_Bool (is_view f)) [
+        | inl viewed ↦ let e = view_needs options.reserved infos k f viewed in omega (arith, e)
+        | inr other ↦ let e = other_needs options.reserved infos k f other in omega (arith, e)
+      ]
 
   pub reserved_few : IsClosed e (is_live e) → options.reserved ≤ 2 ^ 40
   reserved_few closed =

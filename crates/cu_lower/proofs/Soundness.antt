@@ -27,10 +27,9 @@ use Rattle.cu_op.specs.declared.layout.ArrayInfo.{ArrayInfo}
 use Rattle.cu_op.specs.declared.operation.Planned.{Planned}
 use Rattle.cu_op.proofs.KeyTexts.{keys_differ}
 use Rattle.cu_form.specs.Expression.{Expression}
-use Rattle.cu_form.specs.declared.args.Arg.{Arg}
+use Rattle.cu_form.specs.Form.{args_of}
 use Rattle.cu_form.specs.declared.expr.Node.{Node}
 use Rattle.cu_form.specs.declared.form.Form.{Form}
-use Rattle.cu_node.specs.declared.element_op.ElementOp.{ElementOp}
 use Rattle.cu_node.specs.Info.{IsInfo, info_at}
 use Rattle.cu_node.specs.declared.info.NodeInfo.{NodeInfo}
 use Rattle.cu_expr.specs.Kernel.{result_grid}
@@ -40,12 +39,15 @@ use Rattle.cu_need.specs.Counts.{plan_counts}
 use Rattle.cu_need.specs.Live.{is_live, IsClosed}
 use Rattle.cu_lower.specs.Inputs.{input_array, input_names, layout_named}
 use Rattle.cu_lower.specs.Plan.{first_grown, place_in, as_plan}
-use Rattle.cu_lower.specs.Parts.{Grown}
+use Rattle.cu_lower.specs.Parts.{Grown, array_places}
 use Rattle.cu_lower.specs.Premises.{IsLowerable}
 use Rattle.cu_lower.specs.declared.options.Options.{Options}
 use Rattle.cu_lower.proofs.Counted.{node_chunks, tasks_grown, cells_grown, no_cells, same_sums, kept_limits}
 use Rattle.cu_lower.proofs.Fitting as fitting
 use Rattle.cu_lower.proofs.Names.{IsUsed, input_used, inputs_few, used_is_name, array_name, prefix_told, prefix_other}
+use Rattle.cu_lower.proofs.FormKinds.{op_writes, op_tasks}
+use Rattle.cu_lower.proofs.Operations as operations
+use Rattle.cu_lower.proofs.Operations.{HavePulls}
 use Rattle.cu_lower.proofs.Placed as placed
 use Rattle.cu_lower.proofs.Standing as standing
 use Rattle.std.proofs.lemmas.Option.{slice_get-get_or}
@@ -114,9 +116,6 @@ module _ (e : Expression) (infos : List NodeInfo) (inputs : List InputInfo) (opt
   abbrev given : ℕ
   given = length (input_names e)
 
-  abbrev Stands : ℕ → ElementOp → List Arg → ℕ → Type 0
-  Stands k op args j = placed.Stands e infos inputs options ok k op args j
-
   abbrev Stood : ℕ → Type 0
   Stood j = standing.Stood e infos inputs options.reserved ok.form (placed.are_built e infos inputs options ok) j
 
@@ -130,7 +129,7 @@ module _ (e : Expression) (infos : List NodeInfo) (inputs : List InputInfo) (opt
   input_at = standing.input_at e infos inputs options.reserved ok.form (placed.are_built e infos inputs options ok)
 
   pub made_maker : (j : ℕ) (s : Stood j) → maker_at grown.arrays (given + j) ≡ Some j
-  made_maker j s = fitting.made_maker e infos inputs options ok closed s.k j s.op s.args s.stands
+  made_maker j s = fitting.made_maker e infos inputs options ok closed s.k j s.operator s.stands
 
   -- ---- how many
 
@@ -261,6 +260,7 @@ module _ (e : Expression) (infos : List NodeInfo) (inputs : List InputInfo) (opt
   tasks_at j below =
       let s = stood j below in
       ap (λ (o : Planned). tasks_of grown.arrays o.op) s.stands.operation
+      ∙ op_tasks grown.arrays infos s.operator (array_places grown.places (args_of s.operator)) (given + j)
       ∙ ap chunk_count s.stands.array
       ∙ ap (node_chunks infos) (sym s.stands.operation)
 
@@ -286,7 +286,7 @@ module _ (e : Expression) (infos : List NodeInfo) (inputs : List InputInfo) (opt
             let s = stood o.0 o.2 in
             let own : Some o.0 ≡ Some k = sym (made_maker o.0 s) ∙ ap (maker_at grown.arrays) (sym o.1) ∙ made in
             let same : o.0 ≡ k = cc own in
-            let writes : writes_of (operation_at grown.ops o.0).op ≡ (given + o.0) ∷ [] = ap (λ (x : Planned). writes_of x.op) s.stands.operation in
+            let writes : writes_of (operation_at grown.ops o.0).op ≡ (given + o.0) ∷ [] = ap (λ (x : Planned). writes_of x.op) s.stands.operation ∙ op_writes infos s.operator (array_places grown.places (args_of s.operator)) (given + o.0) in
             subst (λ (j : ℕ). (j < length grown.ops) × Contains (writes_of (operation_at grown.ops j).op) a) same
             (o.2, subst (λ (ws : List ℕ). Contains ws a) (sym writes) (0, omega arith, sym o.1))
       ]
@@ -300,13 +300,13 @@ module _ (e : Expression) (infos : List NodeInfo) (inputs : List InputInfo) (opt
       let n = get_or e.nodes e.out no_node in
       (placed.live_placed e infos inputs options ok e.out n (slice_get-get_or e.nodes e.out no_node within) out_live).within
 
-  pub sound : Sound (as_plan e options grown)
-  sound =
+  pub sound : HavePulls → Sound (as_plan e options grown)
+  sound pulls =
       let n = counted in
       let few = ops_few in
       let inputs_few = given_few in
       record {
-        operations = λ k below. let s = stood k below in fitting.operation_fits e infos inputs options ok closed s.k k s.op s.args s.stands;
+        operations = λ k below. let s = stood k below in operations.operation_fits e infos inputs options ok closed pulls s.k k s.operator s.stands;
         makers = makers;
         arrays = arrays_ok;
         keys = keys_differ grown.arrays arrays_ok own_names;

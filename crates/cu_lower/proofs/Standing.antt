@@ -1,5 +1,5 @@
 -- Where the parts of the live nodes stand in the plan of an expression.
-use Rattle.std.proofs.Common.{◌≡◌, ℕ, ◌<◌, ◌≤◌, ◌+◌, ◌-◌, true, List, [], ◌∷◌, ◌++◌, Some, length, map, get_or, slice_index, refl, ap, sym, ◌∙◌, subst, inl, inr, ◌⊎◌, arith}
+use Rattle.std.proofs.Common.{◌≡◌, ℕ, ◌<◌, ◌≤◌, ◌+◌, ◌-◌, true, List, [], ◌∷◌, ◌++◌, Some, length, get_or, slice_index, refl, ap, sym, ◌∙◌, subst, inl, inr, ◌⊎◌, arith}
 use Rattle.std.specs.Prelude.{slice_get, nat_lt}
 use Rattle.std.specs.List.{list_all}
 use Rattle.std.proofs.lemmas.Bool.{cases_Bool, cases_lt, and_parts, ltb-true}
@@ -11,22 +11,19 @@ use Rattle.cu_form.specs.Expression.{Expression, IsExpression}
 use Rattle.cu_form.specs.Form.{args_of, is_earlier}
 use Rattle.cu_form.specs.declared.args.Arg.{Arg}
 use Rattle.cu_form.specs.declared.expr.Node.{Node}
-use Rattle.cu_node.specs.declared.element_op.ElementOp.{ElementOp}
 use Rattle.cu_form.specs.declared.form.Form.{Form}
 use Rattle.cu_node.specs.Info.{info_at}
 use Rattle.cu_node.specs.declared.info.NodeInfo.{NodeInfo}
 use Rattle.cu_expr.specs.declared.inputs.InputInfo.{InputInfo}
 use Rattle.cu_need.specs.Live.{is_live}
-use Rattle.cu_need.specs.Need.{is_built, need_of}
+use Rattle.cu_need.specs.Need.{need_of}
 use Rattle.cu_lower.specs.Inputs.{input_array, input_names, input_arrays, input_place}
 use Rattle.cu_lower.specs.Plan.{first_grown, lowered, place_in}
-use Rattle.cu_expr.specs.Typing.{argument_of}
-use Rattle.cu_op.specs.declared.operation.Op.{Op}
-use Rattle.cu_op.specs.declared.operation.Op.TheVariants.{Map}
-use Rattle.cu_lower.specs.Parts.{Grown, IsGrown, part_of, with_part, made_array, array_places, steps_of, map_of}
+use Rattle.cu_lower.specs.Parts.{Grown, IsGrown, Part, is_made, made_op, made_part, part_of, with_part, made_array, array_places}
 use Rattle.cu_lower.proofs.Growing as growing
 use Rattle.cu_lower.proofs.Growing.{Front}
 use Rattle.cu_lower.proofs.InputNames.{input_placed}
+use Rattle.cu_lower.proofs.FormKinds.{part_made, part_other}
 
 -- the element behind a front
 seam : {A : Type 0} (xs rest fs : List A) (y d : A) (k : ℕ) → fs ≡ (xs ++ y ∷ []) ++ rest → k ≡ length xs → get_or fs k d ≡ y
@@ -71,23 +68,24 @@ module _ (e : Expression) (infos : List NodeInfo) (inputs : List InputInfo) (res
       ∙ get_or_append_left (input_arrays e inputs) f.arrays.0 no_array a (omega (arith, l))
       ∙ get_or-map (input_array inputs) (input_names e) a [] no_array below
 
-  -- ---- an elementwise node
+  -- ---- a node whose array an operation makes
 
-  -- the operation of node k, where nodes have these arrays
-  abbrev pub planned : List ℕ → ElementOp → List Arg → ℕ → ℕ → Planned
-  planned places op args out k = record { op = map_of infos places op args out; node = k; projected = need_of reserved infos k (Form.Elementwise op args) }
+  -- the operation of node k, of the arrays of its arguments
+  abbrev pub planned : List ℕ → Form → ℕ → ℕ → Planned
+  planned ins f out k = record { op = made_op infos f ins out; node = k; projected = need_of reserved infos k f }
 
   -- its operation by its number, and its array behind the inputs' by the same
-  pub record Standing (k : ℕ) (op : ElementOp) (args : List Arg) (j : ℕ) : Type 0 where
+  pub record Standing (k : ℕ) (f : Form) (j : ℕ) : Type 0 where
     pub node : Node
     pub at : slice_get e.nodes k ≡ Some node
-    pub is : node.form ≡ Form.Elementwise op args
+    pub is : node.form ≡ f
+    pub made : is_made f ≡ true
     pub live : is_live e k ≡ true
     pub within_ops : j < length whole.ops
     pub within_arrays : given + j < length whole.arrays
     pub place : place_in whole k ≡ given + j
     pub array : array_at whole.arrays (given + j) ≡ made_array e (info_at infos k) k j j
-    pub operation : operation_at whole.ops j ≡ planned whole.places op args (given + j) k
+    pub operation : operation_at whole.ops j ≡ planned (array_places whole.places (args_of f)) f (given + j) k
     pub earlier : (n : ℕ) → n < k → is_live e n ≡ true → place_in whole n < given + j
 
   -- the places of earlier nodes stay
@@ -104,41 +102,36 @@ module _ (e : Expression) (infos : List NodeInfo) (inputs : List InputInfo) (res
   same_array : (k l others i : ℕ) (j : ℕ) → l ≡ k → others ≡ j → made_array e (info_at infos l) l others j ≡ made_array e (info_at infos k) k j j
   same_array k l others i j p q = ap (λ x. made_array e (info_at infos x) x others j) p ∙ ap (λ x. made_array e (info_at infos k) k x j) q
 
-  abbrev kept : ℕ → ElementOp → List Arg → Op → Planned
-  kept k op args o = record { op = o; node = k; projected = need_of reserved infos k (Form.Elementwise op args) }
+  same_operation : (ins others : List ℕ) (f : Form) (a b k l : ℕ) → ins ≡ others → a ≡ b → l ≡ k → planned ins f a l ≡ planned others f b k
+  same_operation ins others f a b k l p q r = ap (λ x. planned ins f a x) r ∙ ap (λ x. planned ins f x k) q ∙ ap (λ xs. planned xs f b k) p
 
-  same_operation : (places others : List ℕ) (op : ElementOp) (args : List Arg) (a b k l : ℕ) → array_places places args ≡ array_places others args → a ≡ b → l ≡ k
-      → planned places op args a l ≡ planned others op args b k
-  same_operation places others op args a b k l p q r =
-      ap (planned places op args a) r
-      ∙ ap (λ x. planned places op args x k) q
-      ∙ ap (λ xs. kept k op args (Map (record { code = record { items = steps_of op (map (argument_of infos) args) } }) (record { items = xs }) b)) p
-
-  stands : (h : Grown) (k : ℕ) (n : Node) (op : ElementOp) (args : List Arg) → slice_get e.nodes k ≡ Some n → n.form ≡ Form.Elementwise op args → is_live e k ≡ true
-      → length h.places ≡ k → IsGrown e h → Front (with_part h (part_of e infos reserved h (Form.Elementwise op args))) whole → Standing k op args (length h.ops)
-  stands h k n op args at is live number grown f =
+  stands : (h : Grown) (k : ℕ) (n : Node) (g : Form) → slice_get e.nodes k ≡ Some n → n.form ≡ g → is_made g ≡ true → is_live e k ≡ true
+      → length h.places ≡ k → IsGrown e h → Front (with_part h (made_part e infos reserved h g)) whole → Standing k g (length h.ops)
+  stands h k n g at is made live number grown f =
       let c = grown.counted in
       let behind : length h.arrays ≡ given + length h.ops = c in
       let others : length h.arrays - given ≡ length h.ops = omega (arith, c) in
-      let p = part_of e infos reserved h (Form.Elementwise op args) in
+      let p = made_part e infos reserved h g in
       let lo = length-append h.ops p.ops in
       let la = length-append h.arrays p.arrays in
       let wo = within_front (h.ops ++ p.ops) f.ops.0 whole.ops f.ops.1 in
       let wa = within_front (h.arrays ++ p.arrays) f.arrays.0 whole.arrays f.arrays.1 in
       let before : Front h whole = growing.front_then h (with_part h p) whole (record { arrays = (p.arrays, refl); ops = (p.ops, refl); places = (p.place ∷ [], refl) }) f in
-      let named : list_all (is_earlier (length h.places)) args ≡ true = subst (λ (i : ℕ). list_all (is_earlier i) args ≡ true) (sym number) (subst (λ (g : Form). list_all (is_earlier k) (args_of g) ≡ true) is (form.nodes k n at).form.earlier) in
+      let args = args_of g in
+      let named : list_all (is_earlier (length h.places)) args ≡ true = subst (λ (i : ℕ). list_all (is_earlier i) (args_of g) ≡ true) (sym number) (subst (λ (x : Form). list_all (is_earlier k) (args_of x) ≡ true) is (form.nodes k n at).form.earlier) in
       record {
         node = n;
         at = at;
         is = is;
+        made = made;
         live = live;
         within_ops = omega (arith, lo, wo);
         within_arrays = omega (arith, la, wa, c);
         place = seam h.places f.places.0 whole.places (length h.arrays) 0 k f.places.1 (sym number) ∙ behind;
         array = seam h.arrays f.arrays.0 whole.arrays (made_array e (info_at infos (length h.places)) (length h.places) (length h.arrays - given) (length h.ops)) no_array (given + length h.ops) f.arrays.1 (sym behind)
             ∙ same_array k (length h.places) (length h.arrays - given) 0 (length h.ops) number others;
-        operation = seam h.ops f.ops.0 whole.ops (planned h.places op args (length h.arrays) (length h.places)) no_operation (length h.ops) f.ops.1 refl
-            ∙ same_operation h.places whole.places op args (length h.arrays) (given + length h.ops) k (length h.places) (same_places h args before named) behind number;
+        operation = seam h.ops f.ops.0 whole.ops (planned (array_places h.places args) g (length h.arrays) (length h.places)) no_operation (length h.ops) f.ops.1 refl
+            ∙ same_operation (array_places h.places args) (array_places whole.places args) g (length h.arrays) (given + length h.ops) k (length h.places) (same_places h args before named) behind number;
         earlier = λ m below is_live_m.
             let w = grown.placed m (omega (arith, number)) is_live_m in
             let same = ap (λ l. get_or l m 0) before.places.1 ∙ get_or_append_left h.places before.places.0 0 m (omega (arith, number)) in
@@ -149,19 +142,26 @@ module _ (e : Expression) (infos : List NodeInfo) (inputs : List InputInfo) (res
 
   pub record Stood (j : ℕ) : Type 0 where
     pub k : ℕ
-    pub op : ElementOp
-    pub args : List Arg
-    pub stands : Standing k op args j
+    pub operator : Form
+    pub stands : Standing k operator j
 
-  -- only an elementwise part has an operation
-  from_part : (h : Grown) (k j : ℕ) (n : Node) (g : Form) → slice_get e.nodes k ≡ Some n → n.form ≡ g → is_live e k ≡ true → is_built infos e.out k g ≡ true
+  -- only the part of a node that an operation makes has an operation
+  from_part : (h : Grown) (k j : ℕ) (n : Node) (g : Form) → slice_get e.nodes k ≡ Some n → n.form ≡ g → is_live e k ≡ true
       → length h.places ≡ k → IsGrown e h → Front (with_part h (part_of e infos reserved h g)) whole → length h.ops ≤ j → j < length (with_part h (part_of e infos reserved h g)).ops → Stood j
-  from_part h k j n (Form.Input name) at is live b number grown f least below = let l = length-append {A = Planned} h.ops [] in absurd (omega (arith, l))
-  from_part h k j n (Form.Elementwise op args) at is live b number grown f least below =
-      let l = length-append h.ops (part_of e infos reserved h (Form.Elementwise op args)).ops in
-      let here : length h.ops ≡ j = omega (arith, l) in
-      record { k = k; op = op; args = args; stands = subst (Standing k op args) here (stands h k n op args at is live number grown f) }
-  from_part h k j n g at is live b number grown f least below = cc
+  from_part h k j n g at is live number grown f least below =
+      elim (cases_Bool (is_made g)) [
+        | inl made ↦
+            let same = part_made e infos reserved h g made in
+            let front = subst (λ (p : Part). Front (with_part h p) whole) same f in
+            let under = subst (λ (p : Part). j < length (with_part h p).ops) same below in
+            let l = length-append h.ops (made_part e infos reserved h g).ops in
+            let here : length h.ops ≡ j = omega (arith, l, under, least) in
+            record { k = k; operator = g; stands = subst (Standing k g) here (stands h k n g at is made live number grown front) }
+        | inr other ↦
+            let none = ap length (part_other e infos reserved h g other).1 in
+            let l = length-append h.ops (part_of e infos reserved h g).ops in
+            absurd (omega (arith, none, l, least, below))
+      ]
 
   pub from_operation : (j : ℕ) → j < length whole.ops → Stood j
   from_operation j below =
@@ -172,7 +172,7 @@ module _ (e : Expression) (infos : List NodeInfo) (inputs : List InputInfo) (res
         | inl alive ↦
             let live = subst (λ (i : ℕ). is_live e i ≡ true) r.number alive in
             let same = growing.live_step e infos reserved h o.node.form alive in
-            from_part h o.k j o.node o.node.form r.node refl live (built o.k o.node r.node live) r.number r.known
+            from_part h o.k j o.node o.node.form r.node refl live r.number r.known
             (subst (λ (g : Grown). Front g whole) same r.front) o.least (subst (λ (g : Grown). j < length g.ops) same o.below)
         | inr dead ↦
             let b = subst (λ (g : Grown). j < length g.ops) (growing.dead_step e infos reserved h o.node.form dead) o.below in
@@ -181,15 +181,15 @@ module _ (e : Expression) (infos : List NodeInfo) (inputs : List InputInfo) (res
             absurd (omega (arith, b, l, w))
       ]
 
-  pub from_node : (k : ℕ) (n : Node) (op : ElementOp) (args : List Arg) → slice_get e.nodes k ≡ Some n → n.form ≡ Form.Elementwise op args → is_live e k ≡ true
-      → (j : ℕ) × Standing k op args j
-  from_node k n op args at is live =
+  pub from_node : (k : ℕ) (n : Node) (g : Form) → slice_get e.nodes k ≡ Some n → n.form ≡ g → is_made g ≡ true → is_live e k ≡ true → (j : ℕ) × Standing k g j
+  from_node k n g at is made live =
       let r = growing.reached e infos reserved built (first_grown e inputs) e.nodes from_first at_first k k n (omega arith) at in
       let h = r.0 in
       let s = r.1 in
       let alive : is_live e (length h.places) ≡ true = subst (λ (i : ℕ). is_live e i ≡ true) (sym s.number) live in
-      let f = subst (λ (g : Grown). Front g whole) (growing.live_step e infos reserved h n.form alive) s.front in
-      (length h.ops, stands h k n op args at is live s.number s.known (subst (λ (g : Form). Front (with_part h (part_of e infos reserved h g)) whole) is f))
+      let f = subst (λ (x : Grown). Front x whole) (growing.live_step e infos reserved h n.form alive) s.front in
+      let own = subst (λ (x : Form). Front (with_part h (part_of e infos reserved h x)) whole) is f in
+      (length h.ops, stands h k n g at is made live s.number s.known (subst (λ (p : Part). Front (with_part h p) whole) (part_made e infos reserved h g made) own))
 
   -- an input node's array
   pub from_input : (k : ℕ) (n : Node) (name : List ℕ) → slice_get e.nodes k ≡ Some n → n.form ≡ Form.Input name → is_live e k ≡ true

@@ -27,7 +27,7 @@ use Rattle.cu_lower.specs.Plan.{lowered, place_in, plan_of}
 use Rattle.cu_lower.specs.Parts.{Grown, made_layout}
 use Rattle.cu_lower.specs.declared.options.Options.{Options}
 
--- an accepted expression, each live node of which is one that the operations of today make, with no more memory than is allowed; and
+-- an accepted expression, each live node of which is one that is built, with no more memory than is allowed; and
 -- the plan keeps its limits
 pub record IsLowerable (e : Expression) (infos : List NodeInfo) (inputs : List InputInfo) (options : Options) : Type 0 where
   pub form : IsExpression e

@@ -19,6 +19,7 @@ ghost use Rattle.cu_lower.specs.Plan.{lowered, place_in, plan_of};
 ghost use Rattle.cu_lower.specs.Premises.{IsLowerable, IsLiveInput, OutputDiffers, AreThere, HaveElements, HasCounts, IsOfNode, IsOutput, run_of};
 ghost use Rattle.cu_lower.specs.declared.options.Options.{Options};
 
+use cu_lower_view::pull_law;
 use cu_need::live_law;
 use cu_op::range_law;
 
@@ -35,10 +36,11 @@ pub fn plan_law()
         → OutputDiffers e → HasPlanNames (run_of e (plan_of e infos inputs options) recorded metadata) e.store_as recorded metadata }
 {
     live_law();
+    pull_law();
 }
 
 /// The array of the stored node is the output's, that of a live input node is the input with the node's name, and each array that no
-/// operation makes is one of these.
+/// operation makes is one of these. None of them stands twice.
 pub fn array_law()
     ensures output { (e : Expression) (infos : List NodeInfo) (inputs : List InputInfo) (options : Options) → IsLowerable e infos inputs options
         → IsOutput e infos (array_at (plan_of e infos inputs options).arrays (plan_of e infos inputs options).out) }
@@ -47,6 +49,10 @@ pub fn array_law()
     ensures only { (e : Expression) (infos : List NodeInfo) (inputs : List InputInfo) (options : Options) (a : ℕ) → IsLowerable e infos inputs options
         → a < length (plan_of e infos inputs options).arrays → maker_at (plan_of e infos inputs options).arrays a ≡ None
         → (k : ℕ) × (name : List ℕ) × IsLiveInput e k name × (array_at (plan_of e infos inputs options).arrays a ≡ input_array inputs name) }
+    ensures once { (e : Expression) (infos : List NodeInfo) (inputs : List InputInfo) (options : Options) (a b : ℕ) → IsLowerable e infos inputs options
+        → a < length (plan_of e infos inputs options).arrays → b < length (plan_of e infos inputs options).arrays
+        → maker_at (plan_of e infos inputs options).arrays a ≡ None → maker_at (plan_of e infos inputs options).arrays b ≡ None
+        → (array_at (plan_of e infos inputs options).arrays a).prefix ≡ (array_at (plan_of e infos inputs options).arrays b).prefix → a ≡ b }
 {
     live_law();
 }
@@ -65,5 +71,6 @@ pub fn value_law()
         → plan_value (plan_of e infos inputs options) env (plan_of e infos inputs options).out idx ≡ Some (meaning_of e infos elements e.out idx) }
 {
     live_law();
+    pull_law();
     range_law();
 }

@@ -1,22 +1,23 @@
-//! What an elementwise node adds to a plan.
+//! What a node whose array an operation makes adds to a plan.
 
 ghost use Rattle.std.specs.Prelude.{◌≡◌, ◌<◌, ◌≤◌, ◌^◌, ℕ, List, [], ◌∷◌, IsOk, map, true, length};
 ghost use Rattle.std.specs.List.{list_all};
-ghost use Rattle.cu_form.specs.Form.{is_earlier, element_takes};
+ghost use Rattle.cu_form.specs.Form.{args_of, is_earlier, names_earlier, element_takes, HasShortIndex};
 ghost use Rattle.cu_node.specs.Info.{IsInfo, info_at};
 ghost use Rattle.cu_node.specs.declared.info.NodeInfo.{NodeInfo as Known};
 ghost use Rattle.cu_expr.specs.Kernel.{loads_from, function_of};
 ghost use Rattle.cu_typing.specs.Types.{array_type, pair_type, shared_type};
 ghost use Rattle.cu_expr.specs.Typing.{argument_of};
-ghost use Rattle.cu_lower.specs.Parts.{type_or_bool, steps_of, made_layout, made_array, array_places, map_of};
+ghost use Rattle.cu_lower.specs.Parts.{type_or_bool, steps_of, made_layout, made_array, array_places, map_of, view_op};
 
 use arrayvec::ArrayVec;
-use cu_form::{Arg, ElementOp, Expr};
+use cu_form::{Arg, ElementOp, Expr, Form};
 use cu_grid::Grid;
+use cu_lower_view::pull_of;
 use cu_name::{key_of_name, made_prefix};
 use cu_node::{NodeInfo, info_at};
 use cu_num::{Dtype, Encoding, Endian, Fn1, Sep, promote};
-use cu_op::{ArrayInfo, Instr, Kernel, Layout, Op};
+use cu_op::{ArrayInfo, Instr, Kernel, Layout, Op, Pull};
 
 /// The type of an argument that is an array.
 fn array_type(infos: &[NodeInfo], x: &Arg) -> Dtype
@@ -99,7 +100,7 @@ fn loads(args: &[Arg]) -> ArrayVec<Instr, 32>
 
 /// The arrays of the arguments that are arrays, in order, where nodes have these arrays.
 fn array_places(places: &[u32], args: &[Arg]) -> ArrayVec<u32, 8>
-    requires few { length args.now ≤ 3 }
+    requires few { length args.now ≤ 8 }
     requires earlier { list_all (is_earlier (length places.now)) args.now ≡ true }
     ensures { result.items ≡ array_places places.now args.now }
 {
@@ -123,13 +124,27 @@ pub(crate) fn map_of(
     requires takes { element_takes op args.now ≡ true }
     requires earlier { list_all (is_earlier (length places.now)) args.now ≡ true }
     requires typed { IsOk (shared_type op (map (argument_of infos.now) args.now)) }
-    ensures { result ≡ map_of infos.now places.now op args.now out }
+    ensures { result ≡ map_of infos.now op args.now (array_places places.now args.now) out }
 {
     let mut code = loads(args);
     code.push(function_of(op, shared_type(op, infos, args)));
     Op::Map {
         kernel: Kernel { code },
         ins: array_places(places, args),
+        out,
+    }
+}
+
+/// The operation that makes array `out` of a view, where nodes have these arrays.
+pub(crate) fn view_op(infos: &[NodeInfo], places: &[u32], form: &Form, out: u32) -> Op
+    requires few { length (args_of form.now) ≤ 8 }
+    requires earlier { names_earlier (length places.now) form.now ≡ true }
+    requires short { HasShortIndex form.now }
+    ensures { result ≡ view_op infos.now form.now (array_places places.now (args_of form.now)) out }
+{
+    Op::Pull {
+        pull: pull_of(infos, form).unwrap_or(Pull::Reshape),
+        ins: array_places(places, form.args()),
         out,
     }
 }

@@ -1,26 +1,27 @@
 //! The plan of an expression, node by node.
 
-ghost use Rattle.std.specs.Prelude.{◌≡◌, ◌≤◌, ◌<◌, ◌-◌, ◌^◌, [], ◌∷◌, true, All, IfOk, OnOk, bytes_eq, length, slice_index};
+ghost use Rattle.std.specs.Prelude.{◌≡◌, ◌≤◌, ◌<◌, ◌^◌, [], ◌∷◌, true, All, IfOk, OnOk, bytes_eq, length, slice_index};
 ghost use Rattle.std.specs.List.{position_or_len};
+ghost use Rattle.cu_form.specs.Form.{args_of};
 ghost use Rattle.cu_name.specs.Name.{is_name};
-ghost use Rattle.cu_node.specs.Info.{IsInfo, info_at};
+ghost use Rattle.cu_node.specs.Info.{IsInfo};
 ghost use Rattle.cu_op.specs.Sound.{Sound};
 ghost use Rattle.cu_need.specs.Live.{is_live};
 ghost use Rattle.cu_lower.specs.Inputs.{input_names};
 ghost use Rattle.cu_lower.specs.Plan.{first_grown, lowered, as_plan, plan_of};
-ghost use Rattle.cu_lower.specs.Parts.{IsGrown, IsApplied, CanGrow, made_array, map_of, part_of, live_part, with_part};
+ghost use Rattle.cu_lower.specs.Parts.{IsGrown, IsApplied, IsWritten, CanGrow, array_places, map_of, view_op, operation_part, part_of, live_part, with_part};
 ghost use Rattle.cu_lower.specs.Premises.{IsLowerable};
 
 use crate::inputs::{input_arrays, input_names, place_of};
 use crate::laws::plan_law;
 use crate::options::Options;
-use crate::parts::{made_array, map_of};
+use crate::parts::{made_array, map_of, view_op};
 use cu_expr::InputInfo;
 use cu_form::{Arg, ElementOp, Expr, Form};
 use cu_name::IdText;
-use cu_need::{live_law, live_marks, need_of};
+use cu_need::{is_view, live_law, live_marks, need_of};
 use cu_node::{NodeInfo, info_at, info_law};
-use cu_op::{ArrayInfo, Plan, Planned};
+use cu_op::{ArrayInfo, Op, Plan, Planned};
 use cu_store::NoMemory;
 use std::alloc::{AllocError, Global};
 use std::marker::Model;
@@ -79,6 +80,35 @@ impl Growing {
         self.add_place(place_of(names, name) as u32)
     }
 
+    /// Adds the next node, whose array this operation makes, and which needs so many bytes, where `given` arrays are inputs.
+    fn add_operation(
+        &mut self,
+        expr: &Expr,
+        infos: &[NodeInfo],
+        given: u32,
+        need: u64,
+        op: Op,
+    ) -> Result<(), AllocError>
+        requires grown { IsGrown expr.now self.old }
+        requires given { given ≡ length (input_names expr.now) }
+        requires inputs { given ≤ 256 }
+        requires nodes { length self.old.places ≤ 256 }
+        requires infos { All IsInfo infos.now }
+        ensures { OnOk result (self.new ≡ with_part self.old (operation_part expr.now infos.now self.old op need)) }
+    {
+        info_law();
+        let node = self.places.len() as u32;
+        let out = self.arrays.len() as u32;
+        let maker = self.ops.len() as u32;
+        let array = made_array(expr, &info_at(infos, node), node, out - given, maker);
+        let planned = Planned {
+            op,
+            node,
+            projected: need,
+        };
+        self.add_made(array, planned, out)
+    }
+
     /// Adds the next node, which is an elementwise function and needs so many bytes, where `given` arrays are inputs.
     fn add_map(
         &mut self,
@@ -95,24 +125,33 @@ impl Growing {
         requires nodes { length self.old.places ≤ 256 }
         requires applied { IsApplied infos.now (length self.old.places) op args.now }
         requires infos { All IsInfo infos.now }
-        ensures { OnOk result (self.new ≡ with_part self.old (record {
-          arrays = made_array expr.now (info_at infos.now (length self.old.places)) (length self.old.places) (length self.old.arrays - given) (length self.old.ops) ∷ [];
-          ops = record { op = map_of infos.now self.old.places op args.now (length self.old.arrays); node = length self.old.places; projected = need } ∷ [];
-          place = length self.old.arrays;
-        })) }
+        ensures { OnOk result (self.new ≡ with_part self.old (operation_part expr.now infos.now self.old (map_of infos.now op args.now (array_places self.old.places args.now) (length self.old.arrays)) need)) }
     {
-        info_law();
-        let node = self.places.len() as u32;
         let out = self.arrays.len() as u32;
-        let maker = self.ops.len() as u32;
-        let array = made_array(expr, &info_at(infos, node), node, out - given, maker);
         let op = map_of(infos, &self.places, op, args, out);
-        let planned = Planned {
-            op,
-            node,
-            projected: need,
-        };
-        self.add_made(array, planned, out)
+        self.add_operation(expr, infos, given, need, op)
+    }
+
+    /// Adds the next node, which is a view and needs so many bytes, where `given` arrays are inputs.
+    fn add_view(
+        &mut self,
+        expr: &Expr,
+        infos: &[NodeInfo],
+        given: u32,
+        need: u64,
+        form: &Form,
+    ) -> Result<(), AllocError>
+        requires grown { IsGrown expr.now self.old }
+        requires given { given ≡ length (input_names expr.now) }
+        requires inputs { given ≤ 256 }
+        requires nodes { length self.old.places ≤ 256 }
+        requires written { IsWritten (length self.old.places) form.now }
+        requires infos { All IsInfo infos.now }
+        ensures { OnOk result (self.new ≡ with_part self.old (operation_part expr.now infos.now self.old (view_op infos.now form.now (array_places self.old.places (args_of form.now)) (length self.old.arrays)) need)) }
+    {
+        let out = self.arrays.len() as u32;
+        let op = view_op(infos, &self.places, form, out);
+        self.add_operation(expr, infos, given, need, op)
     }
 
     /// Adds the next node, which is live.
@@ -138,6 +177,10 @@ impl Growing {
             Form::Elementwise { op, args } => {
                 let need = need_of(reserved, infos, self.places.len() as u32, form);
                 self.add_map(expr, infos, names.len() as u32, need, *op, args.as_slice())
+            }
+            view if is_view(view) => {
+                let need = need_of(reserved, infos, self.places.len() as u32, view);
+                self.add_view(expr, infos, names.len() as u32, need, view)
             }
             _ => self.add_place(0),
         }
@@ -217,8 +260,8 @@ fn grow(
 }
 
 /// The plan of an expression, where `infos` is what is known of its nodes (this project's own rule): one array for each input that a
-/// live node uses, then for each live elementwise node, in order, its array and the one map that makes it. The array of the stored
-/// node has the output's name as prefix, each other one `_cubed/NAME/K`, where K counts them from 0.
+/// live node uses, then for each live elementwise node and each live view, in order, its array and the one operation that makes it. The
+/// array of the stored node has the output's name as prefix, each other one `_cubed/NAME/K`, where K counts them from 0.
 pub fn lower(
     alloc: Global,
     expr: &Expr,

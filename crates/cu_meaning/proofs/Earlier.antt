@@ -18,7 +18,8 @@ use Rattle.cu_meaning.specs.Matmul.{matmul_at}
 use Rattle.cu_meaning.specs.Meaning.{AgreeBelow}
 use Rattle.cu_meaning.specs.Reduction.{reduced_elements, fold_of, best_place}
 use Rattle.cu_meaning.specs.Rule.{function_value, place_axes, rule_of, node_element}
-use Rattle.cu_meaning.specs.View.{is_in_triangle, concat_at}
+use Rattle.cu_pull.specs.Pull.{is_in_triangle}
+use Rattle.cu_meaning.specs.View.{concat_at}
 
 left_true : (a b : Bool) → (a && b) ≡ true → a ≡ true
 left_true true b h = refl

@@ -31,7 +31,8 @@ use Rattle.cu_meaning.specs.Meaning.{no_elements, meaning_of}
 use Rattle.cu_meaning.specs.Reduction.{reduced_elements, reduced_box, least_of, greatest_of, best_place}
 use Rattle.cu_meaning.specs.Rule.{function_value, place_axes, rule_of}
 use Rattle.cu_meaning.specs.Typed.{type_at, FitsType, IsResultType, KeepsType}
-use Rattle.cu_meaning.specs.View.{is_in_triangle, concat_at}
+use Rattle.cu_pull.specs.Pull.{is_in_triangle}
+use Rattle.cu_meaning.specs.View.{concat_at}
 use Rattle.cu_meaning.proofs.Equation.{equation, past}
 
 left_true : (a b : Bool) → (a && b) ≡ true → a ≡ true

@@ -1,11 +1,7 @@
 -- Indices by their axes.
-use Rattle.std.specs.Prelude.{ℕ, ◌==◌, ℤ, pos, negsuc, Bool, true, List, map, Option, Some, None, unwrap_or}
-use Rattle.std.specs.List.{range_with_len, list_any}
+use Rattle.std.specs.Prelude.{ℕ, ◌==◌, ℤ, pos, negsuc, Bool, true, List, Option, Some, None, unwrap_or}
+use Rattle.std.specs.List.{list_any}
 use Rattle.cu_node.specs.Axes.{axis_of}
-
--- the list of this length that has a number for each axis
-abbrev pub by_axis : ℕ → (ℕ → ℕ) → List ℕ
-by_axis rank number = map number (range_with_len 0 rank)
 
 -- the axis that a number names in an array of this rank, a negative one counted from the end
 abbrev pub axis_in : ℕ → ℤ → ℕ

@@ -9,13 +9,14 @@ use Rattle.cu_num.specs.Scalar.{truth_number, is_nonzero}
 use Rattle.cu_num.specs.declared.folds.FoldKind.{FoldKind}
 use Rattle.cu_num.specs.declared.folds.FoldKind.TheVariants.{Sum, Prod, Min, Max, Any, All}
 use Rattle.cu_shape.specs.Index.{sums, indices_of}
-use Rattle.cu_meaning.specs.Index.{by_axis, is_named}
+use Rattle.cu_pull.specs.Pull.{for_each_axis}
+use Rattle.cu_meaning.specs.Index.{is_named}
 
 -- ---- the indices
 
 -- The indices over which is reduced, from a first one on: the sizes of the reduced axes, and 1 on those that are kept.
 abbrev pub reduced_box : Option (List ℤ) → List ℕ → List ℕ
-reduced_box axes shape = by_axis (length shape) (λ d. if is_named (length shape) axes d then slice_index shape d else 1)
+reduced_box axes shape = for_each_axis (length shape) (λ d. if is_named (length shape) axes d then slice_index shape d else 1)
 
 -- how many axes before this one are kept
 abbrev pub kept_before : ℕ → Option (List ℤ) → ℕ → ℕ
@@ -25,7 +26,7 @@ kept_before rank axes d = count_by (λ k. not (is_named rank axes k)) (range_wit
 -- `keepdims` holds.
 abbrev pub reduced_start : Option (List ℤ) → Bool → ℕ → List ℕ → List ℕ
 reduced_start axes keepdims rank idx =
-    by_axis rank (λ d. if is_named rank axes d then 0 else slice_index idx (if keepdims then d else kept_before rank axes d))
+    for_each_axis rank (λ d. if is_named rank axes d then 0 else slice_index idx (if keepdims then d else kept_before rank axes d))
 
 -- the elements at all of them, in row-major order
 abbrev pub reduced_elements : (List ℕ → ℤ) → Option (List ℤ) → Bool → List ℕ → List ℕ → List ℤ

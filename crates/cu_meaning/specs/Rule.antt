@@ -5,6 +5,7 @@ use Rattle.cu_num.specs.Wrap.{wrapped}
 use Rattle.cu_num.specs.declared.functions.Fn1.TheVariants.{Astype}
 use Rattle.cu_num.specs.declared.types.Dtype.{Dtype}
 use Rattle.cu_shape.specs.Index.{back, is_inside}
+use Rattle.cu_pull.specs.Pull.{is_in_triangle}
 use Rattle.cu_node.specs.declared.element_op.ElementOp.{ElementOp}
 use Rattle.cu_form.specs.declared.form.Form.{Form}
 use Rattle.cu_node.specs.Info.{info_at}
@@ -14,7 +15,7 @@ use Rattle.cu_meaning.specs.Argument.{NodeElements, shape_at, argument_at, sourc
 use Rattle.cu_meaning.specs.Index.{axis_in}
 use Rattle.cu_meaning.specs.Matmul.{matmul_at}
 use Rattle.cu_meaning.specs.Reduction.{reduced_elements, fold_of, best_place}
-use Rattle.cu_meaning.specs.View.{arange_at, eye_at, is_in_triangle, indexed, permuted, same_place, flipped, rolled, concat_at, stack_at}
+use Rattle.cu_meaning.specs.View.{arange_at, eye_at, indexed, permuted, same_place, flipped, rolled, concat_at, stack_at}
 
 -- An elementwise function of its arguments' elements. `t` is the type of the result: comparisons and logical functions do not
 -- depend on the type.

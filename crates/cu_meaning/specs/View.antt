@@ -1,16 +1,17 @@
 -- The elements of arrays that are made from nothing and of views (Python array API, "Creation Functions", "Manipulation Functions",
 -- "Indexing"), each at an index of the result.
-use Rattle.std.specs.Prelude.{ℕ, ◌-◌, ◌==◌, nat_lt, ℤ, pos, ◌+ℤ◌, ◌-ℤ◌, ◌*ℤ◌, int_le, Bool, true, false, List, [], ◌∷◌, ◌++◌, length, take, drop, slice_index, slice_index_or, slice_set, remove, count_by, Option, Some, unwrap_or, if◌then◌else◌}
+use Rattle.std.specs.Prelude.{ℕ, ◌-◌, ◌==◌, nat_lt, ℤ, pos, ◌+ℤ◌, ◌-ℤ◌, ◌*ℤ◌, Bool, true, false, List, [], ◌∷◌, ◌++◌, length, take, drop, slice_index, slice_index_or, slice_set, remove, count_by, Option, Some, unwrap_or, if◌then◌else◌}
 use Rattle.std.specs.Int.{int_rem_euclid}
 use Rattle.std.specs.List.{position_or_len}
 use Rattle.std.specs.Ordering.{int_eq}
 use Rattle.cu_shape.specs.Index.{place_of, index_at}
 use Rattle.cu_shape.specs.Slice.{from_end, first_of}
+use Rattle.cu_pull.specs.Pull.{for_each_axis}
 use Rattle.cu_form.specs.declared.args.Arg.{Arg}
 use Rattle.cu_node.specs.declared.index_item.IndexItem.{IndexItem}
 use Rattle.cu_node.specs.declared.info.NodeInfo.{NodeInfo}
 use Rattle.cu_meaning.specs.Argument.{NodeElements, element_from, shape_from, source_at}
-use Rattle.cu_meaning.specs.Index.{by_axis, axis_in, is_named, natural}
+use Rattle.cu_meaning.specs.Index.{axis_in, is_named, natural}
 
 -- ---- from nothing
 
@@ -23,14 +24,6 @@ abbrev pub eye_at : ℤ → List ℕ → ℤ
 eye_at k idx = if int_eq (pos (slice_index idx 1) -ℤ pos (slice_index idx 0)) k then pos 1 else pos 0
 
 -- ---- views of one array, each by the index of the array at which it is read
-
--- how far the last two numbers of an index lie from the diagonal
-abbrev pub diagonal_of : List ℕ → ℤ
-diagonal_of idx = pos (slice_index idx (length idx - 1)) -ℤ pos (slice_index idx (length idx - 2))
-
--- on or below the k-th diagonal where `lower` holds, else on or above it
-abbrev pub is_in_triangle : Bool → ℤ → List ℕ → Bool
-is_in_triangle lower k idx = if lower then int_le (diagonal_of idx) k else int_le k (diagonal_of idx)
 
 -- an entry that takes an axis
 abbrev pub takes_axis : IndexItem → Bool
@@ -56,7 +49,7 @@ indexed items shape idx = indexed_from (length shape - count_by takes_axis items
 
 -- axis axes[j] of the array is axis j of the result
 abbrev pub permuted : List ℤ → List ℕ → List ℕ
-permuted axes idx = by_axis (length axes) (λ d. slice_index idx (position_or_len (λ axis. int_eq axis (pos d)) axes))
+permuted axes idx = for_each_axis (length axes) (λ d. slice_index idx (position_or_len (λ axis. int_eq axis (pos d)) axes))
 
 -- the index at the same place in row-major order
 abbrev pub same_place : List ℕ → List ℕ → List ℕ → List ℕ
@@ -64,7 +57,7 @@ same_place shape result idx = index_at shape (place_of result idx)
 
 -- counted from the other end on the axes that are named
 abbrev pub flipped : Option (List ℤ) → List ℕ → List ℕ → List ℕ
-flipped axes shape idx = by_axis (length shape) (λ d. if is_named (length shape) axes d then slice_index shape d - 1 - slice_index idx d else slice_index idx d)
+flipped axes shape idx = for_each_axis (length shape) (λ d. if is_named (length shape) axes d then slice_index shape d - 1 - slice_index idx d else slice_index idx d)
 
 -- the shift of an axis; 0 where it isn't named
 abbrev pub shift_on : ℕ → List ℤ → List ℤ → ℕ → ℤ
@@ -72,7 +65,7 @@ shift_on rank shifts axes d = slice_index_or shifts (position_or_len (λ axis. a
 
 -- (i - shift) mod n on each axis
 abbrev pub rolled : List ℤ → List ℤ → List ℕ → List ℕ → List ℕ
-rolled shifts axes shape idx = by_axis (length shape) (λ d. natural (int_rem_euclid (pos (slice_index idx d) -ℤ shift_on (length shape) shifts axes d) (pos (slice_index shape d))))
+rolled shifts axes shape idx = for_each_axis (length shape) (λ d. natural (int_rem_euclid (pos (slice_index idx d) -ℤ shift_on (length shape) shifts axes d) (pos (slice_index shape d))))
 
 -- ---- several arrays
 

@@ -1,14 +1,15 @@
 -- Live nodes, needs and counts of small expressions.
-use Rattle.std.proofs.Common.{◌≡◌, ℕ, pos, false, List, [], ◌∷◌, None, Some, refl, codes, map}
+use Rattle.std.proofs.Common.{◌≡◌, ℕ, pos, negsuc, true, false, List, [], ◌∷◌, None, Some, refl, codes, map}
 use Rattle.cu_num.specs.declared.folds.FoldKind.TheVariants.{Sum}
-use Rattle.cu_num.specs.declared.functions.Fn1.TheVariants.{LogicalNot}
-use Rattle.cu_num.specs.declared.types.Dtype.TheVariants.{Bool, Int32}
+use Rattle.cu_num.specs.declared.functions.Fn1.TheVariants.{LogicalNot, Negative}
+use Rattle.cu_num.specs.declared.types.Dtype.TheVariants.{Bool, Int8, Int32}
 use Rattle.cu_num.specs.declared.functions.Fn2.TheVariants.{Add, Multiply}
 use Rattle.cu_form.specs.Expression.{Expression}
 use Rattle.cu_form.specs.declared.args.Arg.{Arg}
 use Rattle.cu_form.specs.declared.expr.Node.{Node}
 use Rattle.cu_node.specs.declared.element_op.ElementOp.{ElementOp}
 use Rattle.cu_form.specs.declared.form.Form.{Form}
+use Rattle.cu_node.specs.declared.index_item.IndexItem.{IndexItem}
 use Rattle.cu_node.specs.Info.{info_of}
 use Rattle.cu_node.specs.declared.info.NodeInfo.{NodeInfo}
 use Rattle.cu_need.specs.Counts.{plan_counts, over_limit}
@@ -78,6 +79,36 @@ one_misaligned = refl
 stretched_row : need_of 0 (info_of Int32 (2 ∷ 3 ∷ []) (1 ∷ 3 ∷ []) ∷ info_of Int32 (3 ∷ []) (3 ∷ []) ∷ info_of Int32 (2 ∷ 3 ∷ []) (1 ∷ 3 ∷ []) ∷ []) 2 (sum_of (Arg.Node 0 ∷ Arg.Node 1 ∷ [])) ≡ 1584
 stretched_row = refl
 
+-- ---- views: the greatest chunk as scratch, and one of the result
+
+-- five int32 in chunks of 2, every other one from the last on: 8 and 8
+reversed : need_of 0 (info_of Int32 (5 ∷ []) (2 ∷ []) ∷ info_of Int32 (3 ∷ []) (2 ∷ []) ∷ []) 1 (Form.Index (Arg.Node 0 ∷ []) (IndexItem.Slice None None (Some (negsuc 1)) ∷ [])) ≡ 16
+reversed = refl
+
+-- numbers from nothing, int32 in a chunk of 4: 16 and 16, as much as a task of 64 bytes may take; of 31 it may not
+abbrev four : NodeInfo
+four = info_of Int32 (4 ∷ []) (4 ∷ [])
+
+abbrev counted : Form
+counted = Form.Arange (pos 0) (pos 4) (pos 1) Int32 (4 ∷ [])
+
+made_of_nothing : need_of 0 (four ∷ []) 0 counted ≡ 32
+made_of_nothing = refl
+
+within_64 : first_over 64 0 (expression (counted ∷ []) 0) (four ∷ []) ≡ None
+within_64 = refl
+
+not_within_31 : first_over 31 0 (expression (counted ∷ []) 0) (four ∷ []) ≡ Some (record { node = 0; need = 32 })
+not_within_31 = refl
+
+-- a source with a greater chunk than the result: 40 and 16; the result has the first source's chunk
+joined : need_of 0 (four ∷ info_of Int32 (10 ∷ []) (10 ∷ []) ∷ info_of Int32 (14 ∷ []) (4 ∷ []) ∷ []) 2 (Form.Concat (Arg.Node 0 ∷ Arg.Node 1 ∷ []) (pos 0)) ≡ 56
+joined = refl
+
+-- a copy into other chunks is none of these
+rechunked : need_of 7 (four ∷ info_of Int32 (4 ∷ []) (2 ∷ []) ∷ []) 1 (Form.Rechunk (Arg.Node 0 ∷ []) (2 ∷ [])) ≡ 7
+rechunked = refl
+
 -- ---- the first that needs more than is allowed
 
 -- the sum needs as much as is allowed
@@ -106,6 +137,12 @@ stored_input = refl
 other_chunks : first_unbuilt (expression five 3) (six ∷ info_of Int32 (6 ∷ []) (3 ∷ []) ∷ six ∷ six ∷ six ∷ []) ≡ Some 2
 other_chunks = refl
 
+a_view : is_built (four ∷ []) 0 0 counted ≡ true
+a_view = refl
+
+other_chunks_of_one : is_built (four ∷ four ∷ []) 1 1 (Form.Rechunk (Arg.Node 0 ∷ []) (2 ∷ [])) ≡ false
+other_chunks_of_one = refl
+
 a_reduction : is_built sixes 1 1 (Form.Reduce Sum (Arg.Node 0 ∷ []) None false) ≡ false
 a_reduction = refl
 
@@ -116,6 +153,16 @@ two_of_two_chunks = refl
 
 one_alone : plan_counts (expression five 4) sixes ≡ record { tasks = 2; cells = 2 }
 one_alone = refl
+
+-- a view has a task for each chunk of its result: 400 times 100 of one element, and as many of the sum; 100 of the numbers
+abbrev many : List Form
+many = Form.Arange (pos 0) (pos 100) (pos 1) Int8 (1 ∷ []) ∷ Form.BroadcastTo (Arg.Node 0 ∷ []) (400 ∷ 100 ∷ []) (1 ∷ 1 ∷ []) ∷ Form.Elementwise (ElementOp.One Negative) (Arg.Node 1 ∷ []) ∷ []
+
+abbrev of_many : List NodeInfo
+of_many = info_of Int8 (100 ∷ []) (1 ∷ []) ∷ info_of Int8 (400 ∷ 100 ∷ []) (1 ∷ 1 ∷ []) ∷ info_of Int8 (400 ∷ 100 ∷ []) (1 ∷ 1 ∷ []) ∷ []
+
+too_many_tasks : over_limit (plan_counts (expression many 2) of_many) ≡ Some (record { which = 1; count = 80100 })
+too_many_tasks = refl
 
 -- an array without elements has no chunk
 nothing_to_do : plan_counts (expression five 4) (map (λ i. info_of Int32 (0 ∷ []) (4 ∷ [])) sixes) ≡ record { tasks = 0; cells = 0 }

@@ -6,18 +6,19 @@ use Rattle.cu_node.specs.Info.{info_at}
 use Rattle.cu_node.specs.declared.info.NodeInfo.{NodeInfo}
 use Rattle.cu_need.specs.Chunks.{chunk_count}
 use Rattle.cu_need.specs.Live.{live_nodes}
+use Rattle.cu_need.specs.View.{is_view}
 use Rattle.cu_need.specs.declared.counts.PlanCounts.{PlanCounts}
 use Rattle.cu_need.specs.declared.counts.OverLimit.{OverLimit}
 
--- the tasks that make node k: an elementwise node has one for each chunk, an input none
+-- the tasks that make node k: an elementwise node and a view have one for each chunk, an input none
 abbrev pub tasks_of : List NodeInfo → ℕ → Form → ℕ
 tasks_of infos k (Form.Elementwise op args) = chunk_count (info_at infos k)
-tasks_of infos k form = 0
+tasks_of infos k form = if is_view form then chunk_count (info_at infos k) else 0
 
 -- the chunks that they store
 abbrev pub cells_of : List NodeInfo → ℕ → Form → ℕ
 cells_of infos k (Form.Elementwise op args) = chunk_count (info_at infos k)
-cells_of infos k form = 0
+cells_of infos k form = if is_view form then chunk_count (info_at infos k) else 0
 
 -- the sums over the live nodes
 abbrev pub plan_counts : Expression → List NodeInfo → PlanCounts

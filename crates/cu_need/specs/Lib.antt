@@ -3,3 +3,4 @@ pub mod Counts
 pub mod Elementwise
 pub mod Live
 pub mod Need
+pub mod View

@@ -1,7 +1,8 @@
 -- The memory of each node by its form, and which nodes are built (this project's own rule). A family of operators is a row of each
 -- table.
-use Rattle.std.specs.Prelude.{◌≡◌, ℕ, ◌<◌, ◌≤◌, ◌==◌, nat_lt, Bool, true, false, not, List, All, Option, Some, Ok, option_map, find, slice_get}
+use Rattle.std.specs.Prelude.{◌≡◌, ℕ, ◌<◌, ◌≤◌, ◌==◌, nat_lt, Bool, true, false, not, List, All, Option, Some, Ok, option_map, find, slice_get, if◌then◌else◌}
 use Rattle.cu_form.specs.Expression.{Expression}
+use Rattle.cu_form.specs.Form.{args_of}
 use Rattle.cu_form.specs.declared.expr.Node.{Node}
 use Rattle.cu_form.specs.declared.form.Form.{Form}
 use Rattle.cu_node.specs.Info.{IsInfo, info_at}
@@ -12,14 +13,15 @@ use Rattle.cu_typing.specs.declared.argument.Argument.{Argument}
 use Rattle.cu_need.specs.Chunks.{arrays_in}
 use Rattle.cu_need.specs.Elementwise.{are_aligned, elementwise_need}
 use Rattle.cu_need.specs.Live.{is_live, live_nodes}
+use Rattle.cu_need.specs.View.{is_view, view_need}
 use Rattle.cu_need.specs.declared.need.NodeNeed.{NodeNeed}
 
--- A node that the operations of today make: an input that isn't itself stored, or an elementwise node whose arguments are aligned. The
--- last row is of the forms that are none of these.
+-- A node that an operation which is built makes: an input that isn't itself stored, an elementwise node whose arguments are aligned, or
+-- a view. The last row is of all forms but the first two.
 abbrev pub is_built : List NodeInfo → ℕ → ℕ → Form → Bool
 is_built infos out k (Form.Input name) = not (k == out)
 is_built infos out k (Form.Elementwise op args) = are_aligned (info_at infos k) (arrays_in infos args)
-is_built infos out k form = false
+is_built infos out k form = is_view form
 
 -- the first live node that isn't built
 abbrev pub first_unbuilt : Expression → List NodeInfo → Option ℕ
@@ -29,7 +31,7 @@ first_unbuilt e infos = option_map (λ numbered. numbered.0) (find (λ numbered.
 -- isn't built.
 abbrev pub need_of : ℕ → List NodeInfo → ℕ → Form → ℕ
 need_of reserved infos k (Form.Elementwise op args) = elementwise_need reserved infos (info_at infos k) args
-need_of reserved infos k form = reserved
+need_of reserved infos k form = if is_view form then view_need reserved (info_at infos k) (arrays_in infos (args_of form)) else reserved
 
 -- the first live node that needs more than is allowed, with what it needs
 abbrev pub first_over : ℕ → ℕ → Expression → List NodeInfo → Option NodeNeed

@@ -6,6 +6,7 @@ ghost use Rattle.cu_need.specs.Counts.{tasks_of, cells_of, plan_counts, over_lim
 
 use crate::chunks::chunk_count;
 use crate::live::live_marks;
+use crate::view::is_view;
 use cu_form::{Expr, Form};
 use cu_node::{NodeInfo, info_at, info_law};
 
@@ -41,6 +42,7 @@ fn tasks_of(infos: &[NodeInfo], number: u32, form: &Form) -> u64
     info_law();
     match form {
         Form::Elementwise { .. } => chunk_count(&info_at(infos, number)),
+        other if is_view(other) => chunk_count(&info_at(infos, number)),
         _ => 0,
     }
 }
@@ -54,6 +56,7 @@ fn cells_of(infos: &[NodeInfo], number: u32, form: &Form) -> u64
     info_law();
     match form {
         Form::Elementwise { .. } => chunk_count(&info_at(infos, number)),
+        other if is_view(other) => chunk_count(&info_at(infos, number)),
         _ => 0,
     }
 }

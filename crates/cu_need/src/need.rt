@@ -7,6 +7,7 @@ ghost use Rattle.cu_need.specs.Need.{is_built, first_unbuilt, need_of, first_ove
 
 use crate::elementwise::{are_aligned, elementwise_need};
 use crate::live::live_marks;
+use crate::view::{is_view, view_need};
 use cu_form::{Expr, Form};
 use cu_node::{NodeInfo, info_at, info_law};
 
@@ -19,7 +20,7 @@ pub struct NodeNeed {
     pub need: u64,
 }
 
-/// Whether the operations of today make the node with this number.
+/// Whether an operation that is built makes the node with this number.
 fn is_built(infos: &[NodeInfo], out: u32, number: u32, form: &Form) -> bool
     ensures { result ≡ is_built infos.now out number form.now }
 {
@@ -30,12 +31,13 @@ fn is_built(infos: &[NodeInfo], out: u32, number: u32, form: &Form) -> bool
             infos,
             args.as_slice(),
         ),
-        _ => false,
+        other => is_view(other),
     }
 }
 
-/// The number of the first live node that no operation of today makes: an input that is itself stored, an elementwise node with an
-/// argument whose chunks are not those to which it is aligned, or a node of any other form. None where each live node is made.
+/// The number of the first live node that no operation which is built makes: an input that is itself stored, an elementwise node with
+/// an argument whose chunks are not those to which it is aligned, or a node of a form that is none of these and no view. None where
+/// each live node is made.
 pub fn first_unbuilt(expr: &Expr, infos: &[NodeInfo]) -> Option<u32>
     ensures { result ≡ first_unbuilt expr.now infos.now }
 {
@@ -51,8 +53,8 @@ pub fn first_unbuilt(expr: &Expr, infos: &[NodeInfo]) -> Option<u32>
 }
 
 /// The bytes that the node with this number needs, of which `reserved` are kept for everything else: the greatest that one of its
-/// operations needs. An input is read by the nodes that use it, and needs the reserved bytes alone; so does a node that no operation of
-/// today makes, but for an elementwise one.
+/// operations needs. An input is read by the nodes that use it, and needs the reserved bytes alone; so does a node of a form that no
+/// operation makes.
 pub fn need_of(reserved: u64, infos: &[NodeInfo], number: u32, form: &Form) -> u64
     requires reserved { reserved ≤ 2 ^ 40 }
     requires args { takes_args form.now ≡ true }
@@ -67,6 +69,12 @@ pub fn need_of(reserved: u64, infos: &[NodeInfo], number: u32, form: &Form) -> u
             infos,
             &info_at(infos, number),
             args.as_slice(),
+        ),
+        other if is_view(other) => view_need(
+            reserved,
+            infos,
+            &info_at(infos, number),
+            other.args(),
         ),
         _ => reserved,
     }

@@ -6,10 +6,11 @@ use Rattle.cu_num.specs.declared.layout.Encoding.TheVariants.{Plain}
 use Rattle.cu_num.specs.declared.layout.Sep.TheVariants.{Slash}
 use Rattle.cu_num.specs.declared.layout.Endian.TheVariants.{Little}
 use Rattle.cu_num.specs.Wrap.{wrapped}
+use Rattle.cu_pull.specs.declared.pull.Pull.TheVariants.{Concat, Arange}
 use Rattle.cu_op.specs.declared.kernel.Instr.TheVariants.{Load, Const, Two, Select}
 use Rattle.cu_op.specs.declared.layout.ArrayInfo.{ArrayInfo}
 use Rattle.cu_op.specs.declared.operation.Op.{Op}
-use Rattle.cu_op.specs.declared.operation.Op.TheVariants.{Map}
+use Rattle.cu_op.specs.declared.operation.Op.TheVariants.{Map, Pull}
 use Rattle.cu_op.specs.Cells.{cell, tasks_of}
 use Rattle.cu_op.specs.Walks.{written_chunks, read_chunks}
 use Rattle.cu_op.specs.Kernel.{kernel_value}
@@ -80,6 +81,64 @@ rows = array (2 ∷ 3 ∷ []) (1 ∷ 3 ∷ []) None ∷ array (3 ∷ []) (3 ∷ 
 rows_read : read_chunks rows (add (0 ∷ 1 ∷ []) 2) 1 ≡ cell 0 (1 ∷ 0 ∷ []) ∷ cell 1 (0 ∷ []) ∷ []
 unfolding rows add array
 rows_read = refl
+
+-- the arrays of six one behind the other, in chunks of eight: scratch 32, output 32, and no input region
+unfoldable joined : List ArrayInfo
+joined = array (6 ∷ []) (4 ∷ []) None ∷ array (6 ∷ []) (4 ∷ []) None ∷ array (12 ∷ []) (8 ∷ []) (Some 0) ∷ []
+
+unfoldable join : Op
+join = Pull (Concat 0) (record { items = 0 ∷ 1 ∷ [] }) 2
+
+joined_room : projection joined 0 join ≡ 64
+unfolding joined join array
+joined_room = refl
+
+joined_tasks : tasks_of joined join ≡ 2
+unfolding joined join array
+joined_tasks = refl
+
+joined_written : written_chunks joined join 1 ≡ cell 2 (1 ∷ []) ∷ []
+unfolding joined join array
+joined_written = refl
+
+-- every chunk of each source
+joined_read : read_chunks joined join 1 ≡ cell 0 (0 ∷ []) ∷ cell 0 (1 ∷ []) ∷ cell 1 (0 ∷ []) ∷ cell 1 (1 ∷ []) ∷ []
+unfolding joined join array
+joined_read = refl
+
+unfoldable join_plan : PlanView
+join_plan = record { arrays = joined; ops = record { op = join; node = 2; projected = 64 } ∷ []; out = 2; allowed = 64; reserved = 0 }
+
+in_the_second : plan_value join_plan given 2 (7 ∷ []) ≡ Some (pos 20)
+unfolding join_plan joined join array given
+in_the_second = refl
+
+-- a source without elements has no chunk that is read, and no element is missing
+unfoldable with_empty : List ArrayInfo
+with_empty = array (0 ∷ []) (1 ∷ []) None ∷ array (6 ∷ []) (4 ∷ []) None ∷ array (6 ∷ []) (4 ∷ []) (Some 0) ∷ []
+
+empty_read : read_chunks with_empty join 0 ≡ cell 1 (0 ∷ []) ∷ cell 1 (1 ∷ []) ∷ []
+unfolding with_empty join array
+empty_read = refl
+
+-- the numbers 10, 7, 4, .. have no source
+unfoldable counted : List ArrayInfo
+counted = array (6 ∷ []) (4 ∷ []) (Some 0) ∷ []
+
+unfoldable count : Op
+count = Pull (Arange (pos 10) (negsuc 2)) (record { items = [] }) 0
+
+counted_room : projection counted 0 count ≡ 32
+unfolding counted count array
+counted_room = refl
+
+counted_read : read_chunks counted count 1 ≡ []
+unfolding counted count array
+counted_read = refl
+
+counted_at_5 : plan_value (record { arrays = counted; ops = record { op = count; node = 0; projected = 32 } ∷ []; out = 0; allowed = 32; reserved = 0 }) given 0 (5 ∷ []) ≡ Some (negsuc 4)
+unfolding counted count array given
+counted_at_5 = refl
 
 -- a kernel: the sum wraps, a Load past the inputs has no value, and neither has a Select one of whose arguments has none
 wraps : kernel_value (Load 0 ∷ Const (pos 1) ∷ Two Add Int32 0 1 ∷ []) (λ k. Some (pos 2147483647)) ≡ Some (negsuc 2147483647)

@@ -1,4 +1,4 @@
-pub mod Axes
+pub mod Broadcasting
 pub mod Lists
 pub mod Plans
 pub mod Values
@@ -9,6 +9,9 @@ pub mod Ranges
 pub mod Singles
 pub mod WalkCells
 pub mod Nested
+pub mod MapRegions
+pub mod Wholes
+pub mod Operations
 pub mod TaskCells
 pub mod Spellings
 mod Examples

@@ -1,9 +1,10 @@
 -- Each value of a sound plan is a number of its array's type, where the inputs' are.
-use Rattle.std.proofs.Common.{◌≡◌, inl, inr, ℕ, ℤ, pos, zero, suc, ◌<◌, ◌+◌, ◌-◌, ◌==◌, Bool, true, false, List, [], ◌∷◌, ◌++◌, length, map, All, Contains, Option, None, Some, get_or, refl, ap, sym, ◌∙◌, subst, arith, if◌then◌else◌}
+use Rattle.std.proofs.Common.{◌≡◌, inl, inr, ℕ, ℤ, pos, zero, suc, ◌<◌, ◌+◌, ◌-◌, ◌==◌, Bool, true, false, List, [], ◌∷◌, ◌++◌, length, map, All, Contains, Option, None, Some, refl, ap, sym, ◌∙◌, subst, arith, if◌then◌else◌}
 use Rattle.std.specs.List.{slice_get, list_any, AllZip}
 use Rattle.std.specs.Option.{option_and_then, option_map}
 use Rattle.std.proofs.lemmas.Option.{slice_get-map, slice_get_within, get_or_from_slice_get, same_Some}
 use Rattle.std.proofs.lemmas.Bool.Decides.{eqb_tells}
+use Rattle.std.proofs.lemmas.List.Elements.{All-contains}
 use Rattle.std.specs.Ordering.{int_eq}
 use Rattle.cu_num.specs.Dtype.{InRange}
 use Rattle.cu_num.specs.Promotion.{promotion}
@@ -17,25 +18,36 @@ use Rattle.cu_num.specs.declared.functions.Fn2.{Fn2}
 use Rattle.cu_num.specs.declared.functions.Fn2.TheVariants.{Add, Subtract, Multiply, FloorDivide, Remainder, BitwiseAnd, BitwiseOr, BitwiseXor, LeftShift, RightShift, Equal, NotEqual, Less, LessEqual, Greater, GreaterEqual, LogicalAnd, LogicalOr, LogicalXor}
 use Rattle.cu_num.specs.Element.{element_at}
 use Rattle.cu_num.specs.declared.layout.Endian.{Endian}
-use Rattle.cu_shape.specs.Index.{back, place_of, quotients, remainders}
+use Rattle.cu_shape.specs.Index.{back, place_of, quotients, remainders, IsInside}
+use Rattle.cu_grid.specs.Grid.{IsGrid}
+use Rattle.cu_pull.specs.declared.provenance.Provenance.{Provenance}
+use Rattle.cu_pull.specs.declared.provenance.Provenance.TheVariants.{From, Const as Number}
+use Rattle.cu_pull.specs.declared.pull.Pull.{Pull as View}
+use Rattle.cu_pull.specs.declared.pull.Pull.TheVariants.{Concat, Stack}
+use Rattle.arrayvec.specs.ArrayVec.{ArrayVec}
 use Rattle.cu_zarr.specs.Key.{chunk_key_of}
 use Rattle.cu_zarr.specs.Layout.{ArrayLayout, chunk_bytes}
 use Rattle.cu_zarr.specs.Stored.{element_in}
 use Rattle.cu_op.specs.Layout.{IsArray}
 use Rattle.cu_op.specs.declared.kernel.Instr.{Instr}
+use Rattle.cu_op.specs.declared.kernel.Kernel.{Kernel}
 use Rattle.cu_op.specs.declared.kernel.Instr.TheVariants.{Load, Const, One, Two, Select}
 use Rattle.cu_op.specs.declared.layout.ArrayInfo.{ArrayInfo}
 use Rattle.cu_op.specs.declared.operation.Op.{Op}
-use Rattle.cu_op.specs.declared.operation.Op.TheVariants.{Map}
+use Rattle.cu_op.specs.declared.operation.Op.TheVariants.{Map, Pull}
 use Rattle.cu_op.specs.declared.operation.Planned.{Planned}
 use Rattle.cu_op.specs.Arrays.{array_at, layout_at, no_array, grid_at, type_at, maker_at}
 use Rattle.cu_op.specs.Kernel.{selected, last_of, instruction_value, results_from, kernel_value}
 use Rattle.cu_op.specs.KernelTypes.{Operand, Typed, Literal, HaveType, Gives, KernelFits, LoadsTypes}
-use Rattle.cu_op.specs.Operation.{reads_of, writes_of, IsReadable, IsBefore, Fits}
+use Rattle.cu_op.specs.Cells.{task_grid}
+use Rattle.cu_op.specs.Operation.{reads_of, writes_of, origin_at, Converts, PullFits, IsReadable, IsBefore, Fits}
 use Rattle.cu_op.specs.PlanView.{PlanView, operation_at}
+use Rattle.cu_op.specs.Schedule.{IsNested}
 use Rattle.cu_op.specs.Sound.{Sound, IsOperation}
-use Rattle.cu_op.specs.Value.{Elements, loaded, rule, updated, values_after, plan_value, stored_inputs, HasTypes}
-use Rattle.cu_op.proofs.Values.{any_contains, contains_any, bool_cases}
+use Rattle.cu_op.specs.Value.{Elements, loaded, pulled, rule, ReadsAt, updated, values_after, plan_value, stored_inputs, HasTypes}
+use Rattle.cu_op.proofs.Operations.{Fit, nested_writes, reads_inside}
+use Rattle.cu_op.proofs.Plans.{grid_ok}
+use Rattle.cu_op.proofs.Values.{any_contains, contains_any, bool_cases, reads_listed}
 
 -- the laws of wrapping and of promotion
 abbrev pub Wraps : Type 0
@@ -166,62 +178,100 @@ kernel_range w p q code types t load v fits loads e =
     let m = some_then last_of (results_from code load []) v e in
     results_range w p q code types [] t load [] m.0 v fits loads tt m.1 m.2
 
+-- ---- what an operation gives, where what it reads has its arrays' types
+
+-- what is read has its array's type
+abbrev ReadsTypes : Op → List ArrayInfo → List ℕ → Elements → Type 0
+ReadsTypes op arrays idx at = (b : ℕ) (i : List ℕ) (y : ℤ) → ReadsAt op arrays idx b i → at b i ≡ Some y → InRange (type_at arrays b) y
+
+-- what is known of each array of a list is known of the one at a place
+at_place : (P : ℕ → Type 0) (numbers : List ℕ) (j a : ℕ) → All P numbers → slice_get numbers j ≡ Some a → P a
+at_place P numbers j a h e = subst P (get_or_from_slice_get numbers j a a e) (h j a (slice_get_within numbers j a e))
+
+loads_types : (kernel : Kernel) (ins : ArrayVec ℕ) (out : ℕ) (arrays : List ArrayInfo) (idx : List ℕ) (at : Elements) → ReadsTypes (Map kernel ins out) arrays idx at
+    → LoadsTypes (map (type_at arrays) ins.items) (loaded arrays ins.items at idx)
+loads_types kernel ins out arrays idx at typed j t y et ey =
+    let m = some_then (λ b. at b (back (grid_at arrays b).shape idx)) (slice_get ins.items j) y ey in
+    let f = some_map (type_at arrays) (slice_get ins.items j) t (sym (slice_get-map (type_at arrays) ins.items j) ∙ et) in
+    let same : f.0 ≡ m.0 = same_Some f.0 m.0 (sym f.1 ∙ m.1) in
+    let listed : Contains ins.items m.0 = (j, slice_get_within ins.items j m.0 m.1, get_or_from_slice_get ins.items j m.0 m.0 m.1) in
+    subst (λ (d : Dtype). InRange d y) (ap (type_at arrays) (sym same) ∙ f.2) (typed m.0 (back (grid_at arrays m.0).shape idx) y (listed, refl) m.2)
+
+-- a view keeps a source's numbers
+converted : Promotes → (pull : View) (from to : Dtype) (x : ℤ) → Converts pull from to → InRange from x → InRange to x
+converted p (Concat axis) from to x h r = p from to to h x r
+converted p (Stack axis) from to x h r = p from to to h x r
+converted p pull from to x h r = subst (λ (d : Dtype). InRange d x) h r
+
+pulled_range : Promotes → (pull : View) (ins : ArrayVec ℕ) (out : ℕ) (arrays : List ArrayInfo) (at : Elements) (idx : List ℕ) (x : ℤ) (o : Provenance) → PullFits arrays pull ins.items out
+    → IsInside (grid_at arrays out).shape idx → ReadsTypes (Pull pull ins out) arrays idx at → origin_at arrays pull ins.items out idx ≡ o → pulled ins.items at o ≡ Some x → InRange (type_at arrays out) x
+pulled_range p pull ins out arrays at idx x (From source i) fits inside typed o v =
+    let (a, given, value) = some_then (λ b. at b i) (slice_get ins.items source) x v in
+    converted p pull (type_at arrays a) (type_at arrays out) x (at_place (λ b. Converts pull (type_at arrays b) (type_at arrays out)) ins.items source a fits.types given)
+    (typed a i x (source, given, o) value)
+pulled_range p pull ins out arrays at idx x (Number y) fits inside typed o v = subst (InRange (type_at arrays out)) (same_Some y x v) (fits.numbers idx y inside o)
+
+-- the only array that is written
+only_written : (out a : ℕ) → Contains (out ∷ []) a → out ≡ a
+only_written out a (zero, l, e) = e
+only_written out a (suc k, l, e) = absurd (let b : suc k < 1 = l in omega arith)
+
+rule_range : Wraps → Promotes → PromotesBoth → (op : Op) (arrays : List ArrayInfo) (at : Elements) (a : ℕ) (idx : List ℕ) (x : ℤ) → Contains (writes_of op) a → Fits arrays op
+    → IsInside (task_grid arrays op).shape idx → ReadsTypes op arrays idx at → rule op arrays at a idx ≡ Some x → InRange (type_at arrays a) x
+rule_range w p q (Map kernel ins out) arrays at a idx x among fits inside typed v =
+    subst (λ (b : ℕ). InRange (type_at arrays b) x) (only_written out a among)
+    (kernel_range w p q kernel.code.items (map (type_at arrays) ins.items) (type_at arrays out) (loaded arrays ins.items at idx) x fits.kernel (loads_types kernel ins out arrays idx at typed) v)
+rule_range w p q (Pull pull ins out) arrays at a idx x among fits inside typed v =
+    subst (λ (b : ℕ). InRange (type_at arrays b) x) (only_written out a among)
+    (pulled_range p pull ins out arrays at idx x (origin_at arrays pull ins.items out idx) fits inside typed refl v)
+
+-- ---- one operation after another
+
 -- the elements of the arrays that are given or made before operation n have their types
 abbrev TypedUpTo : List ArrayInfo → ℕ → Elements → Type 0
-TypedUpTo arrays n at = (a : ℕ) (idx : List ℕ) (x : ℤ) → IsReadable arrays n a → at a idx ≡ Some x → InRange (type_at arrays a) x
+TypedUpTo arrays n at = (a : ℕ) (idx : List ℕ) (x : ℤ) → IsReadable arrays n a → IsInside (grid_at arrays a).shape idx → at a idx ≡ Some x → InRange (type_at arrays a) x
 
-rule_range : Wraps → Promotes → PromotesBoth → (op : Op) (arrays : List ArrayInfo) (n : ℕ) (at : Elements) (a : ℕ) (idx : List ℕ) (x : ℤ)
-    → All (IsReadable arrays n) (reads_of op) → Contains (writes_of op) a → Fits arrays op → TypedUpTo arrays n at → rule op arrays at a idx ≡ Some x → InRange (type_at arrays a) x
-rule_range w p q (Map kernel ins out) arrays n at a idx x reads (zero, l, e) fits typed v =
-    let same : out ≡ a = e in
-    subst (λ (b : ℕ). InRange (type_at arrays b) x) same
-    (kernel_range w p q kernel.code.items (map (type_at arrays) ins.items) (type_at arrays out) (loaded arrays ins.items at idx) x fits.kernel
-    (λ k t y et ey.
-    let m = some_then (λ b. at b (back (grid_at arrays b).shape idx)) (slice_get ins.items k) y ey in
-    let here = slice_get_within ins.items k m.0 m.1 in
-    let is_it : get_or ins.items k m.0 ≡ m.0 = get_or_from_slice_get ins.items k m.0 m.0 m.1 in
-    let readable : IsReadable arrays n m.0 = subst (IsReadable arrays n) is_it (reads k m.0 here) in
-    let f = some_map (type_at arrays) (slice_get ins.items k) t (sym (slice_get-map (type_at arrays) ins.items k) ∙ et) in
-    let same_input : f.0 ≡ m.0 = same_Some f.0 m.0 (sym f.1 ∙ m.1) in
-    let type_is : type_at arrays m.0 ≡ t = ap (type_at arrays) (sym same_input) ∙ f.2 in
-    subst (λ (d : Dtype). InRange d y) type_is (typed m.0 (back (grid_at arrays m.0).shape idx) y readable m.2))
-    v)
-rule_range w p q (Map kernel ins out) arrays n at a idx x reads (suc k, l, e) fits typed v = absurd (let b : suc k < 1 = l in omega arith)
+module _ (w : Wraps) (p : Promotes) (q : PromotesBoth) (arrays : List ArrayInfo) (grids : (a : ℕ) → a < length arrays → IsGrid (grid_at arrays a)) (reserved : ℕ) where
+  step_range : (o : Planned) (n : ℕ) (at : Elements) → IsOperation arrays reserved n o → ((a : ℕ) → a < length arrays → maker_at arrays a ≡ Some n → Contains (writes_of o.op) a)
+      → TypedUpTo arrays n at → TypedUpTo arrays (n + 1) (updated o.op arrays at)
+  step_range o n at ok all typed a idx x readable inside v =
+      elim (bool_cases (list_any (λ b. b == a) (writes_of o.op))) [
+        | inl t ↦
+            let among = any_contains (writes_of o.op) a t in
+            let fit : Fit arrays n o.op = (ok.reads, ok.writes, ok.fits) in
+            let nested = All-contains (λ b. IsNested (grid_at arrays b) (task_grid arrays o.op)) (writes_of o.op) a (nested_writes arrays grids n o.op fit) among in
+            let wide : IsInside (task_grid arrays o.op).shape idx = subst (λ (ns : List ℕ). IsInside ns idx) (sym nested.shape) inside in
+            rule_range w p q o.op arrays at a idx x among ok.fits wide
+            (λ b i y r e. typed b i y (All-contains (IsReadable arrays n) (reads_of o.op) b ok.reads (reads_listed o.op arrays idx b i r)) (reads_inside arrays grids n o.op b idx i fit wide r) e)
+            (rw t at v)
+        | inr f ↦ typed a idx x (readable.0, earlier (maker_at arrays a) readable.1 (λ e. let c = contains_any (writes_of o.op) a (all a readable.0 e) in cc)) inside (rw f at v)
+      ]
+    where
+      earlier : (m : Option ℕ) → IsBefore m (n + 1) → (m ≡ Some n → ⊥) → IsBefore m n
+      earlier None h other = tt
+      earlier (Some k) h other = elim (eqb_tells k n) [ inl e ↦ absurd (other (ap Some e.1)) | inr e ↦ let d = e.1 in omega arith ]
 
--- one operation more
-step_range : Wraps → Promotes → PromotesBoth → (o : Planned) (arrays : List ArrayInfo) (reserved n : ℕ) (at : Elements) → IsOperation arrays reserved n o → ((a : ℕ) → a < length arrays → maker_at arrays a ≡ Some n → Contains (writes_of o.op) a)
-    → TypedUpTo arrays n at → TypedUpTo arrays (n + 1) (updated o.op arrays at)
-step_range w p q o arrays reserved n at ok all typed a idx x readable v =
-    elim (bool_cases (list_any (λ b. b == a) (writes_of o.op))) [
-      | inl t ↦ rule_range w p q o.op arrays n at a idx x ok.reads (any_contains (writes_of o.op) a t) ok.fits typed (rw t at v)
-      | inr f ↦ typed a idx x (readable.0, earlier (maker_at arrays a) readable.1 (λ e. let c = contains_any (writes_of o.op) a (all a readable.0 e) in cc)) (rw f at v)
-    ]
-  where
-    earlier : (m : Option ℕ) → IsBefore m (n + 1) → (m ≡ Some n → ⊥) → IsBefore m n
-    earlier None h other = tt
-    earlier (Some k) h other = elim (eqb_tells k n) [ inl e ↦ absurd (other (ap Some e.1)) | inr e ↦ let d = e.1 in omega arith ]
-
-after_range : Wraps → Promotes → PromotesBoth → (os : List Planned) (arrays : List ArrayInfo) (reserved n : ℕ) (at : Elements)
-    → ((k : ℕ) → k < length os → IsOperation arrays reserved (n + k) (operation_at os k))
-    → ((k a : ℕ) → k < length os → a < length arrays → maker_at arrays a ≡ Some (n + k) → Contains (writes_of (operation_at os k).op) a)
-    → TypedUpTo arrays n at → TypedUpTo arrays (n + length os) (values_after os arrays at)
-after_range w p q [] arrays reserved n at ok all typed = subst (λ (m : ℕ). TypedUpTo arrays m at) (let e : n ≡ n + 0 = omega arith in e) typed
-after_range w p q (o ∷ os) arrays reserved n at ok all typed =
-    let first : IsOperation arrays reserved n o = subst (λ (m : ℕ). IsOperation arrays reserved m o) (let e : n + 0 ≡ n = omega arith in e) (ok 0 (omega arith)) in
-    let next = step_range w p q o arrays reserved n at first (λ a l e. all 0 a (omega arith) l (e ∙ ap Some (let f : n ≡ n + 0 = omega arith in f))) typed in
-    let rest = after_range w p q os arrays reserved (n + 1) (updated o.op arrays at)
-    (λ k l. subst (λ (m : ℕ). IsOperation arrays reserved m (operation_at os k)) (let e : n + suc k ≡ n + 1 + k = omega arith in e) (ok (suc k) (omega arith)))
-    (λ k a l b e. all (suc k) a (omega arith) b (e ∙ ap Some (let f : n + 1 + k ≡ n + suc k = omega arith in f))) next in
-    subst (λ (m : ℕ). TypedUpTo arrays m (values_after os arrays (updated o.op arrays at))) (let e : n + 1 + length os ≡ n + suc (length os) = omega arith in e) rest
+  after_range : (os : List Planned) (n : ℕ) (at : Elements)
+      → ((k : ℕ) → k < length os → IsOperation arrays reserved (n + k) (operation_at os k))
+      → ((k a : ℕ) → k < length os → a < length arrays → maker_at arrays a ≡ Some (n + k) → Contains (writes_of (operation_at os k).op) a)
+      → TypedUpTo arrays n at → TypedUpTo arrays (n + length os) (values_after os arrays at)
+  after_range [] n at ok all typed = subst (λ (m : ℕ). TypedUpTo arrays m at) (let e : n ≡ n + 0 = omega arith in e) typed
+  after_range (o ∷ os) n at ok all typed =
+      let first : IsOperation arrays reserved n o = subst (λ (m : ℕ). IsOperation arrays reserved m o) (let e : n + 0 ≡ n = omega arith in e) (ok 0 (omega arith)) in
+      let next = step_range o n at first (λ a l e. all 0 a (omega arith) l (e ∙ ap Some (let f : n ≡ n + 0 = omega arith in f))) typed in
+      let rest = after_range os (n + 1) (updated o.op arrays at)
+      (λ k l. subst (λ (m : ℕ). IsOperation arrays reserved m (operation_at os k)) (let e : n + suc k ≡ n + 1 + k = omega arith in e) (ok (suc k) (omega arith)))
+      (λ k a l b e. all (suc k) a (omega arith) b (e ∙ ap Some (let f : n + 1 + k ≡ n + suc k = omega arith in f))) next in
+      subst (λ (m : ℕ). TypedUpTo arrays m (values_after os arrays (updated o.op arrays at))) (let e : n + 1 + length os ≡ n + suc (length os) = omega arith in e) rest
 
 pub value_range : Wraps → Promotes → PromotesBoth → (p : PlanView) (env : Elements) → Sound p → HasTypes p.arrays env
-    → (a : ℕ) (idx : List ℕ) (x : ℤ) → a < length p.arrays → plan_value p env a idx ≡ Some x → InRange (type_at p.arrays a) x
-value_range w pl pr p env s typed a idx x l v =
-    after_range w pl pr p.ops p.arrays p.reserved 0 env
+    → (a : ℕ) (idx : List ℕ) (x : ℤ) → a < length p.arrays → IsInside (grid_at p.arrays a).shape idx → plan_value p env a idx ≡ Some x → InRange (type_at p.arrays a) x
+value_range w pl pr p env s typed a idx x l inside v =
+    after_range w pl pr p.arrays (λ b h. grid_ok p b s h) p.reserved p.ops 0 env
     (λ k b. subst (λ (m : ℕ). IsOperation p.arrays p.reserved m (operation_at p.ops k)) (let e : k ≡ 0 + k = omega arith in e) (s.operations k b))
     (λ k b h within e. (s.makers b k within (e ∙ ap Some (let f : 0 + k ≡ k = omega arith in f))).1)
-    (λ b i y readable e. typed b i y readable.0 (none_before (maker_at p.arrays b) readable.1) e)
-    a idx x (l, before_end (maker_at p.arrays a) (λ k e. (s.makers a k l e).0)) v
+    (λ b i y readable there e. typed b i y readable.0 (none_before (maker_at p.arrays b) readable.1) e)
+    a idx x (l, before_end (maker_at p.arrays a) (λ k e. (s.makers a k l e).0)) inside v
   where
     none_before : (m : Option ℕ) → IsBefore m 0 → m ≡ None
     none_before None h = refl

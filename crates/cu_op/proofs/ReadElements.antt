@@ -1,35 +1,13 @@
--- The elements that an operation's rule reads lie in the chunks that its task reads.
-use Rattle.std.proofs.Common.{◌≡◌, ◌≢◌, ◌⊎◌, inl, inr, ℕ, zero, suc, ◌<◌, ◌-◌, ◌/◌, List, [], ◌∷◌, length, drop, All, Option, None, Some, refl, ap, sym, ◌∙◌, subst, arith}
-use Rattle.std.specs.List.{slice_get}
-use Rattle.std.specs.Option.{option_and_then}
+-- The elements that a map reads through broadcasting lie inside its arguments, in the chunks from which its result's chunks are read.
+use Rattle.std.proofs.Common.{◌≡◌, ◌≢◌, ◌⊎◌, inl, inr, ℕ, zero, suc, ◌<◌, ◌-◌, ◌/◌, List, [], ◌∷◌, length, drop, All, refl, ap, sym, ◌∙◌, subst, arith}
 use Rattle.std.proofs.lemmas.Bool.Decides.{eqb_tells}
 use Rattle.std.proofs.lemmas.List.Elements.{All-head, All-tail}
-use Rattle.std.proofs.lemmas.Option.{slice_get_within, get_or_from_slice_get}
 use Rattle.cu_shape.specs.Index.{IsInside, back_along, back, quotients}
 use Rattle.cu_shape.proofs.Axes.{length-axis_by_axis}
 use Rattle.cu_shape.proofs.Places.{inside-length}
 use Rattle.cu_grid.specs.Grid.{RegularGrid, IsGrid}
-use Rattle.cu_op.specs.declared.layout.ArrayInfo.{ArrayInfo}
-use Rattle.cu_op.specs.declared.operation.Op.{Op}
-use Rattle.cu_op.specs.declared.operation.Op.TheVariants.{Map}
-use Rattle.cu_op.specs.Arrays.{grid_at}
 use Rattle.cu_op.specs.Operation.{IsAlignedAlong, IsAligned}
-use Rattle.cu_op.specs.Value.{Elements, loaded, rule, ReadsAt}
-use Rattle.cu_op.proofs.Axes.{read_on, inside_drop, axes_drop}
-use Rattle.cu_op.proofs.Values.{same_kernel}
-
--- the rule depends on what it reads alone
-at_same : (arrays : List ArrayInfo) (ins : List ℕ) (at other : Elements) (idx : List ℕ) (k : ℕ) (o : Option ℕ) → ((a : ℕ) → o ≡ Some a → at a (back (grid_at arrays a).shape idx) ≡ other a (back (grid_at arrays a).shape idx))
-    → option_and_then (λ a. at a (back (grid_at arrays a).shape idx)) o ≡ option_and_then (λ a. other a (back (grid_at arrays a).shape idx)) o
-at_same arrays ins at other idx k None h = refl
-at_same arrays ins at other idx k (Some a) h = h a refl
-
-pub rule_reads : (op : Op) (arrays : List ArrayInfo) (at other : Elements) (array : ℕ) (idx : List ℕ)
-    → ((a : ℕ) (i : List ℕ) → ReadsAt op arrays idx a i → at a i ≡ other a i) → rule op arrays at array idx ≡ rule op arrays other array idx
-rule_reads (Map kernel ins out) arrays at other array idx h =
-    same_kernel kernel.code.items (loaded arrays ins.items at idx) (loaded arrays ins.items other idx)
-    (λ k. at_same arrays ins.items at other idx k (slice_get ins.items k)
-    (λ a e. h a (back (grid_at arrays a).shape idx) ((k, slice_get_within ins.items k a e, get_or_from_slice_get ins.items k a a e), refl)))
+use Rattle.cu_op.proofs.Broadcasting.{read_on, inside_drop, axes_drop}
 
 -- an axis of an aligned argument: an index of the result is read inside the argument, in the chunk from which the result's chunk is read
 inside_on : (n c m d i : ℕ) → ((n ≡ m) × (c ≡ d)) ⊎ ((n ≡ 1) × (m ≢ 1)) → i < m → read_on n i < n

@@ -17,7 +17,7 @@ use Rattle.cu_grid.specs.Grid.{RegularGrid, IsGrid}
 use Rattle.cu_op.specs.declared.kernel.Instr.TheVariants.{Load, Two}
 use Rattle.cu_op.specs.declared.layout.ArrayInfo.{ArrayInfo}
 use Rattle.cu_op.specs.declared.operation.Op.{Op}
-use Rattle.cu_op.specs.declared.operation.Op.TheVariants.{Map}
+use Rattle.cu_op.specs.declared.operation.Op.TheVariants.{Map, Pull}
 use Rattle.cu_op.specs.declared.operation.Planned.{Planned}
 use Rattle.cu_op.specs.Arrays.{array_at, grid_counts, grid_at, type_at, maker_at, chunk_room, chunk_count, no_array}
 use Rattle.cu_op.specs.Cells.{tasks_of}
@@ -26,10 +26,10 @@ use Rattle.cu_op.specs.Layout.{IsArray}
 use Rattle.cu_op.specs.OneMap.{OneMap, Makes, addition_of, IsAlike, AddsAlike}
 use Rattle.cu_op.specs.Operation.{reads_of, writes_of, target_of, IsAlignedAlong, IsAligned, IsReadable, IsMadeBy, IsBefore}
 use Rattle.cu_op.specs.PlanView.{operation_at}
-use Rattle.cu_op.specs.Projection.{projection, greatest, instruction_count}
+use Rattle.cu_op.specs.Projection.{projection, greatest, input_room, output_room, instruction_count}
 use Rattle.cu_op.specs.Sound.{Sound, IsOperation, made_chunks, cells_by}
 use Rattle.cu_op.proofs.KeyTexts.{keys_differ}
-use Rattle.cu_op.proofs.Plans.{rooms_of}
+use Rattle.cu_op.proofs.Plans.{scratch_parts}
 
 -- an array before the last, and the last
 at_input : (inputs : List ArrayInfo) (made : ArrayInfo) (a : ℕ) → a < length inputs → array_at (inputs ++ made ∷ []) a ≡ array_at inputs a
@@ -76,9 +76,11 @@ cells_few inputs made makers few =
 -- the operation itself
 writes_last : (op : Op) (array : ℕ) → Makes op array → writes_of op ≡ array ∷ []
 writes_last (Map kernel ins out) array h = ap (λ a. a ∷ []) h
+writes_last op array h = absurd h
 
 tasks_last : (op : Op) (arrays : List ArrayInfo) (array : ℕ) → Makes op array → tasks_of arrays op ≡ chunk_count (array_at arrays array)
 tasks_last (Map kernel ins out) arrays array h = ap (λ a. chunk_count (array_at arrays a)) h
+tasks_last op arrays array h = absurd h
 
 readable_input : (inputs : List ArrayInfo) (made : ArrayInfo) (a : ℕ) → All (λ i. i.maker ≡ None) inputs → a < length inputs → IsReadable (inputs ++ made ∷ []) 0 a
 readable_input inputs made a makers h =
@@ -224,17 +226,34 @@ greatest_few f m (x ∷ xs) h =
     let rest = greatest_few f m xs (All-tail (λ y. f y ≤ m) x xs h) in
     omega (arith, first, rest)
 
--- the projection of an operation fits 64 bits
+-- ---- the projection of an operation fits 64 bits
+
+-- the only array that is written
+few_written : (arrays : List ArrayInfo) (out : ℕ) → All IsArray arrays → out < length arrays → greatest (map (chunk_room arrays) (out ∷ [])) ≤ 2 ^ 43
+few_written arrays out ok h = let o = room_few arrays out ok h in omega (arith, o)
+
+pub written_few : (op : Op) (arrays : List ArrayInfo) → All IsArray arrays → target_of op < length arrays → greatest (map (chunk_room arrays) (writes_of op)) ≤ 2 ^ 43
+written_few (Map kernel ins out) arrays ok h = few_written arrays out ok h
+written_few (Pull pull ins out) arrays ok h = few_written arrays out ok h
+
+inputs_few : (op : Op) (arrays : List ArrayInfo) → All IsArray arrays → All (λ a. a < length arrays) (reads_of op) → length (reads_of op) ≤ 8 → input_room arrays op ≤ 2 ^ 46
+inputs_few (Map kernel ins out) arrays ok reads few =
+    let s = sum_by-le (chunk_room arrays) (2 ^ 43) ins.items (λ k d h. room_few arrays (get_or ins.items k d) ok (reads k d h)) in
+    let w : length ins.items * 2 ^ 43 ≤ 8 * 2 ^ 43 = mul-le-mul_right (2 ^ 43) few in
+    omega (arith, s, w)
+inputs_few (Pull pull ins out) arrays ok reads few = omega arith
+
+outputs_few : (op : Op) (arrays : List ArrayInfo) → All IsArray arrays → target_of op < length arrays → output_room arrays op ≤ 2 ^ 44
+outputs_few (Map kernel ins out) arrays ok h = let o = room_few arrays out ok h in omega (arith, o)
+outputs_few (Pull pull ins out) arrays ok h = let o = room_few arrays out ok h in omega (arith, o)
+
 pub projection_few : (op : Op) (arrays : List ArrayInfo) (reserved : ℕ) → All IsArray arrays → All (λ a. a < length arrays) (reads_of op) → target_of op < length arrays
     → length (reads_of op) ≤ 8 → instruction_count op ≤ 32 → reserved ≤ 2 ^ 40 → projection arrays reserved op < 2 ^ 64
 projection_few op arrays reserved ok reads target ins code few =
-    let r = rooms_of op arrays in
     let each : All (λ a. chunk_room arrays a ≤ 2 ^ 43) (reads_of op) = λ k d h. room_few arrays (get_or (reads_of op) k d) ok (reads k d h) in
     let g = greatest_few (chunk_room arrays) (2 ^ 43) (reads_of op) each in
-    let s = sum_by-le (chunk_room arrays) (2 ^ 43) (reads_of op) each in
-    let w : length (reads_of op) * 2 ^ 43 ≤ 8 * 2 ^ 43 = mul-le-mul_right (2 ^ 43) ins in
-    let o = room_few arrays (target_of op) ok target in
-    let a = r.scratch in
-    let b = r.inputs in
-    let c = r.outputs in
-    omega (arith, g, s, w, o, a, b, c)
+    let w = written_few op arrays ok target in
+    let a = scratch_parts op arrays in
+    let b = inputs_few op arrays ok reads ins in
+    let c = outputs_few op arrays ok target in
+    omega (arith, g, w, a, b, c)

@@ -6,18 +6,20 @@ use Rattle.std.proofs.lemmas.Bool.Decides.{eqb_tells}
 use Rattle.std.proofs.lemmas.List.Elements.{All-contains}
 use Rattle.std.proofs.lemmas.Option.{slice_get_within, get_or_from_slice_get}
 use Rattle.cu_shape.specs.Index.{back}
+use Rattle.cu_pull.specs.declared.provenance.Provenance.{Provenance}
+use Rattle.cu_pull.specs.declared.provenance.Provenance.TheVariants.{From, Const as Number}
 use Rattle.cu_op.specs.declared.kernel.Instr.{Instr}
 use Rattle.cu_op.specs.declared.kernel.Instr.TheVariants.{Load, Const, One, Two, Select}
 use Rattle.cu_op.specs.declared.layout.ArrayInfo.{ArrayInfo}
 use Rattle.cu_op.specs.declared.operation.Op.{Op}
-use Rattle.cu_op.specs.declared.operation.Op.TheVariants.{Map}
+use Rattle.cu_op.specs.declared.operation.Op.TheVariants.{Map, Pull}
 use Rattle.cu_op.specs.declared.operation.Planned.{Planned}
 use Rattle.cu_op.specs.Arrays.{grid_at, maker_at}
 use Rattle.cu_op.specs.Kernel.{instruction_value, results_from, kernel_value, last_of}
-use Rattle.cu_op.specs.Operation.{reads_of, writes_of, IsReadable, IsBefore, IsMadeBy}
+use Rattle.cu_op.specs.Operation.{reads_of, writes_of, origin_at, IsReadable, IsBefore, IsMadeBy}
 use Rattle.cu_op.specs.PlanView.{PlanView, operation_at}
 use Rattle.cu_op.specs.Sound.{Sound, IsOperation}
-use Rattle.cu_op.specs.Value.{Elements, loaded, rule, updated, values_after, plan_value, Solves}
+use Rattle.cu_op.specs.Value.{Elements, loaded, pulled, rule, ReadsAt, updated, values_after, plan_value, Solves}
 
 -- a kernel depends on what it loads alone
 same_instruction : (i : Instr) (load other : ℕ → Option ℤ) (results : List ℤ) → ((k : ℕ) → load k ≡ other k) → instruction_value i load results ≡ instruction_value i other results
@@ -42,21 +44,33 @@ same_results (i ∷ is) load other results h =
 pub same_kernel : (code : List Instr) (load other : ℕ → Option ℤ) → ((k : ℕ) → load k ≡ other k) → kernel_value code load ≡ kernel_value code other
 same_kernel code load other h = ap (option_and_then last_of) (same_results code load other [] h)
 
--- what input k loads depends on the elements of that input alone
-same_loaded : (arrays : List ArrayInfo) (ins : List ℕ) (at other : Elements) (idx : List ℕ) (k : ℕ) (o : Option ℕ) → ((a : ℕ) → o ≡ Some a → at a (back (grid_at arrays a).shape idx) ≡ other a (back (grid_at arrays a).shape idx))
-    → option_and_then (λ a. at a (back (grid_at arrays a).shape idx)) o ≡ option_and_then (λ a. other a (back (grid_at arrays a).shape idx)) o
-same_loaded arrays ins at other idx k None h = refl
-same_loaded arrays ins at other idx k (Some a) h = h a refl
+-- what an array gives depends on the elements of that array alone
+same_given : (o : Option ℕ) (f g : ℕ → Option ℤ) → ((a : ℕ) → o ≡ Some a → f a ≡ g a) → option_and_then f o ≡ option_and_then g o
+same_given None f g h = refl
+same_given (Some a) f g h = h a refl
 
--- an operation's rule depends on the elements of the arrays that it reads alone
+same_pulled : (ins : List ℕ) (at other : Elements) (o : Provenance) → ((source a : ℕ) (i : List ℕ) → slice_get ins source ≡ Some a → o ≡ From source i → at a i ≡ other a i) → pulled ins at o ≡ pulled ins other o
+same_pulled ins at other (From source i) h = same_given (slice_get ins source) (λ a. at a i) (λ a. other a i) (λ a e. h source a i e refl)
+same_pulled ins at other (Number x) h = refl
+
+-- an operation's rule depends on what it reads alone
+pub rule_reads : (op : Op) (arrays : List ArrayInfo) (at other : Elements) (array : ℕ) (idx : List ℕ)
+    → ((a : ℕ) (i : List ℕ) → ReadsAt op arrays idx a i → at a i ≡ other a i) → rule op arrays at array idx ≡ rule op arrays other array idx
+rule_reads (Map kernel ins out) arrays at other array idx h =
+    same_kernel kernel.code.items (loaded arrays ins.items at idx) (loaded arrays ins.items other idx)
+    (λ k. same_given (slice_get ins.items k) (λ a. at a (back (grid_at arrays a).shape idx)) (λ a. other a (back (grid_at arrays a).shape idx))
+    (λ a e. h a (back (grid_at arrays a).shape idx) ((k, slice_get_within ins.items k a e, get_or_from_slice_get ins.items k a a e), refl)))
+rule_reads (Pull pull ins out) arrays at other array idx h = same_pulled ins.items at other (origin_at arrays pull ins.items out idx) (λ source a i given from. h a i (source, given, from))
+
+-- which is of the arrays that it reads
+pub reads_listed : (op : Op) (arrays : List ArrayInfo) (idx : List ℕ) (a : ℕ) (i : List ℕ) → ReadsAt op arrays idx a i → Contains (reads_of op) a
+reads_listed (Map kernel ins out) arrays idx a i (among, from) = among
+reads_listed (Pull pull ins out) arrays idx a i (source, given, from) = (source, slice_get_within ins.items source a given, get_or_from_slice_get ins.items source a a given)
+
 pub same_rule : (op : Op) (arrays : List ArrayInfo) (at other : Elements) (array : ℕ) (idx : List ℕ)
     → All (λ a. (i : List ℕ) → at a i ≡ other a i) (reads_of op) → rule op arrays at array idx ≡ rule op arrays other array idx
-same_rule (Map kernel ins out) arrays at other array idx h =
-    same_kernel kernel.code.items (loaded arrays ins.items at idx) (loaded arrays ins.items other idx)
-    (λ k. same_loaded arrays ins.items at other idx k (slice_get ins.items k)
-    (λ a e. let l = slice_get_within ins.items k a e in
-    let g : get_or ins.items k a ≡ a = get_or_from_slice_get ins.items k a a e in
-    subst (λ (b : ℕ). at b (back (grid_at arrays b).shape idx) ≡ other b (back (grid_at arrays b).shape idx)) g (h k a l (back (grid_at arrays (get_or ins.items k a)).shape idx))))
+same_rule op arrays at other array idx h =
+    rule_reads op arrays at other array idx (λ a i r. All-contains (λ b. (j : List ℕ) → at b j ≡ other b j) (reads_of op) a h (reads_listed op arrays idx a i r) i)
 
 -- whether an array stands in a list
 pub contains_any : (xs : List ℕ) (a : ℕ) → Contains xs a → list_any (λ b. b == a) xs ≡ true

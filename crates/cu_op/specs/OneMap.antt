@@ -18,6 +18,7 @@ use Rattle.cu_op.specs.Operation.{reads_of, Fits}
 -- the operation is a map that makes this array
 abbrev pub Makes : Op → ℕ → Type 0
 Makes (Map kernel ins out) array = out ≡ array
+Makes op array = ⊥
 
 -- inputs, and an array that a map makes of them
 pub record OneMap (inputs : List ArrayInfo) (made : ArrayInfo) (op : Op) : Type 0 where

@@ -4,14 +4,16 @@ use Rattle.std.specs.Prelude.{◌≡◌, ℕ, ◌<◌, ◌==◌, ℤ, List, [], 
 use Rattle.std.specs.List.{slice_get, list_any}
 use Rattle.cu_num.specs.Dtype.{InRange}
 use Rattle.cu_shape.specs.Index.{back}
+use Rattle.cu_pull.specs.declared.provenance.Provenance.{Provenance}
+use Rattle.cu_pull.specs.declared.provenance.Provenance.TheVariants.{From, Const}
 use Rattle.cu_zarr.specs.Stored.{stored_element}
 use Rattle.cu_op.specs.declared.layout.ArrayInfo.{ArrayInfo}
 use Rattle.cu_op.specs.declared.operation.Op.{Op}
-use Rattle.cu_op.specs.declared.operation.Op.TheVariants.{Map}
+use Rattle.cu_op.specs.declared.operation.Op.TheVariants.{Map, Pull}
 use Rattle.cu_op.specs.declared.operation.Planned.{Planned}
 use Rattle.cu_op.specs.Arrays.{array_at, layout_at, grid_at, type_at, maker_at}
 use Rattle.cu_op.specs.Kernel.{kernel_value}
-use Rattle.cu_op.specs.Operation.{writes_of}
+use Rattle.cu_op.specs.Operation.{writes_of, origin_at}
 use Rattle.cu_op.specs.PlanView.{PlanView, operation_at}
 
 -- for each array number and index an element, where there is one
@@ -22,13 +24,20 @@ Elements = ℕ → List ℕ → Option ℤ
 abbrev pub loaded : List ArrayInfo → List ℕ → Elements → List ℕ → ℕ → Option ℤ
 loaded arrays ins at idx k = option_and_then (λ a. at a (back (grid_at arrays a).shape idx)) (slice_get ins k)
 
+-- the element that a view takes: that of a source, or a number
+abbrev pub pulled : List ℕ → Elements → Provenance → Option ℤ
+pulled ins at (From source idx) = option_and_then (λ a. at a idx) (slice_get ins source)
+pulled ins at (Const x) = Some x
+
 -- the element that an operation gives to an array that it writes, over the elements of the arrays that it reads
 abbrev pub rule : Op → List ArrayInfo → Elements → ℕ → List ℕ → Option ℤ
 rule (Map kernel ins out) arrays at array idx = kernel_value kernel.code.items (loaded arrays ins.items at idx)
+rule (Pull pull ins out) arrays at array idx = pulled ins.items at (origin_at arrays pull ins.items out idx)
 
 -- the rule reads this array at this index
 abbrev pub ReadsAt : Op → List ArrayInfo → List ℕ → ℕ → List ℕ → Type 0
 ReadsAt (Map kernel ins out) arrays idx a from = Contains ins.items a × (from ≡ back (grid_at arrays a).shape idx)
+ReadsAt (Pull pull ins out) arrays idx a from = (source : ℕ) × (slice_get ins.items source ≡ Some a) × (origin_at arrays pull ins.items out idx ≡ From source from)
 
 -- the elements with those of the arrays that the operation writes
 abbrev pub updated : Op → List ArrayInfo → Elements → Elements

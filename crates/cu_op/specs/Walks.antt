@@ -6,7 +6,7 @@ use Rattle.cu_grid.specs.Counts.{IsRegion}
 use Rattle.cu_grid.specs.Cover.{covering}
 use Rattle.cu_op.specs.declared.layout.ArrayInfo.{ArrayInfo}
 use Rattle.cu_op.specs.declared.operation.Op.{Op}
-use Rattle.cu_op.specs.declared.operation.Op.TheVariants.{Map}
+use Rattle.cu_op.specs.declared.operation.Op.TheVariants.{Map, Pull}
 use Rattle.cu_op.specs.declared.cells.Cell.{Cell}
 use Rattle.cu_op.specs.declared.walks.Walk.{Walk}
 use Rattle.cu_op.specs.Arrays.{grid_at}
@@ -53,9 +53,15 @@ output_walks arrays op task = map (λ a. walk a (task_lo arrays op task) (task_h
 abbrev pub read_walk : List ArrayInfo → List ℕ → List ℕ → ℕ → Walk
 read_walk arrays lo hi a = walk a (back_as 0 (grid_at arrays a).shape lo) (back_as 1 (grid_at arrays a).shape hi)
 
--- of each array that the operation reads, by its place, the region from which a region of the result is computed
+-- the whole of an array
+abbrev pub whole_walk : List ArrayInfo → ℕ → Walk
+whole_walk arrays a = walk a (map (λ n. 0) (grid_at arrays a).shape) (grid_at arrays a).shape
+
+-- of each array that the operation reads, by its place, the region from which a region of the result is computed; of a view's source
+-- it is the whole, since from where an element comes only the view tells
 abbrev pub region_walks : List ArrayInfo → Op → List ℕ → List ℕ → List Walk
 region_walks arrays (Map kernel ins out) lo hi = map (read_walk arrays lo hi) ins.items
+region_walks arrays (Pull pull ins out) lo hi = map (whole_walk arrays) ins.items
 
 -- for a task's region
 abbrev pub input_walks : List ArrayInfo → Op → ℕ → List Walk

@@ -35,11 +35,11 @@ pub fn value_law()
         → ((a : ℕ) (i : List ℕ) → ReadsAt op arrays idx a i → at a i ≡ other a i) → rule op arrays at array idx ≡ rule op arrays other array idx }
 {}
 
-/// Each value of a sound plan is a number of its array's type, where the inputs' are; what a store holds of an input is, and
-/// what a kernel that fits gives.
+/// Each value of a sound plan at an index inside its array is a number of the array's type, where the inputs' are; what a store
+/// holds of an input is, and what a kernel that fits gives.
 pub fn range_law()
     ensures values { (p : PlanView) (env : Elements) (a : ℕ) (idx : List ℕ) (x : ℤ) → Sound p → HasTypes p.arrays env
-        → a < length p.arrays → plan_value p env a idx ≡ Some x → InRange (type_at p.arrays a) x }
+        → a < length p.arrays → IsInside (grid_at p.arrays a).shape idx → plan_value p env a idx ≡ Some x → InRange (type_at p.arrays a) x }
     ensures stored { (arrays : List ArrayInfo) (held : List ℕ → Option (List ℕ)) → All IsArray arrays → HasTypes arrays (stored_inputs arrays held) }
     ensures kernel { (code : List Instr) (types : List Dtype) (t : Dtype) (load : ℕ → Option ℤ) (x : ℤ) → KernelFits code types [] t
         → LoadsTypes types load → kernel_value code load ≡ Some x → InRange t x }

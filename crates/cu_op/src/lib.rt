@@ -13,6 +13,7 @@ mod schedule;
 mod walks;
 
 pub use cells::Cell;
+pub use cu_pull::{Axes, Pull};
 pub use kernel::{Instr, Kernel};
 pub use laws::{
     chunk_law, input_law, key_law, one_map_law, range_law, ready_law, task_law, value_law,

@@ -1,7 +1,7 @@
 ghost use Rattle.std.specs.Prelude.{◌≡◌, ◌^◌, ◌<◌, All, length, map, sum_by};
 ghost use Rattle.cu_op.specs.Arrays.{chunk_room};
 ghost use Rattle.cu_op.specs.Operation.{reads_of, writes_of};
-ghost use Rattle.cu_op.specs.Projection.{greatest, projection};
+ghost use Rattle.cu_op.specs.Projection.{greatest, projection, input_room, output_room};
 
 use crate::layout::ArrayInfo;
 use crate::operation::Op;
@@ -16,10 +16,10 @@ pub fn projection_of(arrays: &[ArrayInfo], reserved: u64, op: &Op) -> u64
     ensures { result ≡ projection arrays.now reserved op.now }
 {
     let code = 512 * u64::from(op.steps());
-    let output = room_of(arrays, op.target());
-    let scratch = greatest_room(arrays, op.reads()).max(output);
-    let inputs = rooms(arrays, op.reads());
-    reserved + scratch + inputs + output + code
+    let scratch = greatest_read(arrays, op).max(greatest_written(arrays, op));
+    let inputs = input_room(arrays, op);
+    let outputs = output_room(arrays, op);
+    reserved + scratch + inputs + outputs + code
 }
 
 /// The bytes of a chunk of an array.
@@ -34,16 +34,55 @@ fn room_of(arrays: &[ArrayInfo], array: u32) -> u64
     }
 }
 
-/// The greatest of the chunks of these arrays, in bytes.
-fn greatest_room(arrays: &[ArrayInfo], numbers: &[u32]) -> u64
-    requires { All (λ a. a < length arrays.now) numbers.now }
-    ensures { result ≡ greatest (map (chunk_room arrays.now) numbers.now) }
+/// The greatest of the chunks of the arrays that the operation reads, in bytes.
+fn greatest_read(arrays: &[ArrayInfo], op: &Op) -> u64
+    requires { All (λ a. a < length arrays.now) (reads_of op.now) }
+    ensures { result ≡ greatest (map (chunk_room arrays.now) (reads_of op.now)) }
 {
     let mut room = 0;
-    for number in numbers {
-        room = room_of(arrays, *number).max(room);
+    for at in 0..op.read_count() {
+        if let Some(array) = op.read_at(at) {
+            room = room_of(arrays, array).max(room);
+        }
     }
     room
+}
+
+/// The greatest of the chunks of those that it writes.
+fn greatest_written(arrays: &[ArrayInfo], op: &Op) -> u64
+    requires { All (λ a. a < length arrays.now) (writes_of op.now) }
+    ensures { result ≡ greatest (map (chunk_room arrays.now) (writes_of op.now)) }
+{
+    let mut room = 0;
+    for at in 0..2 {
+        if let Some(array) = op.written(at) {
+            room = room_of(arrays, array).max(room);
+        }
+    }
+    room
+}
+
+/// The bytes of the regions that a task of the operation reads before it computes.
+fn input_room(arrays: &[ArrayInfo], op: &Op) -> u64
+    requires within { All (λ a. a < length arrays.now) (reads_of op.now) }
+    requires small { input_room arrays.now op.now < 2 ^ 64 }
+    ensures { result ≡ input_room arrays.now op.now }
+{
+    match op {
+        Op::Map { ins, .. } => rooms(arrays, ins.as_slice()),
+        Op::Pull { .. } => 0,
+    }
+}
+
+/// The bytes of the regions that a task of the operation computes.
+fn output_room(arrays: &[ArrayInfo], op: &Op) -> u64
+    requires { All (λ a. a < length arrays.now) (writes_of op.now) }
+    ensures { result ≡ output_room arrays.now op.now }
+{
+    match op {
+        Op::Map { out, .. } => room_of(arrays, *out),
+        Op::Pull { out, .. } => room_of(arrays, *out),
+    }
 }
 
 /// The bytes of a chunk of each of these arrays together.

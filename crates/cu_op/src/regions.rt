@@ -1,8 +1,8 @@
 //! The regions of arrays that a task reads and writes.
 ghost use Rattle.std.specs.Prelude.{◌≡◌, ◌==◌, ◌<◌, ◌≤◌, All, length, map, slice_get, OnSome};
 ghost use Rattle.cu_op.specs.Cells.{task_grid};
-ghost use Rattle.cu_op.specs.Operation.{IsNoLonger, reads_of, writes_of};
-ghost use Rattle.cu_op.specs.Walks.{walk, read_walk, region_walks, back_as};
+ghost use Rattle.cu_op.specs.Operation.{CanRead, IsNoLonger, writes_of};
+ghost use Rattle.cu_op.specs.Walks.{walk, read_walk, whole_walk, region_walks, back_as};
 
 use crate::layout::ArrayInfo;
 use crate::operation::Op;
@@ -18,6 +18,7 @@ pub(crate) fn grid_of_tasks(arrays: &[ArrayInfo], op: &Op) -> Grid
 {
     match op {
         Op::Map { out, .. } => arrays[*out as usize].layout.grid,
+        Op::Pull { out, .. } => arrays[*out as usize].layout.grid,
     }
 }
 
@@ -39,13 +40,14 @@ pub(crate) fn output_walks(op: &Op, region: &Region) -> ArrayVec<Walk, 8>
 
 /// Of each array that the operation reads the region from which a region of the result is computed.
 pub(crate) fn read_walks(arrays: &[ArrayInfo], op: &Op, region: &Region) -> ArrayVec<Walk, 8>
-    requires lo { All (IsNoLonger arrays.now region.now.lo) (reads_of op.now) }
-    requires hi { All (IsNoLonger arrays.now region.now.hi) (reads_of op.now) }
+    requires lo { CanRead arrays.now op.now region.now.lo }
+    requires hi { CanRead arrays.now op.now region.now.hi }
     ensures walks { result.items ≡ region_walks arrays.now op.now region.now.lo region.now.hi }
     ensures few { length result.items ≤ 8 }
 {
     match op {
         Op::Map { ins, .. } => map_walks(arrays, ins.as_slice(), region),
+        Op::Pull { ins, .. } => whole_walks(arrays, ins.as_slice()),
     }
 }
 
@@ -65,6 +67,34 @@ fn map_walks(arrays: &[ArrayInfo], ins: &[u32], region: &Region) -> ArrayVec<Wal
         });
     }
     walks
+}
+
+/// The whole of each of these arrays.
+fn whole_walks(arrays: &[ArrayInfo], numbers: &[u32]) -> ArrayVec<Walk, 8>
+    requires few { length numbers.now ≤ 8 }
+    requires within { All (λ a. a < length arrays.now) numbers.now }
+    ensures { result.items ≡ map (whole_walk arrays.now) numbers.now }
+{
+    let mut walks = ArrayVec::new();
+    for array in numbers {
+        walks.push(Walk {
+            array: *array,
+            region: whole(arrays[*array as usize].layout.grid.shape()),
+        });
+    }
+    walks
+}
+
+/// The region of all indices of an array of this shape.
+fn whole(shape: &Dims) -> Region
+    ensures lo { result.lo ≡ map (λ n. 0) shape.now }
+    ensures hi { result.hi ≡ shape.now }
+{
+    let mut lo = *shape;
+    for axis in 0..shape.rank() {
+        lo.put(axis, 0);
+    }
+    Region { lo, hi: *shape }
 }
 
 /// The region of an array of this shape from which a region of a result is read through broadcasting.

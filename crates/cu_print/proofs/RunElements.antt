@@ -18,7 +18,8 @@ use Rattle.cu_store.specs.Steps.{Shown, NoChange}
 use Rattle.cu_command.specs.Seen.{Stepped}
 use Rattle.cu_region.specs.Reading.{ReadsRegion}
 use Rattle.cu_region.specs.Steady.{IsSteady}
-use Rattle.cu_print.specs.Print.{IsArrayChunk, IsStoredElement}
+use Rattle.cu_command.specs.Stored.{IsArrayChunk}
+use Rattle.cu_print.specs.Print.{IsStoredElement}
 use Rattle.cu_print.specs.Runs.{IsChunkRun, AreFrom, numbers_of}
 use Rattle.cu_print.proofs.Written.{length-numbers_of}
 

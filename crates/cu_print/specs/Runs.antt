@@ -18,10 +18,10 @@ use Rattle.cu_store.specs.declared.faults.TaskFault.{TaskFault}
 use Rattle.cu_store.specs.declared.faults.TaskFault.TheVariants.{Store, BadChunk as BadPart, NoMemory as NoRoom}
 use Rattle.cu_region.specs.Steady.{IsSteady}
 use Rattle.cu_command.specs.Seen.{Seen, Stepped}
-use Rattle.cu_command.specs.Stored.{IsArrayLayout}
+use Rattle.cu_command.specs.Stored.{IsArrayLayout, IsArrayChunk}
 use Rattle.cu_command.specs.declared.status.Status.{Status}
 use Rattle.cu_command.specs.declared.status.Status.TheVariants.{WriteFault, BadChunk, DepotFailed, NoMemory}
-use Rattle.cu_print.specs.Print.{IsArrayChunk, IsStoredElement, IsBad, chunk_key_at}
+use Rattle.cu_print.specs.Print.{IsStoredElement, IsBad, chunk_key_at}
 use Rattle.cu_print.specs.Text.{elements_text, WroteAll, WroteSome}
 
 -- A box of indices from `lo` to below `hi` that lies in one chunk, and whose row-major order is that of the array.

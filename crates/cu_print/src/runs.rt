@@ -7,7 +7,7 @@ ghost use Rattle.cu_region.specs.Reading.{bytes_of, ReadsRegion, key_at};
 ghost use Rattle.cu_region.specs.Steady.{IsSteady};
 ghost use Rattle.cu_store.specs.Steps.{Shown, NoChange};
 ghost use Rattle.cu_command.specs.Seen.{Stepped};
-ghost use Rattle.cu_print.specs.Print.{IsArrayChunk};
+ghost use Rattle.cu_command.specs.Stored.{IsArrayChunk};
 ghost use Rattle.cu_print.specs.Runs.{end_on, IsChunkRun, IsShown, IsTried, IsReadEnd, read_end};
 
 use cu_codec::chunk_key;

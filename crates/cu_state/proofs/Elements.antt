@@ -20,7 +20,8 @@ use Rattle.cu_state.specs.Pieces.{PlanRun, Chunk, HoldsPiece, piece_key}
 
 -- the values of a plan are numbers of their arrays' types (the law of ranges)
 abbrev pub HaveRanges : Type 0
-HaveRanges = (p : PlanView) (env : Elements) (a : ℕ) (idx : List ℕ) (x : ℤ) → Sound p → HasTypes p.arrays env → a < length p.arrays → plan_value p env a idx ≡ Some x → InRange (type_at p.arrays a) x
+HaveRanges = (p : PlanView) (env : Elements) (a : ℕ) (idx : List ℕ) (x : ℤ) → Sound p → HasTypes p.arrays env → a < length p.arrays → IsInside (grid_at p.arrays a).shape idx
+    → plan_value p env a idx ≡ Some x → InRange (type_at p.arrays a) x
 
 pub element_held : HaveRanges → (r : PlanRun) (env : Elements) (shown : Shown) (left : IsLeft r env shown) (a : ℕ) (idx : List ℕ) → a < length r.plan.arrays
     → IsInside (grid_at r.plan.arrays a).shape idx → HoldsPiece r env (Chunk (cell a (quotients idx (grid_at r.plan.arrays a).chunk))) shown
@@ -31,7 +32,7 @@ element_held ranges r env shown left a idx within inside (bytes, value, holds) =
     let ok = grid_ok r.plan a left.sound within in
     let here = has_coordinate g idx ok inside in
     let (x, is) = defined_at l (plan_value r.plan env a) (quotients idx g.chunk) idx bytes ok here value (lies_within g idx ok inside) in
-    let fits = ranges r.plan env a idx x left.sound left.typed within is in
+    let fits = ranges r.plan env a idx x left.sound left.typed within inside is in
     let was : left.held (piece_key r (Chunk (cell a (quotients idx g.chunk)))) ≡ Some bytes =
     subst (λ (h : Option Contents). Holds h (piece_key r (Chunk (cell a (quotients idx g.chunk)))) bytes) left.told holds in
     ap (λ (b : Option (List ℕ)). element_in l b idx) was

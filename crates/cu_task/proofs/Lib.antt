@@ -1,5 +1,10 @@
 pub mod ChunkRegions
+pub mod Counting
 pub mod InputReads
+pub mod JobViews
 pub mod MapTask
+pub mod PullTask
 pub mod ReadRegions
 pub mod TaskSteps
+pub mod ViewChunks
+pub mod ViewElements

@@ -10,9 +10,9 @@ use Rattle.cu_num.specs.Dtype.{size_of}
 use Rattle.cu_num.specs.Element.{element_at}
 use Rattle.cu_num.specs.declared.types.Dtype.{Dtype}
 use Rattle.cu_num.specs.declared.layout.Endian.TheVariants.{Little}
-use Rattle.cu_shape.specs.Index.{product, place_of, sums, back, IsInside, differences}
+use Rattle.cu_shape.specs.Index.{product, place_of, index_at, sums, back, IsInside, differences}
 use Rattle.cu_shape.proofs.Places.{index-inside}
-use Rattle.cu_grid.specs.Counts.{IsRegion, IsWithin}
+use Rattle.cu_grid.specs.Counts.{chunk_lo, chunk_hi, IsRegion, IsWithin}
 use Rattle.cu_grid.specs.Cover.{Meets, covering}
 use Rattle.cu_grid.specs.Grid.{IsCoordinate}
 use Rattle.cu_grid.specs.declared.region.Region.{Region}
@@ -20,22 +20,22 @@ use Rattle.cu_grid.proofs.Regions.{region_inside, coordinate-length}
 use Rattle.cu_store.specs.Held.{Contents}
 use Rattle.cu_codec.proofs.Shared.{within_sizes}
 use Rattle.cu_op.specs.Arrays.{grid_at, type_at, grid_counts, chunk_room}
-use Rattle.cu_op.specs.Cells.{cell, tasks_of, task_coord, task_lo, task_hi}
+use Rattle.cu_op.specs.Cells.{cell, tasks_of, task_lo, task_hi}
 use Rattle.cu_op.specs.Kernel.{kernel_value}
 use Rattle.cu_op.specs.KernelTypes.{KernelFits}
-use Rattle.cu_op.specs.Operation.{reads_of, writes_of, target_of, IsReadable, IsMadeBy, Fits}
+use Rattle.cu_op.specs.Operation.{reads_of, writes_of, target_of, IsReadable, IsMadeBy, MapFits, Fits}
 use Rattle.cu_op.specs.PlanView.{PlanView}
 use Rattle.cu_op.specs.Projection.{greatest, scratch_room, input_room, output_room, instruction_count, projection}
 use Rattle.cu_op.specs.Schedule.{op_of}
 use Rattle.cu_op.specs.Sound.{Sound}
 use Rattle.cu_op.specs.Value.{rule, loaded, stored_inputs}
-use Rattle.cu_op.specs.Walks.{walk, back_as, read_walk, walk_cells, input_walks, written_chunks, IsWalkOver}
+use Rattle.cu_op.specs.Walks.{walk, back_as, read_walk, walk_cells, cells_of_walks, input_walks, written_chunks, IsWalkOver}
 use Rattle.cu_op.specs.declared.cells.Cell.{Cell}
 use Rattle.cu_op.specs.declared.kernel.Instr.{Instr}
 use Rattle.cu_op.specs.declared.kernel.Kernel.{Kernel}
 use Rattle.cu_op.specs.declared.layout.ArrayInfo.{ArrayInfo}
 use Rattle.cu_op.specs.declared.operation.Op.{Op}
-use Rattle.cu_op.specs.declared.operation.Op.TheVariants.{Map}
+use Rattle.cu_op.specs.declared.operation.Op.TheVariants.{Map, Pull}
 use Rattle.cu_op.specs.declared.walks.Walk.{Walk}
 use Rattle.cu_op.proofs.CellsOfTasks.{map_contains}
 use Rattle.cu_op.proofs.Plans.{grid_ok}
@@ -47,6 +47,7 @@ use Rattle.cu_kern.specs.declared.lays.Lay.{Lay}
 use Rattle.cu_region.specs.Calls.{chunks_met}
 use Rattle.cu_region.specs.Writing.{HasWholeChunks, buffer_element}
 use Rattle.cu_task.specs.Inputs.{IsReadWalk, room_of_walks, HasRegions, lays_from, IsMapOf}
+use Rattle.cu_task.specs.Task.{read_calls, HasSureCalls}
 use Rattle.cu_task.proofs.ChunkRegions.{whole_chunk, region_small}
 use Rattle.cu_task.proofs.ReadRegions.{ReadsLike, reads_like, short_chunk}
 
@@ -58,7 +59,7 @@ within_ranks (l ∷ ls) [] is w = absurd w
 within_ranks (l ∷ ls) (h ∷ hs) [] w = absurd w
 within_ranks (l ∷ ls) (h ∷ hs) (i ∷ is) w = let e = within_ranks ls hs is w.2 in (ap suc e.0, ap suc e.1)
 
-sums_differences : (lo hi idx : List ℕ) → IsWithin lo hi idx → sums lo (differences idx lo) ≡ idx
+pub sums_differences : (lo hi idx : List ℕ) → IsWithin lo hi idx → sums lo (differences idx lo) ≡ idx
 sums_differences [] [] [] w = refl
 sums_differences [] [] (i ∷ is) w = absurd w
 sums_differences [] (h ∷ hs) is w = absurd w
@@ -156,12 +157,10 @@ greatest_most (m ∷ ms) n (suc k, l, e) = let rest = greatest_most ms n (k, ome
 
 -- ---- by the kind of the operation
 
--- the regions and the rooms of a task
+-- the region of a task and its rooms
 pub record TaskRegions (p : PlanView) (op : Op) (task : ℕ) : Type 0 where
-  pub walks : All (IsReadWalk p.arrays) (input_walks p.arrays op task)
-  pub inputs : input_room p.arrays op ≡ room_of_walks p.arrays (input_walks p.arrays op task)
   pub output : output_room p.arrays op ≡ chunk_room p.arrays (target_of op)
-  pub scratch : All (λ (w : Walk). chunk_room p.arrays w.array ≤ scratch_room p.arrays op) (input_walks p.arrays op task)
+  pub scratch : (a : ℕ) → Contains (reads_of op) a → chunk_room p.arrays a ≤ scratch_room p.arrays op
   pub scratch_out : chunk_room p.arrays (target_of op) ≤ scratch_room p.arrays op
   pub result : IsReadWalk p.arrays (walk (target_of op) (task_lo p.arrays op task) (task_hi p.arrays op task))
   pub whole : HasWholeChunks (grid_at p.arrays (target_of op)) (task_lo p.arrays op task) (task_hi p.arrays op task)
@@ -170,6 +169,14 @@ pub record TaskRegions (p : PlanView) (op : Op) (task : ℕ) : Type 0 where
   pub only : (c : Cell) → Contains (written_chunks p.arrays op task) c
       → (c.array ≡ target_of op) × Meets (grid_at p.arrays (target_of op)) (task_lo p.arrays op task) (task_hi p.arrays op task) c.coord
   pub calls : length (written_chunks p.arrays op task) ≡ chunks_met (grid_at p.arrays (target_of op)) (task_lo p.arrays op task) (task_hi p.arrays op task)
+
+-- the regions that a map's task reads
+pub record MapRegions (p : PlanView) (op : Op) (task : ℕ) : Type 0 where
+  pub walks : All (IsReadWalk p.arrays) (input_walks p.arrays op task)
+  pub inputs : input_room p.arrays op ≡ room_of_walks p.arrays (input_walks p.arrays op task)
+  pub scratch : All (λ (w : Walk). chunk_room p.arrays w.array ≤ scratch_room p.arrays op) (input_walks p.arrays op task)
+  pub calls : read_calls p.arrays op task ≡ length (cells_of_walks p.arrays (input_walks p.arrays op task))
+  pub sure : HasSureCalls op
 
 -- a kernel over them
 pub record TaskKernel (p : PlanView) (op : Op) (task : ℕ) (kernel : Kernel) : Type 0 where
@@ -190,88 +197,116 @@ module _ (p : PlanView) (s : Sound p) (k : ℕ) where
 
   pub target_within : (op : Op) → Fit op → target_of op < length p.arrays
   target_within (Map kernel ins out) fit = (fit.1 0 0 (omega arith)).0
+  target_within (Pull pull ins out) fit = (fit.1 0 0 (omega arith)).0
 
-  region_of : (op : Op) (task : ℕ) → Fit op → task < tasks_of p.arrays op → IsRegion (grid_at p.arrays (target_of op)).shape (task_lo p.arrays op task) (task_hi p.arrays op task)
-  region_of (Map kernel ins out) task fit h =
-      let r = grid_at p.arrays out in
-      let ok = grid_ok p out s (fit.1 0 0 (omega arith)).0 in
-      region_inside r.shape r.chunk (task_coord p.arrays (Map kernel ins out) task) ok.positive ok.ranks (index-inside (grid_counts r) task h)
+  -- the region of a task of an operation whose tasks go over the grid of the one array that it writes
+  abbrev only_coord : ℕ → ℕ → List ℕ
+  only_coord out task = index_at (grid_counts (grid_at p.arrays out)) task
 
-  likes_of : (op : Op) (task : ℕ) → Fit op → task < tasks_of p.arrays op → All (Like p.arrays (task_lo p.arrays op task) (task_hi p.arrays op task)) (reads_of op)
-  likes_of (Map kernel ins out) task fit h i d b =
-      let op = Map kernel ins out in
-      let r = grid_at p.arrays out in
-      let a = get_or ins.items i d in
-      let ok = grid_ok p out s (fit.1 0 0 (omega arith)).0 in
-      let coordinate : IsCoordinate (grid_at p.arrays out) (task_coord p.arrays (Map kernel ins out) task) = index-inside (grid_counts (grid_at p.arrays out)) task h in
-      let region = region_of (Map kernel ins out) task fit h in
-      let n = region_lengths (grid_at p.arrays out).shape (task_lo p.arrays (Map kernel ins out) task) (task_hi p.arrays (Map kernel ins out) task) region in
-      let aligned = fit.2.inputs i d b in
-      let own = grid_ok p (get_or ins.items i d) s (fit.0 i d b).0 in
-      let short = short_chunk (grid_at p.arrays out).shape (grid_at p.arrays out).chunk (task_coord p.arrays (Map kernel ins out) task) ok.ranks (coordinate-length (grid_at p.arrays out) (task_coord p.arrays (Map kernel ins out) task) ok coordinate ∙ sym ok.ranks) in
+  abbrev only_lo : ℕ → ℕ → List ℕ
+  only_lo out task = chunk_lo (grid_at p.arrays out).chunk (only_coord out task)
+
+  abbrev only_hi : ℕ → ℕ → List ℕ
+  only_hi out task = chunk_hi (grid_at p.arrays out).shape (grid_at p.arrays out).chunk (only_coord out task)
+
+  record OnlyResult (out task : ℕ) : Type 0 where
+    region : IsRegion (grid_at p.arrays out).shape (only_lo out task) (only_hi out task)
+    coordinate : IsCoordinate (grid_at p.arrays out) (only_coord out task)
+    result : IsReadWalk p.arrays (walk out (only_lo out task) (only_hi out task))
+    whole : HasWholeChunks (grid_at p.arrays out) (only_lo out task) (only_hi out task)
+    written : (coord : List ℕ) → Meets (grid_at p.arrays out) (only_lo out task) (only_hi out task) coord
+        → Contains (cells_of_walks p.arrays (walk out (only_lo out task) (only_hi out task) ∷ [])) (cell out coord)
+    only : (c : Cell) → Contains (cells_of_walks p.arrays (walk out (only_lo out task) (only_hi out task) ∷ [])) c
+        → (c.array ≡ out) × Meets (grid_at p.arrays out) (only_lo out task) (only_hi out task) c.coord
+    calls : length (cells_of_walks p.arrays (walk out (only_lo out task) (only_hi out task) ∷ [])) ≡ chunks_met (grid_at p.arrays out) (only_lo out task) (only_hi out task)
+
+  only_result : (out task : ℕ) → out < length p.arrays → task < product (grid_counts (grid_at p.arrays out)) → OnlyResult out task
+  only_result out task within h =
+      let g = grid_at p.arrays out in
+      let w = walk out (only_lo out task) (only_hi out task) in
+      let ok = grid_ok p out s within in
+      let coordinate : IsCoordinate (grid_at p.arrays out) (only_coord out task) = index-inside (grid_counts (grid_at p.arrays out)) task h in
+      let region = region_inside g.shape g.chunk (only_coord out task) ok.positive ok.ranks coordinate in
+      let over : IsWalkOver p.arrays (walk out (only_lo out task) (only_hi out task)) = (within, region) in
       record {
-        like = reads_like (grid_at p.arrays (get_or ins.items i d)) (grid_at p.arrays out) (task_lo p.arrays (Map kernel ins out) task) (task_hi p.arrays (Map kernel ins out) task) own aligned n.0 n.1 short;
-        over = read_over p.arrays (get_or ins.items i d) (grid_at p.arrays out) (task_lo p.arrays (Map kernel ins out) task) (task_hi p.arrays (Map kernel ins out) task) (fit.0 i d b).0 aligned region;
-        short = (let l = aligned.rank in let e = n.0 in omega arith);
+        region = region;
+        coordinate = coordinate;
+        result = record { over = over; few = region_small g.shape g.chunk (only_coord out task) ok.ranks (coordinate-length g (only_coord out task) ok coordinate ∙ sym ok.ranks) };
+        whole = whole_chunk g (only_coord out task) ok coordinate;
+        written = λ coord m. from_walk p.arrays (w ∷ []) w (cell out coord) (0, omega arith, refl) (meets_walk p.arrays w coord ok over m);
+        only = λ c there. walk_meets p.arrays w c ok over (subst (λ (cs : List Cell). Contains cs c) (append-nil (walk_cells p.arrays w)) there);
+        calls = ap length (append-nil (walk_cells p.arrays w)) ∙ length-map (covering g.chunk (only_lo out task) (only_hi out task)) (cell out);
       }
+
+  scratch_reads : (ins : List ℕ) (out a : ℕ) → Contains ins a → chunk_room p.arrays a ≤ greatest (map (chunk_room p.arrays) (ins ++ out ∷ []))
+  scratch_reads ins out a there = greatest_most (map (chunk_room p.arrays) (ins ++ out ∷ [])) (chunk_room p.arrays a) (map_contains (chunk_room p.arrays) (ins ++ out ∷ []) a (Contains-append_left ins (out ∷ []) a there))
+
+  scratch_result : (ins : List ℕ) (out : ℕ) → chunk_room p.arrays out ≤ greatest (map (chunk_room p.arrays) (ins ++ out ∷ []))
+  scratch_result ins out = greatest_most (map (chunk_room p.arrays) (ins ++ out ∷ [])) (chunk_room p.arrays out) (map_contains (chunk_room p.arrays) (ins ++ out ∷ []) out (Contains-append_right ins (out ∷ []) out (0, omega arith, refl)))
 
   pub task_regions : (op : Op) (task : ℕ) → Fit op → task < tasks_of p.arrays op → TaskRegions p op task
   task_regions (Map kernel ins out) task fit h =
-      let op = Map kernel ins out in
-      let lo = task_lo p.arrays (Map kernel ins out) task in
-      let hi = task_hi p.arrays (Map kernel ins out) task in
-      let g = grid_at p.arrays out in
-      let within = (fit.1 0 0 (omega arith)).0 in
+      let r = only_result out task (fit.1 0 0 (omega arith)).0 h in
+      record { output = refl; scratch = scratch_reads ins.items out; scratch_out = scratch_result ins.items out; result = r.result; whole = r.whole; written = r.written; only = r.only; calls = r.calls }
+  task_regions (Pull pull ins out) task fit h =
+      let r = only_result out task (fit.1 0 0 (omega arith)).0 h in
+      record { output = refl; scratch = scratch_reads ins.items out; scratch_out = scratch_result ins.items out; result = r.result; whole = r.whole; written = r.written; only = r.only; calls = r.calls }
+
+  -- ---- of a map
+
+  likes_of : (kernel : Kernel) (ins : List ℕ) (out task : ℕ) → All (IsReadable p.arrays k) ins → OnlyResult out task → out < length p.arrays → MapFits p.arrays kernel.code.items ins out
+      → All (Like p.arrays (only_lo out task) (only_hi out task)) ins
+  likes_of kernel ins out task reads only within fits i d b =
       let ok = grid_ok p out s within in
-      let likes = likes_of (Map kernel ins out) task fit h in
-      let region = region_of (Map kernel ins out) task fit h in
-      let over : IsWalkOver p.arrays (walk out (task_lo p.arrays (Map kernel ins out) task) (task_hi p.arrays (Map kernel ins out) task)) = (within, region) in
-      let coordinate : IsCoordinate (grid_at p.arrays out) (task_coord p.arrays (Map kernel ins out) task) = index-inside (grid_counts (grid_at p.arrays out)) task h in
+      let n = region_lengths (grid_at p.arrays out).shape (only_lo out task) (only_hi out task) only.region in
+      let aligned = fits.inputs i d b in
+      let own = grid_ok p (get_or ins i d) s (reads i d b).0 in
+      let short = short_chunk (grid_at p.arrays out).shape (grid_at p.arrays out).chunk (only_coord out task) ok.ranks (coordinate-length (grid_at p.arrays out) (only_coord out task) ok only.coordinate ∙ sym ok.ranks) in
       record {
-        walks = walks_read p.arrays (task_lo p.arrays (Map kernel ins out) task) (task_hi p.arrays (Map kernel ins out) task) ins.items likes;
-        inputs = rooms_sum p.arrays (task_lo p.arrays (Map kernel ins out) task) (task_hi p.arrays (Map kernel ins out) task) ins.items;
-        output = refl;
-        scratch = All-map (λ (w : Walk). chunk_room p.arrays w.array ≤ scratch_room p.arrays (Map kernel ins out)) (read_walk p.arrays (task_lo p.arrays (Map kernel ins out) task) (task_hi p.arrays (Map kernel ins out) task)) ins.items
-            (λ i d b. greatest_most (map (chunk_room p.arrays) (ins.items ++ out ∷ [])) (chunk_room p.arrays (get_or ins.items i d))
-            (map_contains (chunk_room p.arrays) (ins.items ++ out ∷ []) (get_or ins.items i d) (Contains-append_left ins.items (out ∷ []) (get_or ins.items i d) (All-contains_itself ins.items i d b))));
-        scratch_out = greatest_most (map (chunk_room p.arrays) (ins.items ++ out ∷ [])) (chunk_room p.arrays out)
-            (map_contains (chunk_room p.arrays) (ins.items ++ out ∷ []) out (Contains-append_right ins.items (out ∷ []) out (0, omega arith, refl)));
-        result = record {
-          over = over;
-          few = region_small (grid_at p.arrays out).shape (grid_at p.arrays out).chunk (task_coord p.arrays (Map kernel ins out) task) ok.ranks (coordinate-length (grid_at p.arrays out) (task_coord p.arrays (Map kernel ins out) task) ok coordinate ∙ sym ok.ranks);
-        };
-        whole = whole_chunk (grid_at p.arrays out) (task_coord p.arrays (Map kernel ins out) task) ok coordinate;
-        written = λ coord m. from_walk p.arrays (walk out (task_lo p.arrays (Map kernel ins out) task) (task_hi p.arrays (Map kernel ins out) task) ∷ []) (walk out (task_lo p.arrays (Map kernel ins out) task) (task_hi p.arrays (Map kernel ins out) task)) (cell out coord) (0, omega arith, refl)
-            (meets_walk p.arrays (walk out (task_lo p.arrays (Map kernel ins out) task) (task_hi p.arrays (Map kernel ins out) task)) coord ok over m);
-        only = λ c there. walk_meets p.arrays (walk out (task_lo p.arrays (Map kernel ins out) task) (task_hi p.arrays (Map kernel ins out) task)) c ok over
-            (subst (λ (cs : List Cell). Contains cs c) (append-nil (walk_cells p.arrays (walk out (task_lo p.arrays (Map kernel ins out) task) (task_hi p.arrays (Map kernel ins out) task)))) there);
-        calls = ap length (append-nil (walk_cells p.arrays (walk out (task_lo p.arrays (Map kernel ins out) task) (task_hi p.arrays (Map kernel ins out) task))))
-            ∙ length-map (covering (grid_at p.arrays out).chunk (task_lo p.arrays (Map kernel ins out) task) (task_hi p.arrays (Map kernel ins out) task)) (cell out);
+        like = reads_like (grid_at p.arrays (get_or ins i d)) (grid_at p.arrays out) (only_lo out task) (only_hi out task) own aligned n.0 n.1 short;
+        over = read_over p.arrays (get_or ins i d) (grid_at p.arrays out) (only_lo out task) (only_hi out task) (reads i d b).0 aligned only.region;
+        short = (let l = aligned.rank in let e = n.0 in omega arith);
       }
+
+  pub map_regions : (op : Op) (task : ℕ) (kernel : Kernel) → Fit op → task < tasks_of p.arrays op → IsMapOf op kernel → MapRegions p op task
+  map_regions (Map own ins out) task kernel fit h is =
+      let within = (fit.1 0 0 (omega arith)).0 in
+      let likes = likes_of own ins.items out task fit.0 (only_result out task within h) within fit.2 in
+      record {
+        walks = walks_read p.arrays (only_lo out task) (only_hi out task) ins.items likes;
+        inputs = rooms_sum p.arrays (only_lo out task) (only_hi out task) ins.items;
+        scratch = All-map (λ (w : Walk). chunk_room p.arrays w.array ≤ scratch_room p.arrays (Map own ins out)) (read_walk p.arrays (only_lo out task) (only_hi out task)) ins.items
+            (λ i d b. scratch_reads ins.items out (get_or ins.items i d) (All-contains_itself ins.items i d b));
+        calls = refl;
+        sure = tt;
+      }
+  map_regions (Pull pull ins out) task kernel fit h is = absurd is
 
   pub task_kernel : (op : Op) (task : ℕ) (kernel : Kernel) → Fit op → task < tasks_of p.arrays op → IsMapOf op kernel → TaskKernel p op task kernel
   task_kernel (Map own ins out) task kernel fit h is =
-      let likes = likes_of (Map own ins out) task fit h in
-      let lo = task_lo p.arrays (Map own ins out) task in
-      let hi = task_hi p.arrays (Map own ins out) task in
+      let within = (fit.1 0 0 (omega arith)).0 in
+      let likes = likes_of own ins.items out task fit.0 (only_result out task within h) within fit.2 in
+      let lo = only_lo out task in
+      let hi = only_hi out task in
       subst (TaskKernel p (Map own ins out) task) (sym is) (record {
-        fits = subst (λ (ts : List Dtype). KernelFits own.code.items ts [] (type_at p.arrays out)) (sym (types_of_lays p.arrays (task_lo p.arrays (Map own ins out) task) (task_hi p.arrays (Map own ins out) task) 0 ins.items)) fit.2.kernel;
-        lays = λ room most. lays_fit p.arrays (task_lo p.arrays (Map own ins out) task) (task_hi p.arrays (Map own ins out) task) 0 room ins.items likes (omega (arith, most));
+        fits = subst (λ (ts : List Dtype). KernelFits own.code.items ts [] (type_at p.arrays out)) (sym (types_of_lays p.arrays lo hi 0 ins.items)) fit.2.kernel;
+        lays = λ room most. lays_fit p.arrays (only_lo out task) (only_hi out task) 0 room ins.items likes (omega (arith, most));
         words = refl;
-        value = λ held whole output has value idx w. map_rule p.arrays (task_lo p.arrays (Map own ins out) task) (task_hi p.arrays (Map own ins out) task) held whole idx w own.code.items (type_at p.arrays out) output ins.items likes has value;
+        value = λ held whole output has value idx w. map_rule p.arrays (only_lo out task) (only_hi out task) held whole idx w own.code.items (type_at p.arrays out) output ins.items likes has value;
       })
+  task_kernel (Pull pull ins out) task kernel fit h is = absurd is
 
--- the bytes that a task is lent are scratch, a chunk of each input and a chunk of the result
-pub record Lent (p : PlanView) (k task bytes : ℕ) : Type 0 where
-  pub parts : bytes ≡ scratch_room p.arrays (op_of p k) + room_of_walks p.arrays (input_walks p.arrays (op_of p k) task) + chunk_room p.arrays (target_of (op_of p k))
+-- the bytes that a task is lent are scratch, these bytes of input regions and a chunk of the result
+pub record Lent (p : PlanView) (k inputs bytes : ℕ) : Type 0 where
+  pub parts : bytes ≡ scratch_room p.arrays (op_of p k) + inputs + chunk_room p.arrays (target_of (op_of p k))
   pub small : bytes < 2 ^ 64
 
-pub rooms_of : (p : PlanView) (k task bytes words : ℕ) → Sound p → k < length p.ops → TaskRegions p (op_of p k) task → words ≡ 64 * instruction_count (op_of p k)
-    → p.reserved + bytes + 8 * words ≡ projection p.arrays p.reserved (op_of p k) → Lent p k task bytes
-rooms_of p k task bytes words s below regions count room =
+pub rooms_of : (p : PlanView) (k task inputs bytes words : ℕ) → Sound p → k < length p.ops → TaskRegions p (op_of p k) task → input_room p.arrays (op_of p k) ≡ inputs → words ≡ 64 * instruction_count (op_of p k)
+    → p.reserved + bytes + 8 * words ≡ projection p.arrays p.reserved (op_of p k) → Lent p k inputs bytes
+rooms_of p k task inputs bytes words s below regions input count room =
     let o = s.operations k below in
     record {
-      parts = sums p.reserved bytes words (scratch_room p.arrays (op_of p k)) (input_room p.arrays (op_of p k)) (output_room p.arrays (op_of p k)) (instruction_count (op_of p k)) _ _ regions.inputs regions.output count room;
+      parts = sums p.reserved bytes words (scratch_room p.arrays (op_of p k)) (input_room p.arrays (op_of p k)) (output_room p.arrays (op_of p k)) (instruction_count (op_of p k)) _ _ input regions.output count room;
       small = few p.reserved bytes words _ _ room o.projected o.room;
     }
   where

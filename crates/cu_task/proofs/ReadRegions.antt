@@ -11,7 +11,7 @@ use Rattle.cu_grid.specs.Counts.{chunk_lo, chunk_hi}
 use Rattle.cu_grid.specs.Grid.{RegularGrid, IsGrid}
 use Rattle.cu_op.specs.Operation.{IsAlignedAlong, IsAligned}
 use Rattle.cu_op.specs.Walks.{back_as}
-use Rattle.cu_op.proofs.Axes.{axes_drop, inside_drop}
+use Rattle.cu_op.proofs.Broadcasting.{axes_drop, inside_drop}
 use Rattle.cu_kern.specs.Lays.{StretchesAlong, BroadcastsTo}
 
 -- on each axis a region has at most a chunk's size

@@ -22,7 +22,7 @@ use Rattle.cu_op.proofs.WalkCells.{one_walk, from_walk, kept_walk}
 use Rattle.cu_region.specs.Steady.{IsSteady}
 use Rattle.cu_region.specs.Writing.{buffer_element, chunk_value, RegionPut, LateIsOwn, StoresRegion, IsWriteFault}
 use Rattle.cu_task.specs.Inputs.{HasRegions, IsWalkKey, IsTaskInputFault}
-use Rattle.cu_task.specs.Task.{IsTaskReady, TaskChange, HoldsCells, IsTaskFault}
+use Rattle.cu_task.specs.Task.{IsTaskReady, TaskChange, HoldsCells, HasResult, IsTaskFault}
 use Rattle.cu_task.proofs.MapTask.{TaskRegions, task_regions}
 
 module _ (p : PlanView) (s : Sound p) (k task : ℕ) (below : k < length p.ops) (small : task < tasks_of p.arrays (op_of p k)) where
@@ -61,12 +61,7 @@ module _ (p : PlanView) (s : Sound p) (k task : ℕ) (below : k < length p.ops) 
   steady_reads env shown ready key bytes (c, there, is) among =
       ap ready.held is ∙ ready.steady c bytes (kept_cells c there) (subst (λ (x : List ℕ). IsAmong shown.late x bytes) is among)
 
-  -- what a map makes of what is held
-  abbrev Gives : Contents → List ℕ → Type 0
-  Gives held output = (idx : List ℕ) → IsWithin lo hi idx
-      → rule (op_of p k) p.arrays (stored_inputs p.arrays held) target idx ≡ buffer_element (type_at p.arrays target) lo hi output idx
-
-  pub value_same : (env : Elements) (held : Contents) (output : List ℕ) → IsReady p k task env held → Gives held output → (coord : List ℕ) → Meets (grid_at p.arrays target) lo hi coord
+  pub value_same : (env : Elements) (held : Contents) (output : List ℕ) → IsReady p k task env held → HasResult p k task held output → (coord : List ℕ) → Meets (grid_at p.arrays target) lo hi coord
       → chunk_value (array_at p.arrays target) lo hi output coord ≡ cell_value p env (cell target coord)
   value_same env held output ready gives coord m =
       spelled_alike (layout_at p.arrays target) (buffer_element (type_at p.arrays target) lo hi output) (plan_value p env target) coord (grid_ok p target s regions.result.over.0) m.0
@@ -86,6 +81,12 @@ module _ (p : PlanView) (s : Sound p) (k task : ℕ) (below : k < length p.ops) 
   carries start inputs output read gives env ready coord m =
       let has = read ready.held ready.told (steady_reads env start ready) in
       value_same env ready.held output ready.inputs (λ idx w. gives ready.held idx has w) coord m
+
+  -- the same where what was made is made of what was held at first
+  pub carries_held : (start : Shown) (output : List ℕ)
+      → ((held : Contents) → start.held ≡ Some held → IsSteady (IsWalkKey p.arrays (input_walks p.arrays (op_of p k) task)) (Some held) start.late → HasResult p k task held output)
+      → Carries start output
+  carries_held start output gives env ready coord m = value_same env ready.held output ready.inputs (gives ready.held ready.told (steady_reads env start ready)) coord m
 
   pub puts_cells : (start : Shown) (output : List ℕ) → Carries start output → Within (RegionPut (array_at p.arrays target) lo hi output) (TaskChange p k task start)
   puts_cells start output same key value (bytes, is, (coord, m, e, v)) =

@@ -13,7 +13,8 @@ use Rattle.cu_op.specs.declared.cells.Cell.{Cell}
 use Rattle.cu_op.specs.declared.layout.ArrayInfo.{ArrayInfo}
 use Rattle.cu_op.specs.declared.kernel.Kernel.{Kernel}
 use Rattle.cu_op.specs.declared.operation.Op.{Op}
-use Rattle.cu_op.specs.declared.operation.Op.TheVariants.{Map}
+use Rattle.cu_op.specs.declared.operation.Op.TheVariants.{Map, Pull}
+use Rattle.cu_pull.specs.declared.pull.Pull.{Pull as View}
 use Rattle.cu_op.specs.declared.walks.Walk.{Walk}
 use Rattle.cu_kern.specs.declared.lays.Lay.{Lay}
 use Rattle.cu_region.specs.Reading.{ReadsRegion}
@@ -52,3 +53,9 @@ IsTaskInputFault old new arrays walks NoMemory = IsTrue new.lacks
 -- the operation is a map of this kernel
 abbrev pub IsMapOf : Op → Kernel → Type 0
 IsMapOf (Map kernel ins out) code = code ≡ kernel
+IsMapOf op code = ⊥
+
+-- the operation is this view of these arrays
+abbrev pub IsPullOf : Op → View → List ℕ → Type 0
+IsPullOf (Pull pull ins out) view sources = (view ≡ pull) × (sources ≡ ins.items)
+IsPullOf op view sources = ⊥

@@ -1,2 +1,4 @@
 pub mod Inputs
 pub mod Task
+pub mod ViewJobs
+pub mod Views

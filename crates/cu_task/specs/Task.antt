@@ -1,17 +1,26 @@
 -- A task of a plan: what it stands on, what it changes and leaves, and why it fails. This project's own rules.
-use Rattle.std.specs.Prelude.{◌≡◌, ◌≢◌, ℕ, ◌+◌, IsTrue, List, length, Contains, Some}
+use Rattle.std.specs.Prelude.{◌≡◌, ◌≢◌, ℕ, ◌+◌, IsTrue, true, List, length, Contains, Some}
+use Rattle.cu_grid.specs.Counts.{IsWithin}
 use Rattle.cu_store.specs.Faults.{Rose}
 use Rattle.cu_store.specs.Held.{Contents, IsAmong, Holds}
 use Rattle.cu_store.specs.Steps.{Shown, Changes}
 use Rattle.cu_store.specs.declared.faults.TaskFault.{TaskFault}
 use Rattle.cu_store.specs.declared.faults.TaskFault.TheVariants.{Store, BadChunk, NoMemory}
-use Rattle.cu_op.specs.Arrays.{chunk_room}
+use Rattle.cu_op.specs.Arrays.{type_at, chunk_room}
+use Rattle.cu_op.specs.Cells.{task_lo, task_hi}
+use Rattle.cu_op.specs.Operation.{target_of}
 use Rattle.cu_op.specs.PlanView.{PlanView}
 use Rattle.cu_op.specs.Schedule.{op_of, key_of, cell_value, IsReady}
-use Rattle.cu_op.specs.Value.{Elements}
+use Rattle.cu_op.specs.Value.{Elements, rule, stored_inputs}
 use Rattle.cu_op.specs.Walks.{cells_of_walks, input_walks, written_chunks, read_chunks}
 use Rattle.cu_op.specs.declared.cells.Cell.{Cell}
+use Rattle.cu_op.specs.declared.layout.ArrayInfo.{ArrayInfo}
+use Rattle.cu_op.specs.declared.operation.Op.{Op}
+use Rattle.cu_op.specs.declared.operation.Op.TheVariants.{Map, Pull}
+use Rattle.cu_pull.specs.declared.pull.Pull.{Pull as View}
 use Rattle.cu_region.specs.Steady.{HoldsLength}
+use Rattle.cu_region.specs.Writing.{buffer_element}
+use Rattle.cu_task.specs.Views.{ViewTask, is_exact, view_calls}
 
 -- What a task stands on: the contents are told and give each element that it reads its value; no late put changes a chunk that it reads, and each on a
 -- chunk that it writes carries that chunk's value.
@@ -32,9 +41,30 @@ abbrev pub HoldsCells : PlanView → ℕ → ℕ → Elements → Shown → Type
 HoldsCells p k task env shown = (c : Cell) → Contains (written_chunks p.arrays (op_of p k) task) c
     → (bytes : List ℕ) × (cell_value p env c ≡ Some bytes) × Holds shown.held (key_of p.arrays c) bytes
 
--- The calls of a depot that a task makes: one for each chunk that it reads, for each of its inputs, and one for each that it writes.
+-- The view and the region of a task of it.
+abbrev pub view_task : List ArrayInfo → View → List ℕ → ℕ → List ℕ → List ℕ → ViewTask
+view_task arrays pull ins out lo hi = record { arrays = arrays; pull = pull; ins = ins; out = out; lo = lo; hi = hi }
+
+-- The calls of a depot by which a task reads: of a map one for each chunk that it reads, for each of its inputs, and of a view one for
+-- each chunk that it needs, for each of its sources.
+abbrev pub read_calls : List ArrayInfo → Op → ℕ → ℕ
+read_calls arrays (Map kernel ins out) task = length (cells_of_walks arrays (input_walks arrays (Map kernel ins out) task))
+read_calls arrays (Pull pull ins out) task = view_calls (view_task arrays pull ins.items out (task_lo arrays (Pull pull ins out) task) (task_hi arrays (Pull pull ins out) task)) (length ins.items)
+
+-- and one for each that it writes
 abbrev pub calls_of : PlanView → ℕ → ℕ → ℕ
-calls_of p k task = length (cells_of_walks p.arrays (input_walks p.arrays (op_of p k) task)) + length (written_chunks p.arrays (op_of p k) task)
+calls_of p k task = read_calls p.arrays (op_of p k) task + length (written_chunks p.arrays (op_of p k) task)
+
+-- a task makes exactly so many where it doesn't fail; of a reshape it may make fewer
+abbrev pub HasSureCalls : Op → Type 0
+HasSureCalls (Map kernel ins out) = Unit {0}
+HasSureCalls (Pull pull ins out) = is_exact pull ≡ true
+
+-- the buffer has, for each index of the task's region, what the operation's rule gives over what is held
+abbrev pub HasResult : PlanView → ℕ → ℕ → Contents → List ℕ → Type 0
+HasResult p k task held output = (idx : List ℕ) → IsWithin (task_lo p.arrays (op_of p k) task) (task_hi p.arrays (op_of p k) task) idx
+    → rule (op_of p k) p.arrays (stored_inputs p.arrays held) (target_of (op_of p k)) idx
+    ≡ buffer_element (type_at p.arrays (target_of (op_of p k))) (task_lo p.arrays (op_of p k) task) (task_hi p.arrays (op_of p k) task) output idx
 
 -- The store fails only where a call of it failed, the count risen in it. A chunk is bad only where it is one that the task
 -- reads and its key holds `got` bytes, which aren't the bytes of a chunk. Want of memory comes only of a store that lacks.

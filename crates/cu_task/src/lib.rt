@@ -2,6 +2,9 @@
 #![tactic(auto)]
 
 mod inputs;
+mod laws;
 mod run;
+mod views;
 
+pub use laws::needed_chunks_law;
 pub use run::run_task;

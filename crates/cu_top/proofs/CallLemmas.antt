@@ -3,7 +3,7 @@ use Rattle.std.proofs.Common.{◌≡◌, ◌⊎◌, inl, inr, ℕ, ◌<◌, fals
 use Rattle.std.proofs.lemmas.List.{append-nil}
 use Rattle.cu_form.specs.Expression.{Expression}
 use Rattle.cu_read.specs.Read.{expression_of, whole_fault}
-use Rattle.cu_read.specs.declared.faults.ReadFault.{ReadFault as TextFault}
+use Rattle.cu_read.specs.declared.faults.ReadFault.{ReadFault as ExpressionFault}
 use Rattle.cu_store.specs.Steps.{Shown}
 use Rattle.cu_expr.specs.declared.inputs.InputInfo.{InputInfo}
 use Rattle.cu_command.specs.Inputs.{IsTurn, names_of}
@@ -47,7 +47,7 @@ same_expression left text (Some rest) (took, inl ended) = ap expression_of (sym 
 same_expression left text (Some rest) (took, inr long) =
     long_fault text (omega (arith, long)) ∙ sym (long_fault left (omega (arith, long, ap length took, length-append text rest)))
 
-err_or_ok : (r : Result Expression TextFault) (e : Expression) (f : TextFault) → r ≡ Ok e → r ≡ Err f → ⊥
+err_or_ok : (r : Result Expression ExpressionFault) (e : Expression) (f : ExpressionFault) → r ≡ Ok e → r ≡ Err f → ⊥
 err_or_ok r e f ok err = cc
 
 -- a text that says an expression is read whole
@@ -59,20 +59,20 @@ same_text left text (Some rest) e (took, inr long) said =
 
 -- ---- a text that is no expression
 
-not_both : (r : Result Expression TextFault) (e : Expression) (f : TextFault) → r ≡ Ok e → r ≡ Err f → ⊥
+not_both : (r : Result Expression ExpressionFault) (e : Expression) (f : ExpressionFault) → r ≡ Ok e → r ≡ Err f → ⊥
 not_both r e f ok err = cc
 
-same_fault : (r : Result Expression TextFault) (f g : TextFault) → r ≡ Err f → r ≡ Err g → f ≡ g
+same_fault : (r : Result Expression ExpressionFault) (f g : ExpressionFault) → r ≡ Err f → r ≡ Err g → f ≡ g
 same_fault r f g one other = cc
 
-no_turn : (r : Result Expression TextFault) (f : TextFault) (entry : Shown) (name : List ℕ) → r ≡ Err f → IsTurn (names_or_none r) entry name → ⊥
-no_turn r f entry name err turn = ends (subst (λ (x : Result Expression TextFault). IsTurn (names_or_none x) entry name) err turn).before _ _ (subst (λ (x : Result Expression TextFault). IsTurn (names_or_none x) entry name) err turn).place
+no_turn : (r : Result Expression ExpressionFault) (f : ExpressionFault) (entry : Shown) (name : List ℕ) → r ≡ Err f → IsTurn (names_or_none r) entry name → ⊥
+no_turn r f entry name err turn = ends (subst (λ (x : Result Expression ExpressionFault). IsTurn (names_or_none x) entry name) err turn).before _ _ (subst (λ (x : Result Expression ExpressionFault). IsTurn (names_or_none x) entry name) err turn).place
   where
     ends : (before : List InputInfo) (name : List ℕ) (behind : List (List ℕ)) → [] ≡ names_of before ++ name ∷ behind → ⊥
     ends [] name behind e = cc
     ends (i ∷ is) name behind e = cc
 
-module _ (c : RunCase) (f : TextFault) (err : expression_of c.text ≡ Err f) where
+module _ (c : RunCase) (f : ExpressionFault) (err : expression_of c.text ≡ Err f) where
   no_job : (job : Job) → IsJob c.old.depot c.text job → ⊥
   no_job job is = not_both (expression_of c.text) job.expr f is.said err
 
@@ -80,7 +80,7 @@ module _ (c : RunCase) (f : TextFault) (err : expression_of c.text ≡ Err f) wh
   pub refused_run : (status : Status) → Ran c status → IsRefusedText f status
   refused_run (BadExpr code node) ran =
       let same = same_fault (expression_of c.text) f (record { code = code; node = node }) err ran.1 in
-      (sym (ap (λ (x : TextFault). x.code) same), sym (ap (λ (x : TextFault). x.node) same))
+      (sym (ap (λ (x : ExpressionFault). x.code) same), sym (ap (λ (x : ExpressionFault). x.node) same))
   refused_run NoMemory ran = tt
   refused_run (BadType code node) ran = not_both (expression_of c.text) ran.1.expr f ran.1.said err
   refused_run (NoArray name) ran = no_turn (expression_of c.text) f c.old.depot name err ran.1.0
@@ -99,7 +99,7 @@ module _ (c : RunCase) (f : TextFault) (err : expression_of c.text ≡ Err f) wh
   refused_run status ran = absurd ran
 
 -- so does the command
-pub refused_text : (options : Options) (old new : Scene) (left : List ℕ) (f : TextFault) (status : Status) → old.source.told ≡ Some left → expression_of left ≡ Err f → RunTells options old new status
+pub refused_text : (options : Options) (old new : Scene) (left : List ℕ) (f : ExpressionFault) (status : Status) → old.source.told ≡ Some left → expression_of left ≡ Err f → RunTells options old new status
     → IsRefusedText f status
 refused_text options old new left f ReadFault told err tells = tt
 refused_text options old new left f NoMemory told err tells = tt

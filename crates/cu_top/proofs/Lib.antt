@@ -1,5 +1,6 @@
 mod AskLemmas
 mod CallLemmas
+mod CheckLemmas
 mod Completeness
 mod OptionLemmas
 mod PlanLemmas

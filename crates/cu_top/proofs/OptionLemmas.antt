@@ -2,7 +2,7 @@
 use Rattle.std.proofs.Common.{◌≡◌, ℕ, ◌≤◌, ◌^◌, ◌&&◌, nat_le, Bool, true, false, List, [], ◌∷◌, Option, Some, None, Result, Ok, Err, option_map, option_and_then, unwrap_or, refl, sym, subst, inl, inr, ◌⊎◌, arith, leb-true, lit≤, if◌then◌else◌, bytes_eq, codes}
 use Rattle.std.specs.Str.Parse.{without_leading_plus, digits_value}
 use Rattle.cu_name.specs.Name.{is_name}
-use Rattle.cu_top.specs.Words.{Command, run, load, print, is_number, memory_of, retries_of, once, given_with, options_from, or_code, nothing_given, retries_in, is_plain, print_of, print_in, command_of}
+use Rattle.cu_top.specs.Words.{Command, run, load, check, print, is_number, memory_of, retries_of, once, given_with, options_from, or_code, nothing_given, retries_in, is_plain, print_of, print_in, command_of}
 use Rattle.cu_top.specs.declared.words.Given.{Given}
 use Rattle.cu_lower.specs.declared.options.Options.{Options}
 
@@ -85,11 +85,13 @@ code_ok : {T : Type 0} (r : Option T) (code : ℕ) (x : T) → or_code r code �
 code_ok None code x e = cc
 code_ok (Some y) code x e = cc
 
-three : (a b c : Bool) (x y z : Result Command ℕ) (w : Command) → (if a then x else (if b then y else (if c then z else Err 1))) ≡ Ok w → (x ≡ Ok w) ⊎ (y ≡ Ok w) ⊎ (z ≡ Ok w)
-three true b c x y z w e = inl e
-three false true c x y z w e = inr (inl e)
-three false false true x y z w e = inr (inr e)
-three false false false x y z w e = cc
+one_of : (a b c d : Bool) (x y z v : Result Command ℕ) (w : Command) → (if a then x else (if b then y else (if c then z else (if d then v else Err 1)))) ≡ Ok w
+    → (x ≡ Ok w) ⊎ (y ≡ Ok w) ⊎ (z ≡ Ok w) ⊎ (v ≡ Ok w)
+one_of true b c d x y z v w e = inl e
+one_of false true c d x y z v w e = inr (inl e)
+one_of false false true d x y z v w e = inr (inr (inl e))
+one_of false false false true x y z v w e = inr (inr (inr e))
+one_of false false false false x y z v w e = cc
 
 mapped_to : {A : Type 0} (f : A → Command) (o : Option A) (c : Command) → option_map f o ≡ Some c → (x : A) × (o ≡ Some x) × (f x ≡ c)
 mapped_to f None c e = cc
@@ -128,12 +130,13 @@ print_in_is (a ∷ b ∷ d ∷ []) c e = elim (either_print (bytes_eq a (codes "
 print_in_is (a ∷ b ∷ d ∷ f ∷ rest) c e = cc
 
 commands : (command : List ℕ) (words : List (List ℕ)) (c : Command) → command_of (command ∷ words) ≡ Ok c
-    → ((o : Options) × (options_from nothing_given words ≡ Some o) × (run o ≡ c)) ⊎ ((n : ℕ) × (retries_in words ≡ Some n) × (load n ≡ c)) ⊎ IsPrint c
+    → ((o : Options) × (options_from nothing_given words ≡ Some o) × (run o ≡ c)) ⊎ ((n : ℕ) × (load n ≡ c)) ⊎ ((n : ℕ) × (check n ≡ c)) ⊎ IsPrint c
 unfolding command_of
-commands command words c e = elim (three (bytes_eq command (codes "run")) (bytes_eq command (codes "load")) (bytes_eq command (codes "print")) _ _ _ c e) [
+commands command words c e = elim (one_of (bytes_eq command (codes "run")) (bytes_eq command (codes "load")) (bytes_eq command (codes "check")) (bytes_eq command (codes "print")) _ _ _ _ c e) [
   | inl is ↦ inl (mapped_to run (options_from nothing_given words) c (code_ok _ 2 c is))
-  | inr (inl is) ↦ inr (inl (mapped_to load (retries_in words) c (code_ok _ 2 c is)))
-  | inr (inr is) ↦ inr (inr (print_in_is words c is))
+  | inr (inl is) ↦ let (n, found, same) = mapped_to load (retries_in words) c (code_ok _ 2 c is) in inr (inl (n, same))
+  | inr (inr (inl is)) ↦ let (n, found, same) = mapped_to check (retries_in words) c (code_ok _ 2 c is) in inr (inr (inl (n, same)))
+  | inr (inr (inr is)) ↦ inr (inr (inr (print_in_is words c is)))
 ]
 
 no_command : (c : Command) → command_of [] ≡ Ok c → ⊥
@@ -149,6 +152,12 @@ same_print a b m n e = cc
 run_not_load : (o : Options) (n : ℕ) → run o ≡ load n → ⊥
 run_not_load o n e = cc
 
+run_not_check : (o : Options) (n : ℕ) → run o ≡ check n → ⊥
+run_not_check o n e = cc
+
+check_not_print : (m : ℕ) (name : List ℕ) (n : ℕ) → check m ≡ print name n → ⊥
+check_not_print m name n e = cc
+
 run_not_print : (o : Options) (name : List ℕ) (n : ℕ) → run o ≡ print name n → ⊥
 run_not_print o name n e = cc
 
@@ -161,8 +170,9 @@ run_bounded [] o e = absurd (no_command (run o) e)
 run_bounded (command ∷ words) o e = elim (commands command words (run o) e) [
   | inl (p, found, is) ↦ subst (λ (q : Options). (q.allowed ≤ 2 ^ 40) × (q.reserved ≤ 2 ^ 40) × (q.retries ≤ 8)) (same_run p o is)
       (from_bounded nothing_given words p (record { allowed = tt; reserved = tt; retries = tt }) found)
-  | inr (inl (n, found, is)) ↦ absurd (run_not_load o n (sym is))
-  | inr (inr p) ↦ absurd (run_not_print o p.name p.retries (sym p.is))
+  | inr (inl (n, is)) ↦ absurd (run_not_load o n (sym is))
+  | inr (inr (inl (n, is))) ↦ absurd (run_not_check o n (sym is))
+  | inr (inr (inr p)) ↦ absurd (run_not_print o p.name p.retries (sym p.is))
 ]
 
 -- The name that is printed is one.
@@ -170,6 +180,7 @@ pub print_named : (words : List (List ℕ)) (name : List ℕ) (n : ℕ) → comm
 print_named [] name n e = absurd (no_command (print name n) e)
 print_named (command ∷ words) name n e = elim (commands command words (print name n) e) [
   | inl (p, found, is) ↦ absurd (run_not_print p name n is)
-  | inr (inl (m, found, is)) ↦ absurd (load_not_print m name n is)
-  | inr (inr p) ↦ subst (λ (t : List ℕ). is_name t ≡ true) (same_print p.name name p.retries n p.is) p.named
+  | inr (inl (m, is)) ↦ absurd (load_not_print m name n is)
+  | inr (inr (inl (m, is))) ↦ absurd (check_not_print m name n is)
+  | inr (inr (inr p)) ↦ subst (λ (t : List ℕ). is_name t ≡ true) (same_print p.name name p.retries n p.is) p.named
 ]

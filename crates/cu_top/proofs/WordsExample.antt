@@ -1,6 +1,6 @@
 -- The words of some calls, and their options.
 use Rattle.std.proofs.Common.{◌≡◌, [], ◌∷◌, codes, Ok, Err, refl}
-use Rattle.cu_top.specs.Words.{command_of, run, load, print}
+use Rattle.cu_top.specs.Words.{command_of, run, load, check, print}
 
 allowed : command_of (codes "run" ∷ codes "--allowed-mem" ∷ codes "1600" ∷ []) ≡ Ok (run (record { allowed = 1600; reserved = 0; retries = 2 }))
 unfolding command_of
@@ -69,6 +69,14 @@ loads_with = refl
 loads_no_memory : command_of (codes "load" ∷ codes "--allowed-mem" ∷ codes "1" ∷ []) ≡ Err 2
 unfolding command_of
 loads_no_memory = refl
+
+checks : command_of (codes "check" ∷ codes "--retries" ∷ codes "5" ∷ []) ≡ Ok (check 5)
+unfolding command_of
+checks = refl
+
+checks_no_name : command_of (codes "check" ∷ codes "y" ∷ []) ≡ Err 2
+unfolding command_of
+checks_no_name = refl
 
 prints : command_of (codes "print" ∷ codes "y" ∷ []) ≡ Ok (print (codes "y") 2)
 unfolding command_of

@@ -1,6 +1,6 @@
 -- What the call answers to the command `run`, from the text on. This project's own rules.
 use Rattle.std.specs.Prelude.{◌≡◌, ◌⊎◌, ℕ, List}
-use Rattle.cu_read.specs.declared.faults.ReadFault.{ReadFault as TextFault}
+use Rattle.cu_read.specs.declared.faults.ReadFault.{ReadFault as ExpressionFault}
 use Rattle.cu_store.specs.Faults.{Rose}
 use Rattle.cu_store.specs.Steps.{NoChange}
 use Rattle.cu_command.specs.Seen.{Stepped}
@@ -9,7 +9,7 @@ use Rattle.cu_command.specs.declared.status.Status.{Status}
 use Rattle.cu_command.specs.declared.status.Status.TheVariants.{BadExpr, ReadFault, NoMemory}
 use Rattle.cu_lower.specs.declared.options.Options.{Options}
 use Rattle.cu_top.specs.Run.{Scene, RunCase, case, IsWanting, Ran}
-use Rattle.cu_top.specs.Words.{Command, run, load, print}
+use Rattle.cu_top.specs.Words.{Command, run, load, check, print}
 use Rattle.cu_top.specs.declared.words.Asked.{Asked}
 use Rattle.cu_top.specs.declared.words.Asked.TheVariants as asked
 
@@ -17,6 +17,7 @@ use Rattle.cu_top.specs.declared.words.Asked.TheVariants as asked
 abbrev pub command_view : Asked → Command
 command_view (asked.Run options) = run options
 command_view (asked.Load retries) = load retries
+command_view (asked.Check retries) = check retries
 command_view (asked.Print name retries) = print name retries
 
 -- nothing but puts that were late has landed
@@ -48,7 +49,7 @@ RunTells options old new NoMemory = IsShort options old new
 RunTells options old new status = CameToRun options old new (λ c. Ran c status)
 
 -- 3 with this fault, unless the text wasn't read or memory was wanted
-abbrev pub IsRefusedText : TextFault → Status → Type 0
+abbrev pub IsRefusedText : ExpressionFault → Status → Type 0
 IsRefusedText f (BadExpr code node) = (code ≡ f.code) × (node ≡ f.node)
 IsRefusedText f ReadFault = Unit {0}
 IsRefusedText f NoMemory = Unit {0}

@@ -43,10 +43,11 @@ options_from given (name ∷ value ∷ more) = option_and_then (λ g. options_fr
 
 -- ---- the commands
 
--- what the words ask for: a run, a text that gives an array, or the print of an array with this name
+-- what the words ask for: a run, a text that gives an array, the comparison of a stored output, or the print of an array with this name
 pub data Command : Type 0 where
   run : Options → Command
   load : ℕ → Command
+  check : ℕ → Command
   print : List ℕ → ℕ → Command
 
 -- the value, where there is one, and else this code
@@ -85,5 +86,6 @@ command_of [] = Err 1
 command_of (command ∷ words) =
     if bytes_eq command (codes "run") then or_code (option_map run (options_from nothing_given words)) 2
     else if bytes_eq command (codes "load") then or_code (option_map load (retries_in words)) 2
+    else if bytes_eq command (codes "check") then or_code (option_map check (retries_in words)) 2
     else if bytes_eq command (codes "print") then print_in words
     else Err 1

@@ -1,7 +1,8 @@
 //! The program's one call.
-ghost use Rattle.std.specs.Prelude.{◌≡◌, ℕ, ◌^◌, ◌≤◌, List, Some, Ok, Err, map, string_bytes};
+ghost use Rattle.std.specs.Prelude.{◌≡◌, ℕ, ◌^◌, ◌≤◌, ℤ, List, Some, Ok, Err, map, string_bytes};
 ghost use Rattle.cu_read.specs.Read.{expression_of};
-ghost use Rattle.cu_read.specs.declared.faults.ReadFault.{ReadFault as TextFault};
+ghost use Rattle.cu_read.specs.declared.faults.ReadFault.{ReadFault as ExpressionFault};
+ghost use Rattle.cu_check.specs.Check.{Checked, IsFoundEqual, IsUnequal, ReadsText};
 ghost use Rattle.cu_store.specs.Held.{Contents};
 ghost use Rattle.cu_command.specs.Job.{StoodStill};
 ghost use Rattle.cu_command.specs.Seen.{stream, seen};
@@ -11,10 +12,11 @@ ghost use Rattle.cu_print.specs.Print.{Printed};
 ghost use Rattle.cu_top.specs.Call.{CameToRun, DidNothing, IsReadFault, IsShort, IsRefusedText, RunTells};
 ghost use Rattle.cu_top.specs.Complete.{IsServable, IsServed};
 ghost use Rattle.cu_top.specs.Run.{scene, IsDone, IsUnreported, IsTaskFailed, IsBadInput, IsDepotFailed, HasNoPlan, IsBlocked, IsMissing, IsRefused, IsBadExpr, IsBadType, PrintsOnly};
-ghost use Rattle.cu_top.specs.Words.{run, load, print, command_of};
+ghost use Rattle.cu_top.specs.Words.{run, load, check, print, command_of};
 
 use crate::run::run;
 use crate::words::{Asked, read_words};
+use cu_check::check;
 use cu_command::{ReadRefused, Status, read_all};
 use cu_load::load;
 use cu_lower::Options;
@@ -24,7 +26,8 @@ use cu_store::{Depot, Sink, Source};
 use std::alloc::Global;
 
 /// Carries out the command that the words give. `run` reads an expression from the source, stores the array that it makes in the depot,
-/// and writes the report to the sink. `load` reads an array from the source and stores it. `print` writes a stored array to the sink.
+/// and writes the report to the sink. `load` reads an array from the source and stores it. `check` reads an expression from the source and
+/// compares its stored output with what it means. `print` writes a stored array to the sink.
 pub fn top<R: Source, W: Sink, D: Depot>(
     alloc: Global,
     words: &[String],
@@ -76,7 +79,7 @@ pub fn top<R: Source, W: Sink, D: Depot>(
         → CameToRun options (scene (stream (R.left src.old) (R.faults src.old)) (stream (W.written out.old) (W.faults out.old)) (D.shown depot.old))
         (scene (stream (R.left src.new) (R.faults src.new)) (stream (W.written out.new) (W.faults out.new)) (D.shown depot.new)) (λ c. IsBadType c code node) }
     // A text that is no expression is refused, with its first fault.
-    ensures refused_text { (options : Options) (text : List ℕ) (fault : TextFault) → command_of (map string_bytes words.now) ≡ Ok (run options) → R.left src.old ≡ Some text
+    ensures refused_text { (options : Options) (text : List ℕ) (fault : ExpressionFault) → command_of (map string_bytes words.now) ≡ Ok (run options) → R.left src.old ≡ Some text
         → expression_of text ≡ Err fault → IsRefusedText fault result }
     ensures read_fault { (options : Options) → command_of (map string_bytes words.now) ≡ Ok (run options) → result ≡ Status.ReadFault
         → IsReadFault (scene (stream (R.left src.old) (R.faults src.old)) (stream (W.written out.old) (W.faults out.old)) (D.shown depot.old))
@@ -97,6 +100,13 @@ pub fn top<R: Source, W: Sink, D: Depot>(
     ensures print_kept { (name : List ℕ) (retries : ℕ) → command_of (map string_bytes words.now) ≡ Ok (print name retries) → R.left src.new ≡ R.left src.old }
     ensures prints_array { (name : List ℕ) (retries : ℕ) → command_of (map string_bytes words.now) ≡ Ok (print name retries)
         → Printed retries name (seen (stream (W.written out.old) (W.faults out.old)) (D.shown depot.old)) (seen (stream (W.written out.new) (W.faults out.new)) (D.shown depot.new)) result }
+    // What `check` answers: all of it, and of 0 and 17 alone.
+    ensures checks { (retries : ℕ) → command_of (map string_bytes words.now) ≡ Ok (check retries) → Checked retries (stream (R.left src.old) (R.faults src.old)) (stream (R.left src.new) (R.faults src.new))
+        (seen (stream (W.written out.old) (W.faults out.old)) (D.shown depot.old)) (seen (stream (W.written out.new) (W.faults out.new)) (D.shown depot.new)) result }
+    ensures equal { (retries : ℕ) → command_of (map string_bytes words.now) ≡ Ok (check retries) → result ≡ Status.Done → ReadsText (stream (R.left src.old) (R.faults src.old)) (stream (R.left src.new) (R.faults src.new))
+        (λ text. IsFoundEqual text (seen (stream (W.written out.old) (W.faults out.old)) (D.shown depot.old)) (seen (stream (W.written out.new) (W.faults out.new)) (D.shown depot.new))) }
+    ensures unequal { (retries place : ℕ) (stored plain : ℤ) → command_of (map string_bytes words.now) ≡ Ok (check retries) → result ≡ Status.Unequal place stored plain
+        → ReadsText (stream (R.left src.old) (R.faults src.old)) (stream (R.left src.new) (R.faults src.new)) (λ text. IsUnequal text (D.shown depot.old) place stored plain) }
 {
     carry(alloc, words, src, out, depot)
 }
@@ -119,6 +129,8 @@ fn carry<R: Source, W: Sink, D: Depot>(
     ensures print_kept { (name : List ℕ) (retries : ℕ) → command_of (map string_bytes words.now) ≡ Ok (print name retries) → R.left src.new ≡ R.left src.old }
     ensures prints_array { (name : List ℕ) (retries : ℕ) → command_of (map string_bytes words.now) ≡ Ok (print name retries)
         → Printed retries name (seen (stream (W.written out.old) (W.faults out.old)) (D.shown depot.old)) (seen (stream (W.written out.new) (W.faults out.new)) (D.shown depot.new)) result }
+    ensures checks { (retries : ℕ) → command_of (map string_bytes words.now) ≡ Ok (check retries) → Checked retries (stream (R.left src.old) (R.faults src.old)) (stream (R.left src.new) (R.faults src.new))
+        (seen (stream (W.written out.old) (W.faults out.old)) (D.shown depot.old)) (seen (stream (W.written out.new) (W.faults out.new)) (D.shown depot.new)) result }
 {
     let asked = match read_words(words) {
         Ok(asked) => asked,
@@ -127,6 +139,7 @@ fn carry<R: Source, W: Sink, D: Depot>(
     match &asked {
         Asked::Run(options) => run_command(alloc, options, src, out, depot),
         Asked::Load { retries } => load(alloc, *retries, src, out, depot),
+        Asked::Check { retries } => check(alloc, *retries, src, out, depot),
         Asked::Print { name, retries } => { print(alloc, *retries, &key_of_name(name), out, depot) }
     }
 }

@@ -28,12 +28,14 @@ pub enum Asked {
     Run(Options),
     /// `load`: an array that a text gives is stored.
     Load { retries: u32 },
+    /// `check`: the stored output of an expression is compared with what it means.
+    Check { retries: u32 },
     /// `print`: the array with this name is printed.
     Print { name: IdText, retries: u32 },
 }
 
 /// The command, which is the first word, with what stands behind it: for `run` any of the pairs `--allowed-mem N`,
-/// `--reserved-mem N` and `--retries N`, each at most once; for `load` at most the pair `--retries N`; for `print` the name of
+/// `--reserved-mem N` and `--retries N`, each at most once; for `load` and `check` at most the pair `--retries N`; for `print` the name of
 /// an array, and at most this pair, before or behind it. A refusal is 1 where the command is missing or unknown; 2 where an
 /// option is unknown, has no value or is given twice, where a number isn't one or isn't from 0 to 2^40, or for the retries from
 /// 0 to 8, and where there are too few or too many words; and 3 where the name isn't one and all else is accepted.
@@ -51,6 +53,10 @@ pub fn read_words(words: &[String]) -> Result<Asked, u8>
         },
         "load" => match read_retries_pair(rest) {
             Some(retries) => Ok(Asked::Load { retries }),
+            None => Err(2),
+        },
+        "check" => match read_retries_pair(rest) {
+            Some(retries) => Ok(Asked::Check { retries }),
             None => Err(2),
         },
         "print" => read_print(rest),

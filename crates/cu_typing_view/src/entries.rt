@@ -62,7 +62,7 @@ fn is_ellipsis(item: &IndexItem) -> bool
 }
 
 /// How many axes an entry takes, where the ellipsis stands for `more` of them.
-fn width_of(more: u32, item: &IndexItem) -> u32
+pub fn width_of(more: u32, item: &IndexItem) -> u32
     requires { more ≤ 6 }
     ensures value { result ≡ width_of more item.now }
     ensures small { result ≤ 6 }
@@ -97,7 +97,7 @@ fn suits_axis(item: &IndexItem, size: u64) -> bool
 }
 
 /// How many axes no entry takes, of an array of this rank.
-fn untaken(rank: u32, items: &[IndexItem]) -> u32
+pub fn untaken(rank: u32, items: &[IndexItem]) -> u32
     requires { length items.now < 2 ^ 32 }
     ensures value { result ≡ untaken rank items.now }
     ensures small { result ≤ rank }

@@ -10,7 +10,7 @@ mod rearranged;
 mod reshaped;
 
 pub use creation::{type_arange, type_eye, type_full};
-pub use entries::type_index;
+pub use entries::{type_index, untaken, width_of};
 pub use laws::{broadcast_law, counts_law, reshape_law};
 pub use pieces::{type_concat, type_stack};
 pub use rearranged::{

@@ -1,4 +1,4 @@
-use Rattle.cu_lower.proofs.Lawful.{output, input, only}
+use Rattle.cu_lower.proofs.Lawful.{output, input, only, once}
 use Rattle.cu_lower.proofs.laws.array_law.Goals as goal
 
 pub returns : goal.returns
@@ -6,4 +6,6 @@ returns c = record {
   output = λ e infos inputs options ok. output e infos inputs options ok (record { closed = c.live_law.ensures.closed e ok.form; below = λ k. c.live_law.ensures.below e k ok.form });
   inputs = λ e infos inputs options k name ok is. input e infos inputs options ok (record { closed = c.live_law.ensures.closed e ok.form; below = λ k. c.live_law.ensures.below e k ok.form }) k name is;
   only = λ e infos inputs options a ok below none. only e infos inputs options ok (record { closed = c.live_law.ensures.closed e ok.form; below = λ k. c.live_law.ensures.below e k ok.form }) a below none;
+  once = λ e infos inputs options a b ok la lb na nb same.
+      once e infos inputs options ok (record { closed = c.live_law.ensures.closed e ok.form; below = λ k. c.live_law.ensures.below e k ok.form }) a b la lb na nb same;
 }

@@ -1,5 +1,4 @@
-use Rattle.cu_op.proofs.Values.{value_solves}
-use Rattle.cu_op.proofs.ReadElements.{rule_reads}
+use Rattle.cu_op.proofs.Values.{value_solves, rule_reads}
 use Rattle.cu_op.proofs.laws.value_law.Goals as goal
 
 pub returns : goal.returns

@@ -1,5 +1,5 @@
 use Rattle.std.proofs.Common.{◌-◌, arith}
-use Rattle.cu_op.proofs.Axes.{as_from}
+use Rattle.cu_op.proofs.Broadcasting.{as_from}
 use Rattle.cu_op.proofs.regions.back_as.Goals as goal
 
 pub returns : goal.returns

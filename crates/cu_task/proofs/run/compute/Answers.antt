@@ -20,7 +20,7 @@ use Rattle.cu_kern.proofs.Parts.{size_positive}
 use Rattle.cu_kern.specs.Lays.{lay_types, LayFits, loaded_at}
 use Rattle.cu_kern.specs.declared.lays.Lay.{Lay}
 use Rattle.cu_task.specs.Inputs.{IsReadWalk, lays_from}
-use Rattle.cu_task.proofs.MapTask.{task_regions, task_kernel}
+use Rattle.cu_task.proofs.MapTask.{map_regions, task_kernel}
 use Rattle.cu_task.proofs.run.compute.Goals as goal
 
 -- an element that fits is below the count
@@ -34,7 +34,7 @@ place_low p n size long some e f =
 pub lays_of-lays-requires-clause-over : goal.lays_of-lays-requires-clause-over
 lays_of-lays-requires-clause-over c =
     let walks : c.deref.result.now ≡ input_walks c.args.plan.now.arrays (op_of c.args.plan.now c.args.op) c.args.task = c.deref.ensures.0 ∙ c.input_walks.ensures.walks in
-    subst (All (IsReadWalk c.args.plan.now.arrays)) (sym walks) (task_regions c.args.plan.now c.array-made.ensures.sound c.args.op (op_of c.args.plan.now c.args.op) c.args.task (fit_of c.args.plan.now c.array-made.ensures.sound c.args.op c.requires.operation) c.requires.task).walks
+    subst (All (IsReadWalk c.args.plan.now.arrays)) (sym walks) (map_regions c.args.plan.now c.array-made.ensures.sound c.args.op (op_of c.args.plan.now c.args.op) c.args.task c.args.kernel.now (fit_of c.args.plan.now c.array-made.ensures.sound c.args.op c.requires.operation) c.requires.task c.requires.map).walks
 
 pub difference-requires : goal.difference-requires
 difference-requires c =

@@ -1,5 +1,6 @@
-use Rattle.cu_command.specs.Seen.{stream}
+use Rattle.cu_command.specs.Seen.{stream, seen}
 use Rattle.cu_top.proofs.CallLemmas.{refused_text}
+use Rattle.cu_top.proofs.CheckLemmas.{found_equal, found_unequal}
 use Rattle.cu_top.proofs.Completeness.{served}
 use Rattle.cu_top.specs.Run.{scene}
 use Rattle.cu_top.proofs.call.top.Goals as goal
@@ -14,3 +15,15 @@ pub returns-clause-complete : goal.returns-clause-complete
 returns-clause-complete g c = λ text entry told_left told premise source sink depot.
     served _ text entry (scene (stream (g.R.Source.left c.args.src.now) (g.R.Source.faults c.args.src.now)) (stream (g.W.Sink.written c.args.out.now) (g.W.Sink.faults c.args.out.now)) (g.D.Depot.shown c.args.depot.now))
     (scene (stream (g.R.Source.left c.carry.new.src) (g.R.Source.faults c.carry.new.src)) (stream (g.W.Sink.written c.carry.new.out) (g.W.Sink.faults c.carry.new.out)) (g.D.Depot.shown c.carry.new.depot)) told_left told premise source sink depot c.carry.result c.carry.ensures.runs
+
+pub returns-clause-equal : goal.returns-clause-equal
+returns-clause-equal g c = λ retries words done.
+    found_equal retries (stream (g.R.Source.left c.args.src.now) (g.R.Source.faults c.args.src.now)) (stream (g.R.Source.left c.carry.new.src) (g.R.Source.faults c.carry.new.src))
+    (seen (stream (g.W.Sink.written c.args.out.now) (g.W.Sink.faults c.args.out.now)) (g.D.Depot.shown c.args.depot.now))
+    (seen (stream (g.W.Sink.written c.carry.new.out) (g.W.Sink.faults c.carry.new.out)) (g.D.Depot.shown c.carry.new.depot)) c.carry.result (c.carry.ensures.checks retries words) done
+
+pub returns-clause-unequal : goal.returns-clause-unequal
+returns-clause-unequal g c = λ retries place stored plain words differ.
+    found_unequal retries (stream (g.R.Source.left c.args.src.now) (g.R.Source.faults c.args.src.now)) (stream (g.R.Source.left c.carry.new.src) (g.R.Source.faults c.carry.new.src))
+    (seen (stream (g.W.Sink.written c.args.out.now) (g.W.Sink.faults c.args.out.now)) (g.D.Depot.shown c.args.depot.now))
+    (seen (stream (g.W.Sink.written c.carry.new.out) (g.W.Sink.faults c.carry.new.out)) (g.D.Depot.shown c.carry.new.depot)) c.carry.result (c.carry.ensures.checks retries words) place stored plain differ

@@ -1,0 +1,90 @@
+-- What a layout of a stored array keeps.
+use Rattle.std.proofs.Common.{◌≡◌, ◌↔◌, ℕ, ◌+◌, ◌*◌, max, ◌<◌, ◌≤◌, ◌^◌, Bool, true, false, IsTrue, rules, List, [], ◌∷◌, length, drop, get_or, All, refl, sym, ap, ◌∙◌, inl, inr, arith}
+use Rattle.std.specs.Prelude.{bytes_eq}
+use Rattle.std.proofs.lemmas.List.{drop_more}
+use Rattle.std.proofs.lemmas.Slice.Eq.{bytes_eq-Decides}
+use Rattle.std.proofs.lemmas.Bool.{cases_Bool}
+use Rattle.std.proofs.lemmas.List.Elements.{All-head, All-tail, All-nil, All-cons}
+use Rattle.std.proofs.lemmas.Nat.{mul-le}
+use Rattle.cu_shape.specs.Index.{product, IsInside}
+use Rattle.cu_grid.specs.Counts.{at_least_one, counts_of}
+use Rattle.cu_grid.specs.Grid.{IsCoordinate}
+use Rattle.cu_shape.proofs.Products.{product_within}
+use Rattle.cu_expr.proofs.LayoutInfo.{stored_info}
+use Rattle.cu_expr.specs.declared.inputs.InputInfo.{InputInfo}
+use Rattle.cu_op.specs.Arrays.{no_array}
+use Rattle.cu_op.specs.declared.layout.Layout.{Layout}
+use Rattle.cu_command.specs.Stored.{IsArrayLayout}
+use Rattle.cu_check.specs.Elements.{named_layout}
+
+pub few_elements : (l : Layout) → IsArrayLayout l → product l.grid.shape ≤ 2 ^ 40
+few_elements l ok =
+    let info = stored_info l (record { axes = ok.storable.axes; grid = ok.storable.grid }) in
+    let most = info.elements in
+    let whole = product_within l.grid.shape in
+    omega arith
+
+some_product : (ns : List ℕ) → 0 < product (at_least_one ns)
+some_product [] = omega arith
+some_product (n ∷ ns) =
+    let rest = some_product ns in
+    let most : 1 * 1 ≤ max 1 n * product (at_least_one ns) = mul-le 1 1 (max 1 n) (product (at_least_one ns)) (omega arith) (omega arith) in
+    omega arith
+
+below_most : (m : ℕ) (ns is : List ℕ) → product (at_least_one ns) ≤ m → IsInside ns is → All (λ i. i < m) is
+below_most m [] [] few h = All-nil (λ i. i < m)
+below_most m [] (i ∷ is) few h = absurd h
+below_most m (n ∷ ns) [] few h = absurd h
+below_most m (n ∷ ns) (i ∷ is) few h =
+    let rest = some_product ns in
+    let own : max 1 n * 1 ≤ max 1 n * product (at_least_one ns) = mul-le (max 1 n) 1 (max 1 n) (product (at_least_one ns)) (omega arith) (omega arith) in
+    let tail : 1 * product (at_least_one ns) ≤ max 1 n * product (at_least_one ns) = mul-le 1 (product (at_least_one ns)) (max 1 n) (product (at_least_one ns)) (omega arith) (omega arith) in
+    let first = h.0 in
+    All-cons (λ j. j < m) i is (omega arith) (below_most m ns is (omega arith) h.1)
+
+-- the coordinate of a chunk is one that a key can have
+pub small_coordinate : (l : Layout) (coord : List ℕ) → IsArrayLayout l → IsCoordinate l.grid coord → All (λ i. i < 1048576) coord
+small_coordinate l coord ok inside =
+    let info = stored_info l (record { axes = ok.storable.axes; grid = ok.storable.grid }) in
+    let most = info.chunks in
+    below_most 1048576 (counts_of l.grid.shape l.grid.chunk) coord (omega arith) inside
+
+no_layout : IsArrayLayout no_array.layout
+no_layout = record {
+  grid = record { ranks = refl; short = omega arith; positive = All-nil (λ c. 0 < c); elements = omega arith; chunk_elements = omega arith };
+  storable = record { axes = omega arith; grid = refl; fill = search rules; endian = λ one. refl };
+}
+
+-- each layout that is looked up by a name is one
+pub named_fits : (inputs : List InputInfo) (name : List ℕ) → All (λ i. IsArrayLayout i.layout) inputs → IsArrayLayout (named_layout inputs name)
+named_fits [] name h = no_layout
+named_fits (i ∷ is) name h =
+    elim (cases_Bool (bytes_eq name i.name)) [
+      | inl same ↦ rw same (All-head (λ (x : InputInfo). IsArrayLayout x.layout) i is h)
+      | inr other ↦ rw other (named_fits is name (All-tail (λ (x : InputInfo). IsArrayLayout x.layout) i is h))
+    ]
+
+-- ---- the look-up
+
+pub same_when : (b : Bool) (xs ys : List ℕ) → (IsTrue b ↔ (xs ≡ ys)) → b ≡ true → bytes_eq xs ys ≡ true
+same_when b xs ys h is = (bytes_eq-Decides xs ys).1 (h.0 is)
+
+pub other_when : (b : Bool) (xs ys : List ℕ) → (IsTrue b ↔ (xs ≡ ys)) → b ≡ false → bytes_eq xs ys ≡ false
+other_when b xs ys h is =
+    elim (cases_Bool (bytes_eq xs ys)) [
+      | inl same ↦ let t : b ≡ true = h.1 ((bytes_eq-Decides xs ys).0 same) in let no : true ≡ false = sym t ∙ is in cc
+      | inr other ↦ other
+    ]
+
+pub from_place : (xs : List InputInfo) (k : ℕ) (x : InputInfo) → k < length xs → x ≡ get_or xs k x → drop k xs ≡ x ∷ drop (k + 1) xs
+from_place xs k x below is = drop_more xs k x below ∙ ap (λ y. y ∷ drop (k + 1) xs) (sym is)
+
+pub layout_found : (inputs : List InputInfo) (name : List ℕ) (k : ℕ) (i : InputInfo) → drop k inputs ≡ i ∷ drop (k + 1) inputs → named_layout (drop k inputs) name ≡ named_layout inputs name
+    → bytes_eq name i.name ≡ true → i.layout ≡ named_layout inputs name
+layout_found inputs name k i rest known same =
+    (let first : named_layout (i ∷ drop (k + 1) inputs) name ≡ i.layout = rw same refl in sym first) ∙ ap (λ l. named_layout l name) (sym rest) ∙ known
+
+pub layout_passed : (inputs : List InputInfo) (name : List ℕ) (k : ℕ) (i : InputInfo) → drop k inputs ≡ i ∷ drop (k + 1) inputs → named_layout (drop k inputs) name ≡ named_layout inputs name
+    → bytes_eq name i.name ≡ false → named_layout (drop (k + 1) inputs) name ≡ named_layout inputs name
+layout_passed inputs name k i rest known other =
+    (let behind : named_layout (i ∷ drop (k + 1) inputs) name ≡ named_layout (drop (k + 1) inputs) name = rw other refl in sym behind) ∙ ap (λ l. named_layout l name) (sym rest) ∙ known

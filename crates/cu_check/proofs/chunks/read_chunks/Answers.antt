@@ -1,0 +1,30 @@
+use Rattle.std.proofs.Common.{◌+◌, arith}
+use Rattle.cu_command.proofs.SeenLemmas.{stepped_same, stepped_then}
+use Rattle.cu_store.specs.Steps.{NoChange}
+use Rattle.cu_check.specs.Chunks.{input_of}
+use Rattle.cu_check.proofs.ChunkReads.{none_below, all_below, turn_fault}
+use Rattle.cu_check.proofs.chunks.read_chunks.Goals as goal
+
+pub loop-number-init : goal.loop-number-init
+loop-number-init g c = record {
+  step = stepped_same NoChange (g.D.Depot.shown c.args.depot.now);
+  read = λ entry before. none_below (input_of c.args.info.now) c.args.all.now entry;
+}
+
+pub loop-number-preserved : goal.loop-number-preserved
+loop-number-preserved g c = record {
+  step = stepped_then c.loop-number.invariant.step c.read_numbered.ensures.step;
+  read = λ entry before. c.in-Ok.ensures.read entry (stepped_then before c.loop-number.invariant.step) (c.loop-number.invariant.read entry before);
+}
+
+pub returns-in-Err-clause-step : goal.returns-in-Err-clause-step
+returns-in-Err-clause-step g c = stepped_then c.loop-number.invariant.step c.read_numbered.ensures.step
+
+pub returns-in-Err-clause-cause : goal.returns-in-Err-clause-cause
+returns-in-Err-clause-cause g c entry before =
+    turn_fault (c.args.retries + 1) c.args.info.now c.loop-number.number c.loop-number.all (g.D.Depot.shown c.args.depot.now) (g.D.Depot.shown c.loop-number.depot) (g.D.Depot.shown c.read_numbered.new.depot) entry c.in-Err.status
+    (omega arith) c.loop-number.invariant.step.step.count (c.loop-number.invariant.read entry before) c.in-Err.ensures.cause
+
+pub returns-clause-read : goal.returns-clause-read
+returns-clause-read g c entry before =
+    all_below (input_of c.args.info.now) c.loop-number.all c.loop-number.number entry c.count-number-end.ensures.kept (omega arith) (c.loop-number.invariant.read entry before)

@@ -1,0 +1,40 @@
+use Rattle.std.proofs.Common.{rules, arith}
+use Rattle.cu_command.proofs.SeenLemmas.{stepped_then}
+use Rattle.cu_check.specs.Chunks.{HasHeldChunk}
+use Rattle.cu_check.proofs.ChunkReads.{on_ok, held_later}
+use Rattle.cu_check.proofs.chunks.read_tries.Goals as goal
+
+pub returns-in_default : goal.returns-in_default
+returns-in_default g c = record {
+  read = tt;
+  step = stepped_then c.loop.invariant.step c.read_once.ensures.step;
+  cause = search rules;
+}
+
+pub returns-in_default-2-clause-read : goal.returns-in_default-2-clause-read
+returns-in_default-2-clause-read g c =
+    on_ok c.read_once.result (HasHeldChunk c.args.info.now c.args.coord.now (g.D.Depot.shown c.loop.depot) c.read_once.new.chunk)
+    (HasHeldChunk c.args.info.now c.args.coord.now (g.D.Depot.shown c.args.depot.now) c.read_once.new.chunk)
+    (held_later c.args.info.now c.args.coord.now c.read_once.new.chunk (g.D.Depot.shown c.args.depot.now) (g.D.Depot.shown c.loop.depot) c.loop.invariant.step)
+    c.read_once.ensures.read
+
+pub returns-in_default-2-clause-step : goal.returns-in_default-2-clause-step
+returns-in_default-2-clause-step g c = stepped_then c.loop.invariant.step c.read_once.ensures.step
+
+pub loop-preserved : goal.loop-preserved
+loop-preserved g c =
+    let failed = rw c.in-Err-Store.field-0-is at c.in-Err-Store.ensures.cause in
+    record {
+      step = stepped_then c.loop.invariant.step c.read_once.ensures.step;
+      rose = omega (arith, failed);
+    }
+
+pub returns-clause-read : goal.returns-clause-read
+returns-clause-read g c =
+    on_ok c.read_once-2.result (HasHeldChunk c.args.info.now c.args.coord.now (g.D.Depot.shown c.loop.depot) c.read_once-2.new.chunk)
+    (HasHeldChunk c.args.info.now c.args.coord.now (g.D.Depot.shown c.args.depot.now) c.read_once-2.new.chunk)
+    (held_later c.args.info.now c.args.coord.now c.read_once-2.new.chunk (g.D.Depot.shown c.args.depot.now) (g.D.Depot.shown c.loop.depot) c.loop.invariant.step)
+    c.read_once-2.ensures.read
+
+pub returns-clause-step : goal.returns-clause-step
+returns-clause-step g c = stepped_then c.loop.invariant.step c.read_once-2.ensures.step

@@ -1,0 +1,45 @@
+use Rattle.std.proofs.Common.{◌+◌}
+use Rattle.cu_command.proofs.SeenLemmas.{stepped_then}
+use Rattle.cu_command.specs.Seen.{stream, seen}
+use Rattle.cu_check.proofs.Ends.{fault_ends, equal_ends, unwritten_ends, prints_nothing}
+use Rattle.cu_check.proofs.command.check_text.Goals as goal
+
+pub returns-in-Err-clause-answer : goal.returns-in-Err-clause-answer
+returns-in-Err-clause-answer g c =
+    let out = stream (g.W.Sink.written c.args.out.now) (g.W.Sink.faults c.args.out.now) in
+    c.in-Err.ensures.cause out out
+
+pub returns-in-Err-clause-printed : goal.returns-in-Err-clause-printed
+returns-in-Err-clause-printed g c = prints_nothing c.in-Err.status (g.W.Sink.written c.args.out.now)
+
+pub returns-in-Ok-report-clause-answer : goal.returns-in-Ok-report-clause-answer
+returns-in-Ok-report-clause-answer g c =
+    equal_ends (c.args.retries + 1) c.args.text.now (seen (stream (g.W.Sink.written c.args.out.now) (g.W.Sink.faults c.args.out.now)) (g.D.Depot.shown c.args.depot.now))
+    (seen (stream (g.W.Sink.written c.report.new.out) (g.W.Sink.faults c.report.new.out)) (g.D.Depot.shown c.compare_output.new.depot)) c.in-Ok.compared.job c.in-Ok.compared.output
+    c.in-Ok.ensures.job c.in-Ok.ensures.output c.in-Ok.ensures.node c.in-Ok.ensures.few (c.in-Ok-compare_output.ensures.equal (g.D.Depot.shown c.args.depot.now) c.read_compared.ensures.step) c.in-Ok-report.ensures.all
+
+pub returns-clause-answer : goal.returns-clause-answer
+returns-clause-answer g c =
+    fault_ends (c.args.retries + 1) c.args.text.now (seen (stream (g.W.Sink.written c.args.out.now) (g.W.Sink.faults c.args.out.now)) (g.D.Depot.shown c.args.depot.now))
+    (seen (stream (g.W.Sink.written c.args.out.now) (g.W.Sink.faults c.args.out.now)) (g.D.Depot.shown c.compare_output.new.depot)) c.in-Ok.compared.job c.in-Ok.compared.output
+    c.in-Ok.ensures.job c.in-Ok.ensures.output c.in-Ok.ensures.node c.in-Ok.ensures.few (g.D.Depot.shown c.read_compared.new.depot) c.in-Err-compare_output.status c.read_compared.ensures.step.step.count
+    (c.in-Err-compare_output.ensures.cause (g.D.Depot.shown c.args.depot.now) c.read_compared.ensures.step)
+
+pub returns-clause-printed : goal.returns-clause-printed
+returns-clause-printed g c = prints_nothing c.in-Err-compare_output.status (g.W.Sink.written c.args.out.now)
+
+pub returns-clause-step : goal.returns-clause-step
+returns-clause-step g c = stepped_then c.read_compared.ensures.step c.compare_output.ensures.step
+
+pub returns-in-Ok-report-clause-step : goal.returns-in-Ok-report-clause-step
+returns-in-Ok-report-clause-step g c = stepped_then c.read_compared.ensures.step c.compare_output.ensures.step
+
+pub returns-in-Ok-compare_output-clause-step : goal.returns-in-Ok-compare_output-clause-step
+returns-in-Ok-compare_output-clause-step g c = stepped_then c.read_compared.ensures.step c.compare_output.ensures.step
+
+pub returns-in-Ok-compare_output-clause-answer : goal.returns-in-Ok-compare_output-clause-answer
+returns-in-Ok-compare_output-clause-answer g c =
+    unwritten_ends (c.args.retries + 1) c.args.text.now (seen (stream (g.W.Sink.written c.args.out.now) (g.W.Sink.faults c.args.out.now)) (g.D.Depot.shown c.args.depot.now))
+    (seen (stream (g.W.Sink.written c.report.new.out) (g.W.Sink.faults c.report.new.out)) (g.D.Depot.shown c.compare_output.new.depot)) c.in-Ok.compared.job c.in-Ok.compared.output
+    c.in-Ok.ensures.job c.in-Ok.ensures.output c.in-Ok.ensures.node c.in-Ok.ensures.few (c.in-Ok-compare_output.ensures.equal (g.D.Depot.shown c.args.depot.now) c.read_compared.ensures.step)
+    c.in-Err-report.ensures.cause c.in-Err-report.ensures.front

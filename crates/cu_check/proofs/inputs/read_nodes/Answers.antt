@@ -1,0 +1,46 @@
+use Rattle.std.proofs.Common.{◌≡◌, ◌+◌, List, length, take, Some, refl, sym, ap, subst, arith}
+use Rattle.std.specs.Prelude.{slice_get}
+use Rattle.std.proofs.lemmas.List.{take_all}
+use Rattle.std.proofs.lemmas.Option.{slice_get_read}
+use Rattle.cu_expr.specs.declared.inputs.InputInfo.{InputInfo}
+use Rattle.cu_command.proofs.SeenLemmas.{stepped_then}
+use Rattle.cu_check.specs.Arrays.{arrays_of}
+use Rattle.cu_check.specs.Plains.{AreReadArrays}
+use Rattle.cu_check.proofs.InputNodes.{arrays_more, node_fault}
+use Rattle.cu_check.proofs.inputs.read_nodes.Goals as goal
+
+pub read_node-requires-clause-ranges : goal.read_node-requires-clause-ranges
+read_node-requires-clause-ranges g c =
+    let at : slice_get c.args.expr.now.nodes c.loop-node.node-index ≡ Some c.node-item.result =
+    rw (← c.nodes-node-items.ensures.nodes) (slice_get_read c.nodes-node-items.result.now _ c.loop-node.node-index c.node-item.result refl c.loop-node-test.true c.node-item.is) in
+    let own = c.nodes-node-items.ensures.form.nodes c.loop-node.node-index c.node-item.result at in
+    own.form.ranges
+
+pub loop-node-preserved : goal.loop-node-preserved
+loop-node-preserved g c =
+    let nodes = c.nodes-node-items.result.now in
+    let same = c.nodes-node-items.ensures.nodes in
+    let more = rw same at (arrays_more c.args.inputs.now c.nodes-node-items.result.now c.loop-node.node-index c.node-item.result c.loop-node-test.true c.node-item.is) in
+    record {
+      step = stepped_then c.loop-node.invariant.step c.read_node.ensures.step;
+      read = λ entry before.
+          subst (λ (xs : List InputInfo). AreReadArrays entry xs c.read_node.new.arrays.items) (sym more)
+          (c.in-Ok.ensures.read entry (arrays_of c.args.inputs.now (take c.loop-node.node-index c.args.expr.now.nodes)) (stepped_then before c.loop-node.invariant.step) (c.loop-node.invariant.read entry before));
+    }
+
+pub returns-in-Err-clause-step : goal.returns-in-Err-clause-step
+returns-in-Err-clause-step g c = stepped_then c.loop-node.invariant.step c.read_node.ensures.step
+
+pub returns-in-Err-clause-cause : goal.returns-in-Err-clause-cause
+returns-in-Err-clause-cause g c entry before =
+    let (a, own, fault) = c.in-Err.ensures.cause in
+    let same = c.nodes-node-items.ensures.nodes in
+    rw (← same) (node_fault (c.args.retries + 1) c.args.inputs.now c.nodes-node-items.result.now c.loop-node.node-index c.node-item.result a c.loop-node.arrays.items
+    (g.D.Depot.shown c.args.depot.now) (g.D.Depot.shown c.loop-node.depot) (g.D.Depot.shown c.read_node.new.depot) entry c.in-Err.status c.loop-node-test.true c.node-item.is own
+    c.loop-node.invariant.step.step.count (rw same (c.loop-node.invariant.read entry before)) (fault entry (stepped_then before c.loop-node.invariant.step)))
+
+pub returns-clause-read : goal.returns-clause-read
+returns-clause-read g c entry before =
+    let same = ap length c.nodes-node-items.ensures.nodes in
+    let all = take_all c.loop-node.node-index c.args.expr.now.nodes (omega arith) in
+    rw all at (c.loop-node.invariant.read entry before)

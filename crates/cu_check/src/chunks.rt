@@ -1,0 +1,156 @@
+//! Arrays that are read chunk by chunk, each chunk once.
+ghost use Rattle.std.specs.Prelude.{◌≡◌, ◌+◌, ◌*◌, ◌<◌, length, IfErr, OnOk};
+ghost use Rattle.cu_num.specs.Dtype.{size_of};
+ghost use Rattle.cu_shape.specs.Index.{product};
+ghost use Rattle.cu_grid.specs.Counts.{counts_of};
+ghost use Rattle.cu_grid.specs.Grid.{IsCoordinate, coordinate_of};
+ghost use Rattle.cu_region.specs.Reading.{bytes_of, key_at};
+ghost use Rattle.cu_store.specs.Steps.{Shown, NoChange};
+ghost use Rattle.cu_command.specs.Seen.{Stepped};
+ghost use Rattle.cu_check.specs.Arrays.{WhereCalm};
+ghost use Rattle.cu_check.specs.Chunks.{IsReadable, input_of, HasHeldChunk, IsPartFault, part_end, IsReadFault, IsPlaced, HasChunksBelow, HasAllStored, SinceCalm, IsArrayFault};
+
+use cu_codec::{chunk_key, take_part};
+use cu_command::Status;
+use cu_grid::Region;
+use cu_num::{Endian, size};
+use cu_op::{ArrayInfo, Layout};
+use cu_region::read_chunk;
+use cu_shape::{Dims, difference};
+use cu_store::{Depot, Key, TaskFault};
+
+/// Reads a chunk once.
+fn read_once<D: Depot>(
+    depot: &mut D,
+    info: &ArrayInfo,
+    coord: &Dims,
+    chunk: &mut [u8],
+) -> Result<(), TaskFault>
+    requires readable { IsReadable info.now }
+    requires coordinate { IsCoordinate info.now.layout.grid coord.now }
+    requires chunk_length { length chunk.old ≡ bytes_of info.now.layout }
+    ensures read { OnOk result (HasHeldChunk info.now coord.now (D.shown depot.old) chunk.new) }
+    ensures step { Stepped NoChange (D.shown depot.old) (D.shown depot.new) }
+    ensures cause { IfErr result (IsPartFault 1 (D.shown depot.old) (D.shown depot.new) info.now.layout (key_at info.now coord.now)) }
+{
+    let _grid = info.layout.grid.shape();
+    read_chunk(depot, info, coord, chunk)
+}
+
+/// Reads a chunk, again where the store failed.
+fn read_tries<D: Depot>(
+    depot: &mut D,
+    info: &ArrayInfo,
+    coord: &Dims,
+    retries: u32,
+    chunk: &mut [u8],
+) -> Result<(), TaskFault>
+    requires readable { IsReadable info.now }
+    requires coordinate { IsCoordinate info.now.layout.grid coord.now }
+    requires chunk_length { length chunk.old ≡ bytes_of info.now.layout }
+    ensures read { OnOk result (HasHeldChunk info.now coord.now (D.shown depot.old) chunk.new) }
+    ensures step { Stepped NoChange (D.shown depot.old) (D.shown depot.new) }
+    ensures cause { IfErr result (IsPartFault (retries + 1) (D.shown depot.old) (D.shown depot.new) info.now.layout (key_at info.now coord.now)) }
+{
+    for _ in 0..retries {
+        match read_once(depot, info, coord, chunk) {
+            Err(TaskFault::Store) => {}
+            ended => return ended,
+        }
+    }
+    read_once(depot, info, coord, chunk)
+}
+
+/// Copies the elements of a chunk to their places among the bytes of the whole array.
+fn place_chunk(layout: &Layout, coord: &Dims, chunk: &[u8], all: &mut [u8])
+    requires coordinate { IsCoordinate layout.now.grid coord.now }
+    requires chunk_length { length chunk.now ≡ bytes_of layout.now }
+    requires all_length { length all.old ≡ product layout.now.grid.shape * size_of layout.now.dtype }
+    ensures { IsPlaced layout.now coord.now chunk.now all.old all.new }
+{
+    let shape = layout.grid.shape();
+    let region = Region {
+        lo: difference(shape, shape),
+        hi: *shape,
+    };
+    take_part(
+        &layout.grid,
+        u64::from(size(layout.dtype)),
+        Endian::Little,
+        coord,
+        chunk,
+        &region,
+        all,
+    );
+}
+
+/// What is answered where reading the chunk under this key ends so.
+fn part_end(fault: &TaskFault, key: &Key) -> Status
+    ensures { result ≡ part_end key.now fault.now }
+{
+    match fault {
+        TaskFault::Store => Status::DepotFailed { key: *key },
+        TaskFault::BadChunk { key, got, want } => Status::BadChunk {
+            key: *key,
+            got: *got,
+            want: *want,
+        },
+        TaskFault::NoMemory => Status::NoMemory,
+    }
+}
+
+/// Reads chunk number `number`, row-major, and copies its elements to their places.
+fn read_numbered<D: Depot>(
+    depot: &mut D,
+    info: &ArrayInfo,
+    number: u64,
+    retries: u32,
+    chunk: &mut [u8],
+    all: &mut [u8],
+) -> Result<(), Status>
+    requires readable { IsReadable info.now }
+    requires number { number < product (counts_of info.now.layout.grid.shape info.now.layout.grid.chunk) }
+    requires chunk_length { length chunk.old ≡ bytes_of info.now.layout }
+    requires all_length { length all.old ≡ product info.now.layout.grid.shape * size_of info.now.layout.dtype }
+    ensures read { OnOk result ((entry : Shown) → Stepped NoChange entry (D.shown depot.old) → WhereCalm entry (input_of info.now) (HasChunksBelow (input_of info.now) all.old number)
+        → WhereCalm entry (input_of info.now) (HasChunksBelow (input_of info.now) all.new (number + 1))) }
+    ensures step { Stepped NoChange (D.shown depot.old) (D.shown depot.new) }
+    ensures cause { IfErr result (IsReadFault (retries + 1) (D.shown depot.old) (D.shown depot.new) info.now.layout (λ key. key ≡ key_at info.now (coordinate_of info.now.layout.grid number))) }
+{
+    let coord = info.layout.grid.coordinate(number);
+    match read_tries(depot, info, &coord, retries, chunk) {
+        Ok(()) => {
+            place_chunk(&info.layout, &coord, chunk, all);
+            Ok(())
+        }
+        Err(fault) => {
+            let key = chunk_key(&info.prefix, info.layout.encoding, &coord);
+            Err(part_end(&fault, &key))
+        }
+    }
+}
+
+/// Reads all chunks of a stored array in row-major order, each with at most `retries + 1` calls, into the bytes of all its elements,
+/// row-major and little-endian. An absent chunk reads as the fill value. `chunk` has the bytes of a chunk.
+pub(crate) fn read_chunks<D: Depot>(
+    depot: &mut D,
+    info: &ArrayInfo,
+    retries: u32,
+    chunk: &mut [u8],
+    all: &mut [u8],
+) -> Result<(), Status>
+    requires readable { IsReadable info.now }
+    requires chunk_length { length chunk.old ≡ bytes_of info.now.layout }
+    requires all_length { length all.old ≡ product info.now.layout.grid.shape * size_of info.now.layout.dtype }
+    ensures read { OnOk result (SinceCalm (D.shown depot.old) (input_of info.now) (HasAllStored (input_of info.now) all.new)) }
+    ensures step { Stepped NoChange (D.shown depot.old) (D.shown depot.new) }
+    ensures cause { IfErr result (IsArrayFault (retries + 1) (D.shown depot.old) (D.shown depot.new) (input_of info.now)) }
+{
+    for number in 0..info.layout.grid.count() {
+        match read_numbered(depot, info, number, retries, chunk, all) {
+            Ok(()) => {}
+            Err(status) => return Err(status),
+        }
+    }
+    Ok(())
+}

@@ -1,0 +1,15 @@
+use Rattle.std.proofs.Common.{◌≡◌, ◌<◌, ◌≤◌, ◌-◌, ℕ, length}
+use Rattle.cu_kern.specs.Lays.{HasValue}
+use Rattle.cu_kern.specs.Steps.{value_by_place}
+use Rattle.cu_kern.proofs.by_rows.run_each.Given as goal
+
+abbrev pub invariant-loop-done : goal.invariant-loop-done
+invariant-loop-done l = record {
+  within : l.done ≤ l.all;
+  out_length : length l.out ≡ length l.fn.out;
+  bank_length : length l.bank ≡ length l.fn.bank;
+  values : (p : ℕ) → p < l.done → HasValue l.t l.out p (value_by_place l.plan.code.now l.inputs.lays.now l.inputs.ins.now l.inputs.dims.now p);
+}
+
+abbrev pub decreases-loop-done : goal.decreases-loop-done
+decreases-loop-done l = l.all - l.done

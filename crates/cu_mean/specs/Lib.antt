@@ -1,0 +1,11 @@
+pub mod Axes
+pub mod Elementwise
+pub mod Going
+pub mod Indexing
+pub mod Laws
+pub mod Node
+pub mod Places
+pub mod Plain
+pub mod Reading
+pub mod Reductions
+pub mod Whole

@@ -1,0 +1,29 @@
+-- The elements of arrays that are held element by element, by the arrays' numbers.
+use Rattle.std.specs.Prelude.{◌≡◌, ℕ, ℤ, pos, List, Option, Some, None, get_or, slice_get, if◌then◌else◌}
+use Rattle.cu_shape.specs.Index.{place_of, is_inside}
+use Rattle.cu_node.specs.Info.{info_at}
+use Rattle.cu_node.specs.declared.info.NodeInfo.{NodeInfo}
+use Rattle.cu_meaning.specs.Argument.{NodeElements}
+use Rattle.cu_mean.specs.Plain.{PlainArray}
+
+-- the element at an index; 0 at an index outside
+abbrev pub plain_at : PlainArray → List ℕ → ℤ
+plain_at p idx = if is_inside p.dims idx then get_or p.cells (place_of p.dims idx) (pos 0) else pos 0
+
+-- the same of an array that may not be there
+abbrev pub found_at : Option PlainArray → List ℕ → ℤ
+found_at (Some p) idx = plain_at p idx
+found_at None idx = pos 0
+
+-- the elements of the arrays of a list, by their numbers
+abbrev pub elements_in : List PlainArray → NodeElements
+elements_in plains n idx = found_at (slice_get plains n) idx
+
+-- the array has the type and the shape
+pub record HasInfo (i : NodeInfo) (p : PlainArray) : Type 0 where
+  pub dtype : p.dtype ≡ i.dtype
+  pub dims : p.dims ≡ i.dims
+
+-- each array has the type and the shape of its number
+abbrev pub HaveInfos : List NodeInfo → List PlainArray → Type 0
+HaveInfos infos plains = (n : ℕ) (p : PlainArray) → slice_get plains n ≡ Some p → HasInfo (info_at infos n) p

@@ -1,0 +1,43 @@
+//! The memory of a view, and of an array that is made from nothing.
+
+ghost use Rattle.std.specs.Prelude.{◌≡◌, ◌≤◌, ◌^◌, All};
+ghost use Rattle.cu_node.specs.Info.{IsInfo};
+ghost use Rattle.cu_need.specs.Chunks.{arrays_in};
+ghost use Rattle.cu_need.specs.View.{is_view, view_need};
+
+use crate::chunks::chunk_bytes;
+use cu_form::{Arg, Form};
+use cu_node::{NodeInfo, info_at, info_law};
+
+/// Whether the form is a view, or an array that is made from nothing. The same elements in other chunks are a copy, and no view.
+pub fn is_view(form: &Form) -> bool
+    ensures { result ≡ is_view form.now }
+{
+    match form {
+        Form::Input { .. }
+        | Form::Elementwise { .. }
+        | Form::Rechunk { .. }
+        | Form::Reduce { .. }
+        | Form::ArgPlace { .. }
+        | Form::Matmul { .. } => false,
+        _ => true,
+    }
+}
+
+/// The bytes that a view needs, whose array `made` tells of: its greatest chunk, and one of the result.
+pub(crate) fn view_need(reserved: u64, infos: &[NodeInfo], made: &NodeInfo, args: &[Arg]) -> u64
+    requires reserved { reserved ≤ 2 ^ 40 }
+    requires made { IsInfo made.now }
+    requires infos { All IsInfo infos.now }
+    ensures { result ≡ view_need reserved made.now (arrays_in infos.now args.now) }
+{
+    info_law();
+    let own = chunk_bytes(made);
+    let mut scratch = own;
+    for arg in args {
+        if let Arg::Node(number) = arg {
+            scratch = scratch.max(chunk_bytes(&info_at(infos, *number)));
+        }
+    }
+    reserved + scratch + own
+}

@@ -1,0 +1,5 @@
+pub mod AxesInside
+mod Examples
+mod FitExamples
+pub mod OriginsInside
+pub mod PiecesInside

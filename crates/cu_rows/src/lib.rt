@@ -1,0 +1,23 @@
+//! Tables of cases: their words, and the kinds of case whose rows ask for one answer of a reader, of typing, or of a call over
+//! numbers, shapes, grids and keys.
+#![tactic(auto)]
+
+mod bytes;
+mod expressions;
+mod findings;
+mod members;
+mod metadata;
+mod numbers;
+mod regions;
+mod shapes;
+mod typing;
+
+pub use bytes::{Texts, key_of};
+pub use expressions::run_expressions;
+pub use findings::{Findings, Place};
+pub use members::{Said, list_of, number_of, pair_of, refuse_others, text_of};
+pub use metadata::run_metadata;
+pub use numbers::{run_promotions, run_scalars};
+pub use regions::{run_keys, run_regions};
+pub use shapes::run_shapes;
+pub use typing::run_typing;

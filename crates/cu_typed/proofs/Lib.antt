@@ -1,5 +1,0 @@
-mod Elements
-mod Kept
-mod Numbers
-mod Together
-mod Views

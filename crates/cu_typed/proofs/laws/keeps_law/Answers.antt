@@ -1,5 +1,0 @@
-use Rattle.cu_typed.proofs.Kept.{node_keeps}
-use Rattle.cu_typed.proofs.laws.keeps_law.Goals as goal
-
-pub returns : goal.returns
-returns c inputs e infos env k node is h kept fit at = node_keeps inputs e infos env k node is h kept fit at

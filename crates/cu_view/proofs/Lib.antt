@@ -1,0 +1,17 @@
+pub mod Asked
+pub mod Comes
+pub mod Concats
+pub mod Corners
+pub mod Eyes
+pub mod Fitting
+pub mod Hulls
+pub mod Laid
+pub mod Numbers
+pub mod OneByOne
+pub mod Ranges
+pub mod Rolls
+pub mod Shares
+pub mod Slices
+pub mod Taken
+pub mod Turned
+pub mod WayReads

@@ -1,0 +1,9 @@
+-- Regions that hold what is read. This project's own rules.
+use Rattle.std.specs.Prelude.{ℕ, Option, Some, None, List}
+use Rattle.cu_grid.specs.Counts.{IsWithin}
+use Rattle.cu_grid.specs.declared.region.Region.{Region}
+
+-- there is a region, and it holds the index
+abbrev pub Covers : Option Region → List ℕ → Type 0
+Covers None idx = ⊥
+Covers (Some r) idx = IsWithin r.lo r.hi idx

@@ -1,0 +1,5 @@
+pub mod Boxes
+pub mod Gathered
+pub mod Hull
+pub mod Pieces
+pub mod View

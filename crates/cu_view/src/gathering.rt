@@ -1,0 +1,121 @@
+//! The elements of a result that come from a block of a source.
+ghost use Rattle.std.specs.Prelude.{◌≡◌, ◌<◌, [], ℕ, List, All, length, slice_index_or};
+ghost use Rattle.cu_num.specs.Element.{bytes_at, element_at, element_bytes};
+ghost use Rattle.cu_grid.specs.Counts.{IsRegion, IsWithin};
+ghost use Rattle.cu_pull.specs.Pull.{origin_of};
+ghost use Rattle.cu_pull.specs.declared.provenance.Provenance.TheVariants.{From};
+ghost use Rattle.cu_view_box.specs.Block.{place_in, IsBlock, AreSpelled};
+ghost use Rattle.cu_view_box.specs.Piece.{HaveRanks, IsShared, IsWayOver};
+ghost use Rattle.cu_view.specs.Gathered.{HasMoved, IsSame};
+ghost use Rattle.cu_view.specs.Pieces.{IsParted};
+ghost use Rattle.cu_view.specs.View.{IsView};
+
+use crate::each::gather_each;
+use crate::pieces::{piece_at, piece_count};
+use cu_num::Endian;
+use cu_pull::Pull;
+use cu_shape::Dims;
+use cu_view_box::{Block, Piece, copy_box, reshape_gather, shared_box};
+
+/// Moves the elements of a block of the result that come from a block of a source, each as the number that it is, and leaves the
+/// others as they are.
+pub fn gather(
+    pull: &Pull,
+    sources: &[Dims],
+    shape: &Dims,
+    source: u32,
+    from: &Block,
+    bytes: &[u8],
+    to: &Block,
+    output: &mut [u8],
+)
+    requires view { IsView pull.now sources.now shape.now }
+    requires source { source < length sources.now }
+    requires from_region { IsRegion (slice_index_or sources.now source []) from.now.region.lo from.now.region.hi }
+    requires to_region { IsRegion shape.now to.now.region.lo to.now.region.hi }
+    requires from_block { IsBlock from.now bytes.now }
+    requires to_block { IsBlock to.now output.old }
+    requires spelled { from.now.dtype ≡ to.now.dtype → AreSpelled from.now.dtype bytes.now }
+    ensures moved { (idx i : List ℕ) → IsWithin to.now.region.lo to.now.region.hi idx → origin_of pull.now sources.now shape.now idx ≡ From source i
+        → IsWithin from.now.region.lo from.now.region.hi i
+        → bytes_at to.now.dtype output.new (place_in to.now idx) ≡ element_bytes Endian.Little to.now.dtype (element_at Endian.Little from.now.dtype bytes.now (place_in from.now i)) }
+    ensures others { (idx : List ℕ) → IsWithin to.now.region.lo to.now.region.hi idx
+        → ((i : List ℕ) → origin_of pull.now sources.now shape.now idx ≡ From source i → ¬ IsWithin from.now.region.lo from.now.region.hi i)
+        → bytes_at to.now.dtype output.new (place_in to.now idx) ≡ bytes_at to.now.dtype output.old (place_in to.now idx) }
+    ensures same_length { length output.new ≡ length output.old }
+{
+    match pull {
+        Pull::Reshape => reshape_gather(&sources[0], shape, from, bytes, to, output),
+        Pull::Triangle { .. } => gather_each(pull, sources, shape, source, from, bytes, to, output),
+        Pull::Full { .. } | Pull::Arange { .. } | Pull::Eye { .. } => {}
+        Pull::Slice { .. }
+        | Pull::Permute { .. }
+        | Pull::Concat { .. }
+        | Pull::Stack { .. }
+        | Pull::Flip { .. }
+        | Pull::Roll { .. }
+        | Pull::Broadcast => gather_pieces(pull, sources, shape, source, from, bytes, to, output),
+    }
+}
+
+/// The same of a view that is parted into pieces, one piece after another.
+fn gather_pieces(
+    pull: &Pull,
+    sources: &[Dims],
+    shape: &Dims,
+    source: u32,
+    from: &Block,
+    bytes: &[u8],
+    to: &Block,
+    output: &mut [u8],
+)
+    requires parted { IsParted pull.now }
+    requires view { IsView pull.now sources.now shape.now }
+    requires source { source < length sources.now }
+    requires from_region { IsRegion (slice_index_or sources.now source []) from.now.region.lo from.now.region.hi }
+    requires to_region { IsRegion shape.now to.now.region.lo to.now.region.hi }
+    requires from_block { IsBlock from.now bytes.now }
+    requires to_block { IsBlock to.now output.old }
+    requires spelled { from.now.dtype ≡ to.now.dtype → AreSpelled from.now.dtype bytes.now }
+    ensures moved { (idx i : List ℕ) → IsWithin to.now.region.lo to.now.region.hi idx → origin_of pull.now sources.now shape.now idx ≡ From source i
+        → IsWithin from.now.region.lo from.now.region.hi i
+        → bytes_at to.now.dtype output.new (place_in to.now idx) ≡ element_bytes Endian.Little to.now.dtype (element_at Endian.Little from.now.dtype bytes.now (place_in from.now i)) }
+    ensures others { (idx : List ℕ) → IsWithin to.now.region.lo to.now.region.hi idx
+        → ((i : List ℕ) → origin_of pull.now sources.now shape.now idx ≡ From source i → ¬ IsWithin from.now.region.lo from.now.region.hi i)
+        → bytes_at to.now.dtype output.new (place_in to.now idx) ≡ bytes_at to.now.dtype output.old (place_in to.now idx) }
+    ensures same_length { length output.new ≡ length output.old }
+{
+    for number in 0..piece_count(pull, sources, shape) {
+        let piece = piece_at(pull, sources, shape, number);
+        gather_piece(&piece, source, from, bytes, to, output);
+    }
+}
+
+/// The same of one piece.
+fn gather_piece(
+    piece: &Piece,
+    source: u32,
+    from: &Block,
+    bytes: &[u8],
+    to: &Block,
+    output: &mut [u8],
+)
+    requires ranks { piece.now.source ≡ source → HaveRanks piece.now to.now.region from.now.region }
+    requires ways { All (IsWayOver piece.now.region.lo piece.now.region.hi) piece.now.ways.items }
+    requires from_block { IsBlock from.now bytes.now }
+    requires to_block { IsBlock to.now output.old }
+    requires spelled { from.now.dtype ≡ to.now.dtype → AreSpelled from.now.dtype bytes.now }
+    ensures moved { (idx : List ℕ) → piece.now.source ≡ source → IsShared piece.now to.now.region.lo to.now.region.hi from.now.region.lo from.now.region.hi idx
+        → HasMoved piece.now from.now bytes.now to.now output.new idx }
+    ensures others { (idx : List ℕ) → IsWithin to.now.region.lo to.now.region.hi idx
+        → (piece.now.source ≡ source → ¬ IsShared piece.now to.now.region.lo to.now.region.hi from.now.region.lo from.now.region.hi idx)
+        → IsSame to.now output.old output.new idx }
+{
+    if piece.source != source {
+        return;
+    }
+    match shared_box(piece, &to.region, &from.region) {
+        Some(shared) => copy_box(piece, &shared, from, bytes, to, output),
+        None => {}
+    }
+}

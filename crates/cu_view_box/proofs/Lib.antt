@@ -1,0 +1,12 @@
+pub mod Boxes
+pub mod Evenly
+mod Examples
+pub mod Lined
+pub mod ReadOver
+pub mod Reshapes
+pub mod Rows
+pub mod Runs
+pub mod SharedBoxes
+pub mod Slices
+pub mod Spans
+pub mod Stretches

@@ -1,0 +1,42 @@
+-- The elements of an array in another shape, in row-major order (Python array API 2022.12, "reshape").
+use Rattle.std.specs.Prelude.{◌≡◌, ℕ, ◌+◌, ◌-◌, ◌^◌, ◌<◌, ◌≤◌, List, length, slice_index}
+use Rattle.cu_num.specs.Element.{bytes_at, element_at, element_bytes}
+use Rattle.cu_num.specs.declared.layout.Endian.TheVariants.{Little}
+use Rattle.cu_shape.specs.Index.{product, place_of, index_at, IsInside}
+use Rattle.cu_grid.specs.Counts.{IsWithin}
+use Rattle.cu_grid.specs.declared.region.Region.{Region}
+use Rattle.cu_view_box.specs.Block.{place_in}
+use Rattle.cu_view_box.specs.Row.{IsRow, row_count}
+use Rattle.cu_view_box.specs.declared.block.Block.{Block}
+
+-- the index of the source that stands at the place of an index of the result
+abbrev pub reshaped : List ℕ → List ℕ → List ℕ → List ℕ
+reshaped source shape idx = index_at source (place_of shape idx)
+
+-- two shapes of as many elements
+pub record IsReshape (source shape : List ℕ) : Type 0 where
+  pub same : product source ≡ product shape
+  pub small : product source < 2 ^ 64
+
+-- each element of the part of a result that comes from a block of the source is the number there
+abbrev pub IsDrawn : (List ℕ → List ℕ) → Region → Block → List ℕ → Block → List ℕ → Type 0
+IsDrawn origin part from bytes to new = (idx : List ℕ) → IsWithin part.lo part.hi idx → IsWithin from.region.lo from.region.hi (origin idx)
+    → bytes_at to.dtype new (place_in to idx) ≡ element_bytes Little to.dtype (element_at Little from.dtype bytes (place_in from (origin idx)))
+
+-- the other elements are as before
+abbrev pub AreOthersLeft : (List ℕ → List ℕ) → Region → Block → Block → List ℕ → List ℕ → Type 0
+AreOthersLeft origin part from to old new = (idx : List ℕ) → IsWithin to.region.lo to.region.hi idx
+    → ¬ (IsWithin part.lo part.hi idx × IsWithin from.region.lo from.region.hi (origin idx))
+    → bytes_at to.dtype new (place_in to idx) ≡ bytes_at to.dtype old (place_in to idx)
+
+-- a part of a result's block that isn't empty
+pub record IsPart (shape : List ℕ) (part : Region) (to : Block) : Type 0 where
+  pub some : IsWithin part.lo part.hi part.lo
+  pub inside : (idx : List ℕ) → IsWithin part.lo part.hi idx → IsInside shape idx
+  pub of_result : (idx : List ℕ) → IsWithin part.lo part.hi idx → IsWithin to.region.lo to.region.hi idx
+
+-- a row along the last axis whose elements stand in one row of the source
+pub record IsRunOfBoth (source shape : List ℕ) (run : Region) : Type 0 where
+  pub row : IsRow run (length run.lo - 1)
+  pub stays : 1 < row_count run (length run.lo - 1) → (0 < length source)
+      × (slice_index (reshaped source shape run.lo) (length source - 1) + row_count run (length run.lo - 1) ≤ slice_index source (length source - 1))
