@@ -9,7 +9,7 @@ any bytes for truth values; and an expression of up to ten nodes over them: ever
 broadcast shapes, nodes that are used twice, and dead nodes, among them other operators. One case in three is a chain of views
 alone. What must be stored is computed by NumPy, and what must be answered by bench/rules.py. One case in four is damaged, in one
 or two of: the text, an argument, metadata, a chunk, a key in the way, memory, counts, operators that aren't built. Some arrays are
-printed too, and some loaded. In one case of eight NumPy stores the output of an expression of every operator, now and then with
+printed too, some loaded, and the output of one run in five is checked by `check`. In one case of eight NumPy stores the output of an expression of every operator, now and then with
 one element changed, and the program checks it. Prints how often each answer came, and ends with 1 at the first case that differs,
 whose folder is kept; `--first` goes on at that case.
 """
@@ -528,6 +528,11 @@ class Case:
                 perhaps |= {self.bad_chunk(plan, arg, where) for arg in plan.arrays(k) for where in plan.chunks(arg)}
         return read - {None}, perhaps - {None}
 
+    def bad_inputs(self, plan):
+        """Returns the lines for all chunks of another length of all inputs."""
+        arrays = [k for k, node in enumerate(plan.expr["nodes"]) if node["op"] == "input"]
+        return {self.bad_chunk(plan, k, where) for k in arrays for where in plan.chunks(k)} - {None}
+
     def words(self, program):
         words = ["--allowed-mem", str(self.allowed), "--reserved-mem", str(self.reserved)]
         if self.pick.random() < 0.5:
@@ -622,6 +627,13 @@ def run_case(pick, program, folder, counts, only):
     ended = subprocess.run(case.words(program), input=case.text.encode(), capture_output=True, check=False)
     counts[f"run {ended.returncode}"] += 1
     wrong = wrong_end(ended, ends) or wrong_files(case, before, stored or {}, ended.returncode == 0)
+    if not wrong and ended.returncode == 0 and pick.random() < 0.2:
+        ended = subprocess.run([program, folder, "check"], input=case.text.encode(), capture_output=True, check=False)
+        counts[f"check of a run {ended.returncode}"] += 1
+        plan = rules.typed_plan(case.text.encode(), case.held)
+        # An input of which no task reads a chunk that is damaged is read whole by `check`.
+        count = int(numpy.prod(plan.infos[plan.out][1], dtype=int))
+        wrong = wrong_end(ended, {(0, f"equal {count}\n")} | {(13, line) for line in case.bad_inputs(plan)})
     return f"{' '.join(ended.args)} <<< '{case.text}': {wrong}" if wrong else None
 
 

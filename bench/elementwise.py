@@ -97,17 +97,41 @@ def by_numpy(folder, is_each):
     return time.perf_counter() - start
 
 
+def linked(folder, name, chunks):
+    """Returns a folder of version 2 whose chunks are the very files of an array, for a zarr that doesn't read version 3."""
+    top = os.path.join(folder, f"{name}_v2")
+    if not os.path.isdir(top):
+        os.makedirs(top)
+        told = {"zarr_format": 2, "shape": [chunks * CHUNK], "chunks": [CHUNK], "dtype": "<i4", "compressor": None, "fill_value": 0, "order": "C", "filters": None}
+        with open(os.path.join(top, ".zarray"), "w") as file:
+            json.dump(told, file)
+        for number in range(chunks):
+            os.link(os.path.join(folder, name, "c", str(number)), os.path.join(top, str(number)))
+    return top
+
+
 def by_dask(folder):
     """The peer over the same files: zarr opens and stores the arrays, Dask goes over the chunks with one thread."""
     import dask
     import dask.array
     import zarr
+    chunks, is_new = chunks_in(folder, "a"), int(zarr.__version__.split(".")[0]) >= 3
+    paths = [os.path.join(folder, name) if is_new else linked(folder, name, chunks) for name in INPUTS]
     start = time.perf_counter()
-    a, b, c = (dask.array.from_zarr(os.path.join(folder, name)) for name in INPUTS)
-    made = zarr.create_array(os.path.join(folder, "dask"), shape=a.shape, chunks=(CHUNK,), dtype="bool", compressors=None, zarr_format=3)
+    a, b, c = (dask.array.from_zarr(path) for path in paths)
+    target = os.path.join(folder, "dask")
+    if is_new:
+        made = zarr.create_array(target, shape=a.shape, chunks=(CHUNK,), dtype="bool", compressors=None, zarr_format=3)
+    else:
+        made = zarr.open(target, mode="w", shape=a.shape, chunks=(CHUNK,), dtype="bool", compressor=None)
     with dask.config.set(scheduler="synchronous"):
         dask.array.store((a * 2 + b) > c, made, lock=False)
-    return time.perf_counter() - start
+    taken = time.perf_counter() - start
+    if not is_new:
+        os.makedirs(os.path.join(target, "c"))
+        for number in range(chunks):
+            os.link(os.path.join(target, str(number)), os.path.join(target, "c", str(number)))
+    return taken
 
 
 def can_import(python, *names):

@@ -187,12 +187,17 @@ def absent_rows():
     return [front, {**row, "leaves": ran({"a": array}, bad)["leaves"][:2]}]
 
 
+def large_row():
+    """One chunk's worth of an array of 65,536 chunks, of which none is held: each other call of the depot would be one too many."""
+    array = stored("int8", [65536], [1], [0] * 65536, absent={(at,) for at in range(65536)})
+    return ran({"a": array}, expression([*inputs_of("a"), node("v", "index", "a", index=[{"start": 40000, "stop": 40001}])]), calls=8)
+
+
 def memory_rows():
     """The greatest chunk of the sources and the result, and a chunk of the result."""
     row = {"a": counted("int32", [6], [6]), "b": counted("int8", [4], [4])}
     text = expression([*inputs_of("a"), node("v", "index", "a", index=[{"stop": 2}])])
     joined = expression([*inputs_of("b", "a"), node("v", "concat", "b", "a", axis=0)])
-    assert rules.Plan is not None
     return [ran({"a": row["a"]}, text, 32), refused({"a": row["a"]}, text, "error 5 node=1 need=32 allowed=31", 31),
             ran(row, joined, 40), refused(row, joined, "error 5 node=2 need=40 allowed=39", 39)]
 
@@ -248,7 +253,7 @@ def view_cases():
         {"name": "arrays that are made from nothing", "rows": creation_rows()},
         {"name": "truth bytes that are stored anew", "rows": truth_rows()},
         {"name": "views of views and of functions", "rows": chain_rows()},
-        {"name": "chunks that aren't read", "rows": absent_rows()},
+        {"name": "chunks that aren't read", "rows": [*absent_rows(), large_row()]},
         {"name": "the memory of a view", "rows": memory_rows()},
         {"name": "two views, each call failing", **looped()}]
 
