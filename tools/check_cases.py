@@ -187,6 +187,8 @@ def too_many():
     def flat(shape, chunk, dtype="int8"):
         return [["y/zarr.json", metadata(dtype, shape, chunk)]]
     yield {"name": "too many elements", "rows": [
+        {"input": expression(AB, [node("s", "add", ["a", "b"])]), "holds": [[f"{name}/zarr.json", metadata("int32", [2097152], [32768])] for name in "aby"],
+         "line": "error 6 which=3 count=6291456", "calls": 3},
         {"input": full(4194305), "holds": flat([4194305], [4194304]), "line": "error 6 which=3 count=4194305", "calls": 1},
         {"input": expression({}, three + [node("z", "full", shape=[1048576], dtype="int8", value=0, chunk=[1048576])], out="s"), "holds": flat([1024], [1024]),
          "line": "error 6 which=3 count=4195328", "calls": 1},
