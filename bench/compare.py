@@ -1,13 +1,13 @@
 #!/usr/bin/env python3
 """Computes small random expressions with the program and with NumPy, and compares each byte of what is stored.
 
-  compare.py [--program FILE] [--dir FOLDER] [--cases N] [--seed N] [--first N] [--only run|views|check]
+  compare.py [--program FILE] [--dir FOLDER] [--cases N] [--seed N] [--first N] [--only run|views|reductions|check]
 
 A case has up to three stored arrays of any type, up to four axes, any chunk shape, either byte order, either encoding of keys
 with either separator, members of the metadata in any order, any fill value, chunks that are absent, any bytes past the edge, and
 any bytes for truth values; and an expression of up to ten nodes over them: every elementwise function and every view, literals,
 broadcast shapes, nodes that are used twice, and dead nodes, among them other operators. One case in three is a chain of views
-alone. What must be stored is computed by NumPy, and what must be answered by bench/rules.py. One case in four is damaged, in one
+alone, and one in four has reductions, searches for places and products of matrices, with any count of partial results that a task merges. What must be stored is computed by NumPy, and what must be answered by bench/rules.py. One case in four is damaged, in one
 or two of: the text, an argument, metadata, a chunk, a key in the way, memory, counts, operators that aren't built. Some arrays are
 printed too, some loaded, and the output of one run in five is checked by `check`. In one case of eight NumPy stores the output of an expression of every operator, now and then with
 one element changed, and the program checks it. Prints how often each answer came, and ends with 1 at the first case that differs,
@@ -27,6 +27,7 @@ import tempfile
 import numpy
 
 import operators
+import reductions
 import rules
 import values
 from rules import FUNCTIONS, Array, compact
@@ -167,6 +168,26 @@ def random_array(pick, shape, chunk):
     return random_layout(pick, pick.choice(TYPES), sizes, own)
 
 
+def random_arrays(pick):
+    """Returns arrays that broadcast together."""
+    shape = random_shape(pick)
+    chunk = sides(pick, len(shape))
+    return [random_array(pick, shape, chunk) for _ in range(pick.randint(1, 3))]
+
+
+def random_matrices(pick):
+    """Returns arrays of which the first two can be multiplied, and a row that both can be multiplied with."""
+    batch = [pick.randint(1, 3) for _ in range(pick.choice([0, 0, 0, 1, 2]))]
+    rows, inner, columns = [pick.randint(0, 7) if pick.random() < 0.1 else pick.randint(1, 7) for _ in range(3)]
+    chunk, (row_side, inner_side, column_side) = sides(pick, len(batch)), sides(pick, 3)
+    kinds = [dtype for dtype in TYPES if dtype != "bool"]
+    dtype = pick.choice(kinds)
+    left, right = [sizes[pick.randint(0, len(batch)) if pick.random() < 0.3 else 0:] for sizes in (list(range(len(batch))),) * 2]
+    operands = [(left, [rows, inner], [row_side, inner_side]), (right, [inner, columns], [inner_side, column_side]), ([], [inner], [inner_side])]
+    return [random_layout(pick, pick.choice([dtype, dtype, pick.choice(kinds)]), [batch[axis] for axis in leading] + own, [chunk[axis] for axis in leading] + own_sides)
+            for leading, own, own_sides in operands]
+
+
 def literal_for(pick, dtype):
     """Returns a literal that a type has, or now and then any."""
     low, high = rules.limits(dtype)
@@ -272,8 +293,8 @@ def random_view(pick, ident, told):
 
 
 def random_other(pick, ident, told):
-    """Returns a node of a reduction, a product, or a change of chunks."""
-    op = pick.choice([op for op in rules.OTHERS if op not in operators.PULLS])
+    """Returns a node of a reduction, a product, or now and then a change of chunks."""
+    op = pick.choice([op for op in rules.OTHERS if op not in operators.PULLS and (op != "rechunk" or pick.random() < 0.1)] + ["matmul"] * 3)
     arg = pick.choice(list(told))
     rank = len(told[arg][1])
     keeps = pick.choice([{}, {"keepdims": pick.random() < 0.5}])
@@ -305,12 +326,16 @@ class Mix:
         return random_other if chance < self.others else random_view if chance < self.others + self.views else random_function
 
 
-RUN, VIEWS, CHECK = Mix(0.15, 0.02), Mix(0.97, 0.01), Mix(0.35, 0.35)
+MIXES = {"run": Mix(0.15, 0.1), "views": Mix(0.97, 0.01), "reductions": Mix(0.15, 0.6), "check": Mix(0.35, 0.35)}
 
 
 def is_aligned(node, info, told):
-    """Whether the arguments of an elementwise node have their aligned chunks."""
+    """Whether the arguments of an elementwise node or of a product have their aligned chunks."""
     args = [told[arg] for arg in node.get("args", []) if type(arg) is str]
+    if node["op"] == "matmul":
+        return [list(sides) for sides in reductions.aligned_operands(info, args)] == [list(arg[2]) for arg in args]
+    if node["op"] == "rechunk":
+        return False
     return node["op"] not in FUNCTIONS or all(rules.aligned(info[1], info[2], arg) == arg[2] for arg in args)
 
 
@@ -332,7 +357,7 @@ def random_nodes(pick, inputs, mix):
             if type(info) is not tuple:
                 if pick.random() < 0.002:
                     break
-            elif is_small(info) and (mix is CHECK or is_aligned(node, info, told) or pick.random() < 0.02):
+            elif is_small(info) and (mix is MIXES["check"] or is_aligned(node, info, told) or pick.random() < 0.02):
                 break
         if type(info) is tuple and not is_small(info):
             break
@@ -442,11 +467,11 @@ class Case:
 
     def __init__(self, pick, folder, mix):
         self.pick, self.folder = pick, folder
-        shape = random_shape(pick)
-        chunk = sides(pick, len(shape))
-        self.inputs = [Input(pick, folder, name, random_array(pick, shape, chunk)) for name in "abc"[:pick.randint(1, 3)]]
+        arrays = random_matrices(pick) if mix is MIXES["reductions"] and pick.random() < 0.5 else random_arrays(pick)
+        self.inputs = [Input(pick, folder, name, array) for name, array in zip("abc", arrays)]
         self.text = spelled(pick, random_expression(pick, self.inputs, mix))
         self.allowed, self.reserved = ALLOWED, pick.choice([0, 0, 0, 7, 4096])
+        self.split_every = pick.choice([rules.SPLIT_EVERY, rules.SPLIT_EVERY, 2, 3, 5, 64])
 
     def held(self, key):
         path = os.path.join(self.folder, key)
@@ -456,7 +481,7 @@ class Case:
             return file.read()
 
     def plan(self):
-        return rules.plan_of(self.text.encode(), self.held, self.allowed, self.reserved)
+        return rules.plan_of(self.text.encode(), self.held, self.allowed, self.reserved, self.split_every)
 
     def damage(self):
         """Spoils something. What comes of it is for the rules to say."""
@@ -535,6 +560,8 @@ class Case:
 
     def words(self, program):
         words = ["--allowed-mem", str(self.allowed), "--reserved-mem", str(self.reserved)]
+        if self.split_every != rules.SPLIT_EVERY or self.pick.random() < 0.2:
+            words += ["--split-every", str(self.split_every)]
         if self.pick.random() < 0.5:
             words += ["--retries", str(self.pick.randint(0, 8))]
         return [program, self.folder, "run", *words]
@@ -547,6 +574,8 @@ def chunks_read(plan, k):
     node = plan.expr["nodes"][k]
     if node["op"] in FUNCTIONS:
         return {read for place in plan.chunks(k) for read in plan.task_inputs(k, place)}
+    if node["op"] in rules.OTHERS and node["op"] not in operators.PULLS:
+        return {(arg, where) for arg in plan.arrays(k) for where in plan.chunks(arg)} if plan.tasks(k) else set()
     found, first = set(), 0
     places = values.origins(node, [plan.infos[arg][1] for arg in plan.arrays(k)])
     for arg in plan.arrays(k):
@@ -574,11 +603,46 @@ def must_be_stored(case, plan):
     stored = {f"_cubed/{name}/plan.json": compact(plan.record(case.allowed, case.reserved)).encode(),
               f"{name}/zarr.json": compact(plan.array(plan.out).written()).encode()}
     elements = numpy_values(plan, {entry.name: entry.elements for entry in case.inputs})
-    for k in plan.made:
-        array = plan.array(k)
-        for place in plan.chunks(k):
-            stored[plan.key(k, place)] = bytes_of(array, whole_chunk(array, elements[k], place))
+    for k, at, which, info in plan.parts():
+        array = Array(*info)
+        part = part_elements(plan, (k, at, which), info, elements)
+        for place in chunks_of(array):
+            stored[plan.part_key(k, at, which, place)] = bytes_of(array, whole_chunk(array, part, place))
     return stored
+
+
+def part_elements(plan, part, info, elements):
+    """Returns the elements of an array that an operation of a node writes, each made by NumPy of its part of the source."""
+    k, at, which = part
+    step, node = plan.steps[k][at], plan.expr["nodes"][k]
+    if at == len(plan.steps[k]) - 1:
+        return elements[k]
+    args = [elements[arg] for arg in plan.arrays(k)]
+    dtype, shape, _ = info
+    found = numpy.empty(shape, dtype)
+    if node["op"] == "matmul":
+        cuts = step.bounds["inner"]
+        for number, (low, high) in enumerate(zip(cuts, cuts[1:])):
+            right = args[1][low:high] if args[1].ndim == 1 else args[1][..., low:high, :]
+            found[..., number] = numpy.matmul(args[0][..., low:high].astype(dtype), right.astype(dtype))
+        return found
+    for index in numpy.ndindex(*shape):
+        place = [(step.bounds[axis][i], step.bounds[axis][i + 1]) if axis in step.bounds else (i, i + 1) for axis, i in enumerate(index)]
+        found[index] = part_element(node, args[0], place, which == len(step.arrays) - 1, dtype)
+    return found
+
+
+def part_element(node, source, place, is_last, dtype):
+    """Returns what is made of one part of a source: for a search for places the place, or the value where `is_last` doesn't hold."""
+    block = source[tuple(slice(low, high) for low, high in place)]
+    if node["op"] not in reductions.PLACES:
+        return values.reduced({"op": node["op"]}, block, dtype)
+    if not is_last:
+        return block.min() if node["op"] == "argmin" else block.max()
+    own = numpy.unravel_index(getattr(numpy, node["op"])(block), block.shape)
+    index = [int(i) + low for i, (low, _) in zip(own, place)]
+    axis = node.get("axis")
+    return index[axis] if axis is not None else int(numpy.ravel_multi_index(index, source.shape)) if index else 0
 
 
 def expected(case):
@@ -591,7 +655,7 @@ def expected(case):
     ends = {(13, line) for line in read | perhaps}
     if not read:
         tasks = sum(map(plan.tasks, plan.made))
-        ends.add((0, f"ok ops={len(plan.made)} tasks={tasks} starts={tasks} failed=0 peak={plan.peak(case.reserved)}\n"))
+        ends.add((0, f"ok ops={plan.operations()} tasks={tasks} starts={tasks} failed=0 peak={plan.peak(case.reserved)}\n"))
     return ends, must_be_stored(case, plan)
 
 
@@ -611,8 +675,8 @@ def wrong_files(case, before, stored, is_whole):
 
 def run_case(pick, program, folder, counts, only):
     """Runs one case, and tells why it is wrong, or nothing."""
-    kind = only or pick.choice(["run", "run", "run", "run", "views", "views", "views", "check"])
-    case = Case(pick, folder, {"run": RUN, "views": VIEWS, "check": CHECK}[kind])
+    kind = only or pick.choice(["run", "run", "run", "reductions", "reductions", "views", "views", "check"])
+    case = Case(pick, folder, MIXES[kind])
     if pick.random() < 0.1:
         wrong = next(filter(None, (printed_wrong(program, folder, entry) for entry in case.inputs)), None) or loaded_wrong(pick, program, folder)
         if wrong:
@@ -777,7 +841,7 @@ def main():
     words.add_argument("--cases", type=int, default=20000)
     words.add_argument("--seed", type=int, default=1)
     words.add_argument("--first", type=int, default=0)
-    words.add_argument("--only", choices=["run", "views", "check"])
+    words.add_argument("--only", choices=list(MIXES))
     given = words.parse_args()
     counts = collections.Counter()
     for number in range(given.first, given.cases):

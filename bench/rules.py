@@ -12,9 +12,11 @@ import re
 
 from limits import MOST_CHUNK_BYTES, MOST_CHUNKS, MOST_ELEMENTS, MOST_RANK, SIZES, aligned, broadcast, chunk_for, grid_of, is_value, limit_place, limits, promoted, size_of, whole, wrapped
 from operators import OTHERS, PULLS
+from reductions import FOLDS, PLACES, Step, aligned_operands, bytes_of, fold_steps, place_steps, product_steps
 
 NAME = re.compile(r"[A-Za-z0-9][A-Za-z0-9_.-]{0,31}\Z")
-MOST_TEXT, MOST_NODES, MOST_TASKS = 1 << 20, 256, 1 << 16
+MOST_TEXT, MOST_NODES, MOST_TASKS, MOST_CELLS = 1 << 20, 256, 1 << 16, 1 << 18
+SPLIT_EVERY = 4
 
 
 class Refused(Exception):
@@ -380,17 +382,41 @@ def other(node, args):
 # The plan
 
 class Plan:
-    """What `run` carries out: of each operation its node, the prefix of its array, and what its tasks read."""
+    """What `run` carries out: of each node its operations, the prefixes of their arrays, and what its tasks read."""
 
-    def __init__(self, expr, metas, infos):
-        self.expr, self.metas, self.infos = expr, metas, infos
+    def __init__(self, expr, metas, infos, split_every=SPLIT_EVERY):
+        self.expr, self.metas, self.infos, self.split_every = expr, metas, infos, split_every
         self.places = {node["id"]: number for number, node in enumerate(expr["nodes"])}
         self.out = self.places[expr["out"]]
         self.live = self.marks()
         self.made = [k for k, node in enumerate(expr["nodes"]) if self.live[k] and node["op"] != "input"]
-        name = expr["store_as"]
-        others = [k for k in self.made if k != self.out]
-        self.prefixes = {k: f"_cubed/{name}/{number}" for number, k in enumerate(others)} | {self.out: name}
+        self.steps = {k: self.steps_of(k) for k in self.made if self.is_made(k)}
+        self.prefixes = dict(self.named())
+
+    def named(self):
+        """Yields the prefix of each made array, by its node, the place of its operation and its place among those that this writes."""
+        number = 0
+        for k, steps in self.steps.items():
+            for at, step in enumerate(steps):
+                for which in range(len(step.arrays)):
+                    is_own = at == len(steps) - 1 and which == len(step.arrays) - 1
+                    if is_own and k == self.out:
+                        yield (k, at, which), self.expr["store_as"]
+                        continue
+                    yield (k, at, which), f"_cubed/{self.expr['store_as']}/{number}"
+                    number += 1
+
+    def steps_of(self, k):
+        """Returns the operations of a node that is made."""
+        node, made = self.expr["nodes"][k], self.infos[k]
+        args = [self.infos[arg] for arg in self.arrays(k)]
+        if node["op"] in FOLDS:
+            return fold_steps(node, args[0], made, self.split_every)
+        if node["op"] in PLACES:
+            return place_steps(node, args[0], made, self.split_every)
+        if node["op"] == "matmul":
+            return product_steps(made, args, self.split_every)
+        return [Step([made], {}, self.room(k))]
 
     def marks(self):
         live = [False] * len(self.infos)
@@ -412,38 +438,43 @@ class Plan:
         _, shape, chunk = self.infos[k]
         return [SIZES[self.infos[arg][0]] * math.prod(aligned(shape, chunk, self.infos[arg])) for arg in self.arrays(k)]
 
+    def is_made(self, k):
+        """Whether `run` can carry out a node that isn't an input: its arguments have their aligned chunks."""
+        op = self.expr["nodes"][k]["op"]
+        chunks = [list(self.infos[arg][2]) for arg in self.arrays(k)]
+        if op == "matmul":
+            return list(map(list, aligned_operands(self.infos[k], [self.infos[arg] for arg in self.arrays(k)]))) == chunks
+        if op in FUNCTIONS:
+            return [aligned(*self.infos[k][1:], self.infos[arg]) for arg in self.arrays(k)] == chunks
+        return op != "rechunk"
+
     def unbuilt(self):
         """Returns the first live node that `run` can't carry out, or nothing."""
         for k, node in enumerate(self.expr["nodes"]):
-            if not self.live[k]:
-                continue
-            if node["op"] == "input":
-                if k == self.out:
-                    return k
-                continue
-            _, shape, chunk = self.infos[k]
-            if node["op"] in PULLS:
-                continue
-            if node["op"] not in FUNCTIONS or any(aligned(shape, chunk, self.infos[arg]) != self.infos[arg][2]
-                                                  for arg in self.arrays(k)):
+            if self.live[k] and (k == self.out if node["op"] == "input" else not self.is_made(k)):
                 return k
         return None
 
+    def room(self, k):
+        """Returns the bytes that a task of an elementwise node or of a view needs beside those that are reserved."""
+        result = bytes_of(*self.infos[k][::2])
+        if self.expr["nodes"][k]["op"] in PULLS:
+            return max([bytes_of(*self.infos[arg][::2]) for arg in self.arrays(k)] + [result]) + result
+        args = self.aligned_bytes(k)
+        return max([*args, result]) + sum(args) + result + 512 * (len(args) + self.literals(k) + 1)
+
     def need(self, k, reserved):
         """Returns the bytes that a node needs."""
-        if self.expr["nodes"][k]["op"] == "input":
-            return reserved
-        dtype, _, chunk = self.infos[k]
-        result = SIZES[dtype] * math.prod(chunk)
-        if self.expr["nodes"][k]["op"] in PULLS:
-            sources = [SIZES[of] * math.prod(sides) for of, _, sides in (self.infos[arg] for arg in self.arrays(k))]
-            return reserved + max([*sources, result]) + result
-        args = self.aligned_bytes(k)
-        steps = len(args) + self.literals(k) + 1
-        return reserved + max([*args, result]) + sum(args) + result + 512 * steps
+        return reserved + max((step.room for step in self.steps.get(k, [])), default=0)
 
     def tasks(self, k):
-        return math.prod(grid_of(*self.infos[k][1:]))
+        return sum(step.tasks() for step in self.steps[k])
+
+    def cells(self, k):
+        return sum(math.prod(grid_of(*array[1:])) for step in self.steps[k] for array in step.arrays)
+
+    def operations(self):
+        return sum(map(len, self.steps.values()))
 
     def peak(self, reserved):
         return max(self.need(k, reserved) for k in self.made)
@@ -456,7 +487,18 @@ class Plan:
         if self.expr["nodes"][k]["op"] == "input":
             name = self.expr["nodes"][k]["name"]
             return self.metas[name].key(name, place)
-        return f"{self.prefixes[k]}/{chunk_key('default', '/', place)}"
+        return self.part_key(k, len(self.steps[k]) - 1, len(self.steps[k][-1].arrays) - 1, place)
+
+    def part_key(self, k, at, which, place):
+        """Returns the key of a chunk of an array that an operation of a node writes."""
+        return f"{self.prefixes[k, at, which]}/{chunk_key('default', '/', place)}"
+
+    def parts(self):
+        """Yields each array that is made: its node, the place of its operation, its place among those that this writes, and what is known of it."""
+        for k, steps in self.steps.items():
+            for at, step in enumerate(steps):
+                for which, array in enumerate(step.arrays):
+                    yield k, at, which, array
 
     def task_inputs(self, k, place):
         """Returns the node and the chunk of each argument that a task reads."""
@@ -471,19 +513,21 @@ class Plan:
     def keys_in_the_way(self):
         """Returns the keys that are asked for, in order."""
         name = self.expr["store_as"]
-        return [f"_cubed/{name}/plan.json", f"{name}/zarr.json"] + [self.key(k, place) for k in self.made for place in self.chunks(k)]
+        made = [self.part_key(k, at, which, place) for k, steps in self.steps.items() for at, step in enumerate(steps)
+                for place in itertools.product(*map(range, grid_of(*step.arrays[-1][1:]))) for which in range(len(step.arrays))]
+        return [f"_cubed/{name}/plan.json", f"{name}/zarr.json", *made]
 
     def record(self, allowed, reserved):
         names = sorted({node["name"] for node in self.expr["nodes"] if node["op"] == "input"})
         return {"allowed": allowed, "cubed": 1, "expr": self.expr, "inputs": {name: self.metas[name].written() for name in names},
-                "reserved": reserved, "split_every": 4}
+                "reserved": reserved, "split_every": self.split_every}
 
     def array(self, k):
         """Returns the array in which a node's elements are stored."""
         return Array(*self.infos[k])
 
 
-def typed_plan(data, held):
+def typed_plan(data, held, split_every=SPLIT_EVERY):
     """Returns a text as a plan that isn't tested yet, over what is held, or refuses it. `held` gives the bytes of a key, or nothing."""
     expr = read(data)
     metas = {}
@@ -493,12 +537,12 @@ def typed_plan(data, held):
             if metadata is None:
                 refuse(8, name=node["name"])
             metas[node["name"]] = meta_of(node["name"], metadata)
-    return Plan(expr, metas, typed(expr, metas))
+    return Plan(expr, metas, typed(expr, metas), split_every)
 
 
-def plan_of(data, held, allowed, reserved):
+def plan_of(data, held, allowed, reserved, split_every=SPLIT_EVERY):
     """Returns the plan of a text, or refuses it."""
-    plan = typed_plan(data, held)
+    plan = typed_plan(data, held, split_every)
     node = plan.unbuilt()
     if node is not None:
         refuse(19, node=node)
@@ -508,6 +552,9 @@ def plan_of(data, held, allowed, reserved):
     count = sum(map(plan.tasks, plan.made))
     if count > MOST_TASKS:
         refuse(6, which=1, count=count)
+    count = sum(map(plan.cells, plan.made))
+    if count > MOST_CELLS:
+        refuse(6, which=2, count=count)
     for key in plan.keys_in_the_way():
         if held(key) is not None:
             refuse(9, key=key)

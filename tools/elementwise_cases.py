@@ -78,9 +78,9 @@ def text_of(value):
     return value.encode() if isinstance(value, str) else compact(value).encode()
 
 
-def plan_over(text, arrays, allowed, reserved=0):
+def plan_over(text, arrays, allowed, reserved=0, split_every=rules.SPLIT_EVERY):
     held = {key: text_of(value) for key, value in holds_of(arrays)}
-    return rules.plan_of(text_of(text), held.get, allowed, reserved)
+    return rules.plan_of(text_of(text), held.get, allowed, reserved, split_every)
 
 
 def words_of(allowed, reserved):
@@ -90,7 +90,7 @@ def words_of(allowed, reserved):
 
 def report(plan, reserved, failed=0):
     tasks = sum(map(plan.tasks, plan.made))
-    return f"ok ops={len(plan.made)} tasks={tasks} starts={tasks + failed} failed={failed} peak={plan.peak(reserved)}\n"
+    return f"ok ops={plan.operations()} tasks={tasks} starts={tasks + failed} failed={failed} peak={plan.peak(reserved)}\n"
 
 
 def made_by(plan, arrays):
@@ -497,12 +497,12 @@ def unbuilt_rows():
     texts = [
         (other, ADDED, None), (stretched, ADDED, None), (one, ADDED, None), (a_and_b(), inputs_of("a"), None),
         (a_and_b(), ADDED, "b"), (other, DOUBLED, None), (other, [*inputs_of("a", "b"), node("n", "negative", "b"), node("s", "add", "a", "n")], None),
-        (a_and_b(), [*sole, node("m", "sum", "a")], None),
+        (a_and_b(), [*sole, node("m", "rechunk", "a", chunk=[3])], None),
         (a_and_b(), [*sole, node("n", "negative", "a"), node("m", "max", "n"), node("r", "rechunk", "m", chunk=[])], None),
-        ({}, [node("f", "full", shape=[6], dtype="int32", value=1, chunk=[4]), node("n", "prod", "f"), node("m", "negative", "n")], None),
-        ({}, [node("f", "arange", start=0, stop=6, step=1, dtype="int32", chunk=[4]), node("m", "argmax", "f")], None),
-        (other, [*inputs_of("a", "b"), node("d", "add", "a", "b"), node("n", "flip", "a"), node("m", "any", "n")], None),
-        (a_and_b(), [*inputs_of("a", "b"), node("d", "rechunk", "a", chunk=[6]), node("m", "matmul", "a", "b"), node("s", "stack", "m", axis=0)], None)]
+        ({}, [node("f", "full", shape=[6], dtype="int32", value=1, chunk=[4]), node("n", "rechunk", "f", chunk=[6]), node("m", "negative", "n")], None),
+        ({}, [node("f", "arange", start=0, stop=6, step=1, dtype="int32", chunk=[4]), node("m", "rechunk", "f", chunk=[2])], None),
+        (other, [*inputs_of("a", "b"), node("d", "add", "a", "b"), node("n", "flip", "a"), node("m", "matmul", "n", "b")], None),
+        (other, [*inputs_of("a", "b"), node("d", "rechunk", "a", chunk=[6]), node("m", "matmul", "a", "b"), node("s", "stack", "m", axis=0)], None)]
     return [refused(arrays, expression(nodes, out)) for arrays, nodes, out in texts]
 
 

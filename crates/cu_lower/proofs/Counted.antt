@@ -1,28 +1,38 @@
 -- The counts of a plan are those of the expression.
-use Rattle.std.proofs.Common.{◌≡◌, ℕ, suc, ◌<◌, ◌≤◌, ◌+◌, ◌-◌, true, false, List, [], ◌∷◌, Some, None, length, map, sum_by, get_or, refl, ap, sym, ◌∙◌, subst, inl, inr, arith}
-use Rattle.std.specs.Prelude.{nat_lt}
+use Rattle.std.proofs.Common.{◌≡◌, ℕ, ◌≤◌, ◌+◌, true, false, List, [], ◌∷◌, Some, None, length, map, sum_by, refl, ap, sym, ◌∙◌, subst, inl, inr, arith}
+use Rattle.std.specs.Prelude.{nat_lt, slice_get}
 use Rattle.std.proofs.lemmas.Bool.{cases_Bool, ltb-false}
-use Rattle.std.proofs.lemmas.List.Sums.{sum_by-append, sum_by-cons}
+use Rattle.std.proofs.lemmas.List.Sums.{sum_by-cons}
+use Rattle.cu_op.specs.Cells.{tasks_of as operation_tasks}
 use Rattle.cu_op.specs.Sound.{made_chunks}
+use Rattle.cu_op.specs.declared.layout.ArrayInfo.{ArrayInfo}
 use Rattle.cu_op.specs.declared.operation.Planned.{Planned}
 use Rattle.cu_form.specs.Expression.{Expression}
 use Rattle.cu_form.specs.Form.{args_of}
 use Rattle.cu_form.specs.declared.expr.Node.{Node}
 use Rattle.cu_form.specs.declared.form.Form.{Form}
-use Rattle.cu_node.specs.Info.{info_at}
 use Rattle.cu_node.specs.declared.info.NodeInfo.{NodeInfo}
 use Rattle.cu_expr.specs.declared.inputs.InputInfo.{InputInfo}
-use Rattle.cu_need.specs.Chunks.{chunk_count}
-use Rattle.cu_need.specs.Counts.{tasks_of, cells_of, over_limit}
-use Rattle.cu_need.specs.Live.{is_live, live_behind}
+use Rattle.cu_need.specs.Counts.{tasks_of, cells_of, over_limit, plan_counts}
+use Rattle.cu_need.specs.Live.{is_live, live_behind, IsClosed}
 use Rattle.cu_need.specs.declared.counts.PlanCounts.{PlanCounts}
+use Rattle.cu_lower_reduce.specs.Steps.{made_infos, AreSteps}
+use Rattle.cu_tree.specs.Partials.{chunks_of}
+use Rattle.cu_lower_reduce.specs.declared.step.Step.{Step}
 use Rattle.cu_lower.specs.Inputs.{input_array, input_names}
-use Rattle.cu_lower.specs.Plan.{grown_after}
-use Rattle.cu_need.specs.Need.{need_of}
-use Rattle.cu_lower.specs.Parts.{Grown, Part, is_made, made_op, array_places, made_array, part_of, live_part}
+use Rattle.cu_lower.specs.Parts.{Grown, IsGrown, array_places, with_steps, with_last, with_node}
+use Rattle.cu_lower.specs.Plan.{first_grown, grown_after}
+use Rattle.cu_lower.specs.Premises.{IsLowerable}
+use Rattle.cu_lower.specs.declared.options.Options.{Options}
+use Rattle.cu_lower.proofs.FormKinds.{is_input, input_kind, node_made}
 use Rattle.cu_lower.proofs.Growing as growing
-use Rattle.cu_lower.proofs.FormKinds.{part_made, part_other, tasks_made, tasks_other, cells_made, cells_other}
-use Rattle.std.proofs.lemmas.List.{length-append, append-nil}
+use Rattle.cu_lower.proofs.Growing.{Front, front_then, front_here}
+use Rattle.cu_lower.proofs.NodeSteps.{all_steps, node_own}
+use Rattle.cu_lower.proofs.Operations as operations
+use Rattle.cu_lower.proofs.Placed as placed
+use Rattle.cu_lower.proofs.Standing as standing
+use Rattle.cu_lower.proofs.StepLaws.{HaveLaws}
+use Rattle.cu_lower.proofs.Stepped.{steps_tasks, steps_cells}
 
 -- the live nodes behind a node
 live_first : (e : Expression) (k : ℕ) (n : Node) (ns : List Node) → is_live e k ≡ true → live_behind e k (n ∷ ns) ≡ (k, n) ∷ live_behind e (k + 1) ns
@@ -31,48 +41,50 @@ live_first e k n ns h = rw h refl
 dead_first : (e : Expression) (k : ℕ) (n : Node) (ns : List Node) → is_live e k ≡ false → live_behind e k (n ∷ ns) ≡ live_behind e (k + 1) ns
 dead_first e k n ns h = rw h refl
 
--- the chunks of the node that an operation belongs to
-abbrev pub node_chunks : List NodeInfo → Planned → ℕ
-node_chunks infos o = chunk_count (info_at infos o.node)
+-- the tasks of steps are the chunks of what each makes
+steps_sum : (arrays : List ArrayInfo) (reserved : ℕ) (ins : List ℕ) (first next : ℕ) (ss : List Step) → AreSteps arrays reserved ins first next ss
+    → sum_by (λ (s : Step). operation_tasks arrays s.op) ss ≡ sum_by (λ (s : Step). chunks_of s.made) ss
+steps_sum arrays reserved ins first next [] are = refl
+steps_sum arrays reserved ins first next (s ∷ ss) are =
+    let a = sum_by-cons (λ (s : Step). operation_tasks arrays s.op) s ss in
+    let b = sum_by-cons (λ (s : Step). chunks_of s.made) s ss in
+    let own = are.0.tasks in
+    let rest = steps_sum arrays reserved ins first (next + length (made_infos s)) ss are.1 in
+    omega (arith, a, b, own, rest)
 
-sum_one : {A : Type 0} (f : A → ℕ) (x : A) → sum_by f (x ∷ []) ≡ f x
-sum_one f x = let e = sum_by-cons f x [] in omega (arith, e)
+module _ (e : Expression) (infos : List NodeInfo) (inputs : List InputInfo) (options : Options) (ok : IsLowerable e infos inputs options) (laws : HaveLaws) (closed : IsClosed e (is_live e)) where
+  abbrev grown : Grown
+  grown = placed.grown e infos inputs options ok laws
 
-module _ (e : Expression) (infos : List NodeInfo) (reserved : ℕ) where
-  part_tasks : (g : Grown) (k : ℕ) (f : Form) → length g.places ≡ k → sum_by (node_chunks infos) (part_of e infos reserved g f).ops ≡ tasks_of infos k f
-  part_tasks g k f number =
-      elim (cases_Bool (is_made f)) [
-        | inl made ↦
-            ap (λ (p : Part). sum_by (node_chunks infos) p.ops) (part_made e infos reserved g f made)
-            ∙ sum_one (node_chunks infos) (record { op = made_op infos f (array_places g.places (args_of f)) (length g.arrays); node = length g.places; projected = need_of reserved infos (length g.places) f })
-            ∙ ap (λ i. chunk_count (info_at infos i)) number
-            ∙ sym (tasks_made infos k f made)
-        | inr other ↦ ap (sum_by (node_chunks infos)) (part_other e infos reserved g f other).1 ∙ sym (tasks_other infos k f other)
-      ]
+  abbrev next : Grown → Form → Grown
+  next g form = growing.next e infos options g form
 
-  part_cells : (g : Grown) (k : ℕ) (f : Form) → length g.places ≡ k → sum_by made_chunks (part_of e infos reserved g f).arrays ≡ cells_of infos k f
-  part_cells g k f number =
-      elim (cases_Bool (is_made f)) [
-        | inl made ↦
-            ap (λ (p : Part). sum_by made_chunks p.arrays) (part_made e infos reserved g f made)
-            ∙ sum_one made_chunks (made_array e (info_at infos (length g.places)) (length g.places) (length g.arrays - length (input_names e)) (length g.ops))
-            ∙ ap (λ i. chunk_count (info_at infos i)) number
-            ∙ sym (cells_made infos k f made)
-        | inr other ↦ ap (sum_by made_chunks) (part_other e infos reserved g f other).0 ∙ sym (cells_other infos k f other)
-      ]
+  -- a live node at which what is grown has come
+  record IsNext (g : Grown) (n : Node) : Type 0 where
+    pub live : is_live e (length g.places) ≡ true
+    pub at : slice_get e.nodes (length g.places) ≡ Some n
+    pub known : IsGrown e g
+    pub front : Front (next g n.form) grown
 
   -- a sum over what is grown, to which each live node adds its own
-  grows_by : (total : Grown → ℕ) (f : ℕ × Node → ℕ)
-      → ((g : Grown) (n : Node) → is_live e (length g.places) ≡ true → total (growing.step e infos reserved g n.form) ≡ total g + f (length g.places, n))
-      → ((g : Grown) (n : Node) → is_live e (length g.places) ≡ false → total (growing.step e infos reserved g n.form) ≡ total g)
-      → (g : Grown) (ns : List Node) (k : ℕ) → length g.places ≡ k → total (grown_after e infos reserved g ns) ≡ total g + sum_by f (live_behind e k ns)
-  grows_by total f more same g [] k number = omega arith
-  grows_by total f more same g (n ∷ ns) k number =
-      let l = length-append g.places ((live_part e infos reserved g n.form).place ∷ []) in
-      let rest = grows_by total f more same (growing.step e infos reserved g n.form) ns (k + 1) (omega (arith, l, number)) in
+  grows_by : (total : Grown → ℕ) (f : ℕ × Node → ℕ) → ((g : Grown) (n : Node) → IsNext g n → total (next g n.form) ≡ total g + f (length g.places, n))
+      → ((g : Grown) (n : Node) → is_live e (length g.places) ≡ false → total (next g n.form) ≡ total g)
+      → (g : Grown) (ns : List Node) (k : ℕ) → length g.places ≡ k → growing.AreFrom e infos options (length g.places) ns → IsGrown e g → Front (grown_after e infos options g ns) grown
+      → total (grown_after e infos options g ns) ≡ total g + sum_by f (live_behind e k ns)
+  grows_by total f more same g [] k number from known front = omega arith
+  grows_by total f more same g (n ∷ ns) k number from known front =
+      let l = growing.longer e infos options g n.form in
+      let at = growing.from_here e infos options g n ns from in
+      let rest = grows_by total f more same (next g n.form) ns (k + 1) (omega (arith, l, number)) (growing.from_next e infos options g n ns from)
+      (growing.next_grown e infos options (all_steps e infos inputs options ok laws) g n at known) front in
       elim (cases_Bool (is_live e k)) [
         | inl live ↦
-            let here = more g n (subst (λ (i : ℕ). is_live e i ≡ true) (sym number) live) in
+            let here = more g n (record {
+              live = subst (λ (i : ℕ). is_live e i ≡ true) (sym number) live;
+              at = at;
+              known = known;
+              front = front_then (next g n.form) (grown_after e infos options g (n ∷ ns)) grown (growing.front_after e infos options (next g n.form) ns) front;
+            }) in
             let own = ap (λ i. f (i, n)) number in
             let sum = ap (sum_by f) (live_first e k n ns live) ∙ sum_by-cons f (k, n) (live_behind e (k + 1) ns) in
             omega (arith, rest, here, own, sum)
@@ -82,34 +94,80 @@ module _ (e : Expression) (infos : List NodeInfo) (reserved : ℕ) where
             omega (arith, rest, here, sum)
       ]
 
-  pub tasks_grown : (g : Grown) (ns : List Node) (k : ℕ) → length g.places ≡ k
-      → sum_by (node_chunks infos) (grown_after e infos reserved g ns).ops ≡ sum_by (node_chunks infos) g.ops + sum_by (λ (numbered : ℕ × Node). tasks_of infos numbered.0 numbered.1.form) (live_behind e k ns)
-  tasks_grown = grows_by (λ g. sum_by (node_chunks infos) g.ops) (λ numbered. tasks_of infos numbered.0 numbered.1.form)
-      (λ g n live. ap (λ (h : Grown). sum_by (node_chunks infos) h.ops) (growing.live_step e infos reserved g n.form live) ∙ sum_by-append (node_chunks infos) g.ops (part_of e infos reserved g n.form).ops
-      ∙ ap (λ x. sum_by (node_chunks infos) g.ops + x) (part_tasks g (length g.places) n.form refl))
-      (λ g n dead. ap (λ (h : Grown). sum_by (node_chunks infos) h.ops) (growing.dead_step e infos reserved g n.form dead) ∙ ap (sum_by (node_chunks infos)) (append-nil g.ops))
+  -- what a node that isn't an input adds
+  next_made : (g : Grown) (n : Node) → IsNext g n → is_input n.form ≡ false → next g n.form ≡ with_last (with_steps e g (growing.own_steps e infos options g n.form))
+  next_made g n h other = growing.live_next e infos options g n.form h.live ∙ node_made e infos options g n.form other
 
-  pub cells_grown : (g : Grown) (ns : List Node) (k : ℕ) → length g.places ≡ k
-      → sum_by made_chunks (grown_after e infos reserved g ns).arrays ≡ sum_by made_chunks g.arrays + sum_by (λ (numbered : ℕ × Node). cells_of infos numbered.0 numbered.1.form) (live_behind e k ns)
-  cells_grown = grows_by (λ g. sum_by made_chunks g.arrays) (λ numbered. cells_of infos numbered.0 numbered.1.form)
-      (λ g n live. ap (λ (h : Grown). sum_by made_chunks h.arrays) (growing.live_step e infos reserved g n.form live) ∙ sum_by-append made_chunks g.arrays (part_of e infos reserved g n.form).arrays
-      ∙ ap (λ x. sum_by made_chunks g.arrays + x) (part_cells g (length g.places) n.form refl))
-      (λ g n dead. ap (λ (h : Grown). sum_by made_chunks h.arrays) (growing.dead_step e infos reserved g n.form dead) ∙ ap (sum_by made_chunks) (append-nil g.arrays))
+  next_input : (g : Grown) (n : Node) (name : List ℕ) → IsNext g n → n.form ≡ Form.Input name → next g n.form ≡ with_node e infos options g (Form.Input name)
+  next_input g n name h is = growing.live_next e infos options g n.form h.live ∙ ap (with_node e infos options g) is
 
--- the input arrays have no cells
-pub no_cells : (inputs : List InputInfo) (names : List (List ℕ)) → sum_by made_chunks (map (input_array inputs) names) ≡ 0
-no_cells inputs [] = refl
-no_cells inputs (n ∷ names) = let a = sum_by-cons made_chunks (input_array inputs n) (map (input_array inputs) names) in let r = no_cells inputs names in omega (arith, a, r)
+  abbrev task_total : Grown → ℕ
+  task_total g = sum_by (λ (o : Planned). operation_tasks grown.arrays o.op) g.ops
 
--- two sums whose terms agree
-pub same_sums : {A : Type 0} (f g : A → ℕ) (d : A) (xs : List A) → ((j : ℕ) → j < length xs → f (get_or xs j d) ≡ g (get_or xs j d)) → sum_by f xs ≡ sum_by g xs
-same_sums f g d [] h = refl
-same_sums f g d (x ∷ xs) h =
-    let a = sum_by-cons f x xs in
-    let b = sum_by-cons g x xs in
-    let first = h 0 (omega arith) in
-    let rest = same_sums f g d xs (λ j l. h (suc j) (omega arith)) in
-    omega (arith, a, b, first, rest)
+  node_tasks : (g : Grown) (n : Node) → IsNext g n → is_input n.form ≡ false
+      → sum_by (λ (s : Step). operation_tasks grown.arrays s.op) (growing.own_steps e infos options g n.form) ≡ tasks_of options.split_every infos (length g.places) n.form
+  node_tasks g n h other =
+      let k = length g.places in
+      let steps = all_steps e infos inputs options ok laws in
+      let front = subst (λ (x : Grown). Front x grown) (next_made g n h other) h.front in
+      let s = standing.stands e infos inputs options ok.form (all_steps e infos inputs options ok laws) g (length g.places) n n.form h.at refl other h.live refl h.known front in
+      let small = growing.few_arrays e infos options steps g n h.at h.known in
+      let own = growing.own_steps e infos options g n.form in
+      let before : Front g grown = front_then g (with_steps e g own) grown (growing.front_steps e g own) (standing.steps_front e infos inputs options ok.form steps g own front) in
+      let same = standing.own_same e infos inputs options ok.form steps g k n n.form h.at refl refl before in
+      let sum = steps_sum grown.arrays options.reserved (array_places grown.places (args_of n.form)) (length g.arrays) (length g.arrays) (placed.steps_at e infos inputs options ok laws (length g.places) n.form (length g.arrays))
+      (operations.node_steps e infos inputs options ok laws closed (length g.places) n.form s) in
+      ap (sum_by (λ (s : Step). operation_tasks grown.arrays s.op)) same ∙ sum
+      ∙ (node_own e infos inputs options ok laws k n n.form h.at refl h.live other (array_places grown.places (args_of n.form)) (length g.arrays) small).tasks
+
+  more_tasks : (g : Grown) (n : Node) → IsNext g n → task_total (next g n.form) ≡ task_total g + tasks_of options.split_every infos (length g.places) n.form
+  more_tasks g n h =
+      elim (input_kind n.form) [
+        | inl input ↦
+            let new = ap task_total (next_input g n input.0 h input.1) in
+            let none = ap (tasks_of options.split_every infos (length g.places)) input.1 in
+            omega (arith, new, none)
+        | inr other ↦
+            let new = ap task_total (next_made g n h other) in
+            let sum = steps_tasks e grown.arrays g (growing.own_steps e infos options g n.form) in
+            let own = node_tasks g n h other in
+            omega (arith, new, sum, own)
+      ]
+
+  more_cells : (g : Grown) (n : Node) → IsNext g n → sum_by made_chunks (next g n.form).arrays ≡ sum_by made_chunks g.arrays + cells_of options.split_every infos (length g.places) n.form
+  more_cells g n h =
+      elim (input_kind n.form) [
+        | inl input ↦
+            let new = ap (λ (x : Grown). sum_by made_chunks x.arrays) (next_input g n input.0 h input.1) in
+            let none = ap (cells_of options.split_every infos (length g.places)) input.1 in
+            omega (arith, new, none)
+        | inr other ↦
+            let new = ap (λ (x : Grown). sum_by made_chunks x.arrays) (next_made g n h other) in
+            let sum = steps_cells e g (growing.own_steps e infos options g n.form) in
+            let own = (node_own e infos inputs options ok laws (length g.places) n n.form h.at refl h.live other (array_places g.places (args_of n.form)) (length g.arrays) (growing.few_arrays e infos options (all_steps e infos inputs options ok laws) g n h.at h.known)).cells in
+            omega (arith, new, sum, own)
+      ]
+
+  pub tasks_all : sum_by (λ (o : Planned). operation_tasks grown.arrays o.op) grown.ops ≡ (plan_counts e infos options.split_every).tasks
+  tasks_all =
+      let steps = all_steps e infos inputs options ok laws in
+      let sum = grows_by task_total (λ numbered. tasks_of options.split_every infos numbered.0 numbered.1.form) more_tasks
+      (λ g n dead. ap task_total (growing.dead_next e infos options g n.form dead))
+      (first_grown e inputs) e.nodes 0 refl (standing.from_first e infos inputs options ok.form (all_steps e infos inputs options ok laws)) (standing.at_first e infos inputs options ok.form (all_steps e infos inputs options ok laws)) (front_here grown) in
+      omega (arith, sum)
+
+  -- the input arrays have no cells
+  no_cells : (names : List (List ℕ)) → sum_by made_chunks (map (input_array inputs) names) ≡ 0
+  no_cells [] = refl
+  no_cells (n ∷ names) = let a = sum_by-cons made_chunks (input_array inputs n) (map (input_array inputs) names) in let r = no_cells names in omega (arith, a, r)
+
+  pub cells_all : sum_by made_chunks grown.arrays ≡ (plan_counts e infos options.split_every).cells
+  cells_all =
+      let none = no_cells (input_names e) in
+      let sum = grows_by (λ g. sum_by made_chunks g.arrays) (λ numbered. cells_of options.split_every infos numbered.0 numbered.1.form) more_cells
+      (λ g n dead. ap (λ (x : Grown). sum_by made_chunks x.arrays) (growing.dead_next e infos options g n.form dead))
+      (first_grown e inputs) e.nodes 0 refl (standing.from_first e infos inputs options ok.form (all_steps e infos inputs options ok laws)) (standing.at_first e infos inputs options ok.form (all_steps e infos inputs options ok laws)) (front_here grown) in
+      omega (arith, sum, none)
 
 -- where no limit is exceeded both are kept
 pub kept_limits : (c : PlanCounts) → over_limit c ≡ None → (c.tasks ≤ 65536) × (c.cells ≤ 262144)

@@ -52,7 +52,7 @@ abbrev stored : List ℕ → Dtype → InputInfo
 stored name t = record { name = name; layout = made_layout (ten t) }
 
 abbrev options : Options
-options = record { allowed = 10000; reserved = 0; retries = 2 }
+options = record { allowed = 10000; reserved = 0; split_every = 4; retries = 2 }
 
 abbrev b : Node
 b = of_form (codes "b") (Form.Input (codes "b"))
@@ -191,4 +191,6 @@ lowerable = record {
   memory = refl;
   counts = refl;
   allowed = omega arith;
+  several = omega arith;
+  few = omega arith;
 }

@@ -1,15 +1,13 @@
--- The forms whose arrays operations make, and what such a form adds to a plan.
-use Rattle.std.proofs.Common.{◌≡◌, ◌⊎◌, ℕ, Bool, true, false, List, [], ◌∷◌, map, refl, ap, inl, inr, if◌then◌else◌}
+-- The kinds of forms, and the steps of a node by its form.
+use Rattle.std.proofs.Common.{◌≡◌, ◌⊎◌, ℕ, ◌<◌, ◌^◌, ℤ, Option, Bool, true, false, List, [], ◌∷◌, length, map, refl, ap, inl, inr, if◌then◌else◌}
 use Rattle.std.specs.List.{list_all}
-use Rattle.cu_op.specs.Arrays.{array_at, chunk_count as array_chunks}
-use Rattle.cu_op.specs.Cells.{tasks_of as operation_tasks}
-use Rattle.cu_op.specs.Operation.{writes_of}
-use Rattle.cu_op.specs.declared.layout.ArrayInfo.{ArrayInfo}
 use Rattle.cu_form.specs.Expression.{Expression}
 use Rattle.cu_form.specs.Form.{args_of, is_array, takes_args}
 use Rattle.cu_form.specs.declared.args.Arg.{Arg}
 use Rattle.cu_form.specs.declared.form.Form.{Form}
 use Rattle.cu_node.specs.Info.{info_at}
+use Rattle.cu_num.specs.declared.folds.FoldKind.{FoldKind}
+use Rattle.cu_lower.specs.declared.options.Options.{Options}
 use Rattle.cu_node.specs.declared.element_op.ElementOp.{ElementOp}
 use Rattle.cu_node.specs.declared.info.NodeInfo.{NodeInfo}
 use Rattle.cu_typing.specs.Joined.{arrays_of}
@@ -21,72 +19,103 @@ use Rattle.cu_need.specs.View.{is_view, view_need}
 use Rattle.cu_lower_view.specs.Sources.{sources_of}
 use Rattle.cu_lower_view.specs.Typed.{typed_as_view}
 use Rattle.cu_lower.proofs.ViewRules.{all_arrays}
-use Rattle.cu_lower.specs.Parts.{Grown, no_part, is_made, made_op, view_op, made_part, part_of}
+use Rattle.cu_lower.specs.Parts.{Grown, HasSteps, Make, array_places, view_op, only_step, steps_of, with_steps, with_last, with_node}
+
+-- ---- inputs and others
+
+abbrev pub is_input : Form → Bool
+is_input (Form.Input name) = true
+is_input form = false
+
+pub input_kind : (f : Form) → ((name : List ℕ) × (f ≡ Form.Input name)) ⊎ (is_input f ≡ false)
+input_kind (Form.Input name) = inl (name, refl)
+input_kind f = inr refl
+
+pub not_input : (f : Form) → ((name : List ℕ) → f ≡ Form.Input name → ⊥) → is_input f ≡ false
+not_input (Form.Input name) h = absurd (h name refl)
+not_input f h = refl
+
+pub node_made : (e : Expression) (infos : List NodeInfo) (options : Options) (g : Grown) (f : Form) → is_input f ≡ false
+    → with_node e infos options g f ≡ with_last (with_steps e g (steps_of infos options (length g.places) f (array_places g.places (args_of f)) (length g.arrays)))
+node_made e infos options g (Form.Input name) other = cc
+node_made e infos options g f other = refl
+
+pub steps_made : (infos : List NodeInfo) (options : Options) (k : ℕ) (f : Form) → HasSteps infos options k f → is_input f ≡ false
+    → (ins : List ℕ) (first : ℕ) → first < 2 ^ 31 → Make (info_at infos k) (steps_of infos options k f ins first)
+steps_made infos options k (Form.Input name) steps other = cc
+steps_made infos options k f steps other = steps
+
+pub made_steps : (infos : List NodeInfo) (options : Options) (k : ℕ) (f : Form) → is_input f ≡ false → ((ins : List ℕ) (first : ℕ) → first < 2 ^ 31 → Make (info_at infos k) (steps_of infos options k f ins first))
+    → HasSteps infos options k f
+made_steps infos options k (Form.Input name) other make = tt
+made_steps infos options k f other make = make
 
 -- ---- what is built
 
--- a node that is built is an input, or an operation makes its array
-pub built_kind : (infos : List NodeInfo) (out k : ℕ) (f : Form) → is_built infos out k f ≡ true → ((name : List ℕ) × (f ≡ Form.Input name)) ⊎ (is_made f ≡ true)
-built_kind infos out k (Form.Input name) built = inl (name, refl)
-built_kind infos out k (Form.Elementwise op args) built = inr refl
-built_kind infos out k f built = inr built
+pub record IsFunction (f : Form) : Type 0 where
+  pub op : ElementOp
+  pub args : List Arg
+  pub is : f ≡ Form.Elementwise op args
 
--- an array that is made is that of an elementwise function or of a view
-pub made_kind : (f : Form) → is_made f ≡ true → ((op : ElementOp) × (args : List Arg) × (f ≡ Form.Elementwise op args)) ⊎ (is_view f ≡ true)
-made_kind (Form.Elementwise op args) made = inl (op, args, refl)
-made_kind f made = inr made
+pub record IsReduce (f : Form) : Type 0 where
+  pub kind : FoldKind
+  pub args : List Arg
+  pub axes : Option (List ℤ)
+  pub keepdims : Bool
+  pub is : f ≡ Form.Reduce kind args axes keepdims
 
--- ---- what is added
+pub record IsArgPlace (f : Form) : Type 0 where
+  pub least : Bool
+  pub args : List Arg
+  pub axis : Option ℤ
+  pub keepdims : Bool
+  pub is : f ≡ Form.ArgPlace least args axis keepdims
 
-pub part_made : (e : Expression) (infos : List NodeInfo) (reserved : ℕ) (g : Grown) (f : Form) → is_made f ≡ true → part_of e infos reserved g f ≡ made_part e infos reserved g f
-part_made e infos reserved g (Form.Input name) made = cc
-part_made e infos reserved g f made = ap (λ (b : Bool). if b then made_part e infos reserved g f else no_part) made
+pub record IsMatmul (f : Form) : Type 0 where
+  pub args : List Arg
+  pub is : f ≡ Form.Matmul args
 
-pub part_other : (e : Expression) (infos : List NodeInfo) (reserved : ℕ) (g : Grown) (f : Form) → is_made f ≡ false → ((part_of e infos reserved g f).arrays ≡ []) × ((part_of e infos reserved g f).ops ≡ [])
-part_other e infos reserved g (Form.Input name) other = (refl, refl)
-part_other e infos reserved g f other =
-    (ap (λ (b : Bool). (if b then made_part e infos reserved g f else no_part).arrays) other, ap (λ (b : Bool). (if b then made_part e infos reserved g f else no_part).ops) other)
+-- a node that is built and isn't an input is an elementwise function, a reduction, a search for places, a product or a view
+pub built_kind : (infos : List NodeInfo) (out k : ℕ) (f : Form) → is_built infos out k f ≡ true → is_input f ≡ false → IsFunction f ⊎ (IsReduce f ⊎ (IsArgPlace f ⊎ (IsMatmul f ⊎ (is_view f ≡ true))))
+built_kind infos out k (Form.Input name) built other = cc
+built_kind infos out k (Form.Elementwise op args) built other = inl (record { op = op; args = args; is = refl })
+built_kind infos out k (Form.Reduce kind args axes keepdims) built other = inr (inl (record { kind = kind; args = args; axes = axes; keepdims = keepdims; is = refl }))
+built_kind infos out k (Form.ArgPlace least args axis keepdims) built other = inr (inr (inl (record { least = least; args = args; axis = axis; keepdims = keepdims; is = refl })))
+built_kind infos out k (Form.Matmul args) built other = inr (inr (inr (inl (record { args = args; is = refl }))))
+built_kind infos out k f built other = inr (inr (inr (inr built)))
 
-pub tasks_made : (infos : List NodeInfo) (k : ℕ) (f : Form) → is_made f ≡ true → tasks_of infos k f ≡ chunk_count (info_at infos k)
-tasks_made infos k (Form.Elementwise op args) made = refl
-tasks_made infos k f made = ap (λ (b : Bool). if b then chunk_count (info_at infos k) else 0) made
+-- the steps, tasks and cells of a view
+pub view_steps : (infos : List NodeInfo) (options : Options) (k : ℕ) (f : Form) (ins : List ℕ) (first : ℕ) → is_view f ≡ true
+    → steps_of infos options k f ins first ≡ only_step infos k (view_op infos f ins first) (need_of options.reserved options.split_every infos k f)
+view_steps infos options k (Form.Elementwise op args) ins first view = cc
+view_steps infos options k (Form.Reduce kind args axes keepdims) ins first view = cc
+view_steps infos options k (Form.ArgPlace least args axis keepdims) ins first view = cc
+view_steps infos options k (Form.Matmul args) ins first view = cc
+view_steps infos options k f ins first view = ap (λ (b : Bool). if b then only_step infos k (view_op infos f ins first) (need_of options.reserved options.split_every infos k f) else []) view
 
-pub tasks_other : (infos : List NodeInfo) (k : ℕ) (f : Form) → is_made f ≡ false → tasks_of infos k f ≡ 0
-tasks_other infos k (Form.Elementwise op args) other = cc
-tasks_other infos k f other = ap (λ (b : Bool). if b then chunk_count (info_at infos k) else 0) other
+pub view_tasks : (split_every : ℕ) (infos : List NodeInfo) (k : ℕ) (f : Form) → is_view f ≡ true → tasks_of split_every infos k f ≡ chunk_count (info_at infos k)
+view_tasks split_every infos k (Form.Elementwise op args) view = cc
+view_tasks split_every infos k (Form.Reduce kind args axes keepdims) view = cc
+view_tasks split_every infos k (Form.ArgPlace least args axis keepdims) view = cc
+view_tasks split_every infos k (Form.Matmul args) view = cc
+view_tasks split_every infos k f view = ap (λ (b : Bool). if b then chunk_count (info_at infos k) else 0) view
 
-pub cells_made : (infos : List NodeInfo) (k : ℕ) (f : Form) → is_made f ≡ true → cells_of infos k f ≡ chunk_count (info_at infos k)
-cells_made infos k (Form.Elementwise op args) made = refl
-cells_made infos k f made = ap (λ (b : Bool). if b then chunk_count (info_at infos k) else 0) made
+pub view_cells : (split_every : ℕ) (infos : List NodeInfo) (k : ℕ) (f : Form) → is_view f ≡ true → cells_of split_every infos k f ≡ chunk_count (info_at infos k)
+view_cells split_every infos k (Form.ArgPlace least args axis keepdims) view = cc
+view_cells split_every infos k f view = view_tasks split_every infos k f view
 
-pub cells_other : (infos : List NodeInfo) (k : ℕ) (f : Form) → is_made f ≡ false → cells_of infos k f ≡ 0
-cells_other infos k (Form.Elementwise op args) other = cc
-cells_other infos k f other = ap (λ (b : Bool). if b then chunk_count (info_at infos k) else 0) other
-
--- ---- its operation
-
-pub op_writes : (infos : List NodeInfo) (f : Form) (ins : List ℕ) (out : ℕ) → writes_of (made_op infos f ins out) ≡ out ∷ []
-op_writes infos (Form.Elementwise op args) ins out = refl
-op_writes infos f ins out = refl
-
-pub op_tasks : (arrays : List ArrayInfo) (infos : List NodeInfo) (f : Form) (ins : List ℕ) (out : ℕ) → operation_tasks arrays (made_op infos f ins out) ≡ array_chunks (array_at arrays out)
-op_tasks arrays infos (Form.Elementwise op args) ins out = refl
-op_tasks arrays infos f ins out = refl
+pub view_other : (f : Form) → is_view f ≡ true → is_input f ≡ false
+view_other (Form.Input name) view = cc
+view_other f view = refl
 
 -- ---- a view
 
-pub view_made : (infos : List NodeInfo) (f : Form) (ins : List ℕ) (out : ℕ) → is_view f ≡ true → made_op infos f ins out ≡ view_op infos f ins out
-view_made infos (Form.Elementwise op args) ins out view = cc
-view_made infos f ins out view = refl
-
-pub view_needs : (reserved : ℕ) (infos : List NodeInfo) (k : ℕ) (f : Form) → is_view f ≡ true → need_of reserved infos k f ≡ view_need reserved (info_at infos k) (arrays_in infos (args_of f))
-view_needs reserved infos k (Form.Elementwise op args) view = cc
-view_needs reserved infos k f view = ap (λ (b : Bool). if b then view_need reserved (info_at infos k) (arrays_in infos (args_of f)) else reserved) view
-
--- what no operation makes needs the reserved bytes
-pub other_needs : (reserved : ℕ) (infos : List NodeInfo) (k : ℕ) (f : Form) → is_made f ≡ false → need_of reserved infos k f ≡ reserved
-other_needs reserved infos k (Form.Elementwise op args) other = cc
-other_needs reserved infos k f other = ap (λ (b : Bool). if b then view_need reserved (info_at infos k) (arrays_in infos (args_of f)) else reserved) other
+pub view_needs : (reserved split_every : ℕ) (infos : List NodeInfo) (k : ℕ) (f : Form) → is_view f ≡ true → need_of reserved split_every infos k f ≡ view_need reserved (info_at infos k) (arrays_in infos (args_of f))
+view_needs reserved split_every infos k (Form.Elementwise op args) view = cc
+view_needs reserved split_every infos k (Form.Reduce kind args axes keepdims) view = cc
+view_needs reserved split_every infos k (Form.ArgPlace least args axis keepdims) view = cc
+view_needs reserved split_every infos k (Form.Matmul args) view = cc
+view_needs reserved split_every infos k f view = ap (λ (b : Bool). if b then view_need reserved (info_at infos k) (arrays_in infos (args_of f)) else reserved) view
 
 -- it is typed as a view over the arrays that it reads
 pub view_typed : (stored : NodeInfo) (f : Form) (infos : List NodeInfo) → is_view f ≡ true → typed_form stored f (map (argument_of infos) (args_of f)) ≡ typed_as_view f (arrays_of (map (argument_of infos) (args_of f)))

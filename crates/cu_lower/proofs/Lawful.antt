@@ -1,11 +1,9 @@
 -- What a plan's user wants to know of it, from where its parts stand.
-use Rattle.std.proofs.Common.{◌≡◌, ◌≢◌, ℕ, ◌<◌, ◌≤◌, ◌==◌, ℤ, Bool, true, false, List, Option, Some, None, length, get_or, refl, ap, sym, ◌∙◌, subst, inl, inr, [], arith}
+use Rattle.std.proofs.Common.{◌≡◌, ◌≢◌, ℕ, ◌<◌, ◌≤◌, ◌-◌, ◌==◌, ℤ, Bool, true, false, List, Option, Some, None, length, get_or, refl, ap, sym, ◌∙◌, subst, inl, inr, [], ◌∷◌, arith}
 use Rattle.std.specs.Prelude.{slice_get}
-use Rattle.std.proofs.lemmas.Bool.{cases_Bool, eq-eqb}
+use Rattle.std.proofs.lemmas.Bool.{eq-eqb}
 use Rattle.std.proofs.lemmas.Option.{slice_get-get_or}
 use Rattle.cu_name.specs.Name.{IsArrayName}
-use Rattle.cu_num.specs.declared.layout.Encoding.TheVariants.{Plain}
-use Rattle.cu_num.specs.declared.layout.Sep.TheVariants.{Slash}
 use Rattle.cu_shape.specs.Index.{IsInside}
 use Rattle.cu_op.specs.Arrays.{array_at, maker_at}
 use Rattle.cu_op.specs.PlanView.{operation_at}
@@ -20,24 +18,30 @@ use Rattle.cu_meaning.specs.Argument.{NodeElements, shape_at}
 use Rattle.cu_meaning.specs.Meaning.{meaning_of}
 use Rattle.cu_expr.specs.declared.inputs.InputInfo.{InputInfo}
 use Rattle.cu_need.specs.Live.{is_live, IsClosed}
-use Rattle.cu_need.specs.Need.{is_built, need_of}
 use Rattle.cu_lower.specs.Inputs.{input_array, input_names}
 use Rattle.cu_lower.specs.Plan.{lowered, place_in, plan_of}
-use Rattle.cu_lower.specs.Parts.{Grown, is_made}
 use Rattle.cu_lower.specs.Premises.{IsLowerable, IsLiveInput, OutputDiffers, AreThere, HaveElements, IsOfNode, IsOutput, run_of}
 use Rattle.cu_lower.specs.declared.options.Options.{Options}
 use Rattle.cu_lower.proofs.Applied.{Told}
-use Rattle.cu_lower.proofs.Fitting as fitting
 use Rattle.cu_lower.proofs.Meanings as meanings
 use Rattle.cu_lower.proofs.Meanings.{HaveRanges}
 use Rattle.cu_lower.proofs.Names.{array_name, used_is_name}
 use Rattle.cu_lower.proofs.InputNames.{names_once}
-use Rattle.cu_lower.proofs.FormKinds.{built_kind}
-use Rattle.cu_lower.proofs.Operations.{HavePulls}
+use Rattle.cu_need.specs.Need.{is_built, need_of}
+use Rattle.cu_lower_reduce.specs.Steps.{all_made}
+use Rattle.cu_lower_reduce.specs.declared.step.Step.{Step}
+use Rattle.cu_lower.specs.Parts.{Grown}
+use Rattle.cu_lower.proofs.FormKinds.{is_input, input_kind}
+use Rattle.cu_lower.proofs.Growing.{make_some, steps_long}
+use Rattle.cu_lower.proofs.NodeSteps.{all_steps}
+use Rattle.cu_lower.proofs.Operations as operations
 use Rattle.cu_lower.proofs.Placed as placed
+use Rattle.cu_lower.proofs.Stepped.{last_name}
+use Rattle.cu_lower.proofs.Typed as typed
 use Rattle.cu_lower.proofs.Soundness as soundness
-use Rattle.cu_lower.proofs.Soundness.{no_node}
+use Rattle.cu_lower.proofs.NoNode.{no_node}
 use Rattle.cu_lower.proofs.Standing as standing
+use Rattle.cu_lower.proofs.StepLaws.{HaveLaws}
 
 -- the live nodes are a closed set, none of which has a number past the stored node's (the law of live nodes)
 pub record LiveLaw (e : Expression) : Type 0 where
@@ -52,9 +56,9 @@ told_there : {T : Type 0} (o : Option T) (x : T) → Told true o x → o ≡ Som
 told_there o x (inl some) = some
 told_there o x (inr none) = let n = none.0 in cc
 
-module _ (e : Expression) (infos : List NodeInfo) (inputs : List InputInfo) (options : Options) (ok : IsLowerable e infos inputs options) (lives : LiveLaw e) where
+module _ (e : Expression) (infos : List NodeInfo) (inputs : List InputInfo) (options : Options) (ok : IsLowerable e infos inputs options) (laws : HaveLaws) (lives : LiveLaw e) where
   abbrev grown : Grown
-  grown = placed.grown e infos inputs options ok
+  grown = placed.grown e infos inputs options ok laws
 
   abbrev given : ℕ
   given = length (input_names e)
@@ -63,16 +67,17 @@ module _ (e : Expression) (infos : List NodeInfo) (inputs : List InputInfo) (opt
 
   pub of_node : (j : ℕ) → j < length grown.ops → IsOfNode e infos options (operation_at grown.ops j)
   of_node j below =
-      let w = soundness.stood e infos inputs options ok lives.closed j below in
-      let s = w.stands in
-      let within = fitting.needs_within e infos inputs options ok lives.closed w.k j w.operator s in
-      let same = ap (λ f. need_of options.reserved infos w.k f) s.is in
-      subst (IsOfNode e infos options) (sym s.operation) (record {
-        node = s.node;
-        at = s.at;
-        live = s.live;
-        need = omega (arith, same);
-        allowed = within;
+      let w = operations.stood e infos inputs options ok laws lives.closed j below in
+      let size = standing.ops_of e infos inputs options ok.form (all_steps e infos inputs options ok laws) in
+      let own = operations.step_need e infos inputs options ok laws lives.closed (standing.ops_of e infos inputs options ok.form (all_steps e infos inputs options ok laws)) j w in
+      let within = operations.need_within e infos inputs options ok laws lives.closed (standing.ops_of e infos inputs options ok.form (all_steps e infos inputs options ok laws)) j w in
+      let same = ap (need_of options.reserved options.split_every infos w.k) w.node.is in
+      subst (IsOfNode e infos options) (sym (operations.operation_is e infos inputs options ok laws lives.closed j w)) (record {
+        node = w.node.node;
+        at = w.node.at;
+        live = w.node.live;
+        need = omega (arith, own, same);
+        allowed = omega (arith, own, within);
       })
 
   -- ---- names
@@ -81,44 +86,50 @@ module _ (e : Expression) (infos : List NodeInfo) (inputs : List InputInfo) (opt
   named recorded metadata differs = record {
     named = array_name e.store_as ok.form.store_as;
     texts = refl;
-    encodings = λ a below made.
-        let o = soundness.made_number e infos inputs options ok lives.closed a below made in
-        subst (λ (b : ℕ). (array_at grown.arrays b).layout.encoding ≡ Plain Slash) (sym o.1) (soundness.encoding_at e infos inputs options ok lives.closed o.0 o.2);
+    encodings = λ a below made. soundness.encoding_at e infos inputs options ok laws lives.closed a (soundness.with_maker e infos inputs options ok laws lives.closed a below made);
     made = λ a below made.
-        let o = soundness.made_number e infos inputs options ok lives.closed a below made in
-        let s = soundness.stood e infos inputs options ok lives.closed o.0 o.2 in
-        let few = soundness.ops_few e infos inputs options ok lives.closed in
-        let l = o.2 in
-        let here = ap (λ b. (array_at grown.arrays b).prefix) o.1 in
-        elim (cases_Bool (s.k == e.out)) [
-          | inl is ↦ inl (here ∙ soundness.prefix_out e infos inputs options ok lives.closed o.0 s is)
-          | inr other ↦ inr (o.0, omega (arith, l, few), here ∙ soundness.prefix_number e infos inputs options ok lives.closed o.0 s other)
+        let m = soundness.with_maker e infos inputs options ok laws lives.closed a below made in
+        let few = soundness.arrays_few e infos inputs options ok laws lives.closed in
+        elim m.named [
+          | inl own ↦ inl own.1
+          | inr number ↦ inr (a - given, omega (arith, below, few), number)
         ];
     inputs = λ a below none.
-        let name = get_or (input_names e) a [] in
-        elim (soundness.by_array e infos inputs options ok lives.closed a below) [
-          | inl l ↦
-              let prefix : (array_at grown.arrays a).prefix ≡ get_or (input_names e) a [] = ap (λ (x : ArrayInfo). x.prefix) (soundness.input_at e infos inputs options ok lives.closed a l) in
-              let (k, u) = soundness.used e infos inputs options ok lives.closed a l in
-              subst (λ (q : List ℕ). IsArrayName q × (q ≢ e.store_as)) (sym prefix)
-              (array_name (get_or (input_names e) a []) (used_is_name e (get_or (input_names e) a []) ok.form (k, u)), differs k (get_or (input_names e) a []) u)
-          | inr o ↦
-              let some = ap (maker_at grown.arrays) o.1 ∙ soundness.made_maker e infos inputs options ok lives.closed o.0 (soundness.stood e infos inputs options ok lives.closed o.0 o.2) in
-              let no : None ≡ Some o.0 = sym none ∙ some in cc
-        ];
+        let l = soundness.without_maker e infos inputs options ok laws lives.closed a below none in
+        let prefix : (array_at grown.arrays a).prefix ≡ get_or (input_names e) a [] = ap (λ (x : ArrayInfo). x.prefix) (soundness.input_at e infos inputs options ok laws lives.closed a l) in
+        let (k, u) = soundness.used e infos inputs options ok laws lives.closed a l in
+        subst (λ (q : List ℕ). IsArrayName q × (q ≢ e.store_as)) (sym prefix)
+        (array_name (get_or (input_names e) a []) (used_is_name e (get_or (input_names e) a []) ok.form (k, u)), differs k (get_or (input_names e) a []) u);
   }
 
   -- ---- arrays
 
-  made_output : (n : Node) (f : Form) → slice_get e.nodes e.out ≡ Some n → n.form ≡ f → is_made f ≡ true → IsOutput e infos (array_at grown.arrays (place_in grown e.out))
-  made_output n f at is made =
-      let (j, s) = standing.from_node e infos inputs options.reserved ok.form (placed.are_built e infos inputs options ok) e.out n f at is made lives.closed.stored in
-      let array = ap (array_at grown.arrays) s.place ∙ s.array in
-      subst (IsOutput e infos) (sym array) (record {
-        name = (let same = eq-eqb e.out e.out refl in rw same refl);
-        layout = refl;
-        made = λ none. cc;
-      })
+  made_output : (n : Node) (f : Form) → slice_get e.nodes e.out ≡ Some n → n.form ≡ f → is_input f ≡ false → IsOutput e infos (array_at grown.arrays (place_in grown e.out))
+  made_output n f at is other =
+      let s = placed.node_stands e infos inputs options ok laws e.out n f at is other lives.closed.stored in
+      let ss = placed.steps_at e infos inputs options ok laws e.out f (length s.before.arrays) in
+      let out : (length s.before.places == e.out) ≡ true = eq-eqb (length s.before.places) e.out s.number in
+      let maker = (standing.known e infos inputs options ok.form (all_steps e infos inputs options ok laws)).growing.makers in
+      let below = soundness.out_within e infos inputs options ok laws lives.closed in
+      record {
+        name = ap (λ a. (array_at grown.arrays a).prefix) s.place ∙ last_name e s.before grown ss (some_steps ss (make_some _ ss s.make)) s.front out;
+        layout = placed.stood_layout e infos inputs options ok laws e.out f s;
+        made = λ none. out_made n f at is other none;
+      }
+    where
+      some_steps : (ss : List Step) → 0 < length (all_made ss) → 0 < length ss
+      some_steps [] h = absurd (omega arith)
+      some_steps (s ∷ ss) h = omega arith
+
+      out_made : (n : Node) (f : Form) → slice_get e.nodes e.out ≡ Some n → n.form ≡ f → is_input f ≡ false → maker_at grown.arrays (place_in grown e.out) ≡ None → ⊥
+      out_made n f at is other none =
+          let l = soundness.without_maker e infos inputs options ok laws lives.closed (place_in grown e.out) (soundness.out_within e infos inputs options ok laws lives.closed) none in
+          let s = placed.node_stands e infos inputs options ok laws e.out n f at is other lives.closed.stored in
+          let first = s.known.growing.inputs in
+          let some = make_some _ _ s.make in
+          let place = s.place in
+          let long = steps_long e s.before (placed.steps_at e infos inputs options ok laws e.out f (length s.before.arrays)) in
+          absurd (omega (arith, l, first, some, place, long))
 
   -- an input that is stored isn't built
   not_stored : (f : Form) (name : List ℕ) → f ≡ Form.Input name → is_built infos e.out e.out f ≡ true → ⊥
@@ -130,67 +141,55 @@ module _ (e : Expression) (infos : List NodeInfo) (inputs : List InputInfo) (opt
 
   output_of : (n : Node) (f : Form) → slice_get e.nodes e.out ≡ Some n → n.form ≡ f → is_built infos e.out e.out f ≡ true → IsOutput e infos (array_at grown.arrays (place_in grown e.out))
   output_of n f at is built =
-      elim (built_kind infos e.out e.out f built) [
+      elim (input_kind f) [
         | inl input ↦ absurd (not_stored f input.0 input.1 built)
-        | inr made ↦ made_output n f at is made
+        | inr other ↦ made_output n f at is other
       ]
 
   pub output : IsOutput e infos (array_at grown.arrays (place_in grown e.out))
   output =
       let n = get_or e.nodes e.out no_node in
       let at = slice_get-get_or e.nodes e.out no_node ok.form.out in
-      output_of n n.form at refl (placed.are_built e infos inputs options ok e.out n at lives.closed.stored)
+      output_of n n.form at refl (typed.are_built e infos inputs options ok e.out n at lives.closed.stored)
 
   pub input : (k : ℕ) (name : List ℕ) → IsLiveInput e k name → array_at grown.arrays (place_in grown k) ≡ input_array inputs name
-  input k name u = (standing.from_input e infos inputs options.reserved ok.form (placed.are_built e infos inputs options ok) k u.node name u.at u.form u.live).1
+  input k name u = (standing.from_input e infos inputs options ok.form (all_steps e infos inputs options ok laws) k u.node name u.at u.form u.live).1
 
   pub only : (a : ℕ) → a < length grown.arrays → maker_at grown.arrays a ≡ None → (k : ℕ) × (name : List ℕ) × IsLiveInput e k name × (array_at grown.arrays a ≡ input_array inputs name)
   only a below none =
-      elim (soundness.by_array e infos inputs options ok lives.closed a below) [
-        | inl l ↦ let (k, u) = soundness.used e infos inputs options ok lives.closed a l in (k, get_or (input_names e) a [], u, soundness.input_at e infos inputs options ok lives.closed a l)
-        | inr o ↦
-            let some = ap (maker_at grown.arrays) o.1 ∙ soundness.made_maker e infos inputs options ok lives.closed o.0 (soundness.stood e infos inputs options ok lives.closed o.0 o.2) in
-            let no : None ≡ Some o.0 = sym none ∙ some in cc
-      ]
+      let l = soundness.without_maker e infos inputs options ok laws lives.closed a below none in
+      let (k, u) = soundness.used e infos inputs options ok laws lives.closed a l in
+      (k, get_or (input_names e) a [], u, soundness.input_at e infos inputs options ok laws lives.closed a l)
 
   pub once : (a b : ℕ) → a < length grown.arrays → b < length grown.arrays → maker_at grown.arrays a ≡ None → maker_at grown.arrays b ≡ None
       → (array_at grown.arrays a).prefix ≡ (array_at grown.arrays b).prefix → a ≡ b
   once a b la lb na nb same =
-      let ga = given_of a la na in
-      let gb = given_of b lb nb in
-      let pa = ap (λ (x : ArrayInfo). x.prefix) (soundness.input_at e infos inputs options ok lives.closed a ga) in
-      let pb = ap (λ (x : ArrayInfo). x.prefix) (soundness.input_at e infos inputs options ok lives.closed b gb) in
+      let ga = soundness.without_maker e infos inputs options ok laws lives.closed a la na in
+      let gb = soundness.without_maker e infos inputs options ok laws lives.closed b lb nb in
+      let pa = ap (λ (x : ArrayInfo). x.prefix) (soundness.input_at e infos inputs options ok laws lives.closed a ga) in
+      let pb = ap (λ (x : ArrayInfo). x.prefix) (soundness.input_at e infos inputs options ok laws lives.closed b gb) in
       names_once e a b ga gb (sym pa ∙ same ∙ pb)
-    where
-      given_of : (a : ℕ) → a < length grown.arrays → maker_at grown.arrays a ≡ None → a < given
-      given_of a below none =
-          elim (soundness.by_array e infos inputs options ok lives.closed a below) [
-            | inl l ↦ l
-            | inr o ↦
-                let some = ap (maker_at grown.arrays) o.1 ∙ soundness.made_maker e infos inputs options ok lives.closed o.0 (soundness.stood e infos inputs options ok lives.closed o.0 o.2) in
-                let no : None ≡ Some o.0 = sym none ∙ some in cc
-          ]
 
 -- ---- values
 
 module _ (e : Expression) (infos : List NodeInfo) (inputs : List InputInfo) (options : Options) (env : Elements) (elements : NodeElements)
-    (have : HaveElements e infos inputs options env elements) (lives : LiveLaw e) (ranges : HaveRanges) (pulls : HavePulls) where
-  carried : (must : Bool) → (must ≡ true → AreThere e infos (lowered e infos inputs options.reserved) env) → (k : ℕ) (idx : List ℕ) → is_live e k ≡ true → IsInside (shape_at infos k) idx
-      → Told must (plan_value (plan_of e infos inputs options) env (place_in (lowered e infos inputs options.reserved) k) idx) (meaning_of e infos elements k idx)
+    (have : HaveElements e infos inputs options env elements) (lives : LiveLaw e) (ranges : HaveRanges) (laws : HaveLaws) where
+  carried : (must : Bool) → (must ≡ true → AreThere e infos (lowered e infos inputs options) env) → (k : ℕ) (idx : List ℕ) → is_live e k ≡ true → IsInside (shape_at infos k) idx
+      → Told must (plan_value (plan_of e infos inputs options) env (place_in (lowered e infos inputs options) k) idx) (meaning_of e infos elements k idx)
   carried must there k idx live inside =
       let out = have.lowerable.form.out in
       let low = lives.below k live in
-      meanings.carries e infos inputs options have.lowerable lives.closed ranges pulls must env elements have.typed have.given there
+      meanings.carries e infos inputs options have.lowerable laws lives.closed ranges must env elements have.typed have.given there
       k (get_or e.nodes k no_node) (slice_get-get_or e.nodes k no_node (omega (arith, out, low))) live idx inside
 
   pub equal : (k : ℕ) (idx : List ℕ) (x : ℤ) → is_live e k ≡ true → IsInside (shape_at infos k) idx
-      → plan_value (plan_of e infos inputs options) env (place_in (lowered e infos inputs options.reserved) k) idx ≡ Some x → x ≡ meaning_of e infos elements k idx
+      → plan_value (plan_of e infos inputs options) env (place_in (lowered e infos inputs options) k) idx ≡ Some x → x ≡ meaning_of e infos elements k idx
   equal k idx x live inside is =
-      told_some false (plan_value (plan_of e infos inputs options) env (place_in (lowered e infos inputs options.reserved) k) idx) (meaning_of e infos elements k idx) x
+      told_some false (plan_value (plan_of e infos inputs options) env (place_in (lowered e infos inputs options) k) idx) (meaning_of e infos elements k idx) x
       (carried false (λ wanted. cc) k idx live inside) is
 
-  pub defined : AreThere e infos (lowered e infos inputs options.reserved) env → (k : ℕ) (idx : List ℕ) → is_live e k ≡ true → IsInside (shape_at infos k) idx
-      → plan_value (plan_of e infos inputs options) env (place_in (lowered e infos inputs options.reserved) k) idx ≡ Some (meaning_of e infos elements k idx)
+  pub defined : AreThere e infos (lowered e infos inputs options) env → (k : ℕ) (idx : List ℕ) → is_live e k ≡ true → IsInside (shape_at infos k) idx
+      → plan_value (plan_of e infos inputs options) env (place_in (lowered e infos inputs options) k) idx ≡ Some (meaning_of e infos elements k idx)
   defined there k idx live inside =
-      told_there (plan_value (plan_of e infos inputs options) env (place_in (lowered e infos inputs options.reserved) k) idx) (meaning_of e infos elements k idx)
+      told_there (plan_value (plan_of e infos inputs options) env (place_in (lowered e infos inputs options) k) idx) (meaning_of e infos elements k idx)
       (carried true (λ wanted. there) k idx live inside)

@@ -1,67 +1,56 @@
 -- The value of a live node's array is the meaning of the node.
-use Rattle.std.proofs.Common.{◌≡◌, ℕ, zero, suc, ◌<◌, ◌+◌, ℤ, pos, Bool, true, List, [], ◌∷◌, Contains, Option, Some, None, length, map, get_or, refl, ap, sym, ◌∙◌, subst, inl, inr, arith, if◌then◌else◌}
-use Rattle.std.specs.Prelude.{slice_get, slice_index_or, unwrap_or, option_and_then}
-use Rattle.std.specs.List.{list_all}
+use Rattle.std.proofs.Common.{◌≡◌, ℕ, zero, suc, ◌<◌, ◌+◌, ◌-◌, ℤ, pos, Bool, true, List, [], ◌∷◌, Option, Some, None, length, get_or, refl, ap, sym, ◌∙◌, subst, inl, inr, arith, if◌then◌else◌}
+use Rattle.std.specs.Prelude.{slice_get, unwrap_or}
 use Rattle.std.proofs.lemmas.Bool.{cases_Bool}
 use Rattle.std.proofs.lemmas.Option.{slice_get_within, slice_get-get_or}
 use Rattle.cu_num.specs.Dtype.{InRange}
 use Rattle.cu_num.specs.declared.types.Dtype.{Dtype}
-use Rattle.cu_shape.specs.Index.{IsInside, back}
+use Rattle.cu_shape.specs.Index.{IsInside}
 use Rattle.cu_shape.proofs.Places.{test_from_inside}
 use Rattle.cu_grid.specs.Grid.{RegularGrid}
 use Rattle.cu_op.specs.Arrays.{grid_at, type_at, maker_at}
-use Rattle.cu_op.specs.Kernel.{kernel_value}
-use Rattle.cu_op.specs.Operation.{IsAligned, writes_of}
-use Rattle.cu_op.specs.PlanView.{PlanView, operation_at}
+use Rattle.cu_op.specs.PlanView.{PlanView}
 use Rattle.cu_op.specs.Sound.{Sound}
-use Rattle.cu_pull.specs.Pull.{origin_of, IsInSources}
-use Rattle.cu_pull.specs.declared.provenance.Provenance.{Provenance}
-use Rattle.cu_pull.specs.declared.provenance.Provenance.TheVariants.{From, Const}
-use Rattle.cu_pull.proofs.OriginsInside.{inside_sources}
-use Rattle.cu_lower_view.specs.Sources.{sources_of, shapes_of, source_shapes}
-use Rattle.cu_op.specs.Value.{Elements, loaded, pulled, rule, plan_value, HasTypes, Solves}
-use Rattle.cu_op.specs.declared.kernel.Instr.{Instr}
-use Rattle.cu_op.specs.declared.operation.Planned.{Planned}
+use Rattle.cu_op.specs.Value.{Elements, plan_value, HasTypes, Solves}
 use Rattle.cu_op.specs.declared.layout.ArrayInfo.{ArrayInfo}
-use Rattle.cu_op.proofs.Plans.{grid_ok}
-use Rattle.cu_op.proofs.ReadElements.{reads_from}
 use Rattle.cu_op.proofs.Values.{value_solves}
 use Rattle.cu_form.specs.Expression.{Expression}
-use Rattle.cu_form.specs.Form.{args_of, is_array}
+use Rattle.cu_form.specs.Form.{args_of}
 use Rattle.cu_form.specs.declared.args.Arg.{Arg}
 use Rattle.cu_form.specs.declared.expr.Node.{Node}
-use Rattle.cu_node.specs.declared.element_op.ElementOp.{ElementOp}
 use Rattle.cu_form.specs.declared.form.Form.{Form}
-use Rattle.cu_node.specs.Info.{info_at}
+use Rattle.cu_node.specs.declared.element_op.ElementOp.{ElementOp}
 use Rattle.cu_node.specs.declared.info.NodeInfo.{NodeInfo}
-use Rattle.cu_meaning.specs.Argument.{NodeElements, shape_at, argument_at}
+use Rattle.cu_meaning.specs.Argument.{NodeElements, shape_at}
 use Rattle.cu_meaning.specs.Meaning.{meaning_of}
-use Rattle.cu_meaning.specs.Rule.{function_value, rule_of, node_element}
+use Rattle.cu_meaning.specs.Rule.{rule_of, node_element}
 use Rattle.cu_meaning.proofs.Equation.{equation}
-use Rattle.cu_typing.specs.Accepted.{IsElementwise}
-use Rattle.cu_expr.specs.Kernel.{kernel_of}
-use Rattle.cu_typing.specs.Types.{result_type}
-use Rattle.cu_expr.specs.Typing.{argument_of}
 use Rattle.cu_expr.specs.declared.inputs.InputInfo.{InputInfo}
 use Rattle.cu_need.specs.Live.{is_live, IsClosed}
-use Rattle.cu_need.specs.Need.{is_built}
 use Rattle.cu_need.specs.View.{is_view}
-use Rattle.cu_lower.specs.Inputs.{input_names}
+use Rattle.cu_lower_reduce.specs.Steps.{all_made, SolveSteps, last_made}
+use Rattle.cu_lower_reduce.specs.declared.step.Step.{Step}
 use Rattle.cu_lower.specs.Plan.{place_in, as_plan}
-use Rattle.cu_lower.specs.Parts.{Grown, array_places, pull_in}
+use Rattle.cu_lower.specs.Parts.{Grown, array_places, setting, reduction_of, search_of, product_of}
 use Rattle.cu_lower.specs.Premises.{IsLowerable, IsLiveInput, AreOfInputs, AreThere}
 use Rattle.cu_lower.specs.declared.options.Options.{Options}
-use Rattle.cu_lower.proofs.Applied.{Told, Loaded, kernel_told}
-use Rattle.cu_lower.proofs.Arguments.{Each, each_both, IsEarlierNode}
-use Rattle.cu_lower.proofs.Fitting as fitting
-use Rattle.cu_lower.proofs.AxisIndices.{taken_from}
-use Rattle.cu_lower.proofs.FormKinds.{built_kind, made_kind, view_arrays}
+use Rattle.cu_lower.proofs.Applied.{Told}
+use Rattle.cu_lower.proofs.Arguments.{Each, each_so, IsEarlierNode}
+use Rattle.cu_lower.proofs.FormKinds.{input_kind, built_kind, view_steps}
+use Rattle.cu_lower.proofs.Growing.{steps_long}
+use Rattle.cu_lower.proofs.NodeSteps.{all_steps}
 use Rattle.cu_lower.proofs.Operations as operations
-use Rattle.cu_lower.proofs.Operations.{HavePulls}
 use Rattle.cu_lower.proofs.Placed as placed
+use Rattle.cu_lower.proofs.PlaceValues.{search_told}
+use Rattle.cu_lower.proofs.ProductValues.{product_told}
+use Rattle.cu_lower.proofs.ReducedValues.{reduction_told}
+use Rattle.cu_num.specs.declared.folds.FoldKind.{FoldKind}
 use Rattle.cu_lower.proofs.Soundness as soundness
 use Rattle.cu_lower.proofs.Standing as standing
-use Rattle.cu_lower.proofs.ViewRules.{view_takes}
+use Rattle.cu_lower.proofs.StepLaws.{HaveLaws}
+use Rattle.cu_lower.proofs.Stepped.{solve_steps}
+use Rattle.cu_lower.proofs.Typed as typed
+use Rattle.cu_lower.proofs.Values as values
 
 -- the values of a sound plan are numbers of their arrays' types
 abbrev pub HaveRanges : Type 0
@@ -76,26 +65,19 @@ told_or_zero must None there =
       | inr free ↦ inr (free, refl)
     ]
 
-module _ (e : Expression) (infos : List NodeInfo) (inputs : List InputInfo) (options : Options) (ok : IsLowerable e infos inputs options) (closed : IsClosed e (is_live e))
-    (ranges : HaveRanges) (pulls : HavePulls) (must : Bool) (env : Elements) (elements : NodeElements) where
+module _ (e : Expression) (infos : List NodeInfo) (inputs : List InputInfo) (options : Options) (ok : IsLowerable e infos inputs options) (laws : HaveLaws) (closed : IsClosed e (is_live e))
+    (ranges : HaveRanges) (must : Bool) (env : Elements) (elements : NodeElements) where
   abbrev grown : Grown
-  grown = placed.grown e infos inputs options ok
+  grown = placed.grown e infos inputs options ok laws
 
-  abbrev given : ℕ
-  given = length (input_names e)
-
-  abbrev Stands : ℕ → Form → ℕ → Type 0
-  Stands k f j = placed.Stands e infos inputs options ok k f j
-
-  -- where an elementwise node stands
-  abbrev Applies : ℕ → ElementOp → List Arg → ℕ → Type 0
-  Applies k op args j = Stands k (Form.Elementwise op args) j
+  abbrev Stands : ℕ → Form → Type 0
+  Stands k f = placed.Stands e infos inputs options ok laws k f
 
   abbrev plan : PlanView
   plan = as_plan e options grown
 
   sound : Sound plan
-  sound = soundness.sound e infos inputs options ok closed pulls
+  sound = soundness.sound e infos inputs options ok laws closed
 
   abbrev at : Elements
   at = plan_value plan env
@@ -122,7 +104,7 @@ module _ (e : Expression) (infos : List NodeInfo) (inputs : List InputInfo) (opt
   input_carries : AreOfInputs e infos grown env elements → (must ≡ true → AreThere e infos grown env)
       → (k : ℕ) (n : Node) (name : List ℕ) → slice_get e.nodes k ≡ Some n → n.form ≡ Form.Input name → is_live e k ≡ true → Carries k
   input_carries of_inputs there k n name node is live idx inside =
-      let f = standing.from_input e infos inputs options.reserved ok.form (placed.are_built e infos inputs options ok) k n name node is live in
+      let f = standing.from_input e infos inputs options ok.form (all_steps e infos inputs options ok laws) k n name node is live in
       let none : maker_at grown.arrays (place_in grown k) ≡ None = ap (λ (a : ArrayInfo). a.maker) f.1 in
       let input : IsLiveInput e k name = record { node = n; at = node; form = is; live = live } in
       let value = solves.inputs (place_in grown k) idx none in
@@ -130,134 +112,131 @@ module _ (e : Expression) (infos : List NodeInfo) (inputs : List InputInfo) (opt
       let told = told_or_zero must (env (place_in grown k) idx) (λ wanted. there wanted k name idx input inside) in
       subst (λ (o : Option ℤ). Told must o (meaning k idx)) (sym value) (subst (λ (x : ℤ). Told must (env (place_in grown k) idx) x) (sym same) told)
 
-  -- ---- an elementwise function
+  -- ---- a node that operations make
 
-  -- what is read of node n at an index of node k
-  abbrev read : List ℕ → ℕ → ℤ
-  read idx n = meaning n (back (shape_at infos n) idx)
+  abbrev IsCarried : ℕ → Type 0
+  IsCarried n = values.IsCarried must infos elements meaning options grown.arrays grown.places at (typed.known_kept e infos inputs options ok) n
 
-  abbrev read_at : List ℕ → ℕ → Option ℤ
-  read_at idx n = at (place_in grown n) (back (grid_at grown.arrays (place_in grown n)).shape idx)
+  argument_carried : HasTypes grown.arrays env → (k : ℕ) → ((n : ℕ) → n < k → is_live e n ≡ true → Carries n) → (n : ℕ) → IsEarlierNode e k n → IsCarried n
+  argument_carried types k earlier n a =
+      let known = placed.live_known e infos inputs options ok laws n a.node a.at a.live in
+      record {
+        known = known;
+        carries = earlier n a.below a.live;
+        ranged = λ idx x inside some.
+            subst (λ (d : Dtype). InRange d x) known.dtype
+            (ranges plan env (place_in grown n) idx x sound types known.within (subst (λ (g : RegularGrid). IsInside g.shape idx) (sym known.grid) inside) some);
+      }
 
-  abbrev IsTold : List ℕ → ℕ → Type 0
-  IsTold idx n = Told must (read_at idx n) (read idx n) × (read_at idx n ≡ Some (read idx n) → InRange (info_at infos n).dtype (read idx n))
+  arguments_carried : HasTypes grown.arrays env → (k : ℕ) (f : Form) → Stands k f → ((n : ℕ) → n < k → is_live e n ≡ true → Carries n) → Each IsCarried (args_of f)
+  arguments_carried types k f s earlier = each_so (IsEarlierNode e k) IsCarried (argument_carried types k earlier) (args_of f) (placed.arguments e infos inputs options ok laws closed k f s)
 
-  argument_told : HasTypes grown.arrays env → (k j : ℕ) (op : ElementOp) (args : List Arg) → Applies k op args j → (idx : List ℕ) → IsInside (shape_at infos k) idx
-      → ((n : ℕ) → n < k → is_live e n ≡ true → Carries n) → (n : ℕ) → IsEarlierNode e k n → IsAligned (grid_at grown.arrays (place_in grown n)) (grid_at grown.arrays (given + j)) → IsTold idx n
-  argument_told typed k j op args s idx inside earlier n a aligned =
-      let p = placed.live_placed e infos inputs options ok n a.node a.at a.live in
-      let own : grid_at grown.arrays (given + j) ≡ record { shape = (info_at infos k).dims; chunk = (info_at infos k).chunk } = ap (λ (x : ArrayInfo). x.layout.grid) s.array in
-      let into : IsInside (grid_at grown.arrays (given + j)).shape idx = subst (λ (g : RegularGrid). IsInside g.shape idx) (sym own) inside in
-      let from = reads_from (grid_at grown.arrays (place_in grown n)) (grid_at grown.arrays (given + j)) idx (grid_ok plan (place_in grown n) sound p.within) (grid_ok plan (given + j) sound s.within_arrays) aligned into in
-      let shape : (grid_at grown.arrays (place_in grown n)).shape ≡ shape_at infos n = ap (λ (g : RegularGrid). g.shape) p.grid in
-      let there : IsInside (shape_at infos n) (back (shape_at infos n) idx) = subst (λ (ds : List ℕ). IsInside ds (back ds idx)) shape from.inside in
-      let told = earlier n a.below a.live (back (shape_at infos n) idx) there in (
-        subst (λ (ds : List ℕ). Told must (at (place_in grown n) (back ds idx)) (read idx n)) (sym shape) told,
-        λ some. subst (λ (d : Dtype). InRange d (read idx n)) p.dtype (ranges plan env (place_in grown n) (back (grid_at grown.arrays (place_in grown n)).shape idx) (read idx n) sound typed p.within (subst (λ (ds : List ℕ). IsInside ds (back ds idx)) (sym shape) there) some),
-      )
+  -- the elements of the plan are those that its steps make
+  steps_solved : (k : ℕ) (f : Form) (s : Stands k f) → SolveSteps grown.arrays at (placed.steps_at e infos inputs options ok laws k f (length s.before.arrays))
+  steps_solved k f s = solve_steps e s.before grown (placed.steps_at e infos inputs options ok laws k f (length s.before.arrays)) at (λ j a idx below among. solves.made j a idx below among) s.front
 
-  all_loaded : (ins : List ℕ) (idx : List ℕ) (k : ℕ) (args : List Arg) → ((i : ℕ) → slice_get ins (k + i) ≡ slice_get (array_places grown.places args) i) → Each (IsTold idx) args
-      → Loaded must infos meaning idx (loaded grown.arrays ins at idx) k args
-  all_loaded ins idx k [] from each = tt
-  all_loaded ins idx k (Arg.Node n ∷ args) from each =
-      let first : slice_get ins k ≡ Some (place_in grown n) = ap (slice_get ins) (let z : k ≡ k + 0 = omega arith in z) ∙ from 0 in
-      let load : loaded grown.arrays ins at idx k ≡ read_at idx n = ap (option_and_then (λ a. at a (back (grid_at grown.arrays a).shape idx))) first in (
-        subst (λ (o : Option ℤ). Told must o (read idx n)) (sym load) each.0.0,
-        (λ some. each.0.1 (sym load ∙ some)),
-        all_loaded ins idx (k + 1) args (λ i. ap (slice_get ins) (let s : k + 1 + i ≡ k + suc i = omega arith in s) ∙ from (suc i)) each.1,
-      )
-  all_loaded ins idx k (Arg.Int x ∷ args) from each = all_loaded ins idx k args from each
-  all_loaded ins idx k (Arg.Truth b ∷ args) from each = all_loaded ins idx k args from each
+  -- its array is the last that they make
+  place_is : (k : ℕ) (f : Form) (s : Stands k f) → place_in grown k ≡ length s.before.arrays + length (all_made (placed.steps_at e infos inputs options ok laws k f (length s.before.arrays))) - 1
+  place_is k f s =
+      let l = steps_long e s.before (placed.steps_at e infos inputs options ok laws k f (length s.before.arrays)) in
+      let place = s.place in
+      omega (arith, l, place)
 
-  value_is : (k j : ℕ) (op : ElementOp) (args : List Arg) → Applies k op args j → (idx : List ℕ) (t : Dtype) → IsElementwise op (map (argument_of infos) args) t (info_at infos k)
-      → at (place_in grown k) idx ≡ kernel_value (kernel_of op t (map (argument_of infos) args)) (loaded grown.arrays (array_places grown.places args) at idx)
-  value_is k j op args s idx t passed =
-      let load = loaded grown.arrays (array_places grown.places args) at idx in
-      let writes : writes_of (operation_at grown.ops j).op ≡ (given + j) ∷ [] = ap (λ (x : Planned). writes_of x.op) s.operation in
-      let among : Contains (writes_of (operation_at grown.ops j).op) (given + j) = subst (λ (ws : List ℕ). Contains ws (given + j)) (sym writes) (0, omega arith, refl) in
-      ap (λ a. at a idx) s.place
-      ∙ solves.made j (given + j) idx s.within_ops among
-      ∙ ap (λ (x : Planned). rule x.op grown.arrays at (given + j) idx) s.operation
-      ∙ ap (λ (c : List Instr). kernel_value c load) (fitting.code_is e infos inputs options ok closed k j op args s t passed)
+  -- the rule of its form is what its array carries
+  carries_rule : (k : ℕ) (f : Form) (s : Stands k f) (place : ℕ) → place_in grown k ≡ place
+      → ((idx : List ℕ) → IsInside (shape_at infos k) idx → Told must (at place idx) (rule_of infos elements meaning k f idx)) → Carries k
+  carries_rule k f s place is told idx inside =
+      subst (λ (a : ℕ). Told must (at a idx) (meaning k idx)) (sym is)
+      (subst (λ (x : ℤ). Told must (at place idx) x) (sym (meaning_is k s.node f idx s.at s.is inside)) (told idx inside))
 
-  stood_carries : HasTypes grown.arrays env → (k j : ℕ) (op : ElementOp) (args : List Arg) → Applies k op args j → ((n : ℕ) → n < k → is_live e n ≡ true → Carries n) → Carries k
-  stood_carries typed k j op args s earlier idx inside =
-      let (t, passed) = fitting.types_of_node e infos inputs options ok closed k j op args s in
-      let load = loaded grown.arrays (array_places grown.places args) at idx in
-      let each : Each (IsTold idx) args = each_both (IsEarlierNode e k) (λ n. IsAligned (grid_at grown.arrays (place_in grown n)) (grid_at grown.arrays (given + j))) (IsTold idx)
-      (argument_told typed k j op args s idx inside earlier) args (fitting.arguments e infos inputs options ok closed k j (Form.Elementwise op args) s) (fitting.aligned e infos inputs options ok closed k j op args s) in
-      let all = all_loaded (array_places grown.places args) idx 0 args (λ i. ap (slice_get (array_places grown.places args)) (let z : 0 + i ≡ i = omega arith in z)) each in
-      let told = kernel_told must infos meaning idx load op t args passed.accepted all in
-      let same : meaning k idx ≡ function_value op (result_type op t) (map (argument_at infos meaning idx) args) =
-      meaning_is k s.node (Form.Elementwise op args) idx s.at s.is inside ∙ ap (λ d. function_value op d (map (argument_at infos meaning idx) args)) passed.dtype in
-      subst (λ (x : ℤ). Told must (at (place_in grown k) idx) x) (sym same)
-      (subst (λ (o : Option ℤ). Told must o (function_value op (result_type op t) (map (argument_at infos meaning idx) args))) (sym (value_is k j op args s idx t passed)) told)
+  function_carries : HasTypes grown.arrays env → (k : ℕ) (op : ElementOp) (args : List Arg) (s : Stands k (Form.Elementwise op args)) → ((n : ℕ) → n < k → is_live e n ≡ true → Carries n) → Carries k
+  function_carries types k op args s earlier =
+      let f = Form.Elementwise op args in
+      let first = length s.before.arrays in
+      let (t, passed) = typed.elementwise e infos inputs options ok k s.node op args s.at s.is in
+      let test = operations.built e infos inputs options ok laws closed k (Form.Elementwise op args) s in
+      let alone = operations.alone e infos inputs options ok laws closed k (Form.Elementwise op args) s (placed.stood_infos e infos inputs options ok laws k (Form.Elementwise op args) s) in
+      let place = place_is k (Form.Elementwise op args) s in
+      carries_rule k (Form.Elementwise op args) s (length s.before.arrays) (omega (arith, place))
+      (values.function_told must infos elements meaning options grown.arrays grown.places at (typed.known_kept e infos inputs options ok) k (length s.before.arrays) op args t passed test alone
+      (arguments_carried types k (Form.Elementwise op args) s earlier) (steps_solved k (Form.Elementwise op args) s))
 
-  -- ---- a view
+  view_carries : HasTypes grown.arrays env → (k : ℕ) (f : Form) (s : Stands k f) → is_view f ≡ true → ((n : ℕ) → n < k → is_live e n ≡ true → Carries n) → Carries k
+  view_carries types k f s viewed earlier =
+      let own = operations.pull_is e infos inputs options ok laws closed k f s viewed in
+      let written = typed.view e infos inputs options ok k s.node f s.at s.is viewed in
+      let alone = operations.alone e infos inputs options ok laws closed k f s (operations.view_infos e infos inputs options ok laws closed k f s viewed) in
+      let one = ap (λ (ss : List Step). length (all_made ss)) (view_steps infos options k f (array_places grown.places (args_of f)) (length s.before.arrays) viewed) in
+      let place = place_is k f s in
+      carries_rule k f s (length s.before.arrays) (omega (arith, place, one))
+      (values.view_told must infos elements meaning options grown.arrays grown.places at (typed.known_kept e infos inputs options ok) k (length s.before.arrays) f viewed written own alone
+      (arguments_carried types k f s earlier) (steps_solved k f s))
 
-  -- what a pull takes of the arrays of arguments is what it takes of their nodes
-  taken_told : (k : ℕ) (args : List Arg) (source : ℕ) (idx : List ℕ) → Each (IsEarlierNode e k) args → list_all is_array args ≡ true → ((n : ℕ) → n < k → is_live e n ≡ true → Carries n)
-      → source < length (shapes_of (sources_of infos args)) → IsInside (slice_index_or (shapes_of (sources_of infos args)) source []) idx
-      → Told must (pulled (array_places grown.places args) at (From source idx)) (taken_from meaning args (From source idx))
-  taken_told k [] source idx each arrays earlier below inside = absurd (omega arith)
-  taken_told k (Arg.Node n ∷ args) zero idx each arrays earlier below inside = earlier n each.0.below each.0.live idx inside
-  taken_told k (Arg.Node n ∷ args) (suc source) idx each arrays earlier below inside = taken_told k args source idx each.1 arrays earlier (omega arith) inside
-  taken_told k (Arg.Int x ∷ args) source idx each arrays earlier below inside = cc
-  taken_told k (Arg.Truth b ∷ args) source idx each arrays earlier below inside = cc
+  -- ---- reductions, searches for places and products
 
-  provenance_told : (k : ℕ) (args : List Arg) (from : Provenance) → Each (IsEarlierNode e k) args → list_all is_array args ≡ true → ((n : ℕ) → n < k → is_live e n ≡ true → Carries n)
-      → IsInSources (shapes_of (sources_of infos args)) from → Told must (pulled (array_places grown.places args) at from) (taken_from meaning args from)
-  provenance_told k args (From source idx) each arrays earlier inside = taken_told k args source idx each arrays earlier inside.0 inside.1
-  provenance_told k args (Const x) each arrays earlier inside = inl refl
+  reduce_carries : HasTypes grown.arrays env → (k m : ℕ) (kind : FoldKind) (axes : Option (List ℤ)) (keepdims : Bool) (s : Stands k (Form.Reduce kind (Arg.Node m ∷ []) axes keepdims))
+      → ((n : ℕ) → n < k → is_live e n ≡ true → Carries n) → Carries k
+  reduce_carries types k m kind axes keepdims s earlier =
+      let f = Form.Reduce kind (Arg.Node m ∷ []) axes keepdims in
+      let first = length s.before.arrays in
+      let c = (arguments_carried types k f s earlier).0 in
+      let x = reduction_of infos k kind (Arg.Node m ∷ []) axes (array_places grown.places (args_of f)) in
+      let value = laws.reductions.value grown.arrays at (setting options first) x (operations.is_setting e infos inputs options ok laws closed k f s) (operations.reduces e infos inputs options ok laws closed k m kind axes keepdims s)
+      c.known (placed.stood_infos e infos inputs options ok laws k f s) (steps_solved k f s) c.ranged in
+      carries_rule k f s (last_made first (placed.steps_at e infos inputs options ok laws k f first)) (place_is k f s)
+      (λ idx inside. reduction_told must infos elements meaning k m kind axes keepdims (at (place_in grown m)) (at (last_made first (placed.steps_at e infos inputs options ok laws k f first)) idx) idx
+      (typed.known_kept e infos inputs options ok m) (typed.reduction e infos inputs options ok k m s.node kind axes keepdims s.at s.is) inside (value idx inside) c.carries)
 
-  view_value : (k j : ℕ) (f : Form) → Stands k f j → is_view f ≡ true → (idx : List ℕ)
-      → at (place_in grown k) idx ≡ pulled (array_places grown.places (args_of f)) at (origin_of (pull_in infos f) (source_shapes infos f) (info_at infos k).dims idx)
-  view_value k j f s viewed idx =
-      let ins = array_places grown.places (args_of f) in
-      let operation = operations.view_operation e infos inputs options ok closed pulls k j f s viewed in
-      let writes : writes_of (operation_at grown.ops j).op ≡ (given + j) ∷ [] = ap (λ (x : Planned). writes_of x.op) operation in
-      let among : Contains (writes_of (operation_at grown.ops j).op) (given + j) = subst (λ (ws : List ℕ). Contains ws (given + j)) (sym writes) (0, omega arith, refl) in
-      ap (λ a. at a idx) s.place
-      ∙ solves.made j (given + j) idx s.within_ops among
-      ∙ ap (λ (x : Planned). rule x.op grown.arrays at (given + j) idx) operation
-      ∙ ap (λ ss. pulled ins at (origin_of (pull_in infos f) ss (grid_at grown.arrays (given + j)).shape idx)) (operations.read_shapes e infos inputs options ok closed pulls k j f s)
-      ∙ ap (λ ds. pulled ins at (origin_of (pull_in infos f) (source_shapes infos f) ds idx)) (operations.result_shape e infos inputs options ok closed pulls k j f s)
+  place_carries : HasTypes grown.arrays env → (k m : ℕ) (least : Bool) (axis : Option ℤ) (keepdims : Bool) (s : Stands k (Form.ArgPlace least (Arg.Node m ∷ []) axis keepdims))
+      → ((n : ℕ) → n < k → is_live e n ≡ true → Carries n) → Carries k
+  place_carries types k m least axis keepdims s earlier =
+      let f = Form.ArgPlace least (Arg.Node m ∷ []) axis keepdims in
+      let first = length s.before.arrays in
+      let c = (arguments_carried types k f s earlier).0 in
+      let x = search_of infos k least (Arg.Node m ∷ []) axis (array_places grown.places (args_of f)) in
+      let value = laws.searches.value grown.arrays at (setting options first) x (operations.is_setting e infos inputs options ok laws closed k f s) (operations.searches e infos inputs options ok laws closed k m least axis keepdims s)
+      c.known (placed.stood_infos e infos inputs options ok laws k f s) (steps_solved k f s) in
+      carries_rule k f s (last_made first (placed.steps_at e infos inputs options ok laws k f first)) (place_is k f s)
+      (λ idx inside. search_told must infos elements meaning k m least axis keepdims (at (place_in grown m)) (at (last_made first (placed.steps_at e infos inputs options ok laws k f first)) idx) idx
+      (typed.known_kept e infos inputs options ok m) (typed.search e infos inputs options ok k m s.node least axis keepdims s.at s.is) inside (value idx inside) c.carries)
 
-  view_carries : (k j : ℕ) (f : Form) → Stands k f j → is_view f ≡ true → ((n : ℕ) → n < k → is_live e n ≡ true → Carries n) → Carries k
-  view_carries k j f s viewed earlier idx inside =
-      let p = pull_in infos f in
-      let own = operations.pull_is e infos inputs options ok closed pulls k j f s viewed in
-      let typed = placed.view e infos inputs options ok k s.node f s.at s.is viewed in
-      let from = origin_of p (source_shapes infos f) (info_at infos k).dims idx in
-      let lies = inside_sources p (source_shapes infos f) (info_at infos k).dims idx own.fits inside in
-      let told = provenance_told k (args_of f) from (fitting.arguments e infos inputs options ok closed k j f s) (view_arrays f viewed typed.args) earlier lies in
-      let same = meaning_is k s.node f idx s.at s.is inside ∙ view_takes infos elements meaning k p idx inside f typed own in
-      subst (λ (x : ℤ). Told must (at (place_in grown k) idx) x) (sym same)
-      (subst (λ (o : Option ℤ). Told must o (taken_from meaning (args_of f) from)) (sym (view_value k j f s viewed idx)) told)
+  matmul_carries : HasTypes grown.arrays env → (k l m : ℕ) (s : Stands k (Form.Matmul (Arg.Node l ∷ Arg.Node m ∷ []))) → ((n : ℕ) → n < k → is_live e n ≡ true → Carries n) → Carries k
+  matmul_carries types k l m s earlier =
+      let f = Form.Matmul (Arg.Node l ∷ Arg.Node m ∷ []) in
+      let first = length s.before.arrays in
+      let both = arguments_carried types k (Form.Matmul (Arg.Node l ∷ Arg.Node m ∷ [])) s earlier in
+      let x = product_of infos k (Arg.Node l ∷ Arg.Node m ∷ []) (array_places grown.places (args_of f)) in
+      let value = laws.products.value grown.arrays at (setting options first) x (operations.is_setting e infos inputs options ok laws closed k f s) (operations.multiplies e infos inputs options ok laws closed k l m s)
+      both.0.known both.1.0.known (placed.stood_infos e infos inputs options ok laws k f s) (steps_solved k f s) in
+      carries_rule k f s (last_made first (placed.steps_at e infos inputs options ok laws k f first)) (place_is k f s)
+      (λ idx inside. product_told must infos elements meaning k l m (array_places grown.places (args_of f)) (at (place_in grown l)) (at (place_in grown m)) (at (last_made first (placed.steps_at e infos inputs options ok laws k f first)) idx) idx
+      (operations.multiplies e infos inputs options ok laws closed k l m s) inside (value idx inside) both.0.carries both.1.0.carries)
 
   -- ---- each live node
 
-  module _ (typed : HasTypes grown.arrays env) (of_inputs : AreOfInputs e infos grown env elements) (there : must ≡ true → AreThere e infos grown env) where
-    made_carries : (k j : ℕ) (f : Form) → Stands k f j → ((m : ℕ) → m < k → is_live e m ≡ true → Carries m) → Carries k
-    made_carries k j f s earlier =
-        elim (made_kind f s.made) [
-          | inl m ↦ stood_carries typed k j m.0 m.1 (subst (λ (x : Form). Stands k x j) m.2 s) earlier
-          | inr viewed ↦ view_carries k j f s viewed earlier
+  module _ (types : HasTypes grown.arrays env) (of_inputs : AreOfInputs e infos grown env elements) (there : must ≡ true → AreThere e infos grown env) where
+    made_carries : (k : ℕ) (f : Form) → Stands k f → ((m : ℕ) → m < k → is_live e m ≡ true → Carries m) → Carries k
+    made_carries k f s earlier =
+        elim (built_kind infos e.out k f (operations.built e infos inputs options ok laws closed k f s) s.other) [
+          | inl m ↦ function_carries types k m.op m.args (subst (Stands k) m.is s) earlier
+          | inr (inl r) ↦ let one = typed.reduce_form e infos inputs options ok k s.node f s.at s.is r in reduce_carries types k one.0 r.kind r.axes r.keepdims (subst (Stands k) one.1 s) earlier
+          | inr (inr (inl r)) ↦ let one = typed.place_form e infos inputs options ok k s.node f s.at s.is r in place_carries types k one.0 r.least r.axis r.keepdims (subst (Stands k) one.1 s) earlier
+          | inr (inr (inr (inl r))) ↦ let two = typed.matmul_form e infos inputs options ok k s.node f s.at s.is r in matmul_carries types k two.0 two.1.0 (subst (Stands k) two.1.1 s) earlier
+          | inr (inr (inr (inr viewed))) ↦ view_carries types k f s viewed earlier
         ]
 
-    form_carries : (k : ℕ) (n : Node) (f : Form) → slice_get e.nodes k ≡ Some n → n.form ≡ f → is_live e k ≡ true → is_built infos e.out k f ≡ true
-        → ((m : ℕ) → m < k → is_live e m ≡ true → Carries m) → Carries k
-    form_carries k n f node is live built earlier =
-        elim (built_kind infos e.out k f built) [
-          | inl input ↦ input_carries of_inputs there k n input.0 node (is ∙ input.1) live
-          | inr made ↦ let s = standing.from_node e infos inputs options.reserved ok.form (placed.are_built e infos inputs options ok) k n f node is made live in made_carries k s.0 f s.1 earlier
+    node_carries : (k : ℕ) (n : Node) → slice_get e.nodes k ≡ Some n → is_live e k ≡ true → ((m : ℕ) → m < k → is_live e m ≡ true → Carries m) → Carries k
+    node_carries k n node live earlier =
+        elim (input_kind n.form) [
+          | inl input ↦ input_carries of_inputs there k n input.0 node input.1 live
+          | inr other ↦ made_carries k n.form (placed.node_stands e infos inputs options ok laws k n n.form node refl other live) earlier
         ]
 
     carries_below : (most k : ℕ) (n : Node) → k < most → slice_get e.nodes k ≡ Some n → is_live e k ≡ true → Carries k
     carries_below zero k n below node live = absurd (omega arith)
     carries_below (suc most) k n below node live =
-        form_carries k n n.form node refl live (placed.are_built e infos inputs options ok k n node live)
-        (λ m under alive. let here = node_at m k n node under in carries_below most m here.0 (omega arith) here.1 alive)
+        node_carries k n node live
+        (λ m under alive. let here = node_at m k n node under in carries_below most m here.0 (omega (arith, below, under)) here.1 alive)
       where
         node_at : (m k : ℕ) (n : Node) → slice_get e.nodes k ≡ Some n → m < k → (x : Node) × (slice_get e.nodes m ≡ Some x)
         node_at m k n node under = let w = slice_get_within e.nodes k n node in (get_or e.nodes m n, slice_get-get_or e.nodes m n (omega (arith, w, under)))

@@ -1,138 +1,246 @@
--- Each operation of the plan of an expression fits its arrays: that of a view has its pull from the typing of the node.
-use Rattle.std.proofs.Common.{◌≡◌, ℕ, ◌+◌, true, List, [], ◌∷◌, All, length, map, ap, sym, ◌∙◌, subst, inl, inr, arith}
+-- Each operation of the plan of an expression fits its arrays, by the form of its node; the arrays that it makes are its own.
+use Rattle.std.proofs.Common.{◌≡◌, ℕ, ◌<◌, ◌≤◌, ◌+◌, ◌-◌, ◌==◌, ◌&&◌, Bool, true, ℤ, List, [], ◌∷◌, All, Contains, Option, Some, length, get_or, refl, ap, sym, ◌∙◌, subst, inl, inr, arith}
 use Rattle.std.specs.Prelude.{unwrap_or}
-use Rattle.std.proofs.lemmas.List.Elements.{All-nil, All-cons, All-head, All-tail}
-use Rattle.cu_num.specs.Dtype.{InRange}
-use Rattle.cu_num.specs.declared.types.Dtype.{Dtype}
-use Rattle.cu_shape.specs.Index.{IsInside}
-use Rattle.cu_grid.specs.Grid.{RegularGrid}
-use Rattle.cu_pull.specs.Fits.{FitsPull}
-use Rattle.cu_pull.specs.Pull.{origin_of}
 use Rattle.cu_pull.specs.declared.pull.Pull.{Pull as View}
 use Rattle.cu_pull.specs.declared.pull.Pull.TheVariants as views
-use Rattle.cu_op.specs.Arrays.{grid_at, type_at}
-use Rattle.cu_op.specs.Operation.{Converts, PullFits, shapes_at}
+use Rattle.cu_op.specs.Arrays.{array_at}
+use Rattle.cu_op.specs.Operation.{reads_of, IsReadable, IsMadeBy, IsBefore}
 use Rattle.cu_op.specs.PlanView.{operation_at}
-use Rattle.cu_op.specs.Projection.{projection}
 use Rattle.cu_op.specs.Sound.{IsOperation}
+use Rattle.cu_op.specs.declared.layout.ArrayInfo.{ArrayInfo}
 use Rattle.cu_form.specs.Expression.{Expression}
 use Rattle.cu_form.specs.Form.{args_of}
+use Rattle.cu_form.specs.declared.args.Arg.{Arg}
 use Rattle.cu_form.specs.declared.form.Form.{Form}
 use Rattle.cu_node.specs.Info.{info_at}
+use Rattle.cu_node.specs.declared.element_op.ElementOp.{ElementOp}
 use Rattle.cu_node.specs.declared.info.NodeInfo.{NodeInfo}
 use Rattle.cu_expr.specs.declared.inputs.InputInfo.{InputInfo}
-use Rattle.cu_need.specs.Chunks.{arrays_in}
 use Rattle.cu_need.specs.Live.{is_live, IsClosed}
-use Rattle.cu_need.specs.Need.{need_of}
-use Rattle.cu_need.specs.View.{is_view, view_need}
-use Rattle.cu_lower_view.specs.Sources.{sources_of, source_shapes, dtypes_of}
-use Rattle.cu_lower_view.specs.Typed.{IsTypedView, IsPull, SuitsType}
+use Rattle.cu_need.specs.Need.{is_built, need_of}
+use Rattle.cu_need.specs.View.{is_view}
+use Rattle.cu_lower_view.specs.Typed.{IsPull}
+use Rattle.cu_lower_reduce.specs.Steps.{made_infos, all_made, HasInfo, HaveInfos, IsGiven, IsStep, AreSteps}
+use Rattle.cu_lower_reduce.specs.Partials.{IsSetting}
+use Rattle.cu_lower_reduce.specs.Products.{IsProduct}
+use Rattle.cu_lower_reduce.specs.Reductions.{IsReduction}
+use Rattle.cu_lower_reduce.specs.Searches.{IsSearch}
+use Rattle.cu_lower_reduce.specs.declared.step.Step.{Step}
+use Rattle.cu_num.specs.declared.folds.FoldKind.{FoldKind}
 use Rattle.cu_lower.specs.Inputs.{input_names}
-use Rattle.cu_lower.specs.Parts.{Grown, array_places, pull_in, view_op}
+use Rattle.cu_lower.specs.Parts.{Grown, array_places, pull_in, setting, reduction_of, search_of, product_of, with_step}
 use Rattle.cu_lower.specs.Plan.{place_in}
 use Rattle.cu_lower.specs.Premises.{IsLowerable}
 use Rattle.cu_lower.specs.declared.options.Options.{Options}
-use Rattle.cu_lower.proofs.Arguments.{each_so, mapped_places}
+use Rattle.cu_lower.proofs.Arguments.{Each, each_so, IsEarlierNode, all_places}
 use Rattle.cu_lower.proofs.Fitting as fitting
-use Rattle.cu_lower.proofs.FormKinds.{made_kind, view_made, view_needs, sources_in}
+use Rattle.cu_lower.proofs.Fitting.{StandsAlone}
+use Rattle.cu_lower.proofs.FormKinds.{built_kind, view_steps}
+use Rattle.cu_lower.proofs.Growing.{front_then, front_step, step_long, step_ops}
+use Rattle.cu_lower.proofs.NodeSteps as steps
+use Rattle.cu_lower.proofs.NodeSteps.{all_steps, node_own}
+use Rattle.cu_lower.proofs.ProductTypes.{product_typed}
+use Rattle.cu_lower.proofs.ReductionTypes.{reduction_typed, search_typed}
 use Rattle.cu_lower.proofs.Placed as placed
+use Rattle.cu_lower.proofs.Standing as standing
+use Rattle.cu_lower.proofs.StepLaws.{HaveLaws}
+use Rattle.cu_lower.proofs.Standing.{front_array, within_front}
+use Rattle.cu_lower.proofs.Stepped.{IsPairArray, pair_array, step_array, step_operation, all_in_range}
+use Rattle.cu_lower.proofs.Typed as typed
 
--- each view that is typed has a pull that fits it
-abbrev pub HavePulls : Type 0
-HavePulls = (infos : List NodeInfo) (form : Form) (i : NodeInfo) → IsTypedView infos form i → (p : View) × IsPull infos form i p
+-- what holds of all holds of one
+all_among : {A : Type 0} (P : A → Type 0) (xs : List A) (x : A) → All P xs → Contains xs x → P x
+all_among P xs x all (i, below, is) = subst P is (all i x below)
 
--- the two words for a source's type say the same
-converts : (p : View) (from to : Dtype) → SuitsType p to from → Converts p from to
-converts (views.Concat axis) from to h = h
-converts (views.Stack axis) from to h = h
-converts p from to h = h
-
-all_mapped : {A B : Type 0} (f : A → B) (P : B → Type 0) (xs : List A) → All P (map f xs) → All (λ x. P (f x)) xs
-all_mapped f P [] h = All-nil (λ x. P (f x))
-all_mapped f P (x ∷ xs) h = All-cons (λ y. P (f y)) x xs (All-head P (f x) (map f xs) h) (all_mapped f P xs (All-tail P (f x) (map f xs) h))
-
-all_so : {A : Type 0} (P Q : A → Type 0) (xs : List A) → ((x : A) → P x → Q x) → All P xs → All Q xs
-all_so P Q [] so h = All-nil Q
-all_so P Q (x ∷ xs) so h = All-cons Q x xs (so x (All-head P x xs h)) (all_so P Q xs so (All-tail P x xs h))
-
-module _ (e : Expression) (infos : List NodeInfo) (inputs : List InputInfo) (options : Options) (ok : IsLowerable e infos inputs options) (closed : IsClosed e (is_live e)) (pulls : HavePulls) where
+module _ (e : Expression) (infos : List NodeInfo) (inputs : List InputInfo) (options : Options) (ok : IsLowerable e infos inputs options) (laws : HaveLaws) (closed : IsClosed e (is_live e)) where
   abbrev grown : Grown
-  grown = placed.grown e infos inputs options ok
+  grown = placed.grown e infos inputs options ok laws
 
   abbrev given : ℕ
   given = length (input_names e)
 
-  abbrev Stands : ℕ → Form → ℕ → Type 0
-  Stands k f j = placed.Stands e infos inputs options ok k f j
+  abbrev pub Stands : ℕ → Form → Type 0
+  Stands k f = placed.Stands e infos inputs options ok laws k f
 
-  -- the arrays that it reads
-  abbrev ins_of : Form → List ℕ
+  abbrev pub steps_at : ℕ → Form → ℕ → List Step
+  steps_at k f first = placed.steps_at e infos inputs options ok laws k f first
+
+  abbrev pub Stood : (Grown → ℕ) → ℕ → Type 0
+  Stood size j = standing.Stood e infos inputs options ok.form (all_steps e infos inputs options ok laws) size j
+
+  -- the arrays that a node reads
+  abbrev pub ins_of : Form → List ℕ
   ins_of f = array_places grown.places (args_of f)
 
-  pub pull_is : (k j : ℕ) (f : Form) → Stands k f j → is_view f ≡ true → IsPull infos f (info_at infos k) (pull_in infos f)
-  pull_is k j f s viewed =
-      let w = pulls infos f (info_at infos k) (placed.view e infos inputs options ok k s.node f s.at s.is viewed) in
+  -- ---- the steps of a node
+
+  -- its step stands alone, where it has one that makes its array
+  pub alone : (k : ℕ) (f : Form) (s : Stands k f) → HaveInfos grown.arrays (length s.before.arrays) (info_at infos k ∷ []) → StandsAlone infos options grown.arrays grown.places k (length s.before.arrays) f
+  alone k f s made = record { known = placed.arguments_known e infos inputs options ok laws closed k f s; own = made.0 }
+
+  pub pull_is : (k : ℕ) (f : Form) → Stands k f → is_view f ≡ true → IsPull infos f (info_at infos k) (pull_in infos f)
+  pull_is k f s viewed =
+      let w = laws.pulls infos f (info_at infos k) (typed.view e infos inputs options ok k s.node f s.at s.is viewed) in
       let same : w.0 ≡ pull_in infos f = sym (ap (λ o. unwrap_or o views.Reshape) w.1.pull) in
       subst (λ (p : View). IsPull infos f (info_at infos k) p) same w.1
 
-  -- the shapes of the arrays that it reads are those of the nodes
-  pub read_shapes : (k j : ℕ) (f : Form) → Stands k f j → shapes_at grown.arrays (ins_of f) ≡ source_shapes infos f
-  read_shapes k j f s =
-      mapped_places grown.places infos (λ a. (grid_at grown.arrays a).shape) (λ (i : NodeInfo). i.dims) (args_of f)
-      (each_so (placed.IsPlaced e infos inputs options ok) (λ n. (grid_at grown.arrays (place_in grown n)).shape ≡ (info_at infos n).dims) (λ n p. ap (λ (g : RegularGrid). g.shape) p.grid) (args_of f)
-      (fitting.arguments_placed e infos inputs options ok closed k j f s))
-      ∙ ap (map (λ (i : NodeInfo). i.dims)) (sources_in infos (args_of f))
+  pub built : (k : ℕ) (f : Form) → Stands k f → is_built infos e.out k f ≡ true
+  built k f s = subst (λ (x : Form). is_built infos e.out k x ≡ true) s.is (typed.are_built e infos inputs options ok k s.node s.at s.live)
 
-  read_types : (k j : ℕ) (f : Form) → Stands k f j → map (type_at grown.arrays) (ins_of f) ≡ dtypes_of (sources_of infos (args_of f))
-  read_types k j f s =
-      mapped_places grown.places infos (type_at grown.arrays) (λ (i : NodeInfo). i.dtype) (args_of f)
-      (each_so (placed.IsPlaced e infos inputs options ok) (λ n. type_at grown.arrays (place_in grown n) ≡ (info_at infos n).dtype) (λ n p. p.dtype) (args_of f)
-      (fitting.arguments_placed e infos inputs options ok closed k j f s))
-      ∙ ap (map (λ (i : NodeInfo). i.dtype)) (sources_in infos (args_of f))
+  -- a view's steps make its array alone
+  pub view_infos : (k : ℕ) (f : Form) (s : Stands k f) → is_view f ≡ true → HaveInfos grown.arrays (length s.before.arrays) (info_at infos k ∷ [])
+  view_infos k f s viewed =
+      subst (λ (ss : List Step). HaveInfos grown.arrays (length s.before.arrays) (all_made ss)) (view_steps infos options k f (ins_of f) (length s.before.arrays) viewed) (placed.stood_infos e infos inputs options ok laws k f s)
 
-  pub result_shape : (k j : ℕ) (f : Form) → Stands k f j → (grid_at grown.arrays (given + j)).shape ≡ (info_at infos k).dims
-  result_shape k j f s = ap (λ (g : RegularGrid). g.shape) (fitting.made_grid e infos inputs options ok closed k j f s)
+  -- what is known of an argument of a reduction, a search or a product
+  argument_known : (k m : ℕ) (f : Form) (args : List Arg) → Stands k f → args_of f ≡ Arg.Node m ∷ args → HasInfo grown.arrays (place_in grown m) (info_at infos m)
+  argument_known k m f args s is = (subst (Each (λ n. HasInfo grown.arrays (place_in grown n) (info_at infos n))) is (placed.arguments_known e infos inputs options ok laws closed k f s)).0
 
-  view_fits : (k j : ℕ) (f : Form) → Stands k f j → is_view f ≡ true → PullFits grown.arrays (pull_in infos f) (ins_of f) (given + j)
-  view_fits k j f s viewed =
-      let p = pull_in infos f in
-      let own = pull_is k j f s viewed in
-      let shapes = sym (read_shapes k j f s) in
-      let shape = sym (result_shape k j f s) in
-      let dtype = sym (fitting.made_type e infos inputs options ok closed k j f s) in
-      let suits = subst (λ (ts : List Dtype). All (SuitsType p (info_at infos k).dtype) ts) (sym (read_types k j f s)) own.types in
-      record {
-        shapes = subst (λ (ds : List ℕ). FitsPull p (shapes_at grown.arrays (ins_of f)) ds) shape (subst (λ (ss : List (List ℕ)). FitsPull p ss (info_at infos k).dims) shapes own.fits);
-        types = subst (λ (t : Dtype). All (λ a. Converts p (type_at grown.arrays a) t) (ins_of f)) dtype
-            (all_so (λ a. SuitsType p (info_at infos k).dtype (type_at grown.arrays a)) (λ a. Converts p (type_at grown.arrays a) (info_at infos k).dtype) (ins_of f)
-            (λ a h. converts p (type_at grown.arrays a) (info_at infos k).dtype h)
-            (all_mapped (type_at grown.arrays) (SuitsType p (info_at infos k).dtype) (ins_of f) suits));
-        numbers = λ idx x inside is.
-            let into = subst (λ (ds : List ℕ). IsInside ds idx) (sym shape) inside in
-            let origin = ap (λ ss. origin_of p ss (info_at infos k).dims idx) shapes ∙ ap (λ ds. origin_of p (shapes_at grown.arrays (ins_of f)) ds idx) shape ∙ is in
-            subst (λ (t : Dtype). InRange t x) dtype (own.numbers idx x into origin);
-      }
+  pub is_setting : (k : ℕ) (f : Form) (s : Stands k f) → IsSetting (setting options (length s.before.arrays))
+  is_setting k f s = steps.is_setting e infos inputs options ok laws k s.node (length s.before.arrays) s.at s.live s.small
 
-  view_projected : (k j : ℕ) (f : Form) → Stands k f j → is_view f ≡ true → need_of options.reserved infos k f ≡ projection grown.arrays options.reserved (view_op infos f (ins_of f) (given + j))
-  view_projected k j f s viewed =
-      let out = fitting.result_room e infos inputs options ok closed k j f s in
-      let scratch = fitting.greatest_room e infos inputs options ok closed k j f s in
-      view_needs options.reserved infos k f viewed
-      ∙ (let whole : view_need options.reserved (info_at infos k) (arrays_in infos (args_of f)) ≡ projection grown.arrays options.reserved (view_op infos f (ins_of f) (given + j)) = omega (arith, out, scratch) in whole)
+  -- a node as a reduction, a search for places or a product
+  pub reduces : (k m : ℕ) (kind : FoldKind) (axes : Option (List ℤ)) (keepdims : Bool) → Stands k (Form.Reduce kind (Arg.Node m ∷ []) axes keepdims) → IsReduction (reduction_of infos k kind (Arg.Node m ∷ []) axes (ins_of (Form.Reduce kind (Arg.Node m ∷ []) axes keepdims)))
+  reduces k m kind axes keepdims s =
+      reduction_typed kind axes keepdims (info_at infos m) (info_at infos k) (place_in grown m) (typed.known_kept e infos inputs options ok m) (typed.known_kept e infos inputs options ok k)
+      (typed.reduction e infos inputs options ok k m s.node kind axes keepdims s.at s.is)
 
-  -- the operation of a view
-  pub view_operation : (k j : ℕ) (f : Form) → Stands k f j → is_view f ≡ true → operation_at grown.ops j ≡ record { op = view_op infos f (ins_of f) (given + j); node = k; projected = need_of options.reserved infos k f }
-  view_operation k j f s viewed = s.operation ∙ ap (λ o. record { op = o; node = k; projected = need_of options.reserved infos k f }) (view_made infos f (ins_of f) (given + j) viewed)
+  pub searches : (k m : ℕ) (least : Bool) (axis : Option ℤ) (keepdims : Bool) → Stands k (Form.ArgPlace least (Arg.Node m ∷ []) axis keepdims) → IsSearch (search_of infos k least (Arg.Node m ∷ []) axis (ins_of (Form.ArgPlace least (Arg.Node m ∷ []) axis keepdims)))
+  searches k m least axis keepdims s =
+      search_typed least axis keepdims (info_at infos m) (info_at infos k) (place_in grown m) (typed.known_kept e infos inputs options ok m) (typed.known_kept e infos inputs options ok k)
+      (typed.search e infos inputs options ok k m s.node least axis keepdims s.at s.is)
 
-  pub operation_fits : (k j : ℕ) (f : Form) → Stands k f j → IsOperation grown.arrays options.reserved j (operation_at grown.ops j)
-  operation_fits k j f s =
-      elim (made_kind f s.made) [
-        | inl m ↦ fitting.map_fits e infos inputs options ok closed k j m.0 m.1 (subst (λ (x : Form). Stands k x j) m.2 s)
-        | inr viewed ↦ subst (IsOperation grown.arrays options.reserved j) (sym (view_operation k j f s viewed)) (record {
-          reads = fitting.reads e infos inputs options ok closed k j f s;
-          writes = fitting.writes e infos inputs options ok closed k j f s;
-          fits = view_fits k j f s viewed;
-          projected = view_projected k j f s viewed;
-          room = fitting.need_small e infos inputs options ok closed k j f s;
-        })
+  pub multiplies : (k l m : ℕ) → Stands k (Form.Matmul (Arg.Node l ∷ Arg.Node m ∷ [])) → IsProduct (product_of infos k (Arg.Node l ∷ Arg.Node m ∷ []) (ins_of (Form.Matmul (Arg.Node l ∷ Arg.Node m ∷ []))))
+  multiplies k l m s =
+      product_typed (info_at infos l) (info_at infos m) (info_at infos k) (place_in grown l) (place_in grown m) (typed.known_kept e infos inputs options ok l) (typed.known_kept e infos inputs options ok m) (typed.known_kept e infos inputs options ok k)
+      (typed.matmul e infos inputs options ok k l m s.node s.at s.is) (built k (Form.Matmul (Arg.Node l ∷ Arg.Node m ∷ [])) s)
+
+  -- they are steps over the arrays of the plan
+  abbrev AreNodeSteps : (k : ℕ) (f : Form) → Stands k f → Type 0
+  AreNodeSteps k f s = AreSteps grown.arrays options.reserved (ins_of f) (length s.before.arrays) (length s.before.arrays) (steps_at k f (length s.before.arrays))
+
+  function_steps : (k : ℕ) (op : ElementOp) (args : List Arg) (s : Stands k (Form.Elementwise op args)) → AreNodeSteps k (Form.Elementwise op args) s
+  function_steps k op args s =
+      let (t, passed) = typed.elementwise e infos inputs options ok k s.node op args s.at s.is in
+      fitting.map_steps infos options grown.arrays grown.places k (length s.before.arrays) op args t passed (built k (Form.Elementwise op args) s)
+      (alone k (Form.Elementwise op args) s (placed.stood_infos e infos inputs options ok laws k (Form.Elementwise op args) s))
+
+  reduce_steps : (k m : ℕ) (kind : FoldKind) (axes : Option (List ℤ)) (keepdims : Bool) (s : Stands k (Form.Reduce kind (Arg.Node m ∷ []) axes keepdims)) → AreNodeSteps k (Form.Reduce kind (Arg.Node m ∷ []) axes keepdims) s
+  reduce_steps k m kind axes keepdims s =
+      let f = Form.Reduce kind (Arg.Node m ∷ []) axes keepdims in
+      laws.reductions.steps grown.arrays (setting options (length s.before.arrays)) (reduction_of infos k kind (Arg.Node m ∷ []) axes (ins_of f)) (is_setting k f s) (reduces k m kind axes keepdims s)
+      (argument_known k m f [] s refl) (placed.stood_infos e infos inputs options ok laws k f s)
+
+  place_steps : (k m : ℕ) (least : Bool) (axis : Option ℤ) (keepdims : Bool) (s : Stands k (Form.ArgPlace least (Arg.Node m ∷ []) axis keepdims)) → AreNodeSteps k (Form.ArgPlace least (Arg.Node m ∷ []) axis keepdims) s
+  place_steps k m least axis keepdims s =
+      let f = Form.ArgPlace least (Arg.Node m ∷ []) axis keepdims in
+      laws.searches.steps grown.arrays (setting options (length s.before.arrays)) (search_of infos k least (Arg.Node m ∷ []) axis (ins_of f)) (is_setting k f s) (searches k m least axis keepdims s)
+      (argument_known k m f [] s refl) (placed.stood_infos e infos inputs options ok laws k f s)
+
+  matmul_steps : (k l m : ℕ) (s : Stands k (Form.Matmul (Arg.Node l ∷ Arg.Node m ∷ []))) → AreNodeSteps k (Form.Matmul (Arg.Node l ∷ Arg.Node m ∷ [])) s
+  matmul_steps k l m s =
+      let f = Form.Matmul (Arg.Node l ∷ Arg.Node m ∷ []) in
+      let known = placed.arguments_known e infos inputs options ok laws closed k (Form.Matmul (Arg.Node l ∷ Arg.Node m ∷ [])) s in
+      laws.products.steps grown.arrays (setting options (length s.before.arrays)) (product_of infos k (Arg.Node l ∷ Arg.Node m ∷ []) (ins_of f)) (is_setting k f s) (multiplies k l m s)
+      known.0 known.1.0 (placed.stood_infos e infos inputs options ok laws k f s)
+
+  pub node_steps : (k : ℕ) (f : Form) (s : Stands k f) → AreNodeSteps k f s
+  node_steps k f s =
+      elim (built_kind infos e.out k f (built k f s) s.other) [
+        | inl m ↦ by_form (Form.Elementwise m.op m.args) m.is (λ t. function_steps k m.op m.args t) s
+        | inr (inl r) ↦ let one = typed.reduce_form e infos inputs options ok k s.node f s.at s.is r in by_form (Form.Reduce r.kind (Arg.Node one.0 ∷ []) r.axes r.keepdims) one.1 (λ t. reduce_steps k one.0 r.kind r.axes r.keepdims t) s
+        | inr (inr (inl r)) ↦ let one = typed.place_form e infos inputs options ok k s.node f s.at s.is r in by_form (Form.ArgPlace r.least (Arg.Node one.0 ∷ []) r.axis r.keepdims) one.1 (λ t. place_steps k one.0 r.least r.axis r.keepdims t) s
+        | inr (inr (inr (inl r))) ↦ let two = typed.matmul_form e infos inputs options ok k s.node f s.at s.is r in by_form (Form.Matmul (Arg.Node two.0 ∷ Arg.Node two.1.0 ∷ [])) two.1.1 (λ t. matmul_steps k two.0 two.1.0 t) s
+        | inr (inr (inr (inr viewed))) ↦
+            fitting.pull_steps infos options grown.arrays grown.places k (length s.before.arrays) f viewed (pull_is k f s viewed) (alone k f s (view_infos k f s viewed))
       ]
+    where
+      by_form : {k : ℕ} {f : Form} (g : Form) → f ≡ g → ((t : Stands k g) → AreNodeSteps k g t) → (s : Stands k f) → AreNodeSteps k f s
+      by_form {k} {f} g is steps = subst (λ (x : Form). (s : Stands k x) → AreNodeSteps k x s) (sym is) steps
+
+  -- ---- a step
+
+  -- that of an operation or an array
+  pub step_fits : (size : Grown → ℕ) (j : ℕ) (w : Stood size j)
+      → IsStep grown.arrays options.reserved (ins_of w.operator) (length w.node.before.arrays) (length w.step.before.arrays) w.step.step
+  step_fits size j w = w.step.fits grown.arrays options.reserved (ins_of w.operator) (length w.node.before.arrays) (node_steps w.k w.operator w.node)
+
+  pub step_number : (size : Grown → ℕ) (j : ℕ) (w : Stood size j) → length w.step.before.places ≡ w.k
+  step_number size j w = ap length w.step.node ∙ w.node.number
+
+  -- the need of its node
+  pub step_need : (size : Grown → ℕ) (j : ℕ) (w : Stood size j) → w.step.step.need ≤ need_of options.reserved options.split_every infos w.k w.operator
+  step_need size j w =
+      w.step.need (need_of options.reserved options.split_every infos w.k w.operator)
+      (node_own e infos inputs options ok laws w.k w.node.node w.operator w.node.at w.node.is w.node.live w.node.other (ins_of w.operator) (length w.node.before.arrays) w.node.small).needs
+
+  pub need_within : (size : Grown → ℕ) (j : ℕ) (w : Stood size j) → need_of options.reserved options.split_every infos w.k w.operator ≤ options.allowed
+  need_within size j w = subst (λ (x : Form). need_of options.reserved options.split_every infos w.k x ≤ options.allowed) w.node.is (typed.need_within e infos inputs options ok w.k w.node.node w.node.at w.node.live)
+
+  -- an array before a step has an earlier maker
+  readable : (size : Grown → ℕ) (j : ℕ) (w : Stood size j) (a : ℕ) → a < length w.step.before.arrays → IsReadable grown.arrays (length w.step.before.ops) a
+  readable size j w a below =
+      let long = step_long e w.step.last w.step.before w.step.step in
+      let within = within_front (with_step e w.step.last w.step.before w.step.step).arrays w.step.front.arrays.0 grown.arrays w.step.front.arrays.1 in
+      let same = front_array w.step.before grown a (front_then w.step.before (with_step e w.step.last w.step.before w.step.step) grown (front_step e w.step.last w.step.before w.step.step) w.step.front) below in (
+        omega (arith, long, within, below),
+        subst (λ (m : Option ℕ). IsBefore m (length w.step.before.ops)) (sym (ap (λ (x : ArrayInfo). x.maker) same)) (w.step.growing.makers a below),
+      )
+
+  ins_before : (size : Grown → ℕ) (j : ℕ) (w : Stood size j) → All (λ a. a < length w.step.before.arrays) (ins_of w.operator)
+  ins_before size j w =
+      all_places grown.places (λ a. a < length w.step.before.arrays) (args_of w.operator)
+      (each_so (IsEarlierNode e w.k) (λ n. place_in grown n < length w.step.before.arrays) (λ n a. let early = w.node.earlier n a.below a.live in let past = w.step.past in omega (arith, early, past)) (args_of w.operator)
+      (placed.arguments e infos inputs options ok laws closed w.k w.operator w.node))
+
+  step_reads : (size : Grown → ℕ) (j : ℕ) (w : Stood size j) (a : ℕ) → IsGiven (ins_of w.operator) (length w.node.before.arrays) (length w.step.before.arrays) a → IsReadable grown.arrays (length w.step.before.ops) a
+  step_reads size j w a (inl among) = readable size j w a (all_among (λ b. b < length w.step.before.arrays) (ins_of w.operator) a (ins_before size j w) among)
+  step_reads size j w a (inr own) = readable size j w a own.1
+
+  -- one of the arrays that a step makes
+  pub step_made : (size : Grown → ℕ) (j : ℕ) (w : Stood size j) (b : ℕ) → length w.step.before.arrays ≤ b → b < length w.step.before.arrays + length (made_infos w.step.step)
+      → IsPairArray e (w.step.last && (length w.step.before.places == e.out)) (length w.step.before.arrays - given) (length w.step.before.ops) w.step.step.values w.step.step.made (b - length w.step.before.arrays) (array_at grown.arrays b)
+  step_made size j w b low high =
+      let i = b - length w.step.before.arrays in
+      let is = step_array e w.step.last w.step.before grown w.step.step (b - length w.step.before.arrays) w.step.front (omega (arith, low, high)) in
+      let at : array_at grown.arrays b ≡ _ = ap (array_at grown.arrays) (let z : b ≡ length w.step.before.arrays + (b - length w.step.before.arrays) = omega (arith, low) in z) ∙ is in
+      subst (IsPairArray e (w.step.last && (length w.step.before.places == e.out)) (length w.step.before.arrays - given) (length w.step.before.ops) w.step.step.values w.step.step.made (b - length w.step.before.arrays)) (sym at)
+      (pair_array e (w.step.last && (length w.step.before.places == e.out)) (length w.step.before.arrays - given) (length w.step.before.ops) w.step.step.values w.step.step.made (b - length w.step.before.arrays) (omega (arith, low, high)))
+
+  -- ---- the operation of a number
+
+  pub ops_number : (j : ℕ) (w : Stood (standing.ops_of e infos inputs options ok.form (all_steps e infos inputs options ok laws)) j) → length w.step.before.ops ≡ j
+  ops_number j w =
+      let one = step_ops e w.step.last w.step.before w.step.step in
+      let low = w.step.least in
+      let high = w.step.below in
+      omega (arith, one, low, high)
+
+  pub stood : (j : ℕ) → j < length grown.ops → Stood (standing.ops_of e infos inputs options ok.form (all_steps e infos inputs options ok laws)) j
+  stood j below = standing.from_operation e infos inputs options ok.form (all_steps e infos inputs options ok laws) j below
+
+  pub operation_is : (j : ℕ) (w : Stood (standing.ops_of e infos inputs options ok.form (all_steps e infos inputs options ok laws)) j)
+      → operation_at grown.ops j ≡ record { op = w.step.step.op; node = w.k; projected = w.step.step.need }
+  operation_is j w =
+      ap (operation_at grown.ops) (sym (ops_number j w))
+      ∙ step_operation e w.step.last w.step.before grown w.step.step w.step.front
+      ∙ ap (λ (k : ℕ). record { op = w.step.step.op; node = k; projected = w.step.step.need }) (step_number (standing.ops_of e infos inputs options ok.form (all_steps e infos inputs options ok laws)) j w)
+
+  pub operation_fits : (j : ℕ) → j < length grown.ops → IsOperation grown.arrays options.reserved j (operation_at grown.ops j)
+  operation_fits j below =
+      let w = stood j below in
+      let fit = step_fits _ j w in
+      let number = ops_number j w in
+      let need = step_need _ j w in
+      let most = need_within _ j w in
+      let allowed = ok.allowed in
+      subst (IsOperation grown.arrays options.reserved j) (sym (operation_is j w)) (record {
+        reads = λ i d under. subst (λ (m : ℕ). IsReadable grown.arrays m (get_or (reads_of w.step.step.op) i d)) number (step_reads _ j w (get_or (reads_of w.step.step.op) i d) (fit.reads i d under));
+        writes = subst (All (IsMadeBy grown.arrays j)) (sym fit.writes) (all_in_range (IsMadeBy grown.arrays j) (length w.step.before.arrays) (length (made_infos w.step.step)) (λ b low high.
+            let long = step_long e w.step.last w.step.before w.step.step in
+            let within = within_front (with_step e w.step.last w.step.before w.step.step).arrays w.step.front.arrays.0 grown.arrays w.step.front.arrays.1 in
+            (omega (arith, long, within, high), (step_made _ j w b low high).made ∙ ap Some number)));
+        fits = fit.fits;
+        projected = fit.need;
+        room = omega (arith, need, most, allowed);
+      })

@@ -1,117 +1,103 @@
--- The array of each live node in the plan of an expression.
-use Rattle.std.proofs.Common.{◌≡◌, ℕ, ◌<◌, ◌≤◌, true, List, Some, Ok, Result, length, map, refl, ap, sym, ◌∙◌, subst, inl, inr, arith}
-use Rattle.std.specs.Prelude.{slice_get, unwrap_or}
-use Rattle.cu_op.specs.Arrays.{array_at, grid_at, type_at}
+-- The arrays of the live nodes in the plan of an expression.
+use Rattle.std.proofs.Common.{◌≡◌, ℕ, ◌+◌, true, false, List, ◌∷◌, [], Some, length, refl, ap, sym, ◌∙◌, subst, inl, inr, arith}
+use Rattle.std.specs.Prelude.{slice_get}
+use Rattle.std.proofs.lemmas.List.{length-append}
+use Rattle.cu_op.specs.Arrays.{array_at}
 use Rattle.cu_op.specs.declared.layout.ArrayInfo.{ArrayInfo}
-use Rattle.cu_num.specs.declared.types.Dtype.{Dtype}
 use Rattle.cu_form.specs.Expression.{Expression}
-use Rattle.cu_form.specs.Form.{args_of, takes_args, in_ranges}
-use Rattle.cu_form.specs.declared.args.Arg.{Arg}
+use Rattle.cu_form.specs.Form.{args_of}
 use Rattle.cu_form.specs.declared.expr.Node.{Node}
-use Rattle.cu_node.specs.declared.element_op.ElementOp.{ElementOp}
 use Rattle.cu_form.specs.declared.form.Form.{Form}
-use Rattle.cu_node.specs.Info.{info_at, no_info}
+use Rattle.cu_node.specs.Info.{info_at}
 use Rattle.cu_node.specs.declared.info.NodeInfo.{NodeInfo}
-use Rattle.cu_node.specs.declared.faults.NodeFault.{NodeFault}
-use Rattle.cu_typing.specs.Accepted.{IsElementwise}
-use Rattle.cu_expr.specs.Kernel.{result_grid}
-use Rattle.cu_typing.proofs.Passed.{passed}
-use Rattle.cu_expr.specs.Inputs.{layout_info, named_input, stored_of}
-use Rattle.cu_expr.specs.Typing.{typed_node, argument_of}
 use Rattle.cu_expr.specs.declared.inputs.InputInfo.{InputInfo}
-use Rattle.cu_expr.proofs.Nodes.{typed_at, over_all}
-use Rattle.cu_need.specs.Live.{is_live}
-use Rattle.cu_need.specs.Need.{is_built, need_of}
-use Rattle.cu_need.specs.View.{is_view}
-use Rattle.cu_lower_view.specs.Typed.{typed_as_view, IsTypedView}
-use Rattle.cu_lower.specs.Inputs.{layout_named}
+use Rattle.cu_need.specs.Live.{is_live, IsClosed}
+use Rattle.cu_lower_reduce.specs.Steps.{all_made, grid_of, HasInfo, HaveInfos}
+use Rattle.cu_lower_reduce.specs.declared.step.Step.{Step}
 use Rattle.cu_lower.specs.Plan.{lowered, place_in}
-use Rattle.cu_lower.specs.Parts.{Grown}
+use Rattle.cu_lower.specs.Parts.{Grown, made_layout, with_steps}
 use Rattle.cu_lower.specs.Premises.{IsLowerable}
 use Rattle.cu_lower.specs.declared.options.Options.{Options}
-use Rattle.cu_lower.proofs.Arguments.{arrays_told}
-use Rattle.cu_lower.proofs.Growing as growing
-use Rattle.cu_lower.proofs.InputNames.{named_layout}
-use Rattle.cu_lower.proofs.FormKinds.{built_kind, view_typed, sources_in}
-use Rattle.cu_need.proofs.FirstLive.{unbuilt_none, over_none}
+use Rattle.cu_lower.proofs.Arguments.{Each, each_so, IsEarlierNode, live_arguments}
+use Rattle.cu_lower.proofs.FormKinds.{is_input, input_kind}
+use Rattle.cu_lower.proofs.Growing.{steps_long}
+use Rattle.cu_lower.proofs.NodeSteps.{all_steps}
 use Rattle.cu_lower.proofs.Standing as standing
+use Rattle.cu_lower.proofs.StepLaws.{HaveLaws}
+use Rattle.cu_lower.proofs.Standing.{within_front}
+use Rattle.cu_lower.proofs.Stepped.{HaveLayouts, have_layouts, layouts_known, last_layout, last_known}
+use Rattle.cu_lower.proofs.Typed as typed
 
-module _ (e : Expression) (infos : List NodeInfo) (inputs : List InputInfo) (options : Options) (ok : IsLowerable e infos inputs options) where
+module _ (e : Expression) (infos : List NodeInfo) (inputs : List InputInfo) (options : Options) (ok : IsLowerable e infos inputs options) (laws : HaveLaws) where
   abbrev pub grown : Grown
-  grown = lowered e infos inputs options.reserved
+  grown = lowered e infos inputs options
 
-  -- each live node is built, and needs no more than is allowed
-  pub are_built : growing.AreBuilt e infos options.reserved
-  are_built k n at live = (unbuilt_none e infos).0 ok.built k n (record { at = at; live = live })
+  -- where the steps of a node stand
+  abbrev pub Stands : ℕ → Form → Type 0
+  Stands k f = standing.Standing e infos inputs options ok.form (all_steps e infos inputs options ok laws) k f
 
-  pub need_within : (k : ℕ) (n : Node) → slice_get e.nodes k ≡ Some n → is_live e k ≡ true → need_of options.reserved infos k n.form ≤ options.allowed
-  need_within k n at live = (over_none options.allowed options.reserved e infos).0 ok.memory k n (record { at = at; live = live })
+  abbrev pub steps_at : ℕ → Form → ℕ → List Step
+  steps_at k f first = standing.own_steps e infos inputs options ok.form (all_steps e infos inputs options ok laws) k f first
 
-  -- where a node stands whose array an operation makes
-  abbrev pub Stands : ℕ → Form → ℕ → Type 0
-  Stands k f j = standing.Standing e infos inputs options.reserved ok.form are_built k f j
+  -- the arrays that they make
+  layouts : (k : ℕ) (f : Form) (s : Stands k f) → HaveLayouts grown.arrays (length s.before.arrays) (all_made (steps_at k f (length s.before.arrays)))
+  layouts k f s = have_layouts e s.before grown (steps_at k f (length s.before.arrays)) s.front
 
-  -- a node's type
-  pub typed_whole : (k : ℕ) (n : Node) → slice_get e.nodes k ≡ Some n → typed_node inputs infos n.form ≡ Ok (info_at infos k)
-  typed_whole k n at = sym (over_all inputs infos k n.form (ok.form.nodes k n at).form.earlier) ∙ typed_at inputs e.nodes infos k n ok.types at
+  pub stood_infos : (k : ℕ) (f : Form) (s : Stands k f) → HaveInfos grown.arrays (length s.before.arrays) (all_made (steps_at k f (length s.before.arrays)))
+  stood_infos k f s =
+      let ss = steps_at k f (length s.before.arrays) in
+      let l = steps_long e s.before ss in
+      let w = within_front (with_steps e s.before ss).arrays s.front.arrays.0 grown.arrays s.front.arrays.1 in
+      layouts_known grown.arrays (length s.before.arrays) (all_made ss) (omega (arith, l, w)) (layouts k f s)
 
-  pub elementwise : (k : ℕ) (n : Node) (op : ElementOp) (args : List Arg) → slice_get e.nodes k ≡ Some n → n.form ≡ Form.Elementwise op args
-      → (t : Dtype) × IsElementwise op (map (argument_of infos) args) t (info_at infos k)
-  elementwise k n op args at is =
-      passed op (map (argument_of infos) args) (info_at infos k) (ap (typed_node inputs infos) (sym is) ∙ typed_whole k n at)
+  -- the node's own is the last of them
+  own_place : (k : ℕ) (f : Form) (s : Stands k f) → place_in grown k ≡ length s.before.arrays + length s.make.ends.0
+  own_place k f s =
+      let ss = steps_at k f (length s.before.arrays) in
+      let l = steps_long e s.before ss in
+      let ends = ap length s.make.ends.1 ∙ length-append s.make.ends.0 (info_at infos k ∷ []) in
+      let place = s.place in
+      omega (arith, l, ends, place)
 
-  pub view : (k : ℕ) (n : Node) (f : Form) → slice_get e.nodes k ≡ Some n → n.form ≡ f → is_view f ≡ true → IsTypedView infos f (info_at infos k)
-  view k n f at is viewed =
-      let own = (ok.form.nodes k n at).form in
-      let told : typed_node inputs infos f ≡ Ok (info_at infos k) = ap (typed_node inputs infos) (sym is) ∙ typed_whole k n at in
-      record {
-        args = subst (λ (x : Form). takes_args x ≡ true) is own.args;
-        ranges = subst (λ (x : Form). in_ranges x ≡ true) is own.ranges;
-        kept = ok.kept;
-        typed = sym (view_typed (stored_of (named_input inputs) f) f infos viewed ∙ ap (typed_as_view f) (arrays_told infos (args_of f) ∙ sources_in infos (args_of f))) ∙ told;
-      }
+  pub stood_layout : (k : ℕ) (f : Form) → Stands k f → (array_at grown.arrays (place_in grown k)).layout ≡ made_layout (info_at infos k)
+  stood_layout k f s =
+      ap (λ a. (array_at grown.arrays a).layout) (own_place k f s)
+      ∙ last_layout grown.arrays (length s.before.arrays) s.make.ends.0 (info_at infos k) (subst (HaveLayouts grown.arrays (length s.before.arrays)) s.make.ends.1 (layouts k f s))
 
-  -- what is known of an input node is its layout
-  pub input_info : (k : ℕ) (n : Node) (name : List ℕ) → slice_get e.nodes k ≡ Some n → n.form ≡ Form.Input name → info_at infos k ≡ layout_info (layout_named inputs name)
-  input_info k n name at is =
-      let value : NodeInfo → Result NodeInfo NodeFault = λ x. Ok x in
-      let t : value (unwrap_or (named_input inputs name) no_info) ≡ value (info_at infos k) = ap (typed_node inputs infos) (sym is) ∙ typed_whole k n at in
-      let same : unwrap_or (named_input inputs name) no_info ≡ info_at infos k = cc t in
-      sym same ∙ named_layout inputs name
+  stood_known : (k : ℕ) (f : Form) → Stands k f → HasInfo grown.arrays (place_in grown k) (info_at infos k)
+  stood_known k f s =
+      subst (λ (a : ℕ). HasInfo grown.arrays a (info_at infos k)) (sym (own_place k f s))
+      (last_known grown.arrays (length s.before.arrays) s.make.ends.0 (info_at infos k) (subst (HaveInfos grown.arrays (length s.before.arrays)) s.make.ends.1 (stood_infos k f s)))
 
-  -- the array of a live node has the node's type and grid
-  pub record IsPlaced (k : ℕ) : Type 0 where
-    pub within : place_in grown k < length grown.arrays
-    pub grid : grid_at grown.arrays (place_in grown k) ≡ result_grid (info_at infos k)
-    pub dtype : type_at grown.arrays (place_in grown k) ≡ (info_at infos k).dtype
-
-  pub stood_placed : (k j : ℕ) (f : Form) → Stands k f j → IsPlaced k
-  stood_placed k j f s =
-      let array = ap (array_at grown.arrays) s.place ∙ s.array in
-      record {
-        within = subst (λ (a : ℕ). a < length grown.arrays) (sym s.place) s.within_arrays;
-        grid = ap (λ (a : ArrayInfo). a.layout.grid) array;
-        dtype = ap (λ (a : ArrayInfo). a.layout.dtype) array;
-      }
-
-  input_placed : (k : ℕ) (n : Node) (name : List ℕ) → slice_get e.nodes k ≡ Some n → n.form ≡ Form.Input name → is_live e k ≡ true → IsPlaced k
-  input_placed k n name at is live =
-      let f = standing.from_input e infos inputs options.reserved ok.form are_built k n name at is live in
-      let c = (standing.known e infos inputs options.reserved ok.form are_built).counted in
+  input_known : (k : ℕ) (n : Node) (name : List ℕ) → slice_get e.nodes k ≡ Some n → n.form ≡ Form.Input name → is_live e k ≡ true → HasInfo grown.arrays (place_in grown k) (info_at infos k)
+  input_known k n name at is live =
+      let f = standing.from_input e infos inputs options ok.form (all_steps e infos inputs options ok laws) k n name at is live in
+      let c = (standing.known e infos inputs options ok.form (all_steps e infos inputs options ok laws)).growing.inputs in
       let below = f.0 in
-      let known = sym (input_info k n name at is) in
+      let known = sym (typed.input_info e infos inputs options ok k n name at is) in
       record {
         within = omega (arith, c, below);
-        grid = ap (λ (a : ArrayInfo). a.layout.grid) f.1 ∙ ap result_grid known;
+        grid = ap (λ (a : ArrayInfo). a.layout.grid) f.1 ∙ ap grid_of known;
         dtype = ap (λ (a : ArrayInfo). a.layout.dtype) f.1 ∙ ap (λ (i : NodeInfo). i.dtype) known;
       }
 
-  form_placed : (k : ℕ) (n : Node) (f : Form) → slice_get e.nodes k ≡ Some n → n.form ≡ f → is_live e k ≡ true → is_built infos e.out k f ≡ true → IsPlaced k
-  form_placed k n f at is live built =
-      elim (built_kind infos e.out k f built) [
-        | inl input ↦ input_placed k n input.0 at (is ∙ input.1) live
-        | inr made ↦ let s = standing.from_node e infos inputs options.reserved ok.form are_built k n f at is made live in stood_placed k s.0 f s.1
+  -- where a live node that isn't an input stands
+  pub node_stands : (k : ℕ) (n : Node) (f : Form) → slice_get e.nodes k ≡ Some n → n.form ≡ f → is_input f ≡ false → is_live e k ≡ true → Stands k f
+  node_stands k n f at is other live = standing.from_node e infos inputs options ok.form (all_steps e infos inputs options ok laws) k n f at is other live
+
+  -- the array of a live node has the node's type and grid
+  pub live_known : (k : ℕ) (n : Node) → slice_get e.nodes k ≡ Some n → is_live e k ≡ true → HasInfo grown.arrays (place_in grown k) (info_at infos k)
+  live_known k n at live =
+      elim (input_kind n.form) [
+        | inl input ↦ input_known k n input.0 at input.1 live
+        | inr other ↦ stood_known k n.form (node_stands k n n.form at refl other live)
       ]
 
-  pub live_placed : (k : ℕ) (n : Node) → slice_get e.nodes k ≡ Some n → is_live e k ≡ true → IsPlaced k
-  live_placed k n at live = form_placed k n n.form at refl live (are_built k n at live)
+  -- ---- arguments
+
+  pub arguments : IsClosed e (is_live e) → (k : ℕ) (f : Form) → Stands k f → Each (IsEarlierNode e k) (args_of f)
+  arguments closed k f s = live_arguments e ok.form closed k s.node f s.at s.is s.live
+
+  pub arguments_known : IsClosed e (is_live e) → (k : ℕ) (f : Form) → Stands k f → Each (λ n. HasInfo grown.arrays (place_in grown n) (info_at infos n)) (args_of f)
+  arguments_known closed k f s =
+      each_so (IsEarlierNode e k) (λ n. HasInfo grown.arrays (place_in grown n) (info_at infos n)) (λ n a. live_known n a.node a.at a.live) (args_of f) (arguments closed k f s)

@@ -1,11 +1,10 @@
 -- The plan of an expression is sound.
-use Rattle.std.proofs.Common.{◌≡◌, ◌≢◌, ℕ, zero, suc, ◌<◌, ◌≤◌, ◌+◌, ◌^◌, ◌==◌, pos, Bool, true, false, List, [], ◌∷◌, All, Contains, Some, None, length, sum_by, get_or, refl, ap, sym, ◌∙◌, subst, inl, inr, ◌⊎◌, codes, arith, if◌then◌else◌}
+use Rattle.std.proofs.Common.{◌≡◌, ◌≢◌, ℕ, zero, suc, ◌<◌, ◌≤◌, ◌+◌, ◌-◌, ◌*◌, ◌==◌, ◌&&◌, pos, true, List, [], ◌∷◌, All, Contains, Some, None, length, get_or, refl, ap, sym, ◌∙◌, subst, inl, inr, ◌⊎◌, arith}
 use Rattle.std.specs.Prelude.{bytes_eq}
-use Rattle.std.proofs.lemmas.Bool.{cases_Bool, eqb-true}
+use Rattle.std.proofs.lemmas.Bool.{cases_Bool, eqb-true, and_parts}
 use Rattle.std.proofs.lemmas.Int.{ints}
 use Rattle.std.proofs.lemmas.List.Elements.{All-head, All-tail}
-use Rattle.std.proofs.Math.Nat.{le-mul_of_pos_right}
-use Rattle.cu_num.specs.Dtype.{InRange, size_of}
+use Rattle.cu_num.specs.Dtype.{InRange}
 use Rattle.cu_num.specs.declared.layout.Encoding.TheVariants.{Plain}
 use Rattle.cu_num.specs.declared.layout.Sep.TheVariants.{Slash}
 use Rattle.cu_num.specs.declared.types.Dtype.{Dtype}
@@ -14,47 +13,42 @@ use Rattle.cu_name.specs.Keys.{made_prefix_of}
 use Rattle.cu_name.proofs.Prefixes.{length-made_prefix_of}
 use Rattle.cu_shape.specs.Index.{product}
 use Rattle.cu_grid.specs.Grid.{RegularGrid, IsGrid}
-use Rattle.cu_shape.specs.Counts.{counts_of}
-use Rattle.cu_shape.proofs.Products.{product_within}
 use Rattle.cu_op.specs.Arrays.{array_at, maker_at, grid_counts, chunk_count}
-use Rattle.cu_op.specs.Cells.{tasks_of}
 use Rattle.cu_op.specs.Layout.{IsArray, IsLayout}
 use Rattle.cu_op.specs.Names.{HasOwnNames}
 use Rattle.cu_op.specs.Operation.{writes_of}
-use Rattle.cu_op.specs.PlanView.{operation_at, no_operation}
-use Rattle.cu_op.specs.Sound.{Sound, made_chunks}
+use Rattle.cu_op.specs.PlanView.{operation_at}
+use Rattle.cu_op.specs.Sound.{Sound}
 use Rattle.cu_op.specs.declared.layout.ArrayInfo.{ArrayInfo}
+use Rattle.cu_op.specs.declared.layout.Layout.{Layout}
 use Rattle.cu_op.specs.declared.operation.Planned.{Planned}
 use Rattle.cu_op.proofs.KeyTexts.{keys_differ}
 use Rattle.cu_form.specs.Expression.{Expression}
-use Rattle.cu_form.specs.Form.{args_of}
-use Rattle.cu_form.specs.declared.expr.Node.{Node}
-use Rattle.cu_form.specs.declared.form.Form.{Form}
-use Rattle.cu_node.specs.Info.{IsInfo, info_at}
+use Rattle.cu_node.specs.Info.{info_at}
 use Rattle.cu_node.specs.declared.info.NodeInfo.{NodeInfo}
-use Rattle.cu_expr.specs.Kernel.{result_grid}
 use Rattle.cu_expr.specs.declared.inputs.InputInfo.{InputInfo}
-use Rattle.cu_expr.proofs.ToldArguments.{info_kept}
 use Rattle.cu_need.specs.Counts.{plan_counts}
 use Rattle.cu_need.specs.Live.{is_live, IsClosed}
+use Rattle.cu_lower_reduce.specs.Steps.{made_infos, grid_of}
 use Rattle.cu_lower.specs.Inputs.{input_array, input_names, layout_named}
-use Rattle.cu_lower.specs.Plan.{first_grown, place_in, as_plan}
-use Rattle.cu_lower.specs.Parts.{Grown, array_places}
+use Rattle.cu_lower.specs.Plan.{place_in, as_plan}
+use Rattle.cu_lower.specs.Parts.{Grown, made_layout}
 use Rattle.cu_lower.specs.Premises.{IsLowerable}
 use Rattle.cu_lower.specs.declared.options.Options.{Options}
-use Rattle.cu_lower.proofs.Counted.{node_chunks, tasks_grown, cells_grown, no_cells, same_sums, kept_limits}
-use Rattle.cu_lower.proofs.Fitting as fitting
+use Rattle.cu_lower.proofs.Counted.{kept_limits}
+use Rattle.cu_lower.proofs.Counted as counted
+use Rattle.cu_lower.proofs.Grids.{info_grid, info_chunks}
+use Rattle.cu_lower.proofs.Growing.{HasGrid, step_long}
+use Rattle.cu_lower.proofs.NoNode.{no_node}
 use Rattle.cu_lower.proofs.Names.{IsUsed, input_used, inputs_few, used_is_name, array_name, prefix_told, prefix_other}
-use Rattle.cu_lower.proofs.FormKinds.{op_writes, op_tasks}
+use Rattle.cu_lower.proofs.NodeSteps.{all_steps}
 use Rattle.cu_lower.proofs.Operations as operations
-use Rattle.cu_lower.proofs.Operations.{HavePulls}
 use Rattle.cu_lower.proofs.Placed as placed
 use Rattle.cu_lower.proofs.Standing as standing
+use Rattle.cu_lower.proofs.StepLaws.{HaveLaws}
+use Rattle.cu_lower.proofs.Stepped.{step_operation, step_within, in_range}
+use Rattle.cu_lower.proofs.Typed as typed
 use Rattle.std.proofs.lemmas.Option.{slice_get-get_or}
-
--- a node that means nothing
-abbrev pub no_node : Node
-no_node = record { name = codes ""; form = Form.Input (codes "") }
 
 -- ---- single arrays
 
@@ -69,34 +63,6 @@ zero_fits types.Uint16 = (omega (arith, ints), omega (arith, ints))
 zero_fits types.Uint32 = (omega (arith, ints), omega (arith, ints))
 zero_fits types.Uint64 = (omega (arith, ints), omega (arith, ints))
 
-size_positive : (t : Dtype) → 0 < size_of t
-size_positive types.Bool = omega arith
-size_positive types.Int8 = omega arith
-size_positive types.Int16 = omega arith
-size_positive types.Int32 = omega arith
-size_positive types.Int64 = omega arith
-size_positive types.Uint8 = omega arith
-size_positive types.Uint16 = omega arith
-size_positive types.Uint32 = omega arith
-size_positive types.Uint64 = omega arith
-
--- what a node's array keeps is a grid
-info_grid : (i : NodeInfo) → IsInfo i → IsGrid (result_grid i)
-info_grid i ok =
-    let w = le-mul_of_pos_right (product i.chunk) (size_positive i.dtype) in
-    let elements = ok.elements in
-    let bytes = ok.bytes in
-    record {
-      ranks = ok.ranks;
-      short = ok.short;
-      positive = ok.positive;
-      elements = omega (arith, elements);
-      chunk_elements = omega (arith, w, bytes);
-    }
-
-info_chunks : (i : NodeInfo) → IsInfo i → product (grid_counts (result_grid i)) ≤ 65536
-info_chunks i ok = let w = product_within (counts_of i.dims i.chunk) in let c = ok.chunks in omega (arith, w, c)
-
 fill_fits : (inputs : List InputInfo) (name : List ℕ) → All (λ i. IsLayout i.layout) inputs → IsLayout (layout_named inputs name)
 fill_fits [] name h = zero_fits types.Bool
 fill_fits (i ∷ is) name h =
@@ -105,60 +71,66 @@ fill_fits (i ∷ is) name h =
       | inr other ↦ rw other (fill_fits is name (All-tail (λ (x : InputInfo). IsLayout x.layout) i is h))
     ]
 
-made_prefix_short : (name : List ℕ) (is_out : Bool) (j : ℕ) → length name ≤ 32 → j < 100000 → length (if is_out then name else made_prefix_of name j) ≤ 45
-made_prefix_short name true j short few = omega arith
-made_prefix_short name false j short few = length-made_prefix_of name j short few
+-- an array of a made layout whose prefix is short
+made_fits : (a : ArrayInfo) (i : NodeInfo) → a.layout ≡ made_layout i → HasGrid i → length a.prefix ≤ 45 → IsArray a
+made_fits a i layout kept short = record {
+  short = short;
+  grid = subst IsGrid (sym (ap (λ (l : Layout). l.grid) layout)) kept;
+  fill = subst (λ (l : Layout). InRange l.dtype l.fill) (sym layout) (zero_fits i.dtype);
+}
 
-module _ (e : Expression) (infos : List NodeInfo) (inputs : List InputInfo) (options : Options) (ok : IsLowerable e infos inputs options) (closed : IsClosed e (is_live e)) where
+module _ (e : Expression) (infos : List NodeInfo) (inputs : List InputInfo) (options : Options) (ok : IsLowerable e infos inputs options) (laws : HaveLaws) (closed : IsClosed e (is_live e)) where
   abbrev grown : Grown
-  grown = placed.grown e infos inputs options ok
+  grown = placed.grown e infos inputs options ok laws
 
   abbrev given : ℕ
   given = length (input_names e)
 
-  abbrev Stood : ℕ → Type 0
-  Stood j = standing.Stood e infos inputs options.reserved ok.form (placed.are_built e infos inputs options ok) j
+  abbrev pub StoodArray : ℕ → Type 0
+  StoodArray a = operations.Stood e infos inputs options ok laws closed (standing.arrays_of e infos inputs options ok.form (all_steps e infos inputs options ok laws)) a
 
-  pub stood : (j : ℕ) → j < length grown.ops → Stood j
-  stood = standing.from_operation e infos inputs options.reserved ok.form (placed.are_built e infos inputs options ok)
+  pub by_array : (a : ℕ) → a < length grown.arrays → (a < given) ⊎ StoodArray a
+  by_array = standing.by_array e infos inputs options ok.form (all_steps e infos inputs options ok laws)
 
-  pub by_array : (a : ℕ) → a < length grown.arrays → (a < given) ⊎ ((j : ℕ) × (a ≡ given + j) × (j < length grown.ops))
-  by_array = standing.by_array e infos inputs options.reserved ok.form (placed.are_built e infos inputs options ok)
-
-  pub input_at : (a : ℕ) → a < given → array_at grown.arrays a ≡ input_array inputs (get_or (input_names e) a [])
-  input_at = standing.input_at e infos inputs options.reserved ok.form (placed.are_built e infos inputs options ok)
-
-  pub made_maker : (j : ℕ) (s : Stood j) → maker_at grown.arrays (given + j) ≡ Some j
-  made_maker j s = fitting.made_maker e infos inputs options ok closed s.k j s.operator s.stands
-
-  -- ---- how many
-
-  pub ops_few : length grown.ops ≤ 256
-  ops_few =
-      let known = standing.known e infos inputs options.reserved ok.form (placed.are_built e infos inputs options ok) in
-      let all = standing.all_placed e infos inputs options.reserved ok.form (placed.are_built e infos inputs options ok) in
-      let few = known.few in
-      let nodes = ok.form.few in
-      omega (arith, all, few, nodes)
-
-  counted : length grown.arrays ≡ given + length grown.ops
-  counted = (standing.known e infos inputs options.reserved ok.form (placed.are_built e infos inputs options ok)).counted
+  -- ---- counts of arrays and operations
 
   pub given_few : given ≤ 256
-  given_few = let a = inputs_few e in let nodes = ok.form.few in omega (arith, a, nodes)
+  given_few = let a = inputs_few e in let b = ok.form.few in omega (arith, a, b)
 
-  -- ---- arrays
+  pub ops_few : length grown.ops ≤ 8192
+  ops_few =
+      let k = standing.known e infos inputs options ok.form (all_steps e infos inputs options ok laws) in
+      let few = k.few in
+      let all = standing.all_placed e infos inputs options ok.form (all_steps e infos inputs options ok laws) in
+      let nodes = ok.form.few in
+      omega (arith, few, all, nodes)
+
+  pub arrays_few : length grown.arrays ≤ 256 + 2 * 8192
+  arrays_few =
+      let k = (standing.known e infos inputs options ok.form (all_steps e infos inputs options ok laws)).growing.few in
+      let ops = ops_few in
+      let inputs_few = given_few in
+      omega (arith, k, ops, inputs_few)
+
+  -- ---- an input
 
   pub used : (a : ℕ) → a < given → IsUsed e (get_or (input_names e) a [])
   used a below = input_used e a [] below
+
+  pub input_at : (a : ℕ) → a < given → array_at grown.arrays a ≡ input_array inputs (get_or (input_names e) a [])
+  input_at = standing.input_at e infos inputs options ok.form (all_steps e infos inputs options ok laws)
+
+  -- no operation makes it
+  pub input_maker : (a : ℕ) → a < given → maker_at grown.arrays a ≡ None
+  input_maker a below = ap (λ (x : ArrayInfo). x.maker) (input_at a below)
 
   input_ok : (a : ℕ) → a < given → IsArray (array_at grown.arrays a) × (chunk_count (array_at grown.arrays a) ≤ 65536)
   input_ok a below =
       let name = get_or (input_names e) a [] in
       let (k, u) = used a below in
-      let known = placed.input_info e infos inputs options ok k u.node name u.at u.form in
-      let info = info_kept infos k ok.kept in
-      let grid : result_grid (info_at infos k) ≡ (layout_named inputs name).grid = ap result_grid known in
+      let known = typed.input_info e infos inputs options ok k u.node name u.at u.form in
+      let info = typed.known_kept e infos inputs options ok k in
+      let grid : grid_of (info_at infos k) ≡ (layout_named inputs name).grid = ap grid_of known in
       let short = (array_name name (used_is_name e name ok.form (k, u))).short in
       let fine : IsArray (input_array inputs name) = record {
         short = omega (arith, short);
@@ -169,22 +141,65 @@ module _ (e : Expression) (infos : List NodeInfo) (inputs : List InputInfo) (opt
         subst (λ (x : ArrayInfo). chunk_count x ≤ 65536) (sym (input_at a below)) (subst (λ (g : RegularGrid). product (grid_counts g) ≤ 65536) grid (info_chunks (info_at infos k) info)),
       )
 
-  made_ok : (j : ℕ) → j < length grown.ops → IsArray (array_at grown.arrays (given + j))
-  made_ok j below =
-      let s = stood j below in
-      let few = ops_few in
-      subst IsArray (sym s.stands.array) (record {
-        short = made_prefix_short e.store_as (s.k == e.out) j (array_name e.store_as ok.form.store_as).short (omega (arith, below, few));
-        grid = info_grid (info_at infos s.k) (info_kept infos s.k ok.kept);
-        fill = zero_fits (info_at infos s.k).dtype;
-      })
+  -- ---- an array that an operation makes
+
+  pub record IsMadeArray (a : ℕ) : Type 0 where
+    pub past : given ≤ a
+    pub info : NodeInfo
+    pub kept : HasGrid info
+    pub layout : (array_at grown.arrays a).layout ≡ made_layout info
+    pub maker : ℕ
+    pub made : maker_at grown.arrays a ≡ Some maker
+    pub named : ((a ≡ place_in grown e.out) × ((array_at grown.arrays a).prefix ≡ e.store_as)) ⊎ ((array_at grown.arrays a).prefix ≡ made_prefix_of e.store_as (a - given))
+
+  pub made_array : (a : ℕ) → StoodArray a → IsMadeArray a
+  made_array a w =
+      let long = step_long e w.step.last w.step.before w.step.step in
+      let low = w.step.least in
+      let high = w.step.below in
+      let first = w.step.growing.inputs in
+      let pair = operations.step_made e infos inputs options ok laws closed (standing.arrays_of e infos inputs options ok.form (all_steps e infos inputs options ok laws)) a w a low (omega (arith, long, high)) in
+      record {
+        past = omega (arith, low, first);
+        info = pair.info;
+        kept = pair.kept (w.step.grids w.node.make.grids);
+        layout = pair.layout;
+        maker = length w.step.before.ops;
+        made = pair.made;
+        named = elim pair.named [
+          | inl own ↦ inl (own_place a w own.0 own.1, own.2)
+          | inr number ↦ inr (number ∙ ap (made_prefix_of e.store_as) (let z : length w.step.before.arrays - given + (a - length w.step.before.arrays) ≡ a - given = omega (arith, low, first) in z))
+        ];
+      }
+    where
+      own_place : (a : ℕ) (w : StoodArray a) → (w.step.last && (length w.step.before.places == e.out)) ≡ true → suc (a - length w.step.before.arrays) ≡ length (made_infos w.step.step) → a ≡ place_in grown e.out
+      own_place a w stored last =
+          let both = and_parts w.step.last (length w.step.before.places == e.out) stored in
+          let out = eqb-true (length w.step.before.places) e.out both.1 in
+          let number = operations.step_number e infos inputs options ok laws closed (standing.arrays_of e infos inputs options ok.form (all_steps e infos inputs options ok laws)) a w in
+          let k : w.k ≡ e.out = sym number ∙ out in
+          let long = step_long e w.step.last w.step.before w.step.step in
+          let low = w.step.least in
+          let ends = ap (λ (g : Grown). length g.arrays) (w.step.ends both.0) in
+          let place = w.node.place in
+          let here : a ≡ place_in grown w.k = omega (arith, long, low, ends, place, last) in
+          here ∙ ap (place_in grown) k
+
+  made_short : (a : ℕ) → a < length grown.arrays → IsMadeArray a → length (array_at grown.arrays a).prefix ≤ 45
+  made_short a below m =
+      let few = arrays_few in
+      let name = (array_name e.store_as ok.form.store_as).short in
+      elim m.named [
+        | inl own ↦ let l = ap length own.1 in omega (arith, l, name)
+        | inr number ↦ let l = ap length number in let most = length-made_prefix_of e.store_as (a - given) name (omega (arith, below, few)) in omega (arith, l, most)
+      ]
 
   pub arrays_ok : All IsArray grown.arrays
   arrays_ok a d below =
       subst IsArray (get_or_same grown.arrays a d below)
       (elim (by_array a below) [
         | inl l ↦ (input_ok a l).0
-        | inr o ↦ subst (λ (b : ℕ). IsArray (array_at grown.arrays b)) (sym o.1) (made_ok o.0 o.2)
+        | inr w ↦ let m = made_array a w in made_fits (array_at grown.arrays a) m.info m.layout m.kept (made_short a below m)
       ])
     where
       get_or_same : (xs : List ArrayInfo) (k : ℕ) (d : ArrayInfo) → k < length xs → array_at xs k ≡ get_or xs k d
@@ -192,131 +207,93 @@ module _ (e : Expression) (infos : List NodeInfo) (inputs : List InputInfo) (opt
       get_or_same (x ∷ xs) zero d h = refl
       get_or_same (x ∷ xs) (suc k) d h = get_or_same xs k d (omega arith)
 
-  -- no operation makes an input
-  pub input_maker : (a : ℕ) → a < given → maker_at grown.arrays a ≡ None
-  input_maker a below = ap (λ (x : ArrayInfo). x.maker) (input_at a below)
+  -- an array with a maker is made
+  pub with_maker : (a : ℕ) → a < length grown.arrays → maker_at grown.arrays a ≢ None → IsMadeArray a
+  with_maker a below made =
+      elim (by_array a below) [
+        | inl l ↦ absurd (made (input_maker a l))
+        | inr w ↦ made_array a w
+      ]
+
+  -- one without is an input's
+  pub without_maker : (a : ℕ) → a < length grown.arrays → maker_at grown.arrays a ≡ None → a < given
+  without_maker a below none =
+      elim (by_array a below) [
+        | inl l ↦ l
+        | inr w ↦ let m = made_array a w in let no : None ≡ Some m.maker = sym none ∙ m.made in cc
+      ]
 
   -- ---- keys
 
-  abbrev prefix_at : ℕ → List ℕ
-  prefix_at j = (array_at grown.arrays (given + j)).prefix
+  pub encoding_at : (a : ℕ) → IsMadeArray a → (array_at grown.arrays a).layout.encoding ≡ Plain Slash
+  encoding_at a m = ap (λ (l : Layout). l.encoding) m.layout
 
-  prefix_is : (j : ℕ) (s : Stood j) → prefix_at j ≡ (if s.k == e.out then e.store_as else made_prefix_of e.store_as j)
-  prefix_is j s = ap (λ (a : ArrayInfo). a.prefix) s.stands.array
-
-  pub prefix_out : (j : ℕ) (s : Stood j) → (s.k == e.out) ≡ true → prefix_at j ≡ e.store_as
-  prefix_out j s is = prefix_is j s ∙ ap (λ (b : Bool). if b then e.store_as else made_prefix_of e.store_as j) is
-
-  pub prefix_number : (j : ℕ) (s : Stood j) → (s.k == e.out) ≡ false → prefix_at j ≡ made_prefix_of e.store_as j
-  prefix_number j s is = prefix_is j s ∙ ap (λ (b : Bool). if b then e.store_as else made_prefix_of e.store_as j) is
-
-  -- the operations of one node are one
-  one_operation : (i j : ℕ) (s : Stood i) (t : Stood j) → s.k ≡ t.k → i ≡ j
-  one_operation i j s t same =
-      let p = s.stands.place in
-      let q = t.stands.place in
-      let both : place_in grown s.k ≡ place_in grown t.k = ap (place_in grown) same in
-      omega (arith, p, q, both)
-
-  one_prefix : (i j : ℕ) (s : Stood i) (t : Stood j) → i < 2 ^ 64 → j < 2 ^ 64 → prefix_at i ≡ prefix_at j → i ≡ j
-  one_prefix i j s t si sj same =
-      elim (cases_Bool (s.k == e.out)) [
-        | inl a ↦ elim (cases_Bool (t.k == e.out)) [
-          | inl b ↦ one_operation i j s t (eqb-true s.k e.out a ∙ sym (eqb-true t.k e.out b))
-          | inr b ↦ absurd (prefix_other e.store_as j (sym (prefix_out i s a) ∙ same ∙ prefix_number j t b))
+  one_prefix : (a b : ℕ) → a < length grown.arrays → b < length grown.arrays → IsMadeArray a → IsMadeArray b → (array_at grown.arrays a).prefix ≡ (array_at grown.arrays b).prefix → a ≡ b
+  one_prefix a b la lb m n same =
+      let few = arrays_few in
+      elim m.named [
+        | inl p ↦ elim n.named [
+          | inl q ↦ p.0 ∙ sym q.0
+          | inr q ↦ absurd (prefix_other e.store_as (b - given) (sym p.1 ∙ same ∙ q))
         ]
-        | inr a ↦ elim (cases_Bool (t.k == e.out)) [
-          | inl b ↦ absurd (prefix_other e.store_as i (sym (prefix_out j t b) ∙ sym same ∙ prefix_number i s a))
-          | inr b ↦ prefix_told e.store_as i j si sj (sym (prefix_number i s a) ∙ same ∙ prefix_number j t b)
+        | inr p ↦ elim n.named [
+          | inl q ↦ absurd (prefix_other e.store_as (a - given) (sym q.1 ∙ sym same ∙ p))
+          | inr q ↦
+              let told = prefix_told e.store_as (a - given) (b - given) (omega (arith, la, few)) (omega (arith, lb, few)) (sym p ∙ same ∙ q) in
+              let pa = m.past in
+              let pb = n.past in
+              omega (arith, told, pa, pb)
         ]
-      ]
-
-  pub encoding_at : (j : ℕ) → j < length grown.ops → (array_at grown.arrays (given + j)).layout.encoding ≡ Plain Slash
-  encoding_at j below = ap (λ (a : ArrayInfo). a.layout.encoding) (stood j below).stands.array
-
-  pub made_number : (a : ℕ) → a < length grown.arrays → maker_at grown.arrays a ≢ None → (j : ℕ) × (a ≡ given + j) × (j < length grown.ops)
-  made_number a below made =
-      elim (by_array a below) [
-        | inl l ↦ absurd (made (input_maker a l))
-        | inr o ↦ o
       ]
 
   own_names : HasOwnNames grown.arrays
   own_names = record {
-    encodings = λ a below made. let o = made_number a below made in subst (λ (b : ℕ). (array_at grown.arrays b).layout.encoding ≡ Plain Slash) (sym o.1) (encoding_at o.0 o.2);
-    prefixes = λ a b la lb ma mb same.
-        let o = made_number a la ma in
-        let p = made_number b lb mb in
-        let few = ops_few in
-        let lo = o.2 in
-        let lp = p.2 in
-        let equal : prefix_at o.0 ≡ prefix_at p.0 = ap (λ x. (array_at grown.arrays x).prefix) (sym o.1) ∙ same ∙ ap (λ x. (array_at grown.arrays x).prefix) p.1 in
-        o.1 ∙ ap (λ j. given + j) (one_prefix o.0 p.0 (stood o.0 o.2) (stood p.0 p.2) (omega (arith, lo, few)) (omega (arith, lp, few)) equal) ∙ sym p.1;
+    encodings = λ a below made. encoding_at a (with_maker a below made);
+    prefixes = λ a b la lb ma mb same. one_prefix a b la lb (with_maker a la ma) (with_maker b lb mb) same;
   }
 
-  -- ---- counts
-
-  tasks_at : (j : ℕ) → j < length grown.ops → tasks_of grown.arrays (operation_at grown.ops j).op ≡ node_chunks infos (operation_at grown.ops j)
-  tasks_at j below =
-      let s = stood j below in
-      ap (λ (o : Planned). tasks_of grown.arrays o.op) s.stands.operation
-      ∙ op_tasks grown.arrays infos s.operator (array_places grown.places (args_of s.operator)) (given + j)
-      ∙ ap chunk_count s.stands.array
-      ∙ ap (node_chunks infos) (sym s.stands.operation)
-
-  pub tasks_all : sum_by (λ (o : Planned). tasks_of grown.arrays o.op) grown.ops ≡ (plan_counts e infos).tasks
-  tasks_all =
-      let a = same_sums (λ (o : Planned). tasks_of grown.arrays o.op) (node_chunks infos) no_operation grown.ops tasks_at in
-      let b = tasks_grown e infos options.reserved (first_grown e inputs) e.nodes 0 refl in
-      omega (arith, a, b)
-
-  pub cells_all : sum_by made_chunks grown.arrays ≡ (plan_counts e infos).cells
-  cells_all =
-      let b = cells_grown e infos options.reserved (first_grown e inputs) e.nodes 0 refl in
-      let z = no_cells inputs (input_names e) in
-      omega (arith, b, z)
-
   -- ---- the whole
+
+  maker_of : (a : ℕ) (w : StoodArray a) → maker_at grown.arrays a ≡ Some (length w.step.before.ops)
+  maker_of a w =
+      let long = step_long e w.step.last w.step.before w.step.step in
+      let high = w.step.below in
+      (operations.step_made e infos inputs options ok laws closed (standing.arrays_of e infos inputs options ok.form (all_steps e infos inputs options ok laws)) a w a w.step.least (omega (arith, long, high))).made
 
   makers : (a k : ℕ) → a < length grown.arrays → maker_at grown.arrays a ≡ Some k → (k < length grown.ops) × Contains (writes_of (operation_at grown.ops k).op) a
   makers a k below made =
       elim (by_array a below) [
         | inl l ↦ let none = input_maker a l in let no : None ≡ Some k = sym none ∙ made in cc
-        | inr o ↦
-            let s = stood o.0 o.2 in
-            let own : Some o.0 ≡ Some k = sym (made_maker o.0 s) ∙ ap (maker_at grown.arrays) (sym o.1) ∙ made in
-            let same : o.0 ≡ k = cc own in
-            let writes : writes_of (operation_at grown.ops o.0).op ≡ (given + o.0) ∷ [] = ap (λ (x : Planned). writes_of x.op) s.stands.operation ∙ op_writes infos s.operator (array_places grown.places (args_of s.operator)) (given + o.0) in
+        | inr w ↦
+            let own : Some (length w.step.before.ops) ≡ Some k = sym (maker_of a w) ∙ made in
+            let same : length w.step.before.ops ≡ k = cc own in
+            let fit = operations.step_fits e infos inputs options ok laws closed (standing.arrays_of e infos inputs options ok.form (all_steps e infos inputs options ok laws)) a w in
+            let long = step_long e w.step.last w.step.before w.step.step in
+            let high = w.step.below in
+            let among : Contains (writes_of w.step.step.op) a = subst (λ (ws : List ℕ). Contains ws a) (sym fit.writes) (in_range (length w.step.before.arrays) (length (made_infos w.step.step)) a w.step.least (omega (arith, long, high))) in
+            let is = ap (λ (o : Planned). o.op) (step_operation e w.step.last w.step.before grown w.step.step w.step.front) in
             subst (λ (j : ℕ). (j < length grown.ops) × Contains (writes_of (operation_at grown.ops j).op) a) same
-            (o.2, subst (λ (ws : List ℕ). Contains ws a) (sym writes) (0, omega arith, sym o.1))
+            (step_within e w.step.last w.step.before grown w.step.step w.step.front, subst (λ o. Contains (writes_of o) a) (sym is) among)
       ]
-
-  out_live : is_live e e.out ≡ true
-  out_live = closed.stored
 
   pub out_within : place_in grown e.out < length grown.arrays
   out_within =
-      let within = ok.form.out in
       let n = get_or e.nodes e.out no_node in
-      (placed.live_placed e infos inputs options ok e.out n (slice_get-get_or e.nodes e.out no_node within) out_live).within
+      (placed.live_known e infos inputs options ok laws e.out n (slice_get-get_or e.nodes e.out no_node ok.form.out) closed.stored).within
 
-  pub sound : HavePulls → Sound (as_plan e options grown)
-  sound pulls =
-      let n = counted in
-      let few = ops_few in
-      let inputs_few = given_few in
+  pub sound : Sound (as_plan e options grown)
+  sound =
+      let ops = ops_few in
+      let arrays = arrays_few in
       record {
-        operations = λ k below. let s = stood k below in operations.operation_fits e infos inputs options ok closed pulls s.k k s.operator s.stands;
+        operations = operations.operation_fits e infos inputs options ok laws closed;
         makers = makers;
         arrays = arrays_ok;
         keys = keys_differ grown.arrays arrays_ok own_names;
         out = out_within;
-        array_count = omega (arith, n, few, inputs_few);
-        operation_count = omega (arith, few);
-        input_chunks = λ a below none. elim (by_array a below) [
-          | inl l ↦ (input_ok a l).1
-          | inr o ↦ let some = ap (maker_at grown.arrays) o.1 ∙ made_maker o.0 (stood o.0 o.2) in let no : None ≡ Some o.0 = sym none ∙ some in cc
-        ];
-        tasks = (let a = tasks_all in let c = (kept_limits (plan_counts e infos) ok.counts).0 in omega (arith, a, c));
-        cells = (let a = cells_all in let c = (kept_limits (plan_counts e infos) ok.counts).1 in omega (arith, a, c));
+        array_count = omega (arith, arrays);
+        operation_count = omega (arith, ops);
+        input_chunks = λ a below none. (input_ok a (without_maker a below none)).1;
+        tasks = (let a = counted.tasks_all e infos inputs options ok laws closed in let c = (kept_limits (plan_counts e infos options.split_every) ok.counts).0 in omega (arith, a, c));
+        cells = (let a = counted.cells_all e infos inputs options ok laws closed in let c = (kept_limits (plan_counts e infos options.split_every) ok.counts).1 in omega (arith, a, c));
       }

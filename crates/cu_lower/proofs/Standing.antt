@@ -1,12 +1,12 @@
--- Where the parts of the live nodes stand in the plan of an expression.
-use Rattle.std.proofs.Common.{◌≡◌, ℕ, ◌<◌, ◌≤◌, ◌+◌, ◌-◌, true, List, [], ◌∷◌, ◌++◌, Some, length, get_or, slice_index, refl, ap, sym, ◌∙◌, subst, inl, inr, ◌⊎◌, arith}
+-- Where the steps of the live nodes stand in the plan of an expression.
+use Rattle.std.proofs.Common.{◌≡◌, ℕ, ◌<◌, ◌≤◌, ◌+◌, ◌-◌, ◌^◌, true, false, List, [], ◌∷◌, ◌++◌, Option, Some, length, get_or, slice_index, refl, ap, sym, ◌∙◌, subst, inl, inr, ◌⊎◌, arith}
 use Rattle.std.specs.Prelude.{slice_get, nat_lt}
 use Rattle.std.specs.List.{list_all}
 use Rattle.std.proofs.lemmas.Bool.{cases_Bool, cases_lt, and_parts, ltb-true}
 use Rattle.std.proofs.lemmas.List.{length-append, length-map, get_or_append_left, get_or_at, get_or-map}
 use Rattle.cu_op.specs.Arrays.{array_at, no_array}
-use Rattle.cu_op.specs.PlanView.{operation_at, no_operation}
-use Rattle.cu_op.specs.declared.operation.Planned.{Planned}
+use Rattle.cu_op.specs.Operation.{IsBefore}
+use Rattle.cu_op.specs.declared.layout.ArrayInfo.{ArrayInfo}
 use Rattle.cu_form.specs.Expression.{Expression, IsExpression}
 use Rattle.cu_form.specs.Form.{args_of, is_earlier}
 use Rattle.cu_form.specs.declared.args.Arg.{Arg}
@@ -16,77 +16,96 @@ use Rattle.cu_node.specs.Info.{info_at}
 use Rattle.cu_node.specs.declared.info.NodeInfo.{NodeInfo}
 use Rattle.cu_expr.specs.declared.inputs.InputInfo.{InputInfo}
 use Rattle.cu_need.specs.Live.{is_live}
-use Rattle.cu_need.specs.Need.{need_of}
+use Rattle.cu_lower_reduce.specs.declared.step.Step.{Step}
 use Rattle.cu_lower.specs.Inputs.{input_array, input_names, input_arrays, input_place}
 use Rattle.cu_lower.specs.Plan.{first_grown, lowered, place_in}
-use Rattle.cu_lower.specs.Parts.{Grown, IsGrown, Part, is_made, made_op, made_part, part_of, with_part, made_array, array_places}
+use Rattle.cu_lower.specs.declared.options.Options.{Options}
+use Rattle.cu_lower.specs.Parts.{Grown, IsGrown, HasSteps, Make, array_places, is_none, steps_of, with_step, with_steps, with_place, with_last, with_node}
 use Rattle.cu_lower.proofs.Growing as growing
-use Rattle.cu_lower.proofs.Growing.{Front}
+use Rattle.cu_lower.proofs.Growing.{Front, Located}
 use Rattle.cu_lower.proofs.InputNames.{input_placed}
-use Rattle.cu_lower.proofs.FormKinds.{part_made, part_other}
+use Rattle.cu_lower.proofs.FormKinds.{is_input, input_kind, node_made, steps_made}
 
 -- the element behind a front
-seam : {A : Type 0} (xs rest fs : List A) (y d : A) (k : ℕ) → fs ≡ (xs ++ y ∷ []) ++ rest → k ≡ length xs → get_or fs k d ≡ y
+pub seam : {A : Type 0} (xs rest fs : List A) (y d : A) (k : ℕ) → fs ≡ (xs ++ y ∷ []) ++ rest → k ≡ length xs → get_or fs k d ≡ y
 seam xs rest fs y d k e n =
     let l = length-append xs (y ∷ []) in
     ap (λ l. get_or l k d) e ∙ get_or_append_left (xs ++ y ∷ []) rest d k (omega (arith, l, n)) ∙ get_or_at xs y [] d k (sym n)
 
-within_front : {A : Type 0} (xs rest fs : List A) → fs ≡ xs ++ rest → length xs ≤ length fs
+pub within_front : {A : Type 0} (xs rest fs : List A) → fs ≡ xs ++ rest → length xs ≤ length fs
 within_front xs rest fs e = let l = ap length e ∙ length-append xs rest in omega (arith, l)
 
-module _ (e : Expression) (infos : List NodeInfo) (inputs : List InputInfo) (reserved : ℕ) (form : IsExpression e) (built : growing.AreBuilt e infos reserved) where
+-- the arrays of a front are those of the whole
+pub front_array : (g f : Grown) (a : ℕ) → Front g f → a < length g.arrays → array_at f.arrays a ≡ array_at g.arrays a
+front_array g f a front below = ap (λ l. get_or l a no_array) front.arrays.1 ∙ get_or_append_left g.arrays front.arrays.0 no_array a below
+
+front_steps : (e : Expression) (g f : Grown) (s : Step) (ss : List Step) → Front (with_steps e g (s ∷ ss)) f → Front (with_step e (is_none ss) g s) f
+front_steps e g f s ss front = growing.front_then (with_step e (is_none ss) g s) (with_steps e g (s ∷ ss)) f (growing.front_steps e (with_step e (is_none ss) g s) ss) front
+
+module _ (e : Expression) (infos : List NodeInfo) (inputs : List InputInfo) (options : Options) (form : IsExpression e) (steps : growing.AllHaveSteps e infos options) where
   -- how many arrays are inputs
   abbrev pub given : ℕ
   given = length (input_names e)
 
   abbrev pub whole : Grown
-  whole = lowered e infos inputs reserved
+  whole = lowered e infos inputs options
 
   -- ---- the front
 
-  pub at_first : IsGrown e (first_grown e inputs)
-  at_first = record {
-    counted = (let l : length (input_arrays e inputs) ≡ given = length-map (input_names e) (input_array inputs) in omega (arith, l));
-    few = omega arith;
-    placed = λ n below live. absurd (omega arith);
-  }
+  first_inputs : length (input_arrays e inputs) ≡ given
+  first_inputs = length-map (input_names e) (input_array inputs)
 
-  from_first : growing.AreFrom e infos reserved 0 e.nodes
+  pub at_first : IsGrown e (first_grown e inputs)
+  at_first =
+      let l = first_inputs in
+      record {
+        growing = record {
+          inputs = omega (arith, l);
+          few = omega (arith, l);
+          makers = λ a below.
+              let none = ap (λ (x : ArrayInfo). x.maker) (get_or-map (input_array inputs) (input_names e) a [] no_array (omega (arith, l, below))) in
+              subst (λ (m : Option ℕ). IsBefore m 0) (sym none) tt;
+          placed = λ n below live. absurd (omega arith);
+        };
+        few = omega arith;
+      }
+
+  pub from_first : growing.AreFrom e infos options 0 e.nodes
   from_first i = ap (slice_get e.nodes) (let z : i ≡ 0 + i = omega arith in z)
 
   pub known : IsGrown e whole
-  known = growing.end_grown e infos reserved built (first_grown e inputs) e.nodes from_first at_first
+  known = growing.end_grown e infos options steps (first_grown e inputs) e.nodes from_first at_first
 
   pub all_placed : length whole.places ≡ length e.nodes
-  all_placed = let l = growing.end_long e infos reserved (first_grown e inputs) e.nodes in omega (arith, l)
+  all_placed = let l = growing.end_long e infos options (first_grown e inputs) e.nodes in omega (arith, l)
 
   pub input_at : (a : ℕ) → a < given → array_at whole.arrays a ≡ input_array inputs (get_or (input_names e) a [])
   input_at a below =
-      let f = growing.front_after e infos reserved (first_grown e inputs) e.nodes in
-      let l : length (input_arrays e inputs) ≡ given = length-map (input_names e) (input_array inputs) in
-      ap (λ l. get_or l a no_array) f.arrays.1
-      ∙ get_or_append_left (input_arrays e inputs) f.arrays.0 no_array a (omega (arith, l))
+      let l = first_inputs in
+      front_array (first_grown e inputs) whole a (growing.front_after e infos options (first_grown e inputs) e.nodes) (omega (arith, l, below))
       ∙ get_or-map (input_array inputs) (input_names e) a [] no_array below
 
-  -- ---- a node whose array an operation makes
+  -- ---- a node that isn't an input
 
-  -- the operation of node k, of the arrays of its arguments
-  abbrev pub planned : List ℕ → Form → ℕ → ℕ → Planned
-  planned ins f out k = record { op = made_op infos f ins out; node = k; projected = need_of reserved infos k f }
+  -- the steps of node k
+  abbrev pub own_steps : ℕ → Form → ℕ → List Step
+  own_steps k f first = steps_of infos options k f (array_places whole.places (args_of f)) first
 
-  -- its operation by its number, and its array behind the inputs' by the same
-  pub record Standing (k : ℕ) (f : Form) (j : ℕ) : Type 0 where
+  -- a live node's form, and what was grown before its steps
+  pub record Standing (k : ℕ) (f : Form) : Type 0 where
     pub node : Node
     pub at : slice_get e.nodes k ≡ Some node
     pub is : node.form ≡ f
-    pub made : is_made f ≡ true
+    pub other : is_input f ≡ false
     pub live : is_live e k ≡ true
-    pub within_ops : j < length whole.ops
-    pub within_arrays : given + j < length whole.arrays
-    pub place : place_in whole k ≡ given + j
-    pub array : array_at whole.arrays (given + j) ≡ made_array e (info_at infos k) k j j
-    pub operation : operation_at whole.ops j ≡ planned (array_places whole.places (args_of f)) f (given + j) k
-    pub earlier : (n : ℕ) → n < k → is_live e n ≡ true → place_in whole n < given + j
+    pub before : Grown
+    pub known : IsGrown e before
+    pub number : length before.places ≡ k
+    pub front : Front (with_steps e before (own_steps k f (length before.arrays))) whole
+    pub make : Make (info_at infos k) (own_steps k f (length before.arrays))
+    pub small : length before.arrays < 2 ^ 31
+    pub place : place_in whole k ≡ length (with_steps e before (own_steps k f (length before.arrays))).arrays - 1
+    pub earlier : (n : ℕ) → n < k → is_live e n ≡ true → place_in whole n < length before.arrays
 
   -- the places of earlier nodes stay
   same_places : (h : Grown) (args : List Arg) → Front h whole → list_all (is_earlier (length h.places)) args ≡ true → array_places h.places args ≡ array_places whole.places args
@@ -99,118 +118,141 @@ module _ (e : Expression) (infos : List NodeInfo) (inputs : List InputInfo) (res
   same_places h (Arg.Int x ∷ args) f earlier = same_places h args f earlier
   same_places h (Arg.Truth b ∷ args) f earlier = same_places h args f earlier
 
-  same_array : (k l others i : ℕ) (j : ℕ) → l ≡ k → others ≡ j → made_array e (info_at infos l) l others j ≡ made_array e (info_at infos k) k j j
-  same_array k l others i j p q = ap (λ x. made_array e (info_at infos x) x others j) p ∙ ap (λ x. made_array e (info_at infos k) k x j) q
+  -- so its steps before it was added are those of the whole
+  pub own_same : (h : Grown) (k : ℕ) (n : Node) (f : Form) → slice_get e.nodes k ≡ Some n → n.form ≡ f → length h.places ≡ k → Front h whole
+      → growing.own_steps e infos options h f ≡ own_steps k f (length h.arrays)
+  own_same h k n f at is number before =
+      let named : list_all (is_earlier (length h.places)) (args_of f) ≡ true = subst (λ (i : ℕ). list_all (is_earlier i) (args_of f) ≡ true) (sym number) (subst (λ (x : Form). list_all (is_earlier k) (args_of x) ≡ true) is (form.nodes k n at).form.earlier) in
+      ap (λ i. steps_of infos options i f (array_places h.places (args_of f)) (length h.arrays)) number
+      ∙ ap (λ xs. steps_of infos options k f xs (length h.arrays)) (same_places h (args_of f) before named)
 
-  same_operation : (ins others : List ℕ) (f : Form) (a b k l : ℕ) → ins ≡ others → a ≡ b → l ≡ k → planned ins f a l ≡ planned others f b k
-  same_operation ins others f a b k l p q r = ap (λ x. planned ins f a x) r ∙ ap (λ x. planned ins f x k) q ∙ ap (λ xs. planned xs f b k) p
+  pub steps_front : (h : Grown) (ss : List Step) → Front (with_last (with_steps e h ss)) whole → Front (with_steps e h ss) whole
+  steps_front h ss front = growing.front_then (with_steps e h ss) (with_last (with_steps e h ss)) whole (growing.front_place (with_steps e h ss) (length (with_steps e h ss).arrays - 1)) front
 
-  stands : (h : Grown) (k : ℕ) (n : Node) (g : Form) → slice_get e.nodes k ≡ Some n → n.form ≡ g → is_made g ≡ true → is_live e k ≡ true
-      → length h.places ≡ k → IsGrown e h → Front (with_part h (made_part e infos reserved h g)) whole → Standing k g (length h.ops)
-  stands h k n g at is made live number grown f =
-      let c = grown.counted in
-      let behind : length h.arrays ≡ given + length h.ops = c in
-      let others : length h.arrays - given ≡ length h.ops = omega (arith, c) in
-      let p = made_part e infos reserved h g in
-      let lo = length-append h.ops p.ops in
-      let la = length-append h.arrays p.arrays in
-      let wo = within_front (h.ops ++ p.ops) f.ops.0 whole.ops f.ops.1 in
-      let wa = within_front (h.arrays ++ p.arrays) f.arrays.0 whole.arrays f.arrays.1 in
-      let before : Front h whole = growing.front_then h (with_part h p) whole (record { arrays = (p.arrays, refl); ops = (p.ops, refl); places = (p.place ∷ [], refl) }) f in
-      let args = args_of g in
-      let named : list_all (is_earlier (length h.places)) args ≡ true = subst (λ (i : ℕ). list_all (is_earlier i) (args_of g) ≡ true) (sym number) (subst (λ (x : Form). list_all (is_earlier k) (args_of x) ≡ true) is (form.nodes k n at).form.earlier) in
+  abbrev pub stands : (h : Grown) (k : ℕ) (n : Node) (f : Form) → slice_get e.nodes k ≡ Some n → n.form ≡ f → is_input f ≡ false → is_live e k ≡ true
+      → length h.places ≡ k → IsGrown e h → Front (with_last (with_steps e h (growing.own_steps e infos options h f))) whole → Standing k f
+  stands h k n f at is other live number grown front =
+      let ss = growing.own_steps e infos options h f in
+      let m = with_steps e h ss in
+      let own = steps_front h ss front in
+      let before : Front h whole = growing.front_then h m whole (growing.front_steps e h ss) own in
+      let same = own_same h k n f at is number before in
+      let places = ap length (growing.steps_places e h ss) in
       record {
         node = n;
         at = at;
         is = is;
-        made = made;
+        other = other;
         live = live;
-        within_ops = omega (arith, lo, wo);
-        within_arrays = omega (arith, la, wa, c);
-        place = seam h.places f.places.0 whole.places (length h.arrays) 0 k f.places.1 (sym number) ∙ behind;
-        array = seam h.arrays f.arrays.0 whole.arrays (made_array e (info_at infos (length h.places)) (length h.places) (length h.arrays - given) (length h.ops)) no_array (given + length h.ops) f.arrays.1 (sym behind)
-            ∙ same_array k (length h.places) (length h.arrays - given) 0 (length h.ops) number others;
-        operation = seam h.ops f.ops.0 whole.ops (planned (array_places h.places args) g (length h.arrays) (length h.places)) no_operation (length h.ops) f.ops.1 refl
-            ∙ same_operation (array_places h.places args) (array_places whole.places args) g (length h.arrays) (given + length h.ops) k (length h.places) (same_places h args before named) behind number;
-        earlier = λ m below is_live_m.
-            let w = grown.placed m (omega (arith, number)) is_live_m in
-            let same = ap (λ l. get_or l m 0) before.places.1 ∙ get_or_append_left h.places before.places.0 0 m (omega (arith, number)) in
-            omega (arith, w, same, c);
+        before = h;
+        known = grown;
+        number = number;
+        front = subst (λ (xs : List Step). Front (with_steps e h xs) whole) same own;
+        small = growing.few_arrays e infos options steps h n (subst (λ (i : ℕ). slice_get e.nodes i ≡ Some n) (sym number) at) grown;
+        make = steps_made infos options k f (subst (HasSteps infos options k) is (steps.steps k n at live)) other (array_places whole.places (args_of f)) (length h.arrays) (growing.few_arrays e infos options steps h n (subst (λ (i : ℕ). slice_get e.nodes i ≡ Some n) (sym number) at) grown);
+        place = seam m.places front.places.0 whole.places (length m.arrays - 1) 0 k front.places.1 (omega (arith, places, number)) ∙ ap (λ (xs : List Step). length (with_steps e h xs).arrays - 1) same;
+        earlier = λ i below live_i.
+            let w = grown.growing.placed i (omega (arith, number, below)) live_i in
+            let stays = ap (λ l. get_or l i 0) before.places.1 ∙ get_or_append_left h.places before.places.0 0 i (omega (arith, number, below)) in
+            omega (arith, w, stays);
       }
 
-  -- ---- by operations, by nodes and by arrays
-
-  pub record Stood (j : ℕ) : Type 0 where
-    pub k : ℕ
-    pub operator : Form
-    pub stands : Standing k operator j
-
-  -- only the part of a node that an operation makes has an operation
-  from_part : (h : Grown) (k j : ℕ) (n : Node) (g : Form) → slice_get e.nodes k ≡ Some n → n.form ≡ g → is_live e k ≡ true
-      → length h.places ≡ k → IsGrown e h → Front (with_part h (part_of e infos reserved h g)) whole → length h.ops ≤ j → j < length (with_part h (part_of e infos reserved h g)).ops → Stood j
-  from_part h k j n g at is live number grown f least below =
-      elim (cases_Bool (is_made g)) [
-        | inl made ↦
-            let same = part_made e infos reserved h g made in
-            let front = subst (λ (p : Part). Front (with_part h p) whole) same f in
-            let under = subst (λ (p : Part). j < length (with_part h p).ops) same below in
-            let l = length-append h.ops (made_part e infos reserved h g).ops in
-            let here : length h.ops ≡ j = omega (arith, l, under, least) in
-            record { k = k; operator = g; stands = subst (Standing k g) here (stands h k n g at is made live number grown front) }
-        | inr other ↦
-            let none = ap length (part_other e infos reserved h g other).1 in
-            let l = length-append h.ops (part_of e infos reserved h g).ops in
-            absurd (omega (arith, none, l, least, below))
-      ]
-
-  pub from_operation : (j : ℕ) → j < length whole.ops → Stood j
-  from_operation j below =
-      let o = growing.origin e infos reserved built (first_grown e inputs) e.nodes from_first at_first j (omega arith) below in
-      let h = o.before in
-      let r = o.reached in
-      elim (cases_Bool (is_live e (length h.places))) [
-        | inl alive ↦
-            let live = subst (λ (i : ℕ). is_live e i ≡ true) r.number alive in
-            let same = growing.live_step e infos reserved h o.node.form alive in
-            from_part h o.k j o.node o.node.form r.node refl live r.number r.known
-            (subst (λ (g : Grown). Front g whole) same r.front) o.least (subst (λ (g : Grown). j < length g.ops) same o.below)
-        | inr dead ↦
-            let b = subst (λ (g : Grown). j < length g.ops) (growing.dead_step e infos reserved h o.node.form dead) o.below in
-            let l = length-append {A = Planned} h.ops [] in
-            let w = o.least in
-            absurd (omega (arith, b, l, w))
-      ]
-
-  pub from_node : (k : ℕ) (n : Node) (g : Form) → slice_get e.nodes k ≡ Some n → n.form ≡ g → is_made g ≡ true → is_live e k ≡ true → (j : ℕ) × Standing k g j
-  from_node k n g at is made live =
-      let r = growing.reached e infos reserved built (first_grown e inputs) e.nodes from_first at_first k k n (omega arith) at in
+  pub from_node : (k : ℕ) (n : Node) (f : Form) → slice_get e.nodes k ≡ Some n → n.form ≡ f → is_input f ≡ false → is_live e k ≡ true → Standing k f
+  from_node k n f at is other live =
+      let r = growing.reached e infos options steps (first_grown e inputs) e.nodes from_first at_first k k n (omega arith) at in
       let h = r.0 in
       let s = r.1 in
       let alive : is_live e (length h.places) ≡ true = subst (λ (i : ℕ). is_live e i ≡ true) (sym s.number) live in
-      let f = subst (λ (x : Grown). Front x whole) (growing.live_step e infos reserved h n.form alive) s.front in
-      let own = subst (λ (x : Form). Front (with_part h (part_of e infos reserved h x)) whole) is f in
-      (length h.ops, stands h k n g at is made live s.number s.known (subst (λ (p : Part). Front (with_part h p) whole) (part_made e infos reserved h g made) own))
+      let front = subst (λ (x : Grown). Front x whole) (growing.live_next e infos options h n.form alive) s.front in
+      let own = subst (λ (x : Form). Front (with_node e infos options h x) whole) is front in
+      stands h k n f at is other live s.number s.known (subst (λ (x : Grown). Front x whole) (node_made e infos options h f other) own)
 
   -- an input node's array
   pub from_input : (k : ℕ) (n : Node) (name : List ℕ) → slice_get e.nodes k ≡ Some n → n.form ≡ Form.Input name → is_live e k ≡ true
       → (place_in whole k < given) × (array_at whole.arrays (place_in whole k) ≡ input_array inputs name)
   from_input k n name at is live =
-      let r = growing.reached e infos reserved built (first_grown e inputs) e.nodes from_first at_first k k n (omega arith) at in
+      let r = growing.reached e infos options steps (first_grown e inputs) e.nodes from_first at_first k k n (omega arith) at in
       let h = r.0 in
       let s = r.1 in
       let alive : is_live e (length h.places) ≡ true = subst (λ (i : ℕ). is_live e i ≡ true) (sym s.number) live in
-      let f = subst (λ (g : Grown). Front g whole) (growing.live_step e infos reserved h n.form alive) s.front in
-      let there = subst (λ (g : Form). Front (with_part h (part_of e infos reserved h g)) whole) is f in
+      let f = subst (λ (g : Grown). Front g whole) (growing.live_next e infos options h n.form alive) s.front in
+      let there = subst (λ (g : Form). Front (with_node e infos options h g) whole) is f in
       let place : place_in whole k ≡ input_place e name = seam h.places there.places.0 whole.places (input_place e name) 0 k there.places.1 (sym s.number) in
       let named = input_placed e k n name at live is in
       let below : place_in whole k < given = subst (λ (a : ℕ). a < given) (sym place) named.0 in
       (below, input_at (place_in whole k) below ∙ ap (λ a. input_array inputs (get_or (input_names e) a [])) place ∙ ap (input_array inputs) named.1)
 
-  -- an array is an input's, or one that an operation makes
-  pub by_array : (a : ℕ) → a < length whole.arrays → (a < given) ⊎ ((j : ℕ) × (a ≡ given + j) × (j < length whole.ops))
+  -- ---- by operations and by arrays
+
+  -- the node and the step of an operation or an array, whichever is counted
+  pub record Stood (size : Grown → ℕ) (j : ℕ) : Type 0 where
+    pub k : ℕ
+    pub operator : Form
+    pub node : Standing k operator
+    pub step : Located e size node.before (own_steps k operator (length node.before.arrays)) whole j
+
+  from_steps : (size : Grown → ℕ) → ((g : Grown) (place : ℕ) → size (with_place g place) ≡ size g) → (h : Grown) (k j : ℕ) (n : Node) (f : Form) → slice_get e.nodes k ≡ Some n → n.form ≡ f
+      → is_input f ≡ false → is_live e k ≡ true → length h.places ≡ k → IsGrown e h → Front (with_last (with_steps e h (growing.own_steps e infos options h f))) whole
+      → size h ≤ j → j < size (with_last (with_steps e h (growing.own_steps e infos options h f))) → Stood size j
+  from_steps size same h k j n f at is other live number grown front least below =
+      let s = stands h k n f at is other live number grown front in
+      let ss = growing.own_steps e infos options h f in
+      let m = with_steps e h ss in
+      let before : Front h whole = growing.front_then h m whole (growing.front_steps e h ss) (steps_front h ss front) in
+      let steps_same = own_same h k n f at is number before in
+      let plain = same m (length m.arrays - 1) in
+      record {
+        k = k;
+        operator = f;
+        node = s;
+        step = growing.located e size h (own_steps k f (length h.arrays)) whole j s.front grown.growing least
+            (subst (λ (xs : List Step). j < size (with_steps e h xs)) steps_same (let w : j < size m = omega (arith, below, plain) in w));
+      }
+
+  from_form : (size : Grown → ℕ) → ((g : Grown) (place : ℕ) → size (with_place g place) ≡ size g) → (h : Grown) (k j : ℕ) (n : Node) (f : Form) → slice_get e.nodes k ≡ Some n → n.form ≡ f
+      → is_live e k ≡ true → length h.places ≡ k → IsGrown e h → Front (with_node e infos options h f) whole → size h ≤ j → j < size (with_node e infos options h f) → Stood size j
+  from_form size same h k j n f at is live number grown front least below =
+      elim (input_kind f) [
+        | inl input ↦
+            let w = subst (λ (x : Form). j < size (with_node e infos options h x)) input.1 below in
+            let plain = same h (input_place e input.0) in
+            absurd (omega (arith, w, plain, least))
+        | inr other ↦
+            let made = node_made e infos options h f other in
+            from_steps size same h k j n f at is other live number grown (subst (λ (x : Grown). Front x whole) made front) least (subst (λ (x : Grown). j < size x) made below)
+      ]
+
+  pub from_size : (size : Grown → ℕ) → ((g : Grown) (place : ℕ) → size (with_place g place) ≡ size g) → (j : ℕ) → size (first_grown e inputs) ≤ j → j < size whole → Stood size j
+  from_size size same j least below =
+      let o = growing.origin e infos options size steps (first_grown e inputs) e.nodes from_first at_first j least below in
+      let h = o.before in
+      let r = o.reached in
+      elim (cases_Bool (is_live e (length h.places))) [
+        | inl alive ↦
+            let live = subst (λ (i : ℕ). is_live e i ≡ true) r.number alive in
+            let next = growing.live_next e infos options h o.node.form alive in
+            from_form size same h o.k j o.node o.node.form r.node refl live r.number r.known (subst (λ (g : Grown). Front g whole) next r.front) o.least (subst (λ (g : Grown). j < size g) next o.below)
+        | inr dead ↦
+            let b = subst (λ (g : Grown). j < size g) (growing.dead_next e infos options h o.node.form dead) o.below in
+            let plain = same h 0 in
+            let w = o.least in
+            absurd (omega (arith, b, plain, w))
+      ]
+
+  abbrev pub ops_of : Grown → ℕ
+  ops_of g = length g.ops
+
+  abbrev pub arrays_of : Grown → ℕ
+  arrays_of g = length g.arrays
+
+  pub from_operation : (j : ℕ) → j < length whole.ops → Stood ops_of j
+  from_operation j below = from_size ops_of (λ g place. refl) j (omega arith) below
+
+  -- an array is an input's, or one that a step makes
+  pub by_array : (a : ℕ) → a < length whole.arrays → (a < given) ⊎ Stood arrays_of a
   by_array a below =
-      let c = known.counted in
+      let l = first_inputs in
       elim (cases_lt a given) [
-        | inl l ↦ inl l
-        | inr l ↦ inr (a - given, omega arith, omega (arith, c, below, l))
+        | inl input ↦ inl input
+        | inr made ↦ inr (from_size arrays_of (λ g place. refl) a (omega (arith, l, made)) below)
       ]

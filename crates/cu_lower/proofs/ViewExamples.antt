@@ -35,7 +35,7 @@ abbrev stored_last : Node → Node → Expression
 stored_last x y = record { nodes = x ∷ y ∷ []; out = 1; store_as = codes "y" }
 
 abbrev options : Options
-options = record { allowed = 64; reserved = 0; retries = 2 }
+options = record { allowed = 64; reserved = 0; split_every = 4; retries = 2 }
 
 abbrev stored : List ℕ → NodeInfo → InputInfo
 stored name i = record { name = name; layout = made_layout i }
@@ -187,4 +187,6 @@ lowerable = record {
   memory = refl;
   counts = refl;
   allowed = omega arith;
+  several = omega arith;
+  few = omega arith;
 }

@@ -1,5 +1,5 @@
 -- What a node of an expression adds to a plan (this project's own rule).
-use Rattle.std.specs.Prelude.{◌≡◌, ℕ, ◌+◌, ◌-◌, ◌<◌, ◌≤◌, ◌==◌, true, IsOk, pos, List, [], ◌∷◌, ◌++◌, length, map, slice_index, Some, Result, Ok, Err, unwrap_or, if◌then◌else◌}
+use Rattle.std.specs.Prelude.{◌≡◌, ℕ, ◌+◌, ◌-◌, ◌*◌, ◌^◌, ◌<◌, ◌≤◌, ◌==◌, ◌&&◌, true, false, IsOk, All, ℤ, pos, List, [], ◌∷◌, ◌++◌, length, map, slice_index, Option, None, Some, Result, Ok, Err, unwrap_or, if◌then◌else◌}
 use Rattle.std.specs.Prelude.{Bool as Test}
 use Rattle.std.specs.List.{list_all}
 use Rattle.cu_num.specs.declared.layout.Encoding.TheVariants.{Plain}
@@ -7,7 +7,10 @@ use Rattle.cu_num.specs.declared.layout.Endian.TheVariants.{Little}
 use Rattle.cu_num.specs.declared.layout.Sep.TheVariants.{Slash}
 use Rattle.cu_num.specs.declared.types.Dtype.{Dtype}
 use Rattle.cu_num.specs.declared.types.Dtype.TheVariants.{Bool}
+use Rattle.cu_grid.specs.Grid.{IsGrid}
 use Rattle.cu_name.specs.Keys.{made_prefix_of}
+use Rattle.cu_op.specs.Arrays.{maker_at}
+use Rattle.cu_op.specs.Operation.{IsBefore}
 use Rattle.cu_op.specs.declared.kernel.Instr.{Instr}
 use Rattle.cu_op.specs.declared.layout.ArrayInfo.{ArrayInfo}
 use Rattle.cu_op.specs.declared.layout.Layout.{Layout}
@@ -28,10 +31,22 @@ use Rattle.cu_typing.specs.declared.argument.Argument.{Argument}
 use Rattle.cu_expr.specs.Typing.{argument_of}
 use Rattle.cu_need.specs.Live.{is_live}
 use Rattle.cu_need.specs.Need.{need_of, IsAlignedWithin}
+use Rattle.cu_need.specs.Reduction.{array_of, axes_reduced, sought_axis}
 use Rattle.cu_need.specs.View.{is_view}
 use Rattle.cu_pull.specs.declared.pull.Pull.{Pull as View}
 use Rattle.cu_pull.specs.declared.pull.Pull.TheVariants.{Reshape}
 use Rattle.cu_lower_view.specs.View.{pull_of}
+use Rattle.cu_lower_reduce.specs.Steps.{all_made, grid_of}
+use Rattle.cu_lower_reduce.specs.Products.{product_steps, IsProduct}
+use Rattle.cu_lower_reduce.specs.Reductions.{reduction_steps, IsReduction}
+use Rattle.cu_lower_reduce.specs.Searches.{search_steps, IsSearch}
+use Rattle.cu_lower_reduce.specs.declared.product.Product.{Product}
+use Rattle.cu_lower_reduce.specs.declared.reduction.Reduction.{Reduction}
+use Rattle.cu_lower_reduce.specs.declared.search.Search.{Search}
+use Rattle.cu_lower_reduce.specs.declared.step.Setting.{Setting}
+use Rattle.cu_lower_reduce.specs.declared.step.Step.{Step}
+use Rattle.cu_num.specs.declared.folds.FoldKind.{FoldKind}
+use Rattle.cu_lower.specs.declared.options.Options.{Options}
 use Rattle.cu_lower.specs.Inputs.{input_names, input_place}
 
 -- A plan while nodes are gone over: its arrays and operations so far, and for each of these nodes the number of its array. That of a
@@ -41,26 +56,22 @@ pub record Grown : Type 0 where
   pub ops : List Planned
   pub places : List ℕ
 
--- what a node adds, and the number of its array
-pub record Part : Type 0 where
-  pub arrays : List ArrayInfo
-  pub ops : List Planned
-  pub place : ℕ
-
-abbrev pub no_part : Part
-no_part = record { arrays = []; ops = []; place = 0 }
-
 -- ---- an array that is made
 
 -- a made array is little-endian, with fill value 0 and the encoding "default" with "/"
 abbrev pub made_layout : NodeInfo → Layout
 made_layout i = record { dtype = i.dtype; grid = record { shape = i.dims; chunk = i.chunk }; encoding = Plain Slash; endian = Little; fill = pos 0 }
 
--- the array of node k that the operation `maker` makes, where `others` made arrays come before it; that of the stored node has the
--- name of the output
-abbrev pub made_array : Expression → NodeInfo → ℕ → ℕ → ℕ → ArrayInfo
-made_array e i k others maker =
-    record { prefix = if k == e.out then e.store_as else made_prefix_of e.store_as others; layout = made_layout i; maker = Some maker }
+-- the array that the operation `maker` makes, where `others` made arrays come before it; the stored node's own has the name of the
+-- output
+abbrev pub made_array : Expression → NodeInfo → Test → ℕ → ℕ → ArrayInfo
+made_array e i stored others maker =
+    record { prefix = if stored then e.store_as else made_prefix_of e.store_as others; layout = made_layout i; maker = Some maker }
+
+-- the one or two arrays that a step writes, values before places; the last of them may be the stored node's own
+abbrev pub pair_arrays : Expression → Test → ℕ → ℕ → Option NodeInfo → NodeInfo → List ArrayInfo
+pair_arrays e stored others maker None i = made_array e i stored others maker ∷ []
+pair_arrays e stored others maker (Some values) i = made_array e values false others maker ∷ made_array e i stored (others + 1) maker ∷ []
 
 -- ---- an elementwise function
 
@@ -70,8 +81,8 @@ type_or_bool (Ok t) = t
 type_or_bool (Err f) = Bool
 
 -- a load or a literal for each argument in order, then the function
-abbrev pub steps_of : ElementOp → List Argument → List Instr
-steps_of op told = kernel_of op (type_or_bool (shared_type op told)) told
+abbrev pub code_of : ElementOp → List Argument → List Instr
+code_of op told = kernel_of op (type_or_bool (shared_type op told)) told
 
 -- the arrays of the arguments that are arrays, in order
 abbrev pub array_places : List ℕ → List Arg → List ℕ
@@ -82,7 +93,7 @@ array_places places (Arg.Truth b ∷ args) = array_places places args
 
 -- the map that makes array `out` of the arguments, whose arrays are `ins`
 abbrev pub map_of : List NodeInfo → ElementOp → List Arg → List ℕ → ℕ → Op
-map_of infos op args ins out = Map (record { code = record { items = steps_of op (map (argument_of infos) args) } }) (record { items = ins }) out
+map_of infos op args ins out = Map (record { code = record { items = code_of op (map (argument_of infos) args) } }) (record { items = ins }) out
 
 -- ---- a view
 
@@ -96,51 +107,120 @@ view_op infos form ins out = Pull (pull_in infos form) (record { items = ins }) 
 
 -- ---- a node by its form
 
--- an operation makes the node's array
-abbrev pub is_made : Form → Test
-is_made (Form.Elementwise op args) = true
-is_made form = is_view form
+-- the one step of node k, an operation that makes its array and needs so many bytes
+abbrev pub only_step : List NodeInfo → ℕ → Op → ℕ → List Step
+only_step infos k op need = record { op = op; values = None; made = info_at infos k; need = need } ∷ []
 
--- the operation that makes array `out` of the arguments, whose arrays are `ins`: a map of an elementwise function, and of any other
--- form that of a view
-abbrev pub made_op : List NodeInfo → Form → List ℕ → ℕ → Op
-made_op infos (Form.Elementwise op args) ins out = map_of infos op args ins out
-made_op infos form ins out = view_op infos form ins out
+-- what the steps of a node go by besides its arrays: the number of the first array that they make, and two options
+abbrev pub setting : Options → ℕ → Setting
+setting options first = record { first = first; split_every = options.split_every; reserved = options.reserved }
 
--- the next number's array, and this operation, which makes it
-abbrev pub operation_part : Expression → List NodeInfo → Grown → Op → ℕ → Part
-operation_part e infos g op need = record {
-  arrays = made_array e (info_at infos (length g.places)) (length g.places) (length g.arrays - length (input_names e)) (length g.ops) ∷ [];
-  ops = record { op = op; node = length g.places; projected = need } ∷ [];
-  place = length g.arrays;
+-- a reduction, a search for places and a product, as node k, of arguments whose arrays are `ins`
+abbrev pub reduction_of : List NodeInfo → ℕ → FoldKind → List Arg → Option (List ℤ) → List ℕ → Reduction
+reduction_of infos k kind args axes ins = record {
+  kind = kind;
+  axes = axes_reduced (array_of infos args 0) axes;
+  source = slice_index ins 0;
+  from = array_of infos args 0;
+  made = info_at infos k;
 }
 
--- those of a form
-abbrev pub made_part : Expression → List NodeInfo → ℕ → Grown → Form → Part
-made_part e infos reserved g form =
-    operation_part e infos g (made_op infos form (array_places g.places (args_of form)) (length g.arrays)) (need_of reserved infos (length g.places) form)
+abbrev pub search_of : List NodeInfo → ℕ → Test → List Arg → Option ℤ → List ℕ → Search
+search_of infos k least args axis ins = record {
+  least = least;
+  axis = sought_axis (length (array_of infos args 0).dims) axis;
+  source = slice_index ins 0;
+  from = array_of infos args 0;
+  made = info_at infos k;
+}
 
--- One of the next number. An input has its array from the beginning; an elementwise function and a view add one array and one operation.
-abbrev pub part_of : Expression → List NodeInfo → ℕ → Grown → Form → Part
-part_of e infos reserved g (Form.Input name) = record { arrays = []; ops = []; place = input_place e name }
-part_of e infos reserved g form = if is_made form then made_part e infos reserved g form else no_part
+abbrev pub product_of : List NodeInfo → ℕ → List Arg → List ℕ → Product
+product_of infos k args ins = record {
+  left = slice_index ins 0;
+  right = slice_index ins 1;
+  left_info = array_of infos args 0;
+  right_info = array_of infos args 1;
+  made = info_at infos k;
+}
+
+-- The steps of node k, whose arguments have the arrays `ins`; the first array that they write has number `first`. An elementwise function
+-- and a view have one step; a reduction, a search for places and a product have one over chunks and one for each round of merges. An
+-- input has none, and so has each form that isn't built.
+abbrev pub steps_of : List NodeInfo → Options → ℕ → Form → List ℕ → ℕ → List Step
+steps_of infos options k (Form.Elementwise op args) ins first =
+    only_step infos k (map_of infos op args ins first) (need_of options.reserved options.split_every infos k (Form.Elementwise op args))
+steps_of infos options k (Form.Reduce kind args axes keepdims) ins first = reduction_steps (setting options first) (reduction_of infos k kind args axes ins)
+steps_of infos options k (Form.ArgPlace least args axis keepdims) ins first = search_steps (setting options first) (search_of infos k least args axis ins)
+steps_of infos options k (Form.Matmul args) ins first = product_steps (setting options first) (product_of infos k args ins)
+steps_of infos options k form ins first =
+    if is_view form then only_step infos k (view_op infos form ins first) (need_of options.reserved options.split_every infos k form) else []
+
+-- Steps that make an array of which this is known: the last of them writes it, each array that they write has a grid, and they are few.
+pub record Make (i : NodeInfo) (ss : List Step) : Type 0 where
+  pub ends : (rest : List NodeInfo) × (all_made ss ≡ rest ++ i ∷ [])
+  pub grids : All (λ m. IsGrid (grid_of m)) (all_made ss)
+  pub few : length ss ≤ 32
+
+-- ---- a plan that grows
+
+-- with the arrays and the operation of a step of the next node; `last` says that it is the node's last step
+abbrev pub with_step : Expression → Test → Grown → Step → Grown
+with_step e last g s = record {
+  arrays = g.arrays ++ pair_arrays e (last && (length g.places == e.out)) (length g.arrays - length (input_names e)) (length g.ops) s.values s.made;
+  ops = g.ops ++ record { op = s.op; node = length g.places; projected = s.need } ∷ [];
+  places = g.places;
+}
+
+-- no step is left
+abbrev pub is_none : List Step → Test
+is_none [] = true
+is_none (s ∷ ss) = false
+
+-- with all steps of the next node
+abbrev pub with_steps : Expression → Grown → List Step → Grown
+with_steps e g [] = g
+with_steps e g (s ∷ ss) = with_steps e (with_step e (is_none ss) g s) ss
+
+-- with the next node, whose array has this number
+abbrev pub with_place : Grown → ℕ → Grown
+with_place g place = record { arrays = g.arrays; ops = g.ops; places = g.places ++ place ∷ [] }
+
+-- with the next node, whose array is the last one
+abbrev pub with_last : Grown → Grown
+with_last g = with_place g (length g.arrays - 1)
+
+-- with the next node. An input has its array from the beginning; any other form adds its steps, and its array is the last that they write.
+abbrev pub with_node : Expression → List NodeInfo → Options → Grown → Form → Grown
+with_node e infos options g (Form.Input name) = with_place g (input_place e name)
+with_node e infos options g form =
+    with_last (with_steps e g (steps_of infos options (length g.places) form (array_places g.places (args_of form)) (length g.arrays)))
 
 -- only a live node adds something
-abbrev pub live_part : Expression → List NodeInfo → ℕ → Grown → Form → Part
-live_part e infos reserved g form = if is_live e (length g.places) then part_of e infos reserved g form else no_part
-
-abbrev pub with_part : Grown → Part → Grown
-with_part g p = record { arrays = g.arrays ++ p.arrays; ops = g.ops ++ p.ops; places = g.places ++ p.place ∷ [] }
+abbrev pub with_live : Expression → List NodeInfo → Options → Grown → Form → Grown
+with_live e infos options g form = if is_live e (length g.places) then with_node e infos options g form else with_place g 0
 
 -- ---- while a plan grows
 
--- what is known of a plan while it grows: each operation makes one array behind the inputs', and live nodes have arrays
-pub record IsGrown (e : Expression) (g : Grown) : Type 0 where
-  pub counted : length g.arrays ≡ length (input_names e) + length g.ops
-  pub few : length g.ops ≤ length g.places
+-- What is known of a plan while it grows, also between the steps of a node: the inputs' arrays come first, an operation makes at most two
+-- arrays, each array has no later maker, and live nodes have arrays.
+pub record IsGrowing (e : Expression) (g : Grown) : Type 0 where
+  pub inputs : length (input_names e) ≤ length g.arrays
+  pub few : length g.arrays ≤ length (input_names e) + 2 * length g.ops
+  pub makers : (a : ℕ) → a < length g.arrays → IsBefore (maker_at g.arrays a) (length g.ops)
   pub placed : (n : ℕ) → n < length g.places → is_live e n ≡ true → slice_index g.places n < length g.arrays
 
--- what the part of an elementwise node with number k takes for granted: as many arguments as the function takes, which name earlier
+-- and behind a node: each node has at most 32 operations
+pub record IsGrown (e : Expression) (g : Grown) : Type 0 where
+  pub growing : IsGrowing e g
+  pub few : length g.ops ≤ 32 * length g.places
+
+-- the options lie in their ranges
+pub record AreOptions (options : Options) : Type 0 where
+  pub reserved : options.reserved ≤ 2 ^ 40
+  pub several : 2 ≤ options.split_every
+  pub few : options.split_every ≤ 64
+
+-- what the step of an elementwise node with number k takes for granted: as many arguments as the function takes, which name earlier
 -- nodes, and have a type together
 pub record IsApplied (infos : List NodeInfo) (k : ℕ) (op : ElementOp) (args : List Arg) : Type 0 where
   pub takes : element_takes op args ≡ true
@@ -148,14 +228,24 @@ pub record IsApplied (infos : List NodeInfo) (k : ℕ) (op : ElementOp) (args : 
   pub typed : IsOk (shared_type op (map (argument_of infos) args))
   pub within : IsAlignedWithin infos k (Form.Elementwise op args)
 
--- what the part of any other node with number k takes for granted: as many arguments as the form takes, which name earlier nodes, and
+-- what the steps of any other node with number k takes for granted: as many arguments as the form takes, which name earlier nodes, and
 -- an index of few entries
 pub record IsWritten (k : ℕ) (form : Form) : Type 0 where
   pub takes : takes_args form ≡ true
   pub earlier : names_earlier k form ≡ true
   pub short : HasShortIndex form
 
--- what the part of a node takes for granted
+-- what the steps of a node take for granted
 abbrev pub CanGrow : List NodeInfo → ℕ → Form → Type 0
 CanGrow infos k (Form.Elementwise op args) = IsApplied infos k op args
+CanGrow infos k (Form.Reduce kind args axes keepdims) =
+    IsWritten k (Form.Reduce kind args axes keepdims) × ((ins : List ℕ) → IsReduction (reduction_of infos k kind args axes ins))
+CanGrow infos k (Form.ArgPlace least args axis keepdims) =
+    IsWritten k (Form.ArgPlace least args axis keepdims) × ((ins : List ℕ) → IsSearch (search_of infos k least args axis ins))
+CanGrow infos k (Form.Matmul args) = IsWritten k (Form.Matmul args) × ((ins : List ℕ) → IsProduct (product_of infos k args ins))
 CanGrow infos k form = IsWritten k form
+
+-- the steps of a node make its array; an input has its array from the beginning
+abbrev pub HasSteps : List NodeInfo → Options → ℕ → Form → Type 0
+HasSteps infos options k (Form.Input name) = Unit {0}
+HasSteps infos options k form = (ins : List ℕ) (first : ℕ) → first < 2 ^ 31 → Make (info_at infos k) (steps_of infos options k form ins first)

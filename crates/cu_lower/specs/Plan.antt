@@ -6,20 +6,20 @@ use Rattle.cu_node.specs.declared.info.NodeInfo.{NodeInfo}
 use Rattle.cu_op.specs.PlanView.{PlanView}
 use Rattle.cu_expr.specs.declared.inputs.InputInfo.{InputInfo}
 use Rattle.cu_lower.specs.Inputs.{input_arrays}
-use Rattle.cu_lower.specs.Parts.{Grown, live_part, with_part}
+use Rattle.cu_lower.specs.Parts.{Grown, with_live}
 use Rattle.cu_lower.specs.declared.options.Options.{Options}
 
--- with the parts of these nodes, in order
-abbrev pub grown_after : Expression → List NodeInfo → ℕ → Grown → List Node → Grown
-grown_after e infos reserved g [] = g
-grown_after e infos reserved g (n ∷ ns) = grown_after e infos reserved (with_part g (live_part e infos reserved g n.form)) ns
+-- with what these nodes add, in order
+abbrev pub grown_after : Expression → List NodeInfo → Options → Grown → List Node → Grown
+grown_after e infos options g [] = g
+grown_after e infos options g (n ∷ ns) = grown_after e infos options (with_live e infos options g n.form) ns
 
 -- the input arrays alone
 abbrev pub first_grown : Expression → List InputInfo → Grown
 first_grown e inputs = record { arrays = input_arrays e inputs; ops = []; places = [] }
 
-abbrev pub lowered : Expression → List NodeInfo → List InputInfo → ℕ → Grown
-lowered e infos inputs reserved = grown_after e infos reserved (first_grown e inputs) e.nodes
+abbrev pub lowered : Expression → List NodeInfo → List InputInfo → Options → Grown
+lowered e infos inputs options = grown_after e infos options (first_grown e inputs) e.nodes
 
 -- the number of a node's array
 abbrev pub place_in : Grown → ℕ → ℕ
@@ -31,4 +31,4 @@ as_plan e options g = record { arrays = g.arrays; ops = g.ops; out = place_in g 
 
 -- the plan of an expression, where `infos` is what is known of its nodes
 abbrev pub plan_of : Expression → List NodeInfo → List InputInfo → Options → PlanView
-plan_of e infos inputs options = as_plan e options (lowered e infos inputs options.reserved)
+plan_of e infos inputs options = as_plan e options (lowered e infos inputs options)

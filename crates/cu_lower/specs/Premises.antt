@@ -1,9 +1,9 @@
 -- What the plan of an expression takes for granted, and what it has in return (this project's own rule).
-use Rattle.std.specs.Prelude.{◌≡◌, ◌≢◌, ℕ, ◌≤◌, ◌^◌, ℤ, pos, true, List, [], ◌∷◌, All, sum_by, slice_get, Some, None, Ok, unwrap_or}
+use Rattle.std.specs.Prelude.{◌≡◌, ◌≢◌, ℕ, ◌<◌, ◌≤◌, ◌^◌, ℤ, pos, true, List, [], ◌∷◌, All, length, sum_by, slice_get, Some, None, Ok, unwrap_or}
 use Rattle.cu_shape.specs.Index.{IsInside}
 use Rattle.cu_op.specs.Layout.{IsLayout}
 use Rattle.cu_op.specs.Cells.{tasks_of}
-use Rattle.cu_op.specs.PlanView.{PlanView}
+use Rattle.cu_op.specs.PlanView.{PlanView, operation_at}
 use Rattle.cu_op.specs.Sound.{made_chunks}
 use Rattle.cu_op.specs.Value.{Elements, HasTypes}
 use Rattle.cu_op.specs.declared.layout.ArrayInfo.{ArrayInfo}
@@ -27,17 +27,19 @@ use Rattle.cu_lower.specs.Plan.{lowered, place_in, plan_of}
 use Rattle.cu_lower.specs.Parts.{Grown, made_layout}
 use Rattle.cu_lower.specs.declared.options.Options.{Options}
 
--- an accepted expression, each live node of which is one that is built, with no more memory than is allowed; and
--- the plan keeps its limits
+-- an accepted expression, each live node of which is one that is built, with no more memory than is allowed; the plan keeps its limits,
+-- and a task merges 2 to 64 partial results
 pub record IsLowerable (e : Expression) (infos : List NodeInfo) (inputs : List InputInfo) (options : Options) : Type 0 where
   pub form : IsExpression e
   pub types : typed inputs e ≡ Ok infos
   pub kept : All IsInfo infos
   pub fills : All (λ i. IsLayout i.layout) inputs
   pub built : first_unbuilt e infos ≡ None
-  pub memory : first_over options.allowed options.reserved e infos ≡ None
-  pub counts : over_limit (plan_counts e infos) ≡ None
+  pub memory : first_over options.allowed options.reserved options.split_every e infos ≡ None
+  pub counts : over_limit (plan_counts e infos options.split_every) ≡ None
   pub allowed : options.allowed ≤ 2 ^ 40
+  pub several : 2 ≤ options.split_every
+  pub few : options.split_every ≤ 64
 
 -- node number k is live, and is the stored array with this name
 pub record IsLiveInput (e : Expression) (k : ℕ) (name : List ℕ) : Type 0 where
@@ -63,15 +65,28 @@ AreThere e infos g env = (k : ℕ) (name idx : List ℕ) → IsLiveInput e k nam
 pub record HaveElements (e : Expression) (infos : List NodeInfo) (inputs : List InputInfo) (options : Options) (env : Elements) (elements : NodeElements) : Type 0 where
   pub lowerable : IsLowerable e infos inputs options
   pub typed : HasTypes (plan_of e infos inputs options).arrays env
-  pub given : AreOfInputs e infos (lowered e infos inputs options.reserved) env elements
+  pub given : AreOfInputs e infos (lowered e infos inputs options) env elements
 
 -- an operation belongs to a live node; it needs at most what the node needs, which is at most what is allowed
 pub record IsOfNode (e : Expression) (infos : List NodeInfo) (options : Options) (o : Planned) : Type 0 where
   pub node : Node
   pub at : slice_get e.nodes o.node ≡ Some node
   pub live : is_live e o.node ≡ true
-  pub need : o.projected ≤ need_of options.reserved infos o.node node.form
+  pub need : o.projected ≤ need_of options.reserved options.split_every infos o.node node.form
   pub allowed : o.projected ≤ options.allowed
+
+-- node number k is live and isn't an input, so operations make its array
+pub record IsMadeNode (e : Expression) (k : ℕ) (node : Node) : Type 0 where
+  pub at : slice_get e.nodes k ≡ Some node
+  pub live : is_live e k ≡ true
+  pub form : (name : List ℕ) → node.form ≢ Form.Input name
+
+-- one of these operations belongs to node number k, and needs as much as the node does
+pub record NeedsAsMuch (infos : List NodeInfo) (options : Options) (ops : List Planned) (k : ℕ) (node : Node) : Type 0 where
+  pub at : ℕ
+  pub below : at < length ops
+  pub of_node : (operation_at ops at).node ≡ k
+  pub need : (operation_at ops at).projected ≡ need_of options.reserved options.split_every infos k node.form
 
 -- the tasks of the plan's operations and the chunks of its made arrays are as many as are counted
 pub record HasCounts (plan : PlanView) (counts : PlanCounts) : Type 0 where

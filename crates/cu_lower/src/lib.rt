@@ -6,6 +6,8 @@ mod laws;
 mod options;
 mod parts;
 mod plan;
+mod reduced;
+mod steps;
 
 pub use laws::{array_law, plan_law, value_law};
 pub use options::Options;

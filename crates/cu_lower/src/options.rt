@@ -5,6 +5,8 @@ pub struct Options {
     pub allowed: u64,
     /// The memory that is set aside for what isn't counted.
     pub reserved: u64,
+    /// How many neighbouring partial results of a reduction a task merges: 2 to 64.
+    pub split_every: u32,
     /// How often a call for a key, or a task, is tried again.
     pub retries: u32,
 }

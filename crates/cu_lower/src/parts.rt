@@ -1,14 +1,16 @@
-//! What a node whose array an operation makes adds to a plan.
+//! The operation of an elementwise node and of a view, and the arrays that operations make.
 
 ghost use Rattle.std.specs.Prelude.{◌≡◌, ◌<◌, ◌≤◌, ◌^◌, ℕ, List, [], ◌∷◌, IsOk, map, true, length};
 ghost use Rattle.std.specs.List.{list_all};
 ghost use Rattle.cu_form.specs.Form.{args_of, is_earlier, names_earlier, element_takes, HasShortIndex};
-ghost use Rattle.cu_node.specs.Info.{IsInfo, info_at};
+ghost use Rattle.cu_grid.specs.Grid.{IsGrid};
+ghost use Rattle.cu_node.specs.Info.{info_at};
+ghost use Rattle.cu_lower_reduce.specs.Steps.{grid_of};
 ghost use Rattle.cu_node.specs.declared.info.NodeInfo.{NodeInfo as Known};
 ghost use Rattle.cu_expr.specs.Kernel.{loads_from, function_of};
 ghost use Rattle.cu_typing.specs.Types.{array_type, pair_type, shared_type};
 ghost use Rattle.cu_expr.specs.Typing.{argument_of};
-ghost use Rattle.cu_lower.specs.Parts.{type_or_bool, steps_of, made_layout, made_array, array_places, map_of, view_op};
+ghost use Rattle.cu_lower.specs.Parts.{type_or_bool, made_layout, made_array, array_places, map_of, view_op};
 
 use arrayvec::ArrayVec;
 use cu_form::{Arg, ElementOp, Expr, Form};
@@ -99,7 +101,7 @@ fn loads(args: &[Arg]) -> ArrayVec<Instr, 32>
 }
 
 /// The arrays of the arguments that are arrays, in order, where nodes have these arrays.
-fn array_places(places: &[u32], args: &[Arg]) -> ArrayVec<u32, 8>
+pub(crate) fn array_places(places: &[u32], args: &[Arg]) -> ArrayVec<u32, 8>
     requires few { length args.now ≤ 8 }
     requires earlier { list_all (is_earlier (length places.now)) args.now ≡ true }
     ensures { result.items ≡ array_places places.now args.now }
@@ -151,7 +153,7 @@ pub(crate) fn view_op(infos: &[NodeInfo], places: &[u32], form: &Form, out: u32)
 
 /// The layout of a made array.
 fn made_layout(info: &NodeInfo) -> Layout
-    requires { IsInfo info.now }
+    requires { IsGrid (grid_of info.now) }
     ensures { result ≡ made_layout info.now }
 {
     Layout {
@@ -163,19 +165,19 @@ fn made_layout(info: &NodeInfo) -> Layout
     }
 }
 
-/// The array of a node that the operation `maker` makes, where `others` made arrays come before it.
+/// The array that the operation `maker` makes, where `others` made arrays come before it; `stored` says that it's the stored node's own.
 pub(crate) fn made_array(
     expr: &Expr,
     info: &NodeInfo,
-    node: u32,
+    stored: bool,
     others: u32,
     maker: u32,
 ) -> ArrayInfo
-    requires { IsInfo info.now }
-    ensures { result ≡ made_array expr.now info.now node others maker }
+    requires { IsGrid (grid_of info.now) }
+    ensures { result ≡ made_array expr.now info.now stored others maker }
 {
     let name = key_of_name(expr.store_as());
-    let prefix = if node == expr.out() {
+    let prefix = if stored {
         name
     } else {
         made_prefix(&name, others)

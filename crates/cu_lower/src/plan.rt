@@ -1,27 +1,32 @@
 //! The plan of an expression, node by node.
 
-ghost use Rattle.std.specs.Prelude.{◌≡◌, ◌≤◌, ◌<◌, ◌^◌, [], ◌∷◌, true, All, IfOk, OnOk, bytes_eq, length, slice_index};
+ghost use Rattle.std.specs.Prelude.{◌≡◌, ◌≤◌, ◌<◌, ◌+◌, ◌^◌, ◌++◌, [], ℕ, List, true, All, IfOk, IfSome, OnOk, bytes_eq, length, slice_index};
 ghost use Rattle.std.specs.List.{position_or_len};
 ghost use Rattle.cu_form.specs.Form.{args_of};
+ghost use Rattle.cu_grid.specs.Grid.{IsGrid};
 ghost use Rattle.cu_name.specs.Name.{is_name};
-ghost use Rattle.cu_node.specs.Info.{IsInfo};
+ghost use Rattle.cu_node.specs.Info.{IsInfo, info_at};
 ghost use Rattle.cu_op.specs.Sound.{Sound};
 ghost use Rattle.cu_need.specs.Live.{is_live};
 ghost use Rattle.cu_lower.specs.Inputs.{input_names};
 ghost use Rattle.cu_lower.specs.Plan.{first_grown, lowered, as_plan, plan_of};
-ghost use Rattle.cu_lower.specs.Parts.{IsGrown, IsApplied, IsWritten, CanGrow, array_places, map_of, view_op, operation_part, part_of, live_part, with_part};
+ghost use Rattle.cu_lower_reduce.specs.Steps.{grid_of, made_infos, all_made};
+ghost use Rattle.cu_lower.specs.Parts.{AreOptions, IsGrowing, IsGrown, CanGrow, HasSteps, Make, array_places, pair_arrays, steps_of, with_step, with_steps, with_place, with_last, with_node, with_live};
 ghost use Rattle.cu_lower.specs.Premises.{IsLowerable};
 
 use crate::inputs::{input_arrays, input_names, place_of};
 use crate::laws::plan_law;
 use crate::options::Options;
-use crate::parts::{made_array, map_of, view_op};
+use crate::parts::made_array;
+use crate::steps::steps_of;
 use cu_expr::InputInfo;
-use cu_form::{Arg, ElementOp, Expr, Form};
+use cu_form::{Expr, Form};
+use cu_lower_reduce::{Step, product_law, reduction_law, search_law};
+use cu_lower_view::pull_law;
 use cu_name::IdText;
-use cu_need::{is_view, live_law, live_marks, need_of};
-use cu_node::{NodeInfo, info_at, info_law};
-use cu_op::{ArrayInfo, Op, Plan, Planned};
+use cu_need::{live_law, live_marks};
+use cu_node::NodeInfo;
+use cu_op::{ArrayInfo, Plan, Planned};
 use cu_store::NoMemory;
 use std::alloc::{AllocError, Global};
 use std::marker::Model;
@@ -54,20 +59,10 @@ impl Growing {
         }
     }
 
-    /// Adds a node that has an array already, or none.
+    /// Adds a node whose array has this number.
     fn add_place(&mut self, place: u32) -> Result<(), AllocError>
-        ensures { OnOk result (self.new ≡ with_part self.old (record { arrays = []; ops = []; place = place })) }
+        ensures { OnOk result (self.new ≡ with_place self.old place) }
     {
-        self.places.push(place)?;
-        Ok(())
-    }
-
-    /// Adds a node with its array, and the operation that makes it.
-    fn add_made(&mut self, array: ArrayInfo, planned: Planned, place: u32) -> Result<(), AllocError>
-        ensures { OnOk result (self.new ≡ with_part self.old (record { arrays = array ∷ []; ops = planned ∷ []; place = place })) }
-    {
-        self.arrays.push(array)?;
-        self.ops.push(planned)?;
         self.places.push(place)?;
         Ok(())
     }
@@ -75,92 +70,128 @@ impl Growing {
     /// Adds the next node, which is an input: its array stands at the place of its name.
     fn add_input(&mut self, names: &[IdText], name: &IdText) -> Result<(), AllocError>
         requires { length names.now ≤ 256 }
-        ensures { OnOk result (self.new ≡ with_part self.old (record { arrays = []; ops = []; place = position_or_len (bytes_eq name.now) names.now })) }
+        ensures { OnOk result (self.new ≡ with_place self.old (position_or_len (bytes_eq name.now) names.now)) }
     {
         self.add_place(place_of(names, name) as u32)
     }
 
-    /// Adds the next node, whose array this operation makes, and which needs so many bytes, where `given` arrays are inputs.
-    fn add_operation(
+    /// Adds the one or two arrays that operation number `maker` makes, where `others` made arrays come before them.
+    fn add_arrays(
         &mut self,
         expr: &Expr,
-        infos: &[NodeInfo],
-        given: u32,
-        need: u64,
-        op: Op,
+        stored: bool,
+        others: u32,
+        maker: u32,
+        values: Option<NodeInfo>,
+        made: &NodeInfo,
     ) -> Result<(), AllocError>
-        requires grown { IsGrown expr.now self.old }
+        requires few { others < 2 ^ 31 }
+        requires values { IfSome values (λ i. IsGrid (grid_of i)) }
+        requires made { IsGrid (grid_of made.now) }
+        ensures { OnOk result (self.new ≡ record { arrays = self.old.arrays ++ pair_arrays expr.now stored others maker values made.now; ops = self.old.ops; places = self.old.places }) }
+    {
+        match values {
+            None => self
+                .arrays
+                .push(made_array(expr, made, stored, others, maker))?,
+            Some(info) => {
+                self.arrays
+                    .push(made_array(expr, &info, false, others, maker))?;
+                self.arrays
+                    .push(made_array(expr, made, stored, others + 1, maker))?;
+            }
+        }
+        Ok(())
+    }
+
+    /// Adds a step of the next node, where `given` arrays are inputs; `last` says that it's the node's last step.
+    fn add_step(
+        &mut self,
+        expr: &Expr,
+        given: u32,
+        last: bool,
+        step: Step,
+    ) -> Result<(), AllocError>
+        requires growing { IsGrowing expr.now self.old }
         requires given { given ≡ length (input_names expr.now) }
         requires inputs { given ≤ 256 }
         requires nodes { length self.old.places ≤ 256 }
-        requires infos { All IsInfo infos.now }
-        ensures { OnOk result (self.new ≡ with_part self.old (operation_part expr.now infos.now self.old op need)) }
+        requires few { length self.old.ops < 2 ^ 20 }
+        requires grids { All (λ i. IsGrid (grid_of i)) (made_infos step) }
+        ensures { OnOk result (self.new ≡ with_step expr.now last self.old step) }
     {
-        info_law();
         let node = self.places.len() as u32;
-        let out = self.arrays.len() as u32;
+        let others = self.arrays.len() as u32 - given;
         let maker = self.ops.len() as u32;
-        let array = made_array(expr, &info_at(infos, node), node, out - given, maker);
-        let planned = Planned {
+        let Step {
+            op,
+            values,
+            made,
+            need,
+        } = step;
+        let stored = last && node == expr.out();
+        self.add_arrays(expr, stored, others, maker, values, &made)?;
+        self.ops.push(Planned {
             op,
             node,
             projected: need,
-        };
-        self.add_made(array, planned, out)
+        })?;
+        Ok(())
     }
 
-    /// Adds the next node, which is an elementwise function and needs so many bytes, where `given` arrays are inputs.
-    fn add_map(
-        &mut self,
-        expr: &Expr,
-        infos: &[NodeInfo],
-        given: u32,
-        need: u64,
-        op: ElementOp,
-        args: &[Arg],
-    ) -> Result<(), AllocError>
-        requires grown { IsGrown expr.now self.old }
+    /// Adds the steps of the next node, where `given` arrays are inputs.
+    fn add_steps(&mut self, expr: &Expr, given: u32, steps: Vec<Step>) -> Result<(), AllocError>
+        requires growing { IsGrowing expr.now self.old }
         requires given { given ≡ length (input_names expr.now) }
         requires inputs { given ≤ 256 }
         requires nodes { length self.old.places ≤ 256 }
-        requires applied { IsApplied infos.now (length self.old.places) op args.now }
-        requires infos { All IsInfo infos.now }
-        ensures { OnOk result (self.new ≡ with_part self.old (operation_part expr.now infos.now self.old (map_of infos.now op args.now (array_places self.old.places args.now) (length self.old.arrays)) need)) }
+        requires few { length self.old.ops + length steps.items ≤ 2 ^ 20 }
+        requires grids { All (λ i. IsGrid (grid_of i)) (all_made steps.items) }
+        ensures { OnOk result (self.new ≡ with_steps expr.now self.old steps.items) }
     {
-        let out = self.arrays.len() as u32;
-        let op = map_of(infos, &self.places, op, args, out);
-        self.add_operation(expr, infos, given, need, op)
+        let mut left = steps.len();
+        for step in steps {
+            left -= 1;
+            self.add_step(expr, given, left == 0, step)?;
+        }
+        Ok(())
     }
 
-    /// Adds the next node, which is a view and needs so many bytes, where `given` arrays are inputs.
-    fn add_view(
+    /// Adds the next node, which isn't an input and is live.
+    fn add_made(
         &mut self,
+        alloc: Global,
         expr: &Expr,
         infos: &[NodeInfo],
         given: u32,
-        need: u64,
+        options: &Options,
         form: &Form,
     ) -> Result<(), AllocError>
         requires grown { IsGrown expr.now self.old }
         requires given { given ≡ length (input_names expr.now) }
         requires inputs { given ≤ 256 }
         requires nodes { length self.old.places ≤ 256 }
-        requires written { IsWritten (length self.old.places) form.now }
+        requires form { CanGrow infos.now (length self.old.places) form.now }
+        requires steps { (ins : List ℕ) (first : ℕ) → first < 2 ^ 31 → Make (info_at infos.now (length self.old.places)) (steps_of infos.now options.now (length self.old.places) form.now ins first) }
         requires infos { All IsInfo infos.now }
-        ensures { OnOk result (self.new ≡ with_part self.old (operation_part expr.now infos.now self.old (view_op infos.now form.now (array_places self.old.places (args_of form.now)) (length self.old.arrays)) need)) }
+        requires options { AreOptions options.now }
+        ensures { OnOk result (self.new ≡ with_last (with_steps expr.now self.old (steps_of infos.now options.now (length self.old.places) form.now (array_places self.old.places (args_of form.now)) (length self.old.arrays)))) }
     {
-        let out = self.arrays.len() as u32;
-        let op = view_op(infos, &self.places, form, out);
-        self.add_operation(expr, infos, given, need, op)
+        let first = self.arrays.len() as u32;
+        let steps = steps_of(alloc, infos, options, &self.places, form, first)?;
+        self.add_steps(expr, given, steps)?;
+        let place = self.arrays.len() as u32 - 1;
+        self.add_place(place)
     }
 
     /// Adds the next node, which is live.
     fn add_live(
         &mut self,
+        alloc: Global,
         expr: &Expr,
         infos: &[NodeInfo],
         names: &[IdText],
-        reserved: u64,
+        options: &Options,
         form: &Form,
     ) -> Result<(), AllocError>
         requires grown { IsGrown expr.now self.old }
@@ -168,31 +199,25 @@ impl Growing {
         requires inputs { length names.now ≤ 256 }
         requires nodes { length self.old.places ≤ 256 }
         requires form { CanGrow infos.now (length self.old.places) form.now }
+        requires steps { HasSteps infos.now options.now (length self.old.places) form.now }
         requires infos { All IsInfo infos.now }
-        requires reserved { reserved ≤ 2 ^ 40 }
-        ensures { OnOk result (self.new ≡ with_part self.old (part_of expr.now infos.now reserved self.old form.now)) }
+        requires options { AreOptions options.now }
+        ensures { OnOk result (self.new ≡ with_node expr.now infos.now options.now self.old form.now) }
     {
         match form {
             Form::Input { name } => self.add_input(names, name),
-            Form::Elementwise { op, args } => {
-                let need = need_of(reserved, infos, self.places.len() as u32, form);
-                self.add_map(expr, infos, names.len() as u32, need, *op, args.as_slice())
-            }
-            view if is_view(view) => {
-                let need = need_of(reserved, infos, self.places.len() as u32, view);
-                self.add_view(expr, infos, names.len() as u32, need, view)
-            }
-            _ => self.add_place(0),
+            _ => self.add_made(alloc, expr, infos, names.len() as u32, options, form),
         }
     }
 
     /// Adds the next node.
     fn add_node(
         &mut self,
+        alloc: Global,
         expr: &Expr,
         infos: &[NodeInfo],
         names: &[IdText],
-        reserved: u64,
+        options: &Options,
         live: bool,
         form: &Form,
     ) -> Result<(), AllocError>
@@ -200,14 +225,15 @@ impl Growing {
         requires names { names.now ≡ input_names expr.now }
         requires inputs { length names.now ≤ 256 }
         requires nodes { length self.old.places ≤ 256 }
-        requires form { CanGrow infos.now (length self.old.places) form.now }
+        requires form { live ≡ true → CanGrow infos.now (length self.old.places) form.now }
+        requires steps { live ≡ true → HasSteps infos.now options.now (length self.old.places) form.now }
         requires infos { All IsInfo infos.now }
-        requires reserved { reserved ≤ 2 ^ 40 }
+        requires options { AreOptions options.now }
         requires live { live ≡ is_live expr.now (length self.old.places) }
-        ensures { OnOk result (self.new ≡ with_part self.old (live_part expr.now infos.now reserved self.old form.now)) }
+        ensures { OnOk result (self.new ≡ with_live expr.now infos.now options.now self.old form.now) }
     {
         if live {
-            self.add_live(expr, infos, names, reserved, form)
+            self.add_live(alloc, expr, infos, names, options, form)
         } else {
             self.add_place(0)
         }
@@ -238,9 +264,13 @@ fn grow(
     options: &Options,
 ) -> Result<Growing, AllocError>
     requires { IsLowerable expr.now infos.now inputs.now options.now }
-    ensures { IfOk result (λ grown. grown ≡ lowered expr.now infos.now inputs.now options.now.reserved) }
+    ensures { IfOk result (λ grown. grown ≡ lowered expr.now infos.now inputs.now options.now) }
 {
     live_law();
+    pull_law();
+    reduction_law();
+    search_law();
+    product_law();
     let marks = live_marks(expr);
     let names = input_names(alloc, expr, &marks)?;
     let arrays = input_arrays(alloc, inputs, &names)?;
@@ -248,10 +278,11 @@ fn grow(
     let nodes = expr.nodes();
     for k in 0..nodes.len() {
         grown.add_node(
+            alloc,
             expr,
             infos,
             &names,
-            options.reserved,
+            options,
             marks[k],
             &nodes[k].form,
         )?;
@@ -260,8 +291,10 @@ fn grow(
 }
 
 /// The plan of an expression, where `infos` is what is known of its nodes (this project's own rule): one array for each input that a
-/// live node uses, then for each live elementwise node and each live view, in order, its array and the one operation that makes it. The
-/// array of the stored node has the output's name as prefix, each other one `_cubed/NAME/K`, where K counts them from 0.
+/// live node uses, then for each other live node, in order, the operations of its steps and the arrays that they make, of which the last
+/// is the node's own. An elementwise node and a view have one step; a reduction, a search for places and a product have one over chunks,
+/// and one for each round in which partial results are merged. The stored node's own array has the output's name as prefix, each other
+/// one `_cubed/NAME/K`, where K counts the made arrays from 0.
 pub fn lower(
     alloc: Global,
     expr: &Expr,
@@ -274,6 +307,10 @@ pub fn lower(
     ensures sound { IfOk result Sound }
 {
     plan_law();
+    pull_law();
+    reduction_law();
+    search_law();
+    product_law();
     match grow(alloc, expr, infos, inputs, options) {
         Ok(grown) => Ok(grown.into_plan(expr.out(), options)),
         Err(_) => Err(NoMemory),

@@ -5,8 +5,9 @@ use Rattle.std.specs.Int.{int_min, int_max}
 use Rattle.std.specs.List.{position_or_len}
 use Rattle.std.specs.Ordering.{int_eq}
 use Rattle.std.proofs.lemmas.Int.{ints}
-use Rattle.std.proofs.lemmas.Bool.Decides.{Decides-int_eq}
-use Rattle.cu_meaning.specs.Reduction.{least_of, greatest_of, best_place}
+use Rattle.cu_reduce.specs.Folds.{least_of, greatest_of}
+use Rattle.cu_reduce.specs.Places.{best_place}
+use Rattle.cu_reduce.proofs.Bests.{here, later}
 use Rattle.cu_mean.specs.Places.{best_of, takes_place, IsBest}
 use Rattle.cu_mean.specs.declared.places.Best.{Best}
 use Rattle.cu_mean.specs.Reductions.{IsNone}
@@ -22,12 +23,6 @@ lt_false x y h = search rules
 
 lt_true : (x y : ℤ) → x <ℤ y → int_lt x y ≡ true
 lt_true x y h = search rules
-
-equal : (x : ℤ) → int_eq x x ≡ true
-equal x = search (rules, Decides-int_eq)
-
-differ : (x y : ℤ) → (x ≡ y → ⊥) → int_eq x y ≡ false
-differ x y h = search (rules, Decides-int_eq)
 
 min_first : (x m : ℤ) → int_le x m ≡ true → int_min x m ≡ x
 min_first x m h = rw (lt_false m x (le_true x m h)) refl
@@ -47,12 +42,6 @@ max_first x m h = max_by x m (int_lt m x) refl (le_true m x h)
 
 max_second : (x m : ℤ) → int_le m x ≡ false → int_max x m ≡ m
 max_second x m h = let l : x ≤ℤ m = let w : x <ℤ m = le_false m x h in omega (arith, ints) in rw (lt_false m x l) refl
-
-here : (v x : ℤ) (xs : List ℤ) → v ≡ x → position_or_len (int_eq v) (x ∷ xs) ≡ 0
-here v x xs e = rw (e, equal x) refl
-
-later : (v x : ℤ) (xs : List ℤ) → (v ≡ x → ⊥) → position_or_len (int_eq v) (x ∷ xs) ≡ suc (position_or_len (int_eq v) xs)
-later v x xs h = rw (differ v x h) (omega arith)
 
 -- ---- one element more in front
 

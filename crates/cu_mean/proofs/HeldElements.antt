@@ -20,7 +20,7 @@ use Rattle.cu_mean.specs.Plain.{PlainArray, IsPlain}
 use Rattle.cu_mean.specs.Reading.{plain_at, found_at, elements_in}
 use Rattle.cu_mean.specs.Whole.{HoldsElements}
 use Rattle.cu_mean.proofs.Found.{there, within, read_or, found}
-use Rattle.cu_mean.proofs.Ranges.{zero_in_range}
+use Rattle.cu_reduce.proofs.Folding.{zero_in_range}
 
 -- ---- one array
 

@@ -2,7 +2,7 @@
 use Rattle.std.proofs.Common.{◌≡◌, ◌+◌, ◌-◌, ◌<◌, suc, ℕ, Bool, true, false, List, [], ◌∷◌, ◌++◌, length, length-append, take, refl, ap, ◌∙◌, arith}
 use Rattle.std.specs.Prelude.{nat_le, slice_index, slice_set, if◌then◌else◌}
 use Rattle.cu_shape.specs.Index.{back}
-use Rattle.cu_meaning.specs.Matmul.{batch_of, outer_axes, batch_axes, left_index, right_index}
+use Rattle.cu_reduce.specs.Products.{batch_of, outer_axes, batch_axes, left_index, right_index}
 
 last_set : (front : List ℕ) (row k : ℕ) → slice_set (front ++ row ∷ 0 ∷ []) (suc (length front)) k ≡ front ++ row ∷ k ∷ []
 last_set [] row k = refl

@@ -18,7 +18,6 @@ pub mod KeptPieces
 pub mod KeptViews
 pub mod NodeTypes
 pub mod OperandTypes
-pub mod Ranges
 pub mod ReadyNodes
 pub mod ReducedBoxes
 pub mod Steps

@@ -1,6 +1,7 @@
 -- The least or the greatest element, and the first place that has it.
 use Rattle.std.specs.Prelude.{◌≡◌, ℕ, ◌+◌, ℤ, Bool, ◌||◌, int_le, List, if◌then◌else◌}
-use Rattle.cu_meaning.specs.Reduction.{least_of, greatest_of, best_place}
+use Rattle.cu_reduce.specs.Folds.{least_of, greatest_of}
+use Rattle.cu_reduce.specs.Places.{best_place}
 use Rattle.cu_mean.specs.declared.places.Best.{Best}
 
 abbrev pub best_of : Bool → List ℤ → ℤ

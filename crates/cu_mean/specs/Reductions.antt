@@ -5,7 +5,7 @@ use Rattle.cu_num.specs.declared.types.Dtype.{Dtype}
 use Rattle.cu_num.specs.declared.folds.FoldKind.{FoldKind}
 use Rattle.cu_num.specs.declared.folds.FoldKind.TheVariants as fold
 use Rattle.cu_shape.specs.Index.{sums}
-use Rattle.cu_meaning.specs.Reduction.{fold_of, exact_sum, exact_product}
+use Rattle.cu_reduce.specs.Folds.{fold_of, exact_sum, exact_product}
 
 -- sums and products are wrapped on the way, which changes nothing; the others are exact
 abbrev pub kept_of : FoldKind → Dtype → List ℤ → ℤ

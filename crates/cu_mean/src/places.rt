@@ -2,7 +2,7 @@
 ghost use Rattle.std.specs.Prelude.{◌≡◌, ◌≤◌, ◌^◌, ℤ, List, ◌∷◌, ◌+◌, length};
 ghost use Rattle.cu_shape.specs.Index.{product, indices_of};
 ghost use Rattle.cu_meaning.specs.Argument.{source_at};
-ghost use Rattle.cu_meaning.specs.Reduction.{best_place};
+ghost use Rattle.cu_reduce.specs.Places.{best_place};
 ghost use Rattle.cu_mean.specs.Places.{IsBest, takes_place};
 ghost use Rattle.cu_mean.specs.Reading.{elements_in};
 ghost use Rattle.cu_mean.specs.Reductions.{AreApart, IsNone, elements_along};

@@ -4,7 +4,8 @@ ghost use Rattle.cu_num.specs.Dtype.{IsInteger};
 ghost use Rattle.cu_num.specs.Wrap.{wrapped};
 ghost use Rattle.cu_shape.specs.Index.{back};
 ghost use Rattle.cu_meaning.specs.Argument.{source_at};
-ghost use Rattle.cu_meaning.specs.Matmul.{batch_of, outer_axes, batch_axes, left_index, right_index, matmul_at};
+ghost use Rattle.cu_meaning.specs.Matmul.{matmul_at};
+ghost use Rattle.cu_reduce.specs.Products.{batch_of, outer_axes, batch_axes, left_index, right_index};
 ghost use Rattle.cu_mean.specs.Reading.{elements_in};
 
 use crate::plain::Plain;

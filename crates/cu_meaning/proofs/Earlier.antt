@@ -16,7 +16,9 @@ use Rattle.cu_meaning.specs.Argument.{NodeElements, shape_at, argument_at, eleme
 use Rattle.cu_meaning.specs.Index.{axis_in}
 use Rattle.cu_meaning.specs.Matmul.{matmul_at}
 use Rattle.cu_meaning.specs.Meaning.{AgreeBelow}
-use Rattle.cu_meaning.specs.Reduction.{reduced_elements, fold_of, best_place}
+use Rattle.cu_meaning.specs.Reduction.{reduced_elements}
+use Rattle.cu_reduce.specs.Folds.{fold_of}
+use Rattle.cu_reduce.specs.Places.{best_place}
 use Rattle.cu_meaning.specs.Rule.{function_value, place_axes, rule_of, node_element}
 use Rattle.cu_pull.specs.Pull.{is_in_triangle}
 use Rattle.cu_meaning.specs.View.{concat_at}

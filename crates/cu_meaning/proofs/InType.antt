@@ -28,7 +28,10 @@ use Rattle.cu_node.specs.declared.info.NodeInfo.{NodeInfo}
 use Rattle.cu_meaning.specs.Argument.{NodeElements, shape_at, argument_at, element_from, shape_from, source_at, source_shape}
 use Rattle.cu_meaning.specs.Index.{axis_in}
 use Rattle.cu_meaning.specs.Meaning.{no_elements, meaning_of}
-use Rattle.cu_meaning.specs.Reduction.{reduced_elements, reduced_box, least_of, greatest_of, best_place}
+use Rattle.cu_meaning.specs.Reduction.{reduced_elements, reduced_box}
+use Rattle.cu_reduce.specs.Folds.{least_of, greatest_of}
+use Rattle.cu_reduce.specs.Places.{best_place}
+use Rattle.cu_reduce.proofs.Folding.{zero_in_range, one_in_range}
 use Rattle.cu_meaning.specs.Rule.{function_value, place_axes, rule_of}
 use Rattle.cu_meaning.specs.Typed.{type_at, FitsType, IsResultType, KeepsType}
 use Rattle.cu_pull.specs.Pull.{is_in_triangle}
@@ -43,30 +46,6 @@ right_true : (a b : Bool) → (a && b) ≡ true → b ≡ true
 right_true true b h = h
 right_true false b h = cc
 
--- ---- 0 and 1 are numbers of each type
-
-zero_fits : (t : Dtype) → InRange t (pos 0)
-zero_fits t.Bool = (omega (arith, ints), omega (arith, ints))
-zero_fits t.Int8 = (omega (arith, ints), omega (arith, ints))
-zero_fits t.Int16 = (omega (arith, ints), omega (arith, ints))
-zero_fits t.Int32 = (omega (arith, ints), omega (arith, ints))
-zero_fits t.Int64 = (omega (arith, ints), omega (arith, ints))
-zero_fits t.Uint8 = (omega (arith, ints), omega (arith, ints))
-zero_fits t.Uint16 = (omega (arith, ints), omega (arith, ints))
-zero_fits t.Uint32 = (omega (arith, ints), omega (arith, ints))
-zero_fits t.Uint64 = (omega (arith, ints), omega (arith, ints))
-
-one_fits : (t : Dtype) → InRange t (pos 1)
-one_fits t.Bool = (omega (arith, ints), omega (arith, ints))
-one_fits t.Int8 = (omega (arith, ints), omega (arith, ints))
-one_fits t.Int16 = (omega (arith, ints), omega (arith, ints))
-one_fits t.Int32 = (omega (arith, ints), omega (arith, ints))
-one_fits t.Int64 = (omega (arith, ints), omega (arith, ints))
-one_fits t.Uint8 = (omega (arith, ints), omega (arith, ints))
-one_fits t.Uint16 = (omega (arith, ints), omega (arith, ints))
-one_fits t.Uint32 = (omega (arith, ints), omega (arith, ints))
-one_fits t.Uint64 = (omega (arith, ints), omega (arith, ints))
-
 either_fits : (t : Dtype) (b : Bool) (x y : ℤ) → InRange t x → InRange t y → InRange t (if b then x else y)
 either_fits t true x y h k = h
 either_fits t false x y h k = k
@@ -80,12 +59,12 @@ FitBelow infos at k = (n : ℕ) (idx : List ℕ) → n < k → InRange (type_at 
 element_fits : (infos : List NodeInfo) (at : NodeElements) (k : ℕ) (t : Dtype) (arg : Arg) (idx : List ℕ) → FitBelow infos at k → is_earlier k arg ≡ true
     → FitsType infos t arg → InRange t (element_from at (Some arg) idx)
 element_fits infos at k t (Arg.Node n) idx below earlier fits = fits (at n idx) (below n idx (ltb-true n k earlier))
-element_fits infos at k t (Arg.Int x) idx below earlier fits = zero_fits t
-element_fits infos at k t (Arg.Truth b) idx below earlier fits = zero_fits t
+element_fits infos at k t (Arg.Int x) idx below earlier fits = zero_in_range t
+element_fits infos at k t (Arg.Truth b) idx below earlier fits = zero_in_range t
 
 source_fits : (infos : List NodeInfo) (at : NodeElements) (k : ℕ) (t : Dtype) (args : List Arg) (j : ℕ) (idx : List ℕ) → FitBelow infos at k → list_all (is_earlier k) args ≡ true
     → All (FitsType infos t) args → InRange t (source_at at args j idx)
-source_fits infos at k t [] j idx below earlier fits = zero_fits t
+source_fits infos at k t [] j idx below earlier fits = zero_in_range t
 source_fits infos at k t (arg ∷ args) zero idx below earlier fits =
     element_fits infos at k t arg idx below (left_true (is_earlier k arg) (list_all (is_earlier k) args) earlier) (All-head (FitsType infos t) arg args fits)
 source_fits infos at k t (arg ∷ args) (suc j) idx below earlier fits =
@@ -99,7 +78,7 @@ argument_fits infos at k t (Arg.Truth b) idx below earlier fits = fits
 
 concat_fits : (infos : List NodeInfo) (at : NodeElements) (k : ℕ) (t : Dtype) (axis : ℕ) (args : List Arg) (idx : List ℕ) → FitBelow infos at k → list_all (is_earlier k) args ≡ true
     → All (FitsType infos t) args → InRange t (concat_at infos at axis args idx)
-concat_fits infos at k t axis [] idx below earlier fits = zero_fits t
+concat_fits infos at k t axis [] idx below earlier fits = zero_in_range t
 concat_fits infos at k t axis (arg ∷ args) idx below earlier fits =
     either_fits t (nat_lt (slice_index idx axis) (slice_index (shape_from infos (Some arg)) axis)) _ _
     (element_fits infos at k t arg idx below (left_true (is_earlier k arg) (list_all (is_earlier k) args) earlier) (All-head (FitsType infos t) arg args fits))
@@ -115,25 +94,25 @@ two_fits_result f t x y h = subst (λ (r : Dtype). InRange r (op2 f t x y)) h (I
 
 function_fits : (infos : List NodeInfo) (at : NodeElements) (k : ℕ) (t : Dtype) (op : ElementOp) (args : List Arg) (idx : List ℕ) → FitBelow infos at k → list_all (is_earlier k) args ≡ true
     → IsResultType infos t op args → InRange t (function_value op t (map (argument_at infos at idx) args))
-function_fits infos at k t (ElementOp.One f) [] idx below earlier is = zero_fits t
+function_fits infos at k t (ElementOp.One f) [] idx below earlier is = zero_in_range t
 function_fits infos at k t (ElementOp.One f) (x ∷ []) idx below earlier is = one_fits_result f t _ is
-function_fits infos at k t (ElementOp.One f) (x ∷ y ∷ args) idx below earlier is = zero_fits t
-function_fits infos at k t (ElementOp.Two f) [] idx below earlier is = zero_fits t
-function_fits infos at k t (ElementOp.Two f) (x ∷ []) idx below earlier is = zero_fits t
+function_fits infos at k t (ElementOp.One f) (x ∷ y ∷ args) idx below earlier is = zero_in_range t
+function_fits infos at k t (ElementOp.Two f) [] idx below earlier is = zero_in_range t
+function_fits infos at k t (ElementOp.Two f) (x ∷ []) idx below earlier is = zero_in_range t
 function_fits infos at k t (ElementOp.Two f) (x ∷ y ∷ []) idx below earlier is = two_fits_result f t _ _ is
-function_fits infos at k t (ElementOp.Two f) (x ∷ y ∷ z ∷ args) idx below earlier is = zero_fits t
-function_fits infos at k t ElementOp.Where [] idx below earlier is = zero_fits t
-function_fits infos at k t ElementOp.Where (c ∷ []) idx below earlier is = zero_fits t
-function_fits infos at k t ElementOp.Where (c ∷ x ∷ []) idx below earlier is = zero_fits t
+function_fits infos at k t (ElementOp.Two f) (x ∷ y ∷ z ∷ args) idx below earlier is = zero_in_range t
+function_fits infos at k t ElementOp.Where [] idx below earlier is = zero_in_range t
+function_fits infos at k t ElementOp.Where (c ∷ []) idx below earlier is = zero_in_range t
+function_fits infos at k t ElementOp.Where (c ∷ x ∷ []) idx below earlier is = zero_in_range t
 function_fits infos at k t ElementOp.Where (c ∷ x ∷ y ∷ []) idx below earlier is =
     let rest : list_all (is_earlier k) (x ∷ y ∷ []) ≡ true = right_true (is_earlier k c) _ earlier in
     either_fits t (is_nonzero (argument_at infos at idx c)) (argument_at infos at idx x) (argument_at infos at idx y)
     (argument_fits infos at k t x idx below (left_true (is_earlier k x) _ rest) (All-head (FitsType infos t) x (y ∷ []) is))
     (argument_fits infos at k t y idx below (left_true (is_earlier k y) true (right_true (is_earlier k x) _ rest)) (All-head (FitsType infos t) y [] (All-tail (FitsType infos t) x (y ∷ []) is)))
-function_fits infos at k t ElementOp.Where (c ∷ x ∷ y ∷ z ∷ args) idx below earlier is = zero_fits t
-function_fits infos at k t (ElementOp.Astype d) [] idx below earlier is = zero_fits t
+function_fits infos at k t ElementOp.Where (c ∷ x ∷ y ∷ z ∷ args) idx below earlier is = zero_in_range t
+function_fits infos at k t (ElementOp.Astype d) [] idx below earlier is = zero_in_range t
 function_fits infos at k t (ElementOp.Astype d) (x ∷ []) idx below earlier is = subst (λ (r : Dtype). InRange r (op1 Astype d (argument_at infos at idx x))) is (InRange-op1 Astype d (argument_at infos at idx x))
-function_fits infos at k t (ElementOp.Astype d) (x ∷ y ∷ args) idx below earlier is = zero_fits t
+function_fits infos at k t (ElementOp.Astype d) (x ∷ y ∷ args) idx below earlier is = zero_in_range t
 
 -- ---- places
 
@@ -163,9 +142,9 @@ rule_fits infos env at k (Form.Input name) idx inside below earlier keeps = keep
 rule_fits infos env at k (Form.Elementwise op args) idx inside below earlier keeps = function_fits infos at k (type_at infos k) op args idx below earlier keeps
 rule_fits infos env at k (Form.Full shape dtype value chunk) idx inside below earlier keeps = keeps
 rule_fits infos env at k (Form.Arange start stop step dtype chunk) idx inside below earlier keeps = keeps idx inside
-rule_fits infos env at k (Form.Eye rows cols d dtype chunk) idx inside below earlier keeps = either_fits (type_at infos k) _ (pos 1) (pos 0) (one_fits (type_at infos k)) (zero_fits (type_at infos k))
+rule_fits infos env at k (Form.Eye rows cols d dtype chunk) idx inside below earlier keeps = either_fits (type_at infos k) _ (pos 1) (pos 0) (one_in_range (type_at infos k)) (zero_in_range (type_at infos k))
 rule_fits infos env at k (Form.Triangle lower args d) idx inside below earlier keeps =
-    either_fits (type_at infos k) (is_in_triangle lower d idx) _ (pos 0) (source_fits infos at k (type_at infos k) args 0 idx below earlier keeps) (zero_fits (type_at infos k))
+    either_fits (type_at infos k) (is_in_triangle lower d idx) _ (pos 0) (source_fits infos at k (type_at infos k) args 0 idx below earlier keeps) (zero_in_range (type_at infos k))
 rule_fits infos env at k (Form.Index args items) idx inside below earlier keeps = source_fits infos at k (type_at infos k) args 0 _ below earlier keeps
 rule_fits infos env at k (Form.Concat args axis) idx inside below earlier keeps = concat_fits infos at k (type_at infos k) (axis_in (length idx) axis) args idx below earlier keeps
 rule_fits infos env at k (Form.Stack args axis) idx inside below earlier keeps = source_fits infos at k (type_at infos k) args (slice_index idx (axis_in (length idx) axis)) _ below earlier keeps
@@ -186,7 +165,7 @@ rule_fits infos env at k (Form.Matmul args) idx inside below earlier keeps = InR
 node_fits_by : (infos : List NodeInfo) (env at : NodeElements) (k : ℕ) (form : Form) (idx : List ℕ) (b : Bool) → is_inside (shape_at infos k) idx ≡ b → FitBelow infos at k → names_earlier k form ≡ true
     → KeepsType infos env k form → InRange (type_at infos k) (if b then rule_of infos env at k form idx else pos 0)
 node_fits_by infos env at k form idx true e below earlier keeps = rule_fits infos env at k form idx e below earlier keeps
-node_fits_by infos env at k form idx false e below earlier keeps = zero_fits (type_at infos k)
+node_fits_by infos env at k form idx false e below earlier keeps = zero_in_range (type_at infos k)
 
 -- ---- the meaning
 
@@ -204,7 +183,7 @@ number_fits e infos env k idx (Some node) h is keeps below =
     subst (InRange (type_at infos k)) (sym (equation e infos env k node idx is h))
     (node_fits_by infos env (meaning_of e infos env) k node.form idx (is_inside (shape_at infos k) idx) refl below (is.nodes k node h).form.earlier (keeps k node h))
 number_fits e infos env k idx None h is keeps below =
-    subst (InRange (type_at infos k)) (sym (past infos env e.nodes 0 no_elements k idx (omega (arith, none_past e.nodes k h)))) (zero_fits (type_at infos k))
+    subst (InRange (type_at infos k)) (sym (past infos env e.nodes 0 no_elements k idx (omega (arith, none_past e.nodes k h)))) (zero_in_range (type_at infos k))
 
 below_all : (e : Expression) (infos : List NodeInfo) (env : NodeElements) (m : ℕ) → IsExpression e → KeepTypes e infos env → FitBelow infos (meaning_of e infos env) m
 below_all e infos env zero is keeps = λ n idx lt. absurd (omega arith)

@@ -14,7 +14,9 @@ use Rattle.cu_node.specs.declared.info.NodeInfo.{NodeInfo}
 use Rattle.cu_meaning.specs.Argument.{NodeElements, shape_at, argument_at, source_at, source_shape}
 use Rattle.cu_meaning.specs.Index.{axis_in}
 use Rattle.cu_meaning.specs.Matmul.{matmul_at}
-use Rattle.cu_meaning.specs.Reduction.{reduced_elements, fold_of, best_place}
+use Rattle.cu_meaning.specs.Reduction.{reduced_elements}
+use Rattle.cu_reduce.specs.Folds.{fold_of}
+use Rattle.cu_reduce.specs.Places.{best_place}
 use Rattle.cu_meaning.specs.View.{arange_at, eye_at, indexed, permuted, same_place, flipped, rolled, concat_at, stack_at}
 
 -- An elementwise function of its arguments' elements. `t` is the type of the result: comparisons and logical functions do not

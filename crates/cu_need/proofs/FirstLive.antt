@@ -130,26 +130,26 @@ unbuilt_found e infos k found =
 
 -- ---- nodes that need more than is allowed
 
-abbrev is_over : ℕ → ℕ → List NodeInfo → ℕ × Node → Bool
-is_over allowed reserved infos numbered = nat_lt allowed (need_of reserved infos numbered.0 numbered.1.form)
+abbrev is_over : ℕ → ℕ → ℕ → List NodeInfo → ℕ × Node → Bool
+is_over allowed reserved split_every infos numbered = nat_lt allowed (need_of reserved split_every infos numbered.0 numbered.1.form)
 
-abbrev with_need : ℕ → List NodeInfo → ℕ × Node → NodeNeed
-with_need reserved infos numbered = record { node = numbered.0; need = need_of reserved infos numbered.0 numbered.1.form }
+abbrev with_need : ℕ → ℕ → List NodeInfo → ℕ × Node → NodeNeed
+with_need reserved split_every infos numbered = record { node = numbered.0; need = need_of reserved split_every infos numbered.0 numbered.1.form }
 
-pub over_none : (allowed reserved : ℕ) (e : Expression) (infos : List NodeInfo) → (first_over allowed reserved e infos ≡ None) ↔ ((k : ℕ) (node : Node) → IsLiveNode e k node → need_of reserved infos k node.form ≤ allowed)
-over_none allowed reserved e infos = (
-  (λ none k node live. ltb-false allowed (need_of reserved infos k node.form) (none_passes e e.nodes 0 (is_over allowed reserved infos) (mapped_none (with_need reserved infos) (find (is_over allowed reserved infos) (live_nodes e)) none) k k node (omega arith) live.at live.live)),
-  (λ all. ap (λ (o : Option (ℕ × Node)). option_map (with_need reserved infos) o) (nothing_found e e.nodes 0 (is_over allowed reserved infos) (λ i j n place at live. le-ltb allowed (need_of reserved infos j n.form) (all j n (live_at e i j n place at live))))),
+pub over_none : (allowed reserved split_every : ℕ) (e : Expression) (infos : List NodeInfo) → (first_over allowed reserved split_every e infos ≡ None) ↔ ((k : ℕ) (node : Node) → IsLiveNode e k node → need_of reserved split_every infos k node.form ≤ allowed)
+over_none allowed reserved split_every e infos = (
+  (λ none k node live. ltb-false allowed (need_of reserved split_every infos k node.form) (none_passes e e.nodes 0 (is_over allowed reserved split_every infos) (mapped_none (with_need reserved split_every infos) (find (is_over allowed reserved split_every infos) (live_nodes e)) none) k k node (omega arith) live.at live.live)),
+  (λ all. ap (λ (o : Option (ℕ × Node)). option_map (with_need reserved split_every infos) o) (nothing_found e e.nodes 0 (is_over allowed reserved split_every infos) (λ i j n place at live. le-ltb allowed (need_of reserved split_every infos j n.form) (all j n (live_at e i j n place at live))))),
 )
 
-pub over_found : (allowed reserved : ℕ) (e : Expression) (infos : List NodeInfo) (found : NodeNeed) → first_over allowed reserved e infos ≡ Some found → IsFirstOver allowed reserved e infos found
-over_found allowed reserved e infos found is =
-    let taken = mapped_some (with_need reserved infos) (find (is_over allowed reserved infos) (live_nodes e)) found is in
-    let w = found_first e e.nodes 0 (is_over allowed reserved infos) taken.0 taken.1 in
-    subst (λ (f : NodeNeed). IsFirstOver allowed reserved e infos f) taken.2 (record {
+pub over_found : (allowed reserved split_every : ℕ) (e : Expression) (infos : List NodeInfo) (found : NodeNeed) → first_over allowed reserved split_every e infos ≡ Some found → IsFirstOver allowed reserved split_every e infos found
+over_found allowed reserved split_every e infos found is =
+    let taken = mapped_some (with_need reserved split_every infos) (find (is_over allowed reserved split_every infos) (live_nodes e)) found is in
+    let w = found_first e e.nodes 0 (is_over allowed reserved split_every infos) taken.0 taken.1 in
+    subst (λ (f : NodeNeed). IsFirstOver allowed reserved split_every e infos f) taken.2 (record {
       node = taken.0.1;
       is_node = live_at e w.i taken.0.0 taken.0.1 w.place w.at w.live;
       need = refl;
-      over = ltb-true allowed (need_of reserved infos taken.0.0 taken.0.1.form) w.passes;
-      first = λ j earlier before live. ltb-false allowed (need_of reserved infos j earlier.form) (w.first j j earlier (omega (arith, before, w.place)) (omega arith) live.at live.live);
+      over = ltb-true allowed (need_of reserved split_every infos taken.0.0 taken.0.1.form) w.passes;
+      first = λ j earlier before live. ltb-false allowed (need_of reserved split_every infos j earlier.form) (w.first j j earlier (omega (arith, before, w.place)) (omega arith) live.at live.live);
     })

@@ -3,4 +3,6 @@ mod Examples
 pub mod FirstLive
 pub mod LiveNodes
 pub mod LiveSteps
+pub mod PartialChunks
+pub mod SoughtAxes
 pub mod TypedNodes

@@ -3,4 +3,5 @@ pub mod Counts
 pub mod Elementwise
 pub mod Live
 pub mod Need
+pub mod Reduction
 pub mod View

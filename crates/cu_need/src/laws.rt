@@ -15,6 +15,8 @@ ghost use Rattle.cu_need.specs.declared.counts.PlanCounts.{PlanCounts};
 ghost use Rattle.cu_need.specs.declared.need.NodeNeed.{NodeNeed};
 ghost use Rattle.cu_need.specs.Live.{is_live, IsClosed, IsLiveArgument};
 
+use cu_node::info_law;
+
 /// The live nodes are the least set that has the stored node, and with each node its arguments. So each of them is the stored node or
 /// an argument of a live one, and none has a number past the stored node's.
 pub fn live_law()
@@ -32,8 +34,8 @@ pub fn unbuilt_law()
 
 /// No node is named where each live one needs at most what is allowed, and else the first that needs more, with its need.
 pub fn over_law()
-    ensures none { (allowed reserved : ℕ) (e : Expression) (infos : List NodeInfo) → (first_over allowed reserved e infos ≡ None) ↔ ((k : ℕ) (node : Node) → IsLiveNode e k node → need_of reserved infos k node.form ≤ allowed) }
-    ensures found { (allowed reserved : ℕ) (e : Expression) (infos : List NodeInfo) (found : NodeNeed) → first_over allowed reserved e infos ≡ Some found → IsFirstOver allowed reserved e infos found }
+    ensures none { (allowed reserved split_every : ℕ) (e : Expression) (infos : List NodeInfo) → (first_over allowed reserved split_every e infos ≡ None) ↔ ((k : ℕ) (node : Node) → IsLiveNode e k node → need_of reserved split_every infos k node.form ≤ allowed) }
+    ensures found { (allowed reserved split_every : ℕ) (e : Expression) (infos : List NodeInfo) (found : NodeNeed) → first_over allowed reserved split_every e infos ≡ Some found → IsFirstOver allowed reserved split_every e infos found }
 {}
 
 /// An argument is aligned exactly where its chunk shape is that to which it is aligned. Where all are, an elementwise node needs the
@@ -52,4 +54,6 @@ pub fn counts_law()
 /// Where each array keeps the limits and each elementwise node is typed, so do the chunks to which arguments are aligned.
 pub fn typed_law()
     ensures { (e : Expression) (infos : List NodeInfo) → All IsInfo infos → ((k : ℕ) (node : Node) → slice_get e.nodes k ≡ Some node → IsTyped infos k node.form) → AreWithinLimits e infos }
-{}
+{
+    info_law();
+}

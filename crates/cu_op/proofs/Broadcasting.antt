@@ -31,3 +31,12 @@ axes_drop f zero xs ys e = refl
 axes_drop f (suc k) [] ys e = refl
 axes_drop f (suc k) (x ∷ xs) [] e = absurd (omega arith)
 axes_drop f (suc k) (x ∷ xs) (y ∷ ys) e = axes_drop f k xs ys (omega arith)
+
+pub axes_short : (f : ℕ → ℕ → ℕ) (xs ys : List ℕ) → length (axis_by_axis f xs ys) ≤ length xs
+axes_short f [] ys = omega arith
+axes_short f (x ∷ xs) [] = omega arith
+axes_short f (x ∷ xs) (y ∷ ys) = let rest = axes_short f xs ys in omega (arith, rest)
+
+-- what is read has no more axes than the array
+pub back_short : (one : ℕ) (shape numbers : List ℕ) → length (back_as one shape numbers) ≤ length shape
+back_short one shape numbers = axes_short (λ n i. if n == 1 then one else i) shape (drop (length numbers - length shape) numbers)

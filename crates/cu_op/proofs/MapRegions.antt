@@ -1,12 +1,12 @@
 -- The region of an argument from which a region of a map's result is read.
-use Rattle.std.proofs.Common.{◌≡◌, ◌≢◌, ◌⊎◌, inl, inr, ℕ, zero, suc, ◌<◌, ◌≤◌, ◌+◌, ◌-◌, ◌==◌, List, [], ◌∷◌, length, drop, ap, sym, subst, arith, refl, if◌then◌else◌}
+use Rattle.std.proofs.Common.{◌≡◌, ◌≢◌, ◌⊎◌, inl, inr, ℕ, zero, suc, ◌<◌, ◌≤◌, ◌+◌, ◌-◌, ◌==◌, List, [], ◌∷◌, length, drop, All, ap, sym, subst, arith, refl, if◌then◌else◌}
 use Rattle.std.proofs.lemmas.Bool.Decides.{eqb_tells}
 use Rattle.cu_shape.specs.Index.{axis_by_axis, back_along, back}
 use Rattle.cu_grid.specs.Counts.{IsRegion, IsWithin}
 use Rattle.cu_grid.specs.Grid.{RegularGrid}
 use Rattle.cu_op.specs.declared.layout.ArrayInfo.{ArrayInfo}
 use Rattle.cu_op.specs.Arrays.{grid_at}
-use Rattle.cu_op.specs.Operation.{IsAlignedAlong, IsAligned}
+use Rattle.cu_op.specs.Operation.{IsAlignedAlong, IsAligned, IsNoLonger}
 use Rattle.cu_op.specs.Walks.{IsWalkOver, back_as, read_walk}
 
 -- an axis of size 1 is read whole
@@ -57,15 +57,17 @@ region_lengths (n ∷ ns) (l ∷ ls) (h ∷ hs) r = let e = region_lengths ns ls
 region_lengths ns ls hs r = absurd r
 
 -- the region of an aligned argument that is read
-pub read_over : (arrays : List ArrayInfo) (a : ℕ) (r : RegularGrid) (lo hi : List ℕ) → a < length arrays → IsAligned (grid_at arrays a) r → IsRegion r.shape lo hi → IsWalkOver arrays (read_walk arrays lo hi a)
-read_over arrays a r lo hi within al region =
-    let g = grid_at arrays a in
+pub region_back : (g r : RegularGrid) (lo hi : List ℕ) → IsAligned g r → IsRegion r.shape lo hi → IsRegion g.shape (back_as 0 g.shape lo) (back_as 1 g.shape hi)
+region_back g r lo hi al region =
     let k = length r.shape - length g.shape in
     let n = region_lengths r.shape lo hi region in
     let all = region_along g.shape g.chunk (drop k r.shape) (drop k r.chunk) (drop k lo) (drop k hi) al.axes (region_drop k r.shape lo hi region) in
     let L : ℕ → List ℕ = λ m. axis_by_axis (λ x i. if x == 1 then 0 else i) g.shape (drop (m - length g.shape) lo) in
     let H : ℕ → List ℕ = λ m. axis_by_axis (λ x i. if x == 1 then 1 else i) g.shape (drop (m - length g.shape) hi) in
-    (within, subst (λ (m : ℕ). IsRegion g.shape (L m) (H (length hi))) (sym n.0) (subst (λ (m : ℕ). IsRegion g.shape (L (length r.shape)) (H m)) (sym n.1) all))
+    subst (λ (m : ℕ). IsRegion g.shape (L m) (H (length hi))) (sym n.0) (subst (λ (m : ℕ). IsRegion g.shape (L (length r.shape)) (H m)) (sym n.1) all)
+
+pub read_over : (arrays : List ArrayInfo) (a : ℕ) (r : RegularGrid) (lo hi : List ℕ) → a < length arrays → IsAligned (grid_at arrays a) r → IsRegion r.shape lo hi → IsWalkOver arrays (read_walk arrays lo hi a)
+read_over arrays a r lo hi within al region = (within, region_back (grid_at arrays a) r lo hi al region)
 
 -- an index of the region is read in that region
 pub read_within : (shape lo hi idx : List ℕ) → length lo ≡ length idx → length hi ≡ length idx → length shape ≤ length idx → IsWithin lo hi idx
@@ -87,3 +89,8 @@ pub within_lengths : (ls hs is : List ℕ) → IsWithin ls hs is → (length ls 
 within_lengths [] [] [] w = (refl, refl)
 within_lengths (l ∷ ls) (h ∷ hs) (i ∷ is) w = let e = within_lengths ls hs is w.2 in (ap suc e.0, ap suc e.1)
 within_lengths ls hs is w = absurd w
+
+-- an argument of a map has no more axes than an index of the result
+pub no_longer : (arrays : List ArrayInfo) (ins : List ℕ) (out : ℕ) (coord : List ℕ) → All (λ a. a < length arrays) ins → All (λ a. IsAligned (grid_at arrays a) (grid_at arrays out)) ins → length coord ≡ length (grid_at arrays out).shape
+    → All (IsNoLonger arrays coord) ins
+no_longer arrays ins out coord within aligned e = λ k d l. (within k d l, (let r = (aligned k d l).rank in omega (arith, e, r)))

@@ -1,5 +1,5 @@
 -- Each value of a sound plan is a number of its array's type, where the inputs' are.
-use Rattle.std.proofs.Common.{◌≡◌, inl, inr, ℕ, ℤ, pos, zero, suc, ◌<◌, ◌+◌, ◌-◌, ◌==◌, Bool, true, false, List, [], ◌∷◌, ◌++◌, length, map, All, Contains, Option, None, Some, refl, ap, sym, ◌∙◌, subst, arith, if◌then◌else◌}
+use Rattle.std.proofs.Common.{◌≡◌, inl, inr, ℕ, ℤ, pos, zero, suc, ◌<◌, ◌≤◌, ◌+◌, ◌-◌, ◌^◌, ◌==◌, Bool, true, false, List, [], ◌∷◌, ◌++◌, length, map, All, Contains, Option, None, Some, refl, ap, sym, ◌∙◌, subst, arith, if◌then◌else◌}
 use Rattle.std.specs.List.{slice_get, list_any, AllZip}
 use Rattle.std.specs.Option.{option_and_then, option_map}
 use Rattle.std.proofs.lemmas.Option.{slice_get-map, slice_get_within, get_or_from_slice_get, same_Some}
@@ -16,9 +16,12 @@ use Rattle.cu_num.specs.declared.functions.Fn1.{Fn1}
 use Rattle.cu_num.specs.declared.functions.Fn1.TheVariants.{Negative, Positive, Abs, Square, Sign, BitwiseInvert, LogicalNot, Astype}
 use Rattle.cu_num.specs.declared.functions.Fn2.{Fn2}
 use Rattle.cu_num.specs.declared.functions.Fn2.TheVariants.{Add, Subtract, Multiply, FloorDivide, Remainder, BitwiseAnd, BitwiseOr, BitwiseXor, LeftShift, RightShift, Equal, NotEqual, Less, LessEqual, Greater, GreaterEqual, LogicalAnd, LogicalOr, LogicalXor}
+use Rattle.cu_num.specs.declared.folds.FoldKind.{FoldKind}
+use Rattle.cu_num.specs.declared.folds.FoldKind.TheVariants.{Sum}
 use Rattle.cu_num.specs.Element.{element_at}
 use Rattle.cu_num.specs.declared.layout.Endian.{Endian}
-use Rattle.cu_shape.specs.Index.{back, place_of, quotients, remainders, IsInside}
+use Rattle.cu_shape.specs.Counts.{at_least_one}
+use Rattle.cu_shape.specs.Index.{back, place_of, product, quotients, remainders, IsInside}
 use Rattle.cu_grid.specs.Grid.{IsGrid}
 use Rattle.cu_pull.specs.declared.provenance.Provenance.{Provenance}
 use Rattle.cu_pull.specs.declared.provenance.Provenance.TheVariants.{From, Const as Number}
@@ -34,18 +37,23 @@ use Rattle.cu_op.specs.declared.kernel.Kernel.{Kernel}
 use Rattle.cu_op.specs.declared.kernel.Instr.TheVariants.{Load, Const, One, Two, Select}
 use Rattle.cu_op.specs.declared.layout.ArrayInfo.{ArrayInfo}
 use Rattle.cu_op.specs.declared.operation.Op.{Op}
-use Rattle.cu_op.specs.declared.operation.Op.TheVariants.{Map, Pull}
+use Rattle.cu_op.specs.declared.operation.Op.TheVariants.{Map, Pull, Copy, Fold, Merge, PairFold, PairMerge, Mul}
 use Rattle.cu_op.specs.declared.operation.Planned.{Planned}
 use Rattle.cu_op.specs.Arrays.{array_at, layout_at, no_array, grid_at, type_at, maker_at}
 use Rattle.cu_op.specs.Kernel.{selected, last_of, instruction_value, results_from, kernel_value}
 use Rattle.cu_op.specs.KernelTypes.{Operand, Typed, Literal, HaveType, Gives, KernelFits, LoadsTypes}
+use Rattle.cu_reduce.specs.Folds.{all_some, fold_of, reduced_to}
+use Rattle.cu_reduce.specs.Places.{counted_place, found_at, best_in}
 use Rattle.cu_op.specs.Cells.{task_grid}
 use Rattle.cu_op.specs.Operation.{reads_of, writes_of, origin_at, Converts, PullFits, IsReadable, IsBefore, Fits}
+use Rattle.cu_op.specs.Partial.{chunk_groups, place_groups, merge_groups, partial_indices}
 use Rattle.cu_op.specs.PlanView.{PlanView, operation_at}
 use Rattle.cu_op.specs.Schedule.{IsNested}
 use Rattle.cu_op.specs.Sound.{Sound, IsOperation}
-use Rattle.cu_op.specs.Value.{Elements, loaded, pulled, rule, ReadsAt, updated, values_after, plan_value, stored_inputs, HasTypes}
+use Rattle.cu_op.specs.Value.{Elements, loaded, pulled, counted_at, products_at, rule, ReadsAt, updated, values_after, plan_value, stored_inputs, HasTypes}
 use Rattle.cu_op.proofs.Operations.{Fit, nested_writes, reads_inside}
+use Rattle.cu_op.proofs.Filled.{contains_mapped}
+use Rattle.cu_op.proofs.PairRanges.{some_map, some_then, best_listed, found_parts, place_range, pair_range}
 use Rattle.cu_op.proofs.Plans.{grid_ok}
 use Rattle.cu_op.proofs.Values.{any_contains, contains_any, bool_cases, reads_listed}
 
@@ -123,14 +131,6 @@ joint_right p (Typed a) (Typed b) t x h k = p a b t h x k
 joint_right p (Typed a) (Literal y) t x h k = subst (InRange t) (sym k) h.1
 joint_right p (Literal y) (Typed b) t x h k = subst (λ (d : Dtype). InRange d x) h.0 k
 joint_right p (Literal y) (Literal z) t x h k = absurd h
-
-some_map : {A B : Type 0} (f : A → B) (o : Option A) (y : B) → option_map f o ≡ Some y → (x : A) × (o ≡ Some x) × (f x ≡ y)
-some_map f None y e = cc
-some_map f (Some x) y e = (x, refl, same_Some (f x) y e)
-
-some_then : {A B : Type 0} (f : A → Option B) (o : Option A) (y : B) → option_and_then f o ≡ Some y → (x : A) × (o ≡ Some x) × (f x ≡ Some y)
-some_then f None y e = cc
-some_then f (Some x) y e = (x, refl, e)
 
 selected_range : (t : Dtype) (s x y : ℤ) → InRange t x → InRange t y → InRange t (selected s x y)
 selected_range t s x y hx hy = elim (int_eq s (pos 1)) as (λ b. InRange t (if b then x else y)) [ true ↦ hx | false ↦ hy ]
@@ -216,14 +216,50 @@ only_written : (out a : ℕ) → Contains (out ∷ []) a → out ≡ a
 only_written out a (zero, l, e) = e
 only_written out a (suc k, l, e) = absurd (let b : suc k < 1 = l in omega arith)
 
+-- what is read lies inside its array, which isn't too large
+abbrev ReadsInside : Op → List ArrayInfo → List ℕ → Type 0
+ReadsInside op arrays idx = (b : ℕ) (i : List ℕ) → ReadsAt op arrays idx b i → IsInside (grid_at arrays b).shape i × (product (at_least_one (grid_at arrays b).shape) ≤ 2 ^ 56)
+
+reduced_range : Wraps → (kind : FoldKind) (t : Dtype) (xs : List (Option ℤ)) (x : ℤ) → reduced_to kind t xs ≡ Some x → InRange t x
+reduced_range w kind t xs x e = let m = some_map (λ ys. wrapped t (fold_of kind ys)) (all_some xs) x e in subst (InRange t) m.2 (w t (fold_of kind m.0))
+
+fold_range : Wraps → (kind : FoldKind) (arrays : List ArrayInfo) (out a : ℕ) (xs : List (Option ℤ)) (x : ℤ) → Contains (out ∷ []) a → reduced_to kind (type_at arrays out) xs ≡ Some x → InRange (type_at arrays a) x
+fold_range w kind arrays out a xs x among v = subst (λ (b : ℕ). InRange (type_at arrays b) x) (only_written out a among) (reduced_range w kind (type_at arrays out) xs x v)
+
 rule_range : Wraps → Promotes → PromotesBoth → (op : Op) (arrays : List ArrayInfo) (at : Elements) (a : ℕ) (idx : List ℕ) (x : ℤ) → Contains (writes_of op) a → Fits arrays op
-    → IsInside (task_grid arrays op).shape idx → ReadsTypes op arrays idx at → rule op arrays at a idx ≡ Some x → InRange (type_at arrays a) x
-rule_range w p q (Map kernel ins out) arrays at a idx x among fits inside typed v =
+    → IsInside (task_grid arrays op).shape idx → ReadsTypes op arrays idx at → ReadsInside op arrays idx → rule op arrays at a idx ≡ Some x → InRange (type_at arrays a) x
+rule_range w p q (Map kernel ins out) arrays at a idx x among fits inside typed reads v =
     subst (λ (b : ℕ). InRange (type_at arrays b) x) (only_written out a among)
     (kernel_range w p q kernel.code.items (map (type_at arrays) ins.items) (type_at arrays out) (loaded arrays ins.items at idx) x fits.kernel (loads_types kernel ins out arrays idx at typed) v)
-rule_range w p q (Pull pull ins out) arrays at a idx x among fits inside typed v =
+rule_range w p q (Pull pull ins out) arrays at a idx x among fits inside typed reads v =
     subst (λ (b : ℕ). InRange (type_at arrays b) x) (only_written out a among)
     (pulled_range p pull ins out arrays at idx x (origin_at arrays pull ins.items out idx) fits inside typed refl v)
+rule_range w p q (Copy region source out) arrays at a idx x among fits inside typed reads v =
+    subst (λ (b : ℕ). InRange (type_at arrays b) x) (only_written out a among) (subst (λ (d : Dtype). InRange d x) fits.types (typed source idx x (refl, refl) v))
+rule_range w p q (Fold kind axes source out) arrays at a idx x among fits inside typed reads v =
+    fold_range w kind arrays out a (map (at source) (partial_indices arrays (chunk_groups axes (grid_at arrays source)) source out idx)) x among v
+rule_range w p q (Merge kind axis group source out) arrays at a idx x among fits inside typed reads v =
+    fold_range w kind arrays out a (map (at source) (partial_indices arrays (merge_groups axis group (grid_at arrays source)) source out idx)) x among v
+rule_range w p q (PairFold least axis source values out) arrays at a idx x among fits inside typed reads v =
+    let shape = (grid_at arrays source).shape in
+    let own = partial_indices arrays (place_groups axis (grid_at arrays source)) source out idx in
+    let xs = map (counted_at shape axis (at source)) own in
+    pair_range arrays values source out a (best_in least xs) x among fits.1.stored fits.1.places
+    (λ b e.
+    let (i, there, found) = contains_mapped (counted_at shape axis (at source)) own (Some b) (best_listed least xs b e) in
+    let parts = found_parts (at source i) (Some (pos (counted_place axis shape i))) b found in
+    let r = reads source i (refl, there) in
+    (typed source i b.value (refl, there) parts.value_is, subst (InRange types.Int64) (same_Some _ b.place parts.place_is) (place_range axis shape i fits.0 r.0 r.1))) v
+rule_range w p q (PairMerge least axis group value_source place_source values out) arrays at a idx x among fits inside typed reads v =
+    let own = partial_indices arrays (merge_groups axis group (grid_at arrays value_source)) value_source out idx in
+    let xs = map (λ i. found_at (at value_source i) (at place_source i)) own in
+    pair_range arrays values value_source out a (best_in least xs) x among fits.2.stored fits.2.places
+    (λ b e.
+    let (i, there, found) = contains_mapped (λ i. found_at (at value_source i) (at place_source i)) own (Some b) (best_listed least xs b e) in
+    let parts = found_parts (at value_source i) (at place_source i) b found in
+    (typed value_source i b.value (inl refl, there) parts.value_is, subst (λ (d : Dtype). InRange d b.place) fits.1.places (typed place_source i b.place (inr refl, there) parts.place_is))) v
+rule_range w p q (Mul left right out) arrays at a idx x among fits inside typed reads v =
+    fold_range w Sum arrays out a (products_at (grid_at arrays left) (grid_at arrays right) (at left) (at right) idx) x among v
 
 -- ---- one operation after another
 
@@ -243,6 +279,7 @@ module _ (w : Wraps) (p : Promotes) (q : PromotesBoth) (arrays : List ArrayInfo)
             let wide : IsInside (task_grid arrays o.op).shape idx = subst (λ (ns : List ℕ). IsInside ns idx) (sym nested.shape) inside in
             rule_range w p q o.op arrays at a idx x among ok.fits wide
             (λ b i y r e. typed b i y (All-contains (IsReadable arrays n) (reads_of o.op) b ok.reads (reads_listed o.op arrays idx b i r)) (reads_inside arrays grids n o.op b idx i fit wide r) e)
+            (λ b i r. (reads_inside arrays grids n o.op b idx i fit wide r, (grids b (All-contains (IsReadable arrays n) (reads_of o.op) b ok.reads (reads_listed o.op arrays idx b i r)).0).elements))
             (rw t at v)
         | inr f ↦ typed a idx x (readable.0, earlier (maker_at arrays a) readable.1 (λ e. let c = contains_any (writes_of o.op) a (all a readable.0 e) in cc)) inside (rw f at v)
       ]

@@ -17,16 +17,16 @@ use Rattle.cu_grid.specs.Grid.{RegularGrid, IsGrid}
 use Rattle.cu_op.specs.declared.kernel.Instr.TheVariants.{Load, Two}
 use Rattle.cu_op.specs.declared.layout.ArrayInfo.{ArrayInfo}
 use Rattle.cu_op.specs.declared.operation.Op.{Op}
-use Rattle.cu_op.specs.declared.operation.Op.TheVariants.{Map, Pull}
+use Rattle.cu_op.specs.declared.operation.Op.TheVariants.{Map, Pull, Copy, Fold, Merge, PairFold, PairMerge, Mul}
 use Rattle.cu_op.specs.declared.operation.Planned.{Planned}
 use Rattle.cu_op.specs.Arrays.{array_at, grid_counts, grid_at, type_at, maker_at, chunk_room, chunk_count, no_array}
 use Rattle.cu_op.specs.Cells.{tasks_of}
 use Rattle.cu_op.specs.KernelTypes.{KernelFits, Typed}
 use Rattle.cu_op.specs.Layout.{IsArray}
 use Rattle.cu_op.specs.OneMap.{OneMap, Makes, addition_of, IsAlike, AddsAlike}
-use Rattle.cu_op.specs.Operation.{reads_of, writes_of, target_of, IsAlignedAlong, IsAligned, IsReadable, IsMadeBy, IsBefore}
+use Rattle.cu_op.specs.Operation.{reads_of, writes_of, target_of, IsAlignedAlong, IsAligned, IsReadable, IsMadeBy, IsBefore, Fits}
 use Rattle.cu_op.specs.PlanView.{operation_at}
-use Rattle.cu_op.specs.Projection.{projection, greatest, input_room, output_room, instruction_count}
+use Rattle.cu_op.specs.Projection.{projection, greatest, input_room, output_room, instruction_count, HasSmallRegions}
 use Rattle.cu_op.specs.Sound.{Sound, IsOperation, made_chunks, cells_by}
 use Rattle.cu_op.proofs.KeyTexts.{keys_differ}
 use Rattle.cu_op.proofs.Plans.{scratch_parts}
@@ -219,6 +219,15 @@ times_few n s h k = let w : n * s ≤ n * 8 = mul-le-mul_left n k in omega arith
 pub room_few : (arrays : List ArrayInfo) (a : ℕ) → All IsArray arrays → a < length arrays → chunk_room arrays a ≤ 2 ^ 43
 room_few arrays a ok h = times_few (product (grid_at arrays a).chunk) (size_of (type_at arrays a)) (ok a no_array h).grid.chunk_elements (size_few (type_at arrays a))
 
+-- past the end stands an array of one element
+chunk_few : (arrays : List ArrayInfo) (a : ℕ) → All IsArray arrays → product (grid_at arrays a).chunk ≤ 2 ^ 40
+chunk_few [] a ok = omega arith
+chunk_few (x ∷ xs) zero ok = (ok 0 no_array (omega arith)).grid.chunk_elements
+chunk_few (x ∷ xs) (suc a) ok = chunk_few xs a (All-tail IsArray x xs ok)
+
+any_room_few : (arrays : List ArrayInfo) (a t : ℕ) → All IsArray arrays → product (grid_at arrays a).chunk * size_of (type_at arrays t) ≤ 2 ^ 43
+any_room_few arrays a t ok = times_few (product (grid_at arrays a).chunk) (size_of (type_at arrays t)) (chunk_few arrays a ok) (size_few (type_at arrays t))
+
 greatest_few : (f : ℕ → ℕ) (m : ℕ) (xs : List ℕ) → All (λ x. f x ≤ m) xs → greatest (map f xs) ≤ m
 greatest_few f m [] h = omega arith
 greatest_few f m (x ∷ xs) h =
@@ -228,32 +237,58 @@ greatest_few f m (x ∷ xs) h =
 
 -- ---- the projection of an operation fits 64 bits
 
--- the only array that is written
-few_written : (arrays : List ArrayInfo) (out : ℕ) → All IsArray arrays → out < length arrays → greatest (map (chunk_room arrays) (out ∷ [])) ≤ 2 ^ 43
-few_written arrays out ok h = let o = room_few arrays out ok h in omega (arith, o)
+written_few : (ws : List ℕ) (arrays : List ArrayInfo) → All IsArray arrays → greatest (map (chunk_room arrays) ws) ≤ 2 ^ 43
+written_few ws arrays ok = greatest_few (chunk_room arrays) (2 ^ 43) ws (λ k d h. any_room_few arrays (get_or ws k d) (get_or ws k d) ok)
 
-pub written_few : (op : Op) (arrays : List ArrayInfo) → All IsArray arrays → target_of op < length arrays → greatest (map (chunk_room arrays) (writes_of op)) ≤ 2 ^ 43
-written_few (Map kernel ins out) arrays ok h = few_written arrays out ok h
-written_few (Pull pull ins out) arrays ok h = few_written arrays out ok h
+group_few : (group room : ℕ) → group ≤ 65536 → room ≤ 2 ^ 44 → group * room ≤ 2 ^ 60
+group_few group room g r =
+    let a : group * room ≤ group * 2 ^ 44 = mul-le-mul_left group r in
+    let b : group * 2 ^ 44 ≤ 65536 * 2 ^ 44 = mul-le-mul_right (2 ^ 44) g in
+    omega (arith, a, b)
 
-inputs_few : (op : Op) (arrays : List ArrayInfo) → All IsArray arrays → All (λ a. a < length arrays) (reads_of op) → length (reads_of op) ≤ 8 → input_room arrays op ≤ 2 ^ 46
-inputs_few (Map kernel ins out) arrays ok reads few =
+inputs_few : (op : Op) (arrays : List ArrayInfo) → All IsArray arrays → All (λ a. a < length arrays) (reads_of op) → length (reads_of op) ≤ 8 → HasSmallRegions op → input_room arrays op ≤ 2 ^ 60
+inputs_few (Map kernel ins out) arrays ok reads few small =
     let s = sum_by-le (chunk_room arrays) (2 ^ 43) ins.items (λ k d h. room_few arrays (get_or ins.items k d) ok (reads k d h)) in
     let w : length ins.items * 2 ^ 43 ≤ 8 * 2 ^ 43 = mul-le-mul_right (2 ^ 43) few in
     omega (arith, s, w)
-inputs_few (Pull pull ins out) arrays ok reads few = omega arith
+inputs_few (Pull pull ins out) arrays ok reads few small = omega arith
+inputs_few (Copy region source out) arrays ok reads few small = let r = times_few (product region) (size_of (type_at arrays source)) small (size_few (type_at arrays source)) in omega (arith, r)
+inputs_few (Fold kind axes source out) arrays ok reads few small = let r = any_room_few arrays source source ok in omega (arith, r)
+inputs_few (Merge kind axis group source out) arrays ok reads few small = let r = any_room_few arrays source source ok in group_few group (chunk_room arrays source) small (omega (arith, r))
+inputs_few (PairFold least axis source values out) arrays ok reads few small = let r = any_room_few arrays source source ok in omega (arith, r)
+inputs_few (PairMerge least axis group value_source place_source values out) arrays ok reads few small =
+    let r = any_room_few arrays value_source value_source ok in
+    let s = any_room_few arrays place_source place_source ok in
+    group_few group (chunk_room arrays value_source + chunk_room arrays place_source) small (omega (arith, r, s))
+inputs_few (Mul left right out) arrays ok reads few small = let r = any_room_few arrays left left ok in let s = any_room_few arrays right right ok in omega (arith, r, s)
 
-outputs_few : (op : Op) (arrays : List ArrayInfo) → All IsArray arrays → target_of op < length arrays → output_room arrays op ≤ 2 ^ 44
-outputs_few (Map kernel ins out) arrays ok h = let o = room_few arrays out ok h in omega (arith, o)
-outputs_few (Pull pull ins out) arrays ok h = let o = room_few arrays out ok h in omega (arith, o)
+outputs_few : (op : Op) (arrays : List ArrayInfo) → All IsArray arrays → output_room arrays op ≤ 2 ^ 44
+outputs_few (Map kernel ins out) arrays ok = let o = any_room_few arrays out out ok in omega (arith, o)
+outputs_few (Pull pull ins out) arrays ok = let o = any_room_few arrays out out ok in omega (arith, o)
+outputs_few (Copy region source out) arrays ok = omega arith
+outputs_few (Fold kind axes source out) arrays ok = let o = any_room_few arrays out out ok in omega (arith, o)
+outputs_few (Merge kind axis group source out) arrays ok = let o = any_room_few arrays out out ok in omega (arith, o)
+outputs_few (PairFold least axis source values out) arrays ok = let o = any_room_few arrays out out ok in let v = any_room_few arrays out source ok in omega (arith, o, v)
+outputs_few (PairMerge least axis group value_source place_source values out) arrays ok = let o = any_room_few arrays out out ok in let v = any_room_few arrays out value_source ok in omega (arith, o, v)
+outputs_few (Mul left right out) arrays ok = let o = any_room_few arrays out out ok in omega (arith, o)
 
 pub projection_few : (op : Op) (arrays : List ArrayInfo) (reserved : ℕ) → All IsArray arrays → All (λ a. a < length arrays) (reads_of op) → target_of op < length arrays
-    → length (reads_of op) ≤ 8 → instruction_count op ≤ 32 → reserved ≤ 2 ^ 40 → projection arrays reserved op < 2 ^ 64
-projection_few op arrays reserved ok reads target ins code few =
-    let each : All (λ a. chunk_room arrays a ≤ 2 ^ 43) (reads_of op) = λ k d h. room_few arrays (get_or (reads_of op) k d) ok (reads k d h) in
-    let g = greatest_few (chunk_room arrays) (2 ^ 43) (reads_of op) each in
-    let w = written_few op arrays ok target in
+    → length (reads_of op) ≤ 8 → instruction_count op ≤ 32 → HasSmallRegions op → reserved ≤ 2 ^ 40 → projection arrays reserved op < 2 ^ 64
+projection_few op arrays reserved ok reads target ins code small few =
+    let g = written_few (reads_of op) arrays ok in
+    let w = written_few (writes_of op) arrays ok in
     let a = scratch_parts op arrays in
-    let b = inputs_few op arrays ok reads ins in
-    let c = outputs_few op arrays ok target in
+    let b = inputs_few op arrays ok reads ins small in
+    let c = outputs_few op arrays ok in
     omega (arith, g, w, a, b, c)
+
+-- an operation that fits its arrays has small regions
+pub fits_small : (op : Op) (arrays : List ArrayInfo) → Fits arrays op → HasSmallRegions op
+fits_small (Map kernel ins out) arrays fits = tt
+fits_small (Pull pull ins out) arrays fits = tt
+fits_small (Copy region source out) arrays fits = fits.regions.chunk_elements
+fits_small (Fold kind axes source out) arrays fits = tt
+fits_small (Merge kind axis group source out) arrays fits = fits.0.few
+fits_small (PairFold least axis source values out) arrays fits = tt
+fits_small (PairMerge least axis group value_source place_source values out) arrays fits = fits.0.few
+fits_small (Mul left right out) arrays fits = tt

@@ -1,5 +1,5 @@
 -- The chunks that the tasks of a sound plan write and read.
-use Rattle.std.proofs.Common.{◌≡◌, ◌≢◌, ℕ, ◌<◌, List, [], length, All, Contains, Option, None, Some, get_or, refl, ap, sym, ◌∙◌, subst}
+use Rattle.std.proofs.Common.{◌≡◌, ◌≢◌, ℕ, pred, ◌<◌, List, [], length, map, All, Contains, Option, None, Some, get_or, refl, ap, sym, ◌∙◌, subst}
 use Rattle.std.proofs.lemmas.List.Elements.{All-contains, All-map, All-contains_itself}
 use Rattle.cu_shape.specs.Index.{place_of, quotients, IsInside}
 use Rattle.cu_shape.proofs.Places.{index-inside, index-place, place-below, place-index}
@@ -12,13 +12,14 @@ use Rattle.cu_op.specs.declared.operation.Op.{Op}
 use Rattle.cu_op.specs.declared.walks.Walk.{Walk}
 use Rattle.cu_op.specs.Arrays.{grid_at, maker_at, grid_counts}
 use Rattle.cu_op.specs.Cells.{cell, task_grid, tasks_of, task_coord, task_lo, task_hi, IsChunk}
-use Rattle.cu_op.specs.Operation.{reads_of, writes_of, IsMadeBy, IsReadable, Fits, CanRead}
+use Rattle.cu_op.specs.Operation.{reads_of, writes_of, IsMadeBy, IsReadable, target_of, Fits}
 use Rattle.cu_op.specs.PlanView.{PlanView}
 use Rattle.cu_op.specs.Schedule.{op_of, IsNested, task_at, WritesCell, IsReady}
 use Rattle.cu_op.specs.Sound.{Sound, IsCell}
 use Rattle.cu_op.specs.Value.{Elements, ReadsAt, rule, plan_value, stored_inputs}
 use Rattle.cu_op.specs.Walks.{walk, IsWalkOver, walk_cells, new_walks, output_walks, input_walks, written_chunks, read_chunks, EachOnce}
 use Rattle.cu_op.proofs.CellsOfTasks.{map_contains}
+use Rattle.cu_op.proofs.Filled.{filled_first, filled_last}
 use Rattle.cu_op.proofs.Operations as ops
 use Rattle.cu_op.proofs.Operations.{Fit}
 pub use Rattle.cu_op.proofs.MapRegions.{region_lengths, read_over, read_within}
@@ -41,10 +42,21 @@ module _ (p : PlanView) (s : Sound p) (k : ℕ) where
     tasks_ok : IsGrid (task_grid p.arrays op)
     tasks_ok = ops.grid_of_tasks p.arrays grids k op fit
 
-    pub can_read : (task : ℕ) → task < tasks_of p.arrays op → CanRead p.arrays op (task_lo p.arrays op task) × CanRead p.arrays op (task_hi p.arrays op task)
-    can_read task h =
-        let n = region_lengths (task_grid p.arrays op).shape (task_lo p.arrays op task) (task_hi p.arrays op task) (region_of task h) in
-        (ops.can_read p.arrays grids k op (task_lo p.arrays op task) fit n.0, ops.can_read p.arrays grids k op (task_hi p.arrays op task) fit n.1)
+    -- a task's region, by its first and its last index
+    pub task_first : (task : ℕ) → task < tasks_of p.arrays op → IsInside (task_grid p.arrays op).shape (task_lo p.arrays op task)
+    task_first task h = filled_first (task_grid p.arrays op).shape (task_lo p.arrays op task) (task_hi p.arrays op task) (ops.filled_of p.arrays grids k op task fit h)
+
+    pub task_last : (task : ℕ) → task < tasks_of p.arrays op → IsInside (task_grid p.arrays op).shape (map pred (task_hi p.arrays op task))
+    task_last task h = filled_last (task_grid p.arrays op).shape (task_lo p.arrays op task) (task_hi p.arrays op task) (ops.filled_of p.arrays grids k op task fit h)
+
+    pub reads_within : All (λ a. a < length p.arrays) (reads_of op)
+    reads_within i d b = (fit.0 i d b).0
+
+    pub target_within : target_of op < length p.arrays
+    target_within = (ops.target_made p.arrays grids k op fit).0
+
+    pub tasks_grid : IsGrid (task_grid p.arrays op)
+    tasks_grid = ops.grid_of_tasks p.arrays grids k op fit
 
     pub output_over : (task : ℕ) → task < tasks_of p.arrays op → All (IsWalkOver p.arrays) (output_walks p.arrays op task)
     output_over task h =
@@ -101,7 +113,7 @@ module _ (p : PlanView) (s : Sound p) (k : ℕ) where
         (λ v w hv hw other.
         ops.apart_each p.arrays grids (λ a. walk a (task_lo p.arrays op task) (task_hi p.arrays op task)) (writes_of op) v w (λ a. refl) hv hw other
         (All-contains (IsWalkOver p.arrays) (output_walks p.arrays op task) v (output_over task h) hv) (All-contains (IsWalkOver p.arrays) (output_walks p.arrays op task) w (output_over task h) hw))
-        (ops.write_walks_differ p.arrays grids k op (task_lo p.arrays op task) (task_hi p.arrays op task))
+        (ops.write_walks_differ p.arrays grids k op (task_lo p.arrays op task) (task_hi p.arrays op task) fit)
 
     pub written_chunk : (task : ℕ) → task < tasks_of p.arrays op → All (IsChunk p.arrays) (written_chunks p.arrays op task)
     written_chunk task h = All-cells p.arrays (IsChunk p.arrays) (output_walks p.arrays op task) (λ i d b c there.
@@ -121,7 +133,7 @@ module _ (p : PlanView) (s : Sound p) (k : ℕ) where
     read_once task h =
         cells_once p.arrays (new_walks (input_walks p.arrays op task) []) (λ i d b. let o = over_once task h i d b in (grid_ok p _ s o.0, o))
         (λ v w hv hw other.
-        ops.input_apart p.arrays grids k op task v w (kept_from v hv) (kept_from w hw) other
+        ops.input_apart p.arrays grids k op task v w fit h (kept_from v hv) (kept_from w hw) other
         (All-contains (IsWalkOver p.arrays) (new_walks (input_walks p.arrays op task) []) v (over_once task h) hv) (All-contains (IsWalkOver p.arrays) (new_walks (input_walks p.arrays op task) []) w (over_once task h) hw))
         (different (input_walks p.arrays op task) [])
       where
@@ -157,7 +169,11 @@ module _ (p : PlanView) (s : Sound p) (k : ℕ) where
         let wide : IsInside r.shape idx = subst (λ (ns : List ℕ). IsInside ns idx) (sym nested.shape) inside in
         let at_task = whole_in (grid_at p.arrays c.array) r c.coord (task_coord p.arrays op task) idx okg okr nested (index-inside (grid_counts r) task h) w.1 within in
         let into = ops.reads_inside p.arrays grids k op a idx i fit wide reads in
-        let (v, listed, array, lies) = ops.input_reads p.arrays grids k op task a idx i fit wide at_task reads in
+        let l = ops.input_reads p.arrays grids k op task a idx i fit h wide at_task reads in
+        let v = l.one in
+        let listed = l.listed in
+        let array = l.array in
+        let lies = l.within in
         let over = All-contains (IsWalkOver p.arrays) (input_walks p.arrays op task) v (input_over task h) listed in
         let oka = grid_ok p a s (subst (λ (x : ℕ). x < length p.arrays) array over.0) in
         let meets : Meets (grid_at p.arrays v.array) v.region.lo v.region.hi (quotients i (grid_at p.arrays a).chunk) =

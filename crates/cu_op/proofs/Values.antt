@@ -1,5 +1,5 @@
 -- The value of a sound plan solves the plan's equations: going over the operations once gives what each rule makes of the value itself.
-use Rattle.std.proofs.Common.{◌≡◌, ◌⊎◌, inl, inr, ℕ, ℤ, zero, suc, ◌<◌, ◌+◌, ◌==◌, Bool, true, false, List, [], ◌∷◌, ◌++◌, length, All, Contains, Option, None, Some, get_or, refl, ap, sym, ◌∙◌, subst, arith}
+use Rattle.std.proofs.Common.{◌≡◌, ◌⊎◌, inl, inr, ℕ, ℤ, pos, zero, suc, ◌<◌, ◌+◌, ◌==◌, Bool, true, false, List, [], ◌∷◌, ◌++◌, length, map, All, Contains, Option, None, Some, get_or, refl, ap, sym, ◌∙◌, subst, arith}
 use Rattle.std.specs.Option.{option_and_then}
 use Rattle.std.specs.List.{slice_get, list_any}
 use Rattle.std.proofs.lemmas.Bool.Decides.{eqb_tells}
@@ -12,14 +12,20 @@ use Rattle.cu_op.specs.declared.kernel.Instr.{Instr}
 use Rattle.cu_op.specs.declared.kernel.Instr.TheVariants.{Load, Const, One, Two, Select}
 use Rattle.cu_op.specs.declared.layout.ArrayInfo.{ArrayInfo}
 use Rattle.cu_op.specs.declared.operation.Op.{Op}
-use Rattle.cu_op.specs.declared.operation.Op.TheVariants.{Map, Pull}
+use Rattle.cu_op.specs.declared.operation.Op.TheVariants.{Map, Pull, Copy, Fold, Merge, PairFold, PairMerge, Mul}
 use Rattle.cu_op.specs.declared.operation.Planned.{Planned}
-use Rattle.cu_op.specs.Arrays.{grid_at, maker_at}
+use Rattle.cu_num.specs.declared.folds.FoldKind.TheVariants.{Sum}
+use Rattle.cu_reduce.specs.Folds.{reduced_to}
+use Rattle.cu_reduce.specs.Places.{Found, counted_place, found_at, best_in}
+use Rattle.cu_reduce.specs.Products.{left_index, right_index}
+use Rattle.cu_op.specs.Arrays.{grid_at, type_at, maker_at}
+use Rattle.cu_op.specs.Matrix.{product_index, part_number, inner_places, product_at}
+use Rattle.cu_op.specs.Partial.{chunk_groups, place_groups, merge_groups, partial_indices}
 use Rattle.cu_op.specs.Kernel.{instruction_value, results_from, kernel_value, last_of}
 use Rattle.cu_op.specs.Operation.{reads_of, writes_of, origin_at, IsReadable, IsBefore, IsMadeBy}
 use Rattle.cu_op.specs.PlanView.{PlanView, operation_at}
 use Rattle.cu_op.specs.Sound.{Sound, IsOperation}
-use Rattle.cu_op.specs.Value.{Elements, loaded, pulled, rule, ReadsAt, updated, values_after, plan_value, Solves}
+use Rattle.cu_op.specs.Value.{Elements, loaded, pulled, counted_at, pair_part, rule, ReadsAt, updated, values_after, plan_value, Solves}
 
 -- a kernel depends on what it loads alone
 same_instruction : (i : Instr) (load other : ℕ → Option ℤ) (results : List ℤ) → ((k : ℕ) → load k ≡ other k) → instruction_value i load results ≡ instruction_value i other results
@@ -53,6 +59,17 @@ same_pulled : (ins : List ℕ) (at other : Elements) (o : Provenance) → ((sour
 same_pulled ins at other (From source i) h = same_given (slice_get ins source) (λ a. at a i) (λ a. other a i) (λ a e. h source a i e refl)
 same_pulled ins at other (Number x) h = refl
 
+-- what is made of each element of a list
+same_mapped : {A B : Type 0} (f g : A → B) (xs : List A) → ((x : A) → Contains xs x → f x ≡ g x) → map f xs ≡ map g xs
+same_mapped f g [] h = refl
+same_mapped f g (x ∷ xs) h =
+    let first : f x ≡ g x = h x (0, omega arith, refl) in
+    let rest : map f xs ≡ map g xs = same_mapped f g xs (λ y c. h y (suc c.0, (let l = c.1 in omega arith), c.2)) in
+    both (f x) (g x) (map f xs) (map g xs) first rest
+  where
+    both : {B : Type 0} (x y : B) (xs ys : List B) → x ≡ y → xs ≡ ys → x ∷ xs ≡ y ∷ ys
+    both x y xs ys e r = cc
+
 -- an operation's rule depends on what it reads alone
 pub rule_reads : (op : Op) (arrays : List ArrayInfo) (at other : Elements) (array : ℕ) (idx : List ℕ)
     → ((a : ℕ) (i : List ℕ) → ReadsAt op arrays idx a i → at a i ≡ other a i) → rule op arrays at array idx ≡ rule op arrays other array idx
@@ -61,11 +78,43 @@ rule_reads (Map kernel ins out) arrays at other array idx h =
     (λ k. same_given (slice_get ins.items k) (λ a. at a (back (grid_at arrays a).shape idx)) (λ a. other a (back (grid_at arrays a).shape idx))
     (λ a e. h a (back (grid_at arrays a).shape idx) ((k, slice_get_within ins.items k a e, get_or_from_slice_get ins.items k a a e), refl)))
 rule_reads (Pull pull ins out) arrays at other array idx h = same_pulled ins.items at other (origin_at arrays pull ins.items out idx) (λ source a i given from. h a i (source, given, from))
+rule_reads (Copy region source out) arrays at other array idx h = h source idx (refl, refl)
+rule_reads (Fold kind axes source out) arrays at other array idx h =
+    ap (reduced_to kind (type_at arrays out)) (same_mapped (at source) (other source) (partial_indices arrays (chunk_groups axes (grid_at arrays source)) source out idx) (λ i c. h source i (refl, c)))
+rule_reads (Merge kind axis group source out) arrays at other array idx h =
+    ap (reduced_to kind (type_at arrays out)) (same_mapped (at source) (other source) (partial_indices arrays (merge_groups axis group (grid_at arrays source)) source out idx) (λ i c. h source i (refl, c)))
+rule_reads (PairFold least axis source values out) arrays at other array idx h =
+    let shape = (grid_at arrays source).shape in
+    ap (λ (xs : List (Option Found)). pair_part (array == out) (best_in least xs))
+    (same_mapped (counted_at shape axis (at source)) (counted_at shape axis (other source)) (partial_indices arrays (place_groups axis (grid_at arrays source)) source out idx)
+    (λ i c. ap (λ (e : Option ℤ). found_at e (Some (pos (counted_place axis shape i)))) (h source i (refl, c))))
+rule_reads (PairMerge least axis group value_source place_source values out) arrays at other array idx h =
+    ap (λ (xs : List (Option Found)). pair_part (array == out) (best_in least xs))
+    (same_mapped (λ i. found_at (at value_source i) (at place_source i)) (λ i. found_at (other value_source i) (other place_source i))
+    (partial_indices arrays (merge_groups axis group (grid_at arrays value_source)) value_source out idx)
+    (λ i c. ap (λ (e : Option ℤ). found_at e (at place_source i)) (h value_source i (inl refl, c)) ∙ ap (found_at (other value_source i)) (h place_source i (inr refl, c))))
+rule_reads (Mul left right out) arrays at other array idx h =
+    let a = (grid_at arrays left).shape in
+    let b = (grid_at arrays right).shape in
+    let own = product_index a b idx in
+    ap (reduced_to Sum (type_at arrays out))
+    (same_mapped (λ k. product_at (at left (left_index a b own k)) (at right (right_index a b own k))) (λ k. product_at (other left (left_index a b own k)) (other right (right_index a b own k)))
+    (inner_places (grid_at arrays left) (part_number a b idx))
+    (λ k c. ap (λ (x : Option ℤ). product_at x (at right (right_index a b own k))) (h left (left_index a b own k) (k, c, inl (refl, refl)))
+    ∙ ap (product_at (other left (left_index a b own k))) (h right (right_index a b own k) (k, c, inr (refl, refl)))))
 
 -- which is of the arrays that it reads
 pub reads_listed : (op : Op) (arrays : List ArrayInfo) (idx : List ℕ) (a : ℕ) (i : List ℕ) → ReadsAt op arrays idx a i → Contains (reads_of op) a
 reads_listed (Map kernel ins out) arrays idx a i (among, from) = among
 reads_listed (Pull pull ins out) arrays idx a i (source, given, from) = (source, slice_get_within ins.items source a given, get_or_from_slice_get ins.items source a a given)
+reads_listed (Copy region source out) arrays idx a i (same, from) = (0, omega arith, sym same)
+reads_listed (Fold kind axes source out) arrays idx a i (same, from) = (0, omega arith, sym same)
+reads_listed (Merge kind axis group source out) arrays idx a i (same, from) = (0, omega arith, sym same)
+reads_listed (PairFold least axis source values out) arrays idx a i (same, from) = (0, omega arith, sym same)
+reads_listed (PairMerge least axis group value_source place_source values out) arrays idx a i (inl same, from) = (0, omega arith, sym same)
+reads_listed (PairMerge least axis group value_source place_source values out) arrays idx a i (inr same, from) = (1, omega arith, sym same)
+reads_listed (Mul left right out) arrays idx a i (k, c, inl same) = (0, omega arith, sym same.0)
+reads_listed (Mul left right out) arrays idx a i (k, c, inr same) = (1, omega arith, sym same.0)
 
 pub same_rule : (op : Op) (arrays : List ArrayInfo) (at other : Elements) (array : ℕ) (idx : List ℕ)
     → All (λ a. (i : List ℕ) → at a i ≡ other a i) (reads_of op) → rule op arrays at array idx ≡ rule op arrays other array idx

@@ -5,17 +5,19 @@ use Rattle.cu_grid.specs.Counts.{chunk_lo, chunk_hi}
 use Rattle.cu_grid.specs.Grid.{RegularGrid, IsCoordinate}
 use Rattle.cu_op.specs.declared.layout.ArrayInfo.{ArrayInfo}
 use Rattle.cu_op.specs.declared.operation.Op.{Op}
-use Rattle.cu_op.specs.declared.operation.Op.TheVariants.{Map, Pull}
+use Rattle.cu_op.specs.declared.operation.Op.TheVariants.{Copy}
 use Rattle.cu_op.specs.declared.cells.Cell.{Cell}
 use Rattle.cu_op.specs.Arrays.{grid_at, grid_counts}
+use Rattle.cu_op.specs.Operation.{target_of, region_grid}
 
 abbrev pub cell : ℕ → List ℕ → Cell
 cell a at = record { array = a; coord = at }
 
--- what the tasks of an operation go over: a grid each of whose chunks is the region of a task; for a map and a view that of the result
+-- what the tasks of an operation go over: a grid each of whose chunks is the region of a task; for a copy its own regions, for any other
+-- operation the chunks of the result
 abbrev pub task_grid : List ArrayInfo → Op → RegularGrid
-task_grid arrays (Map kernel ins out) = grid_at arrays out
-task_grid arrays (Pull pull ins out) = grid_at arrays out
+task_grid arrays (Copy region source out) = region_grid (grid_at arrays out) region
+task_grid arrays op = grid_at arrays (target_of op)
 
 -- how many tasks an operation has
 abbrev pub tasks_of : List ArrayInfo → Op → ℕ

@@ -1,14 +1,15 @@
 -- Which task writes a chunk, the key and the value of a chunk, and when a task is ready.
-use Rattle.std.specs.Prelude.{◌≡◌, ◌⊎◌, ℕ, ◌*◌, ◌<◌, ◌≤◌, Contains, List, [], ◌∷◌, length, Option}
+use Rattle.std.specs.Prelude.{◌≡◌, ℕ, ◌<◌, Contains, List, length, Option}
 use Rattle.cu_shape.specs.Index.{place_of, quotients}
 use Rattle.cu_grid.specs.Counts.{chunk_lo}
-use Rattle.cu_grid.specs.Grid.{RegularGrid, IsInChunk}
+use Rattle.cu_grid.specs.Grid.{IsInChunk}
 use Rattle.cu_zarr.specs.Spelling.{spelled}
 use Rattle.cu_op.specs.declared.layout.ArrayInfo.{ArrayInfo}
 use Rattle.cu_op.specs.declared.operation.Op.{Op}
 use Rattle.cu_op.specs.declared.cells.Cell.{Cell}
 use Rattle.cu_op.specs.Arrays.{layout_at, grid_at, grid_counts}
 use Rattle.cu_op.specs.Cells.{cell, task_grid, tasks_of}
+pub use Rattle.cu_op.specs.Nested.{IsNestedAlong, IsNested}
 use Rattle.cu_op.specs.PlanView.{PlanView, operation_at}
 use Rattle.cu_op.specs.Sound.{cell_key}
 use Rattle.cu_op.specs.Value.{Elements, plan_value, stored_inputs, ReadsAt}
@@ -19,17 +20,6 @@ abbrev pub op_of : PlanView → ℕ → Op
 op_of p k = (operation_at p.ops k).op
 
 -- ---- the task that writes a chunk
-
--- Each chunk of the first grid lies whole in one chunk of the second, over the same sizes: on each axis a chunk of the second
--- has the whole size, or as much as a number of chunks of the first.
-abbrev pub IsNestedAlong : List ℕ → List ℕ → List ℕ → Type 0
-IsNestedAlong [] [] [] = Unit {0}
-IsNestedAlong (n ∷ ns) (c ∷ cs) (r ∷ rs) = ((n ≤ r) ⊎ ((m : ℕ) × (r ≡ m * c))) × IsNestedAlong ns cs rs
-IsNestedAlong ns cs rs = ⊥
-
-pub record IsNested (g regions : RegularGrid) : Type 0 where
-  pub shape : regions.shape ≡ g.shape
-  pub axes : IsNestedAlong g.shape g.chunk regions.chunk
 
 -- the number of the task in whose region a chunk of an array that the operation writes begins
 abbrev pub task_at : List ArrayInfo → Op → Cell → ℕ

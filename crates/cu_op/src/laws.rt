@@ -19,7 +19,7 @@ ghost use Rattle.cu_op.specs.Names.{HasOwnNames};
 ghost use Rattle.cu_op.specs.OneMap.{OneMap, AddsAlike, addition_of};
 ghost use Rattle.cu_op.specs.Operation.{reads_of, target_of, IsAligned};
 ghost use Rattle.cu_op.specs.PlanView.{PlanView};
-ghost use Rattle.cu_op.specs.Projection.{projection, instruction_count};
+ghost use Rattle.cu_op.specs.Projection.{projection, instruction_count, HasSmallRegions};
 ghost use Rattle.cu_op.specs.Schedule.{op_of, task_at, WritesCell, IsReady};
 ghost use Rattle.cu_op.specs.Sound.{Sound, IsCell, KeysDiffer};
 ghost use Rattle.cu_op.specs.Value.{Elements, rule, plan_value, stored_inputs, ReadsAt, HasTypes, Solves};
@@ -110,7 +110,7 @@ pub fn one_map_law()
         → OneMap inputs made (addition_of t i j (length inputs)) }
     ensures aligned { (g : RegularGrid) → IsGrid g → IsAligned g g }
     ensures room { (op : Op) (arrays : List ArrayInfo) (reserved : ℕ) → All IsArray arrays → All (λ a. a < length arrays) (reads_of op)
-        → target_of op < length arrays → length (reads_of op) ≤ 8 → instruction_count op ≤ 32 → reserved ≤ 2 ^ 40
+        → target_of op < length arrays → length (reads_of op) ≤ 8 → instruction_count op ≤ 32 → HasSmallRegions op → reserved ≤ 2 ^ 40
         → projection arrays reserved op < 2 ^ 64 }
 {
     promotion_law();

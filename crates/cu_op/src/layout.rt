@@ -1,3 +1,7 @@
+ghost use Rattle.std.specs.Prelude.{◌≡◌, ◌<◌, length};
+ghost use Rattle.cu_grid.specs.Grid.{IsGrid};
+ghost use Rattle.cu_op.specs.Arrays.{grid_at};
+
 use cu_grid::Grid;
 use cu_num::{Dtype, Encoding, Endian};
 use cu_store::Key;
@@ -26,4 +30,15 @@ pub struct ArrayInfo {
     pub layout: Layout,
     /// The number of the operation that writes it, and none for an input.
     pub maker: Option<u32>,
+}
+
+/// The grid of an array by its number.
+pub(crate) fn grid_of(arrays: &[ArrayInfo], array: u32) -> Grid
+    requires { array < length arrays.now }
+    ensures grid { result ≡ grid_at arrays.now array }
+    ensures kept { IsGrid result }
+{
+    let grid = arrays[array as usize].layout.grid;
+    let _kept = grid.shape();
+    grid
 }

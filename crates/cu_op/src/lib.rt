@@ -2,12 +2,15 @@
 #![tactic(auto)]
 
 mod cells;
+mod groups;
 mod kernel;
+mod kind_text;
 mod laws;
 mod layout;
 mod memory;
 mod operation;
 mod plan;
+mod products;
 mod regions;
 mod schedule;
 mod walks;
@@ -15,6 +18,7 @@ mod walks;
 pub use cells::Cell;
 pub use cu_pull::{Axes, Pull};
 pub use kernel::{Instr, Kernel};
+pub use kind_text::{KindText, kind_name};
 pub use laws::{
     chunk_law, input_law, key_law, one_map_law, range_law, ready_law, task_law, value_law,
 };

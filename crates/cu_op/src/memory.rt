@@ -1,11 +1,14 @@
-ghost use Rattle.std.specs.Prelude.{◌≡◌, ◌^◌, ◌<◌, All, length, map, sum_by};
-ghost use Rattle.cu_op.specs.Arrays.{chunk_room};
-ghost use Rattle.cu_op.specs.Operation.{reads_of, writes_of};
-ghost use Rattle.cu_op.specs.Projection.{greatest, projection, input_room, output_room};
+ghost use Rattle.std.specs.Prelude.{◌≡◌, ◌^◌, ◌*◌, ◌<◌, ◌≤◌, All, length, map, sum_by};
+ghost use Rattle.cu_num.specs.Dtype.{size_of};
+ghost use Rattle.cu_shape.specs.Index.{product};
+ghost use Rattle.cu_op.specs.Arrays.{type_at, chunk_room};
+ghost use Rattle.cu_op.specs.Operation.{reads_of, writes_of, target_of};
+ghost use Rattle.cu_op.specs.Projection.{greatest, projection, input_room, output_room, value_room};
 
 use crate::layout::ArrayInfo;
 use crate::operation::Op;
 use cu_num::size;
+use cu_shape::Dims;
 
 /// The bytes of memory that a worker needs for a task of an operation over these arrays, the `reserved` ones counted:
 /// what `Planned::projected` has to be.
@@ -25,7 +28,8 @@ pub fn projection_of(arrays: &[ArrayInfo], reserved: u64, op: &Op) -> u64
 /// The bytes of a chunk of an array.
 fn room_of(arrays: &[ArrayInfo], array: u32) -> u64
     requires { array < length arrays.now }
-    ensures { result ≡ chunk_room arrays.now array }
+    ensures room { result ≡ chunk_room arrays.now array }
+    ensures small { result ≤ 2 ^ 43 }
 {
     let layout = &arrays[array as usize].layout;
     match layout.grid.chunk().elements() {
@@ -71,18 +75,67 @@ fn input_room(arrays: &[ArrayInfo], op: &Op) -> u64
     match op {
         Op::Map { ins, .. } => rooms(arrays, ins.as_slice()),
         Op::Pull { .. } => 0,
+        Op::Copy { region, source, .. } => bytes_of(arrays, *source, region),
+        Op::Fold { source, .. } | Op::PairFold { source, .. } => room_of(arrays, *source),
+        Op::Merge { group, source, .. } => u64::from(*group) * room_of(arrays, *source),
+        Op::PairMerge {
+            group,
+            value_source,
+            place_source,
+            ..
+        } => u64::from(*group) * (room_of(arrays, *value_source) + room_of(arrays, *place_source)),
+        Op::Mul { left, right, .. } => room_of(arrays, *left) + room_of(arrays, *right),
     }
 }
 
 /// The bytes of the regions that a task of the operation computes.
 fn output_room(arrays: &[ArrayInfo], op: &Op) -> u64
-    requires { All (λ a. a < length arrays.now) (writes_of op.now) }
+    requires reads { All (λ a. a < length arrays.now) (reads_of op.now) }
+    requires target { target_of op.now < length arrays.now }
     ensures { result ≡ output_room arrays.now op.now }
 {
     match op {
-        Op::Map { out, .. } => room_of(arrays, *out),
-        Op::Pull { out, .. } => room_of(arrays, *out),
+        Op::Copy { .. } => 0,
+        Op::PairFold { source, out, .. } => value_room(arrays, *source, *out)
+            + room_of(arrays, *out),
+        Op::PairMerge {
+            value_source,
+            out,
+            ..
+        } => value_room(arrays, *value_source, *out) + room_of(arrays, *out),
+        other => room_of(arrays, other.target()),
     }
+}
+
+/// The bytes of a region of these sizes, in the type of an array.
+fn bytes_of(arrays: &[ArrayInfo], array: u32, sizes: &Dims) -> u64
+    requires within { array < length arrays.now }
+    requires small { product sizes.now * size_of (type_at arrays.now array) < 2 ^ 64 }
+    ensures { result ≡ product sizes.now * size_of (type_at arrays.now array) }
+{
+    product_of(sizes) * size(arrays[array as usize].layout.dtype)
+}
+
+/// The product of these sizes.
+fn product_of(sizes: &Dims) -> u64
+    requires { product sizes.now < 2 ^ 64 }
+    ensures { result ≡ product sizes.now }
+{
+    let mut count: u64 = 1;
+    for axis in 0..sizes.rank() {
+        count = count.saturating_mul(sizes.at(axis));
+    }
+    count
+}
+
+/// The bytes of the values of a chunk of `out`, whose elements are those of `source`.
+fn value_room(arrays: &[ArrayInfo], source: u32, out: u32) -> u64
+    requires source { source < length arrays.now }
+    requires out { out < length arrays.now }
+    ensures room { result ≡ value_room arrays.now source out }
+    ensures small { result ≤ 2 ^ 43 }
+{
+    bytes_of(arrays, source, arrays[out as usize].layout.grid.chunk())
 }
 
 /// The bytes of a chunk of each of these arrays together.

@@ -1,10 +1,12 @@
 ghost use Rattle.std.specs.Prelude.{◌≡◌, slice_get, OnSome, ◌<◌, ◌≤◌, ◌∷◌, [], length};
-ghost use Rattle.cu_op.specs.Operation.{reads_of, writes_of, target_of};
+ghost use Rattle.cu_op.specs.Operation.{reads_of, writes_of, pair_writes, target_of};
 ghost use Rattle.cu_op.specs.Projection.{instruction_count};
 
 use crate::kernel::Kernel;
 use arrayvec::ArrayVec;
-use cu_pull::Pull;
+use cu_num::FoldKind;
+use cu_pull::{Axes, Pull};
+use cu_shape::Dims;
 
 /// An operation of a plan. It names arrays by their numbers in the plan.
 #[derive(Drop)]
@@ -27,6 +29,78 @@ pub enum Op {
         /// The array that is made.
         out: u32,
     },
+    /// Copies an array into other chunks, a region at a time.
+    Copy {
+        /// The sizes of a region, each of whose chunks a task writes.
+        region: Dims,
+        /// The array that is copied.
+        source: u32,
+        /// The array that is made.
+        out: u32,
+    },
+    /// Reduces each chunk of its source along some axes to one partial result.
+    Fold {
+        /// What is made of the elements.
+        kind: FoldKind,
+        /// The axes that are reduced.
+        axes: Axes,
+        /// The array that is reduced.
+        source: u32,
+        /// The array that is made.
+        out: u32,
+    },
+    /// Reduces groups of neighbouring partial results along one axis.
+    Merge {
+        /// What is made of them.
+        kind: FoldKind,
+        /// The axis.
+        axis: u32,
+        /// How many are in a group; the last may be shorter.
+        group: u32,
+        /// The array of partial results.
+        source: u32,
+        /// The array that is made.
+        out: u32,
+    },
+    /// Finds in each chunk of its source the least or the greatest elements and their first places.
+    PairFold {
+        /// The least elements are sought, else the greatest.
+        least: bool,
+        /// The axis along which places are counted; none where they are counted in the whole array.
+        axis: Option<u32>,
+        /// The array that is searched.
+        source: u32,
+        /// The array of the values, where they are stored.
+        values: Option<u32>,
+        /// The array of the places.
+        out: u32,
+    },
+    /// Finds in groups of neighbouring partial results along one axis the least or the greatest and its place.
+    PairMerge {
+        /// The least values are sought, else the greatest.
+        least: bool,
+        /// The axis.
+        axis: u32,
+        /// How many are in a group; the last may be shorter.
+        group: u32,
+        /// The array of the partial results' values.
+        value_source: u32,
+        /// The array of their places.
+        place_source: u32,
+        /// The array of the values, where they are stored.
+        values: Option<u32>,
+        /// The array of the places.
+        out: u32,
+    },
+    /// Multiplies matrices, a chunk of the inner axis at a time: the result has a last axis that numbers these parts, where there are several.
+    Mul {
+        /// The left operand.
+        left: u32,
+        /// The right operand.
+        right: u32,
+        /// The array that is made.
+        out: u32,
+    },
 }
 
 impl Op {
@@ -38,6 +112,8 @@ impl Op {
         match self {
             Op::Map { ins, .. } => ins.len() as u32,
             Op::Pull { ins, .. } => ins.len() as u32,
+            Op::Copy { .. } | Op::Fold { .. } | Op::Merge { .. } | Op::PairFold { .. } => 1,
+            Op::PairMerge { .. } | Op::Mul { .. } => 2,
         }
     }
 
@@ -49,6 +125,16 @@ impl Op {
         match self {
             Op::Map { ins, .. } => ins.as_slice().get(at as usize).copied(),
             Op::Pull { ins, .. } => ins.as_slice().get(at as usize).copied(),
+            Op::Copy { source, .. }
+            | Op::Fold { source, .. }
+            | Op::Merge { source, .. }
+            | Op::PairFold { source, .. } => only(*source, at),
+            Op::PairMerge {
+                value_source,
+                place_source,
+                ..
+            } => either(*value_source, *place_source, at),
+            Op::Mul { left, right, .. } => either(*left, *right, at),
         }
     }
 
@@ -58,8 +144,10 @@ impl Op {
         ensures few { OnSome result (at < 2) }
     {
         match self {
-            Op::Map { out, .. } => only(*out, at),
-            Op::Pull { out, .. } => only(*out, at),
+            Op::PairFold { values, out, .. } | Op::PairMerge { values, out, .. } => {
+                pair_written(*values, *out, at)
+            }
+            other => only(other.target(), at),
         }
     }
 
@@ -68,8 +156,14 @@ impl Op {
         ensures { result ≡ target_of self.now }
     {
         match self {
-            Op::Map { out, .. } => *out,
-            Op::Pull { out, .. } => *out,
+            Op::Map { out, .. }
+            | Op::Pull { out, .. }
+            | Op::Copy { out, .. }
+            | Op::Fold { out, .. }
+            | Op::Merge { out, .. }
+            | Op::PairFold { out, .. }
+            | Op::PairMerge { out, .. }
+            | Op::Mul { out, .. } => *out,
         }
     }
 
@@ -80,7 +174,7 @@ impl Op {
     {
         match self {
             Op::Map { kernel, .. } => kernel.code.len() as u32,
-            Op::Pull { .. } => 0,
+            _ => 0,
         }
     }
 }
@@ -91,6 +185,29 @@ fn only(array: u32, at: u32) -> Option<u32>
     ensures few { OnSome result (at < 1) }
 {
     if at == 0 { Some(array) } else { None }
+}
+
+/// An array of a list of two, by its place.
+fn either(first: u32, second: u32, at: u32) -> Option<u32>
+    ensures array { result ≡ slice_get (first ∷ second ∷ []) at }
+    ensures few { OnSome result (at < 2) }
+{
+    match at {
+        0 => Some(first),
+        1 => Some(second),
+        _ => None,
+    }
+}
+
+/// An array that a reduction to places writes, by its place.
+fn pair_written(values: Option<u32>, out: u32, at: u32) -> Option<u32>
+    ensures array { result ≡ slice_get (pair_writes values out) at }
+    ensures few { OnSome result (at < 2) }
+{
+    match values {
+        Some(stored) => either(stored, out, at),
+        None => only(out, at),
+    }
 }
 
 /// An operation as it stands in a plan.

@@ -3,8 +3,17 @@ pub mod Counting
 pub mod InputReads
 pub mod JobViews
 pub mod MapTask
+pub mod MatrixBlocks
+pub mod MatrixTask
+pub mod PartialRegions
+pub mod PartialTasks
+pub mod PartialValues
 pub mod PullTask
 pub mod ReadRegions
+pub mod ReductionTask
+pub mod SearchTask
+pub mod TaskRegions
+pub mod TaskRooms
 pub mod TaskSteps
 pub mod ViewChunks
 pub mod ViewElements

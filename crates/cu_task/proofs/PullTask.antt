@@ -7,6 +7,7 @@ use Rattle.std.proofs.lemmas.Nat.{mul-le}
 use Rattle.std.proofs.lemmas.Option.{slice_get-get_or}
 use Rattle.cu_num.specs.Dtype.{size_of, InRange}
 use Rattle.cu_num.specs.Element.{element_at, element_bytes}
+use Rattle.cu_num.specs.declared.types.Dtype.{Dtype}
 use Rattle.cu_num.specs.declared.layout.Endian.TheVariants.{Little}
 use Rattle.cu_num.proofs.ElementBytes.{element_at_own, element_at-element_bytes_in_range}
 use Rattle.cu_shape.specs.Index.{product, place_of, index_at, sums, differences, IsInside}
@@ -35,7 +36,7 @@ use Rattle.cu_op.specs.Value.{Elements, rule, pulled, stored_inputs}
 use Rattle.cu_op.specs.Walks.{whole_walk, input_walks, cells_of_walks}
 use Rattle.cu_op.specs.declared.operation.Op.{Op}
 use Rattle.cu_op.specs.declared.walks.Walk.{Walk}
-use Rattle.cu_op.specs.declared.operation.Op.TheVariants.{Map, Pull}
+use Rattle.cu_op.specs.declared.operation.Op.TheVariants.{Map, Pull, Copy, Fold, Merge, PairFold, PairMerge, Mul}
 use Rattle.cu_op.proofs.CellsOfTasks.{map_contains}
 use Rattle.cu_op.proofs.Nested.{begins_within}
 use Rattle.cu_op.proofs.Operations.{Fit}
@@ -67,6 +68,12 @@ pub record OfPull (p : PlanView) (op : Op) (task : ℕ) (pull : View) (ins : Lis
 
 pub of_pull : (p : PlanView) (k : ℕ) (op : Op) (task : ℕ) (pull : View) (ins : List ℕ) → Fit p.arrays k op → IsPullOf op pull ins → OfPull p op task pull ins
 of_pull p k (Map kernel sources out) task pull ins fit is = absurd is
+of_pull p k (Copy region source out) task pull ins fit is = absurd is
+of_pull p k (Fold kind axes source out) task pull ins fit is = absurd is
+of_pull p k (Merge kind axis group source out) task pull ins fit is = absurd is
+of_pull p k (PairFold least axis source values out) task pull ins fit is = absurd is
+of_pull p k (PairMerge least axis group value_source place_source values out) task pull ins fit is = absurd is
+of_pull p k (Mul left right out) task pull ins fit is = absurd is
 of_pull p k (Pull own sources out) task pull ins fit is =
     subst (λ (x : View). OfPull p (Pull own sources out) task x ins) (sym is.0)
     (subst (λ (x : List ℕ). OfPull p (Pull own sources out) task own x) (sym is.1) (record {
@@ -85,7 +92,7 @@ of_pull p k (Pull own sources out) task pull ins fit is =
 -- ---- what has come
 
 -- an index of a region, from its index among the region's sizes, and back
-box_back : (shape lo hi r : List ℕ) → IsRegion shape lo hi → IsInside (differences hi lo) r → differences (sums lo r) lo ≡ r
+pub box_back : (shape lo hi r : List ℕ) → IsRegion shape lo hi → IsInside (differences hi lo) r → differences (sums lo r) lo ≡ r
 box_back [] [] [] [] region inside = refl
 box_back [] [] [] (i ∷ is) region inside = absurd inside
 box_back [] [] (h ∷ hs) r region inside = absurd region
@@ -105,6 +112,16 @@ place_low p n size long some e f =
       | inl less ↦ less
       | inr more ↦ absurd (let far : n * size ≤ p * size = mul-le n size p size more (omega arith) in omega arith)
     ]
+
+-- a buffer of a region whose each index has a number has elements
+pub region_elements : (shape lo hi : List ℕ) (t : Dtype) (output : List ℕ) → IsRegion shape lo hi → length output ≡ product (differences hi lo) * size_of t
+    → ((idx : List ℕ) → IsWithin lo hi idx → (x : ℤ) × (part_at (size_of t) output (place_within lo hi idx) ≡ element_bytes Little t x)) → AreElements t output
+region_elements shape lo hi t output region long each q fits =
+    let below : q < product (differences hi lo) = place_low q (product (differences hi lo)) (size_of t) (length output) (size_positive t) (sym long) fits in
+    let inside = index-inside (differences hi lo) q below in
+    let n = each (sums lo (index_at (differences hi lo) q)) (within_box shape lo hi (index_at (differences hi lo) q) region inside) in
+    let at : place_within lo hi (sums lo (index_at (differences hi lo) q)) ≡ q = ap (place_of (differences hi lo)) (box_back shape lo hi (index_at (differences hi lo) q) region inside) ∙ place-index (differences hi lo) q below in
+    (n.0, subst (λ (m : ℕ). part_at (size_of t) output m ≡ element_bytes Little t n.0) at n.1)
 
 -- the element whose bytes are a number's
 number_there : (v : ViewTask) (buf idx : List ℕ) (x : ℤ) → InRange (type_at v.arrays v.out) x → bytes_in v buf idx ≡ element_bytes Little (type_at v.arrays v.out) x

@@ -120,62 +120,72 @@ pub record ReadsLike (g : RegularGrid) (lo hi : List ℕ) : Type 0 where
   pub reads : (i : List ℕ) → IsInside (differences hi lo) i
       → back (differences (back_as 1 g.shape hi) (back_as 0 g.shape lo)) i ≡ differences (back g.shape (sums lo i)) (back_as 0 g.shape lo)
 
-module _ (g r : RegularGrid) (lo hi : List ℕ) (ok : IsGrid g) (al : IsAligned g r) (el : length lo ≡ length r.shape) (eh : length hi ≡ length r.shape) (short : IsShort r.chunk lo hi) where
+module _ (shape lo hi : List ℕ) (rank : length shape ≤ length lo) (same : length hi ≡ length lo) where
   abbrev lead : ℕ
-  lead = length r.shape - length g.shape
+  lead = length lo - length shape
 
   abbrev own : List ℕ
-  own = differences (highs g.shape (drop lead hi)) (lows g.shape (drop lead lo))
+  own = differences (highs shape (drop lead hi)) (lows shape (drop lead lo))
 
-  low_is : back_as 0 g.shape lo ≡ lows g.shape (drop lead lo)
-  low_is = ap (λ m. lows g.shape (drop (m - length g.shape) lo)) el
+  high_is : back_as 1 shape hi ≡ highs shape (drop lead hi)
+  high_is = ap (λ m. highs shape (drop (m - length shape) hi)) same
 
-  high_is : back_as 1 g.shape hi ≡ highs g.shape (drop lead hi)
-  high_is = ap (λ m. highs g.shape (drop (m - length g.shape) hi)) eh
+  pub own_is : differences (back_as 1 shape hi) (back_as 0 shape lo) ≡ own
+  own_is = ap (λ x. differences x (back_as 0 shape lo)) high_is
 
-  own_is : differences (back_as 1 g.shape hi) (back_as 0 g.shape lo) ≡ own
-  own_is = ap (λ x. differences x (back_as 0 g.shape lo)) high_is ∙ ap (differences (highs g.shape (drop lead hi))) low_is
+  low_rank : length (drop lead lo) ≡ length shape
+  low_rank = let n = length-drop lead lo in omega arith
 
-  low_rank : length (drop lead lo) ≡ length g.shape
-  low_rank = let n = length-drop lead lo in let l = al.rank in omega arith
+  high_rank : length (drop lead hi) ≡ length shape
+  high_rank = let n = length-drop lead hi in omega arith
 
-  high_rank : length (drop lead hi) ≡ length g.shape
-  high_rank = let n = length-drop lead hi in let l = al.rank in omega arith
-
-  own_rank : length own ≡ length g.shape
+  pub own_rank : length own ≡ length shape
   own_rank =
-      let h = length-axis_by_axis (λ n i. if n == 1 then 1 else i) g.shape (drop lead hi) (sym high_rank) in
-      let l = length-axis_by_axis (λ n i. if n == 1 then 0 else i) g.shape (drop lead lo) (sym low_rank) in
-      length-axis_by_axis (λ i j. i - j) (highs g.shape (drop lead hi)) (lows g.shape (drop lead lo)) (h ∙ sym l) ∙ h
+      let h = length-axis_by_axis (λ n i. if n == 1 then 1 else i) shape (drop lead hi) (sym high_rank) in
+      let l = length-axis_by_axis (λ n i. if n == 1 then 0 else i) shape (drop lead lo) (sym low_rank) in
+      length-axis_by_axis (λ i j. i - j) (highs shape (drop lead hi)) (lows shape (drop lead lo)) (h ∙ sym l) ∙ h
 
-  all_rank : length (differences hi lo) ≡ length r.shape
-  all_rank = length-axis_by_axis (λ i j. i - j) hi lo (eh ∙ sym el) ∙ eh
+  pub all_rank : length (differences hi lo) ≡ length lo
+  all_rank = length-axis_by_axis (λ i j. i - j) hi lo same ∙ same
 
   all_drop : drop lead (differences hi lo) ≡ differences (drop lead hi) (drop lead lo)
-  all_drop = axes_drop (λ i j. i - j) lead hi lo (eh ∙ sym el)
+  all_drop = axes_drop (λ i j. i - j) lead hi lo same
 
   stretches : StretchesAlong own (drop (length (differences hi lo) - length own) (differences hi lo))
   stretches =
-      let same : length (differences hi lo) - length own ≡ lead = (let a = all_rank in let b = own_rank in omega arith) in
-      subst (λ (m : ℕ). StretchesAlong own (drop m (differences hi lo))) (sym same)
-      (subst (StretchesAlong own) (sym all_drop) (stretch_along g.shape (drop lead lo) (drop lead hi) low_rank high_rank))
+      let same_lead : length (differences hi lo) - length own ≡ lead = (let a = all_rank in let b = own_rank in omega arith) in
+      subst (λ (m : ℕ). StretchesAlong own (drop m (differences hi lo))) (sym same_lead)
+      (subst (StretchesAlong own) (sym all_drop) (stretch_along shape (drop lead lo) (drop lead hi) low_rank high_rank))
 
-  own_reads : (i : List ℕ) → IsInside (differences hi lo) i → back own i ≡ differences (back g.shape (sums lo i)) (lows g.shape (drop lead lo))
+  own_reads : (i : List ℕ) → IsInside (differences hi lo) i → back own i ≡ differences (back shape (sums lo i)) (lows shape (drop lead lo))
   own_reads i inside =
-      let n : length i ≡ length r.shape = inside-length (differences hi lo) i inside ∙ all_rank in
+      let n : length i ≡ length lo = inside-length (differences hi lo) i inside ∙ all_rank in
       let inside_part : IsInside (differences (drop lead hi) (drop lead lo)) (drop lead i) = subst (λ (x : List ℕ). IsInside x (drop lead i)) all_drop (inside_drop lead (differences hi lo) i inside) in
       let lead_i : length i - length own ≡ lead = (let b = own_rank in omega arith) in
-      let sum_rank : length (sums lo i) ≡ length lo = length-axis_by_axis (λ x y. x + y) lo i (el ∙ sym n) in
-      let lead_s : length (sums lo i) - length g.shape ≡ lead = omega arith in
-      let cut : drop lead (sums lo i) ≡ sums (drop lead lo) (drop lead i) = axes_drop (λ x y. x + y) lead lo i (el ∙ sym n) in
-      let read : back g.shape (sums lo i) ≡ back_along g.shape (sums (drop lead lo) (drop lead i)) = ap (λ m. back_along g.shape (drop m (sums lo i))) lead_s ∙ ap (back_along g.shape) cut in
-      ap (λ m. back_along own (drop m i)) lead_i ∙ read_along g.shape (drop lead lo) (drop lead hi) (drop lead i) low_rank high_rank inside_part
-      ∙ ap (λ x. differences x (lows g.shape (drop lead lo))) (sym read)
+      let sum_rank : length (sums lo i) ≡ length lo = length-axis_by_axis (λ x y. x + y) lo i (sym n) in
+      let lead_s : length (sums lo i) - length shape ≡ lead = omega arith in
+      let cut : drop lead (sums lo i) ≡ sums (drop lead lo) (drop lead i) = axes_drop (λ x y. x + y) lead lo i (sym n) in
+      let read : back shape (sums lo i) ≡ back_along shape (sums (drop lead lo) (drop lead i)) = ap (λ m. back_along shape (drop m (sums lo i))) lead_s ∙ ap (back_along shape) cut in
+      ap (λ m. back_along own (drop m i)) lead_i ∙ read_along shape (drop lead lo) (drop lead hi) (drop lead i) low_rank high_rank inside_part
+      ∙ ap (λ x. differences x (lows shape (drop lead lo))) (sym read)
 
-  pub reads_like : ReadsLike g lo hi
-  reads_like = record {
-    few = subst (λ (x : List ℕ). product x ≤ product g.chunk) (sym own_is)
-        (few_along g.shape g.chunk (drop lead r.shape) (drop lead r.chunk) (drop lead lo) (drop lead hi) ok.positive al.axes (short_drop lead r.chunk lo hi short));
-    broadcasts = subst (λ (x : List ℕ). BroadcastsTo x (differences hi lo)) (sym own_is) (record { rank = (let a = all_rank in let b = own_rank in let l = al.rank in omega arith); axes = stretches });
-    reads = λ i inside. ap (λ x. back x i) own_is ∙ own_reads i inside ∙ ap (differences (back g.shape (sums lo i))) (sym low_is);
-  }
+  -- where an index of the region is read
+  pub reads_back : (i : List ℕ) → IsInside (differences hi lo) i → back (differences (back_as 1 shape hi) (back_as 0 shape lo)) i ≡ differences (back shape (sums lo i)) (back_as 0 shape lo)
+  reads_back i inside = ap (λ x. back x i) own_is ∙ own_reads i inside
+
+  pub stretched : BroadcastsTo (differences (back_as 1 shape hi) (back_as 0 shape lo)) (differences hi lo)
+  stretched = subst (λ (x : List ℕ). BroadcastsTo x (differences hi lo)) (sym own_is) (record { rank = (let a = all_rank in let b = own_rank in omega arith); axes = stretches })
+
+pub reads_like : (g r : RegularGrid) (lo hi : List ℕ) → IsGrid g → IsAligned g r → length lo ≡ length r.shape → length hi ≡ length r.shape → IsShort r.chunk lo hi → ReadsLike g lo hi
+reads_like g r lo hi ok al el eh short =
+    let rank : length g.shape ≤ length lo = (let l = al.rank in omega arith) in
+    let same : length hi ≡ length lo = eh ∙ sym el in
+    let lead_is : length r.shape - length g.shape ≡ length lo - length g.shape = omega arith in
+    record {
+      few = subst (λ (x : List ℕ). product x ≤ product g.chunk) (sym (own_is g.shape lo hi rank same))
+          (subst (λ k. product (differences (highs g.shape (drop k hi)) (lows g.shape (drop k lo))) ≤ product g.chunk) lead_is
+          (few_along g.shape g.chunk (drop (length r.shape - length g.shape) r.shape) (drop (length r.shape - length g.shape) r.chunk) (drop (length r.shape - length g.shape) lo) (drop (length r.shape - length g.shape) hi) ok.positive al.axes
+          (short_drop (length r.shape - length g.shape) r.chunk lo hi short)));
+      broadcasts = stretched g.shape lo hi rank same;
+      reads = reads_back g.shape lo hi rank same;
+    }

@@ -1,3 +1,4 @@
+pub mod Blocks
 pub mod Inputs
 pub mod Task
 pub mod ViewJobs

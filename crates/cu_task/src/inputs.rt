@@ -1,35 +1,66 @@
 //! The regions that a task reads, one behind another in its memory.
-ghost use Rattle.std.specs.Prelude.{◌≡◌, ℕ, ◌+◌, ◌*◌, ◌<◌, ◌≤◌, ◌^◌, [], ◌∷◌, Some, All, length, IfErr, OnOk};
+ghost use Rattle.std.specs.Prelude.{◌≡◌, ℕ, ◌+◌, ◌*◌, ◌<◌, ◌≤◌, ◌^◌, [], ◌∷◌, Some, All, length, slice_index_or, IfErr, OnOk};
 ghost use Rattle.cu_num.specs.Dtype.{size_of};
 ghost use Rattle.cu_shape.specs.Index.{product, differences};
 ghost use Rattle.cu_store.specs.Held.{Contents};
 ghost use Rattle.cu_store.specs.Steps.{NoChange, Steps};
 ghost use Rattle.cu_op.specs.Arrays.{array_at, type_at, chunk_room};
-ghost use Rattle.cu_op.specs.Walks.{walk_cells, cells_of_walks};
+ghost use Rattle.cu_op.specs.Cells.{tasks_of};
+ghost use Rattle.cu_op.specs.Projection.{scratch_room};
+ghost use Rattle.cu_op.specs.Schedule.{op_of};
+ghost use Rattle.cu_op.specs.Sound.{Sound};
+ghost use Rattle.cu_op.specs.Walks.{walk, IsWalkOver, walk_cells, cells_of_walks, input_walks};
 ghost use Rattle.cu_region.specs.Reading.{ReadsRegion};
 ghost use Rattle.cu_region.specs.Calls.{Made};
 ghost use Rattle.cu_region.specs.Steady.{IsSteady};
-ghost use Rattle.cu_task.specs.Inputs.{IsReadWalk, room_of_walks, HasRegions, lays_from, IsWalkKey, IsTaskInputFault};
+ghost use Rattle.cu_region.specs.Writing.{AreElements};
+ghost use Rattle.cu_task.specs.Inputs.{walk_room, room_of_walks, HasRegions, lays_from, IsWalkKey, IsTaskInputFault};
+ghost use Rattle.cu_task.specs.Task.{read_calls, ReadsRegions, AreSteadyInputs, IsTaskFault};
 
 use arrayvec::ArrayVec;
-use cu_codec::chunk_bytes;
+use cu_grid::Region;
 use cu_kern::Lay;
-use cu_num::size;
-use cu_op::{Plan, Walk};
+use cu_num::{Dtype, size};
+use cu_op::{Plan, Walk, input_walks};
 use cu_region::read_region;
 use cu_shape::difference;
 use cu_store::{Depot, TaskFault};
 
-/// Reads the region of each walk into the front of a room of a chunk of its array, one room behind another, through `scratch`,
-/// which has the bytes of each such chunk. It makes one call of the depot for each chunk that meets a region.
-pub(crate) fn read_inputs<D: Depot>(
+/// Reads the regions of the arrays that a task reads into a buffer, one behind another, through `scratch`, which has the bytes of a chunk
+/// of each. It makes one call of the depot for each chunk that meets a region.
+pub(crate) fn read_regions<D: Depot>(
+    depot: &mut D,
+    plan: &Plan,
+    op: u32,
+    task: u32,
+    inputs: &mut [u8],
+    scratch: &mut [u8],
+) -> Result<(), TaskFault>
+    requires operation { op < length plan.now.ops }
+    requires task { task < tasks_of plan.now.arrays (op_of plan.now op) }
+    requires regions { ReadsRegions (op_of plan.now op) }
+    requires room { room_of_walks plan.now.arrays (input_walks plan.now.arrays (op_of plan.now op) task) ≤ length inputs.old }
+    requires scratch { scratch_room plan.now.arrays (op_of plan.now op) ≤ length scratch.old }
+    ensures read { (held : Contents) → AreSteadyInputs plan.now op task (D.shown depot.old) held
+        → OnOk result (HasRegions plan.now.arrays held (input_walks plan.now.arrays (op_of plan.now op) task) inputs.new) }
+    ensures step { Steps NoChange 0 (read_calls plan.now.arrays (op_of plan.now op) task) (D.shown depot.old) (D.shown depot.new) }
+    ensures all { OnOk result (Made (read_calls plan.now.arrays (op_of plan.now op) task) (D.shown depot.old).calls (D.shown depot.new).calls) }
+    ensures cause { IfErr result (IsTaskFault (D.shown depot.old) (D.shown depot.new) plan.now op task) }
+{
+    let _planned = plan.operation(op);
+    let walks = input_walks(plan, op, task);
+    read_inputs(depot, plan, &walks, inputs, scratch)
+}
+
+/// Reads the region of each walk, one behind another, through `scratch`.
+fn read_inputs<D: Depot>(
     depot: &mut D,
     plan: &Plan,
     walks: &[Walk],
     inputs: &mut [u8],
     scratch: &mut [u8],
 ) -> Result<(), TaskFault>
-    requires walks { All (IsReadWalk plan.now.arrays) walks.now }
+    requires walks { All (IsWalkOver plan.now.arrays) walks.now }
     requires room { room_of_walks plan.now.arrays walks.now ≤ length inputs.old }
     requires scratch { All (λ w. chunk_room plan.now.arrays w.array ≤ length scratch.old) walks.now }
     ensures read { (held : Contents) → (D.shown depot.old).held ≡ Some held → IsSteady (IsWalkKey plan.now.arrays walks.now) (Some held) (D.shown depot.old).late
@@ -41,72 +72,85 @@ pub(crate) fn read_inputs<D: Depot>(
     match walks {
         [] => Ok(()),
         [walk, rest @ ..] => {
-            let layout = &plan.array(walk.array).layout;
-            let (own, others) = inputs.split_at_mut(chunk_bytes(&layout.grid, layout.dtype));
+            let (own, others) = inputs.split_at_mut(walk_bytes(plan, walk));
             read_walk(depot, plan, walk, own, scratch)?;
             read_inputs(depot, plan, rest, others, scratch)
         }
     }
 }
 
-/// Reads the region of a walk into the front of a room of a chunk of its array.
-fn read_walk<D: Depot>(
+/// Reads the region of a walk.
+pub(crate) fn read_walk<D: Depot>(
     depot: &mut D,
     plan: &Plan,
     walk: &Walk,
-    room: &mut [u8],
+    out: &mut [u8],
     scratch: &mut [u8],
 ) -> Result<(), TaskFault>
-    requires walk { IsReadWalk plan.now.arrays walk.now }
-    requires room { length room.old ≡ chunk_room plan.now.arrays walk.now.array }
+    requires walk { IsWalkOver plan.now.arrays walk.now }
+    requires room { length out.old ≡ walk_room plan.now.arrays walk.now }
     requires scratch { chunk_room plan.now.arrays walk.now.array ≤ length scratch.old }
     ensures read { (held : Contents) → (D.shown depot.old).held ≡ Some held → IsSteady (IsWalkKey plan.now.arrays (walk.now ∷ [])) (Some held) (D.shown depot.old).late
-        → OnOk result (ReadsRegion (array_at plan.now.arrays walk.now.array) walk.now.region.lo walk.now.region.hi (Some held) room.new) }
+        → OnOk result (ReadsRegion (array_at plan.now.arrays walk.now.array) walk.now.region.lo walk.now.region.hi (Some held) out.new) }
+    ensures elements { OnOk result (AreElements (type_at plan.now.arrays walk.now.array) out.new) }
     ensures step { Steps NoChange 0 (length (walk_cells plan.now.arrays walk.now)) (D.shown depot.old) (D.shown depot.new) }
     ensures all { OnOk result (Made (length (walk_cells plan.now.arrays walk.now)) (D.shown depot.old).calls (D.shown depot.new).calls) }
     ensures cause { IfErr result (IsTaskInputFault (D.shown depot.old) (D.shown depot.new) plan.now.arrays (walk.now ∷ [])) }
 {
-    let bytes = walk_bytes(plan, walk);
-    read_region(
-        depot,
-        plan.array(walk.array),
-        &walk.region,
-        &mut room[..bytes],
-        scratch,
-    )
+    read_region(depot, plan.array(walk.array), &walk.region, out, scratch)
 }
 
 /// The bytes of the elements of a walk's region.
 pub(crate) fn walk_bytes(plan: &Plan, walk: &Walk) -> usize
-    requires { IsReadWalk plan.now.arrays walk.now }
-    ensures bytes { result ≡ product (differences walk.now.region.hi walk.now.region.lo) * size_of (type_at plan.now.arrays walk.now.array) }
-    ensures most { result ≤ chunk_room plan.now.arrays walk.now.array }
+    requires { IsWalkOver plan.now.arrays walk.now }
+    ensures bytes { result ≡ walk_room plan.now.arrays walk.now }
+    ensures sound { Sound plan.now }
 {
     let layout = &plan.array(walk.array).layout;
-    let _chunk = layout.grid.chunk();
-    match difference(&walk.region.hi, &walk.region.lo).elements() {
-        Some(count) => (count * size(layout.dtype)) as usize,
-        None => unreachable!(),
-    }
+    region_bytes(layout.dtype, &walk.region)
 }
 
-/// The bytes of a chunk of the array of each walk together.
-pub(crate) fn room_of(plan: &Plan, walks: &[Walk]) -> usize
-    requires over { All (IsReadWalk plan.now.arrays) walks.now }
+/// The bytes of the elements of a region, in a type.
+pub(crate) fn region_bytes(t: Dtype, region: &Region) -> usize
+    requires ranks { length region.now.hi ≡ length region.now.lo }
+    requires few { product (differences region.now.hi region.now.lo) ≤ 2 ^ 56 }
+    ensures { result ≡ product (differences region.now.hi region.now.lo) * size_of t }
+{
+    let sizes = difference(&region.hi, &region.lo);
+    let mut bytes = u64::from(size(t));
+    for axis in 0..sizes.rank() {
+        bytes = bytes.saturating_mul(sizes.at(axis));
+    }
+    bytes as usize
+}
+
+/// The bytes of the regions that a task reads.
+pub(crate) fn input_bytes(plan: &Plan, op: u32, task: u32) -> usize
+    requires operation { op < length plan.now.ops }
+    requires task { task < tasks_of plan.now.arrays (op_of plan.now op) }
+    requires small { room_of_walks plan.now.arrays (input_walks plan.now.arrays (op_of plan.now op) task) < 2 ^ 64 }
+    ensures { result ≡ room_of_walks plan.now.arrays (input_walks plan.now.arrays (op_of plan.now op) task) }
+{
+    let walks = input_walks(plan, op, task);
+    room_of(plan, &walks)
+}
+
+/// The bytes of the region of each walk together.
+fn room_of(plan: &Plan, walks: &[Walk]) -> usize
+    requires over { All (IsWalkOver plan.now.arrays) walks.now }
     requires small { room_of_walks plan.now.arrays walks.now < 2 ^ 64 }
     ensures { result ≡ room_of_walks plan.now.arrays walks.now }
 {
     let mut room = 0;
     for walk in walks {
-        let layout = &plan.array(walk.array).layout;
-        room += chunk_bytes(&layout.grid, layout.dtype);
+        room += walk_bytes(plan, walk);
     }
     room
 }
 
 /// Where the regions stand.
 pub(crate) fn lays_of(plan: &Plan, walks: &[Walk]) -> ArrayVec<Lay, 8>
-    requires over { All (IsReadWalk plan.now.arrays) walks.now }
+    requires over { All (IsWalkOver plan.now.arrays) walks.now }
     requires few { length walks.now ≤ 8 }
     requires small { room_of_walks plan.now.arrays walks.now < 2 ^ 64 }
     ensures { result.items ≡ lays_from plan.now.arrays 0 walks.now }
@@ -114,13 +158,23 @@ pub(crate) fn lays_of(plan: &Plan, walks: &[Walk]) -> ArrayVec<Lay, 8>
     let mut lays = ArrayVec::new();
     let mut at = 0;
     for walk in walks {
-        let layout = &plan.array(walk.array).layout;
         lays.push(Lay {
             at,
-            dtype: layout.dtype,
+            dtype: plan.array(walk.array).layout.dtype,
             dims: difference(&walk.region.hi, &walk.region.lo),
         });
-        at += chunk_bytes(&layout.grid, layout.dtype);
+        at += walk_bytes(plan, walk);
     }
     lays
+}
+
+/// The region of an array that a task reads, by its place among them.
+pub(crate) fn input_walk(plan: &Plan, op: u32, task: u32, at: usize) -> Walk
+    requires operation { op < length plan.now.ops }
+    requires task { task < tasks_of plan.now.arrays (op_of plan.now op) }
+    requires place { at < length (input_walks plan.now.arrays (op_of plan.now op) task) }
+    ensures walk { result ≡ slice_index_or (input_walks plan.now.arrays (op_of plan.now op) task) at (walk 0 [] []) }
+    ensures over { IsWalkOver plan.now.arrays result }
+{
+    input_walks(plan, op, task)[at]
 }

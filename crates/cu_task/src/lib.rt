@@ -1,9 +1,16 @@
 //! The tasks of a plan.
 #![tactic(auto)]
 
+mod copies;
 mod inputs;
 mod laws;
+mod maps;
+mod products;
+mod pulls;
+mod reductions;
+mod results;
 mod run;
+mod searches;
 mod views;
 
 pub use laws::needed_chunks_law;

@@ -1,33 +1,28 @@
 //! Tasks that are run.
-ghost use Rattle.std.specs.Prelude.{◌≡◌, ℕ, ◌+◌, ◌*◌, ◌<◌, ◌≤◌, List, Some, length, IfErr, OnOk};
-ghost use Rattle.cu_num.specs.Dtype.{size_of};
-ghost use Rattle.cu_shape.specs.Index.{product, differences};
-ghost use Rattle.cu_grid.specs.Counts.{IsWithin};
-ghost use Rattle.cu_store.specs.Faults.{Rose};
+ghost use Rattle.std.specs.Prelude.{◌≡◌, ℕ, ◌+◌, ◌*◌, ◌<◌, ◌≤◌, length, IfErr, OnOk};
 ghost use Rattle.cu_store.specs.Held.{Contents};
 ghost use Rattle.cu_store.specs.Steps.{NoChange, Steps};
-ghost use Rattle.cu_op.specs.Arrays.{array_at, type_at, chunk_room};
-ghost use Rattle.cu_op.specs.Cells.{tasks_of, task_lo, task_hi};
-ghost use Rattle.cu_op.specs.Operation.{target_of, shapes_at};
+ghost use Rattle.cu_op.specs.Arrays.{type_at};
+ghost use Rattle.cu_op.specs.Cells.{tasks_of};
+ghost use Rattle.cu_op.specs.Operation.{target_of};
 ghost use Rattle.cu_op.specs.Projection.{projection, scratch_room, instruction_count};
 ghost use Rattle.cu_op.specs.Schedule.{op_of};
-ghost use Rattle.cu_op.specs.Sound.{Sound};
-ghost use Rattle.cu_op.specs.Value.{Elements, rule, stored_inputs};
-ghost use Rattle.cu_op.specs.Walks.{input_walks, written_chunks};
+ghost use Rattle.cu_op.specs.Value.{Elements};
+ghost use Rattle.cu_op.specs.Walks.{input_walks};
 ghost use Rattle.cu_region.specs.Calls.{Made};
-ghost use Rattle.cu_region.specs.Steady.{IsSteady};
-ghost use Rattle.cu_region.specs.Writing.{AreElements, buffer_element, LateIsOwn, RegionPut, StoresRegion, IsWriteFault};
-ghost use Rattle.cu_task.specs.Inputs.{HasRegions, room_of_walks, IsMapOf, IsPullOf, IsWalkKey};
-ghost use Rattle.cu_task.specs.ViewJobs.{IsViewJob, view_of};
-ghost use Rattle.cu_task.specs.Task.{IsTaskReady, TaskChange, HoldsCells, view_task, read_calls, calls_of, HasSureCalls, HasResult, IsTaskFault};
+ghost use Rattle.cu_region.specs.Writing.{AreElements};
+ghost use Rattle.cu_task.specs.Inputs.{room_of_walks};
+ghost use Rattle.cu_task.specs.Task.{IsTaskReady, TaskChange, HoldsCells, read_calls, calls_of, HasSureCalls, IsSingle, IsComputing, kept_room, result_room, HasResult, IsComputed, AreSteadyInputs, IsTaskFault};
 
-use crate::inputs::{lays_of, read_inputs, room_of, walk_bytes};
-use crate::views::{ViewJob, lay_numbers, read_sources, shapes_of};
-use cu_codec::chunk_bytes;
-use cu_kern::run_kernel;
-use cu_op::{Kernel, Op, Plan, Pull, Walk, input_walks, task_region};
-use cu_region::write_region;
-use cu_shape::{Dims, difference};
+use crate::copies::copy_region;
+use crate::inputs::{input_bytes, read_regions};
+use crate::maps::run_map;
+use crate::products::multiply;
+use crate::pulls::pull_result;
+use crate::reductions::{fold, merge};
+use crate::results::{result_bytes, write_array};
+use crate::searches::run_search;
+use cu_op::{Op, Plan};
 use cu_store::{Depot, TaskFault};
 
 /// Runs a task of a plan: reads what it needs of its inputs, computes the region of its result, and stores the chunks that lie in it.
@@ -62,216 +57,141 @@ pub fn run_task<D: Depot>(
     ensures cause { IfErr result (IsTaskFault (D.shown depot.old) (D.shown depot.new) plan.now op task) }
 {
     match &plan.operation(op).op {
-        Op::Map { kernel, .. } => run_map(depot, plan, op, task, kernel, bytes, words),
-        Op::Pull { pull, ins, .. } => run_pull(depot, plan, op, task, pull, ins.as_slice(), bytes),
+        Op::PairFold { .. } | Op::PairMerge { .. } => run_search(depot, plan, op, task, bytes),
+        _ => run_single(depot, plan, op, task, bytes, words),
     }
 }
 
-/// `run_task` for a map of this kernel.
-fn run_map<D: Depot>(
+/// `run_task` for an operation that writes one array: the result's region stands behind the other rooms.
+fn run_single<D: Depot>(
     depot: &mut D,
     plan: &Plan,
     op: u32,
     task: u32,
-    kernel: &Kernel,
     bytes: &mut [u8],
     words: &mut [u64],
 ) -> Result<(), TaskFault>
     requires operation { op < length plan.now.ops }
     requires task { task < tasks_of plan.now.arrays (op_of plan.now op) }
-    requires map { IsMapOf (op_of plan.now op) kernel.now }
+    requires single { IsSingle (op_of plan.now op) }
     requires words { length words.old ≡ 64 * instruction_count (op_of plan.now op) }
     requires room { plan.now.reserved + length bytes.old + 8 * length words.old ≡ projection plan.now.arrays plan.now.reserved (op_of plan.now op) }
-    ensures stored { (env : Elements) → IsTaskReady plan.now op task env (D.shown depot.old) → OnOk result (HoldsCells plan.now op task env (D.shown depot.new)) }
-    ensures step { Steps (TaskChange plan.now op task (D.shown depot.old)) 0 (calls_of plan.now op task) (D.shown depot.old) (D.shown depot.new) }
-    ensures all { OnOk result (Made (calls_of plan.now op task) (D.shown depot.old).calls (D.shown depot.new).calls) }
-    ensures cause { IfErr result (IsTaskFault (D.shown depot.old) (D.shown depot.new) plan.now op task) }
-{
-    let walks = input_walks(plan, op, task);
-    let output = output_bytes(plan, op);
-    let (front, output) = bytes.split_at_mut(bytes.len() - output);
-    let (scratch, inputs) = front.split_at_mut(front.len() - room_of(plan, &walks));
-    let output = &mut output[..result_bytes(plan, op, task)];
-    read_inputs(depot, plan, &walks, inputs, scratch)?;
-    compute(plan, op, task, kernel, inputs, output, words);
-    write_result(depot, plan, op, task, output, scratch)
-}
-
-/// `run_task` for a view: the result's region, and a chunk of a source at a time in front of it.
-fn run_pull<D: Depot>(
-    depot: &mut D,
-    plan: &Plan,
-    op: u32,
-    task: u32,
-    pull: &Pull,
-    ins: &[u32],
-    bytes: &mut [u8],
-) -> Result<(), TaskFault>
-    requires operation { op < length plan.now.ops }
-    requires task { task < tasks_of plan.now.arrays (op_of plan.now op) }
-    requires pull { IsPullOf (op_of plan.now op) pull.now ins.now }
-    requires few { length ins.now ≤ 8 }
-    requires room { plan.now.reserved + length bytes.old ≡ projection plan.now.arrays plan.now.reserved (op_of plan.now op) }
     ensures stored { (env : Elements) → IsTaskReady plan.now op task env (D.shown depot.old) → OnOk result (HoldsCells plan.now op task env (D.shown depot.new)) }
     ensures step { Steps (TaskChange plan.now op task (D.shown depot.old)) 0 (calls_of plan.now op task) (D.shown depot.old) (D.shown depot.new) }
     ensures all { HasSureCalls (op_of plan.now op) → OnOk result (Made (calls_of plan.now op task) (D.shown depot.old).calls (D.shown depot.new).calls) }
     ensures cause { IfErr result (IsTaskFault (D.shown depot.old) (D.shown depot.new) plan.now op task) }
 {
-    let output = output_bytes(plan, op);
-    let (scratch, output) = bytes.split_at_mut(bytes.len() - output);
-    let output = &mut output[..result_bytes(plan, op, task)];
-    let shapes = shapes_of(plan, ins);
-    let job = view_job(plan, op, task, pull, ins, shapes.as_slice());
-    pull_region(depot, plan, op, task, &job, output, scratch)?;
-    write_result(depot, plan, op, task, output, scratch)
+    let result = result_bytes(plan, op, task);
+    let (room, output) = bytes.split_at_mut(bytes.len() - result);
+    make_result(depot, plan, op, task, room, output, words)?;
+    let array = plan.operation(op).op.target();
+    write_array(depot, plan, op, task, array, output, room)
 }
 
-/// The elements of a view's result in the region of a task, row-major and little-endian, each chunk of a source read through
-/// `scratch`.
-fn pull_region<D: Depot>(
+/// The elements of the result in the region of a task, row-major and little-endian. `room` has the scratch and, in front of them, the
+/// regions that are read.
+fn make_result<D: Depot>(
     depot: &mut D,
     plan: &Plan,
     op: u32,
     task: u32,
-    job: &ViewJob<'_>,
+    room: &mut [u8],
     output: &mut [u8],
-    scratch: &mut [u8],
+    words: &mut [u64],
 ) -> Result<(), TaskFault>
-    requires sound { Sound plan.now }
     requires operation { op < length plan.now.ops }
     requires task { task < tasks_of plan.now.arrays (op_of plan.now op) }
-    requires pull { IsPullOf (op_of plan.now op) job.now.pull.now job.now.ins.now }
-    requires job { IsViewJob job.now }
-    requires view { view_of job.now ≡ view_task plan.now.arrays job.now.pull.now job.now.ins.now (target_of (op_of plan.now op)) (task_lo plan.now.arrays (op_of plan.now op) task) (task_hi plan.now.arrays (op_of plan.now op) task) }
-    requires output { length output.old ≡ product (differences (task_hi plan.now.arrays (op_of plan.now op) task) (task_lo plan.now.arrays (op_of plan.now op) task))
-        * size_of (type_at plan.now.arrays (target_of (op_of plan.now op))) }
-    requires scratch { scratch_room plan.now.arrays (op_of plan.now op) ≤ length scratch.old }
-    ensures values { (held : Contents) → (D.shown depot.old).held ≡ Some held
-        → IsSteady (IsWalkKey plan.now.arrays (input_walks plan.now.arrays (op_of plan.now op) task)) (Some held) (D.shown depot.old).late → OnOk result (HasResult plan.now op task held output.new) }
+    requires single { IsSingle (op_of plan.now op) }
+    requires room { scratch_room plan.now.arrays (op_of plan.now op) + kept_room plan.now.arrays (op_of plan.now op) task ≤ length room.old }
+    requires output { length output.old ≡ result_room plan.now op task (target_of (op_of plan.now op)) }
+    requires words { length words.old ≡ 64 * instruction_count (op_of plan.now op) }
+    ensures values { (held : Contents) → AreSteadyInputs plan.now op task (D.shown depot.old) held → OnOk result (HasResult plan.now op task (target_of (op_of plan.now op)) held output.new) }
     ensures elements { OnOk result (AreElements (type_at plan.now.arrays (target_of (op_of plan.now op))) output.new) }
     ensures step { Steps NoChange 0 (read_calls plan.now.arrays (op_of plan.now op) task) (D.shown depot.old) (D.shown depot.new) }
-    ensures all { HasSureCalls (op_of plan.now op) → OnOk result (Rose (read_calls plan.now.arrays (op_of plan.now op) task) (D.shown depot.old).calls (D.shown depot.new).calls) }
+    ensures all { HasSureCalls (op_of plan.now op) → OnOk result (Made (read_calls plan.now.arrays (op_of plan.now op) task) (D.shown depot.old).calls (D.shown depot.new).calls) }
     ensures cause { IfErr result (IsTaskFault (D.shown depot.old) (D.shown depot.new) plan.now op task) }
 {
-    lay_numbers(job, output);
-    read_sources(depot, job, output, scratch)
-}
-
-/// A task of a view, with the shapes of its sources.
-fn view_job<'a>(
-    plan: &'a Plan,
-    op: u32,
-    task: u32,
-    pull: &'a Pull,
-    ins: &'a [u32],
-    shapes: &'a [Dims],
-) -> ViewJob<'a>
-    requires operation { op < length plan.now.ops }
-    requires task { task < tasks_of plan.now.arrays (op_of plan.now op) }
-    requires pull { IsPullOf (op_of plan.now op) pull.now ins.now }
-    requires few { length ins.now ≤ 8 }
-    requires shapes { shapes.now ≡ shapes_at plan.now.arrays ins.now }
-    ensures job { IsViewJob result }
-    ensures pull { IsPullOf (op_of plan.now op) result.pull.now result.ins.now }
-    ensures view { view_of result ≡ view_task plan.now.arrays result.pull.now result.ins.now (target_of (op_of plan.now op)) (task_lo plan.now.arrays (op_of plan.now op) task) (task_hi plan.now.arrays (op_of plan.now op) task) }
-    ensures sound { Sound plan.now }
-{
-    ViewJob {
-        plan,
-        pull,
-        ins,
-        shapes,
-        out: plan.operation(op).op.target(),
-        region: task_region(plan, op, task),
+    match &plan.operation(op).op {
+        Op::Pull { pull, ins, .. } => pull_result(
+            depot,
+            plan,
+            op,
+            task,
+            pull,
+            ins.as_slice(),
+            output,
+            room,
+        ),
+        Op::Copy {
+            region,
+            source,
+            out,
+        } => copy_region(depot, plan, op, task, region, *source, *out, output, room),
+        _ => compute_result(depot, plan, op, task, room, output, words),
     }
 }
 
-/// The bytes of a chunk of the array that an operation makes.
-fn output_bytes(plan: &Plan, op: u32) -> usize
-    requires { op < length plan.now.ops }
-    ensures bytes { result ≡ chunk_room plan.now.arrays (target_of (op_of plan.now op)) }
-    ensures sound { Sound plan.now }
-{
-    let layout = &plan.array(plan.operation(op).op.target()).layout;
-    chunk_bytes(&layout.grid, layout.dtype)
-}
-
-/// The bytes of the elements that a task computes.
-fn result_bytes(plan: &Plan, op: u32, task: u32) -> usize
-    requires operation { op < length plan.now.ops }
-    requires task { task < tasks_of plan.now.arrays (op_of plan.now op) }
-    ensures bytes { result ≡ product (differences (task_hi plan.now.arrays (op_of plan.now op) task) (task_lo plan.now.arrays (op_of plan.now op) task))
-        * size_of (type_at plan.now.arrays (target_of (op_of plan.now op))) }
-    ensures most { result ≤ chunk_room plan.now.arrays (target_of (op_of plan.now op)) }
-{
-    let result = Walk {
-        array: plan.operation(op).op.target(),
-        region: task_region(plan, op, task),
-    };
-    walk_bytes(plan, &result)
-}
-
-/// Stores the chunks of the region that a task computes.
-fn write_result<D: Depot>(
+/// The same of an operation that computes from whole regions.
+fn compute_result<D: Depot>(
     depot: &mut D,
     plan: &Plan,
     op: u32,
     task: u32,
-    output: &[u8],
-    scratch: &mut [u8],
+    room: &mut [u8],
+    output: &mut [u8],
+    words: &mut [u64],
 ) -> Result<(), TaskFault>
     requires operation { op < length plan.now.ops }
     requires task { task < tasks_of plan.now.arrays (op_of plan.now op) }
-    requires output { length output.now ≡ product (differences (task_hi plan.now.arrays (op_of plan.now op) task) (task_lo plan.now.arrays (op_of plan.now op) task))
-        * size_of (type_at plan.now.arrays (target_of (op_of plan.now op))) }
-    requires elements { AreElements (type_at plan.now.arrays (target_of (op_of plan.now op))) output.now }
-    requires scratch { chunk_room plan.now.arrays (target_of (op_of plan.now op)) ≤ length scratch.old }
-    ensures stored { LateIsOwn (array_at plan.now.arrays (target_of (op_of plan.now op))) (task_lo plan.now.arrays (op_of plan.now op) task) (task_hi plan.now.arrays (op_of plan.now op) task) output.now (D.shown depot.old).late
-        → OnOk result (StoresRegion (array_at plan.now.arrays (target_of (op_of plan.now op))) (task_lo plan.now.arrays (op_of plan.now op) task) (task_hi plan.now.arrays (op_of plan.now op) task) output.now (D.shown depot.new).held) }
-    ensures step { Steps (RegionPut (array_at plan.now.arrays (target_of (op_of plan.now op))) (task_lo plan.now.arrays (op_of plan.now op) task) (task_hi plan.now.arrays (op_of plan.now op) task) output.now)
-        0 (length (written_chunks plan.now.arrays (op_of plan.now op) task)) (D.shown depot.old) (D.shown depot.new) }
-    ensures all { OnOk result (Made (length (written_chunks plan.now.arrays (op_of plan.now op) task)) (D.shown depot.old).calls (D.shown depot.new).calls) }
-    ensures cause { IfErr result (IsWriteFault (D.shown depot.old).faults (D.shown depot.new).faults (D.shown depot.new).lacks) }
+    requires computing { IsComputing (op_of plan.now op) }
+    requires room { scratch_room plan.now.arrays (op_of plan.now op) + room_of_walks plan.now.arrays (input_walks plan.now.arrays (op_of plan.now op) task) ≤ length room.old }
+    requires output { length output.old ≡ result_room plan.now op task (target_of (op_of plan.now op)) }
+    requires words { length words.old ≡ 64 * instruction_count (op_of plan.now op) }
+    ensures values { (held : Contents) → AreSteadyInputs plan.now op task (D.shown depot.old) held → OnOk result (HasResult plan.now op task (target_of (op_of plan.now op)) held output.new) }
+    ensures elements { OnOk result (AreElements (type_at plan.now.arrays (target_of (op_of plan.now op))) output.new) }
+    ensures step { Steps NoChange 0 (read_calls plan.now.arrays (op_of plan.now op) task) (D.shown depot.old) (D.shown depot.new) }
+    ensures all { OnOk result (Made (read_calls plan.now.arrays (op_of plan.now op) task) (D.shown depot.old).calls (D.shown depot.new).calls) }
+    ensures cause { IfErr result (IsTaskFault (D.shown depot.old) (D.shown depot.new) plan.now op task) }
 {
-    let region = task_region(plan, op, task);
-    let made = plan.array(plan.operation(op).op.target());
-    write_region(depot, made, &region, output, scratch)
+    let kept = input_bytes(plan, op, task);
+    let (scratch, inputs) = room.split_at_mut(room.len() - kept);
+    read_regions(depot, plan, op, task, inputs, scratch)?;
+    compute(plan, op, task, inputs, output, words);
+    Ok(())
 }
 
-/// The elements of a map's result in the region of a task, from the regions of its inputs, which stand one behind another in
-/// `inputs`, each at the front of a room of a chunk of its array. Elements are row-major and little-endian.
-fn compute(
-    plan: &Plan,
-    op: u32,
-    task: u32,
-    kernel: &Kernel,
-    inputs: &[u8],
-    output: &mut [u8],
-    words: &mut [u64],
-)
+/// The elements of the result in the region of a task, from the regions of the arrays that it reads, which stand one behind another in
+/// `inputs`.
+fn compute(plan: &Plan, op: u32, task: u32, inputs: &[u8], output: &mut [u8], words: &mut [u64])
     requires operation { op < length plan.now.ops }
     requires task { task < tasks_of plan.now.arrays (op_of plan.now op) }
-    requires map { IsMapOf (op_of plan.now op) kernel.now }
+    requires computing { IsComputing (op_of plan.now op) }
     requires inputs { length inputs.now ≡ room_of_walks plan.now.arrays (input_walks plan.now.arrays (op_of plan.now op) task) }
-    requires output { length output.old ≡ product (differences (task_hi plan.now.arrays (op_of plan.now op) task) (task_lo plan.now.arrays (op_of plan.now op) task))
-        * size_of (type_at plan.now.arrays (target_of (op_of plan.now op))) }
+    requires output { length output.old ≡ result_room plan.now op task (target_of (op_of plan.now op)) }
     requires words { length words.old ≡ 64 * instruction_count (op_of plan.now op) }
-    ensures values { (held : Contents) (idx : List ℕ) → HasRegions plan.now.arrays held (input_walks plan.now.arrays (op_of plan.now op) task) inputs.now
-        → IsWithin (task_lo plan.now.arrays (op_of plan.now op) task) (task_hi plan.now.arrays (op_of plan.now op) task) idx
-        → rule (op_of plan.now op) plan.now.arrays (stored_inputs plan.now.arrays held) (target_of (op_of plan.now op)) idx
-        ≡ buffer_element (type_at plan.now.arrays (target_of (op_of plan.now op))) (task_lo plan.now.arrays (op_of plan.now op) task) (task_hi plan.now.arrays (op_of plan.now op) task) output.new idx }
+    ensures values { IsComputed plan.now op task (target_of (op_of plan.now op)) inputs.now output.new }
     ensures elements { AreElements (type_at plan.now.arrays (target_of (op_of plan.now op))) output.new }
 {
-    let region = task_region(plan, op, task);
-    let made = plan.array(plan.operation(op).op.target());
-    let lays = lays_of(plan, &input_walks(plan, op, task));
-    run_kernel(
-        kernel,
-        &lays,
-        made.layout.dtype,
-        &difference(&region.hi, &region.lo),
-        inputs,
-        output,
-        words,
-    );
+    match &plan.operation(op).op {
+        Op::Map { kernel, .. } => run_map(plan, op, task, kernel, inputs, output, words),
+        Op::Fold {
+            kind,
+            axes,
+            source,
+            out,
+        } => fold(plan, op, task, *kind, *axes, *source, *out, inputs, output),
+        Op::Merge {
+            kind,
+            axis,
+            group,
+            source,
+            out,
+        } => merge(
+            plan, op, task, *kind, *axis, *group, *source, *out, inputs, output,
+        ),
+        Op::Mul { left, right, out } => multiply(
+            plan, op, task, *left, *right, *out, inputs, output,
+        ),
+        _ => unreachable!(),
+    }
 }

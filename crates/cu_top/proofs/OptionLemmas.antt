@@ -2,7 +2,7 @@
 use Rattle.std.proofs.Common.{◌≡◌, ℕ, ◌≤◌, ◌^◌, ◌&&◌, nat_le, Bool, true, false, List, [], ◌∷◌, Option, Some, None, Result, Ok, Err, option_map, option_and_then, unwrap_or, refl, sym, subst, inl, inr, ◌⊎◌, arith, leb-true, lit≤, if◌then◌else◌, bytes_eq, codes}
 use Rattle.std.specs.Str.Parse.{without_leading_plus, digits_value}
 use Rattle.cu_name.specs.Name.{is_name}
-use Rattle.cu_top.specs.Words.{Command, run, load, check, print, is_number, memory_of, retries_of, once, given_with, options_from, or_code, nothing_given, retries_in, is_plain, print_of, print_in, command_of}
+use Rattle.cu_top.specs.Words.{Command, run, load, check, print, is_number, memory_of, retries_of, split_of, once, given_with, options_from, or_code, nothing_given, retries_in, is_plain, print_of, print_in, command_of, IsInRange}
 use Rattle.cu_top.specs.declared.words.Given.{Given}
 use Rattle.cu_lower.specs.declared.options.Options.{Options}
 
@@ -13,6 +13,10 @@ AtMost most (Some n) = n ≤ most
 if_some : (b : Bool) (v n : ℕ) → (if b then Some v else None) ≡ Some n → (b ≡ true) × (v ≡ n)
 if_some true v n e = (refl, cc)
 if_some false v n e = cc
+
+and_left : (a b : Bool) → (a && b) ≡ true → a ≡ true
+and_left true b e = refl
+and_left false b e = cc
 
 and_right : (a b : Bool) → (a && b) ≡ true → b ≡ true
 and_right true b e = e
@@ -37,9 +41,23 @@ mapped : (o : Option ℕ) (f : ℕ → Given) (g : Given) → option_map f o ≡
 mapped None f g e = cc
 mapped (Some n) f g e = (n, refl, cc)
 
+-- a count of partial results
+abbrev Merges : Option ℕ → Type 0
+Merges None = Unit {0}
+Merges (Some n) = (2 ≤ n) × (n ≤ 64)
+
+split_bound : (text : List ℕ) (n : ℕ) → split_of text ≡ Some n → (2 ≤ n) × (n ≤ 64)
+split_bound text n e =
+    let (test, value) = if_some (is_number text && nat_le (digits_value 10 (without_leading_plus text)) 64 && nat_le 2 (digits_value 10 (without_leading_plus text))) (digits_value 10 (without_leading_plus text)) n e in
+    let within = is_number text && nat_le (digits_value 10 (without_leading_plus text)) 64 in
+    let small : digits_value 10 (without_leading_plus text) ≤ 64 = leb-true _ _ (and_right (is_number text) _ (and_left within _ test)) in
+    let some : 2 ≤ digits_value 10 (without_leading_plus text) = leb-true _ _ (and_right within _ test) in
+    (omega (arith, some, value), omega (arith, small, value))
+
 record AreBounded (given : Given) : Type 0 where
   allowed : AtMost (2 ^ 40) given.allowed
   reserved : AtMost (2 ^ 40) given.reserved
+  split_every : Merges given.split_every
   retries : AtMost 8 given.retries
 
 given_bounded : (given : Given) (name value : List ℕ) (g : Given) → AreBounded given → given_with given name value ≡ Some g → AreBounded g
@@ -47,16 +65,21 @@ given_bounded given name value g bounded e =
     elim (given_step (bytes_eq name (codes "--allowed-mem")) _ _ g e) [
       | inl allowed ↦
           let (n, given_is, is) = mapped (once given.allowed (memory_of value)) _ g allowed.1 in
-          subst AreBounded is (record { allowed = number_bound (2 ^ 40) value n (once_is given.allowed (memory_of value) n given_is); reserved = bounded.reserved; retries = bounded.retries })
+          subst AreBounded is (record { allowed = number_bound (2 ^ 40) value n (once_is given.allowed (memory_of value) n given_is); reserved = bounded.reserved; split_every = bounded.split_every; retries = bounded.retries })
       | inr other ↦ elim (given_step (bytes_eq name (codes "--reserved-mem")) _ _ g other.1) [
         | inl reserved ↦
             let (n, given_is, is) = mapped (once given.reserved (memory_of value)) _ g reserved.1 in
-            subst AreBounded is (record { allowed = bounded.allowed; reserved = number_bound (2 ^ 40) value n (once_is given.reserved (memory_of value) n given_is); retries = bounded.retries })
-        | inr third ↦ elim (given_step (bytes_eq name (codes "--retries")) _ _ g third.1) [
-          | inl retries ↦
-              let (n, given_is, is) = mapped (once given.retries (retries_of value)) _ g retries.1 in
-              subst AreBounded is (record { allowed = bounded.allowed; reserved = bounded.reserved; retries = number_bound 8 value n (once_is given.retries (retries_of value) n given_is) })
-          | inr none ↦ cc
+            subst AreBounded is (record { allowed = bounded.allowed; reserved = number_bound (2 ^ 40) value n (once_is given.reserved (memory_of value) n given_is); split_every = bounded.split_every; retries = bounded.retries })
+        | inr third ↦ elim (given_step (bytes_eq name (codes "--split-every")) _ _ g third.1) [
+          | inl split ↦
+              let (n, given_is, is) = mapped (once given.split_every (split_of value)) _ g split.1 in
+              subst AreBounded is (record { allowed = bounded.allowed; reserved = bounded.reserved; split_every = split_bound value n (once_is given.split_every (split_of value) n given_is); retries = bounded.retries })
+          | inr fourth ↦ elim (given_step (bytes_eq name (codes "--retries")) _ _ g fourth.1) [
+            | inl retries ↦
+                let (n, given_is, is) = mapped (once given.retries (retries_of value)) _ g retries.1 in
+                subst AreBounded is (record { allowed = bounded.allowed; reserved = bounded.reserved; split_every = bounded.split_every; retries = number_bound 8 value n (once_is given.retries (retries_of value) n given_is) })
+            | inr none ↦ cc
+          ]
         ]
       ]
     ]
@@ -65,15 +88,25 @@ or_default : (most : ℕ) (o : Option ℕ) (d : ℕ) → AtMost most o → d ≤
 or_default most None d bound small = small
 or_default most (Some n) d bound small = bound
 
+or_four : (o : Option ℕ) → Merges o → (2 ≤ unwrap_or o 4) × (unwrap_or o 4 ≤ 64)
+or_four None bound = (omega arith, omega arith)
+or_four (Some n) bound = bound
+
 then_some : (o : Option Given) (f : Given → Option Options) (p : Options) → option_and_then f o ≡ Some p → (g : Given) × (o ≡ Some g) × (f g ≡ Some p)
 then_some None f p e = cc
 then_some (Some g) f p e = (g, refl, e)
 
-from_bounded : (given : Given) (words : List (List ℕ)) (o : Options) → AreBounded given → options_from given words ≡ Some o → (o.allowed ≤ 2 ^ 40) × (o.reserved ≤ 2 ^ 40) × (o.retries ≤ 8)
+from_bounded : (given : Given) (words : List (List ℕ)) (o : Options) → AreBounded given → options_from given words ≡ Some o → IsInRange o
 from_bounded given [] o bounded e =
-    let P : Options → Type 0 = λ p. (p.allowed ≤ 2 ^ 40) × (p.reserved ≤ 2 ^ 40) × (p.retries ≤ 8) in
-    let is : record { allowed = unwrap_or given.allowed 200000000; reserved = unwrap_or given.reserved 0; retries = unwrap_or given.retries 2 } ≡ o = cc in
-    subst P is (or_default (2 ^ 40) given.allowed 200000000 bounded.allowed (lit≤ tt), or_default (2 ^ 40) given.reserved 0 bounded.reserved (lit≤ tt), or_default 8 given.retries 2 bounded.retries (lit≤ tt))
+    let is : record { allowed = unwrap_or given.allowed 200000000; reserved = unwrap_or given.reserved 0; split_every = unwrap_or given.split_every 4; retries = unwrap_or given.retries 2 } ≡ o = cc in
+    let split = or_four given.split_every bounded.split_every in
+    subst IsInRange is (record {
+      allowed = or_default (2 ^ 40) given.allowed 200000000 bounded.allowed (lit≤ tt);
+      reserved = or_default (2 ^ 40) given.reserved 0 bounded.reserved (lit≤ tt);
+      several = split.0;
+      few = split.1;
+      retries = or_default 8 given.retries 2 bounded.retries (lit≤ tt);
+    })
 from_bounded given (name ∷ []) o bounded e = cc
 from_bounded given (name ∷ value ∷ more) o bounded e =
     let (g, one, rest) = then_some (given_with given name value) _ o e in
@@ -165,11 +198,11 @@ load_not_print : (m : ℕ) (name : List ℕ) (n : ℕ) → load m ≡ print name
 load_not_print m name n e = cc
 
 -- The options of a run are within their range.
-pub run_bounded : (words : List (List ℕ)) (o : Options) → command_of words ≡ Ok (run o) → (o.allowed ≤ 2 ^ 40) × (o.reserved ≤ 2 ^ 40) × (o.retries ≤ 8)
+pub run_bounded : (words : List (List ℕ)) (o : Options) → command_of words ≡ Ok (run o) → IsInRange o
 run_bounded [] o e = absurd (no_command (run o) e)
 run_bounded (command ∷ words) o e = elim (commands command words (run o) e) [
-  | inl (p, found, is) ↦ subst (λ (q : Options). (q.allowed ≤ 2 ^ 40) × (q.reserved ≤ 2 ^ 40) × (q.retries ≤ 8)) (same_run p o is)
-      (from_bounded nothing_given words p (record { allowed = tt; reserved = tt; retries = tt }) found)
+  | inl (p, found, is) ↦ subst IsInRange (same_run p o is)
+      (from_bounded nothing_given words p (record { allowed = tt; reserved = tt; split_every = tt; retries = tt }) found)
   | inr (inl (n, is)) ↦ absurd (run_not_load o n (sym is))
   | inr (inr (inl (n, is))) ↦ absurd (run_not_check o n (sym is))
   | inr (inr (inr p)) ↦ absurd (run_not_print o p.name p.retries (sym p.is))

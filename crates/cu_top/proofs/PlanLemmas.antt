@@ -85,12 +85,12 @@ OutputLaw = (e : Expression) (infos : List NodeInfo) (inputs : List InputInfo) (
 
 abbrev pub InputLaw : Type 0
 InputLaw = (e : Expression) (infos : List NodeInfo) (inputs : List InputInfo) (options : Options) (k : ℕ) (name : List ℕ) → IsLowerable e infos inputs options
-    → IsLiveInput e k name → array_at (plan_of e infos inputs options).arrays (place_in (lowered e infos inputs options.reserved) k) ≡ input_array inputs name
+    → IsLiveInput e k name → array_at (plan_of e infos inputs options).arrays (place_in (lowered e infos inputs options) k) ≡ input_array inputs name
 
 abbrev pub ValueLaw : Type 0
 ValueLaw = (e : Expression) (infos : List NodeInfo) (inputs : List InputInfo) (options : Options) (env : Elements) (elements : NodeElements) (k : ℕ) (idx : List ℕ) (x : ℤ)
     → HaveElements e infos inputs options env elements → is_live e k ≡ true → IsInside (shape_at infos k) idx
-    → plan_value (plan_of e infos inputs options) env (place_in (lowered e infos inputs options.reserved) k) idx ≡ Some x → x ≡ meaning_of e infos elements k idx
+    → plan_value (plan_of e infos inputs options) env (place_in (lowered e infos inputs options) k) idx ≡ Some x → x ≡ meaning_of e infos elements k idx
 
 abbrev pub ElementsLaw : Type 0
 ElementsLaw = (r : PlanRun) (env : Elements) (shown : Shown) (a : ℕ) (idx : List ℕ) (left : IsLeft r env shown) → IsComplete r env shown
@@ -104,9 +104,9 @@ used_input job entry idx name found n a at is same = rw (at, is, same) refl
 
 module _ (c : RunCase) (job : Job) (planned : HasPlan c.options job) (inputs : InputLaw) (output : OutputLaw) where
   elements_given : (entry : Contents) → (k : ℕ) (name idx : List ℕ) → IsLiveInput job.expr k name
-      → elements_of job entry k idx ≡ unwrap_or (env_of c job entry (place_in (lowered job.expr job.types job.inputs.items c.options.reserved) k) idx) (pos 0)
+      → elements_of job entry k idx ≡ unwrap_or (env_of c job entry (place_in (lowered job.expr job.types job.inputs.items c.options) k) idx) (pos 0)
   elements_given entry k name idx i =
-      used_input job entry idx name (slice_get job.expr.nodes k) i.node (array_at (plan_in c job).arrays (place_in (lowered job.expr job.types job.inputs.items c.options.reserved) k)) i.at i.form
+      used_input job entry idx name (slice_get job.expr.nodes k) i.node (array_at (plan_in c job).arrays (place_in (lowered job.expr job.types job.inputs.items c.options) k)) i.at i.form
       (inputs job.expr job.types job.inputs.items c.options k name planned i)
 
   have_elements : (entry : Contents) (shown : Shown) → IsLeft (job_run c job) (env_of c job entry) shown

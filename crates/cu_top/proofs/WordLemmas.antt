@@ -4,7 +4,7 @@ use Rattle.std.specs.Str.{all_ascii_digits}
 use Rattle.std.specs.Str.Parse.{IsNumeral, without_leading_plus, digits_value}
 use Rattle.std.proofs.lemmas.Bool.{and_from, and_parts, le-leb, leb-true, lt-ltb, ltb-true}
 use Rattle.std.proofs.lemmas.Str.Parse.{IsNumeralModel, numerals_by_value, tells_all_ascii_digits}
-use Rattle.cu_top.specs.Words.{is_number, given_with, options_from, print_in}
+use Rattle.cu_top.specs.Words.{split_of, is_number, given_with, options_from, print_in}
 use Rattle.cu_top.specs.declared.words.Given.{Given}
 use Rattle.cu_lower.specs.declared.options.Options.{Options}
 
@@ -39,6 +39,20 @@ number_refused most text small refuted = none_where _ _ (λ e.
     let parts = and_parts (is_number text) (nat_le (digits_value 10 (without_leading_plus text)) most) e in
     let within : digits_value 10 (without_leading_plus text) ≤ most = leb-true _ _ parts.1 in
     refuted (numeral_from_test _ parts.0, omega (arith, within, small)))
+
+-- the same of a number from 2 to 64
+pub split_read : (text : List ℕ) (n : ℕ) → IsNumeral 10 (without_leading_plus text) → n ≡ digits_value 10 (without_leading_plus text) → 2 ≤ n → n ≤ 64 → Some n ≡ split_of text
+split_read text n h e several few =
+    let inside : digits_value 10 (without_leading_plus text) ≤ 64 = omega (arith, e, few) in
+    let enough : 2 ≤ digits_value 10 (without_leading_plus text) = omega (arith, e, several) in
+    some_where _ n _ (and_from _ _ (and_from _ _ (test_from_numeral _ h) (le-leb _ _ inside)) (le-leb _ _ enough)) e
+
+pub split_refused : (text : List ℕ) → ¬ (IsNumeral 10 (without_leading_plus text) × (2 ≤ digits_value 10 (without_leading_plus text)) × (digits_value 10 (without_leading_plus text) ≤ 64)) → None ≡ split_of text
+split_refused text refuted = none_where _ _ (λ e.
+    let within = is_number text && nat_le (digits_value 10 (without_leading_plus text)) 64 in
+    let parts = and_parts within _ e in
+    let both = and_parts (is_number text) _ parts.0 in
+    refuted (numeral_from_test _ both.0, leb-true _ _ parts.1, leb-true _ _ both.1))
 
 -- the words behind `print` are one or three
 pub print_other : (words : List (String Global)) → (length words ≡ 1 → ⊥) → (length words ≡ 3 → ⊥) → Err 2 ≡ print_in (map string_bytes words)

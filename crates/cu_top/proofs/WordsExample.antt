@@ -2,19 +2,19 @@
 use Rattle.std.proofs.Common.{◌≡◌, [], ◌∷◌, codes, Ok, Err, refl}
 use Rattle.cu_top.specs.Words.{command_of, run, load, check, print}
 
-allowed : command_of (codes "run" ∷ codes "--allowed-mem" ∷ codes "1600" ∷ []) ≡ Ok (run (record { allowed = 1600; reserved = 0; retries = 2 }))
+allowed : command_of (codes "run" ∷ codes "--allowed-mem" ∷ codes "1600" ∷ []) ≡ Ok (run (record { allowed = 1600; reserved = 0; split_every = 4; retries = 2 }))
 unfolding command_of
 allowed = refl
 
-defaults : command_of (codes "run" ∷ []) ≡ Ok (run (record { allowed = 200000000; reserved = 0; retries = 2 }))
+defaults : command_of (codes "run" ∷ []) ≡ Ok (run (record { allowed = 200000000; reserved = 0; split_every = 4; retries = 2 }))
 unfolding command_of
 defaults = refl
 
-both : command_of (codes "run" ∷ codes "--reserved-mem" ∷ codes "+7" ∷ codes "--allowed-mem" ∷ codes "01" ∷ []) ≡ Ok (run (record { allowed = 1; reserved = 7; retries = 2 }))
+both : command_of (codes "run" ∷ codes "--reserved-mem" ∷ codes "+7" ∷ codes "--allowed-mem" ∷ codes "01" ∷ []) ≡ Ok (run (record { allowed = 1; reserved = 7; split_every = 4; retries = 2 }))
 unfolding command_of
 both = refl
 
-most : command_of (codes "run" ∷ codes "--allowed-mem" ∷ codes "1099511627776" ∷ []) ≡ Ok (run (record { allowed = 1099511627776; reserved = 0; retries = 2 }))
+most : command_of (codes "run" ∷ codes "--allowed-mem" ∷ codes "1099511627776" ∷ []) ≡ Ok (run (record { allowed = 1099511627776; reserved = 0; split_every = 4; retries = 2 }))
 unfolding command_of
 most = refl
 
@@ -50,7 +50,7 @@ empty_number : command_of (codes "run" ∷ codes "--allowed-mem" ∷ codes "+" �
 unfolding command_of
 empty_number = refl
 
-retried : command_of (codes "run" ∷ codes "--retries" ∷ codes "8" ∷ []) ≡ Ok (run (record { allowed = 200000000; reserved = 0; retries = 8 }))
+retried : command_of (codes "run" ∷ codes "--retries" ∷ codes "8" ∷ []) ≡ Ok (run (record { allowed = 200000000; reserved = 0; split_every = 4; retries = 8 }))
 unfolding command_of
 retried = refl
 
@@ -109,3 +109,15 @@ number_before_name = refl
 nothing_to_print : command_of (codes "print" ∷ []) ≡ Err 2
 unfolding command_of
 nothing_to_print = refl
+
+split : command_of (codes "run" ∷ codes "--split-every" ∷ codes "2" ∷ []) ≡ Ok (run (record { allowed = 200000000; reserved = 0; split_every = 2; retries = 2 }))
+unfolding command_of
+split = refl
+
+split_in_one : command_of (codes "run" ∷ codes "--split-every" ∷ codes "1" ∷ []) ≡ Err 2
+unfolding command_of
+split_in_one = refl
+
+split_in_many : command_of (codes "run" ∷ codes "--split-every" ∷ codes "65" ∷ []) ≡ Err 2
+unfolding command_of
+split_in_many = refl

@@ -28,8 +28,8 @@ AreWhole p entry = (k : Cell) (bytes : List ℕ) → IsInputChunk p.arrays k →
 -- chunk of an input is absent or whole.
 pub record IsAtRest (options : Options) (job : Job) (entry : Contents) (old : Shown) : Type 0 where
   pub built : first_unbuilt job.expr job.types ≡ None
-  pub memory : first_over options.allowed options.reserved job.expr job.types ≡ None
-  pub counts : over_limit (plan_counts job.expr job.types) ≡ None
+  pub memory : first_over options.allowed options.reserved options.split_every job.expr job.types ≡ None
+  pub counts : over_limit (plan_counts job.expr job.types options.split_every) ≡ None
   pub own : IsApart job.expr
   pub free : All (IsFree entry) (keys_of options job)
   pub settled : All (λ key. (bytes : List ℕ) → IsAmong old.late key bytes → ⊥) (keys_of options job)

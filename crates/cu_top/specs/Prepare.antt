@@ -47,9 +47,9 @@ out_metadata job = metadata_text (layout_view (out_layout job))
 abbrev pub IsUnplanned : Options → Job → Status → Type 0
 IsUnplanned options job (NotBuilt node) = first_unbuilt job.expr job.types ≡ Some node
 IsUnplanned options job (OverMemory node need allowed) =
-    (first_unbuilt job.expr job.types ≡ None) × (allowed ≡ options.allowed) × (first_over options.allowed options.reserved job.expr job.types ≡ Some (record { node = node; need = need }))
-IsUnplanned options job (OverLimit which count) = (first_unbuilt job.expr job.types ≡ None) × (first_over options.allowed options.reserved job.expr job.types ≡ None)
-    × (over_limit (plan_counts job.expr job.types) ≡ Some (record { which = which; count = count }))
+    (first_unbuilt job.expr job.types ≡ None) × (allowed ≡ options.allowed) × (first_over options.allowed options.reserved options.split_every job.expr job.types ≡ Some (record { node = node; need = need }))
+IsUnplanned options job (OverLimit which count) = (first_unbuilt job.expr job.types ≡ None) × (first_over options.allowed options.reserved options.split_every job.expr job.types ≡ None)
+    × (over_limit (plan_counts job.expr job.types options.split_every) ≡ Some (record { which = which; count = count }))
 IsUnplanned options job status = ⊥
 
 -- the job's expression has a plan

@@ -1,5 +1,5 @@
 -- The words of the command line: the command, and behind it the options in pairs of a name and a value. This project's own rules.
-use Rattle.std.specs.Prelude.{ℕ, ◌^◌, Bool, nat_eq, nat_lt, nat_le, ◌&&◌, ◌||◌, not, List, [], ◌∷◌, length, slice_index, codes, bytes_eq, Option, Some, None, option_map, option_and_then, unwrap_or, Result, Ok, Err, if◌then◌else◌}
+use Rattle.std.specs.Prelude.{ℕ, ◌^◌, ◌≤◌, Bool, nat_eq, nat_lt, nat_le, ◌&&◌, ◌||◌, not, List, [], ◌∷◌, length, slice_index, codes, bytes_eq, Option, Some, None, option_map, option_and_then, unwrap_or, Result, Ok, Err, if◌then◌else◌}
 use Rattle.std.specs.Str.{all_ascii_digits}
 use Rattle.std.specs.Str.Parse.{without_leading_plus, digits_value}
 use Rattle.cu_name.specs.Name.{is_name}
@@ -18,9 +18,15 @@ memory_of text = if is_number text && nat_le (digits_value 10 (without_leading_p
 abbrev pub retries_of : List ℕ → Option ℕ
 retries_of text = if is_number text && nat_le (digits_value 10 (without_leading_plus text)) 8 then Some (digits_value 10 (without_leading_plus text)) else None
 
+-- how many partial results a task of a reduction merges: a number from 2 to 64
+abbrev pub split_of : List ℕ → Option ℕ
+split_of text =
+    if is_number text && nat_le (digits_value 10 (without_leading_plus text)) 64 && nat_le 2 (digits_value 10 (without_leading_plus text))
+    then Some (digits_value 10 (without_leading_plus text)) else None
+
 -- before the first option
 abbrev pub nothing_given : Given
-nothing_given = record { allowed = None; reserved = None; retries = None }
+nothing_given = record { allowed = None; reserved = None; split_every = None; retries = None }
 
 -- an option's value, where the option wasn't given before
 abbrev pub once : Option ℕ → Option ℕ → Option ℕ
@@ -30,16 +36,30 @@ once (Some n) value = None
 -- what is given once one more option has this value; None where the option is unknown or was given before
 abbrev pub given_with : Given → List ℕ → List ℕ → Option Given
 given_with given name value =
-    if bytes_eq name (codes "--allowed-mem") then option_map (λ n. record { allowed = Some n; reserved = given.reserved; retries = given.retries }) (once given.allowed (memory_of value))
-    else if bytes_eq name (codes "--reserved-mem") then option_map (λ n. record { allowed = given.allowed; reserved = Some n; retries = given.retries }) (once given.reserved (memory_of value))
-    else if bytes_eq name (codes "--retries") then option_map (λ n. record { allowed = given.allowed; reserved = given.reserved; retries = Some n }) (once given.retries (retries_of value))
+    if bytes_eq name (codes "--allowed-mem")
+    then option_map (λ n. record { allowed = Some n; reserved = given.reserved; split_every = given.split_every; retries = given.retries }) (once given.allowed (memory_of value))
+    else if bytes_eq name (codes "--reserved-mem")
+    then option_map (λ n. record { allowed = given.allowed; reserved = Some n; split_every = given.split_every; retries = given.retries }) (once given.reserved (memory_of value))
+    else if bytes_eq name (codes "--split-every")
+    then option_map (λ n. record { allowed = given.allowed; reserved = given.reserved; split_every = Some n; retries = given.retries }) (once given.split_every (split_of value))
+    else if bytes_eq name (codes "--retries")
+    then option_map (λ n. record { allowed = given.allowed; reserved = given.reserved; split_every = given.split_every; retries = Some n }) (once given.retries (retries_of value))
     else None
 
--- the options of the pairs that follow what was given; by default 200000000 bytes are allowed, none are reserved, and calls and tasks are tried again twice
+-- the options of the pairs that follow what was given; by default 200000000 bytes are allowed, none are reserved, a task
+-- merges 4 partial results, and calls and tasks are tried again twice
 abbrev pub options_from : Given → List (List ℕ) → Option Options
-options_from given [] = Some (record { allowed = unwrap_or given.allowed 200000000; reserved = unwrap_or given.reserved 0; retries = unwrap_or given.retries 2 })
+options_from given [] = Some (record { allowed = unwrap_or given.allowed 200000000; reserved = unwrap_or given.reserved 0; split_every = unwrap_or given.split_every 4; retries = unwrap_or given.retries 2 })
 options_from given (name ∷ []) = None
 options_from given (name ∷ value ∷ more) = option_and_then (λ g. options_from g more) (given_with given name value)
+
+-- each option is in its range
+pub record IsInRange (o : Options) : Type 0 where
+  pub allowed : o.allowed ≤ 2 ^ 40
+  pub reserved : o.reserved ≤ 2 ^ 40
+  pub several : 2 ≤ o.split_every
+  pub few : o.split_every ≤ 64
+  pub retries : o.retries ≤ 8
 
 -- ---- the commands
 

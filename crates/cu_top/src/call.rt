@@ -13,6 +13,7 @@ ghost use Rattle.cu_top.specs.Call.{CameToRun, DidNothing, IsReadFault, IsShort,
 ghost use Rattle.cu_top.specs.Complete.{IsServable, IsServed};
 ghost use Rattle.cu_top.specs.Run.{scene, IsDone, IsUnreported, IsTaskFailed, IsBadInput, IsDepotFailed, HasNoPlan, IsBlocked, IsMissing, IsRefused, IsBadExpr, IsBadType, PrintsOnly};
 ghost use Rattle.cu_top.specs.Words.{run, load, check, print, command_of};
+ghost use Rattle.cu_top.specs.Words.{IsInRange};
 
 use crate::run::run;
 use crate::words::{Asked, read_words};
@@ -152,9 +153,7 @@ fn run_command<R: Source, W: Sink, D: Depot>(
     out: &mut W,
     depot: &mut D,
 ) -> Status
-    requires allowed { options.now.allowed ≤ 2 ^ 40 }
-    requires reserved { options.now.reserved ≤ 2 ^ 40 }
-    requires retries { options.now.retries ≤ 8 }
+    requires options { IsInRange options.now }
     ensures answer { RunTells options.now (scene (stream (R.left src.old) (R.faults src.old)) (stream (W.written out.old) (W.faults out.old)) (D.shown depot.old))
         (scene (stream (R.left src.new) (R.faults src.new)) (stream (W.written out.new) (W.faults out.new)) (D.shown depot.new)) result }
     ensures prints { PrintsOnly result (W.written out.old) (W.written out.new) }

@@ -8,6 +8,7 @@ ghost use Rattle.cu_command.specs.Seen.{Stream};
 ghost use Rattle.cu_command.specs.Stored.{IsArrayLayout};
 ghost use Rattle.cu_top.specs.Prepare.{job_plan, HasPlan, IsUnplanned, IsPlanEnd};
 ghost use Rattle.cu_top.specs.Run.{scene, case, Ran, IsCleared};
+ghost use Rattle.cu_top.specs.Words.{IsInRange};
 
 use crate::ask::{answer_of, ask_plan};
 use cu_command::{Job, Status, read_job};
@@ -50,8 +51,7 @@ fn check_plan(options: &Options, job: &Job, infos: &[NodeInfo]) -> Result<(), St
     requires types { typed job.now.inputs.items job.now.expr ≡ Ok job.now.types }
     requires kept { All IsInfo job.now.types }
     requires layouts { All (λ i. IsArrayLayout i.layout) job.now.inputs.items }
-    requires allowed { options.now.allowed ≤ 2 ^ 40 }
-    requires reserved { options.now.reserved ≤ 2 ^ 40 }
+    requires options { IsInRange options.now }
     ensures planned { OnOk result (HasPlan options.now job.now) }
     ensures refused { IfErr result (IsUnplanned options.now job.now) }
 {
@@ -60,14 +60,20 @@ fn check_plan(options: &Options, job: &Job, infos: &[NodeInfo]) -> Result<(), St
     if let Some(node) = first_unbuilt(&job.expr, infos) {
         return Err(Status::NotBuilt { node });
     }
-    if let Some(over) = first_over(options.allowed, options.reserved, &job.expr, infos) {
+    if let Some(over) = first_over(
+        options.allowed,
+        options.reserved,
+        options.split_every,
+        &job.expr,
+        infos,
+    ) {
         return Err(Status::OverMemory {
             node: over.node,
             need: over.need,
             allowed: options.allowed,
         });
     }
-    match plan_counts(&job.expr, infos).over_limit() {
+    match plan_counts(&job.expr, infos, options.split_every).over_limit() {
         Some(over) => Err(Status::OverLimit {
             which: over.which,
             count: over.count,
@@ -80,8 +86,7 @@ fn check_plan(options: &Options, job: &Job, infos: &[NodeInfo]) -> Result<(), St
 fn make_plan(alloc: Global, options: &Options, job: &Job) -> Result<Plan, Status>
     requires types { typed job.now.inputs.items job.now.expr ≡ Ok job.now.types }
     requires layouts { All (λ i. IsArrayLayout i.layout) job.now.inputs.items }
-    requires allowed { options.now.allowed ≤ 2 ^ 40 }
-    requires reserved { options.now.reserved ≤ 2 ^ 40 }
+    requires options { IsInRange options.now }
     ensures planned { OnOk result (HasPlan options.now job.now) }
     ensures plan { IfOk result (λ plan. plan ≡ job_plan options.now job.now) }
     ensures sound { IfOk result Sound }
@@ -105,8 +110,7 @@ pub fn prepare<D: Depot>(
     text: &[u8],
     depot: &mut D,
 ) -> Result<Prepared, Status>
-    requires allowed { options.now.allowed ≤ 2 ^ 40 }
-    requires reserved { options.now.reserved ≤ 2 ^ 40 }
+    requires options { IsInRange options.now }
     ensures cleared { IfOk result (λ p. IsCleared options.now text.now (D.shown depot.old) (D.shown depot.new) p.job) }
     ensures plan { IfOk result (λ p. p.plan ≡ job_plan options.now p.job) }
     ensures sound { IfOk result (λ p. Sound p.plan) }

@@ -7,6 +7,7 @@ ghost use Rattle.cu_command.specs.Seen.{Stream, stream};
 ghost use Rattle.cu_top.specs.Prepare.{job_plan, out_metadata, HasPlan};
 ghost use Rattle.cu_top.specs.Record.{record_text};
 ghost use Rattle.cu_top.specs.Run.{scene, case, Ran, PrintsOnly, IsCleared, Ended, failed_of};
+ghost use Rattle.cu_top.specs.Words.{IsInRange};
 
 use crate::ask::text_keys;
 use crate::prepare::{Prepared, prepare};
@@ -115,9 +116,7 @@ pub fn run<W: Sink, D: Depot>(
     out: &mut W,
     depot: &mut D,
 ) -> Status
-    requires allowed { options.now.allowed ≤ 2 ^ 40 }
-    requires reserved { options.now.reserved ≤ 2 ^ 40 }
-    requires retries { options.now.retries ≤ 8 }
+    requires options { IsInRange options.now }
     ensures answer { (source next : Stream) → Ran (case options.now text.now (scene source (stream (W.written out.old) (W.faults out.old)) (D.shown depot.old))
         (scene next (stream (W.written out.new) (W.faults out.new)) (D.shown depot.new))) result }
     ensures prints { PrintsOnly result (W.written out.old) (W.written out.new) }

@@ -2,7 +2,7 @@
 ghost use Rattle.std.specs.Prelude.{◌≡◌, [], ◌∷◌, map, string_bytes};
 ghost use Rattle.std.specs.Result.{result_map_both};
 ghost use Rattle.cu_top.specs.Call.{command_view};
-ghost use Rattle.cu_top.specs.Words.{memory_of, retries_of, once, nothing_given, given_with, options_from, retries_in, is_plain, print_of, print_in, command_of};
+ghost use Rattle.cu_top.specs.Words.{memory_of, retries_of, split_of, once, nothing_given, given_with, options_from, retries_in, is_plain, print_of, print_in, command_of};
 
 use cu_lower::Options;
 use cu_name::{IdText, is_name};
@@ -13,11 +13,17 @@ const MOST_MEMORY: u64 = 1 << 40;
 /// The most times that a call or a task is tried again.
 const MOST_RETRIES: u64 = 8;
 
+/// The fewest and the most partial results that a task merges.
+const FEWEST_MERGED: u64 = 2;
+
+const MOST_MERGED: u64 = 64;
+
 /// The numbers that were given so far.
 #[derive(Clone, Copy)]
 struct Given {
     allowed: Option<u64>,
     reserved: Option<u64>,
+    split_every: Option<u32>,
     retries: Option<u32>,
 }
 
@@ -35,10 +41,10 @@ pub enum Asked {
 }
 
 /// The command, which is the first word, with what stands behind it: for `run` any of the pairs `--allowed-mem N`,
-/// `--reserved-mem N` and `--retries N`, each at most once; for `load` and `check` at most the pair `--retries N`; for `print` the name of
+/// `--reserved-mem N`, `--split-every N` and `--retries N`, each at most once; for `load` and `check` at most the pair `--retries N`; for `print` the name of
 /// an array, and at most this pair, before or behind it. A refusal is 1 where the command is missing or unknown; 2 where an
-/// option is unknown, has no value or is given twice, where a number isn't one or isn't from 0 to 2^40, or for the retries from
-/// 0 to 8, and where there are too few or too many words; and 3 where the name isn't one and all else is accepted.
+/// option is unknown, has no value or is given twice, where a number isn't one or isn't from 0 to 2^40, for the partial results
+/// from 2 to 64, or for the retries from 0 to 8, and where there are too few or too many words; and 3 where the name isn't one and all else is accepted.
 #[tactic(auto, unfolding(crate::specs::Words::command_of))]
 pub fn read_words(words: &[String]) -> Result<Asked, u8>
     ensures { result_map_both command_view (λ code. code) result ≡ command_of (map string_bytes words.now) }
@@ -137,6 +143,7 @@ fn read_pairs(words: &[String]) -> Option<Options>
     let mut given = Given {
         allowed: None,
         reserved: None,
+        split_every: None,
         retries: None,
     };
     let mut at = 0;
@@ -150,6 +157,7 @@ fn read_pairs(words: &[String]) -> Option<Options>
     Some(Options {
         allowed: given.allowed.unwrap_or(200_000_000),
         reserved: given.reserved.unwrap_or(0),
+        split_every: given.split_every.unwrap_or(4),
         retries: given.retries.unwrap_or(2),
     })
 }
@@ -160,6 +168,7 @@ fn read_pair(given: Given, name: &str, value: &str) -> Option<Given>
     let Given {
         allowed,
         reserved,
+        split_every,
         retries,
     } = given;
     match name {
@@ -168,6 +177,7 @@ fn read_pair(given: Given, name: &str, value: &str) -> Option<Given>
             Some(Given {
                 allowed,
                 reserved,
+                split_every,
                 retries,
             })
         }
@@ -176,14 +186,25 @@ fn read_pair(given: Given, name: &str, value: &str) -> Option<Given>
             Some(Given {
                 allowed,
                 reserved,
+                split_every,
+                retries,
+            })
+        }
+        "--split-every" => {
+            let split_every = Some(read_count_once(split_every, read_split(value))?);
+            Some(Given {
+                allowed,
+                reserved,
+                split_every,
                 retries,
             })
         }
         "--retries" => {
-            let retries = Some(read_retries_once(retries, read_retries(value))?);
+            let retries = Some(read_count_once(retries, read_retries(value))?);
             Some(Given {
                 allowed,
                 reserved,
+                split_every,
                 retries,
             })
         }
@@ -202,7 +223,7 @@ fn read_once(given: Option<u64>, value: Option<u64>) -> Option<u64>
 }
 
 /// A value, where none was given before.
-fn read_retries_once(given: Option<u32>, value: Option<u32>) -> Option<u32>
+fn read_count_once(given: Option<u32>, value: Option<u32>) -> Option<u32>
     ensures { result ≡ once given value }
 {
     match given {
@@ -219,6 +240,19 @@ fn read_retries(text: &str) -> Option<u32>
         return None;
     };
     if number > MOST_RETRIES {
+        return None;
+    }
+    Some(number as u32)
+}
+
+/// How many partial results a task merges.
+fn read_split(text: &str) -> Option<u32>
+    ensures { result ≡ split_of text.now }
+{
+    let Ok(number) = text.parse::<u64>() else {
+        return None;
+    };
+    if number < FEWEST_MERGED || number > MOST_MERGED {
         return None;
     }
     Some(number as u32)

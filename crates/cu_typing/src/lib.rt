@@ -15,5 +15,5 @@ pub use argument::Argument;
 pub use elementwise::type_elementwise;
 pub use joining::chunk_aligned;
 pub use laws::{elementwise_law, matmul_law, reduction_law};
-pub use matmul::type_matmul;
+pub use matmul::{left_chunk, right_chunk, type_matmul};
 pub use reduction::{type_arg_place, type_reduction};

@@ -77,7 +77,7 @@ fn lead_array(i: &NodeInfo) -> NodeInfo
 }
 
 /// The aligned chunk of the left operand, where the result has these leading axes and chunk sizes on them.
-fn left_chunk(lead: &Dims, chunk: &Dims, l: &NodeInfo) -> Dims
+pub fn left_chunk(lead: &Dims, chunk: &Dims, l: &NodeInfo) -> Dims
     ensures { result ≡ aligned_chunk lead.now chunk.now (leading_array l.now) ++ rows l.now.chunk ++ left_inner l.now.chunk ∷ [] }
 {
     let front = chunk_aligned(lead, chunk, &lead_array(l));
@@ -85,7 +85,7 @@ fn left_chunk(lead: &Dims, chunk: &Dims, l: &NodeInfo) -> Dims
 }
 
 /// The aligned chunk of the right operand; the inner chunk size is the left operand's.
-fn right_chunk(lead: &Dims, chunk: &Dims, inner: u64, r: &NodeInfo) -> Dims
+pub fn right_chunk(lead: &Dims, chunk: &Dims, inner: u64, r: &NodeInfo) -> Dims
     ensures { result ≡ aligned_chunk lead.now chunk.now (leading_array r.now) ++ inner ∷ [] ++ columns r.now.chunk }
 {
     let front = chunk_aligned(lead, chunk, &lead_array(r));

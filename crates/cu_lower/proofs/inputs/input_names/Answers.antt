@@ -4,7 +4,7 @@ use Rattle.cu_form.specs.declared.expr.Node.{Node}
 use Rattle.cu_need.specs.Live.{is_live}
 use Rattle.cu_lower.specs.Inputs.{names_after}
 use Rattle.cu_lower.proofs.InputNames.{names_taken, names_passed}
-use Rattle.cu_lower.proofs.Soundness.{no_node}
+use Rattle.cu_lower.proofs.NoNode.{no_node}
 use Rattle.cu_lower.proofs.inputs.input_names.Goals as goal
 use Rattle.cu_lower.proofs.inputs.input_names.Goals.{then-marks-k+in_ok-add_name, else-marks-k}
 

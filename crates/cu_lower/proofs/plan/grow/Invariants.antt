@@ -8,5 +8,5 @@ abbrev pub invariant-loop-k : goal.invariant-loop-k
 invariant-loop-k l = record {
   known : IsGrown l.expr l.grown;
   number : length l.grown.places ≡ l.k;
-  rest : grown_after l.expr l.infos l.options.reserved l.grown (drop l.k l.nodes) ≡ lowered l.expr l.infos l.inputs l.options.reserved;
+  rest : grown_after l.expr l.infos l.options l.grown (drop l.k l.nodes) ≡ lowered l.expr l.infos l.inputs l.options;
 }

@@ -5,7 +5,7 @@ use Rattle.std.proofs.lemmas.Int.{to_z-of_z}
 use Rattle.cu_num.specs.Wrap.{wrapped}
 use Rattle.cu_num.proofs.Wrapped.{wrapped-wrapped}
 use Rattle.cu_meaning.specs.Argument.{source_at}
-use Rattle.cu_meaning.specs.Reduction.{exact_sum}
+use Rattle.cu_reduce.specs.Folds.{exact_sum}
 use Rattle.cu_mean.specs.Reading.{elements_in}
 use Rattle.cu_mean.proofs.InnerProducts.{product_on, products_from, products_none, products_front, products_whole}
 use Rattle.cu_mean.proofs.InnerPlaces.{left_some, right_some}

@@ -1,6 +1,6 @@
 use Rattle.std.proofs.Common.{◌≡◌, ◌-◌, ◌∷◌, [], length, ap, ◌∙◌, length-append, arith}
 use Rattle.cu_shape.specs.Index.{back}
-use Rattle.cu_meaning.specs.Matmul.{batch_of}
+use Rattle.cu_reduce.specs.Products.{batch_of}
 use Rattle.cu_mean.proofs.InnerProducts.{length-back, length-batch}
 use Rattle.cu_mean.proofs.products.matrix_index.Goals as goal
 

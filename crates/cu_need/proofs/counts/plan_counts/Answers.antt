@@ -1,14 +1,14 @@
 use Rattle.std.proofs.Common.{ℕ, sym, ◌∙◌, arith}
 use Rattle.cu_form.specs.declared.expr.Node.{Node}
 use Rattle.cu_need.specs.Counts.{tasks_of, cells_of}
-use Rattle.cu_need.proofs.LiveSteps.{summed_here, summed_past}
+use Rattle.cu_need.proofs.LiveSteps.{summed_here, summed_past, node_within}
 use Rattle.cu_need.proofs.counts.plan_counts.Goals as goal
 use Rattle.cu_need.proofs.counts.plan_counts.Goals.{then-marks-k, else-marks-k}
 
 pub loop-k-preserved : goal.loop-k-preserved
 loop-k-preserved c =
-    let tasks = λ (numbered : ℕ × Node). tasks_of c.args.infos.now numbered.0 numbered.1.form in
-    let cells = λ (numbered : ℕ × Node). cells_of c.args.infos.now numbered.0 numbered.1.form in
+    let tasks = λ (numbered : ℕ × Node). tasks_of c.args.split_every c.args.infos.now numbered.0 numbered.1.form in
+    let cells = λ (numbered : ℕ × Node). cells_of c.args.split_every c.args.infos.now numbered.0 numbered.1.form in
     let seen = sym (c.live_marks-marks.ensures c.loop-k.k) in
     elim c.if-marks-k.branch [
       | then-marks-k w ↦ record {
@@ -24,3 +24,9 @@ loop-k-preserved c =
         cells = summed_past c.args.expr.now c.nodes-nodes.result.now c.loop-k.k cells c.loop-k.cells c.if-marks-k.cells _ c.loop-k-test.true (seen ∙ w.if-marks-k.false) w.cells-is c.loop-k.invariant.cells;
       }
     ]
+
+pub tasks_of-tasks-requires-clause-within : goal.tasks_of-tasks-requires-clause-within
+tasks_of-tasks-requires-clause-within c = node_within c.args.expr.now c.args.infos.now c.nodes-nodes.result.now c.loop-k.k c.index-nodes-k.result c.requires.limits c.nodes-nodes.ensures.nodes c.loop-k-test.true
+
+pub cells_of-cells-requires-clause-within : goal.cells_of-cells-requires-clause-within
+cells_of-cells-requires-clause-within c = node_within c.args.expr.now c.args.infos.now c.nodes-nodes.result.now c.loop-k.k c.index-nodes-k.result c.requires.limits c.nodes-nodes.ensures.nodes c.loop-k-test.true

@@ -14,7 +14,7 @@ need_of-need-requires-clause-within c = node_within c.args.expr.now c.args.infos
 
 pub loop-k-preserved : goal.loop-k-preserved
 loop-k-preserved c =
-    let test = λ (numbered : ℕ × Node). nat_lt c.args.allowed (need_of c.args.reserved c.args.infos.now numbered.0 numbered.1.form) in
+    let test = λ (numbered : ℕ × Node). nat_lt c.args.allowed (need_of c.args.reserved c.args.split_every c.args.infos.now numbered.0 numbered.1.form) in
     elim c.if-marks-k.branch [
       | then-marks-k+else-need-allowed w ↦
           let fails = ap (λ (need : ℕ). nat_lt c.args.allowed need) (sym w.need_of-need.ensures) ∙ le-ltb c.args.allowed w.need_of-need.result w.if-need-allowed.false in

@@ -10,7 +10,7 @@ loop-at-preserved c =
     elim c.match-read_at.branch [
       | in-Some w ↦
           let next = greatest_next (chunk_room c.args.arrays.now) (reads_of c.args.op.now) c.loop-at.at w.in-Some.array c.loop-at.room (sym c.read_at.ensures.array ∙ w.in-Some.is) c.loop-at.invariant in
-          rw (w.room-is, w.max-room.ensures, w.room_of.ensures) next
+          rw (w.room-is, w.max-room.ensures, w.room_of.ensures.room) next
       | in_default w ↦
           let count = c.read_count-at-end.ensures.count in
           let test = c.loop-at-test.true in

@@ -1,20 +1,17 @@
-use Rattle.std.proofs.Common.{◌≡◌, ◌+◌, ◌-◌, ◌*◌, ◌≤◌, ℕ, List, [], ◌∷◌, ◌++◌, length, take, drop, All, Some, sym, ap, ◌∙◌, subst, arith, rules, length-append}
-use Rattle.std.proofs.lemmas.List.Elements.{All-head, All-tail, All-weaker}
+use Rattle.std.proofs.Common.{◌≡◌, ◌+◌, ◌-◌, ◌≤◌, ℕ, List, [], ◌∷◌, ◌++◌, length, take, drop, All, Some, sym, subst, arith, rules, length-append}
+use Rattle.std.proofs.lemmas.List.Elements.{All-tail, All-weaker}
 use Rattle.std.proofs.lemmas.List.Sums.{sum_by-cons}
 use Rattle.std.proofs.lemmas.Result.{err_from_is_err_and}
-use Rattle.cu_num.specs.Dtype.{size_of}
-use Rattle.cu_shape.specs.Index.{product}
 use Rattle.cu_grid.specs.Grid.{IsGrid}
 use Rattle.cu_store.specs.Steps.{NoChange, Steps}
 use Rattle.cu_store.proofs.Steps.{steps_then, steps_wider}
 use Rattle.cu_op.specs.Arrays.{grid_at, chunk_room}
 use Rattle.cu_op.specs.Walks.{IsWalkOver, walk_cells, cells_of_walks}
-use Rattle.cu_op.specs.declared.layout.ArrayInfo.{ArrayInfo}
 use Rattle.cu_op.specs.declared.walks.Walk.{Walk}
 use Rattle.cu_op.proofs.Plans.{grid_ok}
 use Rattle.cu_region.specs.Calls.{Made}
 use Rattle.cu_region.specs.Steady.{IsSteady}
-use Rattle.cu_task.specs.Inputs.{IsReadWalk, room_of_walks, HasRegions, IsWalkKey, IsTaskInputFault}
+use Rattle.cu_task.specs.Inputs.{walk_room, room_of_walks, HasRegions, IsWalkKey, IsTaskInputFault}
 use Rattle.cu_task.proofs.InputReads.{split_first, first_key, rest_key, first_fault, rest_fault, on_err_more, on_ok_then, stays, regions_before, regions_more, all_made}
 use Rattle.cu_task.proofs.inputs.+read_inputs.Goals as goal
 
@@ -35,13 +32,12 @@ read_inputs-requires g t c κs sub =
       (
         search rules,
         (
-          All-tail (IsReadWalk c.args.plan.now.arrays) c.walk-item.result (take (length c.args.walks.now - 1) (drop 1 c.args.walks.now)) (subst (All (IsReadWalk c.args.plan.now.arrays)) split c.requires.walks),
+          All-tail (IsWalkOver c.args.plan.now.arrays) c.walk-item.result (take (length c.args.walks.now - 1) (drop 1 c.args.walks.now)) (subst (All (IsWalkOver c.args.plan.now.arrays)) split c.requires.walks),
           (
-            (let size = c.chunk_bytes.ensures in let back = c.split_at_mut-own.ensures.back_len in
-                let own : c.chunk_bytes.result ≡ chunk_room c.args.plan.now.arrays c.walk-item.result.array = size ∙ ap (λ (i : ArrayInfo). product i.layout.grid.chunk * size_of i.layout.dtype) c.array.ensures.array in
-                let sum : chunk_room c.args.plan.now.arrays c.walk-item.result.array + room_of_walks c.args.plan.now.arrays (take (length c.args.walks.now - 1) (drop 1 c.args.walks.now)) ≤ length c.args.inputs.now =
-                subst (λ (n : ℕ). n ≤ length c.args.inputs.now) (sum_by-cons (λ (w : Walk). chunk_room c.args.plan.now.arrays w.array) c.walk-item.result (take (length c.args.walks.now - 1) (drop 1 c.args.walks.now))) room in
-                room_left (length c.args.inputs.now) (length c.split_at_mut-own.result.1.now) c.chunk_bytes.result (chunk_room c.args.plan.now.arrays c.walk-item.result.array)
+            (let own = c.walk_bytes.ensures.bytes in let back = c.split_at_mut-own.ensures.back_len in
+                let sum : walk_room c.args.plan.now.arrays c.walk-item.result + room_of_walks c.args.plan.now.arrays (take (length c.args.walks.now - 1) (drop 1 c.args.walks.now)) ≤ length c.args.inputs.now =
+                subst (λ (n : ℕ). n ≤ length c.args.inputs.now) (sum_by-cons (walk_room c.args.plan.now.arrays) c.walk-item.result (take (length c.args.walks.now - 1) (drop 1 c.args.walks.now))) room in
+                room_left (length c.args.inputs.now) (length c.split_at_mut-own.result.1.now) c.walk_bytes.result (walk_room c.args.plan.now.arrays c.walk-item.result)
                 (room_of_walks c.args.plan.now.arrays (take (length c.args.walks.now - 1) (drop 1 c.args.walks.now))) own back sum),
             All-tail (λ (w : Walk). chunk_room c.args.plan.now.arrays w.array ≤ length c.read_walk.new.scratch) c.walk-item.result (take (length c.args.walks.now - 1) (drop 1 c.args.walks.now))
                 (subst (All (λ (w : Walk). chunk_room c.args.plan.now.arrays w.array ≤ length c.read_walk.new.scratch)) split scratch),
@@ -61,11 +57,10 @@ returns-in_err-read_walk-in-len1-up-clause-cause g t c =
 pub returns-in_ok-read_walk-in-len1-up-clause-read : goal.returns-in_ok-read_walk-in-len1-up-clause-read
 returns-in_ok-read_walk-in-len1-up-clause-read g t c held told steady =
     let split = split_first c.args.walks.now c.walk-item.result (omega arith) c.walk-item.is in
-    let walks = subst (All (IsReadWalk c.args.plan.now.arrays)) split c.requires.walks in
-    let own = All-head (IsReadWalk c.args.plan.now.arrays) c.walk-item.result (take (length c.args.walks.now - 1) (drop 1 c.args.walks.now)) walks in
-    let others = All-tail (IsReadWalk c.args.plan.now.arrays) c.walk-item.result (take (length c.args.walks.now - 1) (drop 1 c.args.walks.now)) walks in
-    let over = All-weaker (IsReadWalk c.args.plan.now.arrays) (λ (w : Walk). IsGrid (grid_at c.args.plan.now.arrays w.array) × IsWalkOver c.args.plan.now.arrays w)
-    (λ w h. (grid_ok c.args.plan.now w.array c.array.ensures.sound h.over.0, h.over)) (take (length c.args.walks.now - 1) (drop 1 c.args.walks.now)) others in
+    let walks = subst (All (IsWalkOver c.args.plan.now.arrays)) split c.requires.walks in
+    let others = All-tail (IsWalkOver c.args.plan.now.arrays) c.walk-item.result (take (length c.args.walks.now - 1) (drop 1 c.args.walks.now)) walks in
+    let over = All-weaker (IsWalkOver c.args.plan.now.arrays) (λ (w : Walk). IsGrid (grid_at c.args.plan.now.arrays w.array) × IsWalkOver c.args.plan.now.arrays w)
+    (λ w h. (grid_ok c.args.plan.now w.array c.walk_bytes.ensures.sound h.0, h)) (take (length c.args.walks.now - 1) (drop 1 c.args.walks.now)) others in
     let all : IsSteady (IsWalkKey c.args.plan.now.arrays (c.walk-item.result ∷ take (length c.args.walks.now - 1) (drop 1 c.args.walks.now))) (Some held) (g.D.Depot.shown c.args.depot.now).late =
     subst (λ (ws : List Walk). IsSteady (IsWalkKey c.args.plan.now.arrays ws) (Some held) (g.D.Depot.shown c.args.depot.now).late) split steady in
     let first : IsSteady (IsWalkKey c.args.plan.now.arrays (c.walk-item.result ∷ [])) (Some held) (g.D.Depot.shown c.args.depot.now).late =
@@ -74,12 +69,12 @@ returns-in_ok-read_walk-in-len1-up-clause-read g t c held told steady =
     λ key bytes here among. all key bytes (rest_key c.args.plan.now.arrays c.walk-item.result (take (length c.args.walks.now - 1) (drop 1 c.args.walks.now)) key here) among in
     let mid = stays (IsWalkKey c.args.plan.now.arrays (take (length c.args.walks.now - 1) (drop 1 c.args.walks.now))) 0 (length (walk_cells c.args.plan.now.arrays c.walk-item.result)) held
     (g.D.Depot.shown c.args.depot.now) (g.D.Depot.shown c.read_walk.new.depot) told behind c.read_walk.ensures.step in
-    let size : c.chunk_bytes.result ≡ chunk_room c.args.plan.now.arrays c.walk-item.result.array = c.chunk_bytes.ensures ∙ ap (λ (i : ArrayInfo). product i.layout.grid.chunk * size_of i.layout.dtype) c.array.ensures.array in
-    let long : length c.read_walk.new.room ≡ chunk_room c.args.plan.now.arrays c.walk-item.result.array = (let front_len = c.split_at_mut-own.ensures.front_len in omega arith) in
+    let size = c.walk_bytes.ensures.bytes in
+    let long : length c.read_walk.new.out ≡ walk_room c.args.plan.now.arrays c.walk-item.result = (let front_len = c.split_at_mut-own.ensures.front_len in omega arith) in
     let front = c.in_ok-read_walk-in-len1-up.ensures.read held told first in
     on_ok_then c.read_inputs.result
-    (λ has. subst (λ (ws : List Walk). HasRegions c.args.plan.now.arrays held ws (c.read_walk.new.room ++ c.read_inputs.new.inputs)) (sym split)
-    (regions_more c.args.plan.now.arrays c.walk-item.result (take (length c.args.walks.now - 1) (drop 1 c.args.walks.now)) held c.read_walk.new.room c.read_inputs.new.inputs own long front
+    (λ has. subst (λ (ws : List Walk). HasRegions c.args.plan.now.arrays held ws (c.read_walk.new.out ++ c.read_inputs.new.inputs)) (sym split)
+    (regions_more c.args.plan.now.arrays c.walk-item.result (take (length c.args.walks.now - 1) (drop 1 c.args.walks.now)) held c.read_walk.new.out c.read_inputs.new.inputs long front
     (regions_before c.args.plan.now.arrays (take (length c.args.walks.now - 1) (drop 1 c.args.walks.now)) held mid.now c.read_inputs.new.inputs over mid.same has)))
     (c.read_inputs.ensures.read mid.now mid.told mid.steady)
 

@@ -1,44 +1,36 @@
-use Rattle.std.proofs.Common.{◌*◌, ◌≤◌, ℕ, List, length, Some, Option, sym, subst, arith}
-use Rattle.std.proofs.lemmas.List.{length-take-le}
-use Rattle.cu_num.specs.Dtype.{size_of}
-use Rattle.cu_shape.specs.Index.{product, differences}
+use Rattle.std.proofs.Common.{ℕ, List, Some, Option, sym, subst}
 use Rattle.cu_grid.specs.Cover.{Meets}
 use Rattle.cu_store.specs.Held.{Contents}
-use Rattle.cu_op.specs.Arrays.{array_at, type_at}
+use Rattle.cu_op.specs.Arrays.{array_at}
 use Rattle.cu_op.specs.declared.layout.ArrayInfo.{ArrayInfo}
 use Rattle.cu_op.proofs.CellsOfTasks.{coordinates_small}
 use Rattle.cu_op.proofs.Plans.{grid_ok}
 use Rattle.cu_region.specs.Reading.{IsChunkKey}
 use Rattle.cu_region.specs.Steady.{IsSteady, HoldSame}
-use Rattle.cu_task.proofs.InputReads.{reads_before, reads_front, walk_key, walk_fault, on_err_more, on_ok_then}
+use Rattle.cu_task.proofs.InputReads.{reads_before, walk_key, walk_fault, on_err_more, on_ok_then}
 use Rattle.cu_task.proofs.inputs.read_walk.Goals as goal
 
 pub read_region-requires-clause-coordinates : goal.read_region-requires-clause-coordinates
 read_region-requires-clause-coordinates g c coord m =
     let meets = subst (λ (i : ArrayInfo). Meets i.layout.grid c.args.walk.now.region.lo c.args.walk.now.region.hi coord) c.array.ensures.array m in
-    coordinates_small c.args.plan.now c.args.walk.now.array coord c.array.ensures.sound c.requires.walk.over.0 meets.0
+    coordinates_small c.args.plan.now c.args.walk.now.array coord c.array.ensures.sound c.requires.walk.0 meets.0
 
 pub returns-clause-read : goal.returns-clause-read
 returns-clause-read g c held told steady =
-    let arrays = c.args.plan.now.arrays in
-    let w = c.args.walk.now in
-    let ok = grid_ok c.args.plan.now c.args.walk.now.array c.array.ensures.sound c.requires.walk.over.0 in
+    let ok = grid_ok c.args.plan.now c.args.walk.now.array c.array.ensures.sound c.requires.walk.0 in
     let K : List ℕ → Type 0 = IsChunkKey (array_at c.args.plan.now.arrays c.args.walk.now.array) c.args.walk.now.region.lo c.args.walk.now.region.hi in
-    let own : IsSteady K (Some held) (g.D.Depot.shown c.args.depot.now).late = λ key bytes here among. steady key bytes (walk_key c.args.plan.now.arrays c.args.walk.now key ok c.requires.walk.over here) among in
+    let own : IsSteady K (Some held) (g.D.Depot.shown c.args.depot.now).late = λ key bytes here among. steady key bytes (walk_key c.args.plan.now.arrays c.args.walk.now key ok c.requires.walk here) among in
     let start : IsSteady K (g.D.Depot.shown c.args.depot.now).held (g.D.Depot.shown c.args.depot.now).late = subst (λ (o : Option Contents). IsSteady K o (g.D.Depot.shown c.args.depot.now).late) (sym told) own in
     let reads = (rw c.array.ensures.array at c.read_region.ensures.read) start in
     let same : HoldSame K (Some held) (g.D.Depot.shown c.read_region.new.depot).held = subst (λ (o : Option Contents). HoldSame K o (g.D.Depot.shown c.read_region.new.depot).held) told
     ((rw c.array.ensures.array at c.read_region.ensures.same) start) in
-    let bytes = c.walk_bytes-bytes.ensures.bytes in
-    let long : product (differences c.args.walk.now.region.hi c.args.walk.now.region.lo) * size_of (type_at c.args.plan.now.arrays c.args.walk.now.array) ≤ length c.read_region.new.out = (let most = c.walk_bytes-bytes.ensures.most in let room = c.requires.room in let cut = length-take-le c.walk_bytes-bytes.result c.args.room.now (omega arith) in omega arith) in
     on_ok_then c.read_region.result
-    (λ read. reads_front (array_at c.args.plan.now.arrays c.args.walk.now.array) c.args.walk.now.region.lo c.args.walk.now.region.hi c.read_region.new.out _ held long
-    (reads_before (array_at c.args.plan.now.arrays c.args.walk.now.array) c.args.walk.now.region.lo c.args.walk.now.region.hi c.read_region.new.out held (g.D.Depot.shown c.read_region.new.depot).held ok c.requires.walk.over.1 same read))
+    (λ read. reads_before (array_at c.args.plan.now.arrays c.args.walk.now.array) c.args.walk.now.region.lo c.args.walk.now.region.hi c.read_region.new.out held (g.D.Depot.shown c.read_region.new.depot).held ok c.requires.walk.1 same read)
     reads
 
 pub returns-clause-cause : goal.returns-clause-cause
 returns-clause-cause g c =
-    let ok = grid_ok c.args.plan.now c.args.walk.now.array c.array.ensures.sound c.requires.walk.over.0 in
+    let ok = grid_ok c.args.plan.now c.args.walk.now.array c.array.ensures.sound c.requires.walk.0 in
     on_err_more c.read_region.result
-    (λ e h. walk_fault (g.D.Depot.shown c.args.depot.now) (g.D.Depot.shown c.read_region.new.depot) c.args.plan.now.arrays c.args.walk.now e ok c.requires.walk.over h)
+    (λ e h. walk_fault (g.D.Depot.shown c.args.depot.now) (g.D.Depot.shown c.read_region.new.depot) c.args.plan.now.arrays c.args.walk.now e ok c.requires.walk h)
     (rw c.array.ensures.array at c.read_region.ensures.cause)

@@ -8,7 +8,13 @@ pub first_over-requires-clause-limits : goal.first_over-requires-clause-limits
 first_over-requires-clause-limits c =
     let job = c.args.job.now in
     subst (λ (infos : List NodeInfo). AreWithinLimits job.expr infos) (sym c.requires.infos)
-    (c.typed_law.ensures job.expr job.types c.requires.kept (λ k node at. form_typed job.inputs.items job.types k node.form (c.typing_law.ensures.whole job.inputs.items job.expr job.types k node c.requires.form c.requires.types at)))
+    (c.typed_law.ensures job.expr job.types c.requires.kept (λ k node at. form_typed job.inputs.items job.types k node.form (c.requires.form.nodes k node at).form.args (c.typing_law.ensures.whole job.inputs.items job.expr job.types k node c.requires.form c.requires.types at)))
+
+pub plan_counts-requires-clause-limits : goal.plan_counts-requires-clause-limits
+plan_counts-requires-clause-limits c =
+    let job = c.args.job.now in
+    subst (λ (infos : List NodeInfo). AreWithinLimits job.expr infos) (sym c.requires.infos)
+    (c.typed_law.ensures job.expr job.types c.requires.kept (λ k node at. form_typed job.inputs.items job.types k node.form (c.requires.form.nodes k node at).form.args (c.typing_law.ensures.whole job.inputs.items job.expr job.types k node c.requires.form c.requires.types at)))
 
 pub returns-in-None-clause-planned : goal.returns-in-None-clause-planned
 returns-in-None-clause-planned c = record {
@@ -19,5 +25,7 @@ returns-in-None-clause-planned c = record {
   built = search rules;
   memory = search rules;
   counts = search rules;
-  allowed = c.requires.allowed;
+  allowed = c.requires.options.allowed;
+  several = c.requires.options.several;
+  few = c.requires.options.few;
 }

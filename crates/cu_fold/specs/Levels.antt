@@ -1,0 +1,39 @@
+-- The axes of a region as levels, each with its size and whether it is reduced, and the places of the elements that each result is made of.
+use Rattle.std.specs.Prelude.{◌≡◌, ℕ, zero, suc, ◌+◌, ◌*◌, ◌/◌, ◌%◌, ◌<◌, Bool, List, [], ◌∷◌, ◌++◌, map, if◌then◌else◌}
+use Rattle.cu_fold.specs.declared.levels.Level.{Level}
+
+-- how many elements there are, and how many results
+abbrev pub extent : List Level → ℕ
+extent [] = 1
+extent (l ∷ ls) = l.size * extent ls
+
+abbrev pub results : List Level → ℕ
+results [] = 1
+results (l ∷ ls) = if l.is_reduced then results ls else l.size * results ls
+
+-- the lists of the numbers below n, one after another
+abbrev pub chained : ℕ → (ℕ → List ℕ) → List ℕ
+chained zero f = []
+chained (suc n) f = chained n f ++ f n
+
+-- places that begin so much further on
+abbrev pub moved : ℕ → List ℕ → List ℕ
+moved by places = map (λ p. by + p) places
+
+-- the places of the elements that result q is made of, in row-major order
+abbrev pub sources : List Level → ℕ → List ℕ
+sources [] q = 0 ∷ []
+sources (l ∷ ls) q =
+    if l.is_reduced then chained l.size (λ i. moved (i * extent ls) (sources ls q))
+    else moved (q / results ls * extent ls) (sources ls (q % results ls))
+
+-- the levels of axes of these sizes, numbered from `first` on
+abbrev pub levels_from : (ℕ → Bool) → ℕ → List ℕ → List Level
+levels_from is_reduced first [] = []
+levels_from is_reduced first (n ∷ ns) = record { size = n; is_reduced = is_reduced first } ∷ levels_from is_reduced (first + 1) ns
+
+-- the same elements go into the same results
+pub record IsAlike (xs ys : List Level) : Type 0 where
+  pub same_extent : extent xs ≡ extent ys
+  pub same_results : results xs ≡ results ys
+  pub same_sources : (q : ℕ) → q < results ys → sources xs q ≡ sources ys q

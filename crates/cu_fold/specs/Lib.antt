@@ -1,0 +1,4 @@
+pub mod Levels
+pub mod Reduced
+pub mod SetBytes
+pub mod Taken

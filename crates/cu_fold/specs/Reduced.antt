@@ -1,0 +1,10 @@
+-- Which axes of a region are reduced.
+use Rattle.std.specs.Prelude.{ℕ, ◌==◌, Bool}
+use Rattle.cu_pull.specs.Pull.{has_axis}
+use Rattle.cu_fold.specs.declared.levels.Reduced.{Reduced}
+use Rattle.cu_fold.specs.declared.levels.Reduced.TheVariants.{Set, One}
+
+-- those of a set, or one
+abbrev pub is_reduced : Reduced → ℕ → Bool
+is_reduced (Set axes) = has_axis axes
+is_reduced (One axis) = λ d. d == axis

@@ -1,0 +1,14 @@
+//! Reductions of regions of little-endian elements, and of partial results of reductions.
+#![tactic(auto)]
+
+mod last;
+mod leaves;
+mod levels;
+mod regions;
+mod steps;
+mod truths;
+mod walks;
+
+pub use cu_pairs::{pair_fold, pair_merge};
+pub use cu_product::{MulDims, mul_block};
+pub use regions::{fold_region, merge_region};

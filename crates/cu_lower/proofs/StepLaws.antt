@@ -1,0 +1,70 @@
+-- The laws of the steps of a node: those of views, reductions, searches for places and products.
+use Rattle.std.specs.Prelude.{◌≡◌, ◌+◌, ◌∷◌, [], ℕ, ℤ, true, List, Some, map}
+use Rattle.cu_num.specs.Dtype.{InRange}
+use Rattle.cu_num.specs.declared.folds.FoldKind.TheVariants.{Sum}
+use Rattle.cu_num.specs.declared.types.Dtype.TheVariants.{Int64}
+use Rattle.cu_shape.specs.Index.{IsInside}
+use Rattle.cu_reduce.specs.Folds.{reduced_to}
+use Rattle.cu_reduce.specs.Places.{best_in}
+use Rattle.cu_node.specs.declared.info.NodeInfo.{NodeInfo}
+use Rattle.cu_op.specs.Value.{Elements, counted_at, pair_part}
+use Rattle.cu_op.specs.declared.layout.ArrayInfo.{ArrayInfo}
+use Rattle.cu_form.specs.declared.form.Form.{Form}
+use Rattle.cu_pull.specs.declared.pull.Pull.{Pull as View}
+use Rattle.cu_tree.specs.Marks.{sought_axes}
+use Rattle.cu_tree.specs.Needs.{fold_need, merge_need, pair_fold_need, pair_merge_need, product_need}
+use Rattle.cu_tree.specs.Partials.{first_partial, reduction_rounds, product_partial, product_rounds, chunks_written, chunks_before}
+use Rattle.cu_lower_reduce.specs.Partials.{IsSetting}
+use Rattle.cu_lower_reduce.specs.Products.{product_steps, inner_products, IsProduct}
+use Rattle.cu_lower_reduce.specs.Reductions.{reduction_steps, reduced_indices, IsReduction}
+use Rattle.cu_lower_reduce.specs.Searches.{search_steps, value_bytes, IsSearch}
+use Rattle.cu_lower_reduce.specs.Steps.{HasInfo, HaveInfos, all_made, AreSteps, SolveSteps, last_made, with_merges, info_bytes, ComeTo}
+use Rattle.cu_lower_reduce.specs.declared.product.Product.{Product}
+use Rattle.cu_lower_reduce.specs.declared.reduction.Reduction.{Reduction}
+use Rattle.cu_lower_reduce.specs.declared.search.Search.{Search}
+use Rattle.cu_lower_reduce.specs.declared.step.Setting.{Setting}
+use Rattle.cu_lower_view.specs.Typed.{IsTypedView, IsPull}
+
+pub record ReductionLaw : Type 0 where
+  pub steps : (arrays : List ArrayInfo) (s : Setting) (x : Reduction) → IsSetting s → IsReduction x → HasInfo arrays x.source x.from → HaveInfos arrays s.first (all_made (reduction_steps s x))
+      → AreSteps arrays s.reserved (x.source ∷ []) s.first s.first (reduction_steps s x)
+  pub sizes : (s : Setting) (x : Reduction) → IsSetting s → IsReduction x
+      → ComeTo (with_merges (reduction_rounds x.axes s.split_every x.from) (fold_need s.reserved (info_bytes x.from) (info_bytes x.made)) (merge_need s.reserved s.split_every (info_bytes x.made)))
+      (chunks_written (first_partial x.made.dtype x.axes x.from) (reduction_rounds x.axes s.split_every x.from) x.made)
+      (chunks_written (first_partial x.made.dtype x.axes x.from) (reduction_rounds x.axes s.split_every x.from) x.made) x.made (reduction_steps s x)
+  pub value : (arrays : List ArrayInfo) (at : Elements) (s : Setting) (x : Reduction) → IsSetting s → IsReduction x → HasInfo arrays x.source x.from → HaveInfos arrays s.first (all_made (reduction_steps s x))
+      → SolveSteps arrays at (reduction_steps s x) → ((i : List ℕ) (y : ℤ) → IsInside x.from.dims i → at x.source i ≡ Some y → InRange x.from.dtype y)
+      → (idx : List ℕ) → IsInside x.made.dims idx
+      → at (last_made s.first (reduction_steps s x)) idx ≡ reduced_to x.kind x.made.dtype (map (at x.source) (reduced_indices x.axes x.from.dims x.made.dims idx))
+
+pub record SearchLaw : Type 0 where
+  pub steps : (arrays : List ArrayInfo) (s : Setting) (x : Search) → IsSetting s → IsSearch x → HasInfo arrays x.source x.from → HaveInfos arrays s.first (all_made (search_steps s x))
+      → AreSteps arrays s.reserved (x.source ∷ []) s.first s.first (search_steps s x)
+  pub sizes : (s : Setting) (x : Search) → IsSetting s → IsSearch x
+      → ComeTo (with_merges (reduction_rounds (sought_axes x.axis) s.split_every x.from) (pair_fold_need s.reserved (info_bytes x.from) (value_bytes x) (info_bytes x.made)) (pair_merge_need s.reserved s.split_every (value_bytes x) (info_bytes x.made)))
+      (chunks_written (first_partial Int64 (sought_axes x.axis) x.from) (reduction_rounds (sought_axes x.axis) s.split_every x.from) x.made)
+      (chunks_written (first_partial Int64 (sought_axes x.axis) x.from) (reduction_rounds (sought_axes x.axis) s.split_every x.from) x.made
+      + chunks_before (first_partial x.from.dtype (sought_axes x.axis) x.from) (reduction_rounds (sought_axes x.axis) s.split_every x.from)) x.made (search_steps s x)
+  pub value : (arrays : List ArrayInfo) (at : Elements) (s : Setting) (x : Search) → IsSetting s → IsSearch x → HasInfo arrays x.source x.from → HaveInfos arrays s.first (all_made (search_steps s x))
+      → SolveSteps arrays at (search_steps s x) → (idx : List ℕ) → IsInside x.made.dims idx
+      → at (last_made s.first (search_steps s x)) idx
+      ≡ pair_part true (best_in x.least (map (counted_at x.from.dims x.axis (at x.source)) (reduced_indices (sought_axes x.axis) x.from.dims x.made.dims idx)))
+
+pub record ProductLaw : Type 0 where
+  pub steps : (arrays : List ArrayInfo) (s : Setting) (x : Product) → IsSetting s → IsProduct x → HasInfo arrays x.left x.left_info → HasInfo arrays x.right x.right_info
+      → HaveInfos arrays s.first (all_made (product_steps s x)) → AreSteps arrays s.reserved (x.left ∷ x.right ∷ []) s.first s.first (product_steps s x)
+  pub sizes : (s : Setting) (x : Product) → IsSetting s → IsProduct x
+      → ComeTo (with_merges (product_rounds s.split_every x.left_info x.made) (product_need s.reserved (info_bytes x.left_info) (info_bytes x.right_info) (info_bytes x.made)) (merge_need s.reserved s.split_every (info_bytes x.made)))
+      (chunks_written (product_partial x.left_info x.made) (product_rounds s.split_every x.left_info x.made) x.made)
+      (chunks_written (product_partial x.left_info x.made) (product_rounds s.split_every x.left_info x.made) x.made) x.made (product_steps s x)
+  pub value : (arrays : List ArrayInfo) (at : Elements) (s : Setting) (x : Product) → IsSetting s → IsProduct x → HasInfo arrays x.left x.left_info → HasInfo arrays x.right x.right_info
+      → HaveInfos arrays s.first (all_made (product_steps s x)) → SolveSteps arrays at (product_steps s x)
+      → (idx : List ℕ) → IsInside x.made.dims idx
+      → at (last_made s.first (product_steps s x)) idx ≡ reduced_to Sum x.made.dtype (inner_products x (at x.left) (at x.right) idx)
+
+-- each view that is typed has a pull, and the steps of the others keep what steps keep
+pub record HaveLaws : Type 0 where
+  pub pulls : (infos : List NodeInfo) (form : Form) (i : NodeInfo) → IsTypedView infos form i → (p : View) × IsPull infos form i p
+  pub reductions : ReductionLaw
+  pub searches : SearchLaw
+  pub products : ProductLaw

@@ -1,0 +1,34 @@
+-- The definitions on worked examples.
+use Rattle.std.proofs.Common.{◌≡◌, [], ◌∷◌, None, Some, true, refl}
+use Rattle.cu_num.specs.declared.folds.FoldKind.TheVariants.{Sum}
+use Rattle.cu_num.specs.declared.types.Dtype.TheVariants.{Int32, Int64}
+use Rattle.cu_op.specs.declared.operation.Op.TheVariants.{Fold, Merge, PairFold, PairMerge, Mul}
+use Rattle.cu_node.specs.Info.{info_of}
+use Rattle.cu_lower_reduce.specs.Products.{product_steps}
+use Rattle.cu_lower_reduce.specs.Reductions.{reduction_steps}
+use Rattle.cu_lower_reduce.specs.Searches.{search_steps}
+
+-- a sum of no elements is one fold
+empty_sum : reduction_steps (record { first = 1; split_every = 4; reserved = 0 }) (record { kind = Sum; axes = record { 0 = 1 }; source = 0; from = info_of Int32 (0 ∷ []) (4 ∷ []); made = info_of Int64 [] [] })
+    ≡ record { op = Fold Sum (record { 0 = 1 }) 0 1; values = None; made = info_of Int64 [] []; need = 40 } ∷ []
+empty_sum = refl
+
+-- 6 elements in chunks of 4: a fold to two partial results, and a merge
+two_chunks : reduction_steps (record { first = 1; split_every = 4; reserved = 0 }) (record { kind = Sum; axes = record { 0 = 1 }; source = 0; from = info_of Int32 (6 ∷ []) (4 ∷ []); made = info_of Int64 [] [] })
+    ≡ record { op = Fold Sum (record { 0 = 1 }) 0 1; values = None; made = info_of Int64 (2 ∷ []) (1 ∷ []); need = 40 }
+    ∷ record { op = Merge Sum 0 4 1 2; values = None; made = info_of Int64 [] []; need = 48 } ∷ []
+two_chunks = refl
+
+-- the least of 5 elements in chunks of 2, merged in pairs; the last step stores no values
+places : search_steps (record { first = 1; split_every = 2; reserved = 0 }) (record { least = true; axis = None; source = 0; from = info_of Int32 (5 ∷ []) (2 ∷ []); made = info_of Int64 [] [] })
+    ≡ record { op = PairFold true None 0 (Some 1) 2; values = Some (info_of Int32 (3 ∷ []) (1 ∷ [])); made = info_of Int64 (3 ∷ []) (1 ∷ []); need = 28 }
+    ∷ record { op = PairMerge true 0 2 1 2 (Some 3) 4; values = Some (info_of Int32 (2 ∷ []) (1 ∷ [])); made = info_of Int64 (2 ∷ []) (1 ∷ []); need = 44 }
+    ∷ record { op = PairMerge true 0 2 3 4 None 5; values = None; made = info_of Int64 [] []; need = 44 } ∷ []
+places = refl
+
+-- a matrix by a vector, the inner axis of which has two chunks
+product : product_steps (record { first = 2; split_every = 4; reserved = 0 })
+    (record { left = 0; right = 1; left_info = info_of Int32 (2 ∷ 3 ∷ []) (2 ∷ 2 ∷ []); right_info = info_of Int32 (3 ∷ []) (2 ∷ []); made = info_of Int32 (2 ∷ []) (2 ∷ []) })
+    ≡ record { op = Mul 0 1 2; values = None; made = info_of Int32 (2 ∷ 2 ∷ []) (2 ∷ 1 ∷ []); need = 48 }
+    ∷ record { op = Merge Sum 1 4 2 3; values = None; made = info_of Int32 (2 ∷ []) (2 ∷ []); need = 48 } ∷ []
+product = refl

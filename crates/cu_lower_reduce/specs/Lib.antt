@@ -1,0 +1,5 @@
+pub mod Partials
+pub mod Products
+pub mod Reductions
+pub mod Searches
+pub mod Steps

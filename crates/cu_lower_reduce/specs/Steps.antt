@@ -1,0 +1,87 @@
+-- The steps that a node adds to a plan, and what they keep over the arrays of the plan (this project's own rule).
+use Rattle.std.specs.Prelude.{◌≡◌, ◌⊎◌, ℕ, ◌+◌, ◌-◌, ◌*◌, ◌<◌, ◌≤◌, List, [], ◌∷◌, ◌++◌, All, Contains, length, flat_map, sum_by, Option, None, Some}
+use Rattle.std.specs.List.{range_with_len}
+pub use Rattle.cu_tree.specs.Needs.{with_merges}
+use Rattle.cu_num.specs.Dtype.{size_of}
+use Rattle.cu_shape.specs.Index.{product}
+use Rattle.cu_grid.specs.Grid.{RegularGrid}
+use Rattle.cu_op.specs.Arrays.{grid_at, type_at}
+use Rattle.cu_op.specs.Cells.{tasks_of}
+use Rattle.cu_op.specs.Operation.{reads_of, writes_of, Fits}
+use Rattle.cu_op.specs.Projection.{projection}
+use Rattle.cu_op.specs.Value.{Elements, rule}
+use Rattle.cu_op.specs.declared.layout.ArrayInfo.{ArrayInfo}
+use Rattle.cu_node.specs.declared.info.NodeInfo.{NodeInfo}
+use Rattle.cu_tree.specs.Partials.{chunks_of, IsMiddle}
+use Rattle.cu_lower_reduce.specs.declared.step.Step.{Step}
+
+-- ---- the arrays that steps make
+
+abbrev pub with_values : Option NodeInfo → NodeInfo → List NodeInfo
+with_values None made = made ∷ []
+with_values (Some values) made = values ∷ made ∷ []
+
+-- what is known of the arrays that a step makes, values before places, and of those that several make
+abbrev pub made_infos : Step → List NodeInfo
+made_infos s = with_values s.values s.made
+
+abbrev pub all_made : List Step → List NodeInfo
+all_made steps = flat_map made_infos steps
+
+-- the bytes of a chunk
+abbrev pub info_bytes : NodeInfo → ℕ
+info_bytes i = product i.chunk * size_of i.dtype
+
+abbrev pub grid_of : NodeInfo → RegularGrid
+grid_of i = record { shape = i.dims; chunk = i.chunk }
+
+-- this is known of the array with this number
+pub record HasInfo (arrays : List ArrayInfo) (a : ℕ) (i : NodeInfo) : Type 0 where
+  pub within : a < length arrays
+  pub dtype : type_at arrays a ≡ i.dtype
+  pub grid : grid_at arrays a ≡ grid_of i
+
+-- this is known of the arrays from this number on
+abbrev pub HaveInfos : List ArrayInfo → ℕ → List NodeInfo → Type 0
+HaveInfos arrays first [] = Unit {0}
+HaveInfos arrays first (i ∷ is) = HasInfo arrays first i × HaveInfos arrays (first + 1) is
+
+-- ---- what steps keep
+
+-- an argument of the node, or an array that an earlier step makes, of which the first has number `first`
+abbrev pub IsGiven : List ℕ → ℕ → ℕ → ℕ → Type 0
+IsGiven given first next a = Contains given a ⊎ ((first ≤ a) × (a < next))
+
+-- A step whose first array has number `next`. It writes just its arrays, reads the node's arguments and what earlier steps make, fits, and
+-- needs its projection; a task makes each chunk of its result.
+pub record IsStep (arrays : List ArrayInfo) (reserved : ℕ) (given : List ℕ) (first next : ℕ) (s : Step) : Type 0 where
+  pub writes : writes_of s.op ≡ range_with_len next (length (made_infos s))
+  pub reads : All (IsGiven given first next) (reads_of s.op)
+  pub fits : Fits arrays s.op
+  pub need : s.need ≡ projection arrays reserved s.op
+  pub tasks : tasks_of arrays s.op ≡ chunks_of s.made
+
+-- each step, one after another
+abbrev pub AreSteps : List ArrayInfo → ℕ → List ℕ → ℕ → ℕ → List Step → Type 0
+AreSteps arrays reserved given first next [] = Unit {0}
+AreSteps arrays reserved given first next (s ∷ ss) = IsStep arrays reserved given first next s × AreSteps arrays reserved given first (next + length (made_infos s)) ss
+
+-- these elements are what each step's rule makes of them
+abbrev pub SolveSteps : List ArrayInfo → Elements → List Step → Type 0
+SolveSteps arrays at steps = (s : Step) (a : ℕ) (idx : List ℕ) → Contains steps s → Contains (writes_of s.op) a → at a idx ≡ rule s.op arrays at a idx
+
+-- the number of the last array that steps make, where the first has number `first`
+abbrev pub last_made : ℕ → List Step → ℕ
+last_made first steps = first + length (all_made steps) - 1
+
+-- ---- what a node's steps come to
+
+-- Steps that make an array of which `made` is known, the last of those that they make. There are at most 25 steps, none needs more than
+-- `need` bytes, they have so many tasks, and their arrays, each of which keeps the limits of an array inside a plan, so many chunks.
+pub record ComeTo (need tasks cells : ℕ) (made : NodeInfo) (steps : List Step) : Type 0 where
+  pub ends : (rest : List NodeInfo) × (all_made steps ≡ rest ++ made ∷ [])
+  pub grids : All IsMiddle (all_made steps)
+  pub few : length steps ≤ 25
+  pub needs : All (λ s. s.need ≤ need) steps
+  pub tasks_are : sum_by (λ s. chunks_of s.made) steps ≡ tasks
+  pub cells_are : sum_by chunks_of (all_made steps) ≡ cells

@@ -1,0 +1,72 @@
+//! Laws of the steps: calls that do nothing and whose clauses are the laws.
+
+ghost use Rattle.std.specs.Prelude.{◌≡◌, ◌+◌, ◌∷◌, [], true, ℕ, ℤ, List, Some, map};
+ghost use Rattle.cu_num.specs.Dtype.{InRange};
+ghost use Rattle.cu_num.specs.declared.types.Dtype.TheVariants.{Int64};
+ghost use Rattle.cu_num.specs.declared.folds.FoldKind.TheVariants.{Sum};
+ghost use Rattle.cu_shape.specs.Index.{IsInside};
+ghost use Rattle.cu_reduce.specs.Folds.{reduced_to};
+ghost use Rattle.cu_reduce.specs.Places.{best_in};
+ghost use Rattle.cu_op.specs.Value.{Elements, counted_at, pair_part};
+ghost use Rattle.cu_op.specs.declared.layout.ArrayInfo.{ArrayInfo};
+ghost use Rattle.cu_tree.specs.Marks.{sought_axes};
+ghost use Rattle.cu_tree.specs.Needs.{fold_need, merge_need, pair_fold_need, pair_merge_need, product_need};
+ghost use Rattle.cu_tree.specs.Partials.{first_partial, reduction_rounds, product_partial, product_rounds, chunks_written, chunks_before};
+ghost use Rattle.cu_lower_reduce.specs.Partials.{IsSetting};
+ghost use Rattle.cu_lower_reduce.specs.Products.{product_steps, inner_products, IsProduct};
+ghost use Rattle.cu_lower_reduce.specs.Reductions.{reduction_steps, reduced_indices, IsReduction};
+ghost use Rattle.cu_lower_reduce.specs.Searches.{value_bytes, search_steps, IsSearch};
+ghost use Rattle.cu_lower_reduce.specs.Steps.{HasInfo, HaveInfos, all_made, AreSteps, SolveSteps, last_made, with_merges, info_bytes, ComeTo};
+ghost use Rattle.cu_lower_reduce.specs.declared.product.Product.{Product};
+ghost use Rattle.cu_lower_reduce.specs.declared.reduction.Reduction.{Reduction};
+ghost use Rattle.cu_lower_reduce.specs.declared.search.Search.{Search};
+ghost use Rattle.cu_lower_reduce.specs.declared.step.Setting.{Setting};
+
+/// Over any arrays of a plan in which the source and the arrays of its steps stand, the steps of a reduction keep what steps keep. Their
+/// last array is the node's own, and each of its elements is what is made of all elements of the source along the reduced axes, where
+/// these lie in the range of the source's type.
+pub fn reduction_law()
+    ensures steps { (arrays : List ArrayInfo) (s : Setting) (x : Reduction) → IsSetting s → IsReduction x → HasInfo arrays x.source x.from → HaveInfos arrays s.first (all_made (reduction_steps s x))
+        → AreSteps arrays s.reserved (x.source ∷ []) s.first s.first (reduction_steps s x) }
+    ensures last { (arrays : List ArrayInfo) (s : Setting) (x : Reduction) → HaveInfos arrays s.first (all_made (reduction_steps s x)) → HasInfo arrays (last_made s.first (reduction_steps s x)) x.made }
+    ensures sizes { (s : Setting) (x : Reduction) → IsSetting s → IsReduction x
+        → ComeTo (with_merges (reduction_rounds x.axes s.split_every x.from) (fold_need s.reserved (info_bytes x.from) (info_bytes x.made)) (merge_need s.reserved s.split_every (info_bytes x.made)))
+        (chunks_written (first_partial x.made.dtype x.axes x.from) (reduction_rounds x.axes s.split_every x.from) x.made)
+        (chunks_written (first_partial x.made.dtype x.axes x.from) (reduction_rounds x.axes s.split_every x.from) x.made) x.made (reduction_steps s x) }
+    ensures value { (arrays : List ArrayInfo) (at : Elements) (s : Setting) (x : Reduction) → IsSetting s → IsReduction x → HasInfo arrays x.source x.from → HaveInfos arrays s.first (all_made (reduction_steps s x))
+        → SolveSteps arrays at (reduction_steps s x) → ((i : List ℕ) (y : ℤ) → IsInside x.from.dims i → at x.source i ≡ Some y → InRange x.from.dtype y)
+        → (idx : List ℕ) → IsInside x.made.dims idx
+        → at (last_made s.first (reduction_steps s x)) idx ≡ reduced_to x.kind x.made.dtype (map (at x.source) (reduced_indices x.axes x.from.dims x.made.dims idx)) }
+{}
+
+/// The same of a product of matrices, whose arguments are two operands: each element is the sum of the products over all inner places.
+pub fn product_law()
+    ensures steps { (arrays : List ArrayInfo) (s : Setting) (x : Product) → IsSetting s → IsProduct x → HasInfo arrays x.left x.left_info → HasInfo arrays x.right x.right_info
+        → HaveInfos arrays s.first (all_made (product_steps s x)) → AreSteps arrays s.reserved (x.left ∷ x.right ∷ []) s.first s.first (product_steps s x) }
+    ensures last { (arrays : List ArrayInfo) (s : Setting) (x : Product) → HaveInfos arrays s.first (all_made (product_steps s x)) → HasInfo arrays (last_made s.first (product_steps s x)) x.made }
+    ensures sizes { (s : Setting) (x : Product) → IsSetting s → IsProduct x
+        → ComeTo (with_merges (product_rounds s.split_every x.left_info x.made) (product_need s.reserved (info_bytes x.left_info) (info_bytes x.right_info) (info_bytes x.made)) (merge_need s.reserved s.split_every (info_bytes x.made)))
+        (chunks_written (product_partial x.left_info x.made) (product_rounds s.split_every x.left_info x.made) x.made)
+        (chunks_written (product_partial x.left_info x.made) (product_rounds s.split_every x.left_info x.made) x.made) x.made (product_steps s x) }
+    ensures value { (arrays : List ArrayInfo) (at : Elements) (s : Setting) (x : Product) → IsSetting s → IsProduct x → HasInfo arrays x.left x.left_info → HasInfo arrays x.right x.right_info
+        → HaveInfos arrays s.first (all_made (product_steps s x)) → SolveSteps arrays at (product_steps s x)
+        → (idx : List ℕ) → IsInside x.made.dims idx
+        → at (last_made s.first (product_steps s x)) idx ≡ reduced_to Sum x.made.dtype (inner_products x (at x.left) (at x.right) idx) }
+{}
+
+/// The same of a search for places, whose last array is that of the places: each element is the first place of the least or the greatest
+/// element of the source along the axes that are sought. The chunks that are stored are those of the values too.
+pub fn search_law()
+    ensures steps { (arrays : List ArrayInfo) (s : Setting) (x : Search) → IsSetting s → IsSearch x → HasInfo arrays x.source x.from → HaveInfos arrays s.first (all_made (search_steps s x))
+        → AreSteps arrays s.reserved (x.source ∷ []) s.first s.first (search_steps s x) }
+    ensures last { (arrays : List ArrayInfo) (s : Setting) (x : Search) → HaveInfos arrays s.first (all_made (search_steps s x)) → HasInfo arrays (last_made s.first (search_steps s x)) x.made }
+    ensures sizes { (s : Setting) (x : Search) → IsSetting s → IsSearch x
+        → ComeTo (with_merges (reduction_rounds (sought_axes x.axis) s.split_every x.from) (pair_fold_need s.reserved (info_bytes x.from) (value_bytes x) (info_bytes x.made)) (pair_merge_need s.reserved s.split_every (value_bytes x) (info_bytes x.made)))
+        (chunks_written (first_partial Int64 (sought_axes x.axis) x.from) (reduction_rounds (sought_axes x.axis) s.split_every x.from) x.made)
+        (chunks_written (first_partial Int64 (sought_axes x.axis) x.from) (reduction_rounds (sought_axes x.axis) s.split_every x.from) x.made
+        + chunks_before (first_partial x.from.dtype (sought_axes x.axis) x.from) (reduction_rounds (sought_axes x.axis) s.split_every x.from)) x.made (search_steps s x) }
+    ensures value { (arrays : List ArrayInfo) (at : Elements) (s : Setting) (x : Search) → IsSetting s → IsSearch x → HasInfo arrays x.source x.from → HaveInfos arrays s.first (all_made (search_steps s x))
+        → SolveSteps arrays at (search_steps s x) → (idx : List ℕ) → IsInside x.made.dims idx
+        → at (last_made s.first (search_steps s x)) idx
+        ≡ pair_part true (best_in x.least (map (counted_at x.from.dims x.axis (at x.source)) (reduced_indices (sought_axes x.axis) x.from.dims x.made.dims idx))) }
+{}

@@ -1,0 +1,107 @@
+-- The memory of reductions, of searches for places and of products of matrices, in bytes, and what is counted of them (this project's own
+-- rule). `reserved` are the bytes that are kept for everything else, `split_every` is how many partial results a task merges, `made` and
+-- `source` tell of the node's array and of its argument's.
+use Rattle.std.specs.Prelude.{ℕ, ◌+◌, ◌-◌, ◌*◌, Bool, false, ◌&&◌, bytes_eq, ℤ, List, [], ◌∷◌, ◌++◌, length, take, max, slice_get, replicate, Option, Some, option_and_then, unwrap_or}
+use Rattle.cu_num.specs.Dtype.{size_of}
+use Rattle.cu_shape.specs.Index.{product}
+use Rattle.cu_pull.specs.declared.axes.Axes.{Axes}
+use Rattle.cu_form.specs.declared.args.Arg.{Arg}
+use Rattle.cu_node.specs.Axes.{axis_of}
+use Rattle.cu_node.specs.Info.{info_at, no_info}
+use Rattle.cu_node.specs.declared.info.NodeInfo.{NodeInfo}
+use Rattle.cu_num.specs.declared.types.Dtype.TheVariants.{Int64}
+use Rattle.cu_typing.specs.Joined.{aligned_chunk}
+use Rattle.cu_typing.specs.Matmul.{rows, columns, left_inner, leading_array}
+use Rattle.cu_typing.specs.Reduction.{marks_of}
+use Rattle.cu_tree.specs.Marks.{marked_axes, sought_axes}
+use Rattle.cu_tree.specs.Needs.{with_merges, fold_need, merge_need, pair_fold_need, pair_merge_need, product_need}
+use Rattle.cu_tree.specs.Partials.{first_partial, reduction_rounds, product_partial, product_rounds, chunks_written, chunks_before}
+use Rattle.cu_tree.specs.declared.round.Round.{Round}
+use Rattle.cu_need.specs.Chunks.{chunk_bytes}
+
+-- the array that an argument names, and that of an argument by its place; where there is none, a bool of rank 0
+abbrev pub array_from : List NodeInfo → Option Arg → NodeInfo
+array_from infos (Some (Arg.Node n)) = info_at infos n
+array_from infos arg = no_info
+
+abbrev pub array_of : List NodeInfo → List Arg → ℕ → NodeInfo
+array_of infos args at = array_from infos (slice_get args at)
+
+-- the axes that are reduced; where the list names no axes of an array, none
+abbrev pub reduced_axes : ℕ → Option (List ℤ) → Axes
+reduced_axes rank axes = marked_axes (unwrap_or (marks_of rank axes) (replicate 6 false))
+
+-- the axis along which a place is sought, none where it is sought in the whole array
+abbrev pub sought_axis : ℕ → Option ℤ → Option ℕ
+sought_axis rank axis = option_and_then (λ d. axis_of d rank) axis
+
+-- the axes that a reduction of this source reduces, and those along which a place is sought in it
+abbrev pub axes_reduced : NodeInfo → Option (List ℤ) → Axes
+axes_reduced source axes = reduced_axes (length source.dims) axes
+
+abbrev pub axes_sought : NodeInfo → Option ℤ → Axes
+axes_sought source axis = sought_axes (sought_axis (length source.dims) axis)
+
+-- ---- memory
+
+abbrev pub reduction_need : ℕ → ℕ → NodeInfo → NodeInfo → Axes → ℕ
+reduction_need reserved split_every made source axes =
+    with_merges (reduction_rounds axes split_every source) (fold_need reserved (chunk_bytes source) (chunk_bytes made))
+    (merge_need reserved split_every (chunk_bytes made))
+
+-- the bytes of the values of a chunk of places
+abbrev pub value_bytes : NodeInfo → NodeInfo → ℕ
+value_bytes made source = product made.chunk * size_of source.dtype
+
+abbrev pub place_need : ℕ → ℕ → NodeInfo → NodeInfo → Axes → ℕ
+place_need reserved split_every made source axes =
+    with_merges (reduction_rounds axes split_every source)
+    (pair_fold_need reserved (chunk_bytes source) (value_bytes made source) (chunk_bytes made)) (pair_merge_need reserved split_every (value_bytes made source) (chunk_bytes made))
+
+-- of operands that have their aligned chunks
+abbrev pub matmul_need : ℕ → ℕ → NodeInfo → NodeInfo → NodeInfo → ℕ
+matmul_need reserved split_every made left right =
+    with_merges (product_rounds split_every left made) (product_need reserved (chunk_bytes left) (chunk_bytes right) (chunk_bytes made))
+    (merge_need reserved split_every (chunk_bytes made))
+
+-- ---- counts
+
+-- the tasks are one for each chunk of each array that an operation goes over, the chunks that are stored those of all arrays
+abbrev pub reduction_chunks : ℕ → NodeInfo → NodeInfo → Axes → ℕ
+reduction_chunks split_every made source axes =
+    chunks_written (first_partial made.dtype axes source) (reduction_rounds axes split_every source) made
+
+abbrev pub place_chunks : ℕ → NodeInfo → NodeInfo → Axes → ℕ
+place_chunks split_every made source axes =
+    chunks_written (first_partial Int64 axes source)
+    (reduction_rounds axes split_every source) made
+
+-- the values that are stored beside the places
+abbrev pub value_chunks : ℕ → NodeInfo → Axes → ℕ
+value_chunks split_every source axes =
+    chunks_before (first_partial source.dtype axes source)
+    (reduction_rounds axes split_every source)
+
+abbrev pub matmul_chunks : ℕ → NodeInfo → NodeInfo → ℕ
+matmul_chunks split_every made left = chunks_written (product_partial left made) (product_rounds split_every left made) made
+
+-- ---- aligned operands
+
+-- how many axes of the product come before its matrix
+abbrev pub leading_count : NodeInfo → NodeInfo → NodeInfo → ℕ
+leading_count made left right = length made.dims - (length (rows left.dims) + length (columns right.dims))
+
+-- an operand's chunk on the axes before its matrix: the product's, or its own where it is stretched
+abbrev pub leading_aligned : NodeInfo → ℕ → NodeInfo → List ℕ
+leading_aligned made count operand = aligned_chunk (take count made.dims) (take count made.chunk) (leading_array operand)
+
+-- The operands have their aligned chunks: the rows are the left's and the columns the right's, and the inner chunks are the left's.
+abbrev pub is_left_aligned : NodeInfo → ℕ → NodeInfo → Bool
+is_left_aligned made count left = bytes_eq left.chunk (leading_aligned made count left ++ rows left.chunk ++ left_inner left.chunk ∷ [])
+
+abbrev pub is_right_aligned : NodeInfo → ℕ → NodeInfo → NodeInfo → Bool
+is_right_aligned made count left right = bytes_eq right.chunk (leading_aligned made count right ++ left_inner left.chunk ∷ [] ++ columns right.chunk)
+
+abbrev pub are_operands_aligned : NodeInfo → NodeInfo → NodeInfo → Bool
+are_operands_aligned made left right =
+    is_left_aligned made (leading_count made left right) left && is_right_aligned made (leading_count made left right) left right

@@ -1,0 +1,269 @@
+//! The product of two matrices, with loops for each pair of types.
+
+ghost use Rattle.std.specs.Prelude.{◌≡◌, ◌*◌, ◌+◌, ◌<◌, ℕ, length};
+ghost use Rattle.cu_num.specs.Dtype.{size_of, IsInteger};
+ghost use Rattle.cu_product.specs.Matrices.{HasProducts, numbers};
+
+use crate::column::multiply_column;
+use crate::rows::{Sizes, multiply_rows};
+use cu_num::Dtype;
+
+/// The product of two matrices. Each type of results has a call of its own, so that its loops are built apart.
+pub(crate) fn multiply_matrices(
+    left_t: Dtype,
+    right_t: Dtype,
+    t: Dtype,
+    sizes: Sizes,
+    left: &[u8],
+    right: &[u8],
+    out: &mut [u8],
+)
+    requires integer { IsInteger t }
+    requires some_rows { 0 < sizes.rows }
+    requires some { 0 < sizes.inner }
+    requires left { length left.now ≡ sizes.rows * sizes.inner * size_of left_t }
+    requires right { length right.now ≡ sizes.inner * sizes.columns * size_of right_t }
+    requires out { length out.old ≡ sizes.rows * sizes.columns * size_of t }
+    ensures { HasProducts sizes (numbers left_t left.now) (numbers right_t right.now) t out.new }
+{
+    match t {
+        Dtype::Bool => unreachable!(),
+        Dtype::Int8 => into_int8(left_t, right_t, sizes, left, right, out),
+        Dtype::Int16 => into_int16(left_t, right_t, sizes, left, right, out),
+        Dtype::Int32 => into_int32(left_t, right_t, sizes, left, right, out),
+        Dtype::Int64 => into_int64(left_t, right_t, sizes, left, right, out),
+        Dtype::Uint8 => into_uint8(left_t, right_t, sizes, left, right, out),
+        Dtype::Uint16 => into_uint16(left_t, right_t, sizes, left, right, out),
+        Dtype::Uint32 => into_uint32(left_t, right_t, sizes, left, right, out),
+        Dtype::Uint64 => into_uint64(left_t, right_t, sizes, left, right, out),
+    }
+}
+
+/// Of results of this type.
+#[inline(never)]
+fn into_int8(left_t: Dtype, right_t: Dtype, sizes: Sizes, left: &[u8], right: &[u8], out: &mut [u8])
+    requires some_rows { 0 < sizes.rows }
+    requires some { 0 < sizes.inner }
+    requires left { length left.now ≡ sizes.rows * sizes.inner * size_of left_t }
+    requires right { length right.now ≡ sizes.inner * sizes.columns * size_of right_t }
+    requires out { length out.old ≡ sizes.rows * sizes.columns * size_of Dtype.Int8 }
+    ensures { HasProducts sizes (numbers left_t left.now) (numbers right_t right.now) Dtype.Int8 out.new }
+{
+    by_types(left_t, right_t, Dtype::Int8, sizes, left, right, out);
+}
+
+/// Of results of this type.
+#[inline(never)]
+fn into_int16(
+    left_t: Dtype,
+    right_t: Dtype,
+    sizes: Sizes,
+    left: &[u8],
+    right: &[u8],
+    out: &mut [u8],
+)
+    requires some_rows { 0 < sizes.rows }
+    requires some { 0 < sizes.inner }
+    requires left { length left.now ≡ sizes.rows * sizes.inner * size_of left_t }
+    requires right { length right.now ≡ sizes.inner * sizes.columns * size_of right_t }
+    requires out { length out.old ≡ sizes.rows * sizes.columns * size_of Dtype.Int16 }
+    ensures { HasProducts sizes (numbers left_t left.now) (numbers right_t right.now) Dtype.Int16 out.new }
+{
+    by_types(left_t, right_t, Dtype::Int16, sizes, left, right, out);
+}
+
+/// Of results of this type.
+#[inline(never)]
+fn into_int32(
+    left_t: Dtype,
+    right_t: Dtype,
+    sizes: Sizes,
+    left: &[u8],
+    right: &[u8],
+    out: &mut [u8],
+)
+    requires some_rows { 0 < sizes.rows }
+    requires some { 0 < sizes.inner }
+    requires left { length left.now ≡ sizes.rows * sizes.inner * size_of left_t }
+    requires right { length right.now ≡ sizes.inner * sizes.columns * size_of right_t }
+    requires out { length out.old ≡ sizes.rows * sizes.columns * size_of Dtype.Int32 }
+    ensures { HasProducts sizes (numbers left_t left.now) (numbers right_t right.now) Dtype.Int32 out.new }
+{
+    by_types(left_t, right_t, Dtype::Int32, sizes, left, right, out);
+}
+
+/// Of results of this type.
+#[inline(never)]
+fn into_int64(
+    left_t: Dtype,
+    right_t: Dtype,
+    sizes: Sizes,
+    left: &[u8],
+    right: &[u8],
+    out: &mut [u8],
+)
+    requires some_rows { 0 < sizes.rows }
+    requires some { 0 < sizes.inner }
+    requires left { length left.now ≡ sizes.rows * sizes.inner * size_of left_t }
+    requires right { length right.now ≡ sizes.inner * sizes.columns * size_of right_t }
+    requires out { length out.old ≡ sizes.rows * sizes.columns * size_of Dtype.Int64 }
+    ensures { HasProducts sizes (numbers left_t left.now) (numbers right_t right.now) Dtype.Int64 out.new }
+{
+    by_types(left_t, right_t, Dtype::Int64, sizes, left, right, out);
+}
+
+/// Of results of this type.
+#[inline(never)]
+fn into_uint8(
+    left_t: Dtype,
+    right_t: Dtype,
+    sizes: Sizes,
+    left: &[u8],
+    right: &[u8],
+    out: &mut [u8],
+)
+    requires some_rows { 0 < sizes.rows }
+    requires some { 0 < sizes.inner }
+    requires left { length left.now ≡ sizes.rows * sizes.inner * size_of left_t }
+    requires right { length right.now ≡ sizes.inner * sizes.columns * size_of right_t }
+    requires out { length out.old ≡ sizes.rows * sizes.columns * size_of Dtype.Uint8 }
+    ensures { HasProducts sizes (numbers left_t left.now) (numbers right_t right.now) Dtype.Uint8 out.new }
+{
+    by_types(left_t, right_t, Dtype::Uint8, sizes, left, right, out);
+}
+
+/// Of results of this type.
+#[inline(never)]
+fn into_uint16(
+    left_t: Dtype,
+    right_t: Dtype,
+    sizes: Sizes,
+    left: &[u8],
+    right: &[u8],
+    out: &mut [u8],
+)
+    requires some_rows { 0 < sizes.rows }
+    requires some { 0 < sizes.inner }
+    requires left { length left.now ≡ sizes.rows * sizes.inner * size_of left_t }
+    requires right { length right.now ≡ sizes.inner * sizes.columns * size_of right_t }
+    requires out { length out.old ≡ sizes.rows * sizes.columns * size_of Dtype.Uint16 }
+    ensures { HasProducts sizes (numbers left_t left.now) (numbers right_t right.now) Dtype.Uint16 out.new }
+{
+    by_types(left_t, right_t, Dtype::Uint16, sizes, left, right, out);
+}
+
+/// Of results of this type.
+#[inline(never)]
+fn into_uint32(
+    left_t: Dtype,
+    right_t: Dtype,
+    sizes: Sizes,
+    left: &[u8],
+    right: &[u8],
+    out: &mut [u8],
+)
+    requires some_rows { 0 < sizes.rows }
+    requires some { 0 < sizes.inner }
+    requires left { length left.now ≡ sizes.rows * sizes.inner * size_of left_t }
+    requires right { length right.now ≡ sizes.inner * sizes.columns * size_of right_t }
+    requires out { length out.old ≡ sizes.rows * sizes.columns * size_of Dtype.Uint32 }
+    ensures { HasProducts sizes (numbers left_t left.now) (numbers right_t right.now) Dtype.Uint32 out.new }
+{
+    by_types(left_t, right_t, Dtype::Uint32, sizes, left, right, out);
+}
+
+/// Of results of this type.
+#[inline(never)]
+fn into_uint64(
+    left_t: Dtype,
+    right_t: Dtype,
+    sizes: Sizes,
+    left: &[u8],
+    right: &[u8],
+    out: &mut [u8],
+)
+    requires some_rows { 0 < sizes.rows }
+    requires some { 0 < sizes.inner }
+    requires left { length left.now ≡ sizes.rows * sizes.inner * size_of left_t }
+    requires right { length right.now ≡ sizes.inner * sizes.columns * size_of right_t }
+    requires out { length out.old ≡ sizes.rows * sizes.columns * size_of Dtype.Uint64 }
+    ensures { HasProducts sizes (numbers left_t left.now) (numbers right_t right.now) Dtype.Uint64 out.new }
+{
+    by_types(left_t, right_t, Dtype::Uint64, sizes, left, right, out);
+}
+
+/// Operands that have the type of the result are most frequent.
+#[inline(always)]
+fn by_types(
+    left_t: Dtype,
+    right_t: Dtype,
+    t: Dtype,
+    sizes: Sizes,
+    left: &[u8],
+    right: &[u8],
+    out: &mut [u8],
+)
+    requires integer { IsInteger t }
+    requires some_rows { 0 < sizes.rows }
+    requires some { 0 < sizes.inner }
+    requires left { length left.now ≡ sizes.rows * sizes.inner * size_of left_t }
+    requires right { length right.now ≡ sizes.inner * sizes.columns * size_of right_t }
+    requires out { length out.old ≡ sizes.rows * sizes.columns * size_of t }
+    ensures { HasProducts sizes (numbers left_t left.now) (numbers right_t right.now) t out.new }
+{
+    if left_t == t && right_t == t {
+        of_one_type(t, sizes, left, right, out);
+    } else {
+        by_right_type(left_t, right_t, t, sizes, left, right, out);
+    }
+}
+
+/// Of operands that have the type of the result.
+#[inline(always)]
+fn of_one_type(t: Dtype, sizes: Sizes, left: &[u8], right: &[u8], out: &mut [u8])
+    requires integer { IsInteger t }
+    requires some_rows { 0 < sizes.rows }
+    requires some { 0 < sizes.inner }
+    requires left { length left.now ≡ sizes.rows * sizes.inner * size_of t }
+    requires right { length right.now ≡ sizes.inner * sizes.columns * size_of t }
+    requires out { length out.old ≡ sizes.rows * sizes.columns * size_of t }
+    ensures { HasProducts sizes (numbers t left.now) (numbers t right.now) t out.new }
+{
+    if sizes.columns == 1 {
+        multiply_column(t, sizes, left, right, out);
+    } else {
+        multiply_rows(t, t, t, sizes, left, right, out);
+    }
+}
+
+/// By the type of the right operand, whose rows are read again and again.
+#[inline(always)]
+fn by_right_type(
+    left_t: Dtype,
+    right_t: Dtype,
+    t: Dtype,
+    sizes: Sizes,
+    left: &[u8],
+    right: &[u8],
+    out: &mut [u8],
+)
+    requires integer { IsInteger t }
+    requires some_rows { 0 < sizes.rows }
+    requires some { 0 < sizes.inner }
+    requires left { length left.now ≡ sizes.rows * sizes.inner * size_of left_t }
+    requires right { length right.now ≡ sizes.inner * sizes.columns * size_of right_t }
+    requires out { length out.old ≡ sizes.rows * sizes.columns * size_of t }
+    ensures { HasProducts sizes (numbers left_t left.now) (numbers right_t right.now) t out.new }
+{
+    match right_t {
+        Dtype::Bool => multiply_rows(left_t, Dtype::Bool, t, sizes, left, right, out),
+        Dtype::Int8 => multiply_rows(left_t, Dtype::Int8, t, sizes, left, right, out),
+        Dtype::Int16 => multiply_rows(left_t, Dtype::Int16, t, sizes, left, right, out),
+        Dtype::Int32 => multiply_rows(left_t, Dtype::Int32, t, sizes, left, right, out),
+        Dtype::Int64 => multiply_rows(left_t, Dtype::Int64, t, sizes, left, right, out),
+        Dtype::Uint8 => multiply_rows(left_t, Dtype::Uint8, t, sizes, left, right, out),
+        Dtype::Uint16 => multiply_rows(left_t, Dtype::Uint16, t, sizes, left, right, out),
+        Dtype::Uint32 => multiply_rows(left_t, Dtype::Uint32, t, sizes, left, right, out),
+        Dtype::Uint64 => multiply_rows(left_t, Dtype::Uint64, t, sizes, left, right, out),
+    }
+}

@@ -1,0 +1,3 @@
+pub mod Nested
+pub mod Stages
+pub mod Tiles

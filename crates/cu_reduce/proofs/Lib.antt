@@ -1,0 +1,11 @@
+mod Examples
+pub mod Bests
+pub mod Chained
+pub mod Combined
+pub mod Combining
+pub mod Covered
+pub mod Folding
+pub mod Grouped
+pub mod Ranges
+pub mod Regions
+pub mod Rounds

@@ -1,0 +1,9 @@
+pub mod Folds
+pub mod Groups
+pub mod Kinds
+pub mod Numbers
+pub mod Parts
+pub mod Places
+pub mod Products
+pub mod Regions
+pub mod Running

@@ -1,0 +1,108 @@
+//! Tasks of views.
+ghost use Rattle.std.specs.Prelude.{◌≡◌, ◌<◌, ◌≤◌, length, IfErr, OnOk};
+ghost use Rattle.cu_store.specs.Faults.{Rose};
+ghost use Rattle.cu_store.specs.Held.{Contents};
+ghost use Rattle.cu_store.specs.Steps.{NoChange, Steps};
+ghost use Rattle.cu_op.specs.Arrays.{type_at};
+ghost use Rattle.cu_op.specs.Cells.{tasks_of, task_lo, task_hi};
+ghost use Rattle.cu_op.specs.Operation.{target_of, shapes_at};
+ghost use Rattle.cu_op.specs.Projection.{scratch_room};
+ghost use Rattle.cu_op.specs.Schedule.{op_of};
+ghost use Rattle.cu_op.specs.Sound.{Sound};
+ghost use Rattle.cu_region.specs.Calls.{Made};
+ghost use Rattle.cu_region.specs.Writing.{AreElements};
+ghost use Rattle.cu_task.specs.Inputs.{IsPullOf};
+ghost use Rattle.cu_task.specs.ViewJobs.{IsViewJob, view_of};
+ghost use Rattle.cu_task.specs.Task.{view_task, read_calls, HasSureCalls, result_room, HasResult, AreSteadyInputs, IsTaskFault};
+
+use crate::views::{ViewJob, lay_numbers, read_sources, shapes_of};
+use cu_op::{Plan, Pull, task_region};
+use cu_shape::Dims;
+use cu_store::{Depot, TaskFault};
+
+/// The elements of a view's result in the region of a task, row-major and little-endian, each chunk of a source read through
+/// `scratch`.
+pub(crate) fn pull_result<D: Depot>(
+    depot: &mut D,
+    plan: &Plan,
+    op: u32,
+    task: u32,
+    pull: &Pull,
+    ins: &[u32],
+    output: &mut [u8],
+    scratch: &mut [u8],
+) -> Result<(), TaskFault>
+    requires operation { op < length plan.now.ops }
+    requires task { task < tasks_of plan.now.arrays (op_of plan.now op) }
+    requires pull { IsPullOf (op_of plan.now op) pull.now ins.now }
+    requires few { length ins.now ≤ 8 }
+    requires output { length output.old ≡ result_room plan.now op task (target_of (op_of plan.now op)) }
+    requires scratch { scratch_room plan.now.arrays (op_of plan.now op) ≤ length scratch.old }
+    ensures values { (held : Contents) → AreSteadyInputs plan.now op task (D.shown depot.old) held → OnOk result (HasResult plan.now op task (target_of (op_of plan.now op)) held output.new) }
+    ensures elements { OnOk result (AreElements (type_at plan.now.arrays (target_of (op_of plan.now op))) output.new) }
+    ensures step { Steps NoChange 0 (read_calls plan.now.arrays (op_of plan.now op) task) (D.shown depot.old) (D.shown depot.new) }
+    ensures all { HasSureCalls (op_of plan.now op) → OnOk result (Made (read_calls plan.now.arrays (op_of plan.now op) task) (D.shown depot.old).calls (D.shown depot.new).calls) }
+    ensures cause { IfErr result (IsTaskFault (D.shown depot.old) (D.shown depot.new) plan.now op task) }
+{
+    let _planned = plan.operation(op);
+    let shapes = shapes_of(plan, ins);
+    let job = view_job(plan, op, task, pull, ins, shapes.as_slice());
+    pull_region(depot, plan, op, task, &job, output, scratch)
+}
+
+/// The same, of what a view's task is.
+fn pull_region<D: Depot>(
+    depot: &mut D,
+    plan: &Plan,
+    op: u32,
+    task: u32,
+    job: &ViewJob<'_>,
+    output: &mut [u8],
+    scratch: &mut [u8],
+) -> Result<(), TaskFault>
+    requires sound { Sound plan.now }
+    requires operation { op < length plan.now.ops }
+    requires task { task < tasks_of plan.now.arrays (op_of plan.now op) }
+    requires pull { IsPullOf (op_of plan.now op) job.now.pull.now job.now.ins.now }
+    requires job { IsViewJob job.now }
+    requires view { view_of job.now ≡ view_task plan.now.arrays job.now.pull.now job.now.ins.now (target_of (op_of plan.now op)) (task_lo plan.now.arrays (op_of plan.now op) task) (task_hi plan.now.arrays (op_of plan.now op) task) }
+    requires output { length output.old ≡ result_room plan.now op task (target_of (op_of plan.now op)) }
+    requires scratch { scratch_room plan.now.arrays (op_of plan.now op) ≤ length scratch.old }
+    ensures values { (held : Contents) → AreSteadyInputs plan.now op task (D.shown depot.old) held → OnOk result (HasResult plan.now op task (target_of (op_of plan.now op)) held output.new) }
+    ensures elements { OnOk result (AreElements (type_at plan.now.arrays (target_of (op_of plan.now op))) output.new) }
+    ensures step { Steps NoChange 0 (read_calls plan.now.arrays (op_of plan.now op) task) (D.shown depot.old) (D.shown depot.new) }
+    ensures all { HasSureCalls (op_of plan.now op) → OnOk result (Rose (read_calls plan.now.arrays (op_of plan.now op) task) (D.shown depot.old).calls (D.shown depot.new).calls) }
+    ensures cause { IfErr result (IsTaskFault (D.shown depot.old) (D.shown depot.new) plan.now op task) }
+{
+    lay_numbers(job, output);
+    read_sources(depot, job, output, scratch)
+}
+
+/// A task of a view, with the shapes of its sources.
+fn view_job<'a>(
+    plan: &'a Plan,
+    op: u32,
+    task: u32,
+    pull: &'a Pull,
+    ins: &'a [u32],
+    shapes: &'a [Dims],
+) -> ViewJob<'a>
+    requires operation { op < length plan.now.ops }
+    requires task { task < tasks_of plan.now.arrays (op_of plan.now op) }
+    requires pull { IsPullOf (op_of plan.now op) pull.now ins.now }
+    requires few { length ins.now ≤ 8 }
+    requires shapes { shapes.now ≡ shapes_at plan.now.arrays ins.now }
+    ensures job { IsViewJob result }
+    ensures pull { IsPullOf (op_of plan.now op) result.pull.now result.ins.now }
+    ensures view { view_of result ≡ view_task plan.now.arrays result.pull.now result.ins.now (target_of (op_of plan.now op)) (task_lo plan.now.arrays (op_of plan.now op) task) (task_hi plan.now.arrays (op_of plan.now op) task) }
+    ensures sound { Sound plan.now }
+{
+    ViewJob {
+        plan,
+        pull,
+        ins,
+        shapes,
+        out: plan.operation(op).op.target(),
+        region: task_region(plan, op, task),
+    }
+}

@@ -1,0 +1,4 @@
+pub mod Marks
+pub mod Needs
+pub mod Partials
+pub mod Rounds
