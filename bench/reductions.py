@@ -1,12 +1,13 @@
-"""The operations by which reductions, searches for places and products of matrices are computed in parts, read anew from this
-project's rules: for each operation the arrays that it writes, what part of the source each of their elements is made of, and the
-bytes that a task needs beside those that are reserved.
+"""Operations, read anew from this project's rules: of each its kind, the arrays that it writes, the chunks that each task writes, and the
+bytes that a task needs beside those that are reserved; and those by which reductions, searches for places and products of matrices
+are computed in parts, with what part of the source each element is made of.
 
 Nothing here comes from the program. bench/rules.py uses it, and bench/compare.py, which takes the elements from NumPy.
 """
+import itertools
 import math
 
-from limits import SIZES, aligned, grid_of
+from limits import SIZES, grid_of
 from operators import axes_in, batch_of
 
 PLACES = ("argmin", "argmax")
@@ -14,14 +15,40 @@ FOLDS = ("sum", "prod", "min", "max", "any", "all")
 
 
 class Step:
-    """One operation: the type, sizes and chunk sizes of the arrays that it writes, of which the last one's chunks its tasks go over;
-    the bounds of the parts along each axis that is reduced, by its number; and the bytes that a task needs."""
+    """One operation: its kind; the type, sizes and chunk sizes of the arrays that it writes; and the bytes that a task needs beside those
+    that are reserved. Of a reduction also the bounds of the parts along each axis that is reduced, by its number; of a copy the sizes
+    of the regions, the chunk sizes of what it reads, the node whose array is copied, and whether it goes on from another copy."""
 
-    def __init__(self, arrays, bounds, room):
-        self.arrays, self.bounds, self.room = arrays, {axis: list(cuts) for axis, cuts in bounds.items()}, room
+    def __init__(self, kind, arrays, room, bounds=None, region=None, source=None, arg=None, is_second=False):
+        self.kind, self.arrays, self.room = kind, arrays, room
+        self.bounds = {axis: list(cuts) for axis, cuts in (bounds or {}).items()}
+        self.region, self.source, self.arg, self.is_second = region, source, arg, is_second
+
+    def grid(self):
+        """Returns how many tasks there are along each axis: one for each chunk of the last array, and of a copy one for each region."""
+        return grid_of(self.arrays[-1][1], self.region or self.arrays[-1][2])
 
     def tasks(self):
-        return math.prod(grid_of(*self.arrays[-1][1:]))
+        return math.prod(self.grid())
+
+    def cells(self):
+        return sum(math.prod(grid_of(*array[1:])) for array in self.arrays)
+
+    def places(self):
+        """Yields the place of each task."""
+        return itertools.product(*map(range, self.grid()))
+
+    def within(self, place, chunk):
+        """Yields the places of the chunks, of this size, that meet the region of a task of a copy."""
+        _, shape, _ = self.arrays[-1]
+        bounds = [(i * side, min(size, (i + 1) * side)) for i, side, size in zip(place, self.region, shape)]
+        return itertools.product(*[range(low // side, -(-high // side)) for (low, high), side in zip(bounds, chunk)])
+
+    def written(self, place):
+        """Yields the number of the array and the place of each chunk that a task writes."""
+        if self.kind == "copy":
+            return ((0, where) for where in self.within(place, self.arrays[0][2]))
+        return ((which, place) for which in range(len(self.arrays)))
 
 
 def bytes_of(dtype, chunk):
@@ -31,6 +58,10 @@ def bytes_of(dtype, chunk):
 def parts_of(size, side):
     """Returns the bounds of the chunks of an axis; an axis of size 0 has one part."""
     return [*range(0, size, side), size] if size else [0, 0]
+
+
+def kinds(first, later, stages):
+    return [first] + [later] * (len(stages) - 1)
 
 
 def merged(cuts, split_every):
@@ -64,7 +95,7 @@ def fold_steps(node, source, made, split_every):
     stages = [bounds, *rounds(bounds, split_every)]
     rooms = [max(whole, part) + whole + part] + [part + (split_every + 1) * part] * (len(stages) - 1)
     arrays = [partial(made[0], source, cuts) for cuts in stages[:-1]] + [made]
-    return [Step([array], cuts, room) for array, cuts, room in zip(arrays, stages, rooms)]
+    return [Step(kind, [array], room, cuts) for kind, array, cuts, room in zip(kinds("fold", "merge", stages), arrays, stages, rooms)]
 
 
 def place_steps(node, source, made, split_every):
@@ -77,7 +108,7 @@ def place_steps(node, source, made, split_every):
     stages = [bounds, *rounds(bounds, split_every)]
     rooms = [max(whole, places) + whole + values + places] + [places + (split_every + 1) * (values + places)] * (len(stages) - 1)
     pairs = [[partial(dtype, source, cuts), partial("int64", source, cuts)] for cuts in stages[:-1]] + [[made]]
-    return [Step(arrays, cuts, room) for arrays, cuts, room in zip(pairs, stages, rooms)]
+    return [Step(kind, arrays, room, cuts) for kind, arrays, cuts, room in zip(kinds("pairfold", "pairmerge", stages), pairs, stages, rooms)]
 
 
 def aligned_operands(made, args):
@@ -102,4 +133,4 @@ def product_steps(made, args, split_every):
         stages.append({"inner": merged(stages[-1]["inner"], split_every)})
     rooms = [max(*operands, part) + sum(operands) + part] + [part + (split_every + 1) * part] * (len(stages) - 1)
     arrays = [(dtype, [*shape, len(stage["inner"]) - 1], [*chunk, 1]) for stage in stages[:-1]] + [made]
-    return [Step([array], stage, room) for array, stage, room in zip(arrays, stages, rooms)]
+    return [Step(kind, [array], room, stage) for kind, array, stage, room in zip(kinds("mul", "merge", stages), arrays, stages, rooms)]

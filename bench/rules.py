@@ -1,6 +1,7 @@
-"""What `run` must answer for an expression, read anew from the public standards and this project's own rules: the text (3), the
-metadata of the inputs (8, 7), types and shapes (4), what isn't built yet (19), memory (5), counts (6), keys in the way (9), the
-record, the keys of the arrays that are made, and the elements of elementwise functions as exact whole numbers.
+"""What `plan` and `run` must answer for an expression, read anew from the public standards and this project's own rules: the text (3),
+the metadata of the inputs (8, 7), types and shapes (4), memory (5), counts (6), keys in the way (9), the operations with their
+tasks, chunks and memory, the record, the keys of the arrays that are made, and the elements of elementwise functions as exact whole
+numbers.
 
 Nothing here comes from the program. bench/compare.py and tools/elementwise_cases.py use it; the first takes the elements from
 NumPy instead.
@@ -10,13 +11,14 @@ import json
 import math
 import re
 
-from limits import MOST_CHUNK_BYTES, MOST_CHUNKS, MOST_ELEMENTS, MOST_RANK, SIZES, aligned, broadcast, chunk_for, grid_of, is_value, limit_place, limits, promoted, size_of, whole, wrapped
+from copies import copy_need, copy_steps, max_mem
+from limits import MOST_CHUNK_BYTES, SIZES, aligned, broadcast, chunk_for, grid_of, is_value, limit_place, limits, promoted, size_of, whole, wrapped
 from operators import OTHERS, PULLS
 from reductions import FOLDS, PLACES, Step, aligned_operands, bytes_of, fold_steps, place_steps, product_steps
 
 NAME = re.compile(r"[A-Za-z0-9][A-Za-z0-9_.-]{0,31}\Z")
 MOST_TEXT, MOST_NODES, MOST_TASKS, MOST_CELLS = 1 << 20, 256, 1 << 16, 1 << 18
-SPLIT_EVERY = 4
+SPLIT_EVERY, DEFAULT = 4, 200000000
 
 
 class Refused(Exception):
@@ -384,13 +386,14 @@ def other(node, args):
 class Plan:
     """What `run` carries out: of each node its operations, the prefixes of their arrays, and what its tasks read."""
 
-    def __init__(self, expr, metas, infos, split_every=SPLIT_EVERY):
-        self.expr, self.metas, self.infos, self.split_every = expr, metas, infos, split_every
+    def __init__(self, expr, metas, infos, allowed=DEFAULT, reserved=0, split_every=SPLIT_EVERY):
+        self.expr, self.metas, self.infos = expr, metas, infos
+        self.allowed, self.reserved, self.split_every = allowed, reserved, split_every
         self.places = {node["id"]: number for number, node in enumerate(expr["nodes"])}
         self.out = self.places[expr["out"]]
         self.live = self.marks()
-        self.made = [k for k, node in enumerate(expr["nodes"]) if self.live[k] and node["op"] != "input"]
-        self.steps = {k: self.steps_of(k) for k in self.made if self.is_made(k)}
+        self.made = [k for k, node in enumerate(expr["nodes"]) if self.live[k] and (node["op"] != "input" or k == self.out)]
+        self.steps = {k: self.steps_of(k) for k in self.made}
         self.prefixes = dict(self.named())
 
     def named(self):
@@ -407,7 +410,13 @@ class Plan:
                     number += 1
 
     def steps_of(self, k):
-        """Returns the operations of a node that is made."""
+        """Returns the operations of a node that is made: the copies, then its own."""
+        most = max_mem(self.allowed, self.reserved)
+        copied = [step for arg, info, chunk in self.copied(k) for step in copy_steps(arg, info, chunk, most)]
+        return copied + self.own_steps(k)
+
+    def own_steps(self, k):
+        """Returns the operations of a node without those that copy arrays."""
         node, made = self.expr["nodes"][k], self.infos[k]
         args = [self.infos[arg] for arg in self.arrays(k)]
         if node["op"] in FOLDS:
@@ -416,7 +425,27 @@ class Plan:
             return place_steps(node, args[0], made, self.split_every)
         if node["op"] == "matmul":
             return product_steps(made, args, self.split_every)
-        return [Step([made], {}, self.room(k))]
+        if node["op"] in ("input", "rechunk"):
+            return []
+        return [Step("pull" if node["op"] in PULLS else "map", [made], self.room(k))]
+
+    def aligned_args(self, k):
+        """Returns the aligned chunk shape of each argument of a function or a product, of any other node its own."""
+        args = [self.infos[arg] for arg in self.arrays(k)]
+        op = self.expr["nodes"][k]["op"]
+        if op == "matmul":
+            return [list(sides) for sides in aligned_operands(self.infos[k], args)]
+        return [list(aligned(*self.infos[k][1:], arg) if op in FUNCTIONS else arg[2]) for arg in args]
+
+    def copied(self, k):
+        """Returns what is copied for a node, in order: the node whose array it is, what is known of it, and the chunks to which it goes."""
+        op = self.expr["nodes"][k]["op"]
+        if op == "input":
+            return [(k, self.infos[k], self.infos[k][2])] if k == self.out else []
+        args = self.arrays(k)
+        if op == "rechunk":
+            return [(args[0], self.infos[args[0]], self.infos[k][2])]
+        return [(arg, self.infos[arg], chunk) for arg, chunk in zip(args, self.aligned_args(k)) if chunk != list(self.infos[arg][2])]
 
     def marks(self):
         live = [False] * len(self.infos)
@@ -434,50 +463,45 @@ class Plan:
     def literals(self, k):
         return len(self.expr["nodes"][k].get("args", [])) - len(self.arrays(k))
 
-    def aligned_bytes(self, k):
-        _, shape, chunk = self.infos[k]
-        return [SIZES[self.infos[arg][0]] * math.prod(aligned(shape, chunk, self.infos[arg])) for arg in self.arrays(k)]
-
-    def is_made(self, k):
-        """Whether `run` can carry out a node that isn't an input: its arguments have their aligned chunks."""
-        op = self.expr["nodes"][k]["op"]
-        chunks = [list(self.infos[arg][2]) for arg in self.arrays(k)]
-        if op == "matmul":
-            return list(map(list, aligned_operands(self.infos[k], [self.infos[arg] for arg in self.arrays(k)]))) == chunks
-        if op in FUNCTIONS:
-            return [aligned(*self.infos[k][1:], self.infos[arg]) for arg in self.arrays(k)] == chunks
-        return op != "rechunk"
-
-    def unbuilt(self):
-        """Returns the first live node that `run` can't carry out, or nothing."""
-        for k, node in enumerate(self.expr["nodes"]):
-            if self.live[k] and (k == self.out if node["op"] == "input" else not self.is_made(k)):
-                return k
-        return None
-
     def room(self, k):
         """Returns the bytes that a task of an elementwise node or of a view needs beside those that are reserved."""
         result = bytes_of(*self.infos[k][::2])
         if self.expr["nodes"][k]["op"] in PULLS:
             return max([bytes_of(*self.infos[arg][::2]) for arg in self.arrays(k)] + [result]) + result
-        args = self.aligned_bytes(k)
+        args = [bytes_of(self.infos[arg][0], chunk) for arg, chunk in zip(self.arrays(k), self.aligned_args(k))]
         return max([*args, result]) + sum(args) + result + 512 * (len(args) + self.literals(k) + 1)
 
-    def need(self, k, reserved):
+    def need(self, k):
         """Returns the bytes that a node needs."""
-        return reserved + max((step.room for step in self.steps.get(k, [])), default=0)
-
-    def tasks(self, k):
-        return sum(step.tasks() for step in self.steps[k])
-
-    def cells(self, k):
-        return sum(math.prod(grid_of(*array[1:])) for step in self.steps[k] for array in step.arrays)
+        rooms = [step.room for step in self.own_steps(k)] + [copy_need(info, chunk) for _, info, chunk in self.copied(k)]
+        return self.reserved + max(rooms, default=0)
 
     def operations(self):
-        return sum(map(len, self.steps.values()))
+        """Returns the node and the operation of each, in order."""
+        return [(k, step) for k, steps in self.steps.items() for step in steps]
 
-    def peak(self, reserved):
-        return max(self.need(k, reserved) for k in self.made)
+    def projected(self, step):
+        return self.reserved + step.room
+
+    def tasks(self):
+        return sum(step.tasks() for _, step in self.operations())
+
+    def cells(self):
+        return sum(step.cells() for _, step in self.operations())
+
+    def peak(self):
+        return max(self.projected(step) for _, step in self.operations())
+
+    def report(self, failed=0):
+        """Returns what `run` prints where so many starts of tasks have failed."""
+        tasks = self.tasks()
+        return f"ok ops={len(self.operations())} tasks={tasks} starts={tasks + failed} failed={failed} peak={self.peak()}\n"
+
+    def lines(self):
+        """Returns what `plan` prints."""
+        told = [f"op {at} {step.kind} node={k} tasks={step.tasks()} cells={step.cells()} projected={self.projected(step)}\n"
+                for at, (k, step) in enumerate(self.operations())]
+        return "".join(told) + f"plan ops={len(told)} tasks={self.tasks()} cells={self.cells()} peak={self.peak()}\n"
 
     def chunks(self, k):
         """Returns the places of the chunks of a node."""
@@ -501,7 +525,7 @@ class Plan:
                     yield k, at, which, array
 
     def task_inputs(self, k, place):
-        """Returns the node and the chunk of each argument that a task reads."""
+        """Returns for each argument the node and the chunk that a task of a function reads where all are aligned."""
         shape = self.infos[k][1]
         found = []
         for arg in self.arrays(k):
@@ -514,20 +538,20 @@ class Plan:
         """Returns the keys that are asked for, in order."""
         name = self.expr["store_as"]
         made = [self.part_key(k, at, which, place) for k, steps in self.steps.items() for at, step in enumerate(steps)
-                for place in itertools.product(*map(range, grid_of(*step.arrays[-1][1:]))) for which in range(len(step.arrays))]
+                for task in step.places() for which, place in step.written(task)]
         return [f"_cubed/{name}/plan.json", f"{name}/zarr.json", *made]
 
-    def record(self, allowed, reserved):
+    def record(self):
         names = sorted({node["name"] for node in self.expr["nodes"] if node["op"] == "input"})
-        return {"allowed": allowed, "cubed": 1, "expr": self.expr, "inputs": {name: self.metas[name].written() for name in names},
-                "reserved": reserved, "split_every": self.split_every}
+        return {"allowed": self.allowed, "cubed": 1, "expr": self.expr, "inputs": {name: self.metas[name].written() for name in names},
+                "reserved": self.reserved, "split_every": self.split_every}
 
     def array(self, k):
         """Returns the array in which a node's elements are stored."""
         return Array(*self.infos[k])
 
 
-def typed_plan(data, held, split_every=SPLIT_EVERY):
+def typed_plan(data, held, allowed=DEFAULT, reserved=0, split_every=SPLIT_EVERY):
     """Returns a text as a plan that isn't tested yet, over what is held, or refuses it. `held` gives the bytes of a key, or nothing."""
     expr = read(data)
     metas = {}
@@ -537,24 +561,25 @@ def typed_plan(data, held, split_every=SPLIT_EVERY):
             if metadata is None:
                 refuse(8, name=node["name"])
             metas[node["name"]] = meta_of(node["name"], metadata)
-    return Plan(expr, metas, typed(expr, metas), split_every)
+    return Plan(expr, metas, typed(expr, metas), allowed, reserved, split_every)
+
+
+def counted_plan(data, held, allowed, reserved, split_every=SPLIT_EVERY):
+    """Returns the plan of a text that `plan` prints, or refuses it."""
+    plan = typed_plan(data, held, allowed, reserved, split_every)
+    for k, live in enumerate(plan.live):
+        if live and plan.need(k) > allowed:
+            refuse(5, node=k, need=plan.need(k), allowed=allowed)
+    if plan.tasks() > MOST_TASKS:
+        refuse(6, which=1, count=plan.tasks())
+    if plan.cells() > MOST_CELLS:
+        refuse(6, which=2, count=plan.cells())
+    return plan
 
 
 def plan_of(data, held, allowed, reserved, split_every=SPLIT_EVERY):
-    """Returns the plan of a text, or refuses it."""
-    plan = typed_plan(data, held, split_every)
-    node = plan.unbuilt()
-    if node is not None:
-        refuse(19, node=node)
-    for k, live in enumerate(plan.live):
-        if live and plan.need(k, reserved) > allowed:
-            refuse(5, node=k, need=plan.need(k, reserved), allowed=allowed)
-    count = sum(map(plan.tasks, plan.made))
-    if count > MOST_TASKS:
-        refuse(6, which=1, count=count)
-    count = sum(map(plan.cells, plan.made))
-    if count > MOST_CELLS:
-        refuse(6, which=2, count=count)
+    """Returns the plan of a text that `run` carries out, or refuses it."""
+    plan = counted_plan(data, held, allowed, reserved, split_every)
     for key in plan.keys_in_the_way():
         if held(key) is not None:
             refuse(9, key=key)

@@ -88,11 +88,6 @@ def words_of(allowed, reserved):
     return words + (["--reserved-mem", str(reserved)] if reserved else [])
 
 
-def report(plan, reserved, failed=0):
-    tasks = sum(map(plan.tasks, plan.made))
-    return f"ok ops={plan.operations()} tasks={tasks} starts={tasks + failed} failed={failed} peak={plan.peak(reserved)}\n"
-
-
 def made_by(plan, arrays):
     """Returns the chunks that a plan makes, in the order of its tasks."""
     found = rules.meant(plan, {name: array.elements for name, array in arrays.items()})
@@ -105,11 +100,10 @@ def made_by(plan, arrays):
 def ran(arrays, text, allowed=None, reserved=0, **more):
     """Returns the row of a run that ends with 0."""
     plan = plan_over(text, arrays, 200000000 if allowed is None else allowed, reserved)
-    record = plan.record(200000000 if allowed is None else allowed, reserved)
-    texts = [[f"_cubed/{plan.expr['store_as']}/plan.json", record],
+    texts = [[f"_cubed/{plan.expr['store_as']}/plan.json", plan.record()],
              [f"{plan.expr['store_as']}/zarr.json", plan.array(plan.out).written()]]
     return {"words": words_of(allowed, reserved), "input": text, "holds": holds_of(arrays), **more,
-            "output": report(plan, reserved), "leaves": texts + made_by(plan, arrays)}
+            "output": plan.report(), "leaves": texts + made_by(plan, arrays)}
 
 
 def refused(arrays, text, line=None, allowed=None, reserved=0, **more):
@@ -147,7 +141,7 @@ def looped(arrays, text, allowed, late):
         line = f"error 10 op={task[0]} task={task[1]}" if task else f"error 16 key={key}"
         ends.append([line, done, BEFORE if done else ""])
     first = next(at for at, call in enumerate(calls) if call[3])
-    loops = {"ends": ends, "once": {"from": first, "output": report(plan, 0, 1)}, "late": late, "sinks": True}
+    loops = {"ends": ends, "once": {"from": first, "output": plan.report(1)}, "late": late, "sinks": True}
     return {**ran(arrays, text, allowed), "calls": len(calls), "loops": loops}
 
 
@@ -489,23 +483,6 @@ def type_order_rows():
         ([*three, node("p", "bitwise_or", "c", "b")], "p"), ([*three, node("p", "where", "c", "c", "b")], "p"))]
 
 
-def unbuilt_rows():
-    other = {"a": six([1, 2, 3, 4, 5, 6]), "b": stored("int32", [6], [3], [1, 2, 3, 4, 5, 6])}
-    one = {"a": stored("int32", [1], [4], [1]), "b": stored("int32", [1], [1], [1])}
-    sole = inputs_of("a")
-    stretched = {"a": stored("int32", [2, 3], [2, 2], [1, 2, 3, 4, 5, 6]), "b": stored("int32", [3], [3], [1, 2, 3])}
-    texts = [
-        (other, ADDED, None), (stretched, ADDED, None), (one, ADDED, None), (a_and_b(), inputs_of("a"), None),
-        (a_and_b(), ADDED, "b"), (other, DOUBLED, None), (other, [*inputs_of("a", "b"), node("n", "negative", "b"), node("s", "add", "a", "n")], None),
-        (a_and_b(), [*sole, node("m", "rechunk", "a", chunk=[3])], None),
-        (a_and_b(), [*sole, node("n", "negative", "a"), node("m", "max", "n"), node("r", "rechunk", "m", chunk=[])], None),
-        ({}, [node("f", "full", shape=[6], dtype="int32", value=1, chunk=[4]), node("n", "rechunk", "f", chunk=[6]), node("m", "negative", "n")], None),
-        ({}, [node("f", "arange", start=0, stop=6, step=1, dtype="int32", chunk=[4]), node("m", "rechunk", "f", chunk=[2])], None),
-        (other, [*inputs_of("a", "b"), node("d", "add", "a", "b"), node("n", "flip", "a"), node("m", "matmul", "n", "b")], None),
-        (other, [*inputs_of("a", "b"), node("d", "rechunk", "a", chunk=[6]), node("m", "matmul", "a", "b"), node("s", "stack", "m", axis=0)], None)]
-    return [refused(arrays, expression(nodes, out)) for arrays, nodes, out in texts]
-
-
 def memory_rows():
     """At the border, and the first such node: an input too where more is set aside than allowed, but no dead one."""
     bytes_of = {"a": line_of("int8", [1, 2, 3, 4, 5], 3), "b": line_of("int64", [1, 2, 3, 4, 5], 3)}
@@ -515,8 +492,8 @@ def memory_rows():
     for text in (expression(nodes), expression(select)):
         plan = plan_over(text, bytes_of, 10**6)
         for k in plan.made:
-            rows.append(refused(bytes_of, text, None, plan.need(k, 0) - 1))
-        rows.append(ran(bytes_of, text, plan.peak(0)))
+            rows.append(refused(bytes_of, text, None, plan.need(k) - 1))
+        rows.append(ran(bytes_of, text, plan.peak()))
     return rows + [
         refused(a_and_b(), expression(ADDED), "error 5 node=0 need=1601 allowed=1600", 1600, 1601),
         refused(a_and_b(), expression([*inputs_of("a", "b"), node("n", "negative", "b")]), "error 5 node=1 need=9 allowed=8", 8, 9),
@@ -592,8 +569,8 @@ def pair_rows():
         row({"a": both["a"]}, "8 name=b", expression([*inputs_of("a"), node("n", "logical_not", "a"), *inputs_of("b")], "n")),
         row(odd, "4 code=2 node=2"), row(odd, "4 code=2 node=3", expression([*inputs_of("a", "b"), node("m", "sum", "a"), node("s", "add", "a", "b")], "m")),
         row(odd, "4 code=2 node=2", allowed=0), row(odd, "4 code=2 node=2", more_holds=held),
-        row(misaligned, "19 node=2", allowed=0), row(misaligned, "19 node=3", expression([*inputs_of("a", "b"), node("n", "square", "a"), node("s", "add", "n", "b")]), allowed=0),
-        row(misaligned, "19 node=2", more_holds=held),
+        row(misaligned, "5 node=2 need=1600 allowed=0", allowed=0), row(misaligned, "5 node=2 need=1084 allowed=1083", expression([*inputs_of("a", "b"), node("n", "square", "b"), node("s", "add", "a", "n")]), allowed=1083),
+        row(misaligned, "9 key=_cubed/y/plan.json", more_holds=held),
         row(many, "5 node=1 need=1027 allowed=1026", twice, allowed=1026),
         row(many, "6 which=1 count=131072", twice, more_holds=held, allowed=1027),
         row(both, "5 node=2 need=1600 allowed=1599", more_holds=held, allowed=1599),
@@ -604,16 +581,29 @@ def pair_rows():
         row({"a": six([1, 2, 3, 4, 5, 6], raw={(0,): {"hex": "01"}}), "b": both["b"]}, "9 key=y/c/1", more_holds=[["y/c/1", ""]])]
 
 
+def hostile_rows():
+    """Texts and metadata that no writer makes."""
+    spaces, deep = {"repeat": [" ", 1048577]}, "[" * 200 + "]" * 200
+    rows = [{"words": [command], "input": text, "holds": [], "line": f"error 3 code={code} node=0", "calls": 0}
+            for command in ("run", "plan", "check") for text, code in ((spaces, 7), (deep, 1))]
+    rows.append({"words": ["load"], "input": spaces, "holds": [], "line": "error 18 code=8", "calls": 0})
+    shape = compact(six([1] * 6).metadata).replace('"shape":[6]', '"shape":[1e1]')
+    metadata = [(spaces, 10), ({"hex": "ff"}, 1), ('{"node_type":"array","zarr_format":3}', 3), (shape, 5)]
+    for words, text in ((["run"], expression(ADDED)), (["plan"], expression(ADDED)), (["check"], expression(ADDED)), (["print", "a"], "")):
+        rows += [{"words": words, "input": text, "holds": [["a/zarr.json", told]], "line": f"error 7 name=a code={code}", "calls": 1} for told, code in metadata]
+    return rows
+
+
 def refusal_cases():
     return [
         {"name": "texts that are no expressions", "rows": text_rows()},
         {"name": "nodes that have no type", "rows": type_rows()},
         {"name": "the first faulty node, and its first fault", "rows": type_order_rows()},
-        {"name": "the first live node that isn't built yet", "rows": unbuilt_rows()},
         {"name": "the first live node that needs more than is allowed", "rows": memory_rows()},
         {"name": "more tasks than a plan may have", "rows": count_rows()},
         {"name": "the first key in the way", "rows": way_rows()},
-        {"name": "of two faults the earlier is named", "rows": pair_rows()}]
+        {"name": "of two faults the earlier is named", "rows": pair_rows()},
+        {"name": "texts and metadata that no writer makes", "rows": hostile_rows()}]
 
 
 # Writing
@@ -631,31 +621,37 @@ def case_text(case):
     return "{" + ",\n ".join(members) + "}"
 
 
-def memory_of(words):
-    """Returns what words allow and set aside, or nothing where they are refused."""
+def options_of(words):
+    """Returns the memory that words allow and set aside and how many partial results are merged, or nothing where they are refused."""
     told = dict(zip(words[1::2], words[2::2]))
     if "--retries" in told:
         return None
-    return int(told.get("--allowed-mem", 200000000)), int(told.get("--reserved-mem", 0))
+    return int(told.get("--allowed-mem", 200000000)), int(told.get("--reserved-mem", 0)), int(told.get("--split-every", 4))
 
 
 def check(name, row):
-    """Compares the line of a row with the rules, where no call fails and they say it."""
-    told = memory_of(row["words"])
-    if told is None or any(member in row for member in ("faults", "source_fails_at")) or not isinstance(row["input"], (str, dict)) \
-            or "join" in row["input"] or row.get("line", "").startswith("error 13"):
+    """Compares the line of a row, and the output of `plan`, with the rules, where no call fails and they say it."""
+    if any(member in row for member in ("faults", "source_fails_at", "sink_fails_at")) or not isinstance(row["input"], (str, dict)) \
+            or "join" in row["input"] or row.get("line", "").startswith(("error 2 ", "error 13")):
         return
-    held = {key: text_of(value) if isinstance(value, str) or "hex" not in value else b"" for key, value in row["holds"]}
+    told = options_of(row["words"]) if row["words"][0] in ("run", "plan") else None
+    if told is None or any("repeat" in value for _, value in row["holds"]) or "repeat" in row["input"]:
+        return
+    held = {key: text_of(value) if isinstance(value, str) or "hex" not in value else bytes.fromhex(value["hex"]) for key, value in row["holds"]}
+    output = row.get("output", "")
     try:
-        rules.plan_of(text_of(row["input"]), held.get, *told)
+        if row["words"][0] == "plan":
+            output = rules.counted_plan(text_of(row["input"]), held.get, *told).lines()
+        else:
+            rules.plan_of(text_of(row["input"]), held.get, *told)
         line = ""
     except rules.Refused as answer:
         line = f"error {answer}"
     except KeyError as op:
         print(f"{name}: by hand, {op}: {row['line']}")
         return
-    if line != row.get("line", ""):
-        raise SystemExit(f"{name}: {row} says another line than {line}")
+    if (line, output) != (row.get("line", ""), row.get("output", "")):
+        raise SystemExit(f"{name}: {row} says other than {line} {output}")
 
 
 def write(file, cases):

@@ -10,8 +10,6 @@ program.
 import os
 import sys
 
-import numpy
-
 TOP = os.path.dirname(os.path.dirname(os.path.realpath(__file__)))
 sys.path.insert(0, f"{TOP}/bench")
 sys.path.insert(0, f"{TOP}/tools")
@@ -21,6 +19,10 @@ import rules  # noqa: E402
 from elementwise_cases import expression, inputs_of, line_of, node, plan_over, refused, stored  # noqa: E402
 from reductions import FOLDS, PLACES  # noqa: E402
 from view_cases import AMPLE, array_of, counted, number, seen  # noqa: E402
+
+
+DEMO = [node("a", "input", name="demo_a"), node("b", "input", name="demo_b"), node("s", "add", "a", "b"), node("m", "multiply", "s", 2),
+        node("p", "permute_dims", "b", axes=[1, 0]), node("d", "subtract", "m", "p"), node("r", "sum", "d", axes=[1]), node("x", "argmax", "r", axis=None)]
 
 
 def words_of(allowed, split_every):
@@ -39,9 +41,9 @@ def made_by(plan, arrays):
 def ran(arrays, text, allowed=None, split_every=rules.SPLIT_EVERY, **more):
     """Returns the row of a run that ends with 0."""
     plan = plan_over(text, arrays, allowed or AMPLE, 0, split_every)
-    texts = [["_cubed/y/plan.json", plan.record(allowed or AMPLE, 0)], ["y/zarr.json", plan.array(plan.out).written()]]
+    texts = [["_cubed/y/plan.json", plan.record()], ["y/zarr.json", plan.array(plan.out).written()]]
     return {"words": words_of(allowed, split_every), "input": text, "holds": tables.holds_of(arrays), **more,
-            "output": tables.report(plan, 0), "leaves": texts + made_by(plan, arrays)}
+            "output": plan.report(), "leaves": texts + made_by(plan, arrays)}
 
 
 def of_one(array, op, split_every=rules.SPLIT_EVERY, allowed=None, **members):
@@ -140,12 +142,12 @@ def product_rows():
 
 
 def refused_rows():
-    """Operands whose chunks aren't aligned are still to come; and memory, by the greatest of a node's operations."""
-    matrix, other = counted("int32", [4, 4], [2, 2]), counted("int32", [4, 4], [1, 2])
+    """Memory, by the greatest of a node's operations."""
+    matrix = counted("int32", [4, 4], [2, 2])
     text = expression([*inputs_of("a", "b"), node("r", "matmul", "a", "b")])
     many = counted("int64", [9], [1])
     total = expression([*inputs_of("a"), node("r", "sum", "a")])
-    return [refused({"a": matrix, "b": other}, text), refused({"a": many}, total, None, 47), ran({"a": many}, total, 48),
+    return [refused({"a": many}, total, None, 47), ran({"a": many}, total, 48),
             refused({"a": matrix, "b": matrix}, text, None, 95), ran({"a": matrix, "b": matrix}, text, 96)]
 
 
@@ -154,12 +156,21 @@ def chain_rows():
     arrays = {"a": counted("int32", [4, 6], [2, 4])}
     nodes = [*inputs_of("a"), node("s", "square", "a"), node("m", "sum", "s", axes=[1], keepdims=True), node("c", "astype", "m", dtype="int32"),
              node("d", "subtract", "s", "c"), node("x", "argmax", "d", axis=0), node("dead", "prod", "a"), node("u", "sum", "x")]
-    return [ran(arrays, expression(nodes), None, 2), ran(arrays, expression([*inputs_of("a"), node("f", "flip", "a"), node("x", "argmin", "f"), node("r", "expand_dims", "x", axis=0)]))]
+    return [ran(arrays, expression(nodes), None, 2), ran(arrays, expression([*inputs_of("a"), node("f", "flip", "a"), node("x", "argmin", "f"), node("r", "expand_dims", "x", axis=0)])), place_of_demo()]
+
+
+def place_of_demo():
+    """A chain of every family over arrays whose results are known: the sums of its rows are 66, 54, 74 and 142, so the greatest is at 3."""
+    arrays = {name: stored("int32", [4, 4], [4, 4], values) for name, values in (
+        ("demo_a", [(3 * i + j) % 16 + i % 5 for i in range(4) for j in range(4)]), ("demo_b", [(i + 5 * j) % 16 for i in range(4) for j in range(4)]))}
+    row = reported(ran(arrays, expression(DEMO)), "ok ops=6 tasks=6 starts=6 failed=0 peak=1792")
+    sums = "".join(number.to_bytes(8, "little").hex() + " " for number in (66, 54, 74, 142)).strip()
+    return seen(row, ("_cubed/y/4/c/0", sums), ("y/c", "0300000000000000"))
 
 
 def chunks_read(plan, k, at, place):
     """Returns the keys of the chunks that a task of an operation reads, in order."""
-    node_of, step = plan.expr["nodes"][k], plan.steps[k][at]
+    step = plan.steps[k][at]
     arg = plan.arrays(k)[0]
     _, shape, chunk = plan.infos[arg]
     index = list(place)
@@ -185,14 +196,14 @@ def looped(op, line, split_every):
     calls += [(key, number, None) for number, key in enumerate(plan.keys_in_the_way()[:2])]
     done = 2
     for at, step in enumerate(plan.steps[1]):
-        for task, place in enumerate(rules.itertools.product(*map(range, rules.grid_of(*step.arrays[-1][1:])))):
+        for task, place in enumerate(step.places()):
             calls += [(key, done, (at, task)) for key in chunks_read(plan, 1, at, place)]
             for which in range(len(step.arrays)):
                 calls.append((plan.part_key(1, at, which, place), done, (at, task)))
                 done += 1
     ends = [[f"error 10 op={task[0]} task={task[1]}" if task else f"error 16 key={key}", done, tables.BEFORE if done else ""] for key, done, task in calls]
     first = next(at for at, call in enumerate(calls) if call[2])
-    loops = {"ends": ends, "once": {"from": first, "output": tables.report(plan, 0, 1)}, "late": len(calls), "sinks": True}
+    loops = {"ends": ends, "once": {"from": first, "output": plan.report(1)}, "late": len(calls), "sinks": True}
     return {**ran(arrays, text, None, split_every), "calls": len(calls), "loops": loops}
 
 
@@ -206,7 +217,7 @@ def reduction_cases():
         {"name": "each kind of each type", "rows": type_rows()},
         {"name": "rounds of merges", "rows": round_rows()},
         {"name": "products of matrices", "rows": product_rows()},
-        {"name": "products that aren't aligned, and memory", "rows": refused_rows()},
+        {"name": "the memory of reductions and of products", "rows": refused_rows()},
         {"name": "reductions of views and of functions", "rows": chain_rows()},
         {"name": "a sum in rounds, each call failing", **looped("sum", line_of("int32", [1, 2, 3, 4, 5], 2), 2)},
         {"name": "a search for a place in rounds, each call failing", **looped("argmin", line_of("int16", [3, 1, 1, 1, 2], 2), 2)}]

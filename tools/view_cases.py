@@ -37,9 +37,9 @@ def made_by(plan, arrays):
 def ran(arrays, text, allowed=None, **more):
     """Returns the row of a run that ends with 0."""
     plan = plan_over(text, arrays, allowed or AMPLE)
-    texts = [["_cubed/y/plan.json", plan.record(allowed or AMPLE, 0)], ["y/zarr.json", plan.array(plan.out).written()]]
+    texts = [["_cubed/y/plan.json", plan.record()], ["y/zarr.json", plan.array(plan.out).written()]]
     return {"words": tables.words_of(allowed, 0), "input": text, "holds": tables.holds_of(arrays), **more,
-            "output": tables.report(plan, 0), "leaves": texts + made_by(plan, arrays)}
+            "output": plan.report(), "leaves": texts + made_by(plan, arrays)}
 
 
 def of_one(array, op, **members):
@@ -234,7 +234,7 @@ def looped():
             done += 1
     ends = [[f"error 10 op={task[0]} task={task[1]}" if task else f"error 16 key={key}", done, tables.BEFORE if done else ""] for key, done, task in calls]
     first = next(at for at, call in enumerate(calls) if call[2])
-    loops = {"ends": ends, "once": {"from": first, "output": tables.report(plan, 0, 1)}, "late": len(calls), "sinks": True}
+    loops = {"ends": ends, "once": {"from": first, "output": plan.report(1)}, "late": len(calls), "sinks": True}
     return {**ran(arrays, text), "calls": len(calls), "loops": loops}
 
 

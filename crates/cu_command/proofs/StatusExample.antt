@@ -2,7 +2,7 @@
 use Rattle.std.proofs.Common.{◌≡◌, [], codes, pos, negsuc, refl}
 use Rattle.std.specs.Fmt.{digits}
 use Rattle.cu_command.specs.Status.{line_of}
-use Rattle.cu_command.specs.declared.status.Status.TheVariants.{Done, BadWords, BadExpr, OverMemory, OverLimit, Exists, TaskFailed, BadChunk, Unequal, NotBuilt, NoMemory}
+use Rattle.cu_command.specs.declared.status.Status.TheVariants.{Done, BadWords, BadExpr, OverMemory, OverLimit, Exists, TaskFailed, BadChunk, Unequal, NoMemory}
 
 done : line_of Done ≡ []
 done = refl
@@ -37,10 +37,6 @@ short_chunk = refl
 other_element : line_of (Unequal 3 (negsuc 0) (pos 12)) ≡ codes "error 17 place=3 stored=-1 plain=12"
 unfolding digits
 other_element = refl
-
-not_built : line_of (NotBuilt 0) ≡ codes "error 19 node=0"
-unfolding digits
-not_built = refl
 
 no_memory : line_of NoMemory ≡ codes "error 70"
 no_memory = refl

@@ -2,7 +2,7 @@
 use Rattle.std.specs.Prelude.{ℕ, List, [], ◌++◌, codes, decimal}
 use Rattle.std.specs.Fmt.{signed_decimal}
 use Rattle.cu_command.specs.declared.status.Status.{Status}
-use Rattle.cu_command.specs.declared.status.Status.TheVariants.{Done, BadWords, BadExpr, BadType, OverMemory, OverLimit, BadMeta, NoArray, Exists, TaskFailed, ReadFault, WriteFault, BadChunk, DepotFailed, Unequal, BadLoad, NotBuilt, NoMemory}
+use Rattle.cu_command.specs.declared.status.Status.TheVariants.{Done, BadWords, BadExpr, BadType, OverMemory, OverLimit, BadMeta, NoArray, Exists, TaskFailed, ReadFault, WriteFault, BadChunk, DepotFailed, Unequal, BadLoad, NoMemory}
 
 -- the answer's number, which is the exit status of the program
 abbrev pub number_of : Status → ℕ
@@ -22,7 +22,6 @@ number_of (BadChunk key got want) = 13
 number_of (DepotFailed key) = 16
 number_of (Unequal place stored plain) = 17
 number_of (BadLoad code) = 18
-number_of (NotBuilt node) = 19
 number_of NoMemory = 70
 
 -- the line, with no line feed; Done has none
@@ -43,5 +42,4 @@ line_of (BadChunk key got want) = codes "error 13 key=" ++ key ++ codes " got=" 
 line_of (DepotFailed key) = codes "error 16 key=" ++ key
 line_of (Unequal place stored plain) = codes "error 17 place=" ++ decimal place ++ codes " stored=" ++ signed_decimal stored ++ codes " plain=" ++ signed_decimal plain
 line_of (BadLoad code) = codes "error 18 code=" ++ decimal code
-line_of (NotBuilt node) = codes "error 19 node=" ++ decimal node
 line_of NoMemory = codes "error 70"

@@ -79,10 +79,6 @@ pub enum Status {
     BadLoad {
         code: u8,
     },
-    /// 19: this node, or its array, is of a form that isn't built yet.
-    NotBuilt {
-        node: u32,
-    },
     /// 70: memory was wanted and not had.
     NoMemory,
 }
@@ -111,7 +107,6 @@ pub fn number(status: &Status) -> u8
         Status::DepotFailed { .. } => 16,
         Status::Unequal { .. } => 17,
         Status::BadLoad { .. } => 18,
-        Status::NotBuilt { .. } => 19,
         Status::NoMemory => 70,
     }
 }
@@ -173,7 +168,6 @@ pub fn status_line(status: &Status) -> LineText
             push_element(&mut line, " plain=", *plain);
         }
         Status::BadLoad { code } => push_field(&mut line, "error 18 code=", *code as u64),
-        Status::NotBuilt { node } => push_field(&mut line, "error 19 node=", *node as u64),
         Status::NoMemory => line.push_str("error 70"),
     }
     line

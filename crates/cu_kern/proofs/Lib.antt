@@ -9,3 +9,4 @@ pub mod Pieces
 pub mod DirectValues
 pub mod RowResults
 pub mod RowSteps
+pub mod FirstPlaces

@@ -163,7 +163,12 @@ fn run_two(
     let Some(y) = source_of(second, t, inputs, &second_literal) else {
         return false;
     };
-    pieces(Call::Two(f, t), x, y, y, inputs.dims, out);
+    // A region of one element, whose place needs no division: a function of two arguments reads no third.
+    let none = Source {
+        lay: &second_literal.lay,
+        ins: &second_literal.bytes,
+    };
+    pieces(Call::Two(f, t), x, y, none, inputs.dims, out);
     true
 }
 

@@ -6,7 +6,7 @@ ghost use Rattle.cu_num.specs.declared.layout.Endian.TheVariants.{Little};
 ghost use Rattle.cu_shape.specs.Index.{product, index_at};
 ghost use Rattle.cu_op.specs.declared.kernel.Instr.TheVariants.{Load, Const};
 ghost use Rattle.cu_op.specs.Kernel.{instruction_value};
-ghost use Rattle.cu_kern.specs.Lays.{LayFits, IsRun, IsSource, lay_element, loaded_at};
+ghost use Rattle.cu_kern.specs.Lays.{BroadcastsTo, LayFits, IsRun, IsSource, lay_element, loaded_at, place_read};
 ghost use Rattle.cu_kern.specs.Strips.{strip, strip_element, HasPlaces};
 
 use crate::lays::{Lay, Pace, place_in};
@@ -57,10 +57,28 @@ pub(crate) fn strip_from<'a>(
         → strip_element source.entry.lay.now.dtype (strip result.bytes.now result.step) k ≡ lay_element source.entry.lay.now source.entry.ins.now (index_at dims.now (place + k)) }
 {
     let own = size(source.lay.dtype) as usize;
-    let from = source.lay.at + place_in(&source.lay.dims, dims, place) as usize * own;
+    let from = source.lay.at + place_at(pace, &source.lay.dims, dims, place) as usize * own;
     Strip {
         bytes: &source.ins[from..],
         step: pace.step as usize,
+    }
+}
+
+/// The place of a region that a place of the result reads: in the first piece as the pace tells it, which saves the divisions.
+#[inline(always)]
+fn place_at(pace: Pace, shape: &Dims, dims: &Dims, place: u64) -> u64
+    requires broadcasts { BroadcastsTo shape.now dims.now }
+    requires pace { IsRun shape.now dims.now pace.run pace.step }
+    requires step { pace.step ≤ 1 }
+    requires within { place < product dims.now }
+    requires small { product dims.now < 2 ^ 63 }
+    ensures place { result ≡ place_read shape.now dims.now place }
+    ensures below { result < product shape.now }
+{
+    if place < pace.run {
+        pace.step * place
+    } else {
+        place_in(shape, dims, place)
     }
 }
 
@@ -70,6 +88,9 @@ pub(crate) fn left_in(pace: Pace, place: u64) -> u64
     requires { 0 < pace.run }
     ensures { result ≡ pace.run - place % pace.run }
 {
+    if place < pace.run {
+        return pace.run - place;
+    }
     pace.run - place % pace.run
 }
 

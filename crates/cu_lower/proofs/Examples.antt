@@ -187,7 +187,6 @@ lowerable = record {
   types = refl;
   kept = tens 5;
   fills = All-cons (λ (i : InputInfo). IsLayout i.layout) (stored (codes "a") Int32) (stored (codes "b") Int32 ∷ []) zero_fits (All-cons (λ (i : InputInfo). IsLayout i.layout) (stored (codes "b") Int32) [] zero_fits (All-nil (λ (i : InputInfo). IsLayout i.layout)));
-  built = refl;
   memory = refl;
   counts = refl;
   allowed = omega arith;

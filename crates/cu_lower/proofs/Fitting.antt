@@ -1,5 +1,5 @@
--- The step of an elementwise node and that of a view fit any arrays that have the nodes' types and grids, and its projection is the
--- node's need.
+-- The steps of an elementwise node and that of a view fit any arrays that have the nodes' types and grids, and the projection of the last
+-- is the node's own need.
 use Rattle.std.proofs.Common.{◌≡◌, ℕ, suc, ◌+◌, ◌*◌, true, max, List, [], ◌∷◌, ◌++◌, All, length, map, slice_index, get_or, sum_by, refl, ap, sym, ◌∙◌, subst, inl, arith}
 use Rattle.std.proofs.lemmas.List.{length-append, length-map, get_or_default}
 use Rattle.std.proofs.lemmas.List.Elements.{All-nil, All-cons}
@@ -30,10 +30,10 @@ use Rattle.cu_expr.specs.Kernel.{loads_from, kernel_of, types_of, function_of}
 use Rattle.cu_typing.specs.declared.argument.Argument.{Argument}
 use Rattle.cu_typing.specs.declared.argument.Argument.TheVariants.{Array, Written}
 use Rattle.cu_expr.specs.Typing.{argument_of}
-use Rattle.cu_need.specs.Chunks.{arrays_in, chunk_bytes, is_aligned, greatest}
-use Rattle.cu_need.specs.Elementwise.{are_aligned}
-use Rattle.cu_need.proofs.AlignedNeed.{aligned_exactly, aligned_need}
-use Rattle.cu_need.specs.Need.{need_of}
+use Rattle.cu_copy.specs.Copies.{rechunked}
+use Rattle.cu_need.specs.Chunks.{aligned_bytes, arrays_in, chunk_bytes, greatest}
+use Rattle.cu_need.specs.Need.{own_need}
+use Rattle.cu_need.specs.Operands.{in_aligned, operands_of}
 use Rattle.cu_num.specs.Dtype.{InRange}
 use Rattle.cu_shape.specs.Index.{IsInside}
 use Rattle.cu_pull.specs.Fits.{FitsPull}
@@ -46,11 +46,15 @@ use Rattle.cu_lower_view.specs.Sources.{source_shapes}
 use Rattle.cu_lower_view.specs.Typed.{IsTypedView, IsPull, SuitsType}
 use Rattle.cu_lower.proofs.FormKinds.{view_steps, view_needs, sources_in}
 use Rattle.std.proofs.lemmas.List.Elements.{All-head, All-tail}
-use Rattle.cu_lower_reduce.specs.Steps.{HasInfo, IsGiven, AreSteps}
+use Rattle.cu_lower_reduce.specs.Copies.{aligned_places, aligned_steps, IsCopySetting}
+use Rattle.cu_lower_reduce.specs.Steps.{all_made, HasInfo, HaveEach, HaveInfos, IsGiven, AreSteps}
+use Rattle.cu_lower_reduce.specs.declared.step.Step.{Step}
 use Rattle.cu_tree.specs.Partials.{chunks_of}
 use Rattle.cu_lower.specs.declared.options.Options.{Options}
-use Rattle.cu_lower.specs.Parts.{array_places, code_of, type_or_bool, map_of, pull_in, view_op, steps_of}
-use Rattle.cu_lower.proofs.Arguments.{Each, each_so, each_both, each_array, each_tested, all_places, mapped_places, arrays_told}
+use Rattle.cu_lower.specs.Parts.{array_places, code_of, copying, type_or_bool, map_of, only_step, pull_in, view_op, steps_of, CanCopy}
+use Rattle.cu_lower.proofs.Arguments.{Each, each_so, mapped_places, arrays_told}
+use Rattle.cu_lower.proofs.Behind.{behind_hold, own_known, read_known}
+use Rattle.cu_lower.proofs.StepLaws.{HaveLaws}
 
 -- ---- sums and greatest numbers
 
@@ -94,115 +98,149 @@ all_so : {A : Type 0} (P Q : A → Type 0) (xs : List A) → ((x : A) → P x �
 all_so P Q [] so h = All-nil Q
 all_so P Q (x ∷ xs) so h = All-cons Q x xs (so x (All-head P x xs h)) (all_so P Q xs so (All-tail P x xs h))
 
+-- ---- arrays in the chunks that are wanted
+
+abbrev wanted : NodeInfo → List NodeInfo → List NodeInfo
+wanted made is = map rechunked (map (in_aligned made) is)
+
+module _ (arrays : List ArrayInfo) where
+  room_of_known : (a : ℕ) (i : NodeInfo) → HasInfo arrays a i → chunk_room arrays a ≡ chunk_bytes i
+  room_of_known a i h = ap (λ (g : RegularGrid). product g.chunk * size_of (type_at arrays a)) h.grid ∙ ap (λ d. product i.chunk * size_of d) h.dtype
+
+  -- the greatest chunk of the arrays that are read and of the one that is made
+  greatest_of : (made : NodeInfo) (out : ℕ) (read rooms : List ℕ) → HasInfo arrays out made → map (chunk_room arrays) read ≡ rooms
+      → room.greatest (map (chunk_room arrays) (read ++ out ∷ [])) ≡ greatest (chunk_bytes made ∷ rooms)
+  greatest_of made out read rooms own same =
+      ap room.greatest (map_push (chunk_room arrays) read out)
+      ∙ greatest_push (map (chunk_room arrays) read) (chunk_room arrays out)
+      ∙ ap (λ r. max r (room.greatest (map (chunk_room arrays) read))) (room_of_known out made own)
+      ∙ ap (max (chunk_bytes made)) (ap room.greatest same ∙ sym (same_greatest rooms))
+
+  wanted_rooms : (made : NodeInfo) (read : List ℕ) (is : List NodeInfo) → HaveEach arrays read (wanted made is) → map (chunk_room arrays) read ≡ map (aligned_bytes made) is
+  wanted_rooms made [] [] h = refl
+  wanted_rooms made [] (i ∷ is) h = absurd h
+  wanted_rooms made (a ∷ read) [] h = absurd h
+  wanted_rooms made (a ∷ read) (i ∷ is) h = λ j. room_of_known a (rechunked (in_aligned made i)) h.0 j ∷ wanted_rooms made read is h.1 j
+
+  wanted_types : (made : NodeInfo) (read : List ℕ) (is : List NodeInfo) → HaveEach arrays read (wanted made is) → map (type_at arrays) read ≡ types_of is
+  wanted_types made [] [] h = refl
+  wanted_types made [] (i ∷ is) h = absurd h
+  wanted_types made (a ∷ read) [] h = absurd h
+  wanted_types made (a ∷ read) (i ∷ is) h = λ j. h.0.dtype j ∷ wanted_types made read is h.1 j
+
+  pub wanted_aligned : (made : NodeInfo) (out : ℕ) (read : List ℕ) (is : List NodeInfo) → HasInfo arrays out made → HaveEach arrays read (wanted made is) → All (λ i. IsAligned (aligned_grid made i) (result_grid made)) is
+      → All (λ a. IsAligned (grid_at arrays a) (grid_at arrays out)) read
+  wanted_aligned made out [] [] own h all = All-nil (λ a. IsAligned (grid_at arrays a) (grid_at arrays out))
+  wanted_aligned made out [] (i ∷ is) own h all = absurd h
+  wanted_aligned made out (a ∷ read) [] own h all = absurd h
+  wanted_aligned made out (a ∷ read) (i ∷ is) own h all =
+      All-cons (λ b. IsAligned (grid_at arrays b) (grid_at arrays out)) a read
+      (subst (λ (g : RegularGrid). IsAligned (grid_at arrays a) g) (sym own.grid) (subst (λ (g : RegularGrid). IsAligned g (result_grid made)) (sym h.0.grid) (All-head (λ x. IsAligned (aligned_grid made x) (result_grid made)) i is all)))
+      (wanted_aligned made out read is own h.1 (All-tail (λ x. IsAligned (aligned_grid made x) (result_grid made)) i is all))
+
 module _ (infos : List NodeInfo) (options : Options) (arrays : List ArrayInfo) (places : List ℕ) (k first : ℕ) where
   -- the array of a node has the node's type and grid
   abbrev pub IsKnown : ℕ → Type 0
   IsKnown n = HasInfo arrays (slice_index places n) (info_at infos n)
 
-  -- so have the arrays of its arguments, and its own
+  -- so have the arrays of its arguments, and those that its steps make
   pub record StandsAlone (f : Form) : Type 0 where
     pub known : Each IsKnown (args_of f)
-    pub own : HasInfo arrays first (info_at infos k)
+    pub made : HaveInfos arrays first (all_made (steps_of infos options k f (array_places places (args_of f)) first))
 
   -- what it reads is given
-  pub given_all : (ins : List ℕ) → All (IsGiven ins first first) ins
-  given_all ins i d below = inl (i, below, get_or_default ins i (get_or ins i d) d below)
+  given_all : (ins : List ℕ) (a b : ℕ) → All (IsGiven ins a b) ins
+  given_all ins a b i d below = inl (i, below, get_or_default ins i (get_or ins i d) d below)
 
   -- a task makes each chunk of its array
-  pub task_count : HasInfo arrays first (info_at infos k) → product (grid_counts (grid_at arrays first)) ≡ chunks_of (info_at infos k)
-  task_count own = ap (λ g. product (grid_counts g)) own.grid
-
-  -- ---- rooms
-
-  room_of_known : (a : ℕ) (i : NodeInfo) → HasInfo arrays a i → chunk_room arrays a ≡ chunk_bytes i
-  room_of_known a i h = ap (λ (g : RegularGrid). product g.chunk * size_of (type_at arrays a)) h.grid ∙ ap (λ d. product i.chunk * size_of d) h.dtype
-
-  pub rooms : (args : List Arg) → Each IsKnown args → map (chunk_room arrays) (array_places places args) ≡ map chunk_bytes (arrays_in infos args)
-  rooms args known =
-      mapped_places places infos (chunk_room arrays) chunk_bytes args
-      (each_so IsKnown (λ n. chunk_room arrays (slice_index places n) ≡ chunk_bytes (info_at infos n)) (λ n h. room_of_known (slice_index places n) (info_at infos n) h) args known)
-
-  pub result_room : HasInfo arrays first (info_at infos k) → chunk_room arrays first ≡ chunk_bytes (info_at infos k)
-  result_room own = room_of_known first (info_at infos k) own
-
-  -- the greatest chunk of the arrays that are read and of the result
-  pub greatest_room : (f : Form) → StandsAlone f
-      → room.greatest (map (chunk_room arrays) (array_places places (args_of f) ++ first ∷ [])) ≡ greatest (chunk_bytes (info_at infos k) ∷ map chunk_bytes (arrays_in infos (args_of f)))
-  greatest_room f s =
-      let ins = array_places places (args_of f) in
-      let is = arrays_in infos (args_of f) in
-      ap room.greatest (map_push (chunk_room arrays) ins first)
-      ∙ greatest_push (map (chunk_room arrays) ins) (chunk_room arrays first)
-      ∙ ap (λ r. max r (room.greatest (map (chunk_room arrays) ins))) (result_room s.own)
-      ∙ ap (max (chunk_bytes (info_at infos k))) (ap room.greatest (rooms (args_of f) s.known) ∙ sym (same_greatest (map chunk_bytes is)))
-
-  -- ---- types
-
-  pub read_types : (args : List Arg) → Each IsKnown args → map (type_at arrays) (array_places places args) ≡ map (λ (i : NodeInfo). i.dtype) (arrays_in infos args)
-  read_types args known =
-      mapped_places places infos (type_at arrays) (λ (i : NodeInfo). i.dtype) args
-      (each_so IsKnown (λ n. type_at arrays (slice_index places n) ≡ (info_at infos n).dtype) (λ n p. p.dtype) args known)
+  task_count : (out : ℕ) → HasInfo arrays out (info_at infos k) → product (grid_counts (grid_at arrays out)) ≡ chunks_of (info_at infos k)
+  task_count out own = ap (λ g. product (grid_counts g)) own.grid
 
   -- ---- an elementwise function
 
-  module _ (op : ElementOp) (args : List Arg) (t : Dtype) (typed : IsElementwise op (map (argument_of infos) args) t (info_at infos k)) (test : are_aligned (info_at infos k) (arrays_in infos args) ≡ true)
-      (s : StandsAlone (Form.Elementwise op args)) where
-    aligned_one : (n : ℕ) → IsKnown n → IsAligned (aligned_grid (info_at infos k) (info_at infos n)) (result_grid (info_at infos k)) × (is_aligned (info_at infos k) (info_at infos n) ≡ true)
-        → IsAligned (grid_at arrays (slice_index places n)) (grid_at arrays first)
-    aligned_one n p a =
-        let r = info_at infos k in
-        let i = info_at infos n in
-        let G : List ℕ → RegularGrid = λ c. record { shape = i.dims; chunk = c } in
-        let own : IsAligned (result_grid i) (result_grid r) = subst (λ (c : List ℕ). IsAligned (G c) (result_grid r)) (sym ((aligned_exactly r i).0 a.1)) a.0 in
-        subst (λ (g : RegularGrid). IsAligned (grid_at arrays (slice_index places n)) g) (sym s.own.grid)
-        (subst (λ (g : RegularGrid). IsAligned g (result_grid r)) (sym p.grid) own)
+  pub sources_known : (made : NodeInfo) (args : List Arg) → Each IsKnown args → HaveEach arrays (array_places places args) (map (λ r. r.source) (map (in_aligned made) (arrays_in infos args)))
+  sources_known made [] h = tt
+  sources_known made (Arg.Node n ∷ args) h = (h.0, sources_known made args h.1)
+  sources_known made (Arg.Int x ∷ args) h = sources_known made args h
+  sources_known made (Arg.Truth b ∷ args) h = sources_known made args h
 
-    pub aligned : Each (λ n. IsAligned (grid_at arrays (slice_index places n)) (grid_at arrays first)) args
+  module _ (op : ElementOp) (args : List Arg) (t : Dtype) (typed : IsElementwise op (map (argument_of infos) args) t (info_at infos k)) (laws : HaveLaws)
+      (s : StandsAlone (Form.Elementwise op args)) where
+    abbrev form : Form
+    form = Form.Elementwise op args
+
+    abbrev pub reads : List ℕ
+    reads = aligned_places (copying options first) (array_places places args) (operands_of infos k form)
+
+    abbrev pub out : ℕ
+    out = first + length (all_made (aligned_steps (copying options first) (array_places places args) (operands_of infos k form)))
+
+    abbrev pub own_step : List ℕ → ℕ → List Step
+    own_step read next = only_step infos k (map_of infos op args read next) (own_need options.reserved options.split_every infos k (Form.Elementwise op args))
+
+    pub reads_known : HaveEach arrays reads (wanted (info_at infos k) (arrays_in infos args))
+    reads_known = read_known laws.operands (copying options first) (array_places places args) (operands_of infos k form) own_step arrays (sources_known (info_at infos k) args s.known) s.made
+
+    pub out_known : HasInfo arrays out (info_at infos k)
+    out_known = (own_known laws.operands (copying options first) (array_places places args) (operands_of infos k form) own_step arrays (sources_known (info_at infos k) args s.known) s.made).0
+
+    pub aligned : All (λ a. IsAligned (grid_at arrays a) (grid_at arrays out)) reads
     aligned =
-        let r = info_at infos k in
-        let A : NodeInfo → Type 0 = λ i. IsAligned (aligned_grid r i) (result_grid r) in
-        let all : All A (arrays_in infos args) = subst (λ (is : List NodeInfo). All A is) (arrays_told infos args) (elementwise_map op (map (argument_of infos) args) t (info_at infos k) typed).aligned in
-        let both = each_both (λ n. A (info_at infos n)) (λ n. is_aligned r (info_at infos n) ≡ true) (λ n. A (info_at infos n) × (is_aligned r (info_at infos n) ≡ true)) (λ n p q. (p, q)) args
-        (each_array infos A args all) (each_tested infos (is_aligned r) args test) in
-        each_both IsKnown (λ n. A (info_at infos n) × (is_aligned r (info_at infos n) ≡ true)) (λ n. IsAligned (grid_at arrays (slice_index places n)) (grid_at arrays first))
-        aligned_one args s.known both
+        let A : NodeInfo → Type 0 = λ i. IsAligned (aligned_grid (info_at infos k) i) (result_grid (info_at infos k)) in
+        wanted_aligned arrays (info_at infos k) out reads (arrays_in infos args) out_known reads_known
+        (subst (λ (is : List NodeInfo). All A is) (arrays_told infos args) (elementwise_map op (map (argument_of infos) args) t (info_at infos k) typed).aligned)
 
     -- the code of the node is the kernel of its function
     pub code_is : code_of op (map (argument_of infos) args) ≡ kernel_of op t (map (argument_of infos) args)
     code_is = ap (λ r. kernel_of op (type_or_bool r) (map (argument_of infos) args)) typed.shared
 
-    pub fits : MapFits arrays (code_of op (map (argument_of infos) args)) (array_places places args) first
+    fits : MapFits arrays (code_of op (map (argument_of infos) args)) reads out
     fits =
-        let types : map (type_at arrays) (array_places places args) ≡ types_of (arrays_of (map (argument_of infos) args)) = read_types args s.known ∙ ap types_of (sym (arrays_told infos args)) in
+        let types : map (type_at arrays) reads ≡ types_of (arrays_of (map (argument_of infos) args)) = wanted_types arrays (info_at infos k) reads (arrays_in infos args) reads_known ∙ ap types_of (sym (arrays_told infos args)) in
         record {
-          inputs = all_places places (λ a. IsAligned (grid_at arrays a) (grid_at arrays first)) args aligned;
+          inputs = aligned;
           kernel =
-              subst (λ (c : List Instr). KernelFits c (map (type_at arrays) (array_places places args)) [] (type_at arrays first)) (sym code_is)
-              (subst (λ (d : Dtype). KernelFits (kernel_of op t (map (argument_of infos) args)) (map (type_at arrays) (array_places places args)) [] d) (sym s.own.dtype)
+              subst (λ (c : List Instr). KernelFits c (map (type_at arrays) reads) [] (type_at arrays out)) (sym code_is)
+              (subst (λ (d : Dtype). KernelFits (kernel_of op t (map (argument_of infos) args)) (map (type_at arrays) reads) [] d) (sym out_known.dtype)
               (subst (λ (ts : List Dtype). KernelFits (kernel_of op t (map (argument_of infos) args)) ts [] (info_at infos k).dtype) (sym types) (elementwise_map op (map (argument_of infos) args) t (info_at infos k) typed).kernel));
         }
 
-    pub projected : need_of options.reserved options.split_every infos k (Form.Elementwise op args) ≡ projection arrays options.reserved (map_of infos op args (array_places places args) first)
+    projected : own_need options.reserved options.split_every infos k (Form.Elementwise op args) ≡ projection arrays options.reserved (map_of infos op args reads out)
     projected =
         let r = info_at infos k in
         let is = arrays_in infos args in
-        let ins = array_places places args in
-        let need = aligned_need options.reserved infos r args test in
-        let out = result_room s.own in
-        let scratch = greatest_room (Form.Elementwise op args) s in
-        let sums : sum_by (chunk_room arrays) ins ≡ sum_by chunk_bytes is = sum_mapped (chunk_room arrays) ins ∙ ap (sum_by (λ n. n)) (rooms args s.known) ∙ sym (sum_mapped chunk_bytes is) in
+        let rooms = wanted_rooms arrays r reads is reads_known in
+        let result = room_of_known arrays out r out_known in
+        let scratch = greatest_of arrays r out reads (map (aligned_bytes r) is) out_known rooms in
+        let sums : sum_by (chunk_room arrays) reads ≡ sum_by (aligned_bytes r) is = sum_mapped (chunk_room arrays) reads ∙ ap (sum_by (λ n. n)) rooms ∙ sym (sum_mapped (aligned_bytes r) is) in
         let steps : length (code_of op (map (argument_of infos) args)) ≡ length args + 1 =
         ap length code_is ∙ kernel_long op t (map (argument_of infos) args) ∙ ap (λ n. n + 1) (length-map args (argument_of infos)) in
-        need ∙ (let whole : options.reserved + greatest (map chunk_bytes (r ∷ is)) + sum_by chunk_bytes is + chunk_bytes r + 512 * (length args + 1) ≡ projection arrays options.reserved (map_of infos op args ins first) = omega (arith, out, scratch, sums, steps) in whole)
+        omega (arith, result, scratch, sums, steps)
 
-    pub map_steps : AreSteps arrays options.reserved (array_places places args) first first (steps_of infos options k (Form.Elementwise op args) (array_places places args) first)
-    map_steps = (record { writes = refl; reads = given_all (array_places places args); fits = fits; need = projected; tasks = task_count s.own }, tt)
+    pub map_steps : IsCopySetting (copying options first) → CanCopy infos options k (Form.Elementwise op args) first
+        → AreSteps arrays options.reserved (array_places places args) first first (steps_of infos options k (Form.Elementwise op args) (array_places places args) first)
+    map_steps room can =
+        behind_hold laws.operands (copying options first) (array_places places args) (operands_of infos k form) own_step arrays (sources_known (info_at infos k) args s.known) s.made room can.few can.operands
+        (record { writes = refl; reads = given_all reads out out; fits = fits; need = projected; tasks = task_count out out_known }, tt)
 
   -- ---- a view
+
+  rooms : (args : List Arg) → Each IsKnown args → map (chunk_room arrays) (array_places places args) ≡ map chunk_bytes (arrays_in infos args)
+  rooms args known =
+      mapped_places places infos (chunk_room arrays) chunk_bytes args
+      (each_so IsKnown (λ n. chunk_room arrays (slice_index places n) ≡ chunk_bytes (info_at infos n)) (λ n h. room_of_known arrays (slice_index places n) (info_at infos n) h) args known)
+
+  read_types : (args : List Arg) → Each IsKnown args → map (type_at arrays) (array_places places args) ≡ map (λ (i : NodeInfo). i.dtype) (arrays_in infos args)
+  read_types args known =
+      mapped_places places infos (type_at arrays) (λ (i : NodeInfo). i.dtype) args
+      (each_so IsKnown (λ n. type_at arrays (slice_index places n) ≡ (info_at infos n).dtype) (λ n p. p.dtype) args known)
 
   module _ (f : Form) (viewed : is_view f ≡ true) (own : IsPull infos f (info_at infos k) (pull_in infos f)) (s : StandsAlone f) where
     abbrev ins : List ℕ
     ins = array_places places (args_of f)
+
+    pub view_own : HasInfo arrays first (info_at infos k)
+    view_own = (subst (λ (ss : List Step). HaveInfos arrays first (all_made ss)) (view_steps infos options k f ins first viewed) s.made).0
 
     -- the shapes of the arrays that it reads are those of the nodes
     pub read_shapes : shapes_at arrays ins ≡ source_shapes infos f
@@ -212,14 +250,14 @@ module _ (infos : List NodeInfo) (options : Options) (arrays : List ArrayInfo) (
         ∙ ap (map (λ (i : NodeInfo). i.dims)) (sources_in infos (args_of f))
 
     pub result_shape : (grid_at arrays first).shape ≡ (info_at infos k).dims
-    result_shape = ap (λ (g : RegularGrid). g.shape) s.own.grid
+    result_shape = ap (λ (g : RegularGrid). g.shape) view_own.grid
 
     view_fits : PullFits arrays (pull_in infos f) ins first
     view_fits =
         let p = pull_in infos f in
         let shapes = sym read_shapes in
         let shape = sym result_shape in
-        let dtype = sym s.own.dtype in
+        let dtype = sym view_own.dtype in
         let types = read_types (args_of f) s.known ∙ ap (map (λ (i : NodeInfo). i.dtype)) (sources_in infos (args_of f)) in
         let suits = subst (λ (ts : List Dtype). All (SuitsType p (info_at infos k).dtype) ts) (sym types) own.types in
         record {
@@ -234,12 +272,12 @@ module _ (infos : List NodeInfo) (options : Options) (arrays : List ArrayInfo) (
               subst (λ (t : Dtype). InRange t x) dtype (own.numbers idx x into origin);
         }
 
-    view_projected : need_of options.reserved options.split_every infos k f ≡ projection arrays options.reserved (view_op infos f ins first)
+    view_projected : own_need options.reserved options.split_every infos k f ≡ projection arrays options.reserved (view_op infos f ins first)
     view_projected =
-        let out = result_room s.own in
-        let scratch = greatest_room f s in
+        let result = room_of_known arrays first (info_at infos k) view_own in
+        let scratch = greatest_of arrays (info_at infos k) first ins (map chunk_bytes (arrays_in infos (args_of f))) view_own (rooms (args_of f) s.known) in
         view_needs options.reserved options.split_every infos k f viewed
-        ∙ (let whole : view_need options.reserved (info_at infos k) (arrays_in infos (args_of f)) ≡ projection arrays options.reserved (view_op infos f ins first) = omega (arith, out, scratch) in whole)
+        ∙ (let whole : view_need options.reserved (info_at infos k) (arrays_in infos (args_of f)) ≡ projection arrays options.reserved (view_op infos f ins first) = omega (arith, result, scratch) in whole)
 
     pub pull_steps : AreSteps arrays options.reserved ins first first (steps_of infos options k f ins first)
-    pull_steps = subst (AreSteps arrays options.reserved ins first first) (sym (view_steps infos options k f ins first viewed)) (record { writes = refl; reads = given_all ins; fits = view_fits; need = view_projected; tasks = task_count s.own }, tt)
+    pull_steps = subst (AreSteps arrays options.reserved ins first first) (sym (view_steps infos options k f ins first viewed)) (record { writes = refl; reads = given_all ins first first; fits = view_fits; need = view_projected; tasks = task_count first view_own }, tt)

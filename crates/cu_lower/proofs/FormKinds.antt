@@ -1,6 +1,8 @@
 -- The kinds of forms, and the steps of a node by its form.
-use Rattle.std.proofs.Common.{◌≡◌, ◌⊎◌, ℕ, ◌<◌, ◌^◌, ℤ, Option, Bool, true, false, List, [], ◌∷◌, length, map, refl, ap, inl, inr, if◌then◌else◌}
+use Rattle.std.proofs.Common.{◌≡◌, ◌⊎◌, ℕ, ◌==◌, ℤ, Option, Bool, true, false, List, [], ◌∷◌, length, map, refl, ap, ◌∙◌, inl, inr, if◌then◌else◌}
+use Rattle.std.specs.Prelude.{not}
 use Rattle.std.specs.List.{list_all}
+use Rattle.std.proofs.lemmas.Bool.{cases_Bool}
 use Rattle.cu_form.specs.Expression.{Expression}
 use Rattle.cu_form.specs.Form.{args_of, is_array, takes_args}
 use Rattle.cu_form.specs.declared.args.Arg.{Arg}
@@ -12,45 +14,50 @@ use Rattle.cu_node.specs.declared.element_op.ElementOp.{ElementOp}
 use Rattle.cu_node.specs.declared.info.NodeInfo.{NodeInfo}
 use Rattle.cu_typing.specs.Joined.{arrays_of}
 use Rattle.cu_expr.specs.Typing.{argument_of, typed_form}
-use Rattle.cu_need.specs.Chunks.{arrays_in, chunk_count}
-use Rattle.cu_need.specs.Counts.{tasks_of, cells_of}
-use Rattle.cu_need.specs.Need.{is_built, need_of}
+use Rattle.cu_need.specs.Chunks.{arrays_in}
+use Rattle.cu_need.specs.Need.{own_need}
 use Rattle.cu_need.specs.View.{is_view, view_need}
-use Rattle.cu_lower_view.specs.Sources.{sources_of}
+use Rattle.cu_lower_view.specs.Sources.{sources_of as view_sources_of}
 use Rattle.cu_lower_view.specs.Typed.{typed_as_view}
 use Rattle.cu_lower.proofs.ViewRules.{all_arrays}
-use Rattle.cu_lower.specs.Parts.{Grown, HasSteps, Make, array_places, view_op, only_step, steps_of, with_steps, with_last, with_node}
+use Rattle.cu_lower.specs.Inputs.{input_place}
+use Rattle.cu_lower.specs.Parts.{Grown, array_places, is_given, sources_of, view_op, only_step, steps_of, with_made, with_node, with_place}
 
--- ---- inputs and others
+-- ---- inputs that are given, and others
 
-abbrev pub is_input : Form → Bool
-is_input (Form.Input name) = true
-is_input form = false
+-- an input that isn't itself stored
+pub record IsGivenInput (e : Expression) (k : ℕ) (f : Form) : Type 0 where
+  pub name : List ℕ
+  pub is : f ≡ Form.Input name
+  pub other : (k == e.out) ≡ false
 
-pub input_kind : (f : Form) → ((name : List ℕ) × (f ≡ Form.Input name)) ⊎ (is_input f ≡ false)
-input_kind (Form.Input name) = inl (name, refl)
-input_kind f = inr refl
+pub given_kind : (e : Expression) (k : ℕ) (f : Form) → IsGivenInput e k f ⊎ (is_given e k f ≡ false)
+given_kind e k (Form.Input name) =
+    elim (cases_Bool (k == e.out)) [
+      | inl out ↦ inr (ap not out)
+      | inr other ↦ inl (record { name = name; is = refl; other = other })
+    ]
+given_kind e k f = inr refl
 
-pub not_input : (f : Form) → ((name : List ℕ) → f ≡ Form.Input name → ⊥) → is_input f ≡ false
-not_input (Form.Input name) h = absurd (h name refl)
-not_input f h = refl
+stored : (b : Bool) → not b ≡ false → b ≡ true
+stored true h = refl
+stored false h = cc
 
-pub node_made : (e : Expression) (infos : List NodeInfo) (options : Options) (g : Grown) (f : Form) → is_input f ≡ false
-    → with_node e infos options g f ≡ with_last (with_steps e g (steps_of infos options (length g.places) f (array_places g.places (args_of f)) (length g.arrays)))
-node_made e infos options g (Form.Input name) other = cc
-node_made e infos options g f other = refl
+-- an input that isn't given is stored
+pub input_stored : (e : Expression) (k : ℕ) (name : List ℕ) → is_given e k (Form.Input name) ≡ false → (k == e.out) ≡ true
+input_stored e k name h = stored (k == e.out) h
 
-pub steps_made : (infos : List NodeInfo) (options : Options) (k : ℕ) (f : Form) → HasSteps infos options k f → is_input f ≡ false
-    → (ins : List ℕ) (first : ℕ) → first < 2 ^ 31 → Make (info_at infos k) (steps_of infos options k f ins first)
-steps_made infos options k (Form.Input name) steps other = cc
-steps_made infos options k f steps other = steps
+pub node_made : (e : Expression) (infos : List NodeInfo) (options : Options) (g : Grown) (f : Form) → is_given e (length g.places) f ≡ false → with_node e infos options g f ≡ with_made e infos options g f
+node_made e infos options g (Form.Input name) made =
+    ap (λ (b : Bool). if b then with_made e infos options g (Form.Input name) else with_place g (input_place e name)) (input_stored e (length g.places) name made)
+node_made e infos options g f made = refl
 
-pub made_steps : (infos : List NodeInfo) (options : Options) (k : ℕ) (f : Form) → is_input f ≡ false → ((ins : List ℕ) (first : ℕ) → first < 2 ^ 31 → Make (info_at infos k) (steps_of infos options k f ins first))
-    → HasSteps infos options k f
-made_steps infos options k (Form.Input name) other make = tt
-made_steps infos options k f other make = make
+pub node_given : (e : Expression) (infos : List NodeInfo) (options : Options) (g : Grown) (f : Form) (k : ℕ) → length g.places ≡ k → (i : IsGivenInput e k f) → with_node e infos options g f ≡ with_place g (input_place e i.name)
+node_given e infos options g f k number i =
+    ap (with_node e infos options g) i.is
+    ∙ ap (λ (b : Bool). if b then with_made e infos options g (Form.Input i.name) else with_place g (input_place e i.name)) (ap (λ n. n == e.out) number ∙ i.other)
 
--- ---- what is built
+-- ---- the kinds of forms
 
 pub record IsFunction (f : Form) : Type 0 where
   pub op : ElementOp
@@ -75,47 +82,60 @@ pub record IsMatmul (f : Form) : Type 0 where
   pub args : List Arg
   pub is : f ≡ Form.Matmul args
 
--- a node that is built and isn't an input is an elementwise function, a reduction, a search for places, a product or a view
-pub built_kind : (infos : List NodeInfo) (out k : ℕ) (f : Form) → is_built infos out k f ≡ true → is_input f ≡ false → IsFunction f ⊎ (IsReduce f ⊎ (IsArgPlace f ⊎ (IsMatmul f ⊎ (is_view f ≡ true))))
-built_kind infos out k (Form.Input name) built other = cc
-built_kind infos out k (Form.Elementwise op args) built other = inl (record { op = op; args = args; is = refl })
-built_kind infos out k (Form.Reduce kind args axes keepdims) built other = inr (inl (record { kind = kind; args = args; axes = axes; keepdims = keepdims; is = refl }))
-built_kind infos out k (Form.ArgPlace least args axis keepdims) built other = inr (inr (inl (record { least = least; args = args; axis = axis; keepdims = keepdims; is = refl })))
-built_kind infos out k (Form.Matmul args) built other = inr (inr (inr (inl (record { args = args; is = refl }))))
-built_kind infos out k f built other = inr (inr (inr (inr built)))
+pub record IsRechunked (f : Form) : Type 0 where
+  pub args : List Arg
+  pub chunk : List ℕ
+  pub is : f ≡ Form.Rechunk args chunk
 
--- the steps, tasks and cells of a view
+pub record IsInput (f : Form) : Type 0 where
+  pub name : List ℕ
+  pub is : f ≡ Form.Input name
+
+-- a node is an elementwise function, a reduction, a search for places, a product, a rechunk, an input or a view
+pub form_kind : (f : Form) → IsFunction f ⊎ (IsReduce f ⊎ (IsArgPlace f ⊎ (IsMatmul f ⊎ (IsRechunked f ⊎ (IsInput f ⊎ (is_view f ≡ true))))))
+form_kind (Form.Elementwise op args) = inl (record { op = op; args = args; is = refl })
+form_kind (Form.Reduce kind args axes keepdims) = inr (inl (record { kind = kind; args = args; axes = axes; keepdims = keepdims; is = refl }))
+form_kind (Form.ArgPlace least args axis keepdims) = inr (inr (inl (record { least = least; args = args; axis = axis; keepdims = keepdims; is = refl })))
+form_kind (Form.Matmul args) = inr (inr (inr (inl (record { args = args; is = refl }))))
+form_kind (Form.Rechunk args chunk) = inr (inr (inr (inr (inl (record { args = args; chunk = chunk; is = refl })))))
+form_kind (Form.Input name) = inr (inr (inr (inr (inr (inl (record { name = name; is = refl }))))))
+form_kind f = inr (inr (inr (inr (inr (inr refl)))))
+
+-- ---- a view
+
+-- what is none of the others is a view
+pub other_view : (f : Form) → ((name : List ℕ) → f ≡ Form.Input name → ⊥) → ((op : ElementOp) (args : List Arg) → f ≡ Form.Elementwise op args → ⊥) → ((args : List Arg) (chunk : List ℕ) → f ≡ Form.Rechunk args chunk → ⊥)
+    → ((kind : FoldKind) (args : List Arg) (axes : Option (List ℤ)) (keepdims : Bool) → f ≡ Form.Reduce kind args axes keepdims → ⊥)
+    → ((least : Bool) (args : List Arg) (axis : Option ℤ) (keepdims : Bool) → f ≡ Form.ArgPlace least args axis keepdims → ⊥) → ((args : List Arg) → f ≡ Form.Matmul args → ⊥) → is_view f ≡ true
+other_view (Form.Input name) a b c d e g = absurd (a name refl)
+other_view (Form.Elementwise op args) a b c d e g = absurd (b op args refl)
+other_view (Form.Rechunk args chunk) a b c d e g = absurd (c args chunk refl)
+other_view (Form.Reduce kind args axes keepdims) a b c d e g = absurd (d kind args axes keepdims refl)
+other_view (Form.ArgPlace least args axis keepdims) a b c d e g = absurd (e least args axis keepdims refl)
+other_view (Form.Matmul args) a b c d e g = absurd (g args refl)
+other_view f a b c d e g = refl
+
 pub view_steps : (infos : List NodeInfo) (options : Options) (k : ℕ) (f : Form) (ins : List ℕ) (first : ℕ) → is_view f ≡ true
-    → steps_of infos options k f ins first ≡ only_step infos k (view_op infos f ins first) (need_of options.reserved options.split_every infos k f)
+    → steps_of infos options k f ins first ≡ only_step infos k (view_op infos f ins first) (own_need options.reserved options.split_every infos k f)
 view_steps infos options k (Form.Elementwise op args) ins first view = cc
 view_steps infos options k (Form.Reduce kind args axes keepdims) ins first view = cc
 view_steps infos options k (Form.ArgPlace least args axis keepdims) ins first view = cc
 view_steps infos options k (Form.Matmul args) ins first view = cc
-view_steps infos options k f ins first view = ap (λ (b : Bool). if b then only_step infos k (view_op infos f ins first) (need_of options.reserved options.split_every infos k f) else []) view
+view_steps infos options k (Form.Rechunk args chunk) ins first view = cc
+view_steps infos options k (Form.Input name) ins first view = cc
+view_steps infos options k f ins first view = refl
 
-pub view_tasks : (split_every : ℕ) (infos : List NodeInfo) (k : ℕ) (f : Form) → is_view f ≡ true → tasks_of split_every infos k f ≡ chunk_count (info_at infos k)
-view_tasks split_every infos k (Form.Elementwise op args) view = cc
-view_tasks split_every infos k (Form.Reduce kind args axes keepdims) view = cc
-view_tasks split_every infos k (Form.ArgPlace least args axis keepdims) view = cc
-view_tasks split_every infos k (Form.Matmul args) view = cc
-view_tasks split_every infos k f view = ap (λ (b : Bool). if b then chunk_count (info_at infos k) else 0) view
-
-pub view_cells : (split_every : ℕ) (infos : List NodeInfo) (k : ℕ) (f : Form) → is_view f ≡ true → cells_of split_every infos k f ≡ chunk_count (info_at infos k)
-view_cells split_every infos k (Form.ArgPlace least args axis keepdims) view = cc
-view_cells split_every infos k f view = view_tasks split_every infos k f view
-
-pub view_other : (f : Form) → is_view f ≡ true → is_input f ≡ false
-view_other (Form.Input name) view = cc
-view_other f view = refl
-
--- ---- a view
-
-pub view_needs : (reserved split_every : ℕ) (infos : List NodeInfo) (k : ℕ) (f : Form) → is_view f ≡ true → need_of reserved split_every infos k f ≡ view_need reserved (info_at infos k) (arrays_in infos (args_of f))
+pub view_needs : (reserved split_every : ℕ) (infos : List NodeInfo) (k : ℕ) (f : Form) → is_view f ≡ true → own_need reserved split_every infos k f ≡ view_need reserved (info_at infos k) (arrays_in infos (args_of f))
 view_needs reserved split_every infos k (Form.Elementwise op args) view = cc
 view_needs reserved split_every infos k (Form.Reduce kind args axes keepdims) view = cc
 view_needs reserved split_every infos k (Form.ArgPlace least args axis keepdims) view = cc
 view_needs reserved split_every infos k (Form.Matmul args) view = cc
 view_needs reserved split_every infos k f view = ap (λ (b : Bool). if b then view_need reserved (info_at infos k) (arrays_in infos (args_of f)) else reserved) view
+
+-- its sources are its arguments' arrays
+pub view_sources : (e : Expression) (places : List ℕ) (f : Form) → is_view f ≡ true → sources_of e places f ≡ array_places places (args_of f)
+view_sources e places (Form.Input name) view = cc
+view_sources e places f view = refl
 
 -- it is typed as a view over the arrays that it reads
 pub view_typed : (stored : NodeInfo) (f : Form) (infos : List NodeInfo) → is_view f ≡ true → typed_form stored f (map (argument_of infos) (args_of f)) ≡ typed_as_view f (arrays_of (map (argument_of infos) (args_of f)))
@@ -139,7 +159,7 @@ view_arrays (Form.Stack args axis) view takes = all_arrays 1 8 args takes
 view_arrays (Form.Matmul args) view takes = cc
 view_arrays f view takes = all_arrays 1 1 (args_of f) takes
 
-pub sources_in : (infos : List NodeInfo) (args : List Arg) → arrays_in infos args ≡ sources_of infos args
+pub sources_in : (infos : List NodeInfo) (args : List Arg) → arrays_in infos args ≡ view_sources_of infos args
 sources_in infos [] = refl
 sources_in infos (Arg.Node n ∷ args) = ap (λ is. info_at infos n ∷ is) (sources_in infos args)
 sources_in infos (Arg.Int x ∷ args) = sources_in infos args

@@ -1,5 +1,5 @@
 -- A plan that grows step by step and node by node: where each step and each node's part stand in the end.
-use Rattle.std.proofs.Common.{◌≡◌, ℕ, zero, suc, ◌<◌, ◌≤◌, ◌+◌, ◌-◌, ◌^◌, ◌==◌, ◌&&◌, Bool, true, false, List, [], ◌∷◌, ◌++◌, All, Option, Some, None, length, refl, ap, sym, ◌∙◌, subst, inl, inr, arith, if◌then◌else◌}
+use Rattle.std.proofs.Common.{◌≡◌, ℕ, zero, suc, ◌<◌, ◌≤◌, ◌+◌, ◌-◌, ◌^◌, ◌==◌, ◌&&◌, Bool, true, false, List, [], ◌∷◌, ◌++◌, All, Contains, Option, Some, None, length, refl, ap, sym, ◌∙◌, subst, inl, inr, arith, if◌then◌else◌}
 use Rattle.std.specs.Prelude.{slice_get, IfSome}
 use Rattle.std.proofs.lemmas.Bool.{cases_Bool, cases_lt, ne_eqb}
 use Rattle.std.proofs.lemmas.Option.{slice_get_within}
@@ -11,7 +11,6 @@ use Rattle.cu_op.specs.Operation.{IsBefore}
 use Rattle.cu_op.specs.declared.layout.ArrayInfo.{ArrayInfo}
 use Rattle.cu_op.specs.declared.operation.Planned.{Planned}
 use Rattle.cu_form.specs.Expression.{Expression}
-use Rattle.cu_form.specs.Form.{args_of}
 use Rattle.cu_form.specs.declared.expr.Node.{Node}
 use Rattle.cu_form.specs.declared.form.Form.{Form}
 use Rattle.cu_grid.specs.Grid.{IsGrid}
@@ -23,9 +22,9 @@ use Rattle.cu_lower_reduce.specs.declared.step.Step.{Step}
 use Rattle.cu_lower.specs.Inputs.{input_names, input_place}
 use Rattle.cu_lower.specs.Plan.{grown_after}
 use Rattle.cu_lower.specs.declared.options.Options.{Options}
-use Rattle.cu_lower.specs.Parts.{Grown, IsGrowing, IsGrown, HasSteps, Make, array_places, pair_arrays, is_none, steps_of, with_step, with_steps, with_place, with_last, with_node, with_live}
+use Rattle.cu_lower.specs.Parts.{Grown, IsGrowing, IsGrown, HasSteps, Make, sources_of, pair_arrays, is_none, steps_of, with_step, with_steps, with_place, with_last, with_node, with_live}
 use Rattle.cu_lower.proofs.InputNames.{input_placed}
-use Rattle.cu_lower.proofs.FormKinds.{input_kind, node_made, steps_made}
+use Rattle.cu_lower.proofs.FormKinds.{given_kind, node_made, node_given}
 
 abbrev pub HasGrid : NodeInfo → Type 0
 HasGrid i = IsGrid (grid_of i)
@@ -188,7 +187,7 @@ module _ (e : Expression) where
     pub below : j < size (with_step e last before step)
     pub ends : last ≡ true → with_step e last before step ≡ with_steps e g ss
     pub fits : (arrays : List ArrayInfo) (reserved : ℕ) (given : List ℕ) (first : ℕ) → AreSteps arrays reserved given first (length g.arrays) ss → IsStep arrays reserved given first (length before.arrays) step
-    pub need : (most : ℕ) → All (λ s. s.need ≤ most) ss → step.need ≤ most
+    pub among : Contains ss step
     pub grids : All HasGrid (all_made ss) → All HasGrid (made_infos step)
 
   none_last : (ss : List Step) → is_none ss ≡ true → ss ≡ []
@@ -212,7 +211,7 @@ module _ (e : Expression) where
           below = here;
           ends = λ is. sym (ap (with_steps e h) (none_last ss is));
           fits = λ arrays reserved given first are. are.0;
-          need = λ most all. All-head (λ (x : Step). x.need ≤ most) s ss all;
+          among = (0, omega arith, refl);
           grids = λ all. all_front (made_infos s) (all_made ss) all;
         }
         | inr past ↦
@@ -230,7 +229,7 @@ module _ (e : Expression) where
               below = w.below;
               ends = w.ends;
               fits = λ arrays reserved given first are. w.fits arrays reserved given first (subst (λ (next : ℕ). AreSteps arrays reserved given first next ss) (sym long) are.1);
-              need = λ most all. w.need most (All-tail (λ (x : Step). x.need ≤ most) s ss all);
+              among = (let i = w.among in (suc i.0, (let l = i.1 in omega (arith, l)), i.2));
               grids = λ all. w.grids (all_back (made_infos s) (all_made ss) all);
             }
       ]
@@ -286,7 +285,7 @@ made_grown e g i ss make known =
 module _ (e : Expression) (infos : List NodeInfo) (options : Options) where
   -- the steps of the next node
   abbrev pub own_steps : Grown → Form → List Step
-  own_steps g form = steps_of infos options (length g.places) form (array_places g.places (args_of form)) (length g.arrays)
+  own_steps g form = steps_of infos options (length g.places) form (sources_of e g.places form) (length g.arrays)
 
   abbrev pub next : Grown → Form → Grown
   next g form = with_live e infos options g form
@@ -300,8 +299,8 @@ module _ (e : Expression) (infos : List NodeInfo) (options : Options) where
   -- what a node adds is a place, or steps and a place
   front_node : (g : Grown) (form : Form) → Front g (with_node e infos options g form)
   front_node g form =
-      elim (input_kind form) [
-        | inl input ↦ subst (λ (f : Form). Front g (with_node e infos options g f)) (sym input.1) (front_place g (input_place e input.0))
+      elim (given_kind e (length g.places) form) [
+        | inl input ↦ subst (Front g) (sym (node_given e infos options g form (length g.places) refl input)) (front_place g (input_place e input.name))
         | inr other ↦
             let h = with_steps e g (own_steps g form) in
             subst (Front g) (sym (node_made e infos options g form other)) (front_then g h (with_last h) (front_steps e g (own_steps g form)) (front_place h (length h.arrays - 1)))
@@ -322,10 +321,10 @@ module _ (e : Expression) (infos : List NodeInfo) (options : Options) where
   pub record AllHaveSteps : Type 0 where
     pub nodes : length e.nodes ≤ 256
     pub inputs : length (input_names e) ≤ 256
-    pub steps : (k : ℕ) (n : Node) → slice_get e.nodes k ≡ Some n → is_live e k ≡ true → HasSteps infos options k n.form
+    pub steps : (k : ℕ) (n : Node) → slice_get e.nodes k ≡ Some n → is_live e k ≡ true → HasSteps e infos options k n.form
 
   -- so the numbers of arrays are small
-  pub few_arrays : AllHaveSteps → (g : Grown) (n : Node) → slice_get e.nodes (length g.places) ≡ Some n → IsGrown e g → length g.arrays < 2 ^ 31
+  pub few_arrays : AllHaveSteps → (g : Grown) (n : Node) → slice_get e.nodes (length g.places) ≡ Some n → IsGrown e g → length g.arrays < 2 ^ 30
   few_arrays all g n at known =
       let below = slice_get_within e.nodes (length g.places) n at in
       let nodes = all.nodes in
@@ -334,17 +333,17 @@ module _ (e : Expression) (infos : List NodeInfo) (options : Options) where
       let ops = known.few in
       omega (arith, below, nodes, inputs, arrays, ops)
 
-  node_grown : (g : Grown) (form : Form) → length g.arrays < 2 ^ 31 → HasSteps infos options (length g.places) form
+  node_grown : (g : Grown) (form : Form) → length g.arrays < 2 ^ 30 → HasSteps e infos options (length g.places) form
       → ((name : List ℕ) → form ≡ Form.Input name → input_place e name < length (input_names e)) → IsGrown e g → IsGrown e (with_node e infos options g form)
   node_grown g form small steps placed known =
-      elim (input_kind form) [
+      elim (given_kind e (length g.places) form) [
         | inl input ↦
-            let w = placed input.0 input.1 in
+            let w = placed input.name input.is in
             let i = known.growing.inputs in
-            subst (λ (f : Form). IsGrown e (with_node e infos options g f)) (sym input.1) (place_grown e g (input_place e input.0) (λ live. omega (arith, w, i)) known)
+            subst (IsGrown e) (sym (node_given e infos options g form (length g.places) refl input)) (place_grown e g (input_place e input.name) (λ live. omega (arith, w, i)) known)
         | inr other ↦
             subst (IsGrown e) (sym (node_made e infos options g form other))
-            (made_grown e g (info_at infos (length g.places)) (own_steps g form) (steps_made infos options (length g.places) form steps other (array_places g.places (args_of form)) (length g.arrays) small) known)
+            (made_grown e g (info_at infos (length g.places)) (own_steps g form) (steps other g.places (length g.arrays) small) known)
       ]
 
   pub next_grown : AllHaveSteps → (g : Grown) (n : Node) → slice_get e.nodes (length g.places) ≡ Some n → IsGrown e g → IsGrown e (next g n.form)
@@ -369,8 +368,8 @@ module _ (e : Expression) (infos : List NodeInfo) (options : Options) where
 
   node_longer : (g : Grown) (form : Form) → length (with_node e infos options g form).places ≡ length g.places + 1
   node_longer g form =
-      elim (input_kind form) [
-        | inl input ↦ ap (λ f. length (with_node e infos options g f).places) input.1 ∙ length-append g.places (input_place e input.0 ∷ [])
+      elim (given_kind e (length g.places) form) [
+        | inl input ↦ ap (λ (x : Grown). length x.places) (node_given e infos options g form (length g.places) refl input) ∙ length-append g.places (input_place e input.name ∷ [])
         | inr other ↦
             let h = with_steps e g (own_steps g form) in
             let same = ap length (steps_places e g (own_steps g form)) in

@@ -1,6 +1,6 @@
 -- What a plan's user wants to know of it, from where its parts stand.
 use Rattle.std.proofs.Common.{◌≡◌, ◌≢◌, ℕ, ◌<◌, ◌≤◌, ◌-◌, ◌==◌, ℤ, Bool, true, false, List, Option, Some, None, length, get_or, refl, ap, sym, ◌∙◌, subst, inl, inr, [], ◌∷◌, arith}
-use Rattle.std.specs.Prelude.{slice_get}
+use Rattle.std.specs.Prelude.{not, slice_get}
 use Rattle.std.proofs.lemmas.Bool.{eq-eqb}
 use Rattle.std.proofs.lemmas.Option.{slice_get-get_or}
 use Rattle.cu_name.specs.Name.{IsArrayName}
@@ -18,7 +18,7 @@ use Rattle.cu_meaning.specs.Argument.{NodeElements, shape_at}
 use Rattle.cu_meaning.specs.Meaning.{meaning_of}
 use Rattle.cu_expr.specs.declared.inputs.InputInfo.{InputInfo}
 use Rattle.cu_need.specs.Live.{is_live, IsClosed}
-use Rattle.cu_lower.specs.Inputs.{input_array, input_names}
+use Rattle.cu_lower.specs.Inputs.{input_array, input_names, input_place}
 use Rattle.cu_lower.specs.Plan.{lowered, place_in, plan_of}
 use Rattle.cu_lower.specs.Premises.{IsLowerable, IsLiveInput, OutputDiffers, AreThere, HaveElements, IsOfNode, IsOutput, run_of}
 use Rattle.cu_lower.specs.declared.options.Options.{Options}
@@ -27,17 +27,15 @@ use Rattle.cu_lower.proofs.Meanings as meanings
 use Rattle.cu_lower.proofs.Meanings.{HaveRanges}
 use Rattle.cu_lower.proofs.Names.{array_name, used_is_name}
 use Rattle.cu_lower.proofs.InputNames.{names_once}
-use Rattle.cu_need.specs.Need.{is_built, need_of}
+use Rattle.cu_need.specs.Need.{own_need}
 use Rattle.cu_lower_reduce.specs.Steps.{all_made}
 use Rattle.cu_lower_reduce.specs.declared.step.Step.{Step}
-use Rattle.cu_lower.specs.Parts.{Grown}
-use Rattle.cu_lower.proofs.FormKinds.{is_input, input_kind}
+use Rattle.cu_lower.specs.Parts.{Grown, is_given}
 use Rattle.cu_lower.proofs.Growing.{make_some, steps_long}
 use Rattle.cu_lower.proofs.NodeSteps.{all_steps}
 use Rattle.cu_lower.proofs.Operations as operations
 use Rattle.cu_lower.proofs.Placed as placed
 use Rattle.cu_lower.proofs.Stepped.{last_name}
-use Rattle.cu_lower.proofs.Typed as typed
 use Rattle.cu_lower.proofs.Soundness as soundness
 use Rattle.cu_lower.proofs.NoNode.{no_node}
 use Rattle.cu_lower.proofs.Standing as standing
@@ -68,16 +66,14 @@ module _ (e : Expression) (infos : List NodeInfo) (inputs : List InputInfo) (opt
   pub of_node : (j : ℕ) → j < length grown.ops → IsOfNode e infos options (operation_at grown.ops j)
   of_node j below =
       let w = operations.stood e infos inputs options ok laws lives.closed j below in
-      let size = standing.ops_of e infos inputs options ok.form (all_steps e infos inputs options ok laws) in
       let own = operations.step_need e infos inputs options ok laws lives.closed (standing.ops_of e infos inputs options ok.form (all_steps e infos inputs options ok laws)) j w in
-      let within = operations.need_within e infos inputs options ok laws lives.closed (standing.ops_of e infos inputs options ok.form (all_steps e infos inputs options ok laws)) j w in
-      let same = ap (need_of options.reserved options.split_every infos w.k) w.node.is in
+      let same = ap (own_need options.reserved options.split_every infos w.k) w.node.is in
       subst (IsOfNode e infos options) (sym (operations.operation_is e infos inputs options ok laws lives.closed j w)) (record {
         node = w.node.node;
         at = w.node.at;
         live = w.node.live;
-        need = omega (arith, own, same);
-        allowed = omega (arith, own, within);
+        allowed = operations.step_allowed e infos inputs options ok laws lives.closed (standing.ops_of e infos inputs options ok.form (all_steps e infos inputs options ok laws)) j w;
+        need = λ other. let most = own other in omega (arith, most, same);
       })
 
   -- ---- names
@@ -104,7 +100,7 @@ module _ (e : Expression) (infos : List NodeInfo) (inputs : List InputInfo) (opt
 
   -- ---- arrays
 
-  made_output : (n : Node) (f : Form) → slice_get e.nodes e.out ≡ Some n → n.form ≡ f → is_input f ≡ false → IsOutput e infos (array_at grown.arrays (place_in grown e.out))
+  made_output : (n : Node) (f : Form) → slice_get e.nodes e.out ≡ Some n → n.form ≡ f → is_given e e.out f ≡ false → IsOutput e infos (array_at grown.arrays (place_in grown e.out))
   made_output n f at is other =
       let s = placed.node_stands e infos inputs options ok laws e.out n f at is other lives.closed.stored in
       let ss = placed.steps_at e infos inputs options ok laws e.out f (length s.before.arrays) in
@@ -121,7 +117,7 @@ module _ (e : Expression) (infos : List NodeInfo) (inputs : List InputInfo) (opt
       some_steps [] h = absurd (omega arith)
       some_steps (s ∷ ss) h = omega arith
 
-      out_made : (n : Node) (f : Form) → slice_get e.nodes e.out ≡ Some n → n.form ≡ f → is_input f ≡ false → maker_at grown.arrays (place_in grown e.out) ≡ None → ⊥
+      out_made : (n : Node) (f : Form) → slice_get e.nodes e.out ≡ Some n → n.form ≡ f → is_given e e.out f ≡ false → maker_at grown.arrays (place_in grown e.out) ≡ None → ⊥
       out_made n f at is other none =
           let l = soundness.without_maker e infos inputs options ok laws lives.closed (place_in grown e.out) (soundness.out_within e infos inputs options ok laws lives.closed) none in
           let s = placed.node_stands e infos inputs options ok laws e.out n f at is other lives.closed.stored in
@@ -131,29 +127,18 @@ module _ (e : Expression) (infos : List NodeInfo) (inputs : List InputInfo) (opt
           let long = steps_long e s.before (placed.steps_at e infos inputs options ok laws e.out f (length s.before.arrays)) in
           absurd (omega (arith, l, first, some, place, long))
 
-  -- an input that is stored isn't built
-  not_stored : (f : Form) (name : List ℕ) → f ≡ Form.Input name → is_built infos e.out e.out f ≡ true → ⊥
-  not_stored f name is built =
-      let same = eq-eqb e.out e.out refl in
-      let b : is_built infos e.out e.out (Form.Input name) ≡ true = subst (λ (x : Form). is_built infos e.out e.out x ≡ true) is built in
-      let no : is_built infos e.out e.out (Form.Input name) ≡ false = rw same refl in
-      cc
-
-  output_of : (n : Node) (f : Form) → slice_get e.nodes e.out ≡ Some n → n.form ≡ f → is_built infos e.out e.out f ≡ true → IsOutput e infos (array_at grown.arrays (place_in grown e.out))
-  output_of n f at is built =
-      elim (input_kind f) [
-        | inl input ↦ absurd (not_stored f input.0 input.1 built)
-        | inr other ↦ made_output n f at is other
-      ]
+  -- the stored node isn't given
+  stored_made : (f : Form) → is_given e e.out f ≡ false
+  stored_made (Form.Input name) = ap not (eq-eqb e.out e.out refl)
+  stored_made f = refl
 
   pub output : IsOutput e infos (array_at grown.arrays (place_in grown e.out))
   output =
       let n = get_or e.nodes e.out no_node in
-      let at = slice_get-get_or e.nodes e.out no_node ok.form.out in
-      output_of n n.form at refl (typed.are_built e infos inputs options ok e.out n at lives.closed.stored)
+      made_output n n.form (slice_get-get_or e.nodes e.out no_node ok.form.out) refl (stored_made n.form)
 
-  pub input : (k : ℕ) (name : List ℕ) → IsLiveInput e k name → array_at grown.arrays (place_in grown k) ≡ input_array inputs name
-  input k name u = (standing.from_input e infos inputs options ok.form (all_steps e infos inputs options ok laws) k u.node name u.at u.form u.live).1
+  pub input : (k : ℕ) (name : List ℕ) → IsLiveInput e k name → array_at grown.arrays (input_place e name) ≡ input_array inputs name
+  input k name u = (standing.named_at e infos inputs options ok.form (all_steps e infos inputs options ok laws) k u.node name u.at u.form u.live).1
 
   pub only : (a : ℕ) → a < length grown.arrays → maker_at grown.arrays a ≡ None → (k : ℕ) × (name : List ℕ) × IsLiveInput e k name × (array_at grown.arrays a ≡ input_array inputs name)
   only a below none =
@@ -174,7 +159,7 @@ module _ (e : Expression) (infos : List NodeInfo) (inputs : List InputInfo) (opt
 
 module _ (e : Expression) (infos : List NodeInfo) (inputs : List InputInfo) (options : Options) (env : Elements) (elements : NodeElements)
     (have : HaveElements e infos inputs options env elements) (lives : LiveLaw e) (ranges : HaveRanges) (laws : HaveLaws) where
-  carried : (must : Bool) → (must ≡ true → AreThere e infos (lowered e infos inputs options) env) → (k : ℕ) (idx : List ℕ) → is_live e k ≡ true → IsInside (shape_at infos k) idx
+  carried : (must : Bool) → (must ≡ true → AreThere e infos env) → (k : ℕ) (idx : List ℕ) → is_live e k ≡ true → IsInside (shape_at infos k) idx
       → Told must (plan_value (plan_of e infos inputs options) env (place_in (lowered e infos inputs options) k) idx) (meaning_of e infos elements k idx)
   carried must there k idx live inside =
       let out = have.lowerable.form.out in
@@ -188,7 +173,7 @@ module _ (e : Expression) (infos : List NodeInfo) (inputs : List InputInfo) (opt
       told_some false (plan_value (plan_of e infos inputs options) env (place_in (lowered e infos inputs options) k) idx) (meaning_of e infos elements k idx) x
       (carried false (λ wanted. cc) k idx live inside) is
 
-  pub defined : AreThere e infos (lowered e infos inputs options) env → (k : ℕ) (idx : List ℕ) → is_live e k ≡ true → IsInside (shape_at infos k) idx
+  pub defined : AreThere e infos env → (k : ℕ) (idx : List ℕ) → is_live e k ≡ true → IsInside (shape_at infos k) idx
       → plan_value (plan_of e infos inputs options) env (place_in (lowered e infos inputs options) k) idx ≡ Some (meaning_of e infos elements k idx)
   defined there k idx live inside =
       told_there (plan_value (plan_of e infos inputs options) env (place_in (lowered e infos inputs options) k) idx) (meaning_of e infos elements k idx)

@@ -1,8 +1,15 @@
 mod Examples
 mod ViewExamples
 mod ReducedExamples
+mod CopiedExamples
 pub mod NoNode
 pub mod Collected
+pub mod Aligning
+pub mod Behind
+pub mod OperandSteps
+pub mod CopiedSteps
+pub mod Needs
+pub mod TypedForms
 pub mod InputNames
 pub mod StepLaws
 pub mod Marked

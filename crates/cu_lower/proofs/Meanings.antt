@@ -31,18 +31,19 @@ use Rattle.cu_need.specs.View.{is_view}
 use Rattle.cu_lower_reduce.specs.Steps.{all_made, SolveSteps, last_made}
 use Rattle.cu_lower_reduce.specs.declared.step.Step.{Step}
 use Rattle.cu_lower.specs.Plan.{place_in, as_plan}
-use Rattle.cu_lower.specs.Parts.{Grown, array_places, setting, reduction_of, search_of, product_of}
+use Rattle.cu_lower.specs.Inputs.{input_place}
+use Rattle.cu_lower.specs.Parts.{Grown, array_places, sources_of, steps_of, setting, reduction_of, search_of}
 use Rattle.cu_lower.specs.Premises.{IsLowerable, IsLiveInput, AreOfInputs, AreThere}
 use Rattle.cu_lower.specs.declared.options.Options.{Options}
 use Rattle.cu_lower.proofs.Applied.{Told}
 use Rattle.cu_lower.proofs.Arguments.{Each, each_so, IsEarlierNode}
-use Rattle.cu_lower.proofs.FormKinds.{input_kind, built_kind, view_steps}
+use Rattle.cu_lower.proofs.CopiedSteps as copied
+use Rattle.cu_lower.proofs.FormKinds.{IsGivenInput, given_kind, form_kind, view_steps, view_sources}
 use Rattle.cu_lower.proofs.Growing.{steps_long}
 use Rattle.cu_lower.proofs.NodeSteps.{all_steps}
 use Rattle.cu_lower.proofs.Operations as operations
 use Rattle.cu_lower.proofs.Placed as placed
 use Rattle.cu_lower.proofs.PlaceValues.{search_told}
-use Rattle.cu_lower.proofs.ProductValues.{product_told}
 use Rattle.cu_lower.proofs.ReducedValues.{reduction_told}
 use Rattle.cu_num.specs.declared.folds.FoldKind.{FoldKind}
 use Rattle.cu_lower.proofs.Soundness as soundness
@@ -101,21 +102,32 @@ module _ (e : Expression) (infos : List NodeInfo) (inputs : List InputInfo) (opt
 
   -- ---- an input
 
-  input_carries : AreOfInputs e infos grown env elements → (must ≡ true → AreThere e infos grown env)
-      → (k : ℕ) (n : Node) (name : List ℕ) → slice_get e.nodes k ≡ Some n → n.form ≡ Form.Input name → is_live e k ≡ true → Carries k
-  input_carries of_inputs there k n name node is live idx inside =
-      let f = standing.from_input e infos inputs options ok.form (all_steps e infos inputs options ok laws) k n name node is live in
-      let none : maker_at grown.arrays (place_in grown k) ≡ None = ap (λ (a : ArrayInfo). a.maker) f.1 in
+  -- the array with its name has its elements
+  named_told : AreOfInputs e infos env elements → (must ≡ true → AreThere e infos env)
+      → (k : ℕ) (n : Node) (name : List ℕ) → slice_get e.nodes k ≡ Some n → n.form ≡ Form.Input name → is_live e k ≡ true
+      → (idx : List ℕ) → IsInside (shape_at infos k) idx → Told must (at (input_place e name) idx) (elements k idx)
+  named_told of_inputs there k n name node is live idx inside =
+      let f = standing.named_at e infos inputs options ok.form (all_steps e infos inputs options ok laws) k n name node is live in
+      let none : maker_at grown.arrays (input_place e name) ≡ None = ap (λ (a : ArrayInfo). a.maker) f.1 in
       let input : IsLiveInput e k name = record { node = n; at = node; form = is; live = live } in
-      let value = solves.inputs (place_in grown k) idx none in
-      let same : meaning k idx ≡ unwrap_or (env (place_in grown k) idx) (pos 0) = meaning_is k n (Form.Input name) idx node is inside ∙ of_inputs k name idx input inside in
-      let told = told_or_zero must (env (place_in grown k) idx) (λ wanted. there wanted k name idx input inside) in
-      subst (λ (o : Option ℤ). Told must o (meaning k idx)) (sym value) (subst (λ (x : ℤ). Told must (env (place_in grown k) idx) x) (sym same) told)
+      let value = solves.inputs (input_place e name) idx none in
+      let told = told_or_zero must (env (input_place e name) idx) (λ wanted. there wanted k name idx input inside) in
+      subst (λ (o : Option ℤ). Told must o (elements k idx)) (sym value)
+      (subst (λ (x : ℤ). Told must (env (input_place e name) idx) x) (sym (of_inputs k name idx input inside)) told)
+
+  -- one that isn't stored has that array
+  input_carries : AreOfInputs e infos env elements → (must ≡ true → AreThere e infos env)
+      → (k : ℕ) (n : Node) → slice_get e.nodes k ≡ Some n → is_live e k ≡ true → IsGivenInput e k n.form → Carries k
+  input_carries of_inputs there k n node live i idx inside =
+      let place = (standing.from_input e infos inputs options ok.form (all_steps e infos inputs options ok laws) k n i node live).0 in
+      let told = named_told of_inputs there k n i.name node i.is live idx inside in
+      subst (λ (a : ℕ). Told must (at a idx) (meaning k idx)) (sym place)
+      (subst (λ (x : ℤ). Told must (at (input_place e i.name) idx) x) (sym (meaning_is k n (Form.Input i.name) idx node i.is inside)) told)
 
   -- ---- a node that operations make
 
   abbrev IsCarried : ℕ → Type 0
-  IsCarried n = values.IsCarried must infos elements meaning options grown.arrays grown.places at (typed.known_kept e infos inputs options ok) n
+  IsCarried n = values.IsCarried must infos elements meaning options grown.arrays grown.places at n
 
   argument_carried : HasTypes grown.arrays env → (k : ℕ) → ((n : ℕ) → n < k → is_live e n ≡ true → Carries n) → (n : ℕ) → IsEarlierNode e k n → IsCarried n
   argument_carried types k earlier n a =
@@ -154,23 +166,21 @@ module _ (e : Expression) (infos : List NodeInfo) (inputs : List InputInfo) (opt
       let f = Form.Elementwise op args in
       let first = length s.before.arrays in
       let (t, passed) = typed.elementwise e infos inputs options ok k s.node op args s.at s.is in
-      let test = operations.built e infos inputs options ok laws closed k (Form.Elementwise op args) s in
-      let alone = operations.alone e infos inputs options ok laws closed k (Form.Elementwise op args) s (placed.stood_infos e infos inputs options ok laws k (Form.Elementwise op args) s) in
-      let place = place_is k (Form.Elementwise op args) s in
-      carries_rule k (Form.Elementwise op args) s (length s.before.arrays) (omega (arith, place))
-      (values.function_told must infos elements meaning options grown.arrays grown.places at (typed.known_kept e infos inputs options ok) k (length s.before.arrays) op args t passed test alone
-      (arguments_carried types k (Form.Elementwise op args) s earlier) (steps_solved k (Form.Elementwise op args) s))
+      carries_rule k f s (last_made first (placed.steps_at e infos inputs options ok laws k f first)) (place_is k f s)
+      (values.function_told must infos elements meaning options grown.arrays grown.places at k (length s.before.arrays) op args t passed laws (operations.function_alone e infos inputs options ok laws closed k op args s)
+      (arguments_carried types k f s earlier) (steps_solved k f s))
 
   view_carries : HasTypes grown.arrays env → (k : ℕ) (f : Form) (s : Stands k f) → is_view f ≡ true → ((n : ℕ) → n < k → is_live e n ≡ true → Carries n) → Carries k
   view_carries types k f s viewed earlier =
       let own = operations.pull_is e infos inputs options ok laws closed k f s viewed in
       let written = typed.view e infos inputs options ok k s.node f s.at s.is viewed in
-      let alone = operations.alone e infos inputs options ok laws closed k f s (operations.view_infos e infos inputs options ok laws closed k f s viewed) in
-      let one = ap (λ (ss : List Step). length (all_made ss)) (view_steps infos options k f (array_places grown.places (args_of f)) (length s.before.arrays) viewed) in
+      let alone = operations.view_alone e infos inputs options ok laws closed k f s viewed in
+      let one = ap (λ (ss : List Step). length (all_made ss)) (view_steps infos options k f (sources_of e grown.places f) (length s.before.arrays) viewed) in
       let place = place_is k f s in
       carries_rule k f s (length s.before.arrays) (omega (arith, place, one))
-      (values.view_told must infos elements meaning options grown.arrays grown.places at (typed.known_kept e infos inputs options ok) k (length s.before.arrays) f viewed written own alone
-      (arguments_carried types k f s earlier) (steps_solved k f s))
+      (values.view_told must infos elements meaning options grown.arrays grown.places at k (length s.before.arrays) f viewed written own alone
+      (arguments_carried types k f s earlier)
+      (subst (λ (ins : List ℕ). SolveSteps grown.arrays at (steps_of infos options k f ins (length s.before.arrays))) (view_sources e grown.places f viewed) (steps_solved k f s)))
 
   -- ---- reductions, searches for places and products
 
@@ -205,30 +215,49 @@ module _ (e : Expression) (infos : List NodeInfo) (inputs : List InputInfo) (opt
       let f = Form.Matmul (Arg.Node l ∷ Arg.Node m ∷ []) in
       let first = length s.before.arrays in
       let both = arguments_carried types k (Form.Matmul (Arg.Node l ∷ Arg.Node m ∷ [])) s earlier in
-      let x = product_of infos k (Arg.Node l ∷ Arg.Node m ∷ []) (array_places grown.places (args_of f)) in
-      let value = laws.products.value grown.arrays at (setting options first) x (operations.is_setting e infos inputs options ok laws closed k f s) (operations.multiplies e infos inputs options ok laws closed k l m s)
-      both.0.known both.1.0.known (placed.stood_infos e infos inputs options ok laws k f s) (steps_solved k f s) in
       carries_rule k f s (last_made first (placed.steps_at e infos inputs options ok laws k f first)) (place_is k f s)
-      (λ idx inside. product_told must infos elements meaning k l m (array_places grown.places (args_of f)) (at (place_in grown l)) (at (place_in grown m)) (at (last_made first (placed.steps_at e infos inputs options ok laws k f first)) idx) idx
-      (operations.multiplies e infos inputs options ok laws closed k l m s) inside (value idx inside) both.0.carries both.1.0.carries)
+      (copied.multiply_told laws infos options grown.arrays k (length s.before.arrays) (operations.room e infos inputs options ok laws closed k f s) l m (place_in grown l) (place_in grown m)
+      (operations.matmul_copies e infos inputs options ok laws closed k l m s) (operations.multiplies e infos inputs options ok laws closed k l m s) both.0.known both.1.0.known (placed.stood_infos e infos inputs options ok laws k f s)
+      must elements meaning at (steps_solved k f s) both.0.carries both.1.0.carries)
+
+  -- ---- copies
+
+  rechunk_carries : HasTypes grown.arrays env → (k m : ℕ) (chunk : List ℕ) (s : Stands k (Form.Rechunk (Arg.Node m ∷ []) chunk)) → ((n : ℕ) → n < k → is_live e n ≡ true → Carries n) → Carries k
+  rechunk_carries types k m chunk s earlier =
+      let f = Form.Rechunk (Arg.Node m ∷ []) chunk in
+      let first = length s.before.arrays in
+      let c = (arguments_carried types k f s earlier).0 in
+      carries_rule k f s (last_made first (placed.steps_at e infos inputs options ok laws k f first)) (place_is k f s)
+      (copied.rechunk_told laws infos options grown.arrays k (length s.before.arrays) (operations.room e infos inputs options ok laws closed k f s) m (place_in grown m) chunk
+      must elements meaning at (typed.rechunk e infos inputs options ok k m s.node chunk s.at s.is) (steps_solved k f s) c.carries)
+
+  stored_carries : AreOfInputs e infos env elements → (must ≡ true → AreThere e infos env) → (k : ℕ) (name : List ℕ) (s : Stands k (Form.Input name)) → Carries k
+  stored_carries of_inputs there k name s =
+      let f = Form.Input name in
+      let first = length s.before.arrays in
+      carries_rule k f s (last_made first (placed.steps_at e infos inputs options ok laws k f first)) (place_is k f s)
+      (λ idx inside. copied.input_told laws infos options grown.arrays k (length s.before.arrays) (operations.room e infos inputs options ok laws closed k f s) (input_place e name) name
+      must elements meaning at (steps_solved k f s) idx (named_told of_inputs there k s.node name s.at s.is s.live idx inside))
 
   -- ---- each live node
 
-  module _ (types : HasTypes grown.arrays env) (of_inputs : AreOfInputs e infos grown env elements) (there : must ≡ true → AreThere e infos grown env) where
+  module _ (types : HasTypes grown.arrays env) (of_inputs : AreOfInputs e infos env elements) (there : must ≡ true → AreThere e infos env) where
     made_carries : (k : ℕ) (f : Form) → Stands k f → ((m : ℕ) → m < k → is_live e m ≡ true → Carries m) → Carries k
     made_carries k f s earlier =
-        elim (built_kind infos e.out k f (operations.built e infos inputs options ok laws closed k f s) s.other) [
+        elim (form_kind f) [
           | inl m ↦ function_carries types k m.op m.args (subst (Stands k) m.is s) earlier
           | inr (inl r) ↦ let one = typed.reduce_form e infos inputs options ok k s.node f s.at s.is r in reduce_carries types k one.0 r.kind r.axes r.keepdims (subst (Stands k) one.1 s) earlier
           | inr (inr (inl r)) ↦ let one = typed.place_form e infos inputs options ok k s.node f s.at s.is r in place_carries types k one.0 r.least r.axis r.keepdims (subst (Stands k) one.1 s) earlier
           | inr (inr (inr (inl r))) ↦ let two = typed.matmul_form e infos inputs options ok k s.node f s.at s.is r in matmul_carries types k two.0 two.1.0 (subst (Stands k) two.1.1 s) earlier
-          | inr (inr (inr (inr viewed))) ↦ view_carries types k f s viewed earlier
+          | inr (inr (inr (inr (inl r)))) ↦ let one = typed.rechunk_form e infos inputs options ok k s.node f s.at s.is r in rechunk_carries types k one.0 r.chunk (subst (Stands k) one.1 s) earlier
+          | inr (inr (inr (inr (inr (inl i))))) ↦ stored_carries of_inputs there k i.name (subst (Stands k) i.is s)
+          | inr (inr (inr (inr (inr (inr viewed))))) ↦ view_carries types k f s viewed earlier
         ]
 
     node_carries : (k : ℕ) (n : Node) → slice_get e.nodes k ≡ Some n → is_live e k ≡ true → ((m : ℕ) → m < k → is_live e m ≡ true → Carries m) → Carries k
     node_carries k n node live earlier =
-        elim (input_kind n.form) [
-          | inl input ↦ input_carries of_inputs there k n input.0 node input.1 live
+        elim (given_kind e k n.form) [
+          | inl input ↦ input_carries of_inputs there k n node live input
           | inr other ↦ made_carries k n.form (placed.node_stands e infos inputs options ok laws k n n.form node refl other live) earlier
         ]
 

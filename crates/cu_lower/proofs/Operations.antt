@@ -1,6 +1,8 @@
 -- Each operation of the plan of an expression fits its arrays, by the form of its node; the arrays that it makes are its own.
-use Rattle.std.proofs.Common.{◌≡◌, ℕ, ◌<◌, ◌≤◌, ◌+◌, ◌-◌, ◌==◌, ◌&&◌, Bool, true, ℤ, List, [], ◌∷◌, All, Contains, Option, Some, length, get_or, refl, ap, sym, ◌∙◌, subst, inl, inr, arith}
-use Rattle.std.specs.Prelude.{unwrap_or}
+use Rattle.std.proofs.Common.{◌≡◌, ℕ, ◌<◌, ◌≤◌, ◌+◌, ◌-◌, ◌*◌, ◌==◌, ◌&&◌, Bool, true, false, ℤ, List, [], ◌∷◌, All, Contains, Option, Some, length, get_or, refl, ap, sym, ◌∙◌, subst, inl, inr, arith}
+use Rattle.std.specs.Prelude.{slice_index, unwrap_or}
+use Rattle.std.proofs.lemmas.Bool.{cases_Bool}
+use Rattle.std.proofs.lemmas.List.Elements.{All-nil, All-cons}
 use Rattle.cu_pull.specs.declared.pull.Pull.{Pull as View}
 use Rattle.cu_pull.specs.declared.pull.Pull.TheVariants as views
 use Rattle.cu_op.specs.Arrays.{array_at}
@@ -17,7 +19,9 @@ use Rattle.cu_node.specs.declared.element_op.ElementOp.{ElementOp}
 use Rattle.cu_node.specs.declared.info.NodeInfo.{NodeInfo}
 use Rattle.cu_expr.specs.declared.inputs.InputInfo.{InputInfo}
 use Rattle.cu_need.specs.Live.{is_live, IsClosed}
-use Rattle.cu_need.specs.Need.{is_built, need_of}
+use Rattle.cu_need.specs.Need.{need_of, own_need}
+use Rattle.cu_copy.specs.Copies.{max_mem}
+use Rattle.cu_lower_reduce.specs.Copies.{is_copy}
 use Rattle.cu_need.specs.View.{is_view}
 use Rattle.cu_lower_view.specs.Typed.{IsPull}
 use Rattle.cu_lower_reduce.specs.Steps.{made_infos, all_made, HasInfo, HaveInfos, IsGiven, IsStep, AreSteps}
@@ -27,17 +31,20 @@ use Rattle.cu_lower_reduce.specs.Reductions.{IsReduction}
 use Rattle.cu_lower_reduce.specs.Searches.{IsSearch}
 use Rattle.cu_lower_reduce.specs.declared.step.Step.{Step}
 use Rattle.cu_num.specs.declared.folds.FoldKind.{FoldKind}
-use Rattle.cu_lower.specs.Inputs.{input_names}
-use Rattle.cu_lower.specs.Parts.{Grown, array_places, pull_in, setting, reduction_of, search_of, product_of, with_step}
+use Rattle.cu_lower.specs.Inputs.{input_names, input_place}
+use Rattle.cu_lower.specs.Parts.{Grown, CanCopy, array_places, sources_of, steps_of, pull_in, setting, reduction_of, search_of, product_of, with_step}
 use Rattle.cu_lower.specs.Plan.{place_in}
 use Rattle.cu_lower.specs.Premises.{IsLowerable}
 use Rattle.cu_lower.specs.declared.options.Options.{Options}
 use Rattle.cu_lower.proofs.Arguments.{Each, each_so, IsEarlierNode, all_places}
 use Rattle.cu_lower.proofs.Fitting as fitting
 use Rattle.cu_lower.proofs.Fitting.{StandsAlone}
-use Rattle.cu_lower.proofs.FormKinds.{built_kind, view_steps}
+use Rattle.cu_lower.proofs.CopiedSteps as copied
+use Rattle.cu_lower.proofs.FormKinds.{form_kind, input_stored, view_sources}
+use Rattle.cu_lower.proofs.Needs.{node_need}
+use Rattle.cu_lower.proofs.OperandSteps.{copy_setting, own_setting, AreOwn, HasRoom}
+use Rattle.cu_lower.proofs.Ready as ready
 use Rattle.cu_lower.proofs.Growing.{front_then, front_step, step_long, step_ops}
-use Rattle.cu_lower.proofs.NodeSteps as steps
 use Rattle.cu_lower.proofs.NodeSteps.{all_steps, node_own}
 use Rattle.cu_lower.proofs.ProductTypes.{product_typed}
 use Rattle.cu_lower.proofs.ReductionTypes.{reduction_typed, search_typed}
@@ -47,6 +54,10 @@ use Rattle.cu_lower.proofs.StepLaws.{HaveLaws}
 use Rattle.cu_lower.proofs.Standing.{front_array, within_front}
 use Rattle.cu_lower.proofs.Stepped.{IsPairArray, pair_array, step_array, step_operation, all_in_range}
 use Rattle.cu_lower.proofs.Typed as typed
+
+-- a region and as much scratch keep within what is allowed
+both_regions : (allowed reserved : ℕ) → reserved ≤ allowed → reserved + 2 * max_mem allowed reserved ≤ allowed
+both_regions allowed reserved h = omega (arith, h)
 
 -- what holds of all holds of one
 all_among : {A : Type 0} (P : A → Type 0) (xs : List A) (x : A) → All P xs → Contains xs x → P x
@@ -70,13 +81,29 @@ module _ (e : Expression) (infos : List NodeInfo) (inputs : List InputInfo) (opt
 
   -- the arrays that a node reads
   abbrev pub ins_of : Form → List ℕ
-  ins_of f = array_places grown.places (args_of f)
+  ins_of f = sources_of e grown.places f
 
   -- ---- the steps of a node
 
-  -- its step stands alone, where it has one that makes its array
-  pub alone : (k : ℕ) (f : Form) (s : Stands k f) → HaveInfos grown.arrays (length s.before.arrays) (info_at infos k ∷ []) → StandsAlone infos options grown.arrays grown.places k (length s.before.arrays) f
-  alone k f s made = record { known = placed.arguments_known e infos inputs options ok laws closed k f s; own = made.0 }
+  pub room : (k : ℕ) (f : Form) (s : Stands k f) → HasRoom options (length s.before.arrays)
+  room k f s = ready.has_room e infos inputs options ok k s.node (length s.before.arrays) s.at s.live s.small
+
+  pub is_setting : (k : ℕ) (f : Form) (s : Stands k f) → IsSetting (setting options (length s.before.arrays))
+  is_setting k f s = own_setting options (length s.before.arrays) (length s.before.arrays) (room k f s) (omega arith)
+
+  -- those of a function and of a view stand alone
+  pub function_alone : (k : ℕ) (op : ElementOp) (args : List Arg) (s : Stands k (Form.Elementwise op args)) → StandsAlone infos options grown.arrays grown.places k (length s.before.arrays) (Form.Elementwise op args)
+  function_alone k op args s = record {
+    known = placed.arguments_known e infos inputs options ok laws closed k (Form.Elementwise op args) s;
+    made = placed.stood_infos e infos inputs options ok laws k (Form.Elementwise op args) s;
+  }
+
+  pub view_alone : (k : ℕ) (f : Form) (s : Stands k f) → is_view f ≡ true → StandsAlone infos options grown.arrays grown.places k (length s.before.arrays) f
+  view_alone k f s viewed = record {
+    known = placed.arguments_known e infos inputs options ok laws closed k f s;
+    made = subst (λ (ins : List ℕ). HaveInfos grown.arrays (length s.before.arrays) (all_made (steps_of infos options k f ins (length s.before.arrays)))) (view_sources e grown.places f viewed)
+        (placed.stood_infos e infos inputs options ok laws k f s);
+  }
 
   pub pull_is : (k : ℕ) (f : Form) → Stands k f → is_view f ≡ true → IsPull infos f (info_at infos k) (pull_in infos f)
   pull_is k f s viewed =
@@ -84,20 +111,9 @@ module _ (e : Expression) (infos : List NodeInfo) (inputs : List InputInfo) (opt
       let same : w.0 ≡ pull_in infos f = sym (ap (λ o. unwrap_or o views.Reshape) w.1.pull) in
       subst (λ (p : View). IsPull infos f (info_at infos k) p) same w.1
 
-  pub built : (k : ℕ) (f : Form) → Stands k f → is_built infos e.out k f ≡ true
-  built k f s = subst (λ (x : Form). is_built infos e.out k x ≡ true) s.is (typed.are_built e infos inputs options ok k s.node s.at s.live)
-
-  -- a view's steps make its array alone
-  pub view_infos : (k : ℕ) (f : Form) (s : Stands k f) → is_view f ≡ true → HaveInfos grown.arrays (length s.before.arrays) (info_at infos k ∷ [])
-  view_infos k f s viewed =
-      subst (λ (ss : List Step). HaveInfos grown.arrays (length s.before.arrays) (all_made ss)) (view_steps infos options k f (ins_of f) (length s.before.arrays) viewed) (placed.stood_infos e infos inputs options ok laws k f s)
-
-  -- what is known of an argument of a reduction, a search or a product
+  -- what is known of an argument of a reduction, a search or a rechunk
   argument_known : (k m : ℕ) (f : Form) (args : List Arg) → Stands k f → args_of f ≡ Arg.Node m ∷ args → HasInfo grown.arrays (place_in grown m) (info_at infos m)
   argument_known k m f args s is = (subst (Each (λ n. HasInfo grown.arrays (place_in grown n) (info_at infos n))) is (placed.arguments_known e infos inputs options ok laws closed k f s)).0
-
-  pub is_setting : (k : ℕ) (f : Form) (s : Stands k f) → IsSetting (setting options (length s.before.arrays))
-  is_setting k f s = steps.is_setting e infos inputs options ok laws k s.node (length s.before.arrays) s.at s.live s.small
 
   -- a node as a reduction, a search for places or a product
   pub reduces : (k m : ℕ) (kind : FoldKind) (axes : Option (List ℤ)) (keepdims : Bool) → Stands k (Form.Reduce kind (Arg.Node m ∷ []) axes keepdims) → IsReduction (reduction_of infos k kind (Arg.Node m ∷ []) axes (ins_of (Form.Reduce kind (Arg.Node m ∷ []) axes keepdims)))
@@ -110,10 +126,17 @@ module _ (e : Expression) (infos : List NodeInfo) (inputs : List InputInfo) (opt
       search_typed least axis keepdims (info_at infos m) (info_at infos k) (place_in grown m) (typed.known_kept e infos inputs options ok m) (typed.known_kept e infos inputs options ok k)
       (typed.search e infos inputs options ok k m s.node least axis keepdims s.at s.is)
 
-  pub multiplies : (k l m : ℕ) → Stands k (Form.Matmul (Arg.Node l ∷ Arg.Node m ∷ [])) → IsProduct (product_of infos k (Arg.Node l ∷ Arg.Node m ∷ []) (ins_of (Form.Matmul (Arg.Node l ∷ Arg.Node m ∷ []))))
-  multiplies k l m s =
-      product_typed (info_at infos l) (info_at infos m) (info_at infos k) (place_in grown l) (place_in grown m) (typed.known_kept e infos inputs options ok l) (typed.known_kept e infos inputs options ok m) (typed.known_kept e infos inputs options ok k)
-      (typed.matmul e infos inputs options ok k l m s.node s.at s.is) (built k (Form.Matmul (Arg.Node l ∷ Arg.Node m ∷ [])) s)
+  pub multiplies : (k l m : ℕ) → Stands k (Form.Matmul (Arg.Node l ∷ Arg.Node m ∷ [])) → (ins : List ℕ) → IsProduct (product_of infos k (Arg.Node l ∷ Arg.Node m ∷ []) ins)
+  multiplies k l m s ins =
+      product_typed (info_at infos l) (info_at infos m) (info_at infos k) (slice_index ins 0) (slice_index ins 1) (typed.known_kept e infos inputs options ok l) (typed.known_kept e infos inputs options ok m) (typed.known_kept e infos inputs options ok k)
+      (typed.matmul e infos inputs options ok k l m s.node s.at s.is)
+
+  -- the copies of each form
+  pub function_copies : (k : ℕ) (op : ElementOp) (args : List Arg) (s : Stands k (Form.Elementwise op args)) → CanCopy infos options k (Form.Elementwise op args) (length s.before.arrays)
+  function_copies k op args s = ready.function_copies e infos inputs options ok k s.node op args s.at s.is s.live (length s.before.arrays)
+
+  pub matmul_copies : (k l m : ℕ) (s : Stands k (Form.Matmul (Arg.Node l ∷ Arg.Node m ∷ []))) → CanCopy infos options k (Form.Matmul (Arg.Node l ∷ Arg.Node m ∷ [])) (length s.before.arrays)
+  matmul_copies k l m s = ready.matmul_copies e infos inputs options ok k s.node (Arg.Node l ∷ Arg.Node m ∷ []) s.at s.is s.live (length s.before.arrays)
 
   -- they are steps over the arrays of the plan
   abbrev AreNodeSteps : (k : ℕ) (f : Form) → Stands k f → Type 0
@@ -122,8 +145,8 @@ module _ (e : Expression) (infos : List NodeInfo) (inputs : List InputInfo) (opt
   function_steps : (k : ℕ) (op : ElementOp) (args : List Arg) (s : Stands k (Form.Elementwise op args)) → AreNodeSteps k (Form.Elementwise op args) s
   function_steps k op args s =
       let (t, passed) = typed.elementwise e infos inputs options ok k s.node op args s.at s.is in
-      fitting.map_steps infos options grown.arrays grown.places k (length s.before.arrays) op args t passed (built k (Form.Elementwise op args) s)
-      (alone k (Form.Elementwise op args) s (placed.stood_infos e infos inputs options ok laws k (Form.Elementwise op args) s))
+      fitting.map_steps infos options grown.arrays grown.places k (length s.before.arrays) op args t passed laws (function_alone k op args s)
+      (copy_setting options (length s.before.arrays) (room k (Form.Elementwise op args) s)) (function_copies k op args s)
 
   reduce_steps : (k m : ℕ) (kind : FoldKind) (axes : Option (List ℤ)) (keepdims : Bool) (s : Stands k (Form.Reduce kind (Arg.Node m ∷ []) axes keepdims)) → AreNodeSteps k (Form.Reduce kind (Arg.Node m ∷ []) axes keepdims) s
   reduce_steps k m kind axes keepdims s =
@@ -141,18 +164,37 @@ module _ (e : Expression) (infos : List NodeInfo) (inputs : List InputInfo) (opt
   matmul_steps k l m s =
       let f = Form.Matmul (Arg.Node l ∷ Arg.Node m ∷ []) in
       let known = placed.arguments_known e infos inputs options ok laws closed k (Form.Matmul (Arg.Node l ∷ Arg.Node m ∷ [])) s in
-      laws.products.steps grown.arrays (setting options (length s.before.arrays)) (product_of infos k (Arg.Node l ∷ Arg.Node m ∷ []) (ins_of f)) (is_setting k f s) (multiplies k l m s)
+      copied.multiply_steps laws infos options grown.arrays k (length s.before.arrays) (room k f s) l m (place_in grown l) (place_in grown m) (matmul_copies k l m s) (multiplies k l m s)
       known.0 known.1.0 (placed.stood_infos e infos inputs options ok laws k f s)
+
+  rechunk_steps : (k m : ℕ) (chunk : List ℕ) (s : Stands k (Form.Rechunk (Arg.Node m ∷ []) chunk)) → AreNodeSteps k (Form.Rechunk (Arg.Node m ∷ []) chunk) s
+  rechunk_steps k m chunk s =
+      let f = Form.Rechunk (Arg.Node m ∷ []) chunk in
+      copied.rechunk_steps laws infos options grown.arrays k (length s.before.arrays) (room k f s) m (place_in grown m) chunk
+      (ready.rechunk_staged e infos inputs options ok k s.node (Arg.Node m ∷ []) chunk s.at s.is s.live (length s.before.arrays))
+      (argument_known k m f [] s refl) (placed.stood_infos e infos inputs options ok laws k f s)
+
+  input_steps : (k : ℕ) (name : List ℕ) (s : Stands k (Form.Input name)) → AreNodeSteps k (Form.Input name) s
+  input_steps k name s =
+      copied.input_steps laws infos options grown.arrays k (length s.before.arrays) (room k (Form.Input name) s) (input_place e name) name
+      (ready.input_staged e infos inputs options ok k s.node name s.at s.is s.live (input_stored e k name s.other) (length s.before.arrays))
+      (placed.named_known e infos inputs options ok laws k s.node name s.at s.is s.live) (placed.stood_infos e infos inputs options ok laws k (Form.Input name) s)
+
+  view_steps_are : (k : ℕ) (f : Form) (s : Stands k f) → is_view f ≡ true → AreNodeSteps k f s
+  view_steps_are k f s viewed =
+      subst (λ (ins : List ℕ). AreSteps grown.arrays options.reserved ins (length s.before.arrays) (length s.before.arrays) (steps_of infos options k f ins (length s.before.arrays))) (sym (view_sources e grown.places f viewed))
+      (fitting.pull_steps infos options grown.arrays grown.places k (length s.before.arrays) f viewed (pull_is k f s viewed) (view_alone k f s viewed))
 
   pub node_steps : (k : ℕ) (f : Form) (s : Stands k f) → AreNodeSteps k f s
   node_steps k f s =
-      elim (built_kind infos e.out k f (built k f s) s.other) [
+      elim (form_kind f) [
         | inl m ↦ by_form (Form.Elementwise m.op m.args) m.is (λ t. function_steps k m.op m.args t) s
         | inr (inl r) ↦ let one = typed.reduce_form e infos inputs options ok k s.node f s.at s.is r in by_form (Form.Reduce r.kind (Arg.Node one.0 ∷ []) r.axes r.keepdims) one.1 (λ t. reduce_steps k one.0 r.kind r.axes r.keepdims t) s
         | inr (inr (inl r)) ↦ let one = typed.place_form e infos inputs options ok k s.node f s.at s.is r in by_form (Form.ArgPlace r.least (Arg.Node one.0 ∷ []) r.axis r.keepdims) one.1 (λ t. place_steps k one.0 r.least r.axis r.keepdims t) s
         | inr (inr (inr (inl r))) ↦ let two = typed.matmul_form e infos inputs options ok k s.node f s.at s.is r in by_form (Form.Matmul (Arg.Node two.0 ∷ Arg.Node two.1.0 ∷ [])) two.1.1 (λ t. matmul_steps k two.0 two.1.0 t) s
-        | inr (inr (inr (inr viewed))) ↦
-            fitting.pull_steps infos options grown.arrays grown.places k (length s.before.arrays) f viewed (pull_is k f s viewed) (alone k f s (view_infos k f s viewed))
+        | inr (inr (inr (inr (inl r)))) ↦ let one = typed.rechunk_form e infos inputs options ok k s.node f s.at s.is r in by_form (Form.Rechunk (Arg.Node one.0 ∷ []) r.chunk) one.1 (λ t. rechunk_steps k one.0 r.chunk t) s
+        | inr (inr (inr (inr (inr (inl i))))) ↦ by_form (Form.Input i.name) i.is (λ t. input_steps k i.name t) s
+        | inr (inr (inr (inr (inr (inr viewed))))) ↦ view_steps_are k f s viewed
       ]
     where
       by_form : {k : ℕ} {f : Form} (g : Form) → f ≡ g → ((t : Stands k g) → AreNodeSteps k g t) → (s : Stands k f) → AreNodeSteps k f s
@@ -168,14 +210,32 @@ module _ (e : Expression) (infos : List NodeInfo) (inputs : List InputInfo) (opt
   pub step_number : (size : Grown → ℕ) (j : ℕ) (w : Stood size j) → length w.step.before.places ≡ w.k
   step_number size j w = ap length w.step.node ∙ w.node.number
 
-  -- the need of its node
-  pub step_need : (size : Grown → ℕ) (j : ℕ) (w : Stood size j) → w.step.step.need ≤ need_of options.reserved options.split_every infos w.k w.operator
-  step_need size j w =
-      w.step.need (need_of options.reserved options.split_every infos w.k w.operator)
-      (node_own e infos inputs options ok laws w.k w.node.node w.operator w.node.at w.node.is w.node.live w.node.other (ins_of w.operator) (length w.node.before.arrays) w.node.small).needs
+  -- what its node's steps come to
+  pub own : (size : Grown → ℕ) (j : ℕ) (w : Stood size j) → AreOwn infos options e.out w.k w.operator (steps_at w.k w.operator (length w.node.before.arrays))
+  own size j w = node_own e infos inputs options ok laws w.k w.node.node w.operator w.node.at w.node.is w.node.live w.node.other grown.places (length w.node.before.arrays) w.node.small
 
-  pub need_within : (size : Grown → ℕ) (j : ℕ) (w : Stood size j) → need_of options.reserved options.split_every infos w.k w.operator ≤ options.allowed
-  need_within size j w = subst (λ (x : Form). need_of options.reserved options.split_every infos w.k x ≤ options.allowed) w.node.is (typed.need_within e infos inputs options ok w.k w.node.node w.node.at w.node.live)
+  -- the need of its node besides copies
+  pub step_need : (size : Grown → ℕ) (j : ℕ) (w : Stood size j) → is_copy w.step.step.op ≡ false → w.step.step.need ≤ own_need options.reserved options.split_every infos w.k w.operator
+  step_need size j w = all_among (λ x. is_copy x.op ≡ false → x.need ≤ own_need options.reserved options.split_every infos w.k w.operator) _ w.step.step (own size j w).needs w.step.among
+
+  need_within : (size : Grown → ℕ) (j : ℕ) (w : Stood size j) → need_of options.reserved options.split_every infos e.out w.k w.operator ≤ options.allowed
+  need_within size j w = subst (λ (x : Form). need_of options.reserved options.split_every infos e.out w.k x ≤ options.allowed) w.node.is (typed.need_within e infos inputs options ok w.k w.node.node w.node.at w.node.live)
+
+  -- and at most what is allowed
+  pub step_allowed : (size : Grown → ℕ) (j : ℕ) (w : Stood size j) → w.step.step.need ≤ options.allowed
+  step_allowed size j w =
+      let within = need_within size j w in
+      elim (cases_Bool (is_copy w.step.step.op)) [
+        | inl copy ↦
+            let low = node_need infos options.reserved options.split_every e.out w.k w.operator in
+            let most = all_among (λ x. is_copy x.op ≡ true → x.need ≤ options.reserved + 2 * max_mem options.allowed options.reserved) _ w.step.step (own size j w).copies w.step.among copy in
+            let half = both_regions options.allowed options.reserved (omega (arith, low, within)) in
+            omega (arith, most, half)
+        | inr other ↦
+            let need = step_need size j w other in
+            let most : own_need options.reserved options.split_every infos w.k w.operator ≤ need_of options.reserved options.split_every infos e.out w.k w.operator = omega arith in
+            omega (arith, need, most, within)
+      ]
 
   -- an array before a step has an earlier maker
   readable : (size : Grown → ℕ) (j : ℕ) (w : Stood size j) (a : ℕ) → a < length w.step.before.arrays → IsReadable grown.arrays (length w.step.before.ops) a
@@ -187,11 +247,27 @@ module _ (e : Expression) (infos : List NodeInfo) (inputs : List InputInfo) (opt
         subst (λ (m : Option ℕ). IsBefore m (length w.step.before.ops)) (sym (ap (λ (x : ArrayInfo). x.maker) same)) (w.step.growing.makers a below),
       )
 
-  ins_before : (size : Grown → ℕ) (j : ℕ) (w : Stood size j) → All (λ a. a < length w.step.before.arrays) (ins_of w.operator)
-  ins_before size j w =
+  arguments_before : (size : Grown → ℕ) (j : ℕ) (w : Stood size j) → All (λ a. a < length w.step.before.arrays) (array_places grown.places (args_of w.operator))
+  arguments_before size j w =
       all_places grown.places (λ a. a < length w.step.before.arrays) (args_of w.operator)
       (each_so (IsEarlierNode e w.k) (λ n. place_in grown n < length w.step.before.arrays) (λ n a. let early = w.node.earlier n a.below a.live in let past = w.step.past in omega (arith, early, past)) (args_of w.operator)
       (placed.arguments e infos inputs options ok laws closed w.k w.operator w.node))
+
+  -- a named array comes before all that are made
+  named_before : (size : Grown → ℕ) (j : ℕ) (w : Stood size j) (name : List ℕ) → w.operator ≡ Form.Input name → input_place e name < length w.step.before.arrays
+  named_before size j w name is =
+      let named = (standing.named_at e infos inputs options ok.form (all_steps e infos inputs options ok laws) w.k w.node.node name w.node.at (w.node.is ∙ is) w.node.live).0 in
+      let inputs = w.step.growing.inputs in
+      omega (arith, named, inputs)
+
+  ins_before : (size : Grown → ℕ) (j : ℕ) (w : Stood size j) → All (λ a. a < length w.step.before.arrays) (ins_of w.operator)
+  ins_before size j w =
+      source_before w.operator (λ name is. named_before size j w name is) (arguments_before size j w)
+    where
+      source_before : (f : Form) → ((name : List ℕ) → f ≡ Form.Input name → input_place e name < length w.step.before.arrays) → All (λ a. a < length w.step.before.arrays) (array_places grown.places (args_of f))
+          → All (λ a. a < length w.step.before.arrays) (sources_of e grown.places f)
+      source_before (Form.Input name) named all = All-cons (λ a. a < length w.step.before.arrays) (input_place e name) [] (named name refl) (All-nil (λ a. a < length w.step.before.arrays))
+      source_before f named all = all
 
   step_reads : (size : Grown → ℕ) (j : ℕ) (w : Stood size j) (a : ℕ) → IsGiven (ins_of w.operator) (length w.node.before.arrays) (length w.step.before.arrays) a → IsReadable grown.arrays (length w.step.before.ops) a
   step_reads size j w a (inl among) = readable size j w a (all_among (λ b. b < length w.step.before.arrays) (ins_of w.operator) a (ins_before size j w) among)
@@ -231,8 +307,7 @@ module _ (e : Expression) (infos : List NodeInfo) (inputs : List InputInfo) (opt
       let w = stood j below in
       let fit = step_fits _ j w in
       let number = ops_number j w in
-      let need = step_need _ j w in
-      let most = need_within _ j w in
+      let need = step_allowed _ j w in
       let allowed = ok.allowed in
       subst (IsOperation grown.arrays options.reserved j) (sym (operation_is j w)) (record {
         reads = λ i d under. subst (λ (m : ℕ). IsReadable grown.arrays m (get_or (reads_of w.step.step.op) i d)) number (step_reads _ j w (get_or (reads_of w.step.step.op) i d) (fit.reads i d under));
@@ -242,5 +317,5 @@ module _ (e : Expression) (infos : List NodeInfo) (inputs : List InputInfo) (opt
             (omega (arith, long, within, high), (step_made _ j w b low high).made ∙ ap Some number)));
         fits = fit.fits;
         projected = fit.need;
-        room = omega (arith, need, most, allowed);
+        room = omega (arith, need, allowed);
       })

@@ -15,11 +15,12 @@ use Rattle.cu_need.specs.Live.{is_live, IsClosed}
 use Rattle.cu_lower_reduce.specs.Steps.{all_made, grid_of, HasInfo, HaveInfos}
 use Rattle.cu_lower_reduce.specs.declared.step.Step.{Step}
 use Rattle.cu_lower.specs.Plan.{lowered, place_in}
-use Rattle.cu_lower.specs.Parts.{Grown, made_layout, with_steps}
+use Rattle.cu_lower.specs.Inputs.{input_place}
+use Rattle.cu_lower.specs.Parts.{Grown, is_given, made_layout, with_steps}
 use Rattle.cu_lower.specs.Premises.{IsLowerable}
 use Rattle.cu_lower.specs.declared.options.Options.{Options}
 use Rattle.cu_lower.proofs.Arguments.{Each, each_so, IsEarlierNode, live_arguments}
-use Rattle.cu_lower.proofs.FormKinds.{is_input, input_kind}
+use Rattle.cu_lower.proofs.FormKinds.{IsGivenInput, given_kind}
 use Rattle.cu_lower.proofs.Growing.{steps_long}
 use Rattle.cu_lower.proofs.NodeSteps.{all_steps}
 use Rattle.cu_lower.proofs.Standing as standing
@@ -69,9 +70,10 @@ module _ (e : Expression) (infos : List NodeInfo) (inputs : List InputInfo) (opt
       subst (λ (a : ℕ). HasInfo grown.arrays a (info_at infos k)) (sym (own_place k f s))
       (last_known grown.arrays (length s.before.arrays) s.make.ends.0 (info_at infos k) (subst (HaveInfos grown.arrays (length s.before.arrays)) s.make.ends.1 (stood_infos k f s)))
 
-  input_known : (k : ℕ) (n : Node) (name : List ℕ) → slice_get e.nodes k ≡ Some n → n.form ≡ Form.Input name → is_live e k ≡ true → HasInfo grown.arrays (place_in grown k) (info_at infos k)
-  input_known k n name at is live =
-      let f = standing.from_input e infos inputs options ok.form (all_steps e infos inputs options ok laws) k n name at is live in
+  -- the array with the name of a live input
+  pub named_known : (k : ℕ) (n : Node) (name : List ℕ) → slice_get e.nodes k ≡ Some n → n.form ≡ Form.Input name → is_live e k ≡ true → HasInfo grown.arrays (input_place e name) (info_at infos k)
+  named_known k n name at is live =
+      let f = standing.named_at e infos inputs options ok.form (all_steps e infos inputs options ok laws) k n name at is live in
       let c = (standing.known e infos inputs options ok.form (all_steps e infos inputs options ok laws)).growing.inputs in
       let below = f.0 in
       let known = sym (typed.input_info e infos inputs options ok k n name at is) in
@@ -81,15 +83,20 @@ module _ (e : Expression) (infos : List NodeInfo) (inputs : List InputInfo) (opt
         dtype = ap (λ (a : ArrayInfo). a.layout.dtype) f.1 ∙ ap (λ (i : NodeInfo). i.dtype) known;
       }
 
-  -- where a live node that isn't an input stands
-  pub node_stands : (k : ℕ) (n : Node) (f : Form) → slice_get e.nodes k ≡ Some n → n.form ≡ f → is_input f ≡ false → is_live e k ≡ true → Stands k f
+  input_known : (k : ℕ) (n : Node) → slice_get e.nodes k ≡ Some n → is_live e k ≡ true → IsGivenInput e k n.form → HasInfo grown.arrays (place_in grown k) (info_at infos k)
+  input_known k n at live i =
+      let f = standing.from_input e infos inputs options ok.form (all_steps e infos inputs options ok laws) k n i at live in
+      subst (λ (a : ℕ). HasInfo grown.arrays a (info_at infos k)) (sym f.0) (named_known k n i.name at i.is live)
+
+  -- where a live node that isn't given stands
+  pub node_stands : (k : ℕ) (n : Node) (f : Form) → slice_get e.nodes k ≡ Some n → n.form ≡ f → is_given e k f ≡ false → is_live e k ≡ true → Stands k f
   node_stands k n f at is other live = standing.from_node e infos inputs options ok.form (all_steps e infos inputs options ok laws) k n f at is other live
 
   -- the array of a live node has the node's type and grid
   pub live_known : (k : ℕ) (n : Node) → slice_get e.nodes k ≡ Some n → is_live e k ≡ true → HasInfo grown.arrays (place_in grown k) (info_at infos k)
   live_known k n at live =
-      elim (input_kind n.form) [
-        | inl input ↦ input_known k n input.0 at input.1 live
+      elim (given_kind e k n.form) [
+        | inl input ↦ input_known k n at live input
         | inr other ↦ stood_known k n.form (node_stands k n n.form at refl other live)
       ]
 

@@ -61,7 +61,7 @@ inside_along (n ∷ ns) [] ms ds is a h = absurd a
 inside_along (n ∷ ns) (c ∷ cs) [] ds is a h = absurd a
 inside_along (n ∷ ns) (c ∷ cs) (m ∷ ms) [] is a h = absurd a
 
-inside_back : (g r : RegularGrid) (is : List ℕ) → IsAligned g r → IsInside r.shape is → IsInside g.shape (back g.shape is)
+pub inside_back : (g r : RegularGrid) (is : List ℕ) → IsAligned g r → IsInside r.shape is → IsInside g.shape (back g.shape is)
 inside_back g r is a h =
     let e : length r.shape - length g.shape ≡ length is - length g.shape = (let l = inside-length r.shape is h in omega (arith, l)) in
     subst (λ (k : ℕ). IsInside g.shape (back_along g.shape (drop k is))) e
@@ -70,7 +70,7 @@ inside_back g r is a h =
 
 -- ---- the shape of an operand
 
-last_two : (ns : List ℕ) → 2 ≤ length ns → ns ≡ take (length ns - 2) ns ++ get_or ns (length ns - 2) 0 ∷ get_or ns (length ns - 1) 0 ∷ []
+pub last_two : (ns : List ℕ) → 2 ≤ length ns → ns ≡ take (length ns - 2) ns ++ get_or ns (length ns - 2) 0 ∷ get_or ns (length ns - 1) 0 ∷ []
 last_two [] h = absurd (omega arith)
 last_two (x ∷ []) h = absurd (omega arith)
 last_two (x ∷ y ∷ []) h = refl
@@ -80,7 +80,7 @@ last_two (x ∷ y ∷ z ∷ ns) h =
     ap (λ (is : List ℕ). x ∷ is) (last_two (y ∷ z ∷ ns) (omega arith))
     ∙ (λ j. take (sym e j) (x ∷ y ∷ z ∷ ns) ++ get_or (x ∷ y ∷ z ∷ ns) (sym e j) 0 ∷ get_or (x ∷ y ∷ z ∷ ns) (sym f j) 0 ∷ [])
 
-only_one : (ns : List ℕ) → 1 ≤ length ns → length ns < 2 → ns ≡ get_or ns (length ns - 1) 0 ∷ []
+pub only_one : (ns : List ℕ) → 1 ≤ length ns → length ns < 2 → ns ≡ get_or ns (length ns - 1) 0 ∷ []
 only_one [] h l = absurd (omega arith)
 only_one (x ∷ []) h l = refl
 only_one (x ∷ y ∷ ns) h l = absurd (omega arith)

@@ -24,7 +24,7 @@ use Rattle.cu_meaning.specs.Argument.{NodeElements}
 use Rattle.cu_meaning.specs.Meaning.{meaning_of}
 use Rattle.cu_lower.specs.Parts.{made_layout}
 use Rattle.cu_lower.specs.Plan.{plan_of}
-use Rattle.cu_lower.specs.Premises.{IsLowerable, IsMadeNode, NeedsAsMuch}
+use Rattle.cu_lower.specs.Premises.{IsLowerable, IsComputedNode, NeedsAsMuch}
 use Rattle.cu_lower.specs.declared.options.Options.{Options}
 
 abbrev of_form : List ℕ → Form → Node
@@ -140,14 +140,14 @@ the_square_is_meant = refl
 
 -- ---- what a node needs: the sum as much as its merge, the vector by itself as much as its first operation
 
-the_sum_is_made : IsMadeNode summed 1 s
-the_sum_is_made = record { at = refl; live = refl; form = λ name is. cc }
+the_sum_is_computed : IsComputedNode summed 1 s
+the_sum_is_computed = record { at = refl; live = refl; form = refl }
 
 the_sum_needs : NeedsAsMuch sum_infos options (plan_of summed sum_infos inputs options).ops 1 s
-the_sum_needs = record { at = 1; below = omega arith; of_node = refl; need = refl }
+the_sum_needs = record { at = 1; below = omega arith; of_node = refl; other = refl; need = refl }
 
 the_square_needs : NeedsAsMuch product_infos options (plan_of multiplied product_infos inputs options).ops 1 (of_form (codes "m") (Form.Matmul (Arg.Node 0 ∷ Arg.Node 0 ∷ [])))
-the_square_needs = record { at = 0; below = omega arith; of_node = refl; need = refl }
+the_square_needs = record { at = 0; below = omega arith; of_node = refl; other = refl; need = refl }
 
 -- ---- the premises hold of the first expression
 
@@ -198,7 +198,6 @@ lowerable = record {
   types = refl;
   kept = All-cons IsInfo five (one ∷ []) five_kept (All-cons IsInfo one [] one_kept (All-nil IsInfo));
   fills = All-cons (λ (i : InputInfo). IsLayout i.layout) (record { name = codes "a"; layout = made_layout five }) [] zero_fits (All-nil (λ (i : InputInfo). IsLayout i.layout));
-  built = refl;
   memory = refl;
   counts = refl;
   allowed = omega arith;

@@ -27,6 +27,7 @@ use Rattle.cu_form.specs.Expression.{Expression}
 use Rattle.cu_node.specs.Info.{info_at}
 use Rattle.cu_node.specs.declared.info.NodeInfo.{NodeInfo}
 use Rattle.cu_expr.specs.declared.inputs.InputInfo.{InputInfo}
+use Rattle.cu_copy.specs.Copies.{max_mem}
 use Rattle.cu_need.specs.Counts.{plan_counts}
 use Rattle.cu_need.specs.Live.{is_live, IsClosed}
 use Rattle.cu_lower_reduce.specs.Steps.{made_infos, grid_of}
@@ -294,6 +295,6 @@ module _ (e : Expression) (infos : List NodeInfo) (inputs : List InputInfo) (opt
         array_count = omega (arith, arrays);
         operation_count = omega (arith, ops);
         input_chunks = λ a below none. (input_ok a (without_maker a below none)).1;
-        tasks = (let a = counted.tasks_all e infos inputs options ok laws closed in let c = (kept_limits (plan_counts e infos options.split_every) ok.counts).0 in omega (arith, a, c));
-        cells = (let a = counted.cells_all e infos inputs options ok laws closed in let c = (kept_limits (plan_counts e infos options.split_every) ok.counts).1 in omega (arith, a, c));
+        tasks = (let a = counted.tasks_all e infos inputs options ok laws closed in let c = (kept_limits (plan_counts (max_mem options.allowed options.reserved) options.split_every e infos) ok.counts).0 in omega (arith, a, c));
+        cells = (let a = counted.cells_all e infos inputs options ok laws closed in let c = (kept_limits (plan_counts (max_mem options.allowed options.reserved) options.split_every e infos) ok.counts).1 in omega (arith, a, c));
       }

@@ -20,11 +20,11 @@ use Rattle.cu_lower_reduce.specs.declared.step.Step.{Step}
 use Rattle.cu_lower.specs.Inputs.{input_array, input_names, input_arrays, input_place}
 use Rattle.cu_lower.specs.Plan.{first_grown, lowered, place_in}
 use Rattle.cu_lower.specs.declared.options.Options.{Options}
-use Rattle.cu_lower.specs.Parts.{Grown, IsGrown, HasSteps, Make, array_places, is_none, steps_of, with_step, with_steps, with_place, with_last, with_node}
+use Rattle.cu_lower.specs.Parts.{Grown, IsGrown, HasSteps, Make, array_places, is_given, is_none, sources_of, steps_of, with_step, with_steps, with_place, with_last, with_node}
 use Rattle.cu_lower.proofs.Growing as growing
 use Rattle.cu_lower.proofs.Growing.{Front, Located}
 use Rattle.cu_lower.proofs.InputNames.{input_placed}
-use Rattle.cu_lower.proofs.FormKinds.{is_input, input_kind, node_made, steps_made}
+use Rattle.cu_lower.proofs.FormKinds.{IsGivenInput, given_kind, node_made, node_given}
 
 -- the element behind a front
 pub seam : {A : Type 0} (xs rest fs : List A) (y d : A) (k : ℕ) → fs ≡ (xs ++ y ∷ []) ++ rest → k ≡ length xs → get_or fs k d ≡ y
@@ -85,25 +85,25 @@ module _ (e : Expression) (infos : List NodeInfo) (inputs : List InputInfo) (opt
       front_array (first_grown e inputs) whole a (growing.front_after e infos options (first_grown e inputs) e.nodes) (omega (arith, l, below))
       ∙ get_or-map (input_array inputs) (input_names e) a [] no_array below
 
-  -- ---- a node that isn't an input
+  -- ---- a node that has steps
 
   -- the steps of node k
   abbrev pub own_steps : ℕ → Form → ℕ → List Step
-  own_steps k f first = steps_of infos options k f (array_places whole.places (args_of f)) first
+  own_steps k f first = steps_of infos options k f (sources_of e whole.places f) first
 
   -- a live node's form, and what was grown before its steps
   pub record Standing (k : ℕ) (f : Form) : Type 0 where
     pub node : Node
     pub at : slice_get e.nodes k ≡ Some node
     pub is : node.form ≡ f
-    pub other : is_input f ≡ false
+    pub other : is_given e k f ≡ false
     pub live : is_live e k ≡ true
     pub before : Grown
     pub known : IsGrown e before
     pub number : length before.places ≡ k
     pub front : Front (with_steps e before (own_steps k f (length before.arrays))) whole
     pub make : Make (info_at infos k) (own_steps k f (length before.arrays))
-    pub small : length before.arrays < 2 ^ 31
+    pub small : length before.arrays < 2 ^ 30
     pub place : place_in whole k ≡ length (with_steps e before (own_steps k f (length before.arrays))).arrays - 1
     pub earlier : (n : ℕ) → n < k → is_live e n ≡ true → place_in whole n < length before.arrays
 
@@ -118,18 +118,22 @@ module _ (e : Expression) (infos : List NodeInfo) (inputs : List InputInfo) (opt
   same_places h (Arg.Int x ∷ args) f earlier = same_places h args f earlier
   same_places h (Arg.Truth b ∷ args) f earlier = same_places h args f earlier
 
+  same_sources : (h : Grown) (f : Form) → Front h whole → list_all (is_earlier (length h.places)) (args_of f) ≡ true → sources_of e h.places f ≡ sources_of e whole.places f
+  same_sources h (Form.Input name) front earlier = refl
+  same_sources h f front earlier = same_places h (args_of f) front earlier
+
   -- so its steps before it was added are those of the whole
   pub own_same : (h : Grown) (k : ℕ) (n : Node) (f : Form) → slice_get e.nodes k ≡ Some n → n.form ≡ f → length h.places ≡ k → Front h whole
       → growing.own_steps e infos options h f ≡ own_steps k f (length h.arrays)
   own_same h k n f at is number before =
       let named : list_all (is_earlier (length h.places)) (args_of f) ≡ true = subst (λ (i : ℕ). list_all (is_earlier i) (args_of f) ≡ true) (sym number) (subst (λ (x : Form). list_all (is_earlier k) (args_of x) ≡ true) is (form.nodes k n at).form.earlier) in
-      ap (λ i. steps_of infos options i f (array_places h.places (args_of f)) (length h.arrays)) number
-      ∙ ap (λ xs. steps_of infos options k f xs (length h.arrays)) (same_places h (args_of f) before named)
+      ap (λ i. steps_of infos options i f (sources_of e h.places f) (length h.arrays)) number
+      ∙ ap (λ xs. steps_of infos options k f xs (length h.arrays)) (same_sources h f before named)
 
   pub steps_front : (h : Grown) (ss : List Step) → Front (with_last (with_steps e h ss)) whole → Front (with_steps e h ss) whole
   steps_front h ss front = growing.front_then (with_steps e h ss) (with_last (with_steps e h ss)) whole (growing.front_place (with_steps e h ss) (length (with_steps e h ss).arrays - 1)) front
 
-  abbrev pub stands : (h : Grown) (k : ℕ) (n : Node) (f : Form) → slice_get e.nodes k ≡ Some n → n.form ≡ f → is_input f ≡ false → is_live e k ≡ true
+  abbrev pub stands : (h : Grown) (k : ℕ) (n : Node) (f : Form) → slice_get e.nodes k ≡ Some n → n.form ≡ f → is_given e k f ≡ false → is_live e k ≡ true
       → length h.places ≡ k → IsGrown e h → Front (with_last (with_steps e h (growing.own_steps e infos options h f))) whole → Standing k f
   stands h k n f at is other live number grown front =
       let ss = growing.own_steps e infos options h f in
@@ -149,7 +153,7 @@ module _ (e : Expression) (infos : List NodeInfo) (inputs : List InputInfo) (opt
         number = number;
         front = subst (λ (xs : List Step). Front (with_steps e h xs) whole) same own;
         small = growing.few_arrays e infos options steps h n (subst (λ (i : ℕ). slice_get e.nodes i ≡ Some n) (sym number) at) grown;
-        make = steps_made infos options k f (subst (HasSteps infos options k) is (steps.steps k n at live)) other (array_places whole.places (args_of f)) (length h.arrays) (growing.few_arrays e infos options steps h n (subst (λ (i : ℕ). slice_get e.nodes i ≡ Some n) (sym number) at) grown);
+        make = subst (HasSteps e infos options k) is (steps.steps k n at live) other whole.places (length h.arrays) (growing.few_arrays e infos options steps h n (subst (λ (i : ℕ). slice_get e.nodes i ≡ Some n) (sym number) at) grown);
         place = seam m.places front.places.0 whole.places (length m.arrays - 1) 0 k front.places.1 (omega (arith, places, number)) ∙ ap (λ (xs : List Step). length (with_steps e h xs).arrays - 1) same;
         earlier = λ i below live_i.
             let w = grown.growing.placed i (omega (arith, number, below)) live_i in
@@ -157,7 +161,7 @@ module _ (e : Expression) (infos : List NodeInfo) (inputs : List InputInfo) (opt
             omega (arith, w, stays);
       }
 
-  pub from_node : (k : ℕ) (n : Node) (f : Form) → slice_get e.nodes k ≡ Some n → n.form ≡ f → is_input f ≡ false → is_live e k ≡ true → Standing k f
+  pub from_node : (k : ℕ) (n : Node) (f : Form) → slice_get e.nodes k ≡ Some n → n.form ≡ f → is_given e k f ≡ false → is_live e k ≡ true → Standing k f
   from_node k n f at is other live =
       let r = growing.reached e infos options steps (first_grown e inputs) e.nodes from_first at_first k k n (omega arith) at in
       let h = r.0 in
@@ -165,22 +169,27 @@ module _ (e : Expression) (infos : List NodeInfo) (inputs : List InputInfo) (opt
       let alive : is_live e (length h.places) ≡ true = subst (λ (i : ℕ). is_live e i ≡ true) (sym s.number) live in
       let front = subst (λ (x : Grown). Front x whole) (growing.live_next e infos options h n.form alive) s.front in
       let own = subst (λ (x : Form). Front (with_node e infos options h x) whole) is front in
-      stands h k n f at is other live s.number s.known (subst (λ (x : Grown). Front x whole) (node_made e infos options h f other) own)
+      stands h k n f at is other live s.number s.known (subst (λ (x : Grown). Front x whole) (node_made e infos options h f (subst (λ (i : ℕ). is_given e i f ≡ false) (sym s.number) other)) own)
 
-  -- an input node's array
-  pub from_input : (k : ℕ) (n : Node) (name : List ℕ) → slice_get e.nodes k ≡ Some n → n.form ≡ Form.Input name → is_live e k ≡ true
-      → (place_in whole k < given) × (array_at whole.arrays (place_in whole k) ≡ input_array inputs name)
-  from_input k n name at is live =
+  -- the array of an input that isn't stored
+  pub from_input : (k : ℕ) (n : Node) (i : IsGivenInput e k n.form) → slice_get e.nodes k ≡ Some n → is_live e k ≡ true
+      → (place_in whole k ≡ input_place e i.name) × (place_in whole k < given)
+  from_input k n i at live =
       let r = growing.reached e infos options steps (first_grown e inputs) e.nodes from_first at_first k k n (omega arith) at in
       let h = r.0 in
       let s = r.1 in
       let alive : is_live e (length h.places) ≡ true = subst (λ (i : ℕ). is_live e i ≡ true) (sym s.number) live in
       let f = subst (λ (g : Grown). Front g whole) (growing.live_next e infos options h n.form alive) s.front in
-      let there = subst (λ (g : Form). Front (with_node e infos options h g) whole) is f in
-      let place : place_in whole k ≡ input_place e name = seam h.places there.places.0 whole.places (input_place e name) 0 k there.places.1 (sym s.number) in
+      let there = subst (λ (g : Grown). Front g whole) (node_given e infos options h n.form k s.number i) f in
+      let place : place_in whole k ≡ input_place e i.name = seam h.places there.places.0 whole.places (input_place e i.name) 0 k there.places.1 (sym s.number) in
+      (place, subst (λ (a : ℕ). a < given) (sym place) (input_placed e k n i.name at live i.is).0)
+
+  -- the array with the name of a live input
+  pub named_at : (k : ℕ) (n : Node) (name : List ℕ) → slice_get e.nodes k ≡ Some n → n.form ≡ Form.Input name → is_live e k ≡ true
+      → (input_place e name < given) × (array_at whole.arrays (input_place e name) ≡ input_array inputs name)
+  named_at k n name at is live =
       let named = input_placed e k n name at live is in
-      let below : place_in whole k < given = subst (λ (a : ℕ). a < given) (sym place) named.0 in
-      (below, input_at (place_in whole k) below ∙ ap (λ a. input_array inputs (get_or (input_names e) a [])) place ∙ ap (input_array inputs) named.1)
+      (named.0, input_at (input_place e name) named.0 ∙ ap (input_array inputs) named.1)
 
   -- ---- by operations and by arrays
 
@@ -192,7 +201,7 @@ module _ (e : Expression) (infos : List NodeInfo) (inputs : List InputInfo) (opt
     pub step : Located e size node.before (own_steps k operator (length node.before.arrays)) whole j
 
   from_steps : (size : Grown → ℕ) → ((g : Grown) (place : ℕ) → size (with_place g place) ≡ size g) → (h : Grown) (k j : ℕ) (n : Node) (f : Form) → slice_get e.nodes k ≡ Some n → n.form ≡ f
-      → is_input f ≡ false → is_live e k ≡ true → length h.places ≡ k → IsGrown e h → Front (with_last (with_steps e h (growing.own_steps e infos options h f))) whole
+      → is_given e k f ≡ false → is_live e k ≡ true → length h.places ≡ k → IsGrown e h → Front (with_last (with_steps e h (growing.own_steps e infos options h f))) whole
       → size h ≤ j → j < size (with_last (with_steps e h (growing.own_steps e infos options h f))) → Stood size j
   from_steps size same h k j n f at is other live number grown front least below =
       let s = stands h k n f at is other live number grown front in
@@ -212,13 +221,13 @@ module _ (e : Expression) (infos : List NodeInfo) (inputs : List InputInfo) (opt
   from_form : (size : Grown → ℕ) → ((g : Grown) (place : ℕ) → size (with_place g place) ≡ size g) → (h : Grown) (k j : ℕ) (n : Node) (f : Form) → slice_get e.nodes k ≡ Some n → n.form ≡ f
       → is_live e k ≡ true → length h.places ≡ k → IsGrown e h → Front (with_node e infos options h f) whole → size h ≤ j → j < size (with_node e infos options h f) → Stood size j
   from_form size same h k j n f at is live number grown front least below =
-      elim (input_kind f) [
+      elim (given_kind e k f) [
         | inl input ↦
-            let w = subst (λ (x : Form). j < size (with_node e infos options h x)) input.1 below in
-            let plain = same h (input_place e input.0) in
+            let w = subst (λ (x : Grown). j < size x) (node_given e infos options h f k number input) below in
+            let plain = same h (input_place e input.name) in
             absurd (omega (arith, w, plain, least))
         | inr other ↦
-            let made = node_made e infos options h f other in
+            let made = node_made e infos options h f (subst (λ (i : ℕ). is_given e i f ≡ false) (sym number) other) in
             from_steps size same h k j n f at is other live number grown (subst (λ (x : Grown). Front x whole) made front) least (subst (λ (x : Grown). j < size x) made below)
       ]
 

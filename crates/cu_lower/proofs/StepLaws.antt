@@ -1,5 +1,7 @@
 -- The laws of the steps of a node: those of views, reductions, searches for places and products.
-use Rattle.std.specs.Prelude.{◌≡◌, ◌+◌, ◌∷◌, [], ℕ, ℤ, true, List, Some, map}
+use Rattle.std.specs.Prelude.{◌≡◌, ◌<◌, ◌≤◌, ◌+◌, ◌∷◌, ◌++◌, [], ℕ, ℤ, true, List, All, Some, filter, length, map, slice_index, sum_by}
+use Rattle.cu_copy.specs.Copies.{is_misaligned, rechunk_cells, rechunk_tasks, rechunked}
+use Rattle.cu_copy.specs.declared.copies.Rechunk.{Rechunk}
 use Rattle.cu_num.specs.Dtype.{InRange}
 use Rattle.cu_num.specs.declared.folds.FoldKind.TheVariants.{Sum}
 use Rattle.cu_num.specs.declared.types.Dtype.TheVariants.{Int64}
@@ -18,7 +20,9 @@ use Rattle.cu_lower_reduce.specs.Partials.{IsSetting}
 use Rattle.cu_lower_reduce.specs.Products.{product_steps, inner_products, IsProduct}
 use Rattle.cu_lower_reduce.specs.Reductions.{reduction_steps, reduced_indices, IsReduction}
 use Rattle.cu_lower_reduce.specs.Searches.{search_steps, value_bytes, IsSearch}
-use Rattle.cu_lower_reduce.specs.Steps.{HasInfo, HaveInfos, all_made, AreSteps, SolveSteps, last_made, with_merges, info_bytes, ComeTo}
+use Rattle.cu_lower_reduce.specs.Steps.{HasInfo, HaveEach, HaveInfos, IsGiven, all_made, AreSteps, SolveSteps, last_made, with_merges, info_bytes, ComeTo}
+use Rattle.cu_lower_reduce.specs.Copies.{aligned_places, aligned_steps, copy_steps, AreCopies, AreOperands, IsCopySetting, IsStaged}
+use Rattle.cu_lower_reduce.specs.declared.copy.CopySetting.{CopySetting}
 use Rattle.cu_lower_reduce.specs.declared.product.Product.{Product}
 use Rattle.cu_lower_reduce.specs.declared.reduction.Reduction.{Reduction}
 use Rattle.cu_lower_reduce.specs.declared.search.Search.{Search}
@@ -62,9 +66,32 @@ pub record ProductLaw : Type 0 where
       → (idx : List ℕ) → IsInside x.made.dims idx
       → at (last_made s.first (product_steps s x)) idx ≡ reduced_to Sum x.made.dtype (inner_products x (at x.left) (at x.right) idx)
 
+pub record RechunkLaw : Type 0 where
+  pub steps : (arrays : List ArrayInfo) (s : CopySetting) (source : ℕ) (r : Rechunk) → IsCopySetting s → IsStaged s r → HasInfo arrays source r.source → HaveInfos arrays s.first (all_made (copy_steps s source r))
+      → AreSteps arrays s.reserved (source ∷ []) s.first s.first (copy_steps s source r)
+  pub last : (arrays : List ArrayInfo) (s : CopySetting) (source : ℕ) (r : Rechunk) → HaveInfos arrays s.first (all_made (copy_steps s source r)) → HasInfo arrays (last_made s.first (copy_steps s source r)) (rechunked r)
+  pub ends : (s : CopySetting) (source : ℕ) (r : Rechunk) → (rest : List NodeInfo) × (all_made (copy_steps s source r) ≡ rest ++ rechunked r ∷ [])
+  pub sizes : (s : CopySetting) (source : ℕ) (r : Rechunk) → IsCopySetting s → IsStaged s r → AreCopies s 1 (rechunk_tasks s.most r) (rechunk_cells s.most r) (copy_steps s source r)
+  pub value : (arrays : List ArrayInfo) (at : Elements) (s : CopySetting) (source : ℕ) (r : Rechunk) → SolveSteps arrays at (copy_steps s source r)
+      → (idx : List ℕ) → at (last_made s.first (copy_steps s source r)) idx ≡ at source idx
+
+pub record OperandsLaw : Type 0 where
+  pub steps : (arrays : List ArrayInfo) (s : CopySetting) (sources : List ℕ) (rs : List Rechunk) → IsCopySetting s → length rs ≤ 3 → AreOperands s rs → HaveEach arrays sources (map (λ r. r.source) rs)
+      → HaveInfos arrays s.first (all_made (aligned_steps s sources rs)) → AreSteps arrays s.reserved sources s.first s.first (aligned_steps s sources rs)
+  pub places : (arrays : List ArrayInfo) (s : CopySetting) (sources : List ℕ) (rs : List Rechunk) → HaveEach arrays sources (map (λ r. r.source) rs)
+      → HaveInfos arrays s.first (all_made (aligned_steps s sources rs)) → HaveEach arrays (aligned_places s sources rs) (map rechunked rs)
+  pub given : (s : CopySetting) (sources : List ℕ) (rs : List Rechunk) → length sources ≡ length rs
+      → All (IsGiven sources s.first (s.first + length (all_made (aligned_steps s sources rs)))) (aligned_places s sources rs)
+  pub sizes : (s : CopySetting) (sources : List ℕ) (rs : List Rechunk) → IsCopySetting s → length rs ≤ 3 → AreOperands s rs → length sources ≡ length rs
+      → AreCopies s (length rs) (sum_by (rechunk_tasks s.most) (filter is_misaligned rs)) (sum_by (rechunk_cells s.most) (filter is_misaligned rs)) (aligned_steps s sources rs)
+  pub value : (arrays : List ArrayInfo) (at : Elements) (s : CopySetting) (sources : List ℕ) (rs : List Rechunk) (j : ℕ) → length sources ≡ length rs → j < length rs
+      → SolveSteps arrays at (aligned_steps s sources rs) → (idx : List ℕ) → at (slice_index (aligned_places s sources rs) j) idx ≡ at (slice_index sources j) idx
+
 -- each view that is typed has a pull, and the steps of the others keep what steps keep
 pub record HaveLaws : Type 0 where
   pub pulls : (infos : List NodeInfo) (form : Form) (i : NodeInfo) → IsTypedView infos form i → (p : View) × IsPull infos form i p
   pub reductions : ReductionLaw
   pub searches : SearchLaw
   pub products : ProductLaw
+  pub rechunks : RechunkLaw
+  pub operands : OperandsLaw

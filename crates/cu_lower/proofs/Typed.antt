@@ -19,7 +19,7 @@ use Rattle.cu_expr.specs.declared.inputs.InputInfo.{InputInfo}
 use Rattle.cu_expr.proofs.Nodes.{typed_at, over_all}
 use Rattle.cu_expr.proofs.ToldArguments.{info_kept}
 use Rattle.cu_need.specs.Live.{is_live}
-use Rattle.cu_need.specs.Need.{is_built, need_of}
+use Rattle.cu_need.specs.Need.{need_of, IsTyped}
 use Rattle.cu_need.specs.View.{is_view}
 use Rattle.cu_lower_view.specs.Typed.{typed_as_view, IsTypedView}
 use Rattle.cu_lower.specs.Inputs.{layout_named}
@@ -30,21 +30,22 @@ use Rattle.cu_lower.proofs.InputNames.{named_layout}
 use Rattle.cu_num.specs.declared.folds.FoldKind.{FoldKind}
 use Rattle.cu_typing.specs.Matmul.{typed_matmul}
 use Rattle.cu_typing.specs.Reduction.{typed_reduction, typed_arg_place}
-use Rattle.cu_lower.proofs.FormKinds.{IsReduce, IsArgPlace, IsMatmul, view_typed, sources_in}
+use Rattle.cu_lower.proofs.FormKinds.{IsReduce, IsArgPlace, IsMatmul, IsRechunked, view_typed, sources_in}
 use Rattle.cu_lower.proofs.ReductionTypes.{one_array, two_arrays}
-use Rattle.cu_need.proofs.FirstLive.{unbuilt_none, over_none}
+use Rattle.cu_need.proofs.FirstLive.{over_none}
+use Rattle.cu_lower.proofs.TypedForms.{form_typed}
 
 module _ (e : Expression) (infos : List NodeInfo) (inputs : List InputInfo) (options : Options) (ok : IsLowerable e infos inputs options) where
-  -- each live node is built, and needs no more than is allowed
-  pub are_built : (k : ℕ) (n : Node) → slice_get e.nodes k ≡ Some n → is_live e k ≡ true → is_built infos e.out k n.form ≡ true
-  are_built k n at live = (unbuilt_none e infos).0 ok.built k n (record { at = at; live = live })
-
-  pub need_within : (k : ℕ) (n : Node) → slice_get e.nodes k ≡ Some n → is_live e k ≡ true → need_of options.reserved options.split_every infos k n.form ≤ options.allowed
+  -- each live node needs no more than is allowed
+  pub need_within : (k : ℕ) (n : Node) → slice_get e.nodes k ≡ Some n → is_live e k ≡ true → need_of options.reserved options.split_every infos e.out k n.form ≤ options.allowed
   need_within k n at live = (over_none options.allowed options.reserved options.split_every e infos).0 ok.memory k n (record { at = at; live = live })
 
   -- a node's type
   pub typed_whole : (k : ℕ) (n : Node) → slice_get e.nodes k ≡ Some n → typed_node inputs infos n.form ≡ Ok (info_at infos k)
   typed_whole k n at = sym (over_all inputs infos k n.form (ok.form.nodes k n at).form.earlier) ∙ typed_at inputs e.nodes infos k n ok.types at
+
+  pub node_typed : (k : ℕ) (n : Node) → slice_get e.nodes k ≡ Some n → IsTyped infos k n.form
+  node_typed k n at = form_typed inputs infos k n.form (ok.form.nodes k n at).form.args (typed_whole k n at)
 
   pub elementwise : (k : ℕ) (n : Node) (op : ElementOp) (args : List Arg) → slice_get e.nodes k ≡ Some n → n.form ≡ Form.Elementwise op args
       → (t : Dtype) × IsElementwise op (map (argument_of infos) args) t (info_at infos k)
@@ -62,7 +63,7 @@ module _ (e : Expression) (infos : List NodeInfo) (inputs : List InputInfo) (opt
         typed = sym (view_typed (stored_of (named_input inputs) f) f infos viewed ∙ ap (typed_as_view f) (arrays_told infos (args_of f) ∙ sources_in infos (args_of f))) ∙ told;
       }
 
-  -- a reduction and a search for places have one argument, and a product two
+  -- a reduction, a search for places and a rechunk have one argument, and a product two
   takes : (k : ℕ) (n : Node) (f : Form) → slice_get e.nodes k ≡ Some n → n.form ≡ f → takes_args f ≡ true
   takes k n f at is = subst (λ (x : Form). takes_args x ≡ true) is (ok.form.nodes k n at).form.args
 
@@ -81,6 +82,11 @@ module _ (e : Expression) (infos : List NodeInfo) (inputs : List InputInfo) (opt
       let two = two_arrays r.args (takes k n (Form.Matmul r.args) at (is ∙ r.is)) in
       (two.0, (two.1.0, r.is ∙ ap Form.Matmul two.1.1))
 
+  pub rechunk_form : (k : ℕ) (n : Node) (f : Form) → slice_get e.nodes k ≡ Some n → n.form ≡ f → (r : IsRechunked f) → (m : ℕ) × (f ≡ Form.Rechunk (Arg.Node m ∷ []) r.chunk)
+  rechunk_form k n f at is r =
+      let one = one_array r.args (takes k n (Form.Rechunk r.args r.chunk) at (is ∙ r.is)) in
+      (one.0, r.is ∙ ap (λ args. Form.Rechunk args r.chunk) one.1)
+
   -- and are typed over what is known of these
   pub reduction : (k m : ℕ) (n : Node) (kind : FoldKind) (axes : Option (List ℤ)) (keepdims : Bool) → slice_get e.nodes k ≡ Some n → n.form ≡ Form.Reduce kind (Arg.Node m ∷ []) axes keepdims
       → typed_reduction kind axes keepdims (info_at infos m) ≡ Ok (info_at infos k)
@@ -92,6 +98,9 @@ module _ (e : Expression) (infos : List NodeInfo) (inputs : List InputInfo) (opt
 
   pub matmul : (k l m : ℕ) (n : Node) → slice_get e.nodes k ≡ Some n → n.form ≡ Form.Matmul (Arg.Node l ∷ Arg.Node m ∷ []) → typed_matmul (info_at infos l) (info_at infos m) ≡ Ok (info_at infos k)
   matmul k l m n at is = ap (typed_node inputs infos) (sym is) ∙ typed_whole k n at
+
+  pub rechunk : (k m : ℕ) (n : Node) (chunk : List ℕ) → slice_get e.nodes k ≡ Some n → n.form ≡ Form.Rechunk (Arg.Node m ∷ []) chunk → IsTyped infos k (Form.Rechunk (Arg.Node m ∷ []) chunk)
+  rechunk k m n chunk at is = subst (IsTyped infos k) is (node_typed k n at)
 
   -- what is known of an input node is its layout
   pub input_info : (k : ℕ) (n : Node) (name : List ℕ) → slice_get e.nodes k ≡ Some n → n.form ≡ Form.Input name → info_at infos k ≡ layout_info (layout_named inputs name)

@@ -1,18 +1,18 @@
 -- The elements that the step of an elementwise node and that of a view make, over any arrays that have the nodes' types and grids.
-use Rattle.std.proofs.Common.{◌≡◌, ℕ, zero, suc, ◌<◌, ◌+◌, ℤ, Bool, true, List, [], ◌∷◌, Option, Some, None, length, map, slice_index, refl, ap, sym, ◌∙◌, subst, inl, arith}
+use Rattle.std.proofs.Common.{◌≡◌, ℕ, zero, suc, ◌<◌, ◌+◌, ℤ, Bool, true, List, [], ◌∷◌, All, Option, Some, None, length, map, slice_index, refl, ap, sym, ◌∙◌, subst, inl, arith}
 use Rattle.std.specs.Prelude.{slice_get, slice_index_or, option_and_then}
 use Rattle.std.specs.List.{list_all}
+use Rattle.std.proofs.lemmas.List.Elements.{All-head, All-tail}
 use Rattle.cu_num.specs.Dtype.{InRange}
 use Rattle.cu_num.specs.declared.types.Dtype.{Dtype}
 use Rattle.cu_shape.specs.Index.{IsInside, back}
-use Rattle.cu_grid.specs.Grid.{RegularGrid, IsGrid}
+use Rattle.cu_grid.specs.Grid.{RegularGrid}
 use Rattle.cu_op.specs.Arrays.{grid_at}
 use Rattle.cu_op.specs.Kernel.{kernel_value}
 use Rattle.cu_op.specs.Operation.{IsAligned}
 use Rattle.cu_op.specs.Value.{Elements, loaded, pulled}
 use Rattle.cu_op.specs.declared.kernel.Instr.{Instr}
 use Rattle.cu_op.specs.declared.layout.ArrayInfo.{ArrayInfo}
-use Rattle.cu_op.proofs.ReadElements.{reads_from}
 use Rattle.cu_pull.specs.Pull.{origin_of, IsInSources}
 use Rattle.cu_pull.specs.declared.provenance.Provenance.{Provenance}
 use Rattle.cu_pull.specs.declared.provenance.Provenance.TheVariants.{From, Const}
@@ -22,7 +22,7 @@ use Rattle.cu_lower_view.specs.Typed.{IsTypedView, IsPull}
 use Rattle.cu_form.specs.Form.{args_of, is_array}
 use Rattle.cu_form.specs.declared.args.Arg.{Arg}
 use Rattle.cu_form.specs.declared.form.Form.{Form}
-use Rattle.cu_node.specs.Info.{IsInfo, info_at}
+use Rattle.cu_node.specs.Info.{info_at}
 use Rattle.cu_node.specs.declared.element_op.ElementOp.{ElementOp}
 use Rattle.cu_node.specs.declared.info.NodeInfo.{NodeInfo}
 use Rattle.cu_meaning.specs.Argument.{NodeElements, shape_at, argument_at}
@@ -32,22 +32,25 @@ use Rattle.cu_typing.specs.Types.{result_type}
 use Rattle.cu_expr.specs.Kernel.{kernel_of}
 use Rattle.cu_expr.specs.Typing.{argument_of}
 use Rattle.cu_need.specs.Chunks.{arrays_in}
-use Rattle.cu_need.specs.Elementwise.{are_aligned}
-use Rattle.cu_need.specs.Need.{need_of}
+use Rattle.cu_copy.specs.Copies.{rechunked}
+use Rattle.cu_need.specs.Need.{own_need}
+use Rattle.cu_need.specs.Operands.{in_aligned, operands_of}
 use Rattle.cu_need.specs.View.{is_view}
-use Rattle.cu_lower_reduce.specs.Steps.{HasInfo, SolveSteps}
+use Rattle.cu_lower_reduce.specs.Steps.{last_made, HasInfo, HaveEach, SolveSteps}
 use Rattle.cu_lower.specs.declared.options.Options.{Options}
-use Rattle.cu_lower.specs.Parts.{array_places, pull_in, steps_of, map_of, view_op}
+use Rattle.cu_lower.specs.Parts.{array_places, copying, pull_in, steps_of, map_of, view_op}
 use Rattle.cu_lower.proofs.Applied.{Told, Loaded, kernel_told}
-use Rattle.cu_lower.proofs.Arguments.{Each, each_both}
+use Rattle.cu_lower.proofs.Arguments.{Each}
 use Rattle.cu_lower.proofs.AxisIndices.{taken_from}
+use Rattle.cu_lower.proofs.Behind.{behind_last, own_solved, read_same, SameElements}
 use Rattle.cu_lower.proofs.Fitting as fitting
 use Rattle.cu_lower.proofs.Fitting.{StandsAlone}
 use Rattle.cu_lower.proofs.FormKinds.{view_arrays, view_steps}
-use Rattle.cu_lower.proofs.Grids.{info_grid}
+use Rattle.cu_lower.proofs.ProductLinks.{inside_back}
+use Rattle.cu_lower.proofs.StepLaws.{HaveLaws}
 use Rattle.cu_lower.proofs.ViewRules.{view_takes}
 
-module _ (must : Bool) (infos : List NodeInfo) (elements meaning : NodeElements) (options : Options) (arrays : List ArrayInfo) (places : List ℕ) (at : Elements) (kept : (k : ℕ) → IsInfo (info_at infos k)) where
+module _ (must : Bool) (infos : List NodeInfo) (elements meaning : NodeElements) (options : Options) (arrays : List ArrayInfo) (places : List ℕ) (at : Elements) where
   -- the array of a node carries its meaning
   abbrev pub CarriesAt : ℕ → Type 0
   CarriesAt n = (idx : List ℕ) → IsInside (shape_at infos n) idx → Told must (at (slice_index places n) idx) (meaning n idx)
@@ -69,54 +72,85 @@ module _ (must : Bool) (infos : List NodeInfo) (elements meaning : NodeElements)
   read k idx n = meaning n (back (shape_at infos n) idx)
 
   abbrev read_at : List ℕ → ℕ → Option ℤ
-  read_at idx n = at (slice_index places n) (back (grid_at arrays (slice_index places n)).shape idx)
+  read_at idx a = at a (back (grid_at arrays a).shape idx)
 
-  abbrev IsTold : ℕ → List ℕ → ℕ → Type 0
-  IsTold k idx n = Told must (read_at idx n) (read k idx n) × (read_at idx n ≡ Some (read k idx n) → InRange (info_at infos n).dtype (read k idx n))
+  -- array a has what is read of node n
+  abbrev IsTold : ℕ → List ℕ → ℕ → ℕ → Type 0
+  IsTold k idx n a = Told must (read_at idx a) (read k idx n) × (read_at idx a ≡ Some (read k idx n) → InRange (info_at infos n).dtype (read k idx n))
 
-  argument_told : (k first : ℕ) (idx : List ℕ) → HasInfo arrays first (info_at infos k) → IsInside (shape_at infos k) idx → (n : ℕ) → IsCarried n
-      → IsAligned (grid_at arrays (slice_index places n)) (grid_at arrays first) → IsTold k idx n
-  argument_told k first idx own inside n c aligned =
-      let into : IsInside (grid_at arrays first).shape idx = subst (λ (g : RegularGrid). IsInside g.shape idx) (sym own.grid) inside in
-      let grid : IsGrid (grid_at arrays (slice_index places n)) = subst IsGrid (sym c.known.grid) (info_grid (info_at infos n) (kept n)) in
-      let result : IsGrid (grid_at arrays first) = subst IsGrid (sym own.grid) (info_grid (info_at infos k) (kept k)) in
-      let from = reads_from (grid_at arrays (slice_index places n)) (grid_at arrays first) idx grid result aligned into in
-      let shape : (grid_at arrays (slice_index places n)).shape ≡ shape_at infos n = ap (λ (g : RegularGrid). g.shape) c.known.grid in
-      let there : IsInside (shape_at infos n) (back (shape_at infos n) idx) = subst (λ (ds : List ℕ). IsInside ds (back ds idx)) shape from.inside in
-      let told = c.carries (back (shape_at infos n) idx) there in (
-        subst (λ (ds : List ℕ). Told must (at (slice_index places n) (back ds idx)) (read k idx n)) (sym shape) told,
-        (λ some. c.ranged (back (shape_at infos n) idx) (read k idx n) there (ap (λ ds. at (slice_index places n) (back ds idx)) (sym shape) ∙ some)),
+  -- so have these arrays in order
+  abbrev AreTold : ℕ → List ℕ → List Arg → List ℕ → Type 0
+  AreTold k idx [] xs = Unit {0}
+  AreTold k idx (Arg.Node n ∷ args) [] = ⊥
+  AreTold k idx (Arg.Node n ∷ args) (a ∷ xs) = IsTold k idx n a × AreTold k idx args xs
+  AreTold k idx (Arg.Int x ∷ args) xs = AreTold k idx args xs
+  AreTold k idx (Arg.Truth b ∷ args) xs = AreTold k idx args xs
+
+  argument_told : (k out : ℕ) (idx : List ℕ) → HasInfo arrays out (info_at infos k) → IsInside (shape_at infos k) idx → (n a : ℕ) → IsCarried n
+      → HasInfo arrays a (rechunked (in_aligned (info_at infos k) (info_at infos n))) → ((i : List ℕ) → at a i ≡ at (slice_index places n) i) → IsAligned (grid_at arrays a) (grid_at arrays out) → IsTold k idx n a
+  argument_told k out idx own inside n a c known same aligned =
+      let into : IsInside (grid_at arrays out).shape idx = subst (λ (g : RegularGrid). IsInside g.shape idx) (sym own.grid) inside in
+      let shape : (grid_at arrays a).shape ≡ shape_at infos n = ap (λ (g : RegularGrid). g.shape) known.grid in
+      let there : IsInside (shape_at infos n) (back (shape_at infos n) idx) = subst (λ (ds : List ℕ). IsInside ds (back ds idx)) shape (inside_back (grid_at arrays a) (grid_at arrays out) idx aligned into) in
+      let source : read_at idx a ≡ at (slice_index places n) (back (shape_at infos n) idx) = ap (λ ds. at a (back ds idx)) shape ∙ same (back (shape_at infos n) idx) in (
+        subst (λ (o : Option ℤ). Told must o (read k idx n)) (sym source) (c.carries (back (shape_at infos n) idx) there),
+        (λ some. c.ranged (back (shape_at infos n) idx) (read k idx n) there (sym source ∙ some)),
       )
 
-  all_loaded : (k : ℕ) (ins : List ℕ) (idx : List ℕ) (i : ℕ) (args : List Arg) → ((j : ℕ) → slice_get ins (i + j) ≡ slice_get (array_places places args) j) → Each (IsTold k idx) args
+  arguments_told : (k out : ℕ) (idx : List ℕ) → HasInfo arrays out (info_at infos k) → IsInside (shape_at infos k) idx → (args : List Arg) (xs : List ℕ) → Each IsCarried args
+      → HaveEach arrays xs (map rechunked (map (in_aligned (info_at infos k)) (arrays_in infos args))) → SameElements at (array_places places args) xs → All (λ a. IsAligned (grid_at arrays a) (grid_at arrays out)) xs
+      → AreTold k idx args xs
+  arguments_told k out idx own inside [] xs each known same aligned = tt
+  arguments_told k out idx own inside (Arg.Node n ∷ args) [] each known same aligned = absurd known
+  arguments_told k out idx own inside (Arg.Node n ∷ args) (a ∷ xs) each known same aligned = (
+    argument_told k out idx own inside n a each.0 known.0 same.0 (All-head (λ b. IsAligned (grid_at arrays b) (grid_at arrays out)) a xs aligned),
+    arguments_told k out idx own inside args xs each.1 known.1 same.1 (All-tail (λ b. IsAligned (grid_at arrays b) (grid_at arrays out)) a xs aligned),
+  )
+  arguments_told k out idx own inside (Arg.Int x ∷ args) xs each known same aligned = arguments_told k out idx own inside args xs each known same aligned
+  arguments_told k out idx own inside (Arg.Truth b ∷ args) xs each known same aligned = arguments_told k out idx own inside args xs each known same aligned
+
+  all_loaded : (k : ℕ) (ins : List ℕ) (idx : List ℕ) (i : ℕ) (args : List Arg) (xs : List ℕ) → ((j : ℕ) → slice_get ins (i + j) ≡ slice_get xs j) → AreTold k idx args xs
       → Loaded must infos meaning idx (loaded arrays ins at idx) i args
-  all_loaded k ins idx i [] from each = tt
-  all_loaded k ins idx i (Arg.Node n ∷ args) from each =
-      let first : slice_get ins i ≡ Some (slice_index places n) = ap (slice_get ins) (let z : i ≡ i + 0 = omega arith in z) ∙ from 0 in
-      let load : loaded arrays ins at idx i ≡ read_at idx n = ap (option_and_then (λ a. at a (back (grid_at arrays a).shape idx))) first in (
+  all_loaded k ins idx i [] xs from each = tt
+  all_loaded k ins idx i (Arg.Node n ∷ args) [] from each = absurd each
+  all_loaded k ins idx i (Arg.Node n ∷ args) (a ∷ xs) from each =
+      let first : slice_get ins i ≡ Some a = ap (slice_get ins) (let z : i ≡ i + 0 = omega arith in z) ∙ from 0 in
+      let load : loaded arrays ins at idx i ≡ read_at idx a = ap (option_and_then (λ b. at b (back (grid_at arrays b).shape idx))) first in (
         subst (λ (o : Option ℤ). Told must o (read k idx n)) (sym load) each.0.0,
         (λ some. each.0.1 (sym load ∙ some)),
-        all_loaded k ins idx (i + 1) args (λ j. ap (slice_get ins) (let s : i + 1 + j ≡ i + suc j = omega arith in s) ∙ from (suc j)) each.1,
+        all_loaded k ins idx (i + 1) args xs (λ j. ap (slice_get ins) (let s : i + 1 + j ≡ i + suc j = omega arith in s) ∙ from (suc j)) each.1,
       )
-  all_loaded k ins idx i (Arg.Int x ∷ args) from each = all_loaded k ins idx i args from each
-  all_loaded k ins idx i (Arg.Truth b ∷ args) from each = all_loaded k ins idx i args from each
+  all_loaded k ins idx i (Arg.Int x ∷ args) xs from each = all_loaded k ins idx i args xs from each
+  all_loaded k ins idx i (Arg.Truth b ∷ args) xs from each = all_loaded k ins idx i args xs from each
 
-  module _ (k first : ℕ) (op : ElementOp) (args : List Arg) (t : Dtype) (typed : IsElementwise op (map (argument_of infos) args) t (info_at infos k)) (test : are_aligned (info_at infos k) (arrays_in infos args) ≡ true)
+  module _ (k first : ℕ) (op : ElementOp) (args : List Arg) (t : Dtype) (typed : IsElementwise op (map (argument_of infos) args) t (info_at infos k)) (laws : HaveLaws)
       (s : StandsAlone infos options arrays places k first (Form.Elementwise op args)) where
     pub function_told : Each IsCarried args → SolveSteps arrays at (steps_of infos options k (Form.Elementwise op args) (array_places places args) first) → (idx : List ℕ) → IsInside (shape_at infos k) idx
-        → Told must (at first idx) (rule_of infos elements meaning k (Form.Elementwise op args) idx)
+        → Told must (at (last_made first (steps_of infos options k (Form.Elementwise op args) (array_places places args) first)) idx) (rule_of infos elements meaning k (Form.Elementwise op args) idx)
     function_told carried solves idx inside =
-        let load = loaded arrays (array_places places args) at idx in
-        let aligned = fitting.aligned infos options arrays places k first op args t typed test s in
-        let each : Each (IsTold k idx) args = each_both IsCarried (λ n. IsAligned (grid_at arrays (slice_index places n)) (grid_at arrays first)) (IsTold k idx) (argument_told k first idx s.own inside) args carried aligned in
-        let all = all_loaded k (array_places places args) idx 0 args (λ i. ap (slice_get (array_places places args)) (let z : 0 + i ≡ i = omega arith in z)) each in
+        let ins = array_places places args in
+        let rs = operands_of infos k (Form.Elementwise op args) in
+        let reads = fitting.reads infos options arrays places k first op args t typed laws s in
+        let out = fitting.out infos options arrays places k first op args t typed laws s in
+        let own = fitting.own_step infos options arrays places k first op args t typed laws s in
+        let sources = fitting.sources_known infos options arrays places k first (info_at infos k) args s.known in
+        let load = loaded arrays (fitting.reads infos options arrays places k first op args t typed laws s) at idx in
+        let same = read_same laws.operands (copying options first) ins rs own arrays sources s.made at solves in
+        let each = arguments_told k out idx (fitting.out_known infos options arrays places k first op args t typed laws s) inside args reads carried (fitting.reads_known infos options arrays places k first op args t typed laws s) same
+        (fitting.aligned infos options arrays places k first op args t typed laws s) in
+        let all = all_loaded k reads idx 0 args reads (λ i. ap (slice_get reads) (let z : 0 + i ≡ i = omega arith in z)) each in
         let told = kernel_told must infos meaning idx load op t args typed.accepted all in
-        let same : rule_of infos elements meaning k (Form.Elementwise op args) idx ≡ function_value op (result_type op t) (map (argument_at infos meaning idx) args) =
+        let rule : rule_of infos elements meaning k (Form.Elementwise op args) idx ≡ function_value op (result_type op t) (map (argument_at infos meaning idx) args) =
         ap (λ d. function_value op d (map (argument_at infos meaning idx) args)) typed.dtype in
-        let value : at first idx ≡ kernel_value (kernel_of op t (map (argument_of infos) args)) (loaded arrays (array_places places args) at idx) =
-        solves (record { op = map_of infos op args (array_places places args) first; values = None; made = info_at infos k; need = need_of options.reserved options.split_every infos k (Form.Elementwise op args) }) first idx (0, omega arith, refl) (0, omega arith, refl) ∙ ap (λ (c : List Instr). kernel_value c load) (fitting.code_is infos options arrays places k first op args t typed test s) in
-        subst (λ (x : ℤ). Told must (at first idx) x) (sym same)
-        (subst (λ (o : Option ℤ). Told must o (function_value op (result_type op t) (map (argument_at infos meaning idx) args))) (sym value) told)
+        let value : at out idx ≡ kernel_value (kernel_of op t (map (argument_of infos) args)) load =
+        own_solved laws.operands (copying options first) ins rs own arrays sources s.made at solves
+        (record { op = map_of infos op args reads out; values = None; made = info_at infos k; need = own_need options.reserved options.split_every infos k (Form.Elementwise op args) }) out idx (0, omega arith, refl) (0, omega arith, refl)
+        ∙ ap (λ (c : List Instr). kernel_value c load) (fitting.code_is infos options arrays places k first op args t typed laws s) in
+        let last : last_made first (steps_of infos options k (Form.Elementwise op args) (array_places places args) first) ≡ out =
+        (let l = behind_last laws.operands (copying options first) ins rs own (omega arith) in omega (arith, l)) in
+        subst (λ (a : ℕ). Told must (at a idx) (rule_of infos elements meaning k (Form.Elementwise op args) idx)) (sym last)
+        (subst (λ (x : ℤ). Told must (at out idx) x) (sym rule)
+        (subst (λ (o : Option ℤ). Told must o (function_value op (result_type op t) (map (argument_at infos meaning idx) args))) (sym value) told))
 
   -- ---- a view
 
@@ -147,7 +181,7 @@ module _ (must : Bool) (infos : List NodeInfo) (elements meaning : NodeElements)
         let same = view_takes infos elements meaning k p idx inside f typed own in
         let steps = subst (SolveSteps arrays at) (view_steps infos options k f (array_places places (args_of f)) first viewed) solves in
         let value : at first idx ≡ pulled ins at from =
-        steps (record { op = view_op infos f (array_places places (args_of f)) first; values = None; made = info_at infos k; need = need_of options.reserved options.split_every infos k f }) first idx (0, omega arith, refl) (0, omega arith, refl)
+        steps (record { op = view_op infos f (array_places places (args_of f)) first; values = None; made = info_at infos k; need = own_need options.reserved options.split_every infos k f }) first idx (0, omega arith, refl) (0, omega arith, refl)
         ∙ ap (λ ss. pulled ins at (origin_of (pull_in infos f) ss (grid_at arrays first).shape idx)) (fitting.read_shapes infos options arrays places k first f viewed own s)
         ∙ ap (λ ds. pulled ins at (origin_of (pull_in infos f) (source_shapes infos f) ds idx)) (fitting.result_shape infos options arrays places k first f viewed own s) in
         subst (λ (x : ℤ). Told must (at first idx) x) (sym same)

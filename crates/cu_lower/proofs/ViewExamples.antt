@@ -183,7 +183,6 @@ lowerable = record {
   types = refl;
   kept = All-cons IsInfo five (three ∷ []) five_kept (All-cons IsInfo three [] three_kept (All-nil IsInfo));
   fills = All-cons (λ (i : InputInfo). IsLayout i.layout) (stored (codes "a") five) [] zero_fits (All-nil (λ (i : InputInfo). IsLayout i.layout));
-  built = refl;
   memory = refl;
   counts = refl;
   allowed = omega arith;

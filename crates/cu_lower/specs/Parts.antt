@@ -1,7 +1,6 @@
 -- What a node of an expression adds to a plan (this project's own rule).
-use Rattle.std.specs.Prelude.{◌≡◌, ℕ, ◌+◌, ◌-◌, ◌*◌, ◌^◌, ◌<◌, ◌≤◌, ◌==◌, ◌&&◌, true, false, IsOk, All, ℤ, pos, List, [], ◌∷◌, ◌++◌, length, map, slice_index, Option, None, Some, Result, Ok, Err, unwrap_or, if◌then◌else◌}
+use Rattle.std.specs.Prelude.{◌≡◌, ℕ, ◌+◌, ◌-◌, ◌*◌, ◌^◌, ◌<◌, ◌≤◌, ◌==◌, ◌&&◌, not, true, false, IsOk, All, ℤ, pos, List, [], ◌∷◌, ◌++◌, length, map, slice_index, Option, None, Some, Result, Ok, Err, unwrap_or, if◌then◌else◌}
 use Rattle.std.specs.Prelude.{Bool as Test}
-use Rattle.std.specs.List.{list_all}
 use Rattle.cu_num.specs.declared.layout.Encoding.TheVariants.{Plain}
 use Rattle.cu_num.specs.declared.layout.Endian.TheVariants.{Little}
 use Rattle.cu_num.specs.declared.layout.Sep.TheVariants.{Slash}
@@ -18,7 +17,7 @@ use Rattle.cu_op.specs.declared.operation.Op.{Op}
 use Rattle.cu_op.specs.declared.operation.Op.TheVariants.{Map, Pull}
 use Rattle.cu_op.specs.declared.operation.Planned.{Planned}
 use Rattle.cu_form.specs.Expression.{Expression}
-use Rattle.cu_form.specs.Form.{args_of, is_earlier, names_earlier, element_takes, takes_args, HasShortIndex}
+use Rattle.cu_form.specs.Form.{args_of, names_earlier, takes_args, HasShortIndex}
 use Rattle.cu_form.specs.declared.args.Arg.{Arg}
 use Rattle.cu_node.specs.declared.element_op.ElementOp.{ElementOp}
 use Rattle.cu_form.specs.declared.form.Form.{Form}
@@ -30,13 +29,17 @@ use Rattle.cu_typing.specs.Types.{shared_type}
 use Rattle.cu_typing.specs.declared.argument.Argument.{Argument}
 use Rattle.cu_expr.specs.Typing.{argument_of}
 use Rattle.cu_need.specs.Live.{is_live}
-use Rattle.cu_need.specs.Need.{need_of, IsAlignedWithin}
+use Rattle.cu_need.specs.Need.{own_need}
+use Rattle.cu_need.specs.Operands.{left_wanted, operands_of, right_wanted}
 use Rattle.cu_need.specs.Reduction.{array_of, axes_reduced, sought_axis}
-use Rattle.cu_need.specs.View.{is_view}
 use Rattle.cu_pull.specs.declared.pull.Pull.{Pull as View}
 use Rattle.cu_pull.specs.declared.pull.Pull.TheVariants.{Reshape}
 use Rattle.cu_lower_view.specs.View.{pull_of}
+use Rattle.cu_copy.specs.Copies.{in_chunks, max_mem, rechunked}
+use Rattle.cu_copy.specs.declared.copies.Rechunk.{Rechunk}
+use Rattle.cu_lower_reduce.specs.Copies.{aligned_places, aligned_steps, copy_steps, AreOperands, IsStaged}
 use Rattle.cu_lower_reduce.specs.Steps.{all_made, grid_of}
+use Rattle.cu_lower_reduce.specs.declared.copy.CopySetting.{CopySetting}
 use Rattle.cu_lower_reduce.specs.Products.{product_steps, IsProduct}
 use Rattle.cu_lower_reduce.specs.Reductions.{reduction_steps, IsReduction}
 use Rattle.cu_lower_reduce.specs.Searches.{search_steps, IsSearch}
@@ -115,7 +118,11 @@ only_step infos k op need = record { op = op; values = None; made = info_at info
 abbrev pub setting : Options → ℕ → Setting
 setting options first = record { first = first; split_every = options.split_every; reserved = options.reserved }
 
--- a reduction, a search for places and a product, as node k, of arguments whose arrays are `ins`
+-- where the copies of a node stand, the first of which makes array number `first`
+abbrev pub copying : Options → ℕ → CopySetting
+copying options first = record { first = first; reserved = options.reserved; most = max_mem options.allowed options.reserved }
+
+-- a reduction and a search for places, as node k, of arguments whose arrays are `ins`
 abbrev pub reduction_of : List NodeInfo → ℕ → FoldKind → List Arg → Option (List ℤ) → List ℕ → Reduction
 reduction_of infos k kind args axes ins = record {
   kind = kind;
@@ -134,26 +141,36 @@ search_of infos k least args axis ins = record {
   made = info_at infos k;
 }
 
+-- a product of operands in the chunks that are wanted of them, whose arrays in these chunks are `ins`
 abbrev pub product_of : List NodeInfo → ℕ → List Arg → List ℕ → Product
 product_of infos k args ins = record {
   left = slice_index ins 0;
   right = slice_index ins 1;
-  left_info = array_of infos args 0;
-  right_info = array_of infos args 1;
+  left_info = rechunked (left_wanted (info_at infos k) (array_of infos args 0) (array_of infos args 1));
+  right_info = rechunked (right_wanted (info_at infos k) (array_of infos args 0) (array_of infos args 1));
   made = info_at infos k;
 }
 
+-- The copies of operands that have other chunks than are wanted, and then steps that read the operands in these chunks; `own` takes their
+-- arrays, and the number of the next one.
+abbrev pub behind_copies : CopySetting → List ℕ → List Rechunk → (List ℕ → ℕ → List Step) → List Step
+behind_copies s ins wanted own = aligned_steps s ins wanted ++ own (aligned_places s ins wanted) (s.first + length (all_made (aligned_steps s ins wanted)))
+
 -- The steps of node k, whose arguments have the arrays `ins`; the first array that they write has number `first`. An elementwise function
--- and a view have one step; a reduction, a search for places and a product have one over chunks and one for each round of merges. An
--- input has none, and so has each form that isn't built.
+-- and a view have one step; a reduction, a search for places and a product have one over chunks and one for each round of merges. Operands
+-- of a function and of a product that have other chunks than are wanted are copied before. A rechunk is a copy of its argument, and an
+-- input one of the array with its name; it has no steps where it isn't stored.
 abbrev pub steps_of : List NodeInfo → Options → ℕ → Form → List ℕ → ℕ → List Step
 steps_of infos options k (Form.Elementwise op args) ins first =
-    only_step infos k (map_of infos op args ins first) (need_of options.reserved options.split_every infos k (Form.Elementwise op args))
+    behind_copies (copying options first) ins (operands_of infos k (Form.Elementwise op args))
+    (λ read next. only_step infos k (map_of infos op args read next) (own_need options.reserved options.split_every infos k (Form.Elementwise op args)))
 steps_of infos options k (Form.Reduce kind args axes keepdims) ins first = reduction_steps (setting options first) (reduction_of infos k kind args axes ins)
 steps_of infos options k (Form.ArgPlace least args axis keepdims) ins first = search_steps (setting options first) (search_of infos k least args axis ins)
-steps_of infos options k (Form.Matmul args) ins first = product_steps (setting options first) (product_of infos k args ins)
-steps_of infos options k form ins first =
-    if is_view form then only_step infos k (view_op infos form ins first) (need_of options.reserved options.split_every infos k form) else []
+steps_of infos options k (Form.Matmul args) ins first =
+    behind_copies (copying options first) ins (operands_of infos k (Form.Matmul args)) (λ read next. product_steps (setting options next) (product_of infos k args read))
+steps_of infos options k (Form.Rechunk args chunk) ins first = copy_steps (copying options first) (slice_index ins 0) (in_chunks (array_of infos args 0) (info_at infos k).chunk)
+steps_of infos options k (Form.Input name) ins first = copy_steps (copying options first) (slice_index ins 0) (in_chunks (info_at infos k) (info_at infos k).chunk)
+steps_of infos options k form ins first = only_step infos k (view_op infos form ins first) (own_need options.reserved options.split_every infos k form)
 
 -- Steps that make an array of which this is known: the last of them writes it, each array that they write has a grid, and they are few.
 pub record Make (i : NodeInfo) (ss : List Step) : Type 0 where
@@ -189,11 +206,25 @@ with_place g place = record { arrays = g.arrays; ops = g.ops; places = g.places 
 abbrev pub with_last : Grown → Grown
 with_last g = with_place g (length g.arrays - 1)
 
--- with the next node. An input has its array from the beginning; any other form adds its steps, and its array is the last that they write.
+-- the arrays that the next node's steps read: those of its arguments, or that with an input's name
+abbrev pub sources_of : Expression → List ℕ → Form → List ℕ
+sources_of e places (Form.Input name) = input_place e name ∷ []
+sources_of e places form = array_places places (args_of form)
+
+-- node k is an input that isn't itself stored, and so has its array from the beginning
+abbrev pub is_given : Expression → ℕ → Form → Test
+is_given e k (Form.Input name) = not (k == e.out)
+is_given e k form = false
+
+-- with the next node's steps; its array is the last that they write
+abbrev pub with_made : Expression → List NodeInfo → Options → Grown → Form → Grown
+with_made e infos options g form =
+    with_last (with_steps e g (steps_of infos options (length g.places) form (sources_of e g.places form) (length g.arrays)))
+
+-- with the next node
 abbrev pub with_node : Expression → List NodeInfo → Options → Grown → Form → Grown
-with_node e infos options g (Form.Input name) = with_place g (input_place e name)
-with_node e infos options g form =
-    with_last (with_steps e g (steps_of infos options (length g.places) form (array_places g.places (args_of form)) (length g.arrays)))
+with_node e infos options g (Form.Input name) = if length g.places == e.out then with_made e infos options g (Form.Input name) else with_place g (input_place e name)
+with_node e infos options g form = with_made e infos options g form
 
 -- only a live node adds something
 abbrev pub with_live : Expression → List NodeInfo → Options → Grown → Form → Grown
@@ -216,36 +247,41 @@ pub record IsGrown (e : Expression) (g : Grown) : Type 0 where
 
 -- the options lie in their ranges
 pub record AreOptions (options : Options) : Type 0 where
+  pub allowed : options.allowed ≤ 2 ^ 40
   pub reserved : options.reserved ≤ 2 ^ 40
   pub several : 2 ≤ options.split_every
   pub few : options.split_every ≤ 64
 
--- what the step of an elementwise node with number k takes for granted: as many arguments as the function takes, which name earlier
--- nodes, and have a type together
-pub record IsApplied (infos : List NodeInfo) (k : ℕ) (op : ElementOp) (args : List Arg) : Type 0 where
-  pub takes : element_takes op args ≡ true
-  pub earlier : list_all (is_earlier k) args ≡ true
-  pub typed : IsOk (shared_type op (map (argument_of infos) args))
-  pub within : IsAlignedWithin infos k (Form.Elementwise op args)
-
--- what the steps of any other node with number k takes for granted: as many arguments as the form takes, which name earlier nodes, and
--- an index of few entries
+-- what the steps of any node with number k take for granted: as many arguments as the form takes, which name earlier nodes, and an index of
+-- few entries
 pub record IsWritten (k : ℕ) (form : Form) : Type 0 where
   pub takes : takes_args form ≡ true
   pub earlier : names_earlier k form ≡ true
   pub short : HasShortIndex form
 
--- what the steps of a node take for granted
-abbrev pub CanGrow : List NodeInfo → ℕ → Form → Type 0
-CanGrow infos k (Form.Elementwise op args) = IsApplied infos k op args
-CanGrow infos k (Form.Reduce kind args axes keepdims) =
-    IsWritten k (Form.Reduce kind args axes keepdims) × ((ins : List ℕ) → IsReduction (reduction_of infos k kind args axes ins))
-CanGrow infos k (Form.ArgPlace least args axis keepdims) =
-    IsWritten k (Form.ArgPlace least args axis keepdims) × ((ins : List ℕ) → IsSearch (search_of infos k least args axis ins))
-CanGrow infos k (Form.Matmul args) = IsWritten k (Form.Matmul args) × ((ins : List ℕ) → IsProduct (product_of infos k args ins))
-CanGrow infos k form = IsWritten k form
+-- what the copies of a node take for granted
+pub record CanCopy (infos : List NodeInfo) (options : Options) (k : ℕ) (form : Form) (first : ℕ) : Type 0 where
+  pub operands : AreOperands (copying options first) (operands_of infos k form)
+  pub few : length (operands_of infos k form) ≤ 3
 
--- the steps of a node make its array; an input has its array from the beginning
-abbrev pub HasSteps : List NodeInfo → Options → ℕ → Form → Type 0
-HasSteps infos options k (Form.Input name) = Unit {0}
-HasSteps infos options k form = (ins : List ℕ) (first : ℕ) → first < 2 ^ 31 → Make (info_at infos k) (steps_of infos options k form ins first)
+-- and beside it, by the form: a function's arguments have a type together; and what is reduced, sought or multiplied is
+abbrev pub IsFitting : List NodeInfo → Options → ℕ → Form → Type 0
+IsFitting infos options k (Form.Elementwise op args) =
+    IsOk (shared_type op (map (argument_of infos) args)) × ((first : ℕ) → CanCopy infos options k (Form.Elementwise op args) first)
+IsFitting infos options k (Form.Reduce kind args axes keepdims) = (ins : List ℕ) → IsReduction (reduction_of infos k kind args axes ins)
+IsFitting infos options k (Form.ArgPlace least args axis keepdims) = (ins : List ℕ) → IsSearch (search_of infos k least args axis ins)
+IsFitting infos options k (Form.Matmul args) =
+    ((ins : List ℕ) → IsProduct (product_of infos k args ins)) × ((first : ℕ) → CanCopy infos options k (Form.Matmul args) first)
+IsFitting infos options k (Form.Rechunk args chunk) = (first : ℕ) → IsStaged (copying options first) (in_chunks (array_of infos args 0) (info_at infos k).chunk)
+IsFitting infos options k (Form.Input name) = (first : ℕ) → IsStaged (copying options first) (in_chunks (info_at infos k) (info_at infos k).chunk)
+IsFitting infos options k form = Unit {0}
+
+-- what the steps of a node take for granted
+pub record CanGrow (infos : List NodeInfo) (options : Options) (k : ℕ) (form : Form) : Type 0 where
+  pub written : IsWritten k form
+  pub fitting : IsFitting infos options k form
+
+-- the steps of a node that isn't given make its array
+abbrev pub HasSteps : Expression → List NodeInfo → Options → ℕ → Form → Type 0
+HasSteps e infos options k form =
+    is_given e k form ≡ false → (places : List ℕ) (first : ℕ) → first < 2 ^ 30 → Make (info_at infos k) (steps_of infos options k form (sources_of e places form) first)

@@ -1,5 +1,5 @@
 -- What the plan of an expression takes for granted, and what it has in return (this project's own rule).
-use Rattle.std.specs.Prelude.{◌≡◌, ◌≢◌, ℕ, ◌<◌, ◌≤◌, ◌^◌, ℤ, pos, true, List, [], ◌∷◌, All, length, sum_by, slice_get, Some, None, Ok, unwrap_or}
+use Rattle.std.specs.Prelude.{◌≡◌, ◌≢◌, ℕ, ◌<◌, ◌≤◌, ◌^◌, ℤ, pos, Bool, true, false, List, [], ◌∷◌, All, length, sum_by, slice_get, Some, None, Ok, unwrap_or}
 use Rattle.cu_shape.specs.Index.{IsInside}
 use Rattle.cu_op.specs.Layout.{IsLayout}
 use Rattle.cu_op.specs.Cells.{tasks_of}
@@ -22,21 +22,23 @@ use Rattle.cu_expr.specs.declared.inputs.InputInfo.{InputInfo}
 use Rattle.cu_need.specs.Counts.{plan_counts, over_limit}
 use Rattle.cu_need.specs.Live.{is_live}
 use Rattle.cu_need.specs.declared.counts.PlanCounts.{PlanCounts}
-use Rattle.cu_need.specs.Need.{need_of, first_unbuilt, first_over}
-use Rattle.cu_lower.specs.Plan.{lowered, place_in, plan_of}
-use Rattle.cu_lower.specs.Parts.{Grown, made_layout}
+use Rattle.cu_need.specs.Need.{own_need, first_over}
+use Rattle.cu_copy.specs.Copies.{max_mem}
+use Rattle.cu_lower_reduce.specs.Copies.{is_copy}
+use Rattle.cu_lower.specs.Inputs.{input_place}
+use Rattle.cu_lower.specs.Plan.{plan_of}
+use Rattle.cu_lower.specs.Parts.{made_layout}
 use Rattle.cu_lower.specs.declared.options.Options.{Options}
 
--- an accepted expression, each live node of which is one that is built, with no more memory than is allowed; the plan keeps its limits,
--- and a task merges 2 to 64 partial results
+-- an accepted expression, no live node of which needs more memory than is allowed; the plan keeps its limits, and a task merges 2 to 64
+-- partial results
 pub record IsLowerable (e : Expression) (infos : List NodeInfo) (inputs : List InputInfo) (options : Options) : Type 0 where
   pub form : IsExpression e
   pub types : typed inputs e ≡ Ok infos
   pub kept : All IsInfo infos
   pub fills : All (λ i. IsLayout i.layout) inputs
-  pub built : first_unbuilt e infos ≡ None
   pub memory : first_over options.allowed options.reserved options.split_every e infos ≡ None
-  pub counts : over_limit (plan_counts e infos options.split_every) ≡ None
+  pub counts : over_limit (plan_counts (max_mem options.allowed options.reserved) options.split_every e infos) ≡ None
   pub allowed : options.allowed ≤ 2 ^ 40
   pub several : 2 ≤ options.split_every
   pub few : options.split_every ≤ 64
@@ -52,41 +54,49 @@ pub record IsLiveInput (e : Expression) (k : ℕ) (name : List ℕ) : Type 0 whe
 abbrev pub OutputDiffers : Expression → Type 0
 OutputDiffers e = (k : ℕ) (name : List ℕ) → IsLiveInput e k name → name ≢ e.store_as
 
--- these are the elements of the live input nodes: those of their arrays, 0 where an array has none
-abbrev pub AreOfInputs : Expression → List NodeInfo → Grown → Elements → NodeElements → Type 0
-AreOfInputs e infos g env elements =
-    (k : ℕ) (name idx : List ℕ) → IsLiveInput e k name → IsInside (shape_at infos k) idx → elements k idx ≡ unwrap_or (env (place_in g k) idx) (pos 0)
+-- these are the elements of the live input nodes: those of the arrays with their names, 0 where an array has none
+abbrev pub AreOfInputs : Expression → List NodeInfo → Elements → NodeElements → Type 0
+AreOfInputs e infos env elements =
+    (k : ℕ) (name idx : List ℕ) → IsLiveInput e k name → IsInside (shape_at infos k) idx → elements k idx ≡ unwrap_or (env (input_place e name) idx) (pos 0)
 
 -- the arrays of the live input nodes have an element at each of their indices
-abbrev pub AreThere : Expression → List NodeInfo → Grown → Elements → Type 0
-AreThere e infos g env = (k : ℕ) (name idx : List ℕ) → IsLiveInput e k name → IsInside (shape_at infos k) idx → (x : ℤ) × (env (place_in g k) idx ≡ Some x)
+abbrev pub AreThere : Expression → List NodeInfo → Elements → Type 0
+AreThere e infos env = (k : ℕ) (name idx : List ℕ) → IsLiveInput e k name → IsInside (shape_at infos k) idx → (x : ℤ) × (env (input_place e name) idx ≡ Some x)
 
 -- the inputs' arrays have elements of their types, and nodes these elements
 pub record HaveElements (e : Expression) (infos : List NodeInfo) (inputs : List InputInfo) (options : Options) (env : Elements) (elements : NodeElements) : Type 0 where
   pub lowerable : IsLowerable e infos inputs options
   pub typed : HasTypes (plan_of e infos inputs options).arrays env
-  pub given : AreOfInputs e infos (lowered e infos inputs options) env elements
+  pub given : AreOfInputs e infos env elements
 
--- an operation belongs to a live node; it needs at most what the node needs, which is at most what is allowed
+-- An operation belongs to a live node and needs at most what is allowed; one that isn't a copy needs at most what the node does besides
+-- its copies.
 pub record IsOfNode (e : Expression) (infos : List NodeInfo) (options : Options) (o : Planned) : Type 0 where
   pub node : Node
   pub at : slice_get e.nodes o.node ≡ Some node
   pub live : is_live e o.node ≡ true
-  pub need : o.projected ≤ need_of options.reserved options.split_every infos o.node node.form
   pub allowed : o.projected ≤ options.allowed
+  pub need : is_copy o.op ≡ false → o.projected ≤ own_need options.reserved options.split_every infos o.node node.form
 
--- node number k is live and isn't an input, so operations make its array
-pub record IsMadeNode (e : Expression) (k : ℕ) (node : Node) : Type 0 where
+-- an operation of this form computes something: a rechunk and an input are copies alone
+abbrev pub is_computed : Form → Bool
+is_computed (Form.Rechunk args chunk) = false
+is_computed (Form.Input name) = false
+is_computed form = true
+
+-- node number k is live, and is neither a rechunk nor an input
+pub record IsComputedNode (e : Expression) (k : ℕ) (node : Node) : Type 0 where
   pub at : slice_get e.nodes k ≡ Some node
   pub live : is_live e k ≡ true
-  pub form : (name : List ℕ) → node.form ≢ Form.Input name
+  pub form : is_computed node.form ≡ true
 
--- one of these operations belongs to node number k, and needs as much as the node does
+-- one of these operations belongs to node number k, isn't a copy, and needs as much as the node does besides its copies
 pub record NeedsAsMuch (infos : List NodeInfo) (options : Options) (ops : List Planned) (k : ℕ) (node : Node) : Type 0 where
   pub at : ℕ
   pub below : at < length ops
   pub of_node : (operation_at ops at).node ≡ k
-  pub need : (operation_at ops at).projected ≡ need_of options.reserved options.split_every infos k node.form
+  pub other : is_copy (operation_at ops at).op ≡ false
+  pub need : (operation_at ops at).projected ≡ own_need options.reserved options.split_every infos k node.form
 
 -- the tasks of the plan's operations and the chunks of its made arrays are as many as are counted
 pub record HasCounts (plan : PlanView) (counts : PlanCounts) : Type 0 where

@@ -15,45 +15,49 @@ ghost use Rattle.cu_meaning.specs.Meaning.{meaning_of};
 ghost use Rattle.cu_expr.specs.declared.inputs.InputInfo.{InputInfo};
 ghost use Rattle.cu_need.specs.Counts.{plan_counts};
 ghost use Rattle.cu_need.specs.Live.{is_live};
-ghost use Rattle.cu_lower.specs.Inputs.{input_array};
+ghost use Rattle.cu_lower.specs.Inputs.{input_array, input_place};
+ghost use Rattle.cu_copy.specs.Copies.{max_mem};
 ghost use Rattle.cu_lower.specs.Plan.{lowered, place_in, plan_of};
-ghost use Rattle.cu_lower.specs.Premises.{IsLowerable, IsLiveInput, OutputDiffers, AreThere, HaveElements, HasCounts, IsMadeNode, IsOfNode, IsOutput, NeedsAsMuch, run_of};
+ghost use Rattle.cu_lower.specs.Premises.{IsLowerable, IsLiveInput, OutputDiffers, AreThere, HaveElements, HasCounts, IsComputedNode, IsOfNode, IsOutput, NeedsAsMuch, run_of};
 ghost use Rattle.cu_lower.specs.declared.options.Options.{Options};
 
-use cu_lower_reduce::{product_law, reduction_law, search_law};
+use cu_lower_reduce::{operands_law, product_law, rechunk_law, reduction_law, search_law};
 use cu_lower_view::pull_law;
 use cu_need::live_law;
 use cu_op::range_law;
 
-/// The plan of an expression that can be lowered is sound. Each of its operations belongs to a live node and needs at most what the
-/// node does, which is at most what is allowed, and one of the node's needs as much: so the need of a live node that isn't an input is
-/// the greatest of its operations. Its tasks and the chunks of its made arrays are as many as are counted of the expression. Where no
-/// input has the output's name, the plan's names are those of a plan with a name.
+/// The plan of an expression that can be lowered is sound. Each of its operations belongs to a live node and needs at most what is
+/// allowed. One that isn't a copy needs at most what the node does besides its copies, and one of the node's needs as much: so that need of
+/// a live node that is neither a rechunk nor an input is the greatest of its operations but the copies. The tasks of the plan and the
+/// chunks of its made arrays are as many as are counted of the expression. Where no input has the output's name, the plan's names are
+/// those of a plan with a name.
 pub fn plan_law()
     ensures sound { (e : Expression) (infos : List NodeInfo) (inputs : List InputInfo) (options : Options) → IsLowerable e infos inputs options → Sound (plan_of e infos inputs options) }
     ensures needs { (e : Expression) (infos : List NodeInfo) (inputs : List InputInfo) (options : Options) (j : ℕ) → IsLowerable e infos inputs options
         → j < length (plan_of e infos inputs options).ops → IsOfNode e infos options (operation_at (plan_of e infos inputs options).ops j) }
     ensures counts { (e : Expression) (infos : List NodeInfo) (inputs : List InputInfo) (options : Options) → IsLowerable e infos inputs options
-        → HasCounts (plan_of e infos inputs options) (plan_counts e infos options.split_every) }
+        → HasCounts (plan_of e infos inputs options) (plan_counts (max_mem options.allowed options.reserved) options.split_every e infos) }
     ensures names { (e : Expression) (infos : List NodeInfo) (inputs : List InputInfo) (options : Options) (recorded metadata : List ℕ) → IsLowerable e infos inputs options
         → OutputDiffers e → HasPlanNames (run_of e (plan_of e infos inputs options) recorded metadata) e.store_as recorded metadata }
     ensures attained { (e : Expression) (infos : List NodeInfo) (inputs : List InputInfo) (options : Options) (k : ℕ) (node : Node) → IsLowerable e infos inputs options
-        → IsMadeNode e k node → NeedsAsMuch infos options (plan_of e infos inputs options).ops k node }
+        → IsComputedNode e k node → NeedsAsMuch infos options (plan_of e infos inputs options).ops k node }
 {
     live_law();
     pull_law();
     reduction_law();
     search_law();
     product_law();
+    rechunk_law();
+    operands_law();
 }
 
-/// The array of the stored node is the output's, that of a live input node is the input with the node's name, and each array that no
-/// operation makes is one of these. None of them stands twice.
+/// The array of the stored node is the output's, the array at the place of a live input node's name is the input with that name, and each
+/// array that no operation makes is one of these. None of them stands twice.
 pub fn array_law()
     ensures output { (e : Expression) (infos : List NodeInfo) (inputs : List InputInfo) (options : Options) → IsLowerable e infos inputs options
         → IsOutput e infos (array_at (plan_of e infos inputs options).arrays (plan_of e infos inputs options).out) }
     ensures inputs { (e : Expression) (infos : List NodeInfo) (inputs : List InputInfo) (options : Options) (k : ℕ) (name : List ℕ) → IsLowerable e infos inputs options
-        → IsLiveInput e k name → array_at (plan_of e infos inputs options).arrays (place_in (lowered e infos inputs options) k) ≡ input_array inputs name }
+        → IsLiveInput e k name → array_at (plan_of e infos inputs options).arrays (input_place e name) ≡ input_array inputs name }
     ensures only { (e : Expression) (infos : List NodeInfo) (inputs : List InputInfo) (options : Options) (a : ℕ) → IsLowerable e infos inputs options
         → a < length (plan_of e infos inputs options).arrays → maker_at (plan_of e infos inputs options).arrays a ≡ None
         → (k : ℕ) × (name : List ℕ) × IsLiveInput e k name × (array_at (plan_of e infos inputs options).arrays a ≡ input_array inputs name) }
@@ -67,6 +71,8 @@ pub fn array_law()
     reduction_law();
     search_law();
     product_law();
+    rechunk_law();
+    operands_law();
 }
 
 /// The value of a live node's array is the meaning of the node wherever it is defined, and it is defined everywhere in the node's
@@ -76,10 +82,10 @@ pub fn value_law()
         → HaveElements e infos inputs options env elements → is_live e k ≡ true → IsInside (shape_at infos k) idx
         → plan_value (plan_of e infos inputs options) env (place_in (lowered e infos inputs options) k) idx ≡ Some x → x ≡ meaning_of e infos elements k idx }
     ensures defined { (e : Expression) (infos : List NodeInfo) (inputs : List InputInfo) (options : Options) (env : Elements) (elements : NodeElements) (k : ℕ) (idx : List ℕ)
-        → HaveElements e infos inputs options env elements → AreThere e infos (lowered e infos inputs options) env → is_live e k ≡ true → IsInside (shape_at infos k) idx
+        → HaveElements e infos inputs options env elements → AreThere e infos env → is_live e k ≡ true → IsInside (shape_at infos k) idx
         → plan_value (plan_of e infos inputs options) env (place_in (lowered e infos inputs options) k) idx ≡ Some (meaning_of e infos elements k idx) }
     ensures result { (e : Expression) (infos : List NodeInfo) (inputs : List InputInfo) (options : Options) (env : Elements) (elements : NodeElements) (idx : List ℕ)
-        → HaveElements e infos inputs options env elements → AreThere e infos (lowered e infos inputs options) env → IsInside (shape_at infos e.out) idx
+        → HaveElements e infos inputs options env elements → AreThere e infos env → IsInside (shape_at infos e.out) idx
         → plan_value (plan_of e infos inputs options) env (plan_of e infos inputs options).out idx ≡ Some (meaning_of e infos elements e.out idx) }
 {
     live_law();
@@ -87,5 +93,7 @@ pub fn value_law()
     reduction_law();
     search_law();
     product_law();
+    rechunk_law();
+    operands_law();
     range_law();
 }

@@ -1,6 +1,7 @@
 //! The plan of an expression: its arrays, and the operations that make them.
 #![tactic(auto)]
 
+mod aligned;
 mod inputs;
 mod laws;
 mod options;

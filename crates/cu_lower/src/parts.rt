@@ -2,6 +2,7 @@
 
 ghost use Rattle.std.specs.Prelude.{◌≡◌, ◌<◌, ◌≤◌, ◌^◌, ℕ, List, [], ◌∷◌, IsOk, map, true, length};
 ghost use Rattle.std.specs.List.{list_all};
+ghost use Rattle.cu_form.specs.Expression.{Expression};
 ghost use Rattle.cu_form.specs.Form.{args_of, is_earlier, names_earlier, element_takes, HasShortIndex};
 ghost use Rattle.cu_grid.specs.Grid.{IsGrid};
 ghost use Rattle.cu_node.specs.Info.{info_at};
@@ -10,13 +11,15 @@ ghost use Rattle.cu_node.specs.declared.info.NodeInfo.{NodeInfo as Known};
 ghost use Rattle.cu_expr.specs.Kernel.{loads_from, function_of};
 ghost use Rattle.cu_typing.specs.Types.{array_type, pair_type, shared_type};
 ghost use Rattle.cu_expr.specs.Typing.{argument_of};
-ghost use Rattle.cu_lower.specs.Parts.{type_or_bool, made_layout, made_array, array_places, map_of, view_op};
+ghost use Rattle.cu_lower.specs.Inputs.{input_names};
+ghost use Rattle.cu_lower.specs.Parts.{type_or_bool, made_layout, made_array, array_places, sources_of, map_of, view_op};
 
+use crate::inputs::place_of;
 use arrayvec::ArrayVec;
 use cu_form::{Arg, ElementOp, Expr, Form};
 use cu_grid::Grid;
 use cu_lower_view::pull_of;
-use cu_name::{key_of_name, made_prefix};
+use cu_name::{IdText, key_of_name, made_prefix};
 use cu_node::{NodeInfo, info_at};
 use cu_num::{Dtype, Encoding, Endian, Fn1, Sep, promote};
 use cu_op::{ArrayInfo, Instr, Kernel, Layout, Op, Pull};
@@ -101,7 +104,7 @@ fn loads(args: &[Arg]) -> ArrayVec<Instr, 32>
 }
 
 /// The arrays of the arguments that are arrays, in order, where nodes have these arrays.
-pub(crate) fn array_places(places: &[u32], args: &[Arg]) -> ArrayVec<u32, 8>
+fn array_places(places: &[u32], args: &[Arg]) -> ArrayVec<u32, 8>
     requires few { length args.now ≤ 8 }
     requires earlier { list_all (is_earlier (length places.now)) args.now ≡ true }
     ensures { result.items ≡ array_places places.now args.now }
@@ -115,38 +118,52 @@ pub(crate) fn array_places(places: &[u32], args: &[Arg]) -> ArrayVec<u32, 8>
     ins
 }
 
-/// The map that makes array `out` of the arguments, where nodes have these arrays.
+/// The arrays that the steps of the next node read, where nodes have these arrays: those of its arguments, or that with an input's name.
+pub(crate) fn sources_of(names: &[IdText], places: &[u32], form: &Form) -> ArrayVec<u32, 8>
+    requires inputs { length names.now ≤ 256 }
+    requires few { length (args_of form.now) ≤ 8 }
+    requires earlier { names_earlier (length places.now) form.now ≡ true }
+    ensures { (e : Expression) → names.now ≡ input_names e → result.items ≡ sources_of e places.now form.now }
+{
+    match form {
+        Form::Input { name } => {
+            let mut ins = ArrayVec::new();
+            ins.push(place_of(names, name) as u32);
+            ins
+        }
+        _ => array_places(places, form.args()),
+    }
+}
+
+/// The map that makes array `out` of the arguments, whose arrays are `ins`.
 pub(crate) fn map_of(
     infos: &[NodeInfo],
-    places: &[u32],
     op: ElementOp,
     args: &[Arg],
+    ins: ArrayVec<u32, 8>,
     out: u32,
 ) -> Op
     requires takes { element_takes op args.now ≡ true }
-    requires earlier { list_all (is_earlier (length places.now)) args.now ≡ true }
     requires typed { IsOk (shared_type op (map (argument_of infos.now) args.now)) }
-    ensures { result ≡ map_of infos.now op args.now (array_places places.now args.now) out }
+    ensures { result ≡ map_of infos.now op args.now ins.items out }
 {
     let mut code = loads(args);
     code.push(function_of(op, shared_type(op, infos, args)));
     Op::Map {
         kernel: Kernel { code },
-        ins: array_places(places, args),
+        ins,
         out,
     }
 }
 
-/// The operation that makes array `out` of a view, where nodes have these arrays.
-pub(crate) fn view_op(infos: &[NodeInfo], places: &[u32], form: &Form, out: u32) -> Op
-    requires few { length (args_of form.now) ≤ 8 }
-    requires earlier { names_earlier (length places.now) form.now ≡ true }
+/// The operation that makes array `out` of a view of these arrays.
+pub(crate) fn view_op(infos: &[NodeInfo], form: &Form, ins: ArrayVec<u32, 8>, out: u32) -> Op
     requires short { HasShortIndex form.now }
-    ensures { result ≡ view_op infos.now form.now (array_places places.now (args_of form.now)) out }
+    ensures { result ≡ view_op infos.now form.now ins.items out }
 {
     Op::Pull {
         pull: pull_of(infos, form).unwrap_or(Pull::Reshape),
-        ins: array_places(places, form.args()),
+        ins,
         out,
     }
 }

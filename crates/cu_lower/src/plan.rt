@@ -1,8 +1,7 @@
 //! The plan of an expression, node by node.
 
-ghost use Rattle.std.specs.Prelude.{◌≡◌, ◌≤◌, ◌<◌, ◌+◌, ◌^◌, ◌++◌, [], ℕ, List, true, All, IfOk, IfSome, OnOk, bytes_eq, length, slice_index};
+ghost use Rattle.std.specs.Prelude.{◌≡◌, ◌≤◌, ◌<◌, ◌+◌, ◌^◌, ◌++◌, [], ℕ, List, true, false, All, IfOk, IfSome, OnOk, bytes_eq, length, slice_index};
 ghost use Rattle.std.specs.List.{position_or_len};
-ghost use Rattle.cu_form.specs.Form.{args_of};
 ghost use Rattle.cu_grid.specs.Grid.{IsGrid};
 ghost use Rattle.cu_name.specs.Name.{is_name};
 ghost use Rattle.cu_node.specs.Info.{IsInfo, info_at};
@@ -11,17 +10,17 @@ ghost use Rattle.cu_need.specs.Live.{is_live};
 ghost use Rattle.cu_lower.specs.Inputs.{input_names};
 ghost use Rattle.cu_lower.specs.Plan.{first_grown, lowered, as_plan, plan_of};
 ghost use Rattle.cu_lower_reduce.specs.Steps.{grid_of, made_infos, all_made};
-ghost use Rattle.cu_lower.specs.Parts.{AreOptions, IsGrowing, IsGrown, CanGrow, HasSteps, Make, array_places, pair_arrays, steps_of, with_step, with_steps, with_place, with_last, with_node, with_live};
+ghost use Rattle.cu_lower.specs.Parts.{AreOptions, IsGrowing, IsGrown, CanGrow, HasSteps, Make, is_given, pair_arrays, sources_of, steps_of, with_step, with_steps, with_place, with_made, with_node, with_live};
 ghost use Rattle.cu_lower.specs.Premises.{IsLowerable};
 
 use crate::inputs::{input_arrays, input_names, place_of};
 use crate::laws::plan_law;
 use crate::options::Options;
-use crate::parts::made_array;
+use crate::parts::{made_array, sources_of};
 use crate::steps::steps_of;
 use cu_expr::InputInfo;
 use cu_form::{Expr, Form};
-use cu_lower_reduce::{Step, product_law, reduction_law, search_law};
+use cu_lower_reduce::{Step, operands_law, product_law, rechunk_law, reduction_law, search_law};
 use cu_lower_view::pull_law;
 use cu_name::IdText;
 use cu_need::{live_law, live_marks};
@@ -157,29 +156,31 @@ impl Growing {
         Ok(())
     }
 
-    /// Adds the next node, which isn't an input and is live.
+    /// Adds the steps of the next node, which is live; its array is the last that they make.
     fn add_made(
         &mut self,
         alloc: Global,
         expr: &Expr,
         infos: &[NodeInfo],
-        given: u32,
+        names: &[IdText],
         options: &Options,
         form: &Form,
     ) -> Result<(), AllocError>
         requires grown { IsGrown expr.now self.old }
-        requires given { given ≡ length (input_names expr.now) }
-        requires inputs { given ≤ 256 }
+        requires names { names.now ≡ input_names expr.now }
+        requires inputs { length names.now ≤ 256 }
         requires nodes { length self.old.places ≤ 256 }
-        requires form { CanGrow infos.now (length self.old.places) form.now }
-        requires steps { (ins : List ℕ) (first : ℕ) → first < 2 ^ 31 → Make (info_at infos.now (length self.old.places)) (steps_of infos.now options.now (length self.old.places) form.now ins first) }
+        requires form { CanGrow infos.now options.now (length self.old.places) form.now }
+        requires steps { (places : List ℕ) (first : ℕ) → first < 2 ^ 30 → Make (info_at infos.now (length self.old.places)) (steps_of infos.now options.now (length self.old.places) form.now (sources_of expr.now places form.now) first) }
         requires infos { All IsInfo infos.now }
         requires options { AreOptions options.now }
-        ensures { OnOk result (self.new ≡ with_last (with_steps expr.now self.old (steps_of infos.now options.now (length self.old.places) form.now (array_places self.old.places (args_of form.now)) (length self.old.arrays)))) }
+        ensures { OnOk result (self.new ≡ with_made expr.now infos.now options.now self.old form.now) }
     {
+        let node = self.places.len() as u32;
         let first = self.arrays.len() as u32;
-        let steps = steps_of(alloc, infos, options, &self.places, form, first)?;
-        self.add_steps(expr, given, steps)?;
+        let sources = sources_of(names, &self.places, form);
+        let steps = steps_of(alloc, infos, options, node, form, sources, first)?;
+        self.add_steps(expr, names.len() as u32, steps)?;
         let place = self.arrays.len() as u32 - 1;
         self.add_place(place)
     }
@@ -198,15 +199,17 @@ impl Growing {
         requires names { names.now ≡ input_names expr.now }
         requires inputs { length names.now ≤ 256 }
         requires nodes { length self.old.places ≤ 256 }
-        requires form { CanGrow infos.now (length self.old.places) form.now }
-        requires steps { HasSteps infos.now options.now (length self.old.places) form.now }
+        requires form { is_given expr.now (length self.old.places) form.now ≡ false → CanGrow infos.now options.now (length self.old.places) form.now }
+        requires steps { HasSteps expr.now infos.now options.now (length self.old.places) form.now }
         requires infos { All IsInfo infos.now }
         requires options { AreOptions options.now }
         ensures { OnOk result (self.new ≡ with_node expr.now infos.now options.now self.old form.now) }
     {
         match form {
-            Form::Input { name } => self.add_input(names, name),
-            _ => self.add_made(alloc, expr, infos, names.len() as u32, options, form),
+            Form::Input { name } if self.places.len() as u32 != expr.out() => {
+                self.add_input(names, name)
+            }
+            _ => self.add_made(alloc, expr, infos, names, options, form),
         }
     }
 
@@ -225,8 +228,8 @@ impl Growing {
         requires names { names.now ≡ input_names expr.now }
         requires inputs { length names.now ≤ 256 }
         requires nodes { length self.old.places ≤ 256 }
-        requires form { live ≡ true → CanGrow infos.now (length self.old.places) form.now }
-        requires steps { live ≡ true → HasSteps infos.now options.now (length self.old.places) form.now }
+        requires form { live ≡ true → is_given expr.now (length self.old.places) form.now ≡ false → CanGrow infos.now options.now (length self.old.places) form.now }
+        requires steps { live ≡ true → HasSteps expr.now infos.now options.now (length self.old.places) form.now }
         requires infos { All IsInfo infos.now }
         requires options { AreOptions options.now }
         requires live { live ≡ is_live expr.now (length self.old.places) }
@@ -271,6 +274,8 @@ fn grow(
     reduction_law();
     search_law();
     product_law();
+    rechunk_law();
+    operands_law();
     let marks = live_marks(expr);
     let names = input_names(alloc, expr, &marks)?;
     let arrays = input_arrays(alloc, inputs, &names)?;
@@ -293,8 +298,9 @@ fn grow(
 /// The plan of an expression, where `infos` is what is known of its nodes (this project's own rule): one array for each input that a
 /// live node uses, then for each other live node, in order, the operations of its steps and the arrays that they make, of which the last
 /// is the node's own. An elementwise node and a view have one step; a reduction, a search for places and a product have one over chunks,
-/// and one for each round in which partial results are merged. The stored node's own array has the output's name as prefix, each other
-/// one `_cubed/NAME/K`, where K counts the made arrays from 0.
+/// and one for each round in which partial results are merged. Operands of a function or of a product that have other chunks than are
+/// wanted of them are copied before; a rechunk is a copy, and so is an input that is itself stored: one, or two by way of an array between.
+/// The stored node's own array has the output's name as prefix, each other one `_cubed/NAME/K`, where K counts the made arrays from 0.
 pub fn lower(
     alloc: Global,
     expr: &Expr,
@@ -311,6 +317,8 @@ pub fn lower(
     reduction_law();
     search_law();
     product_law();
+    rechunk_law();
+    operands_law();
     match grow(alloc, expr, infos, inputs, options) {
         Ok(grown) => Ok(grown.into_plan(expr.out(), options)),
         Err(_) => Err(NoMemory),

@@ -1,22 +1,21 @@
 //! The steps of reductions, searches for places and products.
 
-ghost use Rattle.std.specs.Prelude.{◌≡◌, ◌<◌, ◌≤◌, ◌^◌, true, IfOk, length, slice_index};
-ghost use Rattle.std.specs.List.{list_all};
-ghost use Rattle.cu_form.specs.Form.{is_earlier};
+ghost use Rattle.std.specs.Prelude.{◌≡◌, ◌<◌, ◌^◌, ◌++◌, IfOk, OnOk, length, slice_index};
+ghost use Rattle.cu_copy.specs.Copies.{rechunked};
 ghost use Rattle.cu_lower_reduce.specs.Partials.{IsSetting};
 ghost use Rattle.cu_lower_reduce.specs.Products.{product_steps, IsProduct};
 ghost use Rattle.cu_lower_reduce.specs.Reductions.{reduction_steps, IsReduction};
 ghost use Rattle.cu_lower_reduce.specs.Searches.{search_steps, IsSearch};
-ghost use Rattle.cu_lower.specs.Parts.{AreOptions, array_places, setting, reduction_of, search_of, product_of};
+ghost use Rattle.cu_lower.specs.Parts.{AreOptions, setting, reduction_of, search_of, product_of};
 
 use crate::options::Options;
-use crate::parts::array_places;
+use cu_copy::Rechunk;
 use cu_form::{Arg, Items};
 use cu_lower_reduce::{
     Product, Reduction, Search, Setting, Step, product_step, product_step_count, reduction_step,
     reduction_step_count, search_step, search_step_count,
 };
-use cu_need::{array_of, axes_reduced, sought_axis};
+use cu_need::{array_of, axes_reduced, left_wanted, right_wanted, sought_axis};
 use cu_node::{NodeInfo, info_at};
 use cu_num::FoldKind;
 use std::alloc::{AllocError, Global};
@@ -35,79 +34,83 @@ pub(crate) fn setting(options: &Options, first: u32) -> Setting
     }
 }
 
-/// The array of an argument by its place among those that are arrays, where nodes have these arrays; 0 where there is none.
-fn source_of(places: &[u32], args: &[Arg], at: usize) -> u32
-    requires few { length args.now ≤ 8 }
-    requires earlier { list_all (is_earlier (length places.now)) args.now ≡ true }
-    ensures { result ≡ slice_index (array_places places.now args.now) at }
+/// The array with this place among these; 0 where there is none.
+pub(crate) fn source_of(ins: &[u32], at: usize) -> u32
+    ensures { result ≡ slice_index ins.now at }
 {
-    let ins = array_places(places, args);
-    match ins.as_slice().get(at) {
-        Some(place) => *place,
+    match ins.get(at) {
+        Some(source) => *source,
         None => 0,
     }
 }
 
-/// The next node as a reduction, where nodes have these arrays.
+/// Node number `node` as a reduction of an argument, whose array is the first of `ins`.
 pub(crate) fn reduction_of(
     infos: &[NodeInfo],
-    places: &[u32],
+    node: u32,
     kind: FoldKind,
     args: &[Arg],
     axes: &Option<Items<i64>>,
+    ins: &[u32],
 ) -> Reduction
-    requires nodes { length places.now ≤ 256 }
-    requires few { length args.now ≤ 8 }
-    requires earlier { list_all (is_earlier (length places.now)) args.now ≡ true }
-    ensures { result ≡ reduction_of infos.now (length places.now) kind args.now axes.now (array_places places.now args.now) }
+    ensures { result ≡ reduction_of infos.now node kind args.now axes.now ins.now }
 {
     let from = array_of(infos, args, 0);
     let axes = axes_reduced(&from, axes);
     Reduction {
         kind,
         axes,
-        source: source_of(places, args, 0),
+        source: source_of(ins, 0),
         from,
-        made: info_at(infos, places.len() as u32),
+        made: info_at(infos, node),
     }
 }
 
-/// The next node as a search for places, where nodes have these arrays.
+/// Node number `node` as a search for places in an argument, whose array is the first of `ins`.
 pub(crate) fn search_of(
     infos: &[NodeInfo],
-    places: &[u32],
+    node: u32,
     least: bool,
     args: &[Arg],
     axis: Option<i64>,
+    ins: &[u32],
 ) -> Search
-    requires nodes { length places.now ≤ 256 }
-    requires few { length args.now ≤ 8 }
-    requires earlier { list_all (is_earlier (length places.now)) args.now ≡ true }
-    ensures { result ≡ search_of infos.now (length places.now) least args.now axis (array_places places.now args.now) }
+    ensures { result ≡ search_of infos.now node least args.now axis ins.now }
 {
     let from = array_of(infos, args, 0);
     Search {
         least,
         axis: sought_axis(from.dims.rank(), axis),
-        source: source_of(places, args, 0),
+        source: source_of(ins, 0),
         from,
-        made: info_at(infos, places.len() as u32),
+        made: info_at(infos, node),
     }
 }
 
-/// The next node as a product, where nodes have these arrays.
-pub(crate) fn product_of(infos: &[NodeInfo], places: &[u32], args: &[Arg]) -> Product
-    requires nodes { length places.now ≤ 256 }
-    requires few { length args.now ≤ 8 }
-    requires earlier { list_all (is_earlier (length places.now)) args.now ≡ true }
-    ensures { result ≡ product_of infos.now (length places.now) args.now (array_places places.now args.now) }
+/// An operand in the chunks that are wanted of it.
+fn rechunked(wanted: &Rechunk) -> NodeInfo
+    ensures { result ≡ rechunked wanted.now }
 {
+    NodeInfo {
+        dtype: wanted.source.dtype,
+        dims: wanted.source.dims,
+        chunk: wanted.chunk,
+    }
+}
+
+/// Node number `node` as a product of operands in the chunks that are wanted of them; their arrays in these chunks are `ins`.
+pub(crate) fn product_of(infos: &[NodeInfo], node: u32, args: &[Arg], ins: &[u32]) -> Product
+    ensures { result ≡ product_of infos.now node args.now ins.now }
+{
+    let made = info_at(infos, node);
+    let left = array_of(infos, args, 0);
+    let right = array_of(infos, args, 1);
     Product {
-        left: source_of(places, args, 0),
-        right: source_of(places, args, 1),
-        left_info: array_of(infos, args, 0),
-        right_info: array_of(infos, args, 1),
-        made: info_at(infos, places.len() as u32),
+        left: source_of(ins, 0),
+        right: source_of(ins, 1),
+        left_info: rechunked(&left_wanted(&made, &left, &right)),
+        right_info: rechunked(&right_wanted(&made, &left, &right)),
+        made,
     }
 }
 
@@ -141,19 +144,18 @@ pub(crate) fn search_steps(alloc: Global, s: &Setting, x: &Search) -> Result<Vec
     Ok(steps)
 }
 
-/// The steps of a product.
-pub(crate) fn product_steps(
-    alloc: Global,
+/// Adds the steps of a product.
+pub(crate) fn push_product(
+    steps: &mut Vec<Step>,
     s: &Setting,
     x: &Product,
-) -> Result<Vec<Step>, AllocError>
+) -> Result<(), AllocError>
     requires setting { IsSetting s.now }
     requires product { IsProduct x.now }
-    ensures { IfOk result (λ steps. steps.items ≡ product_steps s.now x.now) }
+    ensures { OnOk result (steps.new.items ≡ steps.old.items ++ product_steps s.now x.now) }
 {
-    let mut steps = Vec::new(alloc);
     for at in 0..product_step_count(s, x) {
         steps.push(product_step(s, x, at))?;
     }
-    Ok(steps)
+    Ok(())
 }

@@ -1,9 +1,11 @@
 -- The definitions on worked examples.
 use Rattle.std.proofs.Common.{◌≡◌, [], ◌∷◌, None, Some, true, refl}
 use Rattle.cu_num.specs.declared.folds.FoldKind.TheVariants.{Sum}
-use Rattle.cu_num.specs.declared.types.Dtype.TheVariants.{Int32, Int64}
-use Rattle.cu_op.specs.declared.operation.Op.TheVariants.{Fold, Merge, PairFold, PairMerge, Mul}
+use Rattle.cu_num.specs.declared.types.Dtype.TheVariants.{Int16, Int32, Int64}
+use Rattle.cu_op.specs.declared.operation.Op.TheVariants.{Copy, Fold, Merge, PairFold, PairMerge, Mul}
 use Rattle.cu_node.specs.Info.{info_of}
+use Rattle.cu_copy.specs.Copies.{in_chunks}
+use Rattle.cu_lower_reduce.specs.Copies.{copy_steps}
 use Rattle.cu_lower_reduce.specs.Products.{product_steps}
 use Rattle.cu_lower_reduce.specs.Reductions.{reduction_steps}
 use Rattle.cu_lower_reduce.specs.Searches.{search_steps}
@@ -32,3 +34,14 @@ product : product_steps (record { first = 2; split_every = 4; reserved = 0 })
     ≡ record { op = Mul 0 1 2; values = None; made = info_of Int32 (2 ∷ 2 ∷ []) (2 ∷ 1 ∷ []); need = 48 }
     ∷ record { op = Merge Sum 1 4 2 3; values = None; made = info_of Int32 (2 ∷ []) (2 ∷ []); need = 48 } ∷ []
 product = refl
+
+-- 512 times 512 elements of 4 bytes from [512,64] to [64,512], where a region has at most 500,000 bytes: two copies
+square : copy_steps (record { first = 1; reserved = 0; most = 500000 }) 0 (in_chunks (info_of Int32 (512 ∷ 512 ∷ []) (512 ∷ 64 ∷ [])) (64 ∷ 512 ∷ []))
+    ≡ record { op = Copy (512 ∷ 192 ∷ []) 0 1; values = None; made = info_of Int32 (512 ∷ 512 ∷ []) (192 ∷ 192 ∷ []); need = 540672 }
+    ∷ record { op = Copy (192 ∷ 512 ∷ []) 1 2; values = None; made = info_of Int32 (512 ∷ 512 ∷ []) (64 ∷ 512 ∷ []); need = 540672 } ∷ []
+square = refl
+
+-- 7 elements of 2 bytes from chunks of 5 to 3, where a region has at most 10 bytes: one copy
+tight : copy_steps (record { first = 1; reserved = 0; most = 10 }) 0 (in_chunks (info_of Int16 (7 ∷ []) (5 ∷ [])) (3 ∷ []))
+    ≡ record { op = Copy (3 ∷ []) 0 1; values = None; made = info_of Int16 (7 ∷ []) (3 ∷ []); need = 16 } ∷ []
+tight = refl

@@ -2,6 +2,7 @@ pub mod Along
 pub mod Carrying
 pub mod Chains
 pub mod Comings
+pub mod Copying
 mod Examples
 pub mod Firsts
 pub mod Folds
@@ -9,6 +10,7 @@ pub mod KindValues
 pub mod LastAxis
 pub mod Lasts
 pub mod Multiplied
+pub mod Operands
 pub mod ProductValues
 pub mod Searching
 pub mod SearchSizes

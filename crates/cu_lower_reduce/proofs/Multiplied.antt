@@ -175,7 +175,7 @@ product_comes s x k h =
     let q = h.left.ranks in
     let short = h.short in
     let few : inner_count x.left_info ≤ 65536 = few_of in
-    chain_comes s Sum (axis_alone (length x.made.dims)) x.made s.first (product_partial x.left_info x.made) (product_rounds s.split_every x.left_info x.made) _ refl refl k.several (product_turn s x k h).rule
+    chain_comes s Sum (axis_alone (length x.made.dims)) x.made s.first (product_partial x.left_info x.made) (product_rounds s.split_every x.left_info x.made) _ refl refl refl k.several (product_turn s x k h).rule
     (middle_product x.left_info x.made h.left h.left_rank h.made (omega arith)) (of_info x.made h.made) (one_fits s.split_every (length x.made.dims) (inner_count x.left_info) k.several few)
   where
     few_of : inner_count x.left_info ≤ 65536

@@ -17,14 +17,14 @@ use Rattle.cu_tree.specs.declared.round.Round.{Round}
 use Rattle.cu_tree.proofs.Middles.{of_info, of_first, of_merged}
 use Rattle.cu_lower_reduce.specs.Partials.{IsSetting}
 use Rattle.cu_lower_reduce.specs.Searches.{stored, value_bytes, pair_merges, pairs_found, search_steps, IsSearch}
-use Rattle.cu_lower_reduce.specs.Steps.{info_bytes, with_values, all_made, with_merges, ComeTo}
+use Rattle.cu_lower_reduce.specs.Steps.{info_bytes, with_values, all_made, with_merges, step_tasks, ComeTo}
 use Rattle.cu_lower_reduce.specs.declared.search.Search.{Search}
 use Rattle.cu_lower_reduce.specs.declared.step.Setting.{Setting}
 use Rattle.cu_lower_reduce.specs.declared.step.Step.{Step}
 use Rattle.cu_lower_reduce.proofs.Chains.{length-pair_merges}
 use Rattle.cu_lower_reduce.proofs.Comings.{rounds_few, first_most}
 use Rattle.cu_lower_reduce.proofs.Firsts.{first_bytes, size_most}
-use Rattle.cu_lower_reduce.proofs.Lasts.{sum_map}
+use Rattle.cu_lower_reduce.proofs.Lasts.{sum_tasks}
 use Rattle.cu_lower_reduce.proofs.Searching.{typed, first_places, search_turn}
 
 -- the arrays of a step behind which these rounds follow, and of the merges
@@ -85,6 +85,11 @@ needs_found s x source v p [] need h k d l = absurd (omega arith)
 needs_found s x source v p (r ∷ rs) need h zero d l = h
 needs_found s x source v p (r ∷ rs) need h (suc k) d l = needs_found s x (source + 2) (merged r v) (merged r p) rs need h k d (omega arith)
 
+tasks_found : (s : Setting) (x : Search) (source : ℕ) (v p : NodeInfo) (rs : List Round) → All (λ (st : Step). step_tasks st ≡ chunks_of st.made) (pair_merges s x source v p rs)
+tasks_found s x source v p [] k d l = absurd (omega arith)
+tasks_found s x source v p (r ∷ rs) zero d l = refl
+tasks_found s x source v p (r ∷ rs) (suc k) d l = tasks_found s x (source + 2) (merged r v) (merged r p) rs k d (omega arith)
+
 found_comes : (s : Setting) (x : Search) (axes : Axes) (i : NodeInfo) (rs : List Round) → 2 ≤ s.split_every → AreRounds axes s.split_every i.dims rs → i.dtype ≡ Int64 → IsMiddle i → IsMiddle x.made → length rs ≤ 24
     → ComeTo (with_merges rs (pair_fold_need s.reserved (info_bytes x.from) (value_bytes x) (info_bytes x.made)) (pair_merge_need s.reserved s.split_every (value_bytes x) (info_bytes x.made)))
     (chunks_written i rs x.made) (chunks_written i rs x.made + chunks_before (typed x.from.dtype i) rs) x.made (pairs_found s x (typed x.from.dtype i) i rs)
@@ -93,10 +98,14 @@ found_comes s x axes i rs h rule e m own few = record {
   grids = grids_found s x axes s.first i rs h rule e m own;
   few = (let l = length-pair_merges s x s.first (typed x.from.dtype i) i rs in omega arith);
   needs = needs;
-  tasks_are = sum_map chunks_of (λ (st : Step). st.made) (pairs_found s x (typed x.from.dtype i) i rs) ∙ ap (sum_by chunks_of) (results_found s x s.first i rs);
+  tasks_are = sum_tasks (pairs_found s x (typed x.from.dtype i) i rs) tasks ∙ ap (sum_by chunks_of) (results_found s x s.first i rs);
   cells_are = chunks_found s x s.first i rs;
 }
   where
+    tasks : All (λ (st : Step). step_tasks st ≡ chunks_of st.made) (pairs_found s x (typed x.from.dtype i) i rs)
+    tasks zero d l = refl
+    tasks (suc k) d l = tasks_found s x s.first (typed x.from.dtype i) i rs k d (omega arith)
+
     behind : (rs : List Round) (first merge : ℕ) → All (λ (st : Step). st.need ≤ merge) (pair_merges s x s.first (typed x.from.dtype i) i rs)
         → All (λ (st : Step). st.need ≤ with_merges rs first merge) (pair_merges s x s.first (typed x.from.dtype i) i rs)
     behind [] first merge w k d l = absurd (omega arith)

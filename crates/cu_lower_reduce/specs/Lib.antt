@@ -1,3 +1,4 @@
+pub mod Copies
 pub mod Partials
 pub mod Products
 pub mod Reductions

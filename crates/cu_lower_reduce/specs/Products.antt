@@ -1,5 +1,5 @@
 -- The steps of a product of matrices (this project's own rule): a product for each chunk of the inner axis, and a merge for each round.
-use Rattle.std.specs.Prelude.{◌≡◌, ℕ, ◌≤◌, List, ◌∷◌, ◌++◌, map, length, Some, None}
+use Rattle.std.specs.Prelude.{◌≡◌, ℕ, ◌≤◌, ◌^◌, List, ◌∷◌, ◌++◌, map, length, Some, None}
 use Rattle.std.specs.List.{range_with_len}
 use Rattle.std.specs.Prelude.{ℤ, Option}
 use Rattle.cu_num.specs.Dtype.{IsInteger}
@@ -41,12 +41,13 @@ inner_products x left right idx =
     map (λ k. product_at (left (left_index x.left_info.dims x.right_info.dims idx k)) (right (right_index x.left_info.dims x.right_info.dims idx k)))
     (range_with_len 0 (left_inner x.left_info.dims))
 
--- The operands are broadcast before the matrix, have their aligned chunks and agree on the inner axis; the result has their outer axes.
+-- The operands are broadcast before the matrix, have their aligned chunks and agree on the inner axis; the result has their outer axes. The
+-- right one may have any number of chunks.
 pub record IsProduct (x : Product) : Type 0 where
   pub sizes : List ℕ
   pub chunks : List ℕ
   pub left : IsInfo x.left_info
-  pub right : IsInfo x.right_info
+  pub right_bytes : info_bytes x.right_info ≤ 2 ^ 28
   pub made : IsInfo x.made
   pub left_rank : 1 ≤ length x.left_info.dims
   pub right_rank : 1 ≤ length x.right_info.dims

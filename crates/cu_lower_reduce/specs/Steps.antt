@@ -3,6 +3,7 @@ use Rattle.std.specs.Prelude.{◌≡◌, ◌⊎◌, ℕ, ◌+◌, ◌-◌, ◌*�
 use Rattle.std.specs.List.{range_with_len}
 pub use Rattle.cu_tree.specs.Needs.{with_merges}
 use Rattle.cu_num.specs.Dtype.{size_of}
+use Rattle.cu_shape.specs.Counts.{counts_of}
 use Rattle.cu_shape.specs.Index.{product}
 use Rattle.cu_grid.specs.Grid.{RegularGrid}
 use Rattle.cu_op.specs.Arrays.{grid_at, type_at}
@@ -11,6 +12,8 @@ use Rattle.cu_op.specs.Operation.{reads_of, writes_of, Fits}
 use Rattle.cu_op.specs.Projection.{projection}
 use Rattle.cu_op.specs.Value.{Elements, rule}
 use Rattle.cu_op.specs.declared.layout.ArrayInfo.{ArrayInfo}
+use Rattle.cu_op.specs.declared.operation.Op.{Op}
+use Rattle.cu_op.specs.declared.operation.Op.TheVariants.{Copy}
 use Rattle.cu_node.specs.declared.info.NodeInfo.{NodeInfo}
 use Rattle.cu_tree.specs.Partials.{chunks_of, IsMiddle}
 use Rattle.cu_lower_reduce.specs.declared.step.Step.{Step}
@@ -35,6 +38,15 @@ info_bytes i = product i.chunk * size_of i.dtype
 abbrev pub grid_of : NodeInfo → RegularGrid
 grid_of i = record { shape = i.dims; chunk = i.chunk }
 
+-- How many tasks an operation has of whose result this is known: a copy has one for each of its regions, any other operation one for each
+-- chunk of the result.
+abbrev pub tasks_over : Op → NodeInfo → ℕ
+tasks_over (Copy region source out) made = product (counts_of made.dims region)
+tasks_over op made = chunks_of made
+
+abbrev pub step_tasks : Step → ℕ
+step_tasks s = tasks_over s.op s.made
+
 -- this is known of the array with this number
 pub record HasInfo (arrays : List ArrayInfo) (a : ℕ) (i : NodeInfo) : Type 0 where
   pub within : a < length arrays
@@ -46,20 +58,26 @@ abbrev pub HaveInfos : List ArrayInfo → ℕ → List NodeInfo → Type 0
 HaveInfos arrays first [] = Unit {0}
 HaveInfos arrays first (i ∷ is) = HasInfo arrays first i × HaveInfos arrays (first + 1) is
 
+-- this is known of these arrays, in order
+abbrev pub HaveEach : List ArrayInfo → List ℕ → List NodeInfo → Type 0
+HaveEach arrays [] [] = Unit {0}
+HaveEach arrays (a ∷ ins) (i ∷ is) = HasInfo arrays a i × HaveEach arrays ins is
+HaveEach arrays ins is = ⊥
+
 -- ---- what steps keep
 
 -- an argument of the node, or an array that an earlier step makes, of which the first has number `first`
 abbrev pub IsGiven : List ℕ → ℕ → ℕ → ℕ → Type 0
 IsGiven given first next a = Contains given a ⊎ ((first ≤ a) × (a < next))
 
--- A step whose first array has number `next`. It writes just its arrays, reads the node's arguments and what earlier steps make, fits, and
--- needs its projection; a task makes each chunk of its result.
+-- A step whose first array has number `next`. It writes just its arrays, reads the node's arguments and what earlier steps make, fits, needs
+-- its projection, and has as many tasks as are counted of it.
 pub record IsStep (arrays : List ArrayInfo) (reserved : ℕ) (given : List ℕ) (first next : ℕ) (s : Step) : Type 0 where
   pub writes : writes_of s.op ≡ range_with_len next (length (made_infos s))
   pub reads : All (IsGiven given first next) (reads_of s.op)
   pub fits : Fits arrays s.op
   pub need : s.need ≡ projection arrays reserved s.op
-  pub tasks : tasks_of arrays s.op ≡ chunks_of s.made
+  pub tasks : tasks_of arrays s.op ≡ step_tasks s
 
 -- each step, one after another
 abbrev pub AreSteps : List ArrayInfo → ℕ → List ℕ → ℕ → ℕ → List Step → Type 0
@@ -83,5 +101,5 @@ pub record ComeTo (need tasks cells : ℕ) (made : NodeInfo) (steps : List Step)
   pub grids : All IsMiddle (all_made steps)
   pub few : length steps ≤ 25
   pub needs : All (λ s. s.need ≤ need) steps
-  pub tasks_are : sum_by (λ s. chunks_of s.made) steps ≡ tasks
+  pub tasks_are : sum_by step_tasks steps ≡ tasks
   pub cells_are : sum_by chunks_of (all_made steps) ≡ cells

@@ -1,6 +1,7 @@
 pub mod Along
 pub mod BestPlaces
 pub mod Elements
+pub mod Evenly
 pub mod Examples
 pub mod Found
 pub mod Going

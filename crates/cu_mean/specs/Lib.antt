@@ -1,5 +1,6 @@
 pub mod Axes
 pub mod Elementwise
+pub mod Evenly
 pub mod Going
 pub mod Indexing
 pub mod Laws

@@ -9,6 +9,7 @@ mod elementwise;
 mod expression;
 mod indexing;
 mod laws;
+mod lines;
 mod node;
 mod pieces;
 mod places;

@@ -7,6 +7,7 @@ ghost use Rattle.cu_mean.specs.Places.{IsBest, takes_place};
 ghost use Rattle.cu_mean.specs.Reading.{elements_in};
 ghost use Rattle.cu_mean.specs.Reductions.{AreApart, IsNone, elements_along};
 
+use crate::lines::line_of;
 use crate::plain::Plain;
 use crate::reductions::element_along;
 use cu_form::Arg;
@@ -54,12 +55,13 @@ pub(crate) fn best_place(
     ensures { result ≡ best_place least (elements_along (source_at (elements_in plains.now) args.now 0) start.now (indices_of sizes.now)) }
 {
     let count = sizes.elements().unwrap();
+    let line = line_of(plains, args, start, sizes);
     let mut best = Best {
         number: 0,
         place: count,
     };
     for place in (0..count).rev() {
-        let x = element_along(plains, args, start, sizes, place);
+        let x = element_along(line, plains, args, start, sizes, place);
         best = best_with(least, x, place, best, place + 1 == count);
     }
     best.place

@@ -1,5 +1,5 @@
 //! Reductions at an index of the result: each element over the reduced indices once, from the last to the first.
-ghost use Rattle.std.specs.Prelude.{◌≡◌, ◌⊎◌, ◌<◌, ◌≤◌, ◌^◌, ◌+ℤ◌, ◌*ℤ◌, ℕ, ℤ, List, [], ◌∷◌, length, slice_index, not, if◌then◌else◌};
+ghost use Rattle.std.specs.Prelude.{◌≡◌, ◌⊎◌, ◌<◌, ◌≤◌, ◌^◌, ◌+ℤ◌, ◌*ℤ◌, ℕ, ℤ, List, [], ◌∷◌, IfSome, length, slice_index, not, if◌then◌else◌};
 ghost use Rattle.cu_num.specs.Dtype.{IsInteger};
 ghost use Rattle.cu_num.specs.Wrap.{wrapped};
 ghost use Rattle.cu_num.specs.declared.folds.FoldKind.{FoldKind};
@@ -9,11 +9,13 @@ ghost use Rattle.cu_meaning.specs.Argument.{source_at};
 ghost use Rattle.cu_meaning.specs.Reduction.{reduced_box, reduced_start, kept_before};
 ghost use Rattle.cu_reduce.specs.Folds.{fold_of};
 ghost use Rattle.cu_mean.specs.Axes.{axes_from};
+ghost use Rattle.cu_mean.specs.Evenly.{LieEvenly};
 ghost use Rattle.cu_mean.specs.Reading.{elements_in};
 ghost use Rattle.cu_mean.specs.Reductions.{kept_of, IsNone, AreApart, elements_along};
 
 use crate::axes::is_named_in;
 use crate::digits::index_at;
+use crate::lines::{Line, line_of, on_line};
 use crate::plain::Plain;
 use crate::reading::source;
 use cu_form::Arg;
@@ -161,14 +163,8 @@ fn kept_with(kind: FoldKind, t: Dtype, x: i128, kept: i128, last: bool) -> i128
     }
 }
 
-/// The element at a place among those over which is reduced, in row-major order.
-pub(crate) fn element_along(
-    plains: &[Plain],
-    args: &[Arg],
-    start: &Dims,
-    sizes: &Dims,
-    place: u64,
-) -> i128
+/// The element at a place among those over which is reduced, by its index.
+fn element_by_index(plains: &[Plain], args: &[Arg], start: &Dims, sizes: &Dims, place: u64) -> i128
     requires place { place < product sizes.now }
     requires ranks { length sizes.now ≡ length start.now }
     requires apart { AreApart start.now sizes.now }
@@ -176,6 +172,28 @@ pub(crate) fn element_along(
 {
     let step = index_at(sizes, place);
     source(plains, args, 0, &sum_of(start, &step))
+}
+
+/// The element at a place among those over which is reduced, in row-major order; `line` has them where they lie evenly apart.
+#[inline]
+pub(crate) fn element_along(
+    line: Option<Line<'_>>,
+    plains: &[Plain],
+    args: &[Arg],
+    start: &Dims,
+    sizes: &Dims,
+    place: u64,
+) -> i128
+    requires line { IfSome line (λ l. LieEvenly (source_at (elements_in plains.now) args.now 0) start.now sizes.now l.cells.now l.first l.stride) }
+    requires place { place < product sizes.now }
+    requires ranks { length sizes.now ≡ length start.now }
+    requires apart { AreApart start.now sizes.now }
+    ensures { result ≡ source_at (elements_in plains.now) args.now 0 (sums start.now (index_at sizes.now place)) }
+{
+    match line {
+        Some(line) => on_line(line, place),
+        None => element_by_index(plains, args, start, sizes, place),
+    }
 }
 
 /// The reduction of the elements from a first index on, wrapped to the type.
@@ -194,9 +212,10 @@ pub(crate) fn reduced(
     ensures { result ≡ wrapped t (fold_of kind (elements_along (source_at (elements_in plains.now) args.now 0) start.now (indices_of sizes.now))) }
 {
     let count = sizes.elements().unwrap();
+    let line = line_of(plains, args, start, sizes);
     let mut kept = kept_of_none(kind, t);
     for place in (0..count).rev() {
-        let x = element_along(plains, args, start, sizes, place);
+        let x = element_along(line, plains, args, start, sizes, place);
         kept = kept_with(kind, t, x, kept, place + 1 == count);
     }
     wrap(t, kept)

@@ -1,27 +1,37 @@
 -- The memory of an elementwise node whose arguments are aligned.
-use Rattle.std.proofs.Common.{◌≡◌, ◌+◌, ◌*◌, true, List, [], ◌∷◌, ℕ, length, map, refl, sym, ap, ◌∙◌, ◌↔◌, arith}
-use Rattle.std.specs.Prelude.{sum_by}
-use Rattle.std.proofs.lemmas.Bool.{and_parts}
+use Rattle.std.proofs.Common.{◌≡◌, ◌+◌, ◌*◌, true, false, not, List, [], ◌∷◌, ℕ, length, map, refl, sym, ap, ◌∙◌, ◌↔◌, arith}
+use Rattle.std.specs.Prelude.{sum_by, filter}
+use Rattle.std.proofs.lemmas.Bool.{and_parts, not-false}
 use Rattle.std.proofs.lemmas.List.Sums.{sum_by-cons}
 use Rattle.std.proofs.lemmas.Slice.Eq.{bytes_eq-Decides}
 use Rattle.cu_form.specs.declared.args.Arg.{Arg}
+use Rattle.cu_form.specs.declared.form.Form.{Form}
+use Rattle.cu_node.specs.Info.{info_at}
+use Rattle.cu_node.specs.declared.element_op.ElementOp.{ElementOp}
 use Rattle.cu_node.specs.declared.info.NodeInfo.{NodeInfo}
 use Rattle.cu_num.specs.Dtype.{size_of}
 use Rattle.cu_shape.specs.Index.{product}
 use Rattle.cu_typing.specs.Joined.{aligned_chunk}
 use Rattle.cu_need.specs.Chunks.{arrays_in, chunk_bytes, aligned_bytes, is_aligned, greatest}
-use Rattle.cu_need.specs.Elementwise.{are_aligned, copy_need, misaligned, elementwise_need}
+use Rattle.cu_copy.specs.Copies.{is_misaligned, rechunk_need}
+use Rattle.cu_need.specs.Elementwise.{are_aligned, function_need}
+use Rattle.cu_need.specs.Need.{need_of}
+use Rattle.cu_need.specs.Operands.{copies_of, in_aligned}
+use Rattle.cu_copy.specs.declared.copies.Rechunk.{Rechunk}
 
 own_chunk : (result i : NodeInfo) → is_aligned result i ≡ true → i.chunk ≡ aligned_chunk result.dims result.chunk i
 own_chunk result i aligned = (bytes_eq-Decides i.chunk (aligned_chunk result.dims result.chunk i)).0 aligned
 
-pub aligned_exactly : (result i : NodeInfo) → (is_aligned result i ≡ true) ↔ (i.chunk ≡ aligned_chunk result.dims result.chunk i)
-aligned_exactly result i = (own_chunk result i, (bytes_eq-Decides i.chunk (aligned_chunk result.dims result.chunk i)).1)
+pub aligned_exactly : (result i : NodeInfo) → (is_misaligned (in_aligned result i) ≡ false) ↔ (i.chunk ≡ aligned_chunk result.dims result.chunk i)
+aligned_exactly result i = (
+  (λ none. own_chunk result i (not-false (is_aligned result i) none)),
+  (λ same. ap not ((bytes_eq-Decides i.chunk (aligned_chunk result.dims result.chunk i)).1 same)),
+)
 
 own_bytes : (result i : NodeInfo) → is_aligned result i ≡ true → aligned_bytes result i ≡ chunk_bytes i
 own_bytes result i aligned = ap (λ (chunk : List ℕ). product chunk * size_of i.dtype) (sym (own_chunk result i aligned))
 
-none_misaligned : (result : NodeInfo) (is : List NodeInfo) → are_aligned result is ≡ true → misaligned result is ≡ []
+none_misaligned : (result : NodeInfo) (is : List NodeInfo) → are_aligned result is ≡ true → filter is_misaligned (map (in_aligned result) is) ≡ []
 none_misaligned result [] h = refl
 none_misaligned result (i ∷ is) h =
     let both = and_parts (is_aligned result i) (are_aligned result is) h in
@@ -42,11 +52,19 @@ own_sum result (i ∷ is) h =
     ∙ ap (λ (n : ℕ). chunk_bytes i + n) (own_sum result is both.1)
     ∙ sym (sum_by-cons chunk_bytes i is)
 
-pub aligned_need : (reserved : ℕ) (infos : List NodeInfo) (result : NodeInfo) (args : List Arg) → are_aligned result (arrays_in infos args) ≡ true
-    → elementwise_need reserved infos result args ≡ reserved + greatest (map chunk_bytes (result ∷ arrays_in infos args)) + sum_by chunk_bytes (arrays_in infos args) + chunk_bytes result + 512 * (length args + 1)
-aligned_need reserved infos result args h =
-    let none : greatest (map (copy_need reserved result) (misaligned result (arrays_in infos args))) ≡ 0 = ap (λ (is : List NodeInfo). greatest (map (copy_need reserved result) is)) (none_misaligned result (arrays_in infos args) h) in
-    let sizes = own_greatest result (arrays_in infos args) h in
-    let sum = own_sum result (arrays_in infos args) h in
-    let scratch : greatest (chunk_bytes result ∷ map (aligned_bytes result) (arrays_in infos args)) ≡ greatest (map chunk_bytes (result ∷ arrays_in infos args)) = ap (λ (ns : List ℕ). greatest (chunk_bytes result ∷ ns)) sizes in
-    omega (arith, none, scratch, sum)
+function_aligned : (reserved instructions : ℕ) (result : NodeInfo) (is : List NodeInfo) → are_aligned result is ≡ true
+    → function_need reserved result instructions is ≡ reserved + greatest (map chunk_bytes (result ∷ is)) + sum_by chunk_bytes is + chunk_bytes result + 512 * instructions
+function_aligned reserved instructions result is h =
+    let sizes = own_greatest result is h in
+    let sum = own_sum result is h in
+    let scratch : greatest (chunk_bytes result ∷ map (aligned_bytes result) is) ≡ greatest (map chunk_bytes (result ∷ is)) = ap (λ (ns : List ℕ). greatest (chunk_bytes result ∷ ns)) sizes in
+    omega (arith, scratch, sum)
+
+pub aligned_need : (reserved split_every out k : ℕ) (infos : List NodeInfo) (op : ElementOp) (args : List Arg) → are_aligned (info_at infos k) (arrays_in infos args) ≡ true
+    → need_of reserved split_every infos out k (Form.Elementwise op args)
+    ≡ reserved + greatest (map chunk_bytes (info_at infos k ∷ arrays_in infos args)) + sum_by chunk_bytes (arrays_in infos args) + chunk_bytes (info_at infos k) + 512 * (length args + 1)
+aligned_need reserved split_every out k infos op args h =
+    let none : greatest (map (rechunk_need reserved) (copies_of infos out k (Form.Elementwise op args))) ≡ 0 =
+    ap (λ (copies : List Rechunk). greatest (map (rechunk_need reserved) copies)) (none_misaligned (info_at infos k) (arrays_in infos args) h) in
+    let own = function_aligned reserved (length args + 1) (info_at infos k) (arrays_in infos args) h in
+    omega (arith, none, own)

@@ -1,12 +1,12 @@
 -- The first live node that passes a test.
-use Rattle.std.proofs.Common.{◌≡◌, ◌<◌, ◌≤◌, ◌+◌, ◌&&◌, zero, suc, Bool, true, false, List, [], ◌∷◌, ℕ, Option, None, Some, not, cond, nat_lt, refl, sym, ap, subst, ◌∙◌, inl, inr, ◌⊎◌, ◌↔◌, arith}
+use Rattle.std.proofs.Common.{◌≡◌, ◌<◌, ◌≤◌, ◌+◌, ◌&&◌, zero, suc, Bool, true, false, List, [], ◌∷◌, ℕ, Option, None, Some, cond, nat_lt, refl, sym, ap, subst, ◌∙◌, inl, inr, ◌⊎◌, ◌↔◌, arith}
 use Rattle.std.specs.Prelude.{slice_get, find, option_map}
-use Rattle.std.proofs.lemmas.Bool.{and_parts, not-true, not-false, not_from_true, ltb-true, ltb-false, le-ltb}
+use Rattle.std.proofs.lemmas.Bool.{and_parts, ltb-true, ltb-false, le-ltb}
 use Rattle.cu_form.specs.Expression.{Expression}
 use Rattle.cu_form.specs.declared.expr.Node.{Node}
 use Rattle.cu_node.specs.declared.info.NodeInfo.{NodeInfo}
 use Rattle.cu_need.specs.Live.{is_live, live_behind, live_nodes}
-use Rattle.cu_need.specs.Need.{is_built, need_of, first_unbuilt, first_over, IsLiveNode, IsFirstUnbuilt, IsFirstOver}
+use Rattle.cu_need.specs.Need.{need_of, first_over, IsLiveNode, IsFirstOver}
 use Rattle.cu_need.specs.declared.need.NodeNeed.{NodeNeed}
 
 -- one node more
@@ -106,50 +106,28 @@ live_at e i j n place at live =
     let number : i ≡ j = omega (arith, place) in
     record { at = subst (λ (a : ℕ). slice_get e.nodes a ≡ Some n) number at; live = live }
 
--- ---- nodes that aren't built
-
-abbrev isnt_built : Expression → List NodeInfo → ℕ × Node → Bool
-isnt_built e infos numbered = not (is_built infos e.out numbered.0 numbered.1.form)
-
-pub unbuilt_none : (e : Expression) (infos : List NodeInfo) → (first_unbuilt e infos ≡ None) ↔ ((k : ℕ) (node : Node) → IsLiveNode e k node → is_built infos e.out k node.form ≡ true)
-unbuilt_none e infos = (
-  (λ none k node live. not-false (is_built infos e.out k node.form) (none_passes e e.nodes 0 (isnt_built e infos) (mapped_none (λ numbered. numbered.0) (find (isnt_built e infos) (live_nodes e)) none) k k node (omega arith) live.at live.live)),
-  (λ all. ap (λ (o : Option (ℕ × Node)). option_map (λ numbered. numbered.0) o) (nothing_found e e.nodes 0 (isnt_built e infos) (λ i j n place at live. not_from_true (is_built infos e.out j n.form) (all j n (live_at e i j n place at live))))),
-)
-
-pub unbuilt_found : (e : Expression) (infos : List NodeInfo) (k : ℕ) → first_unbuilt e infos ≡ Some k → IsFirstUnbuilt e infos k
-unbuilt_found e infos k found =
-    let taken = mapped_some (λ (numbered : ℕ × Node). numbered.0) (find (isnt_built e infos) (live_nodes e)) k found in
-    let w = found_first e e.nodes 0 (isnt_built e infos) taken.0 taken.1 in
-    subst (λ (number : ℕ). IsFirstUnbuilt e infos number) taken.2 (record {
-      node = taken.0.1;
-      is_node = live_at e w.i taken.0.0 taken.0.1 w.place w.at w.live;
-      unbuilt = not-true (is_built infos e.out taken.0.0 taken.0.1.form) w.passes;
-      first = λ j earlier before live. not-false (is_built infos e.out j earlier.form) (w.first j j earlier (omega (arith, before, w.place)) (omega arith) live.at live.live);
-    })
-
 -- ---- nodes that need more than is allowed
 
-abbrev is_over : ℕ → ℕ → ℕ → List NodeInfo → ℕ × Node → Bool
-is_over allowed reserved split_every infos numbered = nat_lt allowed (need_of reserved split_every infos numbered.0 numbered.1.form)
+abbrev is_over : ℕ → ℕ → ℕ → List NodeInfo → ℕ → ℕ × Node → Bool
+is_over allowed reserved split_every infos out numbered = nat_lt allowed (need_of reserved split_every infos out numbered.0 numbered.1.form)
 
-abbrev with_need : ℕ → ℕ → List NodeInfo → ℕ × Node → NodeNeed
-with_need reserved split_every infos numbered = record { node = numbered.0; need = need_of reserved split_every infos numbered.0 numbered.1.form }
+abbrev with_need : ℕ → ℕ → List NodeInfo → ℕ → ℕ × Node → NodeNeed
+with_need reserved split_every infos out numbered = record { node = numbered.0; need = need_of reserved split_every infos out numbered.0 numbered.1.form }
 
-pub over_none : (allowed reserved split_every : ℕ) (e : Expression) (infos : List NodeInfo) → (first_over allowed reserved split_every e infos ≡ None) ↔ ((k : ℕ) (node : Node) → IsLiveNode e k node → need_of reserved split_every infos k node.form ≤ allowed)
+pub over_none : (allowed reserved split_every : ℕ) (e : Expression) (infos : List NodeInfo) → (first_over allowed reserved split_every e infos ≡ None) ↔ ((k : ℕ) (node : Node) → IsLiveNode e k node → need_of reserved split_every infos e.out k node.form ≤ allowed)
 over_none allowed reserved split_every e infos = (
-  (λ none k node live. ltb-false allowed (need_of reserved split_every infos k node.form) (none_passes e e.nodes 0 (is_over allowed reserved split_every infos) (mapped_none (with_need reserved split_every infos) (find (is_over allowed reserved split_every infos) (live_nodes e)) none) k k node (omega arith) live.at live.live)),
-  (λ all. ap (λ (o : Option (ℕ × Node)). option_map (with_need reserved split_every infos) o) (nothing_found e e.nodes 0 (is_over allowed reserved split_every infos) (λ i j n place at live. le-ltb allowed (need_of reserved split_every infos j n.form) (all j n (live_at e i j n place at live))))),
+  (λ none k node live. ltb-false allowed (need_of reserved split_every infos e.out k node.form) (none_passes e e.nodes 0 (is_over allowed reserved split_every infos e.out) (mapped_none (with_need reserved split_every infos e.out) (find (is_over allowed reserved split_every infos e.out) (live_nodes e)) none) k k node (omega arith) live.at live.live)),
+  (λ all. ap (λ (o : Option (ℕ × Node)). option_map (with_need reserved split_every infos e.out) o) (nothing_found e e.nodes 0 (is_over allowed reserved split_every infos e.out) (λ i j n place at live. le-ltb allowed (need_of reserved split_every infos e.out j n.form) (all j n (live_at e i j n place at live))))),
 )
 
 pub over_found : (allowed reserved split_every : ℕ) (e : Expression) (infos : List NodeInfo) (found : NodeNeed) → first_over allowed reserved split_every e infos ≡ Some found → IsFirstOver allowed reserved split_every e infos found
 over_found allowed reserved split_every e infos found is =
-    let taken = mapped_some (with_need reserved split_every infos) (find (is_over allowed reserved split_every infos) (live_nodes e)) found is in
-    let w = found_first e e.nodes 0 (is_over allowed reserved split_every infos) taken.0 taken.1 in
+    let taken = mapped_some (with_need reserved split_every infos e.out) (find (is_over allowed reserved split_every infos e.out) (live_nodes e)) found is in
+    let w = found_first e e.nodes 0 (is_over allowed reserved split_every infos e.out) taken.0 taken.1 in
     subst (λ (f : NodeNeed). IsFirstOver allowed reserved split_every e infos f) taken.2 (record {
       node = taken.0.1;
       is_node = live_at e w.i taken.0.0 taken.0.1 w.place w.at w.live;
       need = refl;
-      over = ltb-true allowed (need_of reserved split_every infos taken.0.0 taken.0.1.form) w.passes;
-      first = λ j earlier before live. ltb-false allowed (need_of reserved split_every infos j earlier.form) (w.first j j earlier (omega (arith, before, w.place)) (omega arith) live.at live.live);
+      over = ltb-true allowed (need_of reserved split_every infos e.out taken.0.0 taken.0.1.form) w.passes;
+      first = λ j earlier before live. ltb-false allowed (need_of reserved split_every infos e.out j earlier.form) (w.first j j earlier (omega (arith, before, w.place)) (omega arith) live.at live.live);
     })

@@ -1,8 +1,12 @@
 pub mod AlignedNeed
+mod CopyExamples
 mod Examples
 pub mod FirstLive
 pub mod LiveNodes
 pub mod LiveSteps
+pub mod OperandsWithin
 pub mod PartialChunks
 pub mod SoughtAxes
+pub mod Staged
 pub mod TypedNodes
+pub mod WantedChunks

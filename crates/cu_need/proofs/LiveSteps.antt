@@ -1,5 +1,5 @@
 -- One node more of the live nodes, and what is known of a node that is looked up.
-use Rattle.std.proofs.Common.{◌≡◌, ◌<◌, ◌+◌, Bool, true, false, List, [], ◌∷◌, ℕ, length, get_or, drop, Some, refl, ap, subst, ◌∙◌, cond, arith}
+use Rattle.std.proofs.Common.{◌≡◌, ◌<◌, ◌+◌, Bool, true, false, List, [], ◌∷◌, ℕ, length, get_or, drop, Some, refl, sym, ap, subst, ◌∙◌, cond, arith}
 use Rattle.std.specs.Prelude.{slice_get, sum_by, find}
 use Rattle.std.proofs.lemmas.List.{drop_more}
 use Rattle.std.proofs.lemmas.List.Sums.{sum_by-cons}
@@ -9,7 +9,7 @@ use Rattle.cu_form.specs.Form.{takes_args}
 use Rattle.cu_form.specs.declared.expr.Node.{Node}
 use Rattle.cu_node.specs.declared.info.NodeInfo.{NodeInfo}
 use Rattle.cu_need.specs.Live.{is_live, live_behind}
-use Rattle.cu_need.specs.Need.{IsAlignedWithin, AreWithinLimits}
+use Rattle.cu_need.specs.Need.{IsNodeWithin, AreWithinLimits}
 
 -- the nodes from number k on: the first of them, where it is live, and the others
 pub one_behind : (e : Expression) (nodes : List Node) (k : ℕ) (d : Node) → k < length nodes → live_behind e k (drop k nodes) ≡ cond (is_live e k) ((k, get_or nodes k d) ∷ live_behind e (k + 1) (drop (k + 1) nodes)) (live_behind e (k + 1) (drop (k + 1) nodes))
@@ -61,5 +61,7 @@ node_at e nodes k d same inside = subst (λ (ns : List Node). slice_get ns k ≡
 pub node_takes : (e : Expression) (nodes : List Node) (k : ℕ) (d : Node) → IsExpression e → nodes ≡ e.nodes → k < length nodes → takes_args (get_or nodes k d).form ≡ true
 node_takes e nodes k d is same inside = (is.nodes k (get_or nodes k d) (node_at e nodes k d same inside)).form.args
 
-pub node_within : (e : Expression) (infos : List NodeInfo) (nodes : List Node) (k : ℕ) (d : Node) → AreWithinLimits e infos → nodes ≡ e.nodes → k < length nodes → IsAlignedWithin infos k (get_or nodes k d).form
-node_within e infos nodes k d kept same inside = kept.aligned k (get_or nodes k d) (node_at e nodes k d same inside)
+pub node_within : (e : Expression) (infos : List NodeInfo) (nodes : List Node) (out k : ℕ) (d : Node) → AreWithinLimits e infos → out ≡ e.out → nodes ≡ e.nodes → k < length nodes
+    → IsNodeWithin infos out k (get_or nodes k d).form
+node_within e infos nodes out k d kept stored same inside =
+    subst (λ (o : ℕ). IsNodeWithin infos o k (get_or nodes k d).form) (sym stored) (kept.nodes k (get_or nodes k d) (node_at e nodes k d same inside))

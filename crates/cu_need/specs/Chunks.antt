@@ -4,8 +4,8 @@ use Rattle.cu_form.specs.declared.args.Arg.{Arg}
 use Rattle.cu_node.specs.Info.{info_at}
 use Rattle.cu_node.specs.declared.info.NodeInfo.{NodeInfo}
 use Rattle.cu_num.specs.Dtype.{size_of}
-use Rattle.cu_shape.specs.Counts.{counts_of}
 use Rattle.cu_shape.specs.Index.{product}
+pub use Rattle.cu_copy.specs.Chunks.{chunk_bytes, chunk_count}
 use Rattle.cu_typing.specs.Joined.{aligned_chunk}
 
 -- the arrays among the arguments of a node, in order; one that is an argument twice stands twice
@@ -14,10 +14,6 @@ arrays_in infos [] = []
 arrays_in infos (Arg.Node n ∷ args) = info_at infos n ∷ arrays_in infos args
 arrays_in infos (arg ∷ args) = arrays_in infos args
 
--- the bytes of a chunk of an array
-abbrev pub chunk_bytes : NodeInfo → ℕ
-chunk_bytes i = product i.chunk * size_of i.dtype
-
 -- the bytes of the chunk to which an argument's array is aligned
 abbrev pub aligned_bytes : NodeInfo → NodeInfo → ℕ
 aligned_bytes result i = product (aligned_chunk result.dims result.chunk i) * size_of i.dtype
@@ -25,10 +21,6 @@ aligned_bytes result i = product (aligned_chunk result.dims result.chunk i) * si
 -- an argument's array has the chunk to which it is aligned
 abbrev pub is_aligned : NodeInfo → NodeInfo → Bool
 is_aligned result i = bytes_eq i.chunk (aligned_chunk result.dims result.chunk i)
-
--- the number of an array's chunks; one with an axis of size 0 has none
-abbrev pub chunk_count : NodeInfo → ℕ
-chunk_count i = product (counts_of i.dims i.chunk)
 
 -- the greatest of some numbers; of none it is 0
 abbrev pub greatest : List ℕ → ℕ

@@ -5,33 +5,43 @@ use Rattle.cu_form.specs.declared.form.Form.{Form}
 use Rattle.cu_node.specs.Info.{info_at}
 use Rattle.cu_node.specs.declared.info.NodeInfo.{NodeInfo}
 use Rattle.cu_need.specs.Chunks.{chunk_count}
+use Rattle.cu_copy.specs.Copies.{rechunk_tasks, rechunk_cells}
 use Rattle.cu_need.specs.Live.{live_nodes}
 use Rattle.cu_need.specs.Reduction.{array_of, axes_reduced, axes_sought, reduction_chunks, place_chunks, value_chunks, matmul_chunks}
 use Rattle.cu_need.specs.View.{is_view}
+use Rattle.cu_need.specs.Operands.{copies_of}
 use Rattle.cu_need.specs.declared.counts.PlanCounts.{PlanCounts}
 use Rattle.cu_need.specs.declared.counts.OverLimit.{OverLimit}
 
--- the tasks that make node k: an elementwise node and a view have one for each chunk, a node of several operations one for each chunk of
--- each of their results, and an input none
-abbrev pub tasks_of : ℕ → List NodeInfo → ℕ → Form → ℕ
-tasks_of split_every infos k (Form.Elementwise op args) = chunk_count (info_at infos k)
-tasks_of split_every infos k (Form.Reduce kind args axes keepdims) = reduction_chunks split_every (info_at infos k) (array_of infos args 0) (axes_reduced (array_of infos args 0) axes)
-tasks_of split_every infos k (Form.ArgPlace least args axis keepdims) = place_chunks split_every (info_at infos k) (array_of infos args 0) (axes_sought (array_of infos args 0) axis)
-tasks_of split_every infos k (Form.Matmul args) = matmul_chunks split_every (info_at infos k) (array_of infos args 0)
-tasks_of split_every infos k form = if is_view form then chunk_count (info_at infos k) else 0
+-- The tasks that make node k besides copies: an elementwise node and a view have one for each chunk, a node of several operations one for
+-- each chunk of each of their results, and a rechunk and an input none.
+abbrev pub own_tasks : ℕ → List NodeInfo → ℕ → Form → ℕ
+own_tasks split_every infos k (Form.Elementwise op args) = chunk_count (info_at infos k)
+own_tasks split_every infos k (Form.Reduce kind args axes keepdims) = reduction_chunks split_every (info_at infos k) (array_of infos args 0) (axes_reduced (array_of infos args 0) axes)
+own_tasks split_every infos k (Form.ArgPlace least args axis keepdims) = place_chunks split_every (info_at infos k) (array_of infos args 0) (axes_sought (array_of infos args 0) axis)
+own_tasks split_every infos k (Form.Matmul args) = matmul_chunks split_every (info_at infos k) (array_of infos args 0)
+own_tasks split_every infos k form = if is_view form then chunk_count (info_at infos k) else 0
 
 -- The chunks that they store: each task one, and of a search for places all but those of the last operation one of the values too.
-abbrev pub cells_of : ℕ → List NodeInfo → ℕ → Form → ℕ
-cells_of split_every infos k (Form.ArgPlace least args axis keepdims) =
+abbrev pub own_cells : ℕ → List NodeInfo → ℕ → Form → ℕ
+own_cells split_every infos k (Form.ArgPlace least args axis keepdims) =
     place_chunks split_every (info_at infos k) (array_of infos args 0) (axes_sought (array_of infos args 0) axis)
     + value_chunks split_every (array_of infos args 0) (axes_sought (array_of infos args 0) axis)
-cells_of split_every infos k form = tasks_of split_every infos k form
+own_cells split_every infos k form = own_tasks split_every infos k form
+
+-- With those of the copies, each region of which has at most `most` bytes: a copy has a task for each region, and each task stores all
+-- chunks in its region.
+abbrev pub tasks_of : ℕ → ℕ → List NodeInfo → ℕ → ℕ → Form → ℕ
+tasks_of most split_every infos out k form = sum_by (rechunk_tasks most) (copies_of infos out k form) + own_tasks split_every infos k form
+
+abbrev pub cells_of : ℕ → ℕ → List NodeInfo → ℕ → ℕ → Form → ℕ
+cells_of most split_every infos out k form = sum_by (rechunk_cells most) (copies_of infos out k form) + own_cells split_every infos k form
 
 -- the sums over the live nodes
-abbrev pub plan_counts : Expression → List NodeInfo → ℕ → PlanCounts
-plan_counts e infos split_every = record {
-  tasks = sum_by (λ numbered. tasks_of split_every infos numbered.0 numbered.1.form) (live_nodes e);
-  cells = sum_by (λ numbered. cells_of split_every infos numbered.0 numbered.1.form) (live_nodes e);
+abbrev pub plan_counts : ℕ → ℕ → Expression → List NodeInfo → PlanCounts
+plan_counts most split_every e infos = record {
+  tasks = sum_by (λ numbered. tasks_of most split_every infos e.out numbered.0 numbered.1.form) (live_nodes e);
+  cells = sum_by (λ numbered. cells_of most split_every infos e.out numbered.0 numbered.1.form) (live_nodes e);
 }
 
 -- The first limit that a plan exceeds, with the count: 1 is that of 65,536 tasks, 2 that of 262,144 stored chunks.

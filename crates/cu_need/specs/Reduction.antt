@@ -1,7 +1,7 @@
 -- The memory of reductions, of searches for places and of products of matrices, in bytes, and what is counted of them (this project's own
 -- rule). `reserved` are the bytes that are kept for everything else, `split_every` is how many partial results a task merges, `made` and
 -- `source` tell of the node's array and of its argument's.
-use Rattle.std.specs.Prelude.{ℕ, ◌+◌, ◌-◌, ◌*◌, Bool, false, ◌&&◌, bytes_eq, ℤ, List, [], ◌∷◌, ◌++◌, length, take, max, slice_get, replicate, Option, Some, option_and_then, unwrap_or}
+use Rattle.std.specs.Prelude.{ℕ, ◌+◌, ◌-◌, ◌*◌, false, ℤ, List, length, take, slice_get, replicate, Option, Some, option_and_then, unwrap_or}
 use Rattle.cu_num.specs.Dtype.{size_of}
 use Rattle.cu_shape.specs.Index.{product}
 use Rattle.cu_pull.specs.declared.axes.Axes.{Axes}
@@ -11,13 +11,14 @@ use Rattle.cu_node.specs.Info.{info_at, no_info}
 use Rattle.cu_node.specs.declared.info.NodeInfo.{NodeInfo}
 use Rattle.cu_num.specs.declared.types.Dtype.TheVariants.{Int64}
 use Rattle.cu_typing.specs.Joined.{aligned_chunk}
-use Rattle.cu_typing.specs.Matmul.{rows, columns, left_inner, leading_array}
+use Rattle.cu_typing.specs.Matmul.{rows, columns, leading_array}
 use Rattle.cu_typing.specs.Reduction.{marks_of}
 use Rattle.cu_tree.specs.Marks.{marked_axes, sought_axes}
 use Rattle.cu_tree.specs.Needs.{with_merges, fold_need, merge_need, pair_fold_need, pair_merge_need, product_need}
 use Rattle.cu_tree.specs.Partials.{first_partial, reduction_rounds, product_partial, product_rounds, chunks_written, chunks_before}
-use Rattle.cu_tree.specs.declared.round.Round.{Round}
 use Rattle.cu_need.specs.Chunks.{chunk_bytes}
+use Rattle.cu_copy.specs.Copies.{rechunked}
+use Rattle.cu_copy.specs.declared.copies.Rechunk.{Rechunk}
 
 -- the array that an argument names, and that of an argument by its place; where there is none, a bool of rank 0
 abbrev pub array_from : List NodeInfo → Option Arg → NodeInfo
@@ -58,10 +59,10 @@ place_need reserved split_every made source axes =
     with_merges (reduction_rounds axes split_every source)
     (pair_fold_need reserved (chunk_bytes source) (value_bytes made source) (chunk_bytes made)) (pair_merge_need reserved split_every (value_bytes made source) (chunk_bytes made))
 
--- of operands that have their aligned chunks
-abbrev pub matmul_need : ℕ → ℕ → NodeInfo → NodeInfo → NodeInfo → ℕ
+-- of operands in the chunks that are wanted of them, of which the inner chunks are those of the left operand
+abbrev pub matmul_need : ℕ → ℕ → NodeInfo → Rechunk → Rechunk → ℕ
 matmul_need reserved split_every made left right =
-    with_merges (product_rounds split_every left made) (product_need reserved (chunk_bytes left) (chunk_bytes right) (chunk_bytes made))
+    with_merges (product_rounds split_every left.source made) (product_need reserved (chunk_bytes (rechunked left)) (chunk_bytes (rechunked right)) (chunk_bytes made))
     (merge_need reserved split_every (chunk_bytes made))
 
 -- ---- counts
@@ -85,7 +86,7 @@ value_chunks split_every source axes =
 abbrev pub matmul_chunks : ℕ → NodeInfo → NodeInfo → ℕ
 matmul_chunks split_every made left = chunks_written (product_partial left made) (product_rounds split_every left made) made
 
--- ---- aligned operands
+-- ---- operands before the matrix
 
 -- how many axes of the product come before its matrix
 abbrev pub leading_count : NodeInfo → NodeInfo → NodeInfo → ℕ
@@ -94,14 +95,3 @@ leading_count made left right = length made.dims - (length (rows left.dims) + le
 -- an operand's chunk on the axes before its matrix: the product's, or its own where it is stretched
 abbrev pub leading_aligned : NodeInfo → ℕ → NodeInfo → List ℕ
 leading_aligned made count operand = aligned_chunk (take count made.dims) (take count made.chunk) (leading_array operand)
-
--- The operands have their aligned chunks: the rows are the left's and the columns the right's, and the inner chunks are the left's.
-abbrev pub is_left_aligned : NodeInfo → ℕ → NodeInfo → Bool
-is_left_aligned made count left = bytes_eq left.chunk (leading_aligned made count left ++ rows left.chunk ++ left_inner left.chunk ∷ [])
-
-abbrev pub is_right_aligned : NodeInfo → ℕ → NodeInfo → NodeInfo → Bool
-is_right_aligned made count left right = bytes_eq right.chunk (leading_aligned made count right ++ left_inner left.chunk ∷ [] ++ columns right.chunk)
-
-abbrev pub are_operands_aligned : NodeInfo → NodeInfo → NodeInfo → Bool
-are_operands_aligned made left right =
-    is_left_aligned made (leading_count made left right) left && is_right_aligned made (leading_count made left right) left right

@@ -1,17 +1,20 @@
 //! The counts of a plan, and their limits.
 
-ghost use Rattle.std.specs.Prelude.{◌≡◌, ◌≤◌, ◌^◌, ◌*◌, All};
+ghost use Rattle.std.specs.Prelude.{◌≡◌, ◌≤◌, ◌^◌, true, All};
+ghost use Rattle.cu_form.specs.Form.{takes_args};
 ghost use Rattle.cu_node.specs.Info.{IsInfo};
-ghost use Rattle.cu_need.specs.Counts.{tasks_of, cells_of, plan_counts, over_limit};
-ghost use Rattle.cu_need.specs.Need.{IsAlignedWithin, AreWithinLimits};
+ghost use Rattle.cu_need.specs.Counts.{own_tasks, own_cells, tasks_of, cells_of, plan_counts, over_limit};
+ghost use Rattle.cu_need.specs.Need.{ArePartialsWithin, IsNodeWithin, AreWithinLimits};
 
-use crate::chunks::chunk_count;
+use crate::copies::{copies_cells, copies_tasks};
 use crate::live::live_marks;
+use crate::operands::copies_of;
 use crate::reduction::{
     array_of, axes_reduced, axes_sought, matmul_chunks, place_chunks, reduction_chunks,
     value_chunks,
 };
 use crate::view::is_view;
+use cu_copy::chunk_count;
 use cu_form::{Expr, Form};
 use cu_node::{NodeInfo, info_at, info_law};
 
@@ -38,12 +41,12 @@ pub struct OverLimit {
     pub count: u64,
 }
 
-/// The tasks that make the node with this number.
-fn tasks_of(split_every: u32, infos: &[NodeInfo], number: u32, form: &Form) -> u64
+/// The tasks that make the node with this number, besides copies.
+fn own_tasks(split_every: u32, infos: &[NodeInfo], number: u32, form: &Form) -> u64
     requires several { 2 ≤ split_every }
     requires infos { All IsInfo infos.now }
-    requires within { IsAlignedWithin infos.now number form.now }
-    ensures tasks { result ≡ tasks_of split_every infos.now number form.now }
+    requires partials { ArePartialsWithin infos.now number form.now }
+    ensures tasks { result ≡ own_tasks split_every infos.now number form.now }
     ensures few { result ≤ 2 ^ 37 }
 {
     info_law();
@@ -69,15 +72,15 @@ fn tasks_of(split_every: u32, infos: &[NodeInfo], number: u32, form: &Form) -> u
 }
 
 /// The chunks that they store.
-fn cells_of(split_every: u32, infos: &[NodeInfo], number: u32, form: &Form) -> u64
+fn own_cells(split_every: u32, infos: &[NodeInfo], number: u32, form: &Form) -> u64
     requires several { 2 ≤ split_every }
     requires infos { All IsInfo infos.now }
-    requires within { IsAlignedWithin infos.now number form.now }
-    ensures cells { result ≡ cells_of split_every infos.now number form.now }
+    requires partials { ArePartialsWithin infos.now number form.now }
+    ensures cells { result ≡ own_cells split_every infos.now number form.now }
     ensures few { result ≤ 2 ^ 38 }
 {
     info_law();
-    let tasks = tasks_of(split_every, infos, number, form);
+    let tasks = own_tasks(split_every, infos, number, form);
     match form {
         Form::ArgPlace { args, axis, .. } => {
             let source = array_of(infos, args.as_slice(), 0);
@@ -87,21 +90,49 @@ fn cells_of(split_every: u32, infos: &[NodeInfo], number: u32, form: &Form) -> u
     }
 }
 
-/// The tasks of the expression's plan in which nothing is merged, and the chunks that they store: the sums over the live nodes.
-pub fn plan_counts(expr: &Expr, infos: &[NodeInfo], split_every: u32) -> PlanCounts
+/// What the node with this number adds to the counts, where node `out` is stored and a region of a copy has at most `most` bytes.
+fn counts_of_node(
+    most: u64,
+    split_every: u32,
+    infos: &[NodeInfo],
+    out: u32,
+    number: u32,
+    form: &Form,
+) -> PlanCounts
+    requires several { 2 ≤ split_every }
+    requires args { takes_args form.now ≡ true }
+    requires infos { All IsInfo infos.now }
+    requires within { IsNodeWithin infos.now out number form.now }
+    ensures tasks { result.tasks ≡ tasks_of most split_every infos.now out number form.now }
+    ensures cells { result.cells ≡ cells_of most split_every infos.now out number form.now }
+    ensures few_tasks { result.tasks ≤ 2 ^ 44 }
+    ensures few_cells { result.cells ≤ 2 ^ 44 }
+{
+    let copies = copies_of(infos, out, number, form);
+    PlanCounts {
+        tasks: copies_tasks(most, copies.as_slice()) + own_tasks(split_every, infos, number, form),
+        cells: copies_cells(most, copies.as_slice()) + own_cells(split_every, infos, number, form),
+    }
+}
+
+/// The tasks of the expression's plan in which nothing is merged, and the chunks that they store: the sums over the live nodes. A region of
+/// a copy has at most `most` bytes; a copy of a chunk that has more, which a plan doesn't have, counts nothing.
+pub fn plan_counts(most: u64, split_every: u32, expr: &Expr, infos: &[NodeInfo]) -> PlanCounts
     requires several { 2 ≤ split_every }
     requires limits { AreWithinLimits expr.now infos.now }
-    ensures { result ≡ plan_counts expr.now infos.now split_every }
+    ensures { result ≡ plan_counts most split_every expr.now infos.now }
 {
     let marks = live_marks(expr);
     let nodes = expr.nodes();
+    let out = expr.out();
     let mut tasks = 0;
     let mut cells = 0;
     for k in 0..nodes.len() {
         if marks[k] {
             let form = &nodes[k].form;
-            tasks += tasks_of(split_every, infos, k as u32, form);
-            cells += cells_of(split_every, infos, k as u32, form);
+            let own = counts_of_node(most, split_every, infos, out, k as u32, form);
+            tasks += own.tasks;
+            cells += own.cells;
         }
     }
     PlanCounts { tasks, cells }

@@ -3,17 +3,21 @@
 #![tactic(auto)]
 
 mod chunks;
+mod copies;
 mod counts;
 mod elementwise;
 mod laws;
 mod live;
 mod need;
+mod operands;
 mod reduction;
 mod view;
 
 pub use counts::{OverLimit, PlanCounts, plan_counts};
-pub use laws::{aligned_law, counts_law, live_law, over_law, typed_law, unbuilt_law};
+pub use cu_copy::{Rechunk, max_mem};
+pub use laws::{aligned_law, copies_law, counts_law, live_law, over_law, typed_law};
 pub use live::live_marks;
-pub use need::{NodeNeed, first_over, first_unbuilt, need_of};
-pub use reduction::{array_of, axes_reduced, reduced_axes, sought_axis};
+pub use need::{NodeNeed, first_over, need_of, own_need};
+pub use operands::{copies_of, operands_of};
+pub use reduction::{array_of, axes_reduced, left_wanted, reduced_axes, right_wanted, sought_axis};
 pub use view::is_view;

@@ -1,15 +1,19 @@
-//! The memory of each node, and which nodes are built.
+//! The memory of each node.
 
 ghost use Rattle.std.specs.Prelude.{◌≡◌, ◌≤◌, ◌^◌, true, All};
 ghost use Rattle.cu_form.specs.Form.{takes_args};
 ghost use Rattle.cu_node.specs.Info.{IsInfo};
-ghost use Rattle.cu_need.specs.Need.{is_built, first_unbuilt, need_of, first_over, IsAlignedWithin, AreWithinLimits};
+ghost use Rattle.cu_copy.specs.Copies.{IsRechunk};
+ghost use Rattle.cu_need.specs.Need.{own_need, need_of, first_over, ArePartialsWithin, IsNodeWithin, AreWithinLimits};
+ghost use Rattle.cu_need.specs.Operands.{operands_of};
 
-use crate::elementwise::{are_aligned, elementwise_need};
+use crate::copies::copies_need;
+use crate::elementwise::function_need;
 use crate::live::live_marks;
+use crate::operands::copies_of;
 use crate::reduction::{
-    are_operands_aligned, array_of, axes_reduced, axes_sought, matmul_need, place_need,
-    reduction_need,
+    array_of, axes_reduced, axes_sought, left_wanted, matmul_need, place_need, reduction_need,
+    right_wanted,
 };
 use crate::view::{is_view, view_need};
 use cu_form::{Expr, Form};
@@ -24,100 +28,77 @@ pub struct NodeNeed {
     pub need: u64,
 }
 
-/// Whether an operation that is built makes the node with this number.
-fn is_built(infos: &[NodeInfo], out: u32, number: u32, form: &Form) -> bool
-    ensures { result ≡ is_built infos.now out number form.now }
-{
-    match form {
-        Form::Input { .. } => number != out,
-        Form::Elementwise { args, .. } => are_aligned(
-            &info_at(infos, number),
-            infos,
-            args.as_slice(),
-        ),
-        Form::Reduce { .. } | Form::ArgPlace { .. } => true,
-        Form::Matmul { args } => are_operands_aligned(
-            &info_at(infos, number),
-            &array_of(infos, args.as_slice(), 0),
-            &array_of(infos, args.as_slice(), 1),
-        ),
-        other => is_view(other),
-    }
-}
-
-/// The number of the first live node that no operations which are built make: an input that is itself stored, an elementwise node or a
-/// product with an argument whose chunks are not those to which it is aligned, or a rechunk. None where each live node is made.
-pub fn first_unbuilt(expr: &Expr, infos: &[NodeInfo]) -> Option<u32>
-    ensures { result ≡ first_unbuilt expr.now infos.now }
-{
-    let marks = live_marks(expr);
-    let nodes = expr.nodes();
-    let out = expr.out();
-    for k in 0..nodes.len() {
-        if marks[k] && !is_built(infos, out, k as u32, &nodes[k].form) {
-            return Some(k as u32);
-        }
-    }
-    None
-}
-
-/// The bytes that the node with this number needs, of which `reserved` are kept for everything else: the greatest that one of its
-/// operations needs, where a task merges `split_every` partial results. An input is read by the nodes that use it, and needs the reserved
-/// bytes alone; so does a node of a form that no operation makes.
-pub fn need_of(reserved: u64, split_every: u32, infos: &[NodeInfo], number: u32, form: &Form) -> u64
+/// The bytes that the operations of the node with this number need besides copies, of which `reserved` are kept for everything else: the
+/// greatest that one of them needs, where a task merges `split_every` partial results; the reserved bytes where it has none.
+pub fn own_need(
+    reserved: u64,
+    split_every: u32,
+    infos: &[NodeInfo],
+    number: u32,
+    form: &Form,
+) -> u64
     requires reserved { reserved ≤ 2 ^ 40 }
     requires several { 2 ≤ split_every }
     requires few { split_every ≤ 64 }
     requires args { takes_args form.now ≡ true }
     requires infos { All IsInfo infos.now }
-    requires within { IsAlignedWithin infos.now number form.now }
-    ensures { result ≡ need_of reserved split_every infos.now number form.now }
+    requires partials { ArePartialsWithin infos.now number form.now }
+    requires operands { All IsRechunk (operands_of infos.now number form.now) }
+    ensures { result ≡ own_need reserved split_every infos.now number form.now }
 {
     info_law();
+    let made = info_at(infos, number);
     match form {
-        Form::Elementwise { args, .. } => elementwise_need(
-            reserved,
-            infos,
-            &info_at(infos, number),
-            args.as_slice(),
-        ),
+        Form::Elementwise { args, .. } => { function_need(reserved, &made, infos, args.as_slice()) }
         Form::Reduce { args, axes, .. } => {
             let source = array_of(infos, args.as_slice(), 0);
             let axes = axes_reduced(&source, axes);
-            reduction_need(
-                reserved,
-                split_every,
-                &info_at(infos, number),
-                &source,
-                axes,
-            )
+            reduction_need(reserved, split_every, &made, &source, axes)
         }
         Form::ArgPlace { args, axis, .. } => {
             let source = array_of(infos, args.as_slice(), 0);
             let axes = axes_sought(&source, *axis);
-            place_need(
+            place_need(reserved, split_every, &made, &source, axes)
+        }
+        Form::Matmul { args } => {
+            let left = array_of(infos, args.as_slice(), 0);
+            let right = array_of(infos, args.as_slice(), 1);
+            matmul_need(
                 reserved,
                 split_every,
-                &info_at(infos, number),
-                &source,
-                axes,
+                &made,
+                &left_wanted(&made, &left, &right),
+                &right_wanted(&made, &left, &right),
             )
         }
-        Form::Matmul { args } => matmul_need(
-            reserved,
-            split_every,
-            &info_at(infos, number),
-            &array_of(infos, args.as_slice(), 0),
-            &array_of(infos, args.as_slice(), 1),
-        ),
-        other if is_view(other) => view_need(
-            reserved,
-            infos,
-            &info_at(infos, number),
-            other.args(),
-        ),
+        other if is_view(other) => view_need(reserved, infos, &made, other.args()),
         _ => reserved,
     }
+}
+
+/// The bytes that the node with this number needs where node `out` is stored, of which `reserved` are kept for everything else: the
+/// greatest that its operations besides copies need, where a task merges `split_every` partial results, and that each of its copies needs,
+/// twice the greater of its chunks. What is allowed doesn't matter: a copy is made in stages that keep within it exactly where this need
+/// does. An input that isn't stored is read by the nodes that use it, and needs the reserved bytes alone.
+pub fn need_of(
+    reserved: u64,
+    split_every: u32,
+    infos: &[NodeInfo],
+    out: u32,
+    number: u32,
+    form: &Form,
+) -> u64
+    requires reserved { reserved ≤ 2 ^ 40 }
+    requires several { 2 ≤ split_every }
+    requires few { split_every ≤ 64 }
+    requires args { takes_args form.now ≡ true }
+    requires infos { All IsInfo infos.now }
+    requires within { IsNodeWithin infos.now out number form.now }
+    ensures { result ≡ need_of reserved split_every infos.now out number form.now }
+{
+    let copies = copies_of(infos, out, number, form);
+    let copied = copies_need(reserved, copies.as_slice());
+    own_need(reserved, split_every, infos, number, form).max(copied)
 }
 
 /// The first live node that needs more bytes than are allowed, with what it needs. None where no live node does.
@@ -136,9 +117,11 @@ pub fn first_over(
 {
     let marks = live_marks(expr);
     let nodes = expr.nodes();
+    let out = expr.out();
     for k in 0..nodes.len() {
         if marks[k] {
-            let need = need_of(reserved, split_every, infos, k as u32, &nodes[k].form);
+            let form = &nodes[k].form;
+            let need = need_of(reserved, split_every, infos, out, k as u32, form);
             if need > allowed {
                 return Some(NodeNeed {
                     node: k as u32,

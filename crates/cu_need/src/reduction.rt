@@ -8,9 +8,11 @@ ghost use Rattle.cu_node.specs.Info.{IsInfo};
 ghost use Rattle.cu_node.specs.Limited.{is_chunk_within};
 ghost use Rattle.cu_tree.specs.Needs.{with_merges};
 ghost use Rattle.cu_tree.specs.Partials.{partial_chunk};
-ghost use Rattle.cu_need.specs.Reduction.{array_of, reduced_axes, sought_axis, axes_reduced, axes_sought, reduction_need, value_bytes, place_need, matmul_need, reduction_chunks, place_chunks, value_chunks, matmul_chunks, leading_count, is_left_aligned, is_right_aligned, are_operands_aligned};
+ghost use Rattle.cu_need.specs.Reduction.{array_of, reduced_axes, sought_axis, axes_reduced, axes_sought, reduction_need, value_bytes, place_need, matmul_need, reduction_chunks, place_chunks, value_chunks, matmul_chunks, leading_count};
+ghost use Rattle.cu_copy.specs.Copies.{IsRechunk};
+ghost use Rattle.cu_need.specs.Operands.{left_wanted, right_wanted};
 
-use crate::chunks::chunk_bytes;
+use cu_copy::{Rechunk, chunk_bytes, wanted_bytes};
 use cu_form::{Arg, Items};
 use cu_node::{NodeInfo, all_axes, axis_of, grown, info_at, named_axes, size_at};
 use cu_num::{Dtype, size};
@@ -147,28 +149,28 @@ pub(crate) fn place_need(
     )
 }
 
-/// The bytes that a product of matrices needs whose operands have their aligned chunks.
+/// The bytes that a product of matrices needs whose operands are in the chunks that it wants.
 pub(crate) fn matmul_need(
     reserved: u64,
     split_every: u32,
     made: &NodeInfo,
-    left: &NodeInfo,
-    right: &NodeInfo,
+    left: &Rechunk,
+    right: &Rechunk,
 ) -> u64
     requires reserved { reserved ≤ 2 ^ 40 }
     requires several { 2 ≤ split_every }
     requires few { split_every ≤ 64 }
     requires made { IsInfo made.now }
-    requires left { IsInfo left.now }
-    requires right { IsInfo right.now }
-    requires rank { 0 < length left.now.dims }
+    requires left { IsRechunk left.now }
+    requires right { IsRechunk right.now }
+    requires rank { 0 < length left.now.source.dims }
     ensures { result ≡ matmul_need reserved split_every made.now left.now right.now }
 {
-    let rounds = product_rounds(split_every, left, made);
+    let rounds = product_rounds(split_every, &left.source, made);
     let partial = chunk_bytes(made);
     with_merges(
         rounds.as_slice(),
-        product_need(reserved, chunk_bytes(left), chunk_bytes(right), partial),
+        product_need(reserved, wanted_bytes(left), wanted_bytes(right), partial),
         merge_need(reserved, split_every, partial),
     )
 }
@@ -260,32 +262,30 @@ fn leading_count(made: &NodeInfo, left: &NodeInfo, right: &NodeInfo) -> u32
     made.dims.rank().saturating_sub(outer)
 }
 
-/// Whether the left operand has its aligned chunk, where so many axes of the product come before its matrix.
-fn is_left_aligned(made: &NodeInfo, count: u32, left: &NodeInfo) -> bool
-    ensures { result ≡ is_left_aligned made.now count left.now }
-{
-    let chunk = left_chunk(&front(&made.dims, count), &front(&made.chunk, count), left);
-    left.chunk.is(&chunk)
-}
-
-/// Whether the right operand has its aligned chunk, whose inner size is the left operand's.
-fn is_right_aligned(made: &NodeInfo, count: u32, left: &NodeInfo, right: &NodeInfo) -> bool
-    ensures { result ≡ is_right_aligned made.now count left.now right.now }
-{
-    let inner = size_at(&left.chunk, left.chunk.rank().saturating_sub(1));
-    let chunk = right_chunk(
-        &front(&made.dims, count),
-        &front(&made.chunk, count),
-        inner,
-        right,
-    );
-    right.chunk.is(&chunk)
-}
-
-/// Whether the operands of a product of matrices have their aligned chunks.
-pub(crate) fn are_operands_aligned(made: &NodeInfo, left: &NodeInfo, right: &NodeInfo) -> bool
-    ensures { result ≡ are_operands_aligned made.now left.now right.now }
+/// The left operand in the chunks that the product wants.
+pub fn left_wanted(made: &NodeInfo, left: &NodeInfo, right: &NodeInfo) -> Rechunk
+    ensures { result ≡ left_wanted made.now left.now right.now }
 {
     let count = leading_count(made, left, right);
-    is_left_aligned(made, count, left) && is_right_aligned(made, count, left, right)
+    Rechunk {
+        source: *left,
+        chunk: left_chunk(&front(&made.dims, count), &front(&made.chunk, count), left),
+    }
+}
+
+/// The right operand in the chunks that the product wants, whose inner size is the left operand's.
+pub fn right_wanted(made: &NodeInfo, left: &NodeInfo, right: &NodeInfo) -> Rechunk
+    ensures { result ≡ right_wanted made.now left.now right.now }
+{
+    let count = leading_count(made, left, right);
+    let inner = size_at(&left.chunk, left.chunk.rank().saturating_sub(1));
+    Rechunk {
+        source: *right,
+        chunk: right_chunk(
+            &front(&made.dims, count),
+            &front(&made.chunk, count),
+            inner,
+            right,
+        ),
+    }
 }

@@ -5,7 +5,7 @@ ghost use Rattle.cu_node.specs.Info.{IsInfo};
 ghost use Rattle.cu_need.specs.Chunks.{arrays_in};
 ghost use Rattle.cu_need.specs.View.{is_view, view_need};
 
-use crate::chunks::chunk_bytes;
+use cu_copy::chunk_bytes;
 use cu_form::{Arg, Form};
 use cu_node::{NodeInfo, info_at, info_law};
 

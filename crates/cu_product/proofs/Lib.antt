@@ -1,5 +1,6 @@
 pub mod Batches
 mod Examples
+pub mod Pairs
 pub mod Parts
 pub mod Sums
 pub mod ReadThrough

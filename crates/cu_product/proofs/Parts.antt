@@ -97,6 +97,15 @@ bytes_inside t a n xs ys p k e less h =
     ∙ sym (part_inside (size_of t) (k * size_of t) (length ys) (ys ++ post_of a n xs) less)
     ∙ ap (λ part. take (size_of t) (drop (k * size_of t) part)) (take_at ys (post_of a n xs) (length ys) refl)
 
+pub bytes_beyond : (t : Dtype) (a n : ℕ) (xs ys : List ℕ) (p : ℕ) → length ys ≡ n → a + n ≤ p * size_of t → a ≤ length xs → bytes_at t (put_mid a n xs ys) p ≡ bytes_at t xs p
+bytes_beyond t a n xs ys p long far h =
+    let m = p * size_of t - (a + n) in
+    let at : p * size_of t ≡ a + n + m = omega arith in
+    let whole = put_mid a n xs ys in
+    let after : drop n (drop a whole) ≡ drop n (drop a xs) = ap (drop n) (drop_at (take a xs) (ys ++ post_of a n xs) a (length-take-le a xs h)) ∙ drop_at ys (post_of a n xs) n long in
+    let split : (l : List ℕ) → drop (p * size_of t) l ≡ drop m (drop n (drop a l)) = λ l. ap (λ k. drop k l) at ∙ sym (drop-drop m (a + n) l) ∙ ap (drop m) (sym (drop-drop n a l)) in
+    ap (take (size_of t)) (split whole ∙ ap (drop m) after ∙ sym (split xs))
+
 -- an element of so many lies inside
 pub element_inside : (t : Dtype) (k count bytes : ℕ) → bytes ≡ count * size_of t → k < count → k * size_of t + size_of t ≤ bytes
 element_inside t k count bytes e h = let far : suc k * size_of t ≤ count * size_of t = mul-le-mul_right (size_of t) h in omega arith

@@ -3,6 +3,7 @@
 
 mod block;
 mod column;
+mod paired;
 mod rows;
 mod types;
 

@@ -1,10 +1,11 @@
 //! The product of two matrices, with loops for each pair of types.
 
-ghost use Rattle.std.specs.Prelude.{◌≡◌, ◌*◌, ◌+◌, ◌<◌, ℕ, length};
+ghost use Rattle.std.specs.Prelude.{◌≡◌, ◌*◌, ◌%◌, ◌+◌, ◌<◌, ◌≤◌, ℕ, true, length};
 ghost use Rattle.cu_num.specs.Dtype.{size_of, IsInteger};
 ghost use Rattle.cu_product.specs.Matrices.{HasProducts, numbers};
 
 use crate::column::multiply_column;
+use crate::paired::multiply_paired;
 use crate::rows::{Sizes, multiply_rows};
 use cu_num::Dtype;
 
@@ -231,9 +232,55 @@ fn of_one_type(t: Dtype, sizes: Sizes, left: &[u8], right: &[u8], out: &mut [u8]
 {
     if sizes.columns == 1 {
         multiply_column(t, sizes, left, right, out);
-    } else {
-        multiply_rows(t, t, t, sizes, left, right, out);
+        return;
     }
+    match t {
+        Dtype::Int64 if has_pairs(sizes) => paired_int64(sizes, left, right, out),
+        Dtype::Uint64 if has_pairs(sizes) => paired_uint64(sizes, left, right, out),
+        _ => multiply_rows(t, t, t, sizes, left, right, out),
+    }
+}
+
+/// Whether two inner places can be taken by one multiplication, with as many rows as repay the copies of the right matrix.
+#[inline(always)]
+fn has_pairs(sizes: Sizes) -> bool
+    ensures columns { result ≡ true → 8 ≤ sizes.columns }
+    ensures few { result ≡ true → sizes.inner ≤ 512 }
+    ensures even { result ≡ true → sizes.inner % 2 ≡ 0 }
+{
+    sizes.rows >= 16 && sizes.columns >= 8 && sizes.inner <= 512 && sizes.inner % 2 == 0
+}
+
+/// By pairs of inner places.
+#[inline(never)]
+fn paired_int64(sizes: Sizes, left: &[u8], right: &[u8], out: &mut [u8])
+    requires some_rows { 0 < sizes.rows }
+    requires some { 0 < sizes.inner }
+    requires few { sizes.inner ≤ 512 }
+    requires even { sizes.inner % 2 ≡ 0 }
+    requires columns { 8 ≤ sizes.columns }
+    requires left { length left.now ≡ sizes.rows * sizes.inner * size_of Dtype.Int64 }
+    requires right { length right.now ≡ sizes.inner * sizes.columns * size_of Dtype.Int64 }
+    requires out { length out.old ≡ sizes.rows * sizes.columns * size_of Dtype.Int64 }
+    ensures { HasProducts sizes (numbers Dtype.Int64 left.now) (numbers Dtype.Int64 right.now) Dtype.Int64 out.new }
+{
+    multiply_paired(Dtype::Int64, sizes, left, right, out);
+}
+
+/// By pairs of inner places.
+#[inline(never)]
+fn paired_uint64(sizes: Sizes, left: &[u8], right: &[u8], out: &mut [u8])
+    requires some_rows { 0 < sizes.rows }
+    requires some { 0 < sizes.inner }
+    requires few { sizes.inner ≤ 512 }
+    requires even { sizes.inner % 2 ≡ 0 }
+    requires columns { 8 ≤ sizes.columns }
+    requires left { length left.now ≡ sizes.rows * sizes.inner * size_of Dtype.Uint64 }
+    requires right { length right.now ≡ sizes.inner * sizes.columns * size_of Dtype.Uint64 }
+    requires out { length out.old ≡ sizes.rows * sizes.columns * size_of Dtype.Uint64 }
+    ensures { HasProducts sizes (numbers Dtype.Uint64 left.now) (numbers Dtype.Uint64 right.now) Dtype.Uint64 out.new }
+{
+    multiply_paired(Dtype::Uint64, sizes, left, right, out);
 }
 
 /// By the type of the right operand, whose rows are read again and again.

@@ -5,6 +5,7 @@ pub mod JobViews
 pub mod MapTask
 pub mod MatrixBlocks
 pub mod MatrixTask
+pub mod OwnRegions
 pub mod PartialRegions
 pub mod PartialTasks
 pub mod PartialValues

@@ -13,5 +13,5 @@ mod run;
 mod searches;
 mod views;
 
-pub use laws::needed_chunks_law;
+pub use laws::{needed_chunks_law, region_law};
 pub use run::run_task;

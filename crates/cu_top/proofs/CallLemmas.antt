@@ -11,7 +11,7 @@ use Rattle.cu_command.specs.Job.{names_or_none, IsJob}
 use Rattle.cu_command.specs.Streams.{ReadsAll}
 use Rattle.cu_command.specs.declared.job.Job.{Job}
 use Rattle.cu_command.specs.declared.status.Status.{Status}
-use Rattle.cu_command.specs.declared.status.Status.TheVariants.{Done, BadWords, BadExpr, BadType, OverMemory, OverLimit, BadMeta, NoArray, Exists, TaskFailed, ReadFault, WriteFault, BadChunk, DepotFailed, NotBuilt, BadLoad, NoMemory}
+use Rattle.cu_command.specs.declared.status.Status.TheVariants.{Done, BadWords, BadExpr, BadType, OverMemory, OverLimit, BadMeta, NoArray, Exists, TaskFailed, ReadFault, WriteFault, BadChunk, DepotFailed, BadLoad, NoMemory}
 use Rattle.cu_lower.specs.declared.options.Options.{Options}
 use Rattle.cu_top.specs.Call.{RunTells, IsRefusedText}
 use Rattle.cu_top.specs.Run.{Scene, RunCase, case, Ran}
@@ -88,7 +88,6 @@ module _ (c : RunCase) (f : ExpressionFault) (err : expression_of c.text ≡ Err
   refused_run (DepotFailed key) (rose, inl unread) = no_turn (expression_of c.text) f c.old.depot unread.1.0 err unread.1.2
   refused_run (DepotFailed key) (rose, inr (inl (spared, (job, accepted, first)))) = no_job job accepted
   refused_run (DepotFailed key) (rose, inr (inr (job, started, unstored))) = no_job job started.accepted
-  refused_run (NotBuilt node) (spared, (job, accepted, why)) = no_job job accepted
   refused_run (OverMemory node need allowed) (spared, (job, accepted, why)) = no_job job accepted
   refused_run (OverLimit which count) (spared, (job, accepted, why)) = no_job job accepted
   refused_run (Exists key) (spared, (job, accepted, why)) = no_job job accepted

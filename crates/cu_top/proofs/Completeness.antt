@@ -21,7 +21,7 @@ use Rattle.cu_command.specs.declared.job.Job.{Job}
 use Rattle.cu_command.specs.declared.job.JobFault.{JobFault}
 use Rattle.cu_command.specs.declared.job.JobFault.TheVariants as fault
 use Rattle.cu_command.specs.declared.status.Status.{Status}
-use Rattle.cu_command.specs.declared.status.Status.TheVariants.{Done, BadExpr, BadType, OverMemory, OverLimit, BadMeta, NoArray, Exists, TaskFailed, ReadFault, WriteFault, BadChunk, DepotFailed, NotBuilt, NoMemory}
+use Rattle.cu_command.specs.declared.status.Status.TheVariants.{Done, BadExpr, BadType, OverMemory, OverLimit, BadMeta, NoArray, Exists, TaskFailed, ReadFault, WriteFault, BadChunk, DepotFailed, NoMemory}
 use Rattle.cu_lower.specs.declared.options.Options.{Options}
 use Rattle.cu_top.proofs.CallLemmas.{same_text}
 use Rattle.cu_top.proofs.RunLemmas.{piece_listed}
@@ -34,13 +34,13 @@ use Rattle.cu_top.specs.Words.{command_of, run}
 
 -- ---- each other answer lacks its cause
 
-none_rose : (n before after : ℕ) → 0 < n → StoodStill before after → Rose n before after → ⊥
+pub none_rose : (n before after : ℕ) → 0 < n → StoodStill before after → Rose n before after → ⊥
 none_rose n before after some still rose = omega (arith, still.0, still.1, rose, some)
 
 absent : (v : Option (List ℕ)) (text : List ℕ) → v ≡ Some text → v ≡ None → ⊥
 absent v text some none = cc
 
-none_or_some : {A : Type 0} (v : Option A) (x : A) → v ≡ None → v ≡ Some x → ⊥
+pub none_or_some : {A : Type 0} (v : Option A) (x : A) → v ≡ None → v ≡ Some x → ⊥
 none_or_some v x none some = cc
 
 true_or_false : (b : Bool) → b ≡ true → b ≡ false → ⊥
@@ -138,9 +138,8 @@ module _ (c : RunCase) (entry : Contents) (told : c.old.depot.held ≡ Some entr
     served_run (BadType code node) ran = let e = no_fault (fault.Typing code node) ran in cc
     served_run (BadMeta name code) ran = let e = no_fault (fault.BadMeta name code) ran in cc
     served_run (NoArray name) ran = let e = no_fault (fault.NoArray name) ran in cc
-    served_run (NotBuilt node) (spared, (job, accepted, why)) = none_or_some _ node (rest job accepted).built why
-    served_run (OverMemory node need allowed) (spared, (job, accepted, why)) = none_or_some _ (record { node = node; need = need }) (rest job accepted).memory why.2
-    served_run (OverLimit which count) (spared, (job, accepted, why)) = none_or_some _ (record { which = which; count = count }) (rest job accepted).counts why.2
+    served_run (OverMemory node need allowed) (spared, (job, accepted, why)) = none_or_some _ _ (rest job accepted).planned why
+    served_run (OverLimit which count) (spared, (job, accepted, why)) = none_or_some _ _ (rest job accepted).planned why
     served_run (Exists key) (spared, (job, accepted, (planned, (first, way, own)))) = not_in_way job (rest job accepted) key spared first.0 way
     served_run (BadChunk key got want) (job, started, (bad, texts, input)) =
         let at_rest = rest job started.accepted in

@@ -4,10 +4,10 @@ mod CheckLemmas
 mod Completeness
 mod OptionLemmas
 mod PlanLemmas
+mod PlannedLemmas
 mod PrepareLemmas
 mod RecordExample
 mod RecordLemmas
-mod ReportLemmas
 mod RunLemmas
 mod WordLemmas
 mod WordsExample

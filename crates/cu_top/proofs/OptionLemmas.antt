@@ -1,8 +1,8 @@
 -- Options that were read are within their range, and a name that was read is one.
-use Rattle.std.proofs.Common.{◌≡◌, ℕ, ◌≤◌, ◌^◌, ◌&&◌, nat_le, Bool, true, false, List, [], ◌∷◌, Option, Some, None, Result, Ok, Err, option_map, option_and_then, unwrap_or, refl, sym, subst, inl, inr, ◌⊎◌, arith, leb-true, lit≤, if◌then◌else◌, bytes_eq, codes}
+use Rattle.std.proofs.Common.{◌≡◌, ℕ, ◌≤◌, ◌^◌, ◌&&◌, nat_le, Bool, true, false, List, [], ◌∷◌, Option, Some, None, Result, Ok, Err, ap, option_map, option_and_then, unwrap_or, refl, subst, inl, inr, ◌⊎◌, arith, leb-true, lit≤, if◌then◌else◌, bytes_eq, codes}
 use Rattle.std.specs.Str.Parse.{without_leading_plus, digits_value}
 use Rattle.cu_name.specs.Name.{is_name}
-use Rattle.cu_top.specs.Words.{Command, run, load, check, print, is_number, memory_of, retries_of, split_of, once, given_with, options_from, or_code, nothing_given, retries_in, is_plain, print_of, print_in, command_of, IsInRange}
+use Rattle.cu_top.specs.Words.{Command, run, plan, load, check, print, is_number, memory_of, retries_of, split_of, once, given_with, options_from, or_code, with_retries, retries_in, is_plain, print_of, print_in, command_of, IsInRange}
 use Rattle.cu_top.specs.declared.words.Given.{Given}
 use Rattle.cu_lower.specs.declared.options.Options.{Options}
 
@@ -118,13 +118,14 @@ code_ok : {T : Type 0} (r : Option T) (code : ℕ) (x : T) → or_code r code �
 code_ok None code x e = cc
 code_ok (Some y) code x e = cc
 
-one_of : (a b c d : Bool) (x y z v : Result Command ℕ) (w : Command) → (if a then x else (if b then y else (if c then z else (if d then v else Err 1)))) ≡ Ok w
-    → (x ≡ Ok w) ⊎ (y ≡ Ok w) ⊎ (z ≡ Ok w) ⊎ (v ≡ Ok w)
-one_of true b c d x y z v w e = inl e
-one_of false true c d x y z v w e = inr (inl e)
-one_of false false true d x y z v w e = inr (inr (inl e))
-one_of false false false true x y z v w e = inr (inr (inr e))
-one_of false false false false x y z v w e = cc
+one_of : (a b c d f : Bool) (x y z v u : Result Command ℕ) (w : Command) → (if a then x else (if b then y else (if c then z else (if d then v else (if f then u else Err 1))))) ≡ Ok w
+    → (x ≡ Ok w) ⊎ (y ≡ Ok w) ⊎ (z ≡ Ok w) ⊎ (v ≡ Ok w) ⊎ (u ≡ Ok w)
+one_of true b c d f x y z v u w e = inl e
+one_of false true c d f x y z v u w e = inr (inl e)
+one_of false false true d f x y z v u w e = inr (inr (inl e))
+one_of false false false true f x y z v u w e = inr (inr (inr (inl e)))
+one_of false false false false true x y z v u w e = inr (inr (inr (inr e)))
+one_of false false false false false x y z v u w e = cc
 
 mapped_to : {A : Type 0} (f : A → Command) (o : Option A) (c : Command) → option_map f o ≡ Some c → (x : A) × (o ≡ Some x) × (f x ≡ c)
 mapped_to f None c e = cc
@@ -163,57 +164,82 @@ print_in_is (a ∷ b ∷ d ∷ []) c e = elim (either_print (bytes_eq a (codes "
 print_in_is (a ∷ b ∷ d ∷ f ∷ rest) c e = cc
 
 commands : (command : List ℕ) (words : List (List ℕ)) (c : Command) → command_of (command ∷ words) ≡ Ok c
-    → ((o : Options) × (options_from nothing_given words ≡ Some o) × (run o ≡ c)) ⊎ ((n : ℕ) × (load n ≡ c)) ⊎ ((n : ℕ) × (check n ≡ c)) ⊎ IsPrint c
+    → ((o : Options) × (options_from (with_retries None) words ≡ Some o) × (run o ≡ c)) ⊎ ((o : Options) × (options_from (with_retries (Some 2)) words ≡ Some o) × (plan o ≡ c))
+    ⊎ ((n : ℕ) × (load n ≡ c)) ⊎ ((n : ℕ) × (check n ≡ c)) ⊎ IsPrint c
 unfolding command_of
-commands command words c e = elim (one_of (bytes_eq command (codes "run")) (bytes_eq command (codes "load")) (bytes_eq command (codes "check")) (bytes_eq command (codes "print")) _ _ _ _ c e) [
-  | inl is ↦ inl (mapped_to run (options_from nothing_given words) c (code_ok _ 2 c is))
-  | inr (inl is) ↦ let (n, found, same) = mapped_to load (retries_in words) c (code_ok _ 2 c is) in inr (inl (n, same))
-  | inr (inr (inl is)) ↦ let (n, found, same) = mapped_to check (retries_in words) c (code_ok _ 2 c is) in inr (inr (inl (n, same)))
-  | inr (inr (inr is)) ↦ inr (inr (inr (print_in_is words c is)))
-]
+commands command words c e =
+    elim (one_of (bytes_eq command (codes "run")) (bytes_eq command (codes "plan")) (bytes_eq command (codes "load")) (bytes_eq command (codes "check")) (bytes_eq command (codes "print")) _ _ _ _ _ c e) [
+      | inl is ↦ inl (mapped_to run (options_from (with_retries None) words) c (code_ok _ 2 c is))
+      | inr (inl is) ↦ inr (inl (mapped_to plan (options_from (with_retries (Some 2)) words) c (code_ok _ 2 c is)))
+      | inr (inr (inl is)) ↦ let (n, found, same) = mapped_to load (retries_in words) c (code_ok _ 2 c is) in inr (inr (inl (n, same)))
+      | inr (inr (inr (inl is))) ↦ let (n, found, same) = mapped_to check (retries_in words) c (code_ok _ 2 c is) in inr (inr (inr (inl (n, same))))
+      | inr (inr (inr (inr is))) ↦ inr (inr (inr (inr (print_in_is words c is))))
+    ]
 
 no_command : (c : Command) → command_of [] ≡ Ok c → ⊥
 unfolding command_of
 no_command c e = cc
 
+-- which command it is, and the options of those that have some
+data Kind : Type 0 where
+  runs : Kind
+  plans : Kind
+  loads : Kind
+  checks : Kind
+  prints : Kind
+
+kind_of : Command → Kind
+kind_of (run o) = runs
+kind_of (plan o) = plans
+kind_of (load n) = loads
+kind_of (check n) = checks
+kind_of (print name n) = prints
+
+differ : (a b : Command) → a ≡ b → kind_of a ≡ kind_of b
+differ a b e = ap kind_of e
+
 same_run : (a b : Options) → run a ≡ run b → a ≡ b
 same_run a b e = cc
+
+same_plan : (a b : Options) → plan a ≡ plan b → a ≡ b
+same_plan a b e = cc
 
 same_print : (a b : List ℕ) (m n : ℕ) → print a m ≡ print b n → a ≡ b
 same_print a b m n e = cc
 
-run_not_load : (o : Options) (n : ℕ) → run o ≡ load n → ⊥
-run_not_load o n e = cc
+-- nothing is given before the first option, or how often to try again alone
+bounded_first : (retries : Option ℕ) (words : List (List ℕ)) (p o : Options) → AtMost 8 retries → options_from (with_retries retries) words ≡ Some p → p ≡ o → IsInRange o
+bounded_first retries words p o few found is =
+    subst IsInRange is (from_bounded (with_retries retries) words p (record { allowed = tt; reserved = tt; split_every = tt; retries = few }) found)
 
-run_not_check : (o : Options) (n : ℕ) → run o ≡ check n → ⊥
-run_not_check o n e = cc
-
-check_not_print : (m : ℕ) (name : List ℕ) (n : ℕ) → check m ≡ print name n → ⊥
-check_not_print m name n e = cc
-
-run_not_print : (o : Options) (name : List ℕ) (n : ℕ) → run o ≡ print name n → ⊥
-run_not_print o name n e = cc
-
-load_not_print : (m : ℕ) (name : List ℕ) (n : ℕ) → load m ≡ print name n → ⊥
-load_not_print m name n e = cc
-
--- The options of a run are within their range.
+-- The options of a run and of a plan are within their range.
 pub run_bounded : (words : List (List ℕ)) (o : Options) → command_of words ≡ Ok (run o) → IsInRange o
 run_bounded [] o e = absurd (no_command (run o) e)
 run_bounded (command ∷ words) o e = elim (commands command words (run o) e) [
-  | inl (p, found, is) ↦ subst IsInRange (same_run p o is)
-      (from_bounded nothing_given words p (record { allowed = tt; reserved = tt; split_every = tt; retries = tt }) found)
-  | inr (inl (n, is)) ↦ absurd (run_not_load o n (sym is))
-  | inr (inr (inl (n, is))) ↦ absurd (run_not_check o n (sym is))
-  | inr (inr (inr p)) ↦ absurd (run_not_print o p.name p.retries (sym p.is))
+  | inl (p, found, is) ↦ bounded_first None words p o tt found (same_run p o is)
+  | inr (inl (p, found, is)) ↦ let k = differ (plan p) (run o) is in cc
+  | inr (inr (inl (n, is))) ↦ let k = differ (load n) (run o) is in cc
+  | inr (inr (inr (inl (n, is)))) ↦ let k = differ (check n) (run o) is in cc
+  | inr (inr (inr (inr p))) ↦ let k = differ (print p.name p.retries) (run o) p.is in cc
+]
+
+pub plan_bounded : (words : List (List ℕ)) (o : Options) → command_of words ≡ Ok (plan o) → IsInRange o
+plan_bounded [] o e = absurd (no_command (plan o) e)
+plan_bounded (command ∷ words) o e = elim (commands command words (plan o) e) [
+  | inl (p, found, is) ↦ let k = differ (run p) (plan o) is in cc
+  | inr (inl (p, found, is)) ↦ bounded_first (Some 2) words p o (omega arith) found (same_plan p o is)
+  | inr (inr (inl (n, is))) ↦ let k = differ (load n) (plan o) is in cc
+  | inr (inr (inr (inl (n, is)))) ↦ let k = differ (check n) (plan o) is in cc
+  | inr (inr (inr (inr p))) ↦ let k = differ (print p.name p.retries) (plan o) p.is in cc
 ]
 
 -- The name that is printed is one.
 pub print_named : (words : List (List ℕ)) (name : List ℕ) (n : ℕ) → command_of words ≡ Ok (print name n) → is_name name ≡ true
 print_named [] name n e = absurd (no_command (print name n) e)
 print_named (command ∷ words) name n e = elim (commands command words (print name n) e) [
-  | inl (p, found, is) ↦ absurd (run_not_print p name n is)
-  | inr (inl (m, is)) ↦ absurd (load_not_print m name n is)
-  | inr (inr (inl (m, is))) ↦ absurd (check_not_print m name n is)
-  | inr (inr (inr p)) ↦ subst (λ (t : List ℕ). is_name t ≡ true) (same_print p.name name p.retries n p.is) p.named
+  | inl (p, found, is) ↦ let k = differ (run p) (print name n) is in cc
+  | inr (inl (p, found, is)) ↦ let k = differ (plan p) (print name n) is in cc
+  | inr (inr (inl (m, is))) ↦ let k = differ (load m) (print name n) is in cc
+  | inr (inr (inr (inl (m, is)))) ↦ let k = differ (check m) (print name n) is in cc
+  | inr (inr (inr (inr p))) ↦ subst (λ (t : List ℕ). is_name t ≡ true) (same_print p.name name p.retries n p.is) p.named
 ]

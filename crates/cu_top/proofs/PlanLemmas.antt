@@ -15,7 +15,7 @@ use Rattle.cu_meaning.specs.Argument.{NodeElements, shape_at}
 use Rattle.cu_meaning.specs.Meaning.{meaning_of}
 use Rattle.cu_node.specs.declared.info.NodeInfo.{NodeInfo}
 use Rattle.cu_need.specs.Live.{is_live}
-use Rattle.cu_lower.specs.Inputs.{input_array}
+use Rattle.cu_lower.specs.Inputs.{input_array, input_place}
 use Rattle.cu_lower.specs.Plan.{lowered, place_in, plan_of}
 use Rattle.cu_lower.specs.Premises.{IsLowerable, IsLiveInput, IsOutput, OutputDiffers, HaveElements}
 use Rattle.cu_lower.specs.declared.options.Options.{Options}
@@ -85,7 +85,7 @@ OutputLaw = (e : Expression) (infos : List NodeInfo) (inputs : List InputInfo) (
 
 abbrev pub InputLaw : Type 0
 InputLaw = (e : Expression) (infos : List NodeInfo) (inputs : List InputInfo) (options : Options) (k : ℕ) (name : List ℕ) → IsLowerable e infos inputs options
-    → IsLiveInput e k name → array_at (plan_of e infos inputs options).arrays (place_in (lowered e infos inputs options) k) ≡ input_array inputs name
+    → IsLiveInput e k name → array_at (plan_of e infos inputs options).arrays (input_place e name) ≡ input_array inputs name
 
 abbrev pub ValueLaw : Type 0
 ValueLaw = (e : Expression) (infos : List NodeInfo) (inputs : List InputInfo) (options : Options) (env : Elements) (elements : NodeElements) (k : ℕ) (idx : List ℕ) (x : ℤ)
@@ -104,9 +104,9 @@ used_input job entry idx name found n a at is same = rw (at, is, same) refl
 
 module _ (c : RunCase) (job : Job) (planned : HasPlan c.options job) (inputs : InputLaw) (output : OutputLaw) where
   elements_given : (entry : Contents) → (k : ℕ) (name idx : List ℕ) → IsLiveInput job.expr k name
-      → elements_of job entry k idx ≡ unwrap_or (env_of c job entry (place_in (lowered job.expr job.types job.inputs.items c.options) k) idx) (pos 0)
+      → elements_of job entry k idx ≡ unwrap_or (env_of c job entry (input_place job.expr name) idx) (pos 0)
   elements_given entry k name idx i =
-      used_input job entry idx name (slice_get job.expr.nodes k) i.node (array_at (plan_in c job).arrays (place_in (lowered job.expr job.types job.inputs.items c.options) k)) i.at i.form
+      used_input job entry idx name (slice_get job.expr.nodes k) i.node (array_at (plan_in c job).arrays (input_place job.expr name)) i.at i.form
       (inputs job.expr job.types job.inputs.items c.options k name planned i)
 
   have_elements : (entry : Contents) (shown : Shown) → IsLeft (job_run c job) (env_of c job entry) shown

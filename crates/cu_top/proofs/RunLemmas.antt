@@ -35,15 +35,12 @@ use Rattle.cu_work.specs.declared.way.WayFault.TheVariants as way
 use Rattle.cu_command.specs.Seen.{Stepped}
 use Rattle.cu_command.proofs.SeenLemmas.{stepped, stepped_then, stepped_wider, stepped_none}
 use Rattle.cu_command.specs.declared.status.Status.{Status}
-use Rattle.cu_command.specs.declared.status.Status.TheVariants.{Done, WriteFault, OverMemory, OverLimit, NotBuilt, NoMemory}
+use Rattle.cu_command.specs.declared.status.Status.TheVariants.{Done, WriteFault}
 use Rattle.cu_top.specs.Ask.{IsFirstOf, IsAskEnd, answer_of}
-use Rattle.cu_top.specs.Prepare.{HasPlan, IsPlanEnd, keys_of, out_metadata}
+use Rattle.cu_top.specs.Prepare.{HasPlan, keys_of, out_metadata}
 use Rattle.cu_top.specs.Record.{record_text}
-use Rattle.cu_top.specs.Run.{RunCase, job_run, plan_in, env_of, IsAccepted, IsStarted, IsCleared, IsSpared, IsMeant, HoldsAll, WhereQuiet, WroteTo, Ran, Ended, PrintsOnly, failed_of}
-use Rattle.cu_command.specs.Job.{IsJobFault, status_of}
+use Rattle.cu_top.specs.Run.{RunCase, job_run, plan_in, env_of, IsAccepted, IsStarted, IsCleared, IsMeant, HoldsAll, WhereQuiet, WroteTo, Ran, Ended, PrintsOnly, failed_of}
 use Rattle.cu_command.specs.declared.job.Job.{Job}
-use Rattle.cu_command.specs.declared.job.JobFault.{JobFault}
-use Rattle.cu_command.specs.declared.job.JobFault.TheVariants as job_fault
 use Rattle.cu_top.proofs.PlanLemmas.{lent_within, differs}
 use Rattle.cu_top.specs.Report.{report_line}
 use Rattle.cu_state.proofs.Keeping.{left_kept, begun_since}
@@ -78,23 +75,6 @@ pub first_of : (old new : Shown) (keys : List (List ℕ)) (key : List ℕ) → S
 first_of old new keys key step first = (first.0, λ held told. first_free old new step held told keys key first.1)
 
 -- ---- before a run is started
-
--- the text, the inputs or the types were refused
-pub job_refused : (c : RunCase) (f : JobFault) → IsSpared c → IsJobFault (c.options.retries + 1) c.text c.old.depot c.new.depot f → Ran c (status_of f)
-job_refused c (job_fault.Expression code node) spared why = (spared, why)
-job_refused c (job_fault.DepotFailed key) spared why = (why.3, inl (spared, why))
-job_refused c (job_fault.NoArray name) spared why = (spared, why)
-job_refused c (job_fault.BadMeta name code) spared why = (spared, why)
-job_refused c (job_fault.Typing code node) spared why = (spared, why)
-job_refused c job_fault.NoMemory spared why = inl spared
-
--- there is no plan
-pub plan_refused : (c : RunCase) (job : Job) (status : Status) → IsSpared c → IsAccepted c job → IsPlanEnd c.options job status → Ran c status
-plan_refused c job (NotBuilt node) spared accepted why = (spared, (job, accepted, why))
-plan_refused c job (OverMemory node need allowed) spared accepted why = (spared, (job, accepted, why))
-plan_refused c job (OverLimit which count) spared accepted why = (spared, (job, accepted, why))
-plan_refused c job NoMemory spared accepted why = inl spared
-plan_refused c job status spared accepted why = absurd why
 
 -- asking for the keys ended
 pub ask_refused : (c : RunCase) (job : Job) (between : Shown) (f : WayFault) → IsAccepted c job → HasPlan c.options job

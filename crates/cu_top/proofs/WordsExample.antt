@@ -1,6 +1,6 @@
 -- The words of some calls, and their options.
 use Rattle.std.proofs.Common.{◌≡◌, [], ◌∷◌, codes, Ok, Err, refl}
-use Rattle.cu_top.specs.Words.{command_of, run, load, check, print}
+use Rattle.cu_top.specs.Words.{command_of, run, plan, load, check, print}
 
 allowed : command_of (codes "run" ∷ codes "--allowed-mem" ∷ codes "1600" ∷ []) ≡ Ok (run (record { allowed = 1600; reserved = 0; split_every = 4; retries = 2 }))
 unfolding command_of
@@ -121,3 +121,15 @@ split_in_one = refl
 split_in_many : command_of (codes "run" ∷ codes "--split-every" ∷ codes "65" ∷ []) ≡ Err 2
 unfolding command_of
 split_in_many = refl
+
+plans : command_of (codes "plan" ∷ codes "--allowed-mem" ∷ codes "64" ∷ []) ≡ Ok (plan (record { allowed = 64; reserved = 0; split_every = 4; retries = 2 }))
+unfolding command_of
+plans = refl
+
+plans_never_retried : command_of (codes "plan" ∷ codes "--retries" ∷ codes "2" ∷ []) ≡ Err 2
+unfolding command_of
+plans_never_retried = refl
+
+plans_no_name : command_of (codes "plan" ∷ codes "y" ∷ []) ≡ Err 2
+unfolding command_of
+plans_no_name = refl

@@ -9,13 +9,14 @@ use Rattle.cu_command.specs.declared.status.Status.{Status}
 use Rattle.cu_command.specs.declared.status.Status.TheVariants.{BadExpr, ReadFault, NoMemory}
 use Rattle.cu_lower.specs.declared.options.Options.{Options}
 use Rattle.cu_top.specs.Run.{Scene, RunCase, case, IsWanting, Ran}
-use Rattle.cu_top.specs.Words.{Command, run, load, check, print}
+use Rattle.cu_top.specs.Words.{Command, run, load, check, print, plan}
 use Rattle.cu_top.specs.declared.words.Asked.{Asked}
 use Rattle.cu_top.specs.declared.words.Asked.TheVariants as asked
 
 -- what the words were read as
 abbrev pub command_view : Asked → Command
 command_view (asked.Run options) = run options
+command_view (asked.Plan options) = plan options
 command_view (asked.Load retries) = load retries
 command_view (asked.Check retries) = check retries
 command_view (asked.Print name retries) = print name retries
@@ -28,7 +29,7 @@ AreSpared old new = Stepped NoChange old.depot new.depot
 abbrev pub DidNothing : Scene → Scene → Type 0
 DidNothing old new = AreSpared old new × (new.source.told ≡ old.source.told) × (new.sink.told ≡ old.sink.told)
 
--- a text was read, and this is so of its run
+-- a text was read, and this is so of its run, or of its plan
 abbrev pub CameToRun : Options → Scene → Scene → (RunCase → Type 0) → Type 0
 CameToRun options old new fact = (text : List ℕ) × ReadsAll old.source.told new.source.told text × fact (case options text old new)
 

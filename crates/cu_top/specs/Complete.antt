@@ -1,9 +1,7 @@
--- When a run is served: what its premises are, and what it then answers.
+-- When a run and a plan are served: what their premises are, and what they then answer.
 use Rattle.std.specs.Prelude.{◌≡◌, ℕ, List, length, All, Some, None, Ok}
 use Rattle.cu_store.specs.Held.{Contents, IsAmong}
 use Rattle.cu_store.specs.Steps.{Shown}
-use Rattle.cu_need.specs.Counts.{plan_counts, over_limit}
-use Rattle.cu_need.specs.Need.{first_over, first_unbuilt}
 use Rattle.cu_op.specs.declared.cells.Cell.{Cell}
 use Rattle.cu_op.specs.Arrays.{chunk_room}
 use Rattle.cu_op.specs.PlanView.{PlanView}
@@ -16,20 +14,18 @@ use Rattle.cu_command.specs.declared.job.Job.{Job}
 use Rattle.cu_command.specs.declared.status.Status.{Status}
 use Rattle.cu_command.specs.declared.status.Status.TheVariants.{Done, NoMemory}
 use Rattle.cu_lower.specs.declared.options.Options.{Options}
+use Rattle.cu_plan.specs.Refusal.{refusal_of}
 use Rattle.cu_top.specs.Prepare.{job_plan, keys_of, IsApart}
-use Rattle.cu_top.specs.Words.{command_of, run}
+use Rattle.cu_top.specs.Words.{command_of, plan, run}
 
 -- each chunk of an input is absent or whole
 abbrev pub AreWhole : PlanView → Contents → Type 0
 AreWhole p entry = (k : Cell) (bytes : List ℕ) → IsInputChunk p.arrays k → entry (key_of p.arrays k) ≡ Some bytes → length bytes ≡ chunk_room p.arrays k.array
 
--- The live nodes are built, none needs more than is allowed, and the counts keep their limits. The output is no input, and no key of the
--- plan is held. No put is late on a key of the plan, and each that is late on a chunk of an input carries what is held there. Each
+-- No live node needs more than is allowed, and the counts keep their limits. The output is no input, and no key of the plan is held. No put is late on a key of the plan, and each that is late on a chunk of an input carries what is held there. Each
 -- chunk of an input is absent or whole.
 pub record IsAtRest (options : Options) (job : Job) (entry : Contents) (old : Shown) : Type 0 where
-  pub built : first_unbuilt job.expr job.types ≡ None
-  pub memory : first_over options.allowed options.reserved options.split_every job.expr job.types ≡ None
-  pub counts : over_limit (plan_counts job.expr job.types options.split_every) ≡ None
+  pub planned : refusal_of options job.expr job.types ≡ None
   pub own : IsApart job.expr
   pub free : All (IsFree entry) (keys_of options job)
   pub settled : All (λ key. (bytes : List ℕ) → IsAmong old.late key bytes → ⊥) (keys_of options job)
@@ -43,7 +39,14 @@ pub record IsServable (words : List (List ℕ)) (text : List ℕ) (entry : Conte
   pub typable : IsTypable old text
   pub rest : (job : Job) → IsJob old text job → IsAtRest options job entry old
 
--- the run was carried out, or memory was wanted
+-- The words are accepted, the text has a job, its inputs and types accepted, and the job has a plan.
+pub record IsPlannable (words : List (List ℕ)) (text : List ℕ) (old : Shown) : Type 0 where
+  pub options : Options
+  pub words_give : command_of words ≡ Ok (plan options)
+  pub typable : IsTypable old text
+  pub planned : (job : Job) → IsJob old text job → refusal_of options job.expr job.types ≡ None
+
+-- the command was carried out, or memory was wanted
 abbrev pub IsServed : Status → Type 0
 IsServed Done = Unit {0}
 IsServed NoMemory = Unit {0}

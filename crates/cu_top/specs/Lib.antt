@@ -1,6 +1,7 @@
 pub mod Ask
 pub mod Call
 pub mod Complete
+pub mod Planned
 pub mod Prepare
 pub mod Record
 pub mod Report

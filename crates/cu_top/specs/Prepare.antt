@@ -1,5 +1,5 @@
 -- The plan of a job, why a job has none, and what its plan stores. This project's own rules.
-use Rattle.std.specs.Prelude.{◌≡◌, ℕ, ◌≤◌, Bool, false, List, ◌∷◌, All, length, map, bytes_eq, Some, None}
+use Rattle.std.specs.Prelude.{◌≡◌, ◌≤◌, Bool, false, List, ◌∷◌, ℕ, All, length, bytes_eq, Some}
 use Rattle.std.specs.List.{list_any}
 use Rattle.cu_form.specs.Expression.{Expression}
 use Rattle.cu_form.specs.declared.form.Form.{Form}
@@ -8,19 +8,20 @@ use Rattle.cu_lower.specs.Plan.{plan_of}
 use Rattle.cu_lower.specs.Premises.{IsLowerable}
 use Rattle.cu_lower.specs.declared.options.Options.{Options}
 use Rattle.cu_name.specs.Keys.{record_key_of}
-use Rattle.cu_need.specs.Counts.{plan_counts, over_limit}
-use Rattle.cu_need.specs.Need.{first_over, first_unbuilt}
 use Rattle.cu_node.specs.Info.{info_at}
 use Rattle.cu_op.specs.Layout.{layout_view}
 use Rattle.cu_op.specs.PlanView.{PlanView}
-use Rattle.cu_op.specs.Projection.{projection, greatest}
+use Rattle.cu_op.specs.Projection.{projection}
 use Rattle.cu_op.specs.declared.layout.Layout.{Layout}
+use Rattle.cu_plan.specs.Refusal.{refusal_of}
+use Rattle.cu_plan.specs.declared.fault.PlanFault.{PlanFault}
+use Rattle.cu_plan.specs.declared.fault.PlanFault.TheVariants as fault
 use Rattle.cu_zarr.specs.Key.{metadata_key_of}
 use Rattle.cu_zarr.specs.Metadata.{metadata_text}
 use Rattle.cu_work.specs.Order.{plan_keys}
 use Rattle.cu_command.specs.declared.job.Job.{Job}
 use Rattle.cu_command.specs.declared.status.Status.{Status}
-use Rattle.cu_command.specs.declared.status.Status.TheVariants.{NotBuilt, OverMemory, OverLimit, NoMemory}
+use Rattle.cu_command.specs.declared.status.Status.TheVariants.{OverMemory, OverLimit, NoMemory}
 
 -- ---- the plan
 
@@ -42,24 +43,21 @@ out_metadata job = metadata_text (layout_view (out_layout job))
 
 -- ---- why there is none
 
--- 19, 5 and 6, in this order: the first live node that isn't built; the first live node that needs more than is allowed; and the first
--- limit of a plan that is exceeded.
+-- 5 and 6: the first live node that needs more than is allowed; and, where none does, the first limit of a plan that is exceeded
 abbrev pub IsUnplanned : Options → Job → Status → Type 0
-IsUnplanned options job (NotBuilt node) = first_unbuilt job.expr job.types ≡ Some node
-IsUnplanned options job (OverMemory node need allowed) =
-    (first_unbuilt job.expr job.types ≡ None) × (allowed ≡ options.allowed) × (first_over options.allowed options.reserved options.split_every job.expr job.types ≡ Some (record { node = node; need = need }))
-IsUnplanned options job (OverLimit which count) = (first_unbuilt job.expr job.types ≡ None) × (first_over options.allowed options.reserved options.split_every job.expr job.types ≡ None)
-    × (over_limit (plan_counts job.expr job.types options.split_every) ≡ Some (record { which = which; count = count }))
+IsUnplanned options job (OverMemory node need allowed) = refusal_of options job.expr job.types ≡ Some (fault.OverMemory node need allowed)
+IsUnplanned options job (OverLimit which count) = refusal_of options job.expr job.types ≡ Some (fault.OverLimit which count)
 IsUnplanned options job status = ⊥
+
+-- what a command answers where the plan was refused
+abbrev pub unplanned_status : PlanFault → Status
+unplanned_status (fault.OverMemory node need allowed) = OverMemory node need allowed
+unplanned_status (fault.OverLimit which count) = OverLimit which count
+unplanned_status fault.NoMemory = NoMemory
 
 -- the job's expression has a plan
 abbrev pub HasPlan : Options → Job → Type 0
 HasPlan options job = IsLowerable job.expr job.types job.inputs.items options
-
--- why making the plan ends
-abbrev pub IsPlanEnd : Options → Job → Status → Type 0
-IsPlanEnd options job NoMemory = Unit {0}
-IsPlanEnd options job status = IsUnplanned options job status
 
 -- ---- the output's name
 
@@ -81,7 +79,3 @@ IsApart e = is_own_input e ≡ false
 -- what each operation of the plan was projected to need is its projection, and at most what is allowed
 abbrev pub IsLentWithin : PlanView → Type 0
 IsLentWithin p = All (λ o. (o.projected ≡ projection p.arrays p.reserved o.op) × (o.projected ≤ p.allowed)) p.ops
-
--- the greatest of them
-abbrev pub peak_of : PlanView → ℕ
-peak_of p = greatest (map (λ o. o.projected) p.ops)

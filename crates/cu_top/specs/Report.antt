@@ -3,7 +3,7 @@ use Rattle.std.specs.Prelude.{ℕ, ◌+◌, List, [], ◌∷◌, ◌++◌, lengt
 use Rattle.std.specs.Fmt.{decimal}
 use Rattle.cu_op.specs.PlanView.{PlanView}
 use Rattle.cu_work.specs.Drive.{task_count}
-use Rattle.cu_top.specs.Prepare.{peak_of}
+use Rattle.cu_plan.specs.Text.{peak_of}
 
 -- `ok ops=N tasks=T starts=S failed=F peak=P`, with a line feed: a task that failed is started once more
 unfoldable pub report_line : PlanView → ℕ → List ℕ

@@ -39,7 +39,7 @@ use Rattle.cu_command.specs.declared.job.Job.{Job}
 use Rattle.cu_command.specs.declared.job.JobFault.{JobFault}
 use Rattle.cu_command.specs.declared.job.JobFault.TheVariants as fault
 use Rattle.cu_command.specs.declared.status.Status.{Status}
-use Rattle.cu_command.specs.declared.status.Status.TheVariants.{Done, BadExpr, BadType, OverMemory, OverLimit, BadMeta, NoArray, Exists, TaskFailed, WriteFault, BadChunk, DepotFailed, NotBuilt, NoMemory}
+use Rattle.cu_command.specs.declared.status.Status.TheVariants.{Done, BadExpr, BadType, OverMemory, OverLimit, BadMeta, NoArray, Exists, TaskFailed, WriteFault, BadChunk, DepotFailed, NoMemory}
 use Rattle.cu_top.specs.Ask.{IsFirstOf, IsInWay, IsOwnFirst}
 use Rattle.cu_top.specs.Prepare.{job_plan, keys_of, out_layout, out_metadata, HasPlan, IsUnplanned, IsApart, IsLentWithin}
 use Rattle.cu_top.specs.Record.{record_text}
@@ -234,7 +234,7 @@ abbrev pub IsDepotFailed : RunCase → List ℕ → Type 0
 IsDepotFailed c key = Rose (c.options.retries + 1) c.old.depot.faults c.new.depot.faults
     × (HasNoJob c (fault.DepotFailed key) ⊎ ((IsSpared c × OfPlanned c (λ job. IsFirstOf c.old.depot (keys_of c.options job) key)) ⊎ Started c (λ job. IsUnstored c job key)))
 
--- 19, 5 and 6: the job has no plan
+-- 5 and 6: the job has no plan
 abbrev pub HasNoPlan : RunCase → Status → Type 0
 HasNoPlan c status = IsSpared c × OfJob c (λ job. IsUnplanned c.options job status)
 
@@ -255,7 +255,6 @@ Ran c (BadChunk key got want) = IsBadInput c key got want
 Ran c (DepotFailed key) = IsDepotFailed c key
 Ran c (OverMemory node need allowed) = HasNoPlan c (OverMemory node need allowed)
 Ran c (OverLimit which count) = HasNoPlan c (OverLimit which count)
-Ran c (NotBuilt node) = HasNoPlan c (NotBuilt node)
 Ran c (Exists key) = IsBlocked c key
 Ran c (NoArray name) = IsMissing c name
 Ran c (BadMeta name code) = IsRefused c name code

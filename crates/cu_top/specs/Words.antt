@@ -24,9 +24,9 @@ split_of text =
     if is_number text && nat_le (digits_value 10 (without_leading_plus text)) 64 && nat_le 2 (digits_value 10 (without_leading_plus text))
     then Some (digits_value 10 (without_leading_plus text)) else None
 
--- before the first option
-abbrev pub nothing_given : Given
-nothing_given = record { allowed = None; reserved = None; split_every = None; retries = None }
+-- before the first option: nothing is given, or how often to try again alone, which then no option gives
+abbrev pub with_retries : Option ℕ → Given
+with_retries retries = record { allowed = None; reserved = None; split_every = None; retries = retries }
 
 -- an option's value, where the option wasn't given before
 abbrev pub once : Option ℕ → Option ℕ → Option ℕ
@@ -63,9 +63,11 @@ pub record IsInRange (o : Options) : Type 0 where
 
 -- ---- the commands
 
--- what the words ask for: a run, a text that gives an array, the comparison of a stored output, or the print of an array with this name
+-- what the words ask for: a run, what its plan does, a text that gives an array, the comparison of a stored output, or the print of an array
+-- with this name
 pub data Command : Type 0 where
   run : Options → Command
+  plan : Options → Command
   load : ℕ → Command
   check : ℕ → Command
   print : List ℕ → ℕ → Command
@@ -104,7 +106,8 @@ print_in (a ∷ b ∷ c ∷ d ∷ rest) = Err 2
 unfoldable pub command_of : List (List ℕ) → Result Command ℕ
 command_of [] = Err 1
 command_of (command ∷ words) =
-    if bytes_eq command (codes "run") then or_code (option_map run (options_from nothing_given words)) 2
+    if bytes_eq command (codes "run") then or_code (option_map run (options_from (with_retries None) words)) 2
+    else if bytes_eq command (codes "plan") then or_code (option_map plan (options_from (with_retries (Some 2)) words)) 2
     else if bytes_eq command (codes "load") then or_code (option_map load (retries_in words)) 2
     else if bytes_eq command (codes "check") then or_code (option_map check (retries_in words)) 2
     else if bytes_eq command (codes "print") then print_in words

@@ -5,16 +5,19 @@ ghost use Rattle.cu_read.specs.declared.faults.ReadFault.{ReadFault as Expressio
 ghost use Rattle.cu_check.specs.Check.{Checked, IsFoundEqual, IsUnequal, ReadsText};
 ghost use Rattle.cu_store.specs.Held.{Contents};
 ghost use Rattle.cu_command.specs.Job.{StoodStill};
-ghost use Rattle.cu_command.specs.Seen.{stream, seen};
+ghost use Rattle.cu_store.specs.Steps.{NoChange};
+ghost use Rattle.cu_command.specs.Seen.{Stepped, stream, seen};
 ghost use Rattle.cu_load.specs.Load.{Loaded};
 ghost use Rattle.cu_lower.specs.declared.options.Options.{Options};
 ghost use Rattle.cu_print.specs.Print.{Printed};
 ghost use Rattle.cu_top.specs.Call.{CameToRun, DidNothing, IsReadFault, IsShort, IsRefusedText, RunTells};
-ghost use Rattle.cu_top.specs.Complete.{IsServable, IsServed};
+ghost use Rattle.cu_top.specs.Complete.{IsPlannable, IsServable, IsServed};
+ghost use Rattle.cu_top.specs.Planned.{IsPrinted, PlanTells};
 ghost use Rattle.cu_top.specs.Run.{scene, IsDone, IsUnreported, IsTaskFailed, IsBadInput, IsDepotFailed, HasNoPlan, IsBlocked, IsMissing, IsRefused, IsBadExpr, IsBadType, PrintsOnly};
-ghost use Rattle.cu_top.specs.Words.{run, load, check, print, command_of};
+ghost use Rattle.cu_top.specs.Words.{run, plan, load, check, print, command_of};
 ghost use Rattle.cu_top.specs.Words.{IsInRange};
 
+use crate::planned::print_plan;
 use crate::run::run;
 use crate::words::{Asked, read_words};
 use cu_check::check;
@@ -27,7 +30,7 @@ use cu_store::{Depot, Sink, Source};
 use std::alloc::Global;
 
 /// Carries out the command that the words give. `run` reads an expression from the source, stores the array that it makes in the depot,
-/// and writes the report to the sink. `load` reads an array from the source and stores it. `check` reads an expression from the source and
+/// and writes the report to the sink. `plan` reads an expression and writes what its plan does; it stores nothing. `load` reads an array from the source and stores it. `check` reads an expression from the source and
 /// compares its stored output with what it means. `print` writes a stored array to the sink.
 pub fn top<R: Source, W: Sink, D: Depot>(
     alloc: Global,
@@ -55,9 +58,6 @@ pub fn top<R: Source, W: Sink, D: Depot>(
     ensures depot_failed { (options : Options) (key : List ℕ) → command_of (map string_bytes words.now) ≡ Ok (run options) → result ≡ Status.DepotFailed key
         → CameToRun options (scene (stream (R.left src.old) (R.faults src.old)) (stream (W.written out.old) (W.faults out.old)) (D.shown depot.old))
         (scene (stream (R.left src.new) (R.faults src.new)) (stream (W.written out.new) (W.faults out.new)) (D.shown depot.new)) (λ c. IsDepotFailed c key) }
-    ensures not_built { (options : Options) (node : ℕ) → command_of (map string_bytes words.now) ≡ Ok (run options) → result ≡ Status.NotBuilt node
-        → CameToRun options (scene (stream (R.left src.old) (R.faults src.old)) (stream (W.written out.old) (W.faults out.old)) (D.shown depot.old))
-        (scene (stream (R.left src.new) (R.faults src.new)) (stream (W.written out.new) (W.faults out.new)) (D.shown depot.new)) (λ c. HasNoPlan c (Status.NotBuilt node)) }
     ensures over_memory { (options : Options) (node need allowed : ℕ) → command_of (map string_bytes words.now) ≡ Ok (run options) → result ≡ Status.OverMemory node need allowed
         → CameToRun options (scene (stream (R.left src.old) (R.faults src.old)) (stream (W.written out.old) (W.faults out.old)) (D.shown depot.old))
         (scene (stream (R.left src.new) (R.faults src.new)) (stream (W.written out.new) (W.faults out.new)) (D.shown depot.new)) (λ c. HasNoPlan c (Status.OverMemory node need allowed)) }
@@ -95,6 +95,19 @@ pub fn top<R: Source, W: Sink, D: Depot>(
     // Where a run is accepted, nothing is in the way and no count of faults rises, it is carried out, or memory is wanted.
     ensures complete { (text : List ℕ) (entry : Contents) → R.left src.old ≡ Some text → (D.shown depot.old).held ≡ Some entry → IsServable (map string_bytes words.now) text entry (D.shown depot.old)
         → StoodStill (R.faults src.old) (R.faults src.new) → StoodStill (W.faults out.old) (W.faults out.new) → StoodStill (D.shown depot.old).faults (D.shown depot.new).faults → IsServed result }
+    // What `plan` answers: all of it, and of 0 and of a text that is no expression alone. Where a plan is accepted and no count of faults
+    // rises, it is printed, or memory is wanted.
+    ensures plans { (options : Options) → command_of (map string_bytes words.now) ≡ Ok (plan options) → PlanTells options (scene (stream (R.left src.old) (R.faults src.old)) (stream (W.written out.old) (W.faults out.old)) (D.shown depot.old))
+        (scene (stream (R.left src.new) (R.faults src.new)) (stream (W.written out.new) (W.faults out.new)) (D.shown depot.new)) result }
+    ensures plan_prints { (options : Options) → command_of (map string_bytes words.now) ≡ Ok (plan options) → PrintsOnly result (W.written out.old) (W.written out.new) }
+    ensures plan_spared { (options : Options) → command_of (map string_bytes words.now) ≡ Ok (plan options) → Stepped NoChange (D.shown depot.old) (D.shown depot.new) }
+    ensures planned { (options : Options) → command_of (map string_bytes words.now) ≡ Ok (plan options) → result ≡ Status.Done
+        → CameToRun options (scene (stream (R.left src.old) (R.faults src.old)) (stream (W.written out.old) (W.faults out.old)) (D.shown depot.old))
+        (scene (stream (R.left src.new) (R.faults src.new)) (stream (W.written out.new) (W.faults out.new)) (D.shown depot.new)) IsPrinted }
+    ensures plan_refused_text { (options : Options) (text : List ℕ) (fault : ExpressionFault) → command_of (map string_bytes words.now) ≡ Ok (plan options) → R.left src.old ≡ Some text
+        → expression_of text ≡ Err fault → IsRefusedText fault result }
+    ensures plan_complete { (text : List ℕ) → R.left src.old ≡ Some text → IsPlannable (map string_bytes words.now) text (D.shown depot.old)
+        → StoodStill (R.faults src.old) (R.faults src.new) → StoodStill (W.faults out.old) (W.faults out.new) → StoodStill (D.shown depot.old).faults (D.shown depot.new).faults → IsServed result }
     // What `load` and `print` answer, and what they leave.
     ensures loads { (retries : ℕ) → command_of (map string_bytes words.now) ≡ Ok (load retries) → Loaded retries (stream (R.left src.old) (R.faults src.old)) (stream (R.left src.new) (R.faults src.new))
         (seen (stream (W.written out.old) (W.faults out.old)) (D.shown depot.old)) (seen (stream (W.written out.new) (W.faults out.new)) (D.shown depot.new)) result }
@@ -125,6 +138,9 @@ fn carry<R: Source, W: Sink, D: Depot>(
     ensures runs { (options : Options) → command_of (map string_bytes words.now) ≡ Ok (run options) → RunTells options (scene (stream (R.left src.old) (R.faults src.old)) (stream (W.written out.old) (W.faults out.old)) (D.shown depot.old))
         (scene (stream (R.left src.new) (R.faults src.new)) (stream (W.written out.new) (W.faults out.new)) (D.shown depot.new)) result }
     ensures prints { (options : Options) → command_of (map string_bytes words.now) ≡ Ok (run options) → PrintsOnly result (W.written out.old) (W.written out.new) }
+    ensures plans { (options : Options) → command_of (map string_bytes words.now) ≡ Ok (plan options) → PlanTells options (scene (stream (R.left src.old) (R.faults src.old)) (stream (W.written out.old) (W.faults out.old)) (D.shown depot.old))
+        (scene (stream (R.left src.new) (R.faults src.new)) (stream (W.written out.new) (W.faults out.new)) (D.shown depot.new)) result }
+    ensures plan_prints { (options : Options) → command_of (map string_bytes words.now) ≡ Ok (plan options) → PrintsOnly result (W.written out.old) (W.written out.new) }
     ensures loads { (retries : ℕ) → command_of (map string_bytes words.now) ≡ Ok (load retries) → Loaded retries (stream (R.left src.old) (R.faults src.old)) (stream (R.left src.new) (R.faults src.new))
         (seen (stream (W.written out.old) (W.faults out.old)) (D.shown depot.old)) (seen (stream (W.written out.new) (W.faults out.new)) (D.shown depot.new)) result }
     ensures print_kept { (name : List ℕ) (retries : ℕ) → command_of (map string_bytes words.now) ≡ Ok (print name retries) → R.left src.new ≡ R.left src.old }
@@ -139,6 +155,7 @@ fn carry<R: Source, W: Sink, D: Depot>(
     };
     match &asked {
         Asked::Run(options) => run_command(alloc, options, src, out, depot),
+        Asked::Plan(options) => plan_command(alloc, options, src, out, depot),
         Asked::Load { retries } => load(alloc, *retries, src, out, depot),
         Asked::Check { retries } => check(alloc, *retries, src, out, depot),
         Asked::Print { name, retries } => { print(alloc, *retries, &key_of_name(name), out, depot) }
@@ -160,6 +177,26 @@ fn run_command<R: Source, W: Sink, D: Depot>(
 {
     match read_all(alloc, src) {
         Ok(text) => run(alloc, options, &text, out, depot),
+        Err(ReadRefused::Fault) => Status::ReadFault,
+        Err(ReadRefused::NoMemory) => Status::NoMemory,
+    }
+}
+
+/// Prints the plan of the expression that the source has.
+fn plan_command<R: Source, W: Sink, D: Depot>(
+    alloc: Global,
+    options: &Options,
+    src: &mut R,
+    out: &mut W,
+    depot: &mut D,
+) -> Status
+    requires options { IsInRange options.now }
+    ensures answer { PlanTells options.now (scene (stream (R.left src.old) (R.faults src.old)) (stream (W.written out.old) (W.faults out.old)) (D.shown depot.old))
+        (scene (stream (R.left src.new) (R.faults src.new)) (stream (W.written out.new) (W.faults out.new)) (D.shown depot.new)) result }
+    ensures prints { PrintsOnly result (W.written out.old) (W.written out.new) }
+{
+    match read_all(alloc, src) {
+        Ok(text) => print_plan(alloc, options, &text, out, depot),
         Err(ReadRefused::Fault) => Status::ReadFault,
         Err(ReadRefused::NoMemory) => Status::NoMemory,
     }

@@ -1,9 +1,11 @@
 //! The program's one call, from its words to its answer: a run, which computes an expression over stored arrays, from its text to the
-//! stored chunks and the report; and the commands that load and print an array, which have crates of their own.
+//! stored chunks and the report; the command that prints its plan; and the commands that load, compare and print an array, which have
+//! crates of their own.
 #![tactic(auto)]
 
 mod ask;
 mod call;
+mod planned;
 mod prepare;
 mod record;
 mod report;

@@ -1,38 +1,13 @@
 //! The report of a run.
 ghost use Rattle.std.specs.Prelude.{◌≡◌, ℕ, ◌^◌, ◌≤◌, length, OnOk, OnErr};
-ghost use Rattle.cu_op.specs.Sound.{Sound};
 ghost use Rattle.cu_store.specs.Faults.{Rose};
 ghost use Rattle.cu_command.specs.Streams.{WroteFront};
-ghost use Rattle.cu_work.specs.Drive.{task_count};
-ghost use Rattle.cu_top.specs.Prepare.{peak_of};
 ghost use Rattle.cu_top.specs.Report.{report_line};
 
 use cu_command::{LineText, push_field, write_all};
-use cu_op::{Plan, tasks};
+use cu_op::Plan;
+use cu_plan::{peak, task_count};
 use cu_store::{Failed, Sink};
-
-/// How many tasks the plan has.
-fn task_count(plan: &Plan) -> u64
-    ensures count { result ≡ task_count plan.now }
-    ensures bound { result ≤ 65536 }
-{
-    let mut count = 0;
-    for op in 0..plan.ops().len() as u32 {
-        count += u64::from(tasks(plan, op));
-    }
-    count
-}
-
-/// The most bytes that any task of the plan needs.
-fn peak(plan: &Plan) -> u64
-    ensures { result ≡ peak_of plan.now }
-{
-    let mut peak = 0;
-    for op in 0..plan.ops().len() as u32 {
-        peak = plan.operation(op).projected.max(peak);
-    }
-    peak
-}
 
 /// The line that reports a run of the plan in which so many tries of tasks failed.
 #[tactic(auto, unfolding(crate::specs::Report::report_line))]

@@ -2,7 +2,7 @@
 ghost use Rattle.std.specs.Prelude.{◌≡◌, [], ◌∷◌, map, string_bytes};
 ghost use Rattle.std.specs.Result.{result_map_both};
 ghost use Rattle.cu_top.specs.Call.{command_view};
-ghost use Rattle.cu_top.specs.Words.{memory_of, retries_of, split_of, once, nothing_given, given_with, options_from, retries_in, is_plain, print_of, print_in, command_of};
+ghost use Rattle.cu_top.specs.Words.{memory_of, retries_of, split_of, once, given_with, options_from, retries_in, with_retries, is_plain, print_of, print_in, command_of};
 
 use cu_lower::Options;
 use cu_name::{IdText, is_name};
@@ -32,6 +32,8 @@ struct Given {
 pub enum Asked {
     /// `run`: an expression is computed.
     Run(Options),
+    /// `plan`: what the plan of an expression does is printed.
+    Plan(Options),
     /// `load`: an array that a text gives is stored.
     Load { retries: u32 },
     /// `check`: the stored output of an expression is compared with what it means.
@@ -41,7 +43,7 @@ pub enum Asked {
 }
 
 /// The command, which is the first word, with what stands behind it: for `run` any of the pairs `--allowed-mem N`,
-/// `--reserved-mem N`, `--split-every N` and `--retries N`, each at most once; for `load` and `check` at most the pair `--retries N`; for `print` the name of
+/// `--reserved-mem N`, `--split-every N` and `--retries N`, each at most once; for `plan` the same but the last; for `load` and `check` at most the pair `--retries N`; for `print` the name of
 /// an array, and at most this pair, before or behind it. A refusal is 1 where the command is missing or unknown; 2 where an
 /// option is unknown, has no value or is given twice, where a number isn't one or isn't from 0 to 2^40, for the partial results
 /// from 2 to 64, or for the retries from 0 to 8, and where there are too few or too many words; and 3 where the name isn't one and all else is accepted.
@@ -53,8 +55,12 @@ pub fn read_words(words: &[String]) -> Result<Asked, u8>
         return Err(1);
     };
     match command.as_str() {
-        "run" => match read_pairs(rest) {
+        "run" => match read_pairs(rest, None) {
             Some(options) => Ok(Asked::Run(options)),
+            None => Err(2),
+        },
+        "plan" => match read_pairs(rest, Some(2)) {
+            Some(options) => Ok(Asked::Plan(options)),
             None => Err(2),
         },
         "load" => match read_retries_pair(rest) {
@@ -137,14 +143,15 @@ fn is_plain(word: &str) -> bool
     }
 }
 
-fn read_pairs(words: &[String]) -> Option<Options>
-    ensures { result ≡ options_from nothing_given (map string_bytes words.now) }
+/// The options of pairs of words, where how often to try again may be given already.
+fn read_pairs(words: &[String], retries: Option<u32>) -> Option<Options>
+    ensures { result ≡ options_from (with_retries retries) (map string_bytes words.now) }
 {
     let mut given = Given {
         allowed: None,
         reserved: None,
         split_every: None,
-        retries: None,
+        retries,
     };
     let mut at = 0;
     while at < words.len() {

@@ -8,6 +8,7 @@ pub mod Hulls
 pub mod Laid
 pub mod Numbers
 pub mod OneByOne
+pub mod PlannedViews
 pub mod Ranges
 pub mod Rolls
 pub mod Shares

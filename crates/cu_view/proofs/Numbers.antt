@@ -1,5 +1,5 @@
 -- Elements of a view that are numbers of its own.
-use Rattle.std.proofs.Common.{◌≡◌, ℕ, ◌+◌, ◌<◌, ◌≤◌, Bool, true, false, ℤ, pos, List, [], ◌∷◌, length, get_or, refl, sym, ◌∙◌, subst, arith, if◌then◌else◌}
+use Rattle.std.proofs.Common.{◌≡◌, ℕ, ◌+◌, Bool, true, false, ℤ, pos, List, [], ◌∷◌, length, get_or, sym, ◌∙◌, subst, arith, if◌then◌else◌}
 use Rattle.cu_shape.specs.Index.{place_of, differences, IsInside}
 use Rattle.cu_grid.specs.Counts.{IsWithin}
 use Rattle.cu_pull.specs.Fits.{FitsConcat}

@@ -2,4 +2,5 @@ pub mod Boxes
 pub mod Gathered
 pub mod Hull
 pub mod Pieces
+pub mod Planned
 pub mod View

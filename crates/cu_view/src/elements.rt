@@ -10,7 +10,7 @@ ghost use Rattle.cu_pull.specs.declared.provenance.Provenance.TheVariants.{From}
 ghost use Rattle.cu_view_box.specs.Block.{place_in, IsBlock};
 ghost use Rattle.cu_view.specs.View.{IsView, IsCounted};
 
-use crate::origin::origin_of;
+use crate::origins::origin_of;
 use cu_grid::{Cover, Grid, Region};
 use cu_num::{Endian, save};
 use cu_pull::{Provenance, Pull};

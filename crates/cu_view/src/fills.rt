@@ -3,7 +3,7 @@ ghost use Rattle.std.specs.Prelude.{◌≡◌, ◌≤◌, ◌+◌, ◌*◌, ◌^
 ghost use Rattle.cu_num.specs.Dtype.{size_of};
 ghost use Rattle.cu_num.specs.Element.{bytes_at, element_bytes};
 
-use crate::origin::term;
+use crate::origins::term;
 use cu_num::{Dtype, Endian, save, size};
 
 /// Makes every element of a buffer one number. The type, and so the size of an element, is known in each of the loops.

@@ -12,7 +12,7 @@ ghost use Rattle.cu_view.specs.Pieces.{turn_on, ranges_of, pieces_of, number_at}
 ghost use Rattle.cu_view.specs.View.{IsView};
 
 use crate::boxes::{ranges, turn};
-use crate::origin::{axis_of, counts_of_runs, has_axis};
+use crate::origins::{axis_of, counts_of_runs, has_axis};
 use cu_grid::Region;
 use cu_pull::{Axes, Pull};
 use cu_shape::{Dims, Run, index_of};

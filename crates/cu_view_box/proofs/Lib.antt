@@ -3,6 +3,7 @@ pub mod Evenly
 mod Examples
 pub mod Lined
 pub mod ReadOver
+pub mod MetRuns
 pub mod Reshapes
 pub mod Rows
 pub mod Runs

@@ -40,3 +40,29 @@ pub record IsRunOfBoth (source shape : List ℕ) (run : Region) : Type 0 where
   pub row : IsRow run (length run.lo - 1)
   pub stays : 1 < row_count run (length run.lo - 1) → (0 < length source)
       × (slice_index (reshaped source shape run.lo) (length source - 1) + row_count run (length run.lo - 1) ≤ slice_index source (length source - 1))
+
+-- on each axis up to the first on which two indices differ, an index lies between them
+abbrev pub IsBetween : List ℕ → List ℕ → List ℕ → Type 0
+IsBetween first last i = (d : ℕ) → d < length i → ((k : ℕ) → k < d → slice_index first k ≡ slice_index last k)
+    → (slice_index first d ≤ slice_index i d) × (slice_index i d ≤ slice_index last d)
+
+-- the part has an index between those from which two elements of a region come
+pub record IsMet (source shape : List ℕ) (run part : Region) : Type 0 where
+  pub first : List ℕ
+  pub last : List ℕ
+  pub index : List ℕ
+  pub first_within : IsWithin run.lo run.hi first
+  pub last_within : IsWithin run.lo run.hi last
+  pub of_part : IsWithin part.lo part.hi index
+  pub between : IsBetween (reshaped source shape first) (reshaped source shape last) index
+
+-- a part of a region whose elements stand together in row-major order: it has one index on each axis before some axis, and each index
+-- of the array on those behind it
+pub record IsRun (shape : List ℕ) (out run : Region) : Type 0 where
+  pub axis : ℕ
+  pub single : (k : ℕ) → k < axis → slice_index run.hi k ≡ slice_index run.lo k + 1
+  pub whole : (k : ℕ) → axis < k → k < length shape → (slice_index run.lo k ≡ 0) × (slice_index run.hi k ≡ slice_index shape k)
+  pub of_out : (idx : List ℕ) → IsWithin run.lo run.hi idx → IsWithin out.lo out.hi idx
+
+abbrev pub MeetsRun : List ℕ → List ℕ → Region → Region → Type 0
+MeetsRun source shape out part = (run : Region) × IsRun shape out run × IsMet source shape run part

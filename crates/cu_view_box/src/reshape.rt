@@ -1,10 +1,10 @@
 //! What a reshape reads of its source over regions of its result.
-ghost use Rattle.std.specs.Prelude.{◌≡◌, ◌<◌, ◌≤◌, ◌+◌, ◌-◌, ◌^◌, ℕ, List, IsTrue, IfSome, length, slice_index};
+ghost use Rattle.std.specs.Prelude.{◌≡◌, ◌≢◌, ◌<◌, ◌≤◌, ◌+◌, ◌-◌, ◌^◌, ℕ, List, IsTrue, IfSome, length, slice_index};
 ghost use Rattle.std.specs.Bool.{OnTrue, OnFalse};
 ghost use Rattle.std.specs.Option.{IfNone};
 ghost use Rattle.cu_shape.specs.Index.{product, place_of, index_at, IsInside};
 ghost use Rattle.cu_grid.specs.Counts.{IsRegion, IsWithin};
-ghost use Rattle.cu_view_box.specs.Reshape.{reshaped, IsReshape};
+ghost use Rattle.cu_view_box.specs.Reshape.{reshaped, IsReshape, IsBetween, IsMet, MeetsRun};
 
 use crate::copy::slice_at;
 use crate::reads::last_index;
@@ -36,6 +36,8 @@ fn hull_of_some(source: &Dims, shape: &Dims, out: &Region) -> Region
     requires inside { (idx : List ℕ) → IsWithin out.now.lo out.now.hi idx → IsInside shape.now idx }
     ensures region { IsRegion source.now result.lo result.hi }
     ensures holds { (idx : List ℕ) → IsWithin out.now.lo out.now.hi idx → IsWithin result.lo result.hi (reshaped source.now shape.now idx) }
+    ensures between { (i : List ℕ) → IsWithin result.lo result.hi i
+        → (last : List ℕ) × IsWithin out.now.lo out.now.hi last × IsBetween (reshaped source.now shape.now out.now.lo) (reshaped source.now shape.now last) i }
 {
     let first = index_of(source, place(shape, &out.lo));
     let last = index_of(source, place(shape, &last_index(out)));
@@ -72,7 +74,8 @@ fn ends_on(axis: u32, apart: u32, first: u64, last: u64, size: u64) -> Span
 /// The first axis on which two indices differ; where they don't, the number of axes.
 fn first_apart(a: &Dims, b: &Dims) -> u32
     requires { length b.now ≡ length a.now }
-    ensures { (k : ℕ) → k < result → slice_index a.now k ≡ slice_index b.now k }
+    ensures agree { (k : ℕ) → k < result → slice_index a.now k ≡ slice_index b.now k }
+    ensures differ { result < length a.now → slice_index a.now result ≢ slice_index b.now result }
 {
     let rank = a.rank();
     for axis in 0..rank {
@@ -84,12 +87,14 @@ fn first_apart(a: &Dims, b: &Dims) -> u32
 }
 
 /// Whether an element of the region `out` of a reshape's result may come from the region `part` of its source: true wherever one
-/// does. It is told by the hulls of the parts of `out` that stand together in row-major order.
+/// does. It is true only where the part has an index between those from which two elements of a run come, a part of `out` whose elements
+/// stand together in row-major order.
 pub fn reshape_touches(source: &Dims, shape: &Dims, out: &Region, part: &Region) -> bool
     requires reshape { IsReshape source.now shape.now }
     requires out { IsRegion shape.now out.now.lo out.now.hi }
     requires part { IsRegion source.now part.now.lo part.now.hi }
-    ensures { (idx : List ℕ) → IsWithin out.now.lo out.now.hi idx → IsWithin part.now.lo part.now.hi (reshaped source.now shape.now idx) → IsTrue result }
+    ensures some { (idx : List ℕ) → IsWithin out.now.lo out.now.hi idx → IsWithin part.now.lo part.now.hi (reshaped source.now shape.now idx) → IsTrue result }
+    ensures only { IsTrue result → MeetsRun source.now shape.now out.now part.now }
 {
     if is_empty(out) {
         return false;
@@ -101,7 +106,8 @@ pub fn reshape_touches(source: &Dims, shape: &Dims, out: &Region, part: &Region)
 fn whole_behind(shape: &Dims, out: &Region) -> u32
     requires lo_rank { length out.now.lo ≡ length shape.now }
     requires hi_rank { length out.now.hi ≡ length shape.now }
-    ensures { result ≤ length shape.now }
+    ensures below { result ≤ length shape.now }
+    ensures whole { (k : ℕ) → result < k → k < length shape.now → (slice_index out.now.lo k ≡ 0) × (slice_index out.now.hi k ≡ slice_index shape.now k) }
 {
     for axis in (0..shape.rank()).rev() {
         if out.lo.at(axis) != 0 || out.hi.at(axis) != shape.at(axis) {
@@ -111,7 +117,8 @@ fn whole_behind(shape: &Dims, out: &Region) -> u32
     0
 }
 
-/// The same for a region that isn't empty, part by part along the axes from `level` to below `end`.
+/// The same for a region that isn't empty, part by part along the axes from `level` to below `end`. It has one index on each axis
+/// before `level`, and behind `end` each index of the array.
 fn touches_below(
     source: &Dims,
     shape: &Dims,
@@ -125,7 +132,10 @@ fn touches_below(
     requires inside { (idx : List ℕ) → IsWithin out.now.lo out.now.hi idx → IsInside shape.now idx }
     requires part { IsRegion source.now part.now.lo part.now.hi }
     requires end { end ≤ length out.now.lo }
-    ensures { (idx : List ℕ) → IsWithin out.now.lo out.now.hi idx → IsWithin part.now.lo part.now.hi (reshaped source.now shape.now idx) → IsTrue result }
+    requires single { (k : ℕ) → k < level → slice_index out.now.hi k ≡ slice_index out.now.lo k + 1 }
+    requires whole { (k : ℕ) → end < k → k < length shape.now → (slice_index out.now.lo k ≡ 0) × (slice_index out.now.hi k ≡ slice_index shape.now k) }
+    ensures some { (idx : List ℕ) → IsWithin out.now.lo out.now.hi idx → IsWithin part.now.lo part.now.hi (reshaped source.now shape.now idx) → IsTrue result }
+    ensures only { IsTrue result → MeetsRun source.now shape.now out.now part.now }
 {
     if !meets_hull(source, shape, out, part) {
         return false;
@@ -148,7 +158,8 @@ pub(crate) fn meets_hull(source: &Dims, shape: &Dims, out: &Region, part: &Regio
     requires some { IsWithin out.now.lo out.now.hi out.now.lo }
     requires inside { (idx : List ℕ) → IsWithin out.now.lo out.now.hi idx → IsInside shape.now idx }
     requires part { IsRegion source.now part.now.lo part.now.hi }
-    ensures { OnFalse result ((idx : List ℕ) → IsWithin out.now.lo out.now.hi idx → ¬ IsWithin part.now.lo part.now.hi (reshaped source.now shape.now idx)) }
+    ensures none { OnFalse result ((idx : List ℕ) → IsWithin out.now.lo out.now.hi idx → ¬ IsWithin part.now.lo part.now.hi (reshaped source.now shape.now idx)) }
+    ensures some { OnTrue result (IsMet source.now shape.now out.now part.now) }
 {
     let hull = hull_of_some(source, shape, out);
     !is_empty(&common(&hull, part))

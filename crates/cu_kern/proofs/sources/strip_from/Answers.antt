@@ -13,7 +13,7 @@ returns-clause-places c =
       some = c.requires.some;
       within = c.requires.within;
       row = c.requires.row;
-      begins = (λ i. c.args.source.lay.now.at + c.place_in.ensures.place i * c.size-own.ensures i);
+      begins = (λ i. c.args.source.lay.now.at + c.place_at.ensures.place i * c.size-own.ensures i);
     }) refl
 
 pub returns-clause-elements : goal.returns-clause-elements
@@ -27,5 +27,5 @@ returns-clause-elements c k h =
       some = c.requires.some;
       within = c.requires.within;
       row = c.requires.row;
-      begins = (λ i. c.args.source.lay.now.at + c.place_in.ensures.place i * c.size-own.ensures i);
+      begins = (λ i. c.args.source.lay.now.at + c.place_at.ensures.place i * c.size-own.ensures i);
     }) h

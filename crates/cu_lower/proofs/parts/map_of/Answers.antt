@@ -1,4 +1,4 @@
-use Rattle.std.proofs.Common.{◌≡◌, ◌++◌, ◌∷◌, List, ℕ, [], map, ap, ◌∙◌}
+use Rattle.std.proofs.Common.{◌≡◌, ◌++◌, ◌∷◌, List, [], map, ap, ◌∙◌}
 use Rattle.cu_op.specs.declared.kernel.Instr.{Instr}
 use Rattle.cu_op.specs.declared.operation.Op.TheVariants.{Map}
 use Rattle.cu_expr.specs.Kernel.{loads_from, function_of}
@@ -12,5 +12,4 @@ returns c =
     let last = c.function_of.ensures ∙ ap (function_of c.args.op) c.shared_type.ensures in
     let code : c.push.new.self.items ≡ code_of c.args.op told =
     c.push.ensures.items ∙ ap (λ (xs : List Instr). xs ++ c.function_of.result ∷ []) (c.loads-code.ensures.code c.args.infos.now) ∙ ap (λ (i : Instr). loads_from 0 told ++ i ∷ []) last in
-    ap (λ (xs : List Instr). Map (record { code = record { items = xs } }) c.array_places.result c.args.out) code
-    ∙ ap (λ (ins : List ℕ). Map (record { code = record { items = code_of c.args.op told } }) (record { items = ins }) c.args.out) c.array_places.ensures
+    ap (λ (xs : List Instr). Map (record { code = record { items = xs } }) c.args.ins c.args.out) code

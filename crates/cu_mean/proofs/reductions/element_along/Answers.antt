@@ -1,10 +1,4 @@
-use Rattle.std.proofs.Common.{◌∙◌}
-use Rattle.cu_shape.proofs.Places.{inside-length}
-use Rattle.cu_mean.proofs.Along.{steps_apart}
 use Rattle.cu_mean.proofs.reductions.element_along.Goals as goal
 
-pub sum_of-requires-clause-ranks : goal.sum_of-requires-clause-ranks
-sum_of-requires-clause-ranks c = inside-length c.args.sizes.now c.index_at-step.result c.index_at-step.ensures.inside ∙ c.requires.ranks
-
-pub sum_of-requires-clause-apart : goal.sum_of-requires-clause-apart
-sum_of-requires-clause-apart c = steps_apart c.args.start.now c.args.sizes.now c.index_at-step.result c.index_at-step.ensures.inside c.requires.ranks c.requires.apart
+pub on_line-requires : goal.on_line-requires
+on_line-requires c = (_, (rw c.in-Some.is at c.requires.line) c.args.place c.requires.place)

@@ -7,8 +7,8 @@ use Rattle.cu_need.proofs.counts.plan_counts.Given as goal
 -- what is left adds its own
 abbrev pub invariant-loop-k : goal.invariant-loop-k
 invariant-loop-k l = record {
-  few_tasks : l.tasks ≤ l.k * 2 ^ 37;
-  few_cells : l.cells ≤ l.k * 2 ^ 38;
-  tasks : l.tasks + sum_by (λ numbered. tasks_of l.split_every l.infos numbered.0 numbered.1.form) (live_behind l.expr l.k (drop l.k l.nodes)) ≡ sum_by (λ numbered. tasks_of l.split_every l.infos numbered.0 numbered.1.form) (live_nodes l.expr);
-  cells : l.cells + sum_by (λ numbered. cells_of l.split_every l.infos numbered.0 numbered.1.form) (live_behind l.expr l.k (drop l.k l.nodes)) ≡ sum_by (λ numbered. cells_of l.split_every l.infos numbered.0 numbered.1.form) (live_nodes l.expr);
+  few_tasks : l.tasks ≤ l.k * 2 ^ 44;
+  few_cells : l.cells ≤ l.k * 2 ^ 44;
+  tasks : l.tasks + sum_by (λ numbered. tasks_of l.most l.split_every l.infos l.expr.out numbered.0 numbered.1.form) (live_behind l.expr l.k (drop l.k l.nodes)) ≡ sum_by (λ numbered. tasks_of l.most l.split_every l.infos l.expr.out numbered.0 numbered.1.form) (live_nodes l.expr);
+  cells : l.cells + sum_by (λ numbered. cells_of l.most l.split_every l.infos l.expr.out numbered.0 numbered.1.form) (live_behind l.expr l.k (drop l.k l.nodes)) ≡ sum_by (λ numbered. cells_of l.most l.split_every l.infos l.expr.out numbered.0 numbered.1.form) (live_nodes l.expr);
 }

@@ -2,6 +2,7 @@ use Rattle.cu_command.specs.Seen.{stream, seen}
 use Rattle.cu_top.proofs.CallLemmas.{refused_text}
 use Rattle.cu_top.proofs.CheckLemmas.{found_equal, found_unequal}
 use Rattle.cu_top.proofs.Completeness.{served}
+use Rattle.cu_top.proofs.PlannedLemmas.{plan_printed, plan_spared, plan_refused_text, plan_served}
 use Rattle.cu_top.specs.Run.{scene}
 use Rattle.cu_top.proofs.call.top.Goals as goal
 
@@ -27,3 +28,26 @@ returns-clause-unequal g c = λ retries place stored plain words differ.
     found_unequal retries (stream (g.R.Source.left c.args.src.now) (g.R.Source.faults c.args.src.now)) (stream (g.R.Source.left c.carry.new.src) (g.R.Source.faults c.carry.new.src))
     (seen (stream (g.W.Sink.written c.args.out.now) (g.W.Sink.faults c.args.out.now)) (g.D.Depot.shown c.args.depot.now))
     (seen (stream (g.W.Sink.written c.carry.new.out) (g.W.Sink.faults c.carry.new.out)) (g.D.Depot.shown c.carry.new.depot)) c.carry.result (c.carry.ensures.checks retries words) place stored plain differ
+
+pub returns-clause-planned : goal.returns-clause-planned
+returns-clause-planned g c = λ options words done.
+    plan_printed options (scene (stream (g.R.Source.left c.args.src.now) (g.R.Source.faults c.args.src.now)) (stream (g.W.Sink.written c.args.out.now) (g.W.Sink.faults c.args.out.now)) (g.D.Depot.shown c.args.depot.now))
+    (scene (stream (g.R.Source.left c.carry.new.src) (g.R.Source.faults c.carry.new.src)) (stream (g.W.Sink.written c.carry.new.out) (g.W.Sink.faults c.carry.new.out)) (g.D.Depot.shown c.carry.new.depot))
+    c.carry.result (c.carry.ensures.plans options words) done
+
+pub returns-clause-plan_refused_text : goal.returns-clause-plan_refused_text
+returns-clause-plan_refused_text g c = λ options text fault words told err.
+    plan_refused_text options (scene (stream (g.R.Source.left c.args.src.now) (g.R.Source.faults c.args.src.now)) (stream (g.W.Sink.written c.args.out.now) (g.W.Sink.faults c.args.out.now)) (g.D.Depot.shown c.args.depot.now))
+    (scene (stream (g.R.Source.left c.carry.new.src) (g.R.Source.faults c.carry.new.src)) (stream (g.W.Sink.written c.carry.new.out) (g.W.Sink.faults c.carry.new.out)) (g.D.Depot.shown c.carry.new.depot))
+    text fault c.carry.result told err (c.carry.ensures.plans options words)
+
+pub returns-clause-plan_complete : goal.returns-clause-plan_complete
+returns-clause-plan_complete g c = λ text told_left premise source sink depot.
+    plan_served _ text (scene (stream (g.R.Source.left c.args.src.now) (g.R.Source.faults c.args.src.now)) (stream (g.W.Sink.written c.args.out.now) (g.W.Sink.faults c.args.out.now)) (g.D.Depot.shown c.args.depot.now))
+    (scene (stream (g.R.Source.left c.carry.new.src) (g.R.Source.faults c.carry.new.src)) (stream (g.W.Sink.written c.carry.new.out) (g.W.Sink.faults c.carry.new.out)) (g.D.Depot.shown c.carry.new.depot)) told_left premise source sink depot c.carry.result c.carry.ensures.plans
+
+pub returns-clause-plan_spared : goal.returns-clause-plan_spared
+returns-clause-plan_spared g c = λ options words.
+    plan_spared options (scene (stream (g.R.Source.left c.args.src.now) (g.R.Source.faults c.args.src.now)) (stream (g.W.Sink.written c.args.out.now) (g.W.Sink.faults c.args.out.now)) (g.D.Depot.shown c.args.depot.now))
+    (scene (stream (g.R.Source.left c.carry.new.src) (g.R.Source.faults c.carry.new.src)) (stream (g.W.Sink.written c.carry.new.out) (g.W.Sink.faults c.carry.new.out)) (g.D.Depot.shown c.carry.new.depot))
+    c.carry.result (c.carry.ensures.plans options words)

@@ -1,30 +1,31 @@
 use Rattle.std.proofs.Common.{subst, sym}
 use Rattle.cu_command.specs.declared.status.Status.{Status}
-use Rattle.cu_command.proofs.SeenLemmas.{stepped, stepped_then}
-use Rattle.cu_top.proofs.RunLemmas.{plan_refused, ask_refused, all_free}
+use Rattle.cu_command.proofs.SeenLemmas.{stepped_then}
+use Rattle.cu_top.proofs.PlannedLemmas.{refused_ran}
+use Rattle.cu_top.proofs.RunLemmas.{ask_refused, all_free}
 use Rattle.cu_top.specs.Prepare.{keys_of}
 use Rattle.cu_top.specs.Run.{scene, case, Ran}
 use Rattle.cu_top.proofs.prepare.prepare.Goals as goal
 
-pub returns-in-Err-make_plan-clause-refused : goal.returns-in-Err-make_plan-clause-refused
-returns-in-Err-make_plan-clause-refused g c = λ source next sink after.
-    plan_refused (case c.args.options.now c.args.text.now (scene source sink (g.D.Depot.shown c.args.depot.now)) (scene next after (g.D.Depot.shown c.read_job.new.depot))) c.in-Ok.job c.in-Err-make_plan.status
-    (stepped c.read_job.ensures.step) c.in-Ok.ensures.job c.in-Err-make_plan.ensures.refused
+pub returns-in-Err-clause-refused : goal.returns-in-Err-clause-refused
+returns-in-Err-clause-refused g c = λ source next sink after.
+    refused_ran (case c.args.options.now c.args.text.now (scene source sink (g.D.Depot.shown c.args.depot.now)) (scene next after (g.D.Depot.shown c.plan_job.new.depot))) c.in-Err.status
+    (c.in-Err.ensures.refused source next sink after)
 
 pub returns-in-Ok-ask_plan-clause-cleared : goal.returns-in-Ok-ask_plan-clause-cleared
 returns-in-Ok-ask_plan-clause-cleared g c = record {
   accepted = c.in-Ok.ensures.job;
-  planned = c.in-Ok-make_plan.ensures.planned;
+  planned = c.in-Ok.ensures.planned;
   own = c.in-Ok-ask_plan.ensures.apart;
   free = λ entry told.
-      all_free (g.D.Depot.shown c.args.depot.now) (g.D.Depot.shown c.read_job.new.depot) (stepped c.read_job.ensures.step) entry told (keys_of c.args.options.now c.in-Ok.job)
-      (λ now is. c.in-Ok-ask_plan.ensures.free c.args.options.now now c.in-Ok-make_plan.ensures.plan is);
-  spared = stepped_then (stepped c.read_job.ensures.step) c.ask_plan.ensures.step;
+      all_free (g.D.Depot.shown c.args.depot.now) (g.D.Depot.shown c.plan_job.new.depot) c.plan_job.ensures.step entry told (keys_of c.args.options.now c.in-Ok.prepared.job)
+      (λ now is. c.in-Ok-ask_plan.ensures.free c.args.options.now now c.in-Ok.ensures.plan is);
+  spared = stepped_then c.plan_job.ensures.step c.ask_plan.ensures.step;
 }
 
 pub returns-in-Err-ask_plan-clause-refused : goal.returns-in-Err-ask_plan-clause-refused
 returns-in-Err-ask_plan-clause-refused g c = λ source next sink after.
     let run = case c.args.options.now c.args.text.now (scene source sink (g.D.Depot.shown c.args.depot.now)) (scene next after (g.D.Depot.shown c.ask_plan.new.depot)) in
     subst (λ (status : Status). Ran run status) (sym c.answer_of.ensures)
-    (ask_refused run c.in-Ok.job (g.D.Depot.shown c.read_job.new.depot) c.in-Err-ask_plan.fault c.in-Ok.ensures.job c.in-Ok-make_plan.ensures.planned
-    (stepped c.read_job.ensures.step) c.ask_plan.ensures.step (c.in-Err-ask_plan.ensures.refused c.args.options.now c.in-Ok-make_plan.ensures.plan))
+    (ask_refused run c.in-Ok.prepared.job (g.D.Depot.shown c.plan_job.new.depot) c.in-Err-ask_plan.fault c.in-Ok.ensures.job c.in-Ok.ensures.planned
+    c.plan_job.ensures.step c.ask_plan.ensures.step (c.in-Err-ask_plan.ensures.refused c.args.options.now c.in-Ok.ensures.plan))

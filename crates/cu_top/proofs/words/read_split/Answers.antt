@@ -1,4 +1,4 @@
-use Rattle.std.proofs.Common.{◌^◌, arith, lit≤}
+use Rattle.std.proofs.Common.{arith}
 use Rattle.cu_top.proofs.WordLemmas.{split_read, split_refused}
 use Rattle.cu_top.proofs.words.read_split.Goals as goal
 

@@ -11,7 +11,7 @@ use Rattle.cu_pull.specs.declared.pull.Pull.TheVariants.{Concat, Triangle, Full,
 use Rattle.cu_view_box.specs.Block.{place_in}
 use Rattle.cu_view.proofs.Asked.{lo_length, size_small}
 use Rattle.cu_view.proofs.Fitting.{fits_as}
-use Rattle.cu_view.proofs.Numbers.{same_number, no_number, origin_as, outside_triangle, one_or_zero, concat_no_number, line_index}
+use Rattle.cu_view.proofs.Numbers.{same_number, origin_as, outside_triangle, one_or_zero, concat_no_number, line_index}
 use Rattle.cu_view.proofs.OneByOne.{place_fits}
 use Rattle.cu_view.proofs.Ranges.{inside_of, ends_of}
 use Rattle.cu_view.proofs.constants.lay_constants.Goals as goal

@@ -1,6 +1,9 @@
-use Rattle.std.proofs.Common.{◌∙◌, sym, arith}
+use Rattle.std.proofs.Common.{◌≡◌, ℕ, List, sym, ap, ◌∙◌, subst, arith}
 use Rattle.cu_shape.proofs.Places.{inside-length}
+use Rattle.cu_shape.specs.Index.{index_at}
 use Rattle.cu_grid.proofs.Regions.{inside-at}
+use Rattle.cu_view_box.specs.Reshape.{reshaped, IsBetween}
+use Rattle.cu_view_box.proofs.MetRuns.{between_of}
 use Rattle.cu_view_box.proofs.Reshapes.{hull_none, hull_more, hull_of_ends, hull_region_of_ends}
 use Rattle.cu_view_box.proofs.reshape.hull_of_some.Goals as goal
 
@@ -38,11 +41,23 @@ pub returns-clause-region : goal.returns-clause-region
 returns-clause-region c =
     hull_region_of_ends c.args.source.now c.args.shape.now c.args.out.now.lo c.args.out.now.hi c.last_index.result c.place.result c.place-2.result c.index_of-first.result c.index_of-last.result
     c.loop-axis.hull.lo c.loop-axis.hull.hi c.first_apart-apart.result c.loop-axis.axis c.requires.some c.last_index.ensures.within c.last_index.ensures.last
-    c.place.ensures.place c.place-2.ensures.place c.place-2.ensures.below c.requires.reshape.same c.index_of-first.ensures.index c.index_of-last.ensures.index (omega arith) c.first_apart-apart.ensures c.loop-axis.invariant
+    c.place.ensures.place c.place-2.ensures.place c.place-2.ensures.below c.requires.reshape.same c.index_of-first.ensures.index c.index_of-last.ensures.index (omega arith) c.first_apart-apart.ensures.agree c.loop-axis.invariant
 
 pub returns-clause-holds : goal.returns-clause-holds
 returns-clause-holds c = λ idx w.
     hull_of_ends c.args.source.now c.args.shape.now c.args.out.now.lo c.args.out.now.hi c.last_index.result c.place.result c.place-2.result c.index_of-first.result c.index_of-last.result
     c.loop-axis.hull.lo c.loop-axis.hull.hi c.first_apart-apart.result c.loop-axis.axis c.requires.some c.last_index.ensures.within c.last_index.ensures.last
-    c.place.ensures.place c.place-2.ensures.place c.place-2.ensures.below c.requires.reshape.same c.index_of-first.ensures.index c.index_of-last.ensures.index (omega arith) c.first_apart-apart.ensures c.loop-axis.invariant
+    c.place.ensures.place c.place-2.ensures.place c.place-2.ensures.below c.requires.reshape.same c.index_of-first.ensures.index c.index_of-last.ensures.index (omega arith) c.first_apart-apart.ensures.agree c.loop-axis.invariant
     idx w
+
+pub returns-clause-between : goal.returns-clause-between
+returns-clause-between c = λ i w.
+    let first : c.index_of-first.result ≡ reshaped c.args.source.now c.args.shape.now c.args.out.now.lo = c.index_of-first.ensures.index ∙ ap (index_at c.args.source.now) c.place.ensures.place in
+    let last : c.index_of-last.result ≡ reshaped c.args.source.now c.args.shape.now c.last_index.result = c.index_of-last.ensures.index ∙ ap (index_at c.args.source.now) c.place-2.ensures.place in
+    let own = between_of c.args.source.now c.index_of-first.result c.index_of-last.result c.loop-axis.hull.lo c.loop-axis.hull.hi i c.first_apart-apart.result c.loop-axis.axis
+    (inside-length c.args.source.now c.index_of-first.result c.index_of-first.ensures.inside) (omega arith) c.first_apart-apart.ensures.differ c.loop-axis.invariant w in (
+      c.last_index.result,
+      c.last_index.ensures.within,
+      subst (λ (x : List ℕ). IsBetween (reshaped c.args.source.now c.args.shape.now c.args.out.now.lo) x i) last
+          (subst (λ (x : List ℕ). IsBetween x c.index_of-last.result i) first own),
+    )

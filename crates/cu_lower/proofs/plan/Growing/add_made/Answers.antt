@@ -1,6 +1,5 @@
 use Rattle.std.proofs.Common.{◌≡◌, ◌<◌, ◌≤◌, ◌+◌, ◌^◌, List, ℕ, length, sym, ap, subst, ◌∙◌, arith}
 use Rattle.cu_form.specs.Expression.{Expression}
-use Rattle.cu_form.specs.Form.{args_of}
 use Rattle.cu_lower.specs.Inputs.{input_names}
 use Rattle.cu_lower.specs.declared.options.Options.{Options}
 use Rattle.cu_lower_reduce.specs.Steps.{all_made}
@@ -8,19 +7,20 @@ use Rattle.cu_form.specs.declared.form.Form.{Form}
 use Rattle.cu_node.specs.Info.{info_at}
 use Rattle.cu_node.specs.declared.info.NodeInfo.{NodeInfo}
 use Rattle.cu_lower_reduce.specs.declared.step.Step.{Step}
-use Rattle.cu_lower.specs.Parts.{Grown, IsGrown, Make, array_places, steps_of}
+use Rattle.cu_lower.specs.Parts.{Grown, IsGrown, Make, sources_of, steps_of}
 use Rattle.cu_lower.proofs.Growing.{make_some, steps_long, steps_ops, steps_growing}
 use Rattle.cu_lower.proofs.plan.Growing.add_made.Goals as goal
 
--- the steps make the node's array, also by another name of the places
-made_again : (infos : List NodeInfo) (options : Options) (f : Form) (ps qs : List ℕ) (first : ℕ) (ss : List Step)
-    → ((ins : List ℕ) (first : ℕ) → first < 2 ^ 31 → Make (info_at infos (length qs)) (steps_of infos options (length qs) f ins first)) → first < 2 ^ 31 → ps ≡ qs
-    → ss ≡ steps_of infos options (length ps) f (array_places ps (args_of f)) first → Make (info_at infos (length qs)) ss
-made_again infos options f ps qs first ss make small same steps =
-    subst (λ (xs : List Step). Make (info_at infos (length qs)) xs) (sym (steps ∙ ap (λ k. steps_of infos options k f (array_places ps (args_of f)) first) (ap length same))) (make (array_places ps (args_of f)) first small)
+-- the steps make the node's array, by other names of its number, of the places and of what they read
+made_again : (e : Expression) (infos : List NodeInfo) (options : Options) (f : Form) (places others : List ℕ) (k node first : ℕ) (read : List ℕ) (ss : List Step)
+    → ((ps : List ℕ) (first : ℕ) → first < 2 ^ 30 → Make (info_at infos k) (steps_of infos options k f (sources_of e ps f) first)) → first < 2 ^ 30 → node ≡ k → others ≡ places → read ≡ sources_of e others f
+    → ss ≡ steps_of infos options node f read first → Make (info_at infos k) ss
+made_again e infos options f places others k node first read ss make small number same reads steps =
+    subst (λ (xs : List Step). Make (info_at infos k) xs)
+    (sym (steps ∙ ap (λ n. steps_of infos options n f read first) number ∙ ap (λ ins. steps_of infos options k f ins first) (reads ∙ ap (λ ps. sources_of e ps f) same))) (make places first small)
 
 -- the number of the first array is small
-small_first : (e : Expression) (g : Grown) (first given : ℕ) → given ≡ length (input_names e) → given ≤ 256 → length g.places ≤ 256 → IsGrown e g → first ≡ length g.arrays → first < 2 ^ 31
+small_first : (e : Expression) (g : Grown) (first given : ℕ) → given ≡ length (input_names e) → given ≤ 256 → length g.places ≤ 256 → IsGrown e g → first ≡ length g.arrays → first < 2 ^ 30
 small_first e g first given same inputs nodes known is =
     let arrays = known.growing.few in
     let ops = known.few in
@@ -28,10 +28,12 @@ small_first e g first given same inputs nodes known is =
 
 made : (c : goal.After-add_steps-arg-1) → Make (info_at c.args.infos.now (length c.args.self.now.places)) c.in_ok-steps.steps.items
 made c =
-    made_again c.args.infos.now c.args.options.now c.args.form.now c.deref.result.now c.args.self.now.places c.len-first.result c.in_ok-steps.steps.items c.requires.steps
-    (small_first c.args.expr.now c.args.self.now c.len-first.result c.args.given c.requires.given c.requires.inputs c.requires.nodes c.requires.grown
+    made_again c.args.expr.now c.args.infos.now c.args.options.now c.args.form.now c.args.self.now.places c.deref.result.now (length c.args.self.now.places) c.len-node.result c.len-first.result
+    c.sources_of-sources.result.items c.in_ok-steps.steps.items c.requires.steps
+    (small_first c.args.expr.now c.args.self.now c.len-first.result (length c.args.names.now) (ap length c.requires.names) c.requires.inputs c.requires.nodes c.requires.grown
     (c.len-first.ensures ∙ c.self.inside.arrays.ok.0 ∙ ap (λ (g : Grown). length g.arrays) c.self.view_is))
-    (c.deref.ensures.value ∙ ap (λ (g : Grown). g.places) c.self.view_is) c.in_ok-steps.ensures
+    (c.len-node.ensures ∙ c.self.inside.places.ok.0 ∙ ap (λ (g : Grown). length g.places) c.self.view_is)
+    (c.deref.ensures.value ∙ ap (λ (g : Grown). g.places) c.self.view_is) (c.sources_of-sources.ensures c.args.expr.now c.requires.names) c.in_ok-steps.ensures
 
 pub add_steps-requires-clause-few : goal.add_steps-requires-clause-few
 add_steps-requires-clause-few c =
@@ -50,10 +52,12 @@ new_arrays c =
     let view = ap (λ (g : Grown). length g.arrays) c.self-2.view_is in
     let new = ap (λ (g : Grown). length g.arrays) c.in_ok-add_steps.ensures in
     let long = steps_long c.args.expr.now c.args.self.now c.in_ok-steps.steps.items in
-    let make = made_again c.args.infos.now c.args.options.now c.args.form.now c.deref.result.now c.args.self.now.places c.len-first.result c.in_ok-steps.steps.items c.requires.steps
-    (small_first c.args.expr.now c.args.self.now c.len-first.result c.args.given c.requires.given c.requires.inputs c.requires.nodes c.requires.grown
+    let make = made_again c.args.expr.now c.args.infos.now c.args.options.now c.args.form.now c.args.self.now.places c.deref.result.now (length c.args.self.now.places) c.len-node.result c.len-first.result
+    c.sources_of-sources.result.items c.in_ok-steps.steps.items c.requires.steps
+    (small_first c.args.expr.now c.args.self.now c.len-first.result (length c.args.names.now) (ap length c.requires.names) c.requires.inputs c.requires.nodes c.requires.grown
     (c.len-first.ensures ∙ c.self.inside.arrays.ok.0 ∙ ap (λ (g : Grown). length g.arrays) c.self.view_is))
-    (c.deref.ensures.value ∙ ap (λ (g : Grown). g.places) c.self.view_is) c.in_ok-steps.ensures in
+    (c.len-node.ensures ∙ c.self.inside.places.ok.0 ∙ ap (λ (g : Grown). length g.places) c.self.view_is)
+    (c.deref.ensures.value ∙ ap (λ (g : Grown). g.places) c.self.view_is) (c.sources_of-sources.ensures c.args.expr.now c.requires.names) c.in_ok-steps.ensures in
     (omega (arith, len, view, new, long), make)
 
 pub overflow_sub-place : goal.overflow_sub-place
@@ -68,7 +72,7 @@ overflow_cast-place c =
     let n = new_arrays c in
     let new = n.0 in
     let more = n.1.few in
-    let given = c.requires.given in
+    let given = ap length c.requires.names in
     let inputs = c.requires.inputs in
     let nodes = c.requires.nodes in
     let few = c.requires.grown.few in

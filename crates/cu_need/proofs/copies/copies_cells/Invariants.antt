@@ -1,0 +1,11 @@
+use Rattle.std.proofs.Common.{◌≡◌, ◌≤◌, ◌+◌, ◌*◌, ◌^◌, drop}
+use Rattle.std.specs.Prelude.{sum_by}
+use Rattle.cu_copy.specs.Copies.{rechunk_cells}
+use Rattle.cu_need.proofs.copies.copies_cells.Given as goal
+
+-- what is left adds its own
+abbrev pub invariant-loop-rechunk : goal.invariant-loop-rechunk
+invariant-loop-rechunk l = record {
+  few : l.cells ≤ l.rechunk-index * 2 ^ 41;
+  sum : l.cells + sum_by (rechunk_cells l.most) (drop l.rechunk-index l.copies) ≡ sum_by (rechunk_cells l.most) l.copies;
+}

@@ -1,0 +1,14 @@
+//! The plan of an expression, or why it has none, and the text that says what a plan does.
+#![tactic(auto)]
+
+mod fault;
+mod laws;
+mod planning;
+mod sums;
+mod text;
+
+pub use fault::PlanFault;
+pub use laws::refusal_law;
+pub use planning::plan;
+pub use sums::{cell_count, peak, task_count};
+pub use text::plan_text;

@@ -1,0 +1,108 @@
+//! The plan of an expression.
+
+ghost use Rattle.std.specs.Prelude.{◌≡◌, ◌≤◌, All, IfErr, IfOk, OnOk, None, Ok, Some};
+ghost use Rattle.cu_expr.specs.Typing.{typed};
+ghost use Rattle.cu_form.specs.Expression.{IsExpression};
+ghost use Rattle.cu_lower.specs.Parts.{AreOptions};
+ghost use Rattle.cu_lower.specs.Plan.{plan_of};
+ghost use Rattle.cu_lower.specs.Premises.{IsLowerable};
+ghost use Rattle.cu_need.specs.Need.{AreWithinLimits};
+ghost use Rattle.cu_node.specs.Info.{IsInfo};
+ghost use Rattle.cu_op.specs.Layout.{IsLayout};
+ghost use Rattle.cu_op.specs.Sound.{Sound};
+ghost use Rattle.cu_plan.specs.Refusal.{refusal_of, IsRefusal};
+
+use crate::fault::PlanFault;
+use cu_expr::{InputInfo, Types, typing_law};
+use cu_form::Expr;
+use cu_lower::{Options, lower, plan_law};
+use cu_need::{first_over, max_mem, plan_counts, typed_law};
+use cu_node::NodeInfo;
+use cu_op::Plan;
+use cu_store::NoMemory;
+use std::alloc::Global;
+
+/// What is known of each node of an expression.
+fn infos_of(
+    alloc: Global,
+    expr: &Expr,
+    types: &Types,
+    inputs: &[InputInfo],
+) -> Result<Vec<NodeInfo>, NoMemory>
+    requires types { typed inputs.now expr.now ≡ Ok types.now }
+    ensures infos { IfOk result (λ infos. infos.items ≡ types.now) }
+    ensures kept { OnOk result (All IsInfo types.now) }
+    ensures form { IsExpression expr.now }
+{
+    typing_law();
+    let mut infos = Vec::new(alloc);
+    for k in 0..expr.nodes().len() {
+        let Ok(()) = infos.push(*types.at(k as u32)) else {
+            return Err(NoMemory);
+        };
+    }
+    Ok(infos)
+}
+
+/// Refuses a plan whose live nodes need more than is allowed, or whose counts exceed their limits.
+fn check(options: &Options, expr: &Expr, infos: &[NodeInfo]) -> Result<(), PlanFault>
+    requires options { AreOptions options.now }
+    requires limits { AreWithinLimits expr.now infos.now }
+    ensures accepted { OnOk result (refusal_of options.now expr.now infos.now ≡ None) }
+    ensures refused { IfErr result (λ fault. refusal_of options.now expr.now infos.now ≡ Some fault) }
+{
+    let Options {
+        allowed,
+        reserved,
+        split_every,
+        ..
+    } = *options;
+    if let Some(over) = first_over(allowed, reserved, split_every, expr, infos) {
+        return Err(PlanFault::OverMemory {
+            node: over.node,
+            need: over.need,
+            allowed,
+        });
+    }
+    let counts = plan_counts(max_mem(allowed, reserved), split_every, expr, infos);
+    match counts.over_limit() {
+        Some(over) => Err(PlanFault::OverLimit {
+            which: over.which,
+            count: over.count,
+        }),
+        None => Ok(()),
+    }
+}
+
+/// The plan of an expression whose nodes have these types over these inputs. It is refused where a live node needs more than is allowed,
+/// by the first that does, and else where its tasks or its stored chunks are too many. Nothing is merged in it, and each of its operations
+/// needs at most what is allowed.
+pub fn plan(
+    alloc: Global,
+    expr: &Expr,
+    types: &Types,
+    inputs: &[InputInfo],
+    options: &Options,
+) -> Result<Plan, PlanFault>
+    requires types { typed inputs.now expr.now ≡ Ok types.now }
+    requires layouts { All (λ i. IsLayout i.layout) inputs.now }
+    requires options { AreOptions options.now }
+    ensures plan { IfOk result (λ plan. plan ≡ plan_of expr.now types.now inputs.now options.now) }
+    ensures sound { IfOk result Sound }
+    ensures within { IfOk result (λ plan. All (λ o. o.projected ≤ options.now.allowed) plan.ops) }
+    ensures lowerable { OnOk result (IsLowerable expr.now types.now inputs.now options.now) }
+    ensures accepted { OnOk result (refusal_of options.now expr.now types.now ≡ None) }
+    ensures refused { IfErr result (IsRefusal options.now expr.now types.now) }
+{
+    typing_law();
+    typed_law();
+    plan_law();
+    let Ok(infos) = infos_of(alloc, expr, types, inputs) else {
+        return Err(PlanFault::NoMemory);
+    };
+    check(options, expr, &infos)?;
+    match lower(alloc, expr, &infos, inputs, options) {
+        Ok(plan) => Ok(plan),
+        Err(_) => Err(PlanFault::NoMemory),
+    }
+}

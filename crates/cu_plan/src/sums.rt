@@ -1,0 +1,78 @@
+//! Sums and greatest numbers over the operations and the arrays of a plan.
+
+ghost use Rattle.std.specs.Prelude.{◌≡◌, ◌<◌, ◌≤◌, ◌^◌, ◌*◌, All, length, sum_by};
+ghost use Rattle.cu_op.specs.Arrays.{array_at, chunk_count};
+ghost use Rattle.cu_op.specs.Cells.{tasks_of};
+ghost use Rattle.cu_op.specs.Operation.{writes_of};
+ghost use Rattle.cu_op.specs.Sound.{made_chunks};
+ghost use Rattle.cu_plan.specs.Text.{cells_of, peak_of};
+
+use cu_op::{ArrayInfo, Op, Plan, tasks};
+
+/// How many tasks the plan has.
+pub fn task_count(plan: &Plan) -> u64
+    ensures count { result ≡ sum_by (λ o. tasks_of plan.now.arrays o.op) plan.now.ops }
+    ensures bound { result ≤ 65536 }
+{
+    let mut count = 0;
+    for op in 0..plan.ops().len() as u32 {
+        count += u64::from(tasks(plan, op));
+    }
+    count
+}
+
+/// The most bytes that any task of the plan needs.
+pub fn peak(plan: &Plan) -> u64
+    ensures { result ≡ peak_of plan.now }
+{
+    let mut peak = 0;
+    for op in 0..plan.ops().len() as u32 {
+        peak = plan.operation(op).projected.max(peak);
+    }
+    peak
+}
+
+/// The chunks of the arrays that an operation writes.
+pub(crate) fn cells_of(arrays: &[ArrayInfo], op: &Op) -> u64
+    requires { All (λ a. a < length arrays.now) (writes_of op.now) }
+    ensures { result ≡ cells_of arrays.now op.now }
+{
+    let mut count = 0;
+    for at in 0..2 {
+        if let Some(array) = op.written(at) {
+            count += chunk_count(&arrays[array as usize]);
+        }
+    }
+    count
+}
+
+/// How many chunks an array has.
+fn chunk_count(array: &ArrayInfo) -> u64
+    ensures count { result ≡ chunk_count array.now }
+    ensures few { result ≤ 2 ^ 60 }
+{
+    array.layout.grid.count()
+}
+
+/// How many chunks an array has, where an operation makes it.
+fn made_chunks(array: &ArrayInfo) -> u64
+    ensures { result ≡ made_chunks array.now }
+{
+    match array.maker {
+        None => 0,
+        Some(_) => chunk_count(array),
+    }
+}
+
+/// How many chunks all arrays have that are made.
+pub fn cell_count(plan: &Plan) -> u64
+    ensures count { result ≡ sum_by made_chunks plan.now.arrays }
+    ensures bound { result ≤ 262144 }
+{
+    let arrays = plan.arrays();
+    let mut count = 0;
+    for k in 0..arrays.len() {
+        count += made_chunks(&arrays[k]);
+    }
+    count
+}

@@ -1,6 +1,0 @@
-use Rattle.std.proofs.Common.{◌≡◌, take, map}
-use Rattle.cu_op.specs.Projection.{greatest}
-use Rattle.cu_top.proofs.report.peak.Given as goal
-
-abbrev pub invariant-loop-op : goal.invariant-loop-op
-invariant-loop-op l = l.peak ≡ greatest (map (λ o. o.projected) (take l.op l.plan.ops))

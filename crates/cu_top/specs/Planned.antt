@@ -1,0 +1,46 @@
+-- What planning the expression of a text answers, and what it leaves: it stores nothing. This project's own rules.
+use Rattle.std.specs.Prelude.{ℕ, ◌≤◌, List, length}
+use Rattle.cu_store.specs.Faults.{Rose}
+use Rattle.cu_command.specs.declared.job.JobFault.TheVariants as fault
+use Rattle.cu_command.specs.declared.status.Status.{Status}
+use Rattle.cu_command.specs.declared.status.Status.TheVariants.{Done, BadExpr, BadType, OverMemory, OverLimit, BadMeta, NoArray, ReadFault, WriteFault, DepotFailed, NoMemory}
+use Rattle.cu_lower.specs.declared.options.Options.{Options}
+use Rattle.cu_plan.specs.Text.{plan_text}
+use Rattle.cu_top.specs.Call.{AreSpared, CameToRun, IsReadFault}
+use Rattle.cu_top.specs.Run.{Scene, RunCase, plan_in, HasNoJob, HasNoPlan, IsBadExpr, IsBadType, IsMissing, IsRefused, IsSpared, OfPlanned, WroteTo}
+
+-- why a text has no plan: the text, the metadata of an input in its turn, the types or the plan was refused, and nothing was stored
+abbrev pub IsPlanRefused : RunCase → Status → Type 0
+IsPlanRefused c (BadExpr code node) = IsBadExpr c code node
+IsPlanRefused c (DepotFailed key) = HasNoJob c (fault.DepotFailed key)
+IsPlanRefused c (NoArray name) = IsMissing c name
+IsPlanRefused c (BadMeta name code) = IsRefused c name code
+IsPlanRefused c (BadType code node) = IsBadType c code node
+IsPlanRefused c (OverMemory node need allowed) = HasNoPlan c (OverMemory node need allowed)
+IsPlanRefused c (OverLimit which count) = HasNoPlan c (OverLimit which count)
+IsPlanRefused c NoMemory = IsSpared c
+IsPlanRefused c status = ⊥
+
+-- nothing was stored, and the job of the text has a plan, with a fact of what is written of it
+abbrev pub OfPlanText : RunCase → (List ℕ → Type 0) → Type 0
+OfPlanText c fact = IsSpared c × OfPlanned c (λ job. fact (plan_text (plan_in c job)))
+
+-- 0: the whole text of the plan was written
+abbrev pub IsPrinted : RunCase → Type 0
+IsPrinted c = OfPlanText c (λ text. WroteTo c text (length text))
+
+-- 12: the sink failed, and a front of it was written
+abbrev pub IsUnprinted : RunCase → Type 0
+IsUnprinted c = Rose 1 c.old.sink.faults c.new.sink.faults × OfPlanText c (λ text. (n : ℕ) × (n ≤ length text) × WroteTo c text n)
+
+-- what planning a text answers
+abbrev pub Plans : RunCase → Status → Type 0
+Plans c Done = IsPrinted c
+Plans c WriteFault = IsUnprinted c
+Plans c status = IsPlanRefused c status
+
+-- what the command `plan` answers
+abbrev pub PlanTells : Options → Scene → Scene → Status → Type 0
+PlanTells options old new ReadFault = IsReadFault old new
+PlanTells options old new NoMemory = AreSpared old new
+PlanTells options old new status = CameToRun options old new (λ c. Plans c status)

@@ -1,0 +1,38 @@
+//! The command that says what a plan does.
+ghost use Rattle.cu_command.specs.Seen.{Stream, stream};
+ghost use Rattle.cu_top.specs.Planned.{Plans};
+ghost use Rattle.cu_top.specs.Run.{scene, case, PrintsOnly};
+ghost use Rattle.cu_top.specs.Words.{IsInRange};
+
+use crate::prepare::plan_job;
+use cu_command::{Status, write_all};
+use cu_lower::Options;
+use cu_plan::plan_text;
+use cu_store::{Depot, Sink};
+use std::alloc::Global;
+
+/// Makes the plan of a text's expression, and writes what it does: a line for each operation, and one for the whole plan. Nothing is stored.
+pub fn print_plan<W: Sink, D: Depot>(
+    alloc: Global,
+    options: &Options,
+    text: &[u8],
+    out: &mut W,
+    depot: &mut D,
+) -> Status
+    requires options { IsInRange options.now }
+    ensures answer { (source next : Stream) → Plans (case options.now text.now (scene source (stream (W.written out.old) (W.faults out.old)) (D.shown depot.old))
+        (scene next (stream (W.written out.new) (W.faults out.new)) (D.shown depot.new))) result }
+    ensures prints { PrintsOnly result (W.written out.old) (W.written out.new) }
+{
+    let prepared = match plan_job(alloc, options, text, depot) {
+        Ok(prepared) => prepared,
+        Err(status) => return status,
+    };
+    let Ok(lines) = plan_text(alloc, &prepared.plan) else {
+        return Status::NoMemory;
+    };
+    match write_all(out, &lines) {
+        Ok(()) => Status::Done,
+        Err(_) => Status::WriteFault,
+    }
+}

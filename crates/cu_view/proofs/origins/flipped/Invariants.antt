@@ -1,0 +1,9 @@
+use Rattle.std.proofs.Common.{◌≡◌, ℕ, ◌<◌, length, get_or}
+use Rattle.cu_pull.specs.Pull.{flipped_on}
+use Rattle.cu_view.proofs.origins.flipped.Given as goal
+
+abbrev pub invariant-loop-axis : goal.invariant-loop-axis
+invariant-loop-axis l = record {
+  ranks : length l.read ≡ length l.idx;
+  done : (k : ℕ) → k < l.axis → get_or l.read k 0 ≡ flipped_on l.axes l.shape l.idx k;
+}
