@@ -3,9 +3,9 @@
 
   views.py [--program FILE] [--dir FOLDER] [--runs N] [--python FILE] [--mebibytes N] [--only NAME..]
 
-Each view is computed by one operation: a slice with step 1, a concat of two halves, a transposition, a flip, a roll, and arrays that
-are made, which are compared with storing such chunks alone. For each chunk of the result NumPy reads each chunk of which it needs an
-element, as the program does. All put each chunk in place by a synced new file that is renamed. Which comes first changes at each
+Each view is computed by one operation: a slice with step 1, a concat of two halves, a transposition, a flip, a triangle, a roll, and
+arrays that are made, which are compared with storing such chunks alone. For each chunk of the result NumPy reads each chunk of which it
+needs an element, as the program does. All put each chunk in place by a synced new file that is renamed. Which comes first changes at each
 round, and the least time of each is kept; the outputs are compared byte by byte. It prints times and ratios: in the folder in memory
 where there is one, since nothing else than the view is to be measured.
 """
@@ -95,6 +95,14 @@ class Peer:
         for i, j in itertools.product(range(self.side), repeat=2):
             self.put([i, j], self.read("x", i, self.side - 1 - j).reshape(SIDE, SIDE)[:, ::-1])
 
+    def triangle(self):
+        for i, j in itertools.product(range(self.side), repeat=2):
+            if j > i:
+                self.put([i, j], numpy.zeros((SIDE, SIDE), numpy.int32))
+            else:
+                cells = self.read("x", i, j).reshape(SIDE, SIDE)
+                self.put([i, j], numpy.tril(cells) if i == j else cells)
+
     def full(self):
         self.made[:] = 7
         for number in range(self.chunks):
@@ -115,6 +123,7 @@ def expressions(chunks):
     total = chunks * CHUNK
     return {"slice": viewed("index", "v", index=[{"start": 1000, "stop": total - 1000}]), "concat": viewed("concat", "left", "right", axis=0),
             "transpose": viewed("permute_dims", "x", axes=[1, 0]), "flip": viewed("flip", "x", axes=[1]),
+            "triangle": viewed("tril", "x", k=0),
             "roll": viewed("roll", "v", shifts=[12345], axes=[0]), "full": viewed("full", shape=[total], dtype="int32", value=7, chunk=[CHUNK]),
             "arange": viewed("arange", start=0, stop=total, step=1, dtype="int32", chunk=[CHUNK])}
 

@@ -22,8 +22,9 @@ use Rattle.cu_top.specs.Words.{command_of, plan, run}
 abbrev pub AreWhole : PlanView → Contents → Type 0
 AreWhole p entry = (k : Cell) (bytes : List ℕ) → IsInputChunk p.arrays k → entry (key_of p.arrays k) ≡ Some bytes → length bytes ≡ chunk_room p.arrays k.array
 
--- No live node needs more than is allowed, and the counts keep their limits. The output is no input, and no key of the plan is held. No put is late on a key of the plan, and each that is late on a chunk of an input carries what is held there. Each
--- chunk of an input is absent or whole.
+-- No live node needs more than is allowed, and the counts keep their limits. The output is no input, and no key of the plan is held. No
+-- put is late on a key of the plan, and each that is late on a chunk of an input carries what is held there. Each chunk of an input is
+-- absent or whole.
 pub record IsAtRest (options : Options) (job : Job) (entry : Contents) (old : Shown) : Type 0 where
   pub planned : refusal_of options job.expr job.types ≡ None
   pub own : IsApart job.expr

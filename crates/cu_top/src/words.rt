@@ -43,10 +43,11 @@ pub enum Asked {
 }
 
 /// The command, which is the first word, with what stands behind it: for `run` any of the pairs `--allowed-mem N`,
-/// `--reserved-mem N`, `--split-every N` and `--retries N`, each at most once; for `plan` the same but the last; for `load` and `check` at most the pair `--retries N`; for `print` the name of
-/// an array, and at most this pair, before or behind it. A refusal is 1 where the command is missing or unknown; 2 where an
-/// option is unknown, has no value or is given twice, where a number isn't one or isn't from 0 to 2^40, for the partial results
-/// from 2 to 64, or for the retries from 0 to 8, and where there are too few or too many words; and 3 where the name isn't one and all else is accepted.
+/// `--reserved-mem N`, `--split-every N` and `--retries N`, each at most once; for `plan` the same but the last; for `load` and
+/// `check` at most the pair `--retries N`; for `print` the name of an array, and at most this pair, before or behind it. A refusal is 1
+/// where the command is missing or unknown; 2 where an option is unknown, has no value or is given twice, where a number isn't one or
+/// isn't from 0 to 2^40, for the partial results from 2 to 64, or for the retries from 0 to 8, and where there are too few or too many
+/// words; and 3 where the name isn't one and all else is accepted.
 #[tactic(auto, unfolding(crate::specs::Words::command_of))]
 pub fn read_words(words: &[String]) -> Result<Asked, u8>
     ensures { result_map_both command_view (λ code. code) result ≡ command_of (map string_bytes words.now) }

@@ -32,7 +32,7 @@ le_less a b c d k p q h = grind (arith, ints)
 le_more : (a b c d : ℕ) (k : ℤ) → c ≤ a → b ≤ d → int_le k (pos c -ℤ pos d) ≡ true → int_le k (pos a -ℤ pos b) ≡ true
 le_more a b c d k p q h = grind (arith, ints)
 
-read_same : (xs : List ℕ) (i j : ℕ) → i ≡ j → get_or xs i 0 ≡ get_or xs j 0
+pub read_same : (xs : List ℕ) (i j : ℕ) → i ≡ j → get_or xs i 0 ≡ get_or xs j 0
 read_same xs i j e = ap (λ (k : ℕ). get_or xs k 0) e
 
 -- where an index of the box lies in the triangle, this corner does

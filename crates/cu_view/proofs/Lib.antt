@@ -1,4 +1,5 @@
 pub mod Asked
+pub mod Cells
 pub mod Comes
 pub mod Concats
 pub mod Corners

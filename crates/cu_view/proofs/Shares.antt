@@ -16,7 +16,7 @@ use Rattle.cu_pull.proofs.OriginsInside.{inside_sources}
 use Rattle.cu_view_box.specs.Piece.{read_at, HaveRanks}
 use Rattle.cu_view_box.specs.Reshape.{IsReshape}
 use Rattle.cu_view_box.specs.declared.piece.Piece.{Piece}
-use Rattle.cu_view.specs.Pieces.{ranges_of, range_at, source_in, pieces_of, number_at, HasAxes, IsShown, IsParted, IsNumbered}
+use Rattle.cu_view.specs.Pieces.{ranges_of, range_at, source_in, pieces_of, number_at, HasAxes, IsShown, IsNumbered}
 use Rattle.cu_view.specs.View.{IsView}
 use Rattle.cu_view.proofs.Fitting.{one_source, counted}
 use Rattle.cu_view.proofs.Ranges.{ends_of}
@@ -132,21 +132,3 @@ only_first pull sources shape e v =
     let f = subst (λ (p : Pull). FitsPull p sources shape) e v in
     let g = one_source (λ (s : List ℕ). product s ≡ product shape) sources f in
     g.one
-
--- a view that is parted shows each element of its pieces
-pub all_shown : (pull : Pull) (idx : List ℕ) → IsParted pull → IsShown pull idx
-all_shown (Triangle lower k) idx h = absurd h
-all_shown Reshape idx h = tt
-all_shown (Slice runs taken) idx h = tt
-all_shown (Permute axes) idx h = tt
-all_shown (Concat axis) idx h = tt
-all_shown (Stack axis) idx h = tt
-all_shown (Flip axes) idx h = tt
-all_shown (Roll shifts) idx h = tt
-all_shown Broadcast idx h = tt
-all_shown (Full value) idx h = tt
-all_shown (Arange start step) idx h = tt
-all_shown (Eye k) idx h = tt
-
-pub not_reshape : (pull : Pull) → IsParted pull → pull ≢ Reshape
-not_reshape pull h e = subst (λ (p : Pull). IsParted p) e h

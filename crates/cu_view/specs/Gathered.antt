@@ -1,5 +1,5 @@
 -- What moves from a source into a result. This project's own rules.
-use Rattle.std.specs.Prelude.{◌≡◌, ℕ, List}
+use Rattle.std.specs.Prelude.{◌≡◌, ℕ, ℤ, pos, ◌-ℤ◌, int_le, Bool, List, if◌then◌else◌}
 use Rattle.cu_num.specs.Element.{bytes_at, element_at, element_bytes}
 use Rattle.cu_num.specs.declared.layout.Endian.TheVariants.{Little}
 use Rattle.cu_view_box.specs.Block.{place_in}
@@ -14,3 +14,7 @@ HasMoved piece from bytes to new idx = bytes_at to.dtype new (place_in to idx) �
 -- an element of the result is as before
 abbrev pub IsSame : Block → List ℕ → List ℕ → List ℕ → Type 0
 IsSame to old new idx = bytes_at to.dtype new (place_in to idx) ≡ bytes_at to.dtype old (place_in to idx)
+
+-- the cell of this row and column lies in a triangle: on or below the k-th diagonal where `lower` holds, else on or above it
+abbrev pub is_cell : Bool → ℤ → ℕ → ℕ → Bool
+is_cell lower k row column = if lower then int_le (pos column -ℤ pos row) k else int_le k (pos column -ℤ pos row)

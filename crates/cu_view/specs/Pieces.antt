@@ -67,12 +67,6 @@ abbrev pub HasAxes : Pull → ℕ → Type 0
 HasAxes (Triangle lower k) rank = 2 ≤ rank
 HasAxes pull rank = Unit {0}
 
--- a view whose elements are those of its pieces, all of them
-abbrev pub IsParted : Pull → Type 0
-IsParted (Triangle lower k) = ⊥
-IsParted Reshape = ⊥
-IsParted pull = Unit {0}
-
 -- a piece by its number: its box has exactly the indices with this number, and what it reads there is where the element comes from,
 -- but for those outside a triangle
 pub record IsNumbered (pull : Pull) (sources : List (List ℕ)) (shape : List ℕ) (number : ℕ) (piece : Piece) : Type 0 where

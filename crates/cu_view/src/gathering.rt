@@ -1,17 +1,19 @@
 //! The elements of a result that come from a block of a source.
-ghost use Rattle.std.specs.Prelude.{◌≡◌, ◌<◌, [], ℕ, List, All, length, slice_index_or};
+ghost use Rattle.std.specs.Prelude.{◌≡◌, ◌≢◌, ◌<◌, [], ℕ, List, All, length, slice_index_or};
 ghost use Rattle.cu_num.specs.Element.{bytes_at, element_at, element_bytes};
 ghost use Rattle.cu_grid.specs.Counts.{IsRegion, IsWithin};
 ghost use Rattle.cu_pull.specs.Pull.{origin_of};
+ghost use Rattle.cu_pull.specs.declared.pull.Pull.TheVariants.{Reshape};
 ghost use Rattle.cu_pull.specs.declared.provenance.Provenance.TheVariants.{From};
-ghost use Rattle.cu_view_box.specs.Block.{place_in, IsBlock, AreSpelled};
+ghost use Rattle.cu_view_box.specs.Block.{place_in, IsBlock, IsMove, AreSpelled};
 ghost use Rattle.cu_view_box.specs.Piece.{HaveRanks, IsShared, IsWayOver};
 ghost use Rattle.cu_view.specs.Gathered.{HasMoved, IsSame};
-ghost use Rattle.cu_view.specs.Pieces.{IsParted};
+ghost use Rattle.cu_view.specs.Pieces.{HasAxes, IsShown};
 ghost use Rattle.cu_view.specs.View.{IsView};
 
-use crate::each::gather_each;
 use crate::pieces::{piece_at, piece_count};
+use crate::triangles::copy_triangle;
+use cu_grid::Region;
 use cu_num::Endian;
 use cu_pull::Pull;
 use cu_shape::Dims;
@@ -46,7 +48,6 @@ pub fn gather(
 {
     match pull {
         Pull::Reshape => reshape_gather(&sources[0], shape, from, bytes, to, output),
-        Pull::Triangle { .. } => gather_each(pull, sources, shape, source, from, bytes, to, output),
         Pull::Full { .. } | Pull::Arange { .. } | Pull::Eye { .. } => {}
         Pull::Slice { .. }
         | Pull::Permute { .. }
@@ -54,7 +55,10 @@ pub fn gather(
         | Pull::Stack { .. }
         | Pull::Flip { .. }
         | Pull::Roll { .. }
-        | Pull::Broadcast => gather_pieces(pull, sources, shape, source, from, bytes, to, output),
+        | Pull::Broadcast
+        | Pull::Triangle { .. } => gather_pieces(
+            pull, sources, shape, source, from, bytes, to, output,
+        ),
     }
 }
 
@@ -69,7 +73,7 @@ fn gather_pieces(
     to: &Block,
     output: &mut [u8],
 )
-    requires parted { IsParted pull.now }
+    requires parted { pull.now ≢ Reshape }
     requires view { IsView pull.now sources.now shape.now }
     requires source { source < length sources.now }
     requires from_region { IsRegion (slice_index_or sources.now source []) from.now.region.lo from.now.region.hi }
@@ -87,12 +91,13 @@ fn gather_pieces(
 {
     for number in 0..piece_count(pull, sources, shape) {
         let piece = piece_at(pull, sources, shape, number);
-        gather_piece(&piece, source, from, bytes, to, output);
+        gather_piece(pull, &piece, source, from, bytes, to, output);
     }
 }
 
 /// The same of one piece.
 fn gather_piece(
+    pull: &Pull,
     piece: &Piece,
     source: u32,
     from: &Block,
@@ -102,20 +107,48 @@ fn gather_piece(
 )
     requires ranks { piece.now.source ≡ source → HaveRanks piece.now to.now.region from.now.region }
     requires ways { All (IsWayOver piece.now.region.lo piece.now.region.hi) piece.now.ways.items }
+    requires axes { HasAxes pull.now (length piece.now.region.lo) }
     requires from_block { IsBlock from.now bytes.now }
     requires to_block { IsBlock to.now output.old }
     requires spelled { from.now.dtype ≡ to.now.dtype → AreSpelled from.now.dtype bytes.now }
-    ensures moved { (idx : List ℕ) → piece.now.source ≡ source → IsShared piece.now to.now.region.lo to.now.region.hi from.now.region.lo from.now.region.hi idx
+    ensures moved { (idx : List ℕ) → piece.now.source ≡ source → IsShared piece.now to.now.region.lo to.now.region.hi from.now.region.lo from.now.region.hi idx → IsShown pull.now idx
         → HasMoved piece.now from.now bytes.now to.now output.new idx }
     ensures others { (idx : List ℕ) → IsWithin to.now.region.lo to.now.region.hi idx
-        → (piece.now.source ≡ source → ¬ IsShared piece.now to.now.region.lo to.now.region.hi from.now.region.lo from.now.region.hi idx)
+        → (piece.now.source ≡ source → IsShared piece.now to.now.region.lo to.now.region.hi from.now.region.lo from.now.region.hi idx → ¬ IsShown pull.now idx)
         → IsSame to.now output.old output.new idx }
 {
     if piece.source != source {
         return;
     }
     match shared_box(piece, &to.region, &from.region) {
-        Some(shared) => copy_box(piece, &shared, from, bytes, to, output),
+        Some(shared) => copy_shown(pull, piece, &shared, from, bytes, to, output),
         None => {}
+    }
+}
+
+/// Copies the elements of a part of a piece, but for those outside a triangle.
+fn copy_shown(
+    pull: &Pull,
+    piece: &Piece,
+    shared: &Region,
+    from: &Block,
+    bytes: &[u8],
+    to: &Block,
+    output: &mut [u8],
+)
+    requires moves { IsMove piece.now shared.now from.now to.now }
+    requires axes { HasAxes pull.now (length shared.now.lo) }
+    requires from_block { IsBlock from.now bytes.now }
+    requires to_block { IsBlock to.now output.old }
+    requires spelled { from.now.dtype ≡ to.now.dtype → AreSpelled from.now.dtype bytes.now }
+    ensures moved { (idx : List ℕ) → IsWithin shared.now.lo shared.now.hi idx → IsShown pull.now idx → HasMoved piece.now from.now bytes.now to.now output.new idx }
+    ensures others { (idx : List ℕ) → IsWithin to.now.region.lo to.now.region.hi idx → (IsWithin shared.now.lo shared.now.hi idx → ¬ IsShown pull.now idx)
+        → IsSame to.now output.old output.new idx }
+{
+    match pull {
+        Pull::Triangle { lower, k } => {
+            copy_triangle(*lower, *k, piece, shared, from, bytes, to, output)
+        }
+        _ => copy_box(piece, shared, from, bytes, to, output),
     }
 }

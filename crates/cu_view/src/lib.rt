@@ -6,7 +6,6 @@
 
 mod boxes;
 mod constants;
-mod each;
 mod elements;
 mod fills;
 mod gathering;
@@ -16,6 +15,7 @@ mod origins;
 mod pieces;
 mod planned;
 mod touching;
+mod triangles;
 mod ways;
 
 pub use constants::lay_constants;
