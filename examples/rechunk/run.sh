@@ -2,15 +2,8 @@
 # Stores the arrays `m` (in columns) and `n` (in rows) in the folder that is given; shows the plan of a change of chunks in as little
 # memory as it takes, in some more, and in ample memory; runs and checks it; adds the arrays, whose chunks don't fit each other; and
 # stores `m` under another name. What it prints stands in `output`.
-if [ $# -ne 1 ]; then
-    echo "usage: examples/rechunk/run.sh DIR" >&2
-    exit 1
-fi
-mkdir -p -- "$1" && folder=$(CDPATH='' cd -- "$1" && pwd) || exit 1
-cd -- "$(dirname -- "$0")/../.." || exit 1
-for name in m n; do
-    ./cubed "$folder" load <examples/rechunk/$name.json || exit
-done
+. "$(dirname -- "$0")/../begin.sh"
+load rechunk/m rechunk/n
 for memory in 24 64 1000; do
     ./cubed "$folder" plan --allowed-mem $memory <examples/rechunk/rows.json || exit
 done
@@ -18,7 +11,5 @@ done
     ./cubed "$folder" check <examples/rechunk/rows.json &&
     ./cubed "$folder" print by_rows || exit
 for pair in sum:total copy:copied; do
-    ./cubed "$folder" plan <"examples/rechunk/${pair%:*}.json" &&
-        ./cubed "$folder" run <"examples/rechunk/${pair%:*}.json" &&
-        ./cubed "$folder" print "${pair#*:}" || exit
+    ./cubed "$folder" plan <"examples/rechunk/${pair%:*}.json" && show rechunk "$pair" || exit
 done
