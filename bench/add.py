@@ -103,6 +103,19 @@ def timed(words, text=""):
         return taken, ran.stdout.strip(), told.read().split()
 
 
+def tell(name, runs):
+    """Prints the least times of the program and of NumPy, which tells its own without its start, and the program's resident memory."""
+    best, _, told = min(runs["cubed"])
+    inside = min(float(said) for _, said, _ in runs["numpy"])
+    memory = f", resident {int(told[2]) / 1024:.1f} MiB" if told else ""
+    print(f"{name}: cubed {best:.3f} s{memory}, NumPy {inside:.3f} s without its start, ratio {best / inside:.2f}", flush=True)
+
+
+def see_that_it_is_built(program):
+    if not os.access(program, os.X_OK):
+        raise SystemExit(f"{program} isn't built yet: run ./cubed at the top of the repository once")
+
+
 def same(folder, one, other):
     for number in range(CHUNKS):
         paths = [os.path.join(folder, name, "c", str(number)) for name in (one, other)]
@@ -203,8 +216,7 @@ def main():
     if given.numpy:
         print(add_by_numpy(given.numpy, OUTPUTS["numpy"], True))
         return
-    if not os.access(given.program, os.X_OK):
-        raise SystemExit(f"{given.program} isn't built yet: run ./cubed at the top of the repository once")
+    see_that_it_is_built(given.program)
     print(f"two int32 arrays of {ELEMENTS} elements in {CHUNKS} chunks of {CHUNK_BYTES} bytes, "
           f"{os.cpu_count()} processors, the best of {given.runs} runs")
     for parent in given.dir or [tempfile.gettempdir(), *filter(os.path.isdir, ["/dev/shm"])]:

@@ -20,7 +20,7 @@ import sys
 import tempfile
 import time
 
-from add import GNU_TIME, PROGRAM, store, timed
+from add import GNU_TIME, PROGRAM, see_that_it_is_built, store, timed
 
 CHUNK = 1 << 20
 CHUNK_BYTES = 4 * CHUNK
@@ -268,8 +268,7 @@ def main():
         peer, folder = given.peer
         print(by_dask(folder) if peer == "dask" else by_numpy(folder, peer == "numpy"))
         return
-    if not os.access(given.program, os.X_OK):
-        raise SystemExit(f"{given.program} isn't built yet: run ./cubed at the top of the repository once")
+    see_that_it_is_built(given.program)
     if not os.access(GNU_TIME, os.X_OK):
         print(f"without {GNU_TIME} no memory is told")
     print(f"(a*2 + b) > c over three int32 arrays of {given.mebibytes} MiB in chunks of {CHUNK_BYTES >> 20} MiB, {os.cpu_count()} processors,"

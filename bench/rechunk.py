@@ -19,7 +19,7 @@ import sys
 import tempfile
 import time
 
-from add import GNU_TIME, PROGRAM, timed
+from add import GNU_TIME, PROGRAM, see_that_it_is_built, timed
 from elementwise import can_import
 
 MIB = 1 << 20
@@ -193,8 +193,7 @@ def main():
         print(by_dask(folder, int(strip), peer == "dask"))
         return
     given.program = os.path.abspath(given.program)
-    if not os.access(given.program, os.X_OK):
-        raise SystemExit(f"{given.program} isn't built yet: run ./cubed at the top of the repository once")
+    see_that_it_is_built(given.program)
     if not os.access(GNU_TIME, os.X_OK):
         print(f"without {GNU_TIME} no memory is told")
     given.dir = given.dir or [*filter(os.path.isdir, ["/dev/shm"]), tempfile.gettempdir()]

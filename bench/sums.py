@@ -19,7 +19,7 @@ import time
 
 import numpy
 
-from add import PROGRAM, store, timed
+from add import PROGRAM, store, tell, timed
 from views import metadata, same_files
 
 SIDE, CHUNKS, BLOCK, BLOCKS = 1024, 8, 128, 4
@@ -126,10 +126,7 @@ def measure(program, folder, name, rounds, python):
         same = same_files(folder)
     if not same:
         raise SystemExit(f"{name}: the chunks of NumPy and of the program differ")
-    best, _, told = min(runs["cubed"])
-    inside = min(float(said) for _, said, _ in runs["numpy"])
-    memory = f", resident {int(told[2]) / 1024:.1f} MiB" if told else ""
-    print(f"{name}: cubed {best:.3f} s{memory}, NumPy {inside:.3f} s without its start, ratio {best / inside:.2f}", flush=True)
+    tell(name, runs)
 
 
 def main():
