@@ -1,5 +1,6 @@
 #!/usr/bin/env python3
-"""Writes the tables of cases of `run` over elementwise expressions: elementwise.json and refusals.json in crates/cu_cases/data.
+"""Writes the tables of cases of `run` over elementwise expressions: elementwise.json, lengths.json and refusals.json in
+crates/cu_cases/data.
 
 usage: tools/elementwise_cases.py
 
@@ -415,6 +416,35 @@ def elementwise_cases():
         *function_cases()]
 
 
+# Lengths: each function at some, and each length from 0 to 131 by a function of one type and one of two types
+
+PARTNERS = {"int8": "int16", "int16": "uint8", "int32": "int8", "int64": "uint32",
+            "uint8": "uint16", "uint16": "uint64", "uint32": "uint8", "uint64": "uint16"}
+TWO = [op for op, row in rules.FUNCTIONS.items() if row[0] == 2 and op not in rules.LOGICAL]
+
+
+def numbers(dtype, count, seed):
+    """Returns so many numbers of a type, its ends, 0 and small ones among them."""
+    bits = 8 * rules.SIZES[dtype]
+    ends = [0, 1, 2, -1, 7, 2**(bits - 1) - 1, 2**(bits - 1), 2**bits - 1]
+    return [rules.wrapped(dtype, ends[(at * 5 + seed) % 8] if at % 3 else (at * at + seed) * 0x9E3779B97F4A7C15 >> at % 60) for at in range(count)]
+
+
+def length_row(length):
+    """Returns a run over arrays of one length: a function of two arrays of a type, and one of its result and an array of another type."""
+    first, second = TWO[length % len(TWO)], TWO[(5 * length + 2) % len(TWO)]
+    dtype = list(PARTNERS)[(length + length // 8) % 8]
+    arrays = {name: line_of(kind, numbers(kind, length, seed), max(length, 1))
+              for name, kind, seed in (("a", dtype, 3 * length), ("b", dtype, length + 1), ("c", PARTNERS[dtype], length))}
+    last = node("t", second, "s", "c") if first in rules.ARITHMETIC or first in rules.BITWISE else node("t", "where", "s", "a", "c")
+    return ran(arrays, expression([*inputs_of("a", "b", "c"), node("s", first, "a", "b"), last]))
+
+
+def length_cases():
+    return [{"name": f"lengths from {least} to {least + 32}", "rows": [length_row(length) for length in range(least, least + 33)]}
+            for least in range(0, 132, 33)]
+
+
 # Refusals
 
 def metadata_of(dtype, shape, chunk):
@@ -664,6 +694,7 @@ def write(file, cases):
 
 def main():
     write("elementwise.json", elementwise_cases())
+    write("lengths.json", length_cases())
     write("refusals.json", refusal_cases())
 
 

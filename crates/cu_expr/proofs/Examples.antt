@@ -14,6 +14,7 @@ use Rattle.cu_form.specs.declared.args.Arg.TheVariants as arg
 use Rattle.cu_form.specs.declared.expr.Node.{Node}
 use Rattle.cu_node.specs.declared.element_op.ElementOp.TheVariants.{One, Two}
 use Rattle.cu_form.specs.declared.form.Form.{Form}
+use Rattle.cu_node.specs.declared.new_shape.NewShape.{NewShape}
 use Rattle.cu_form.specs.Expression.{Expression}
 use Rattle.cu_node.specs.Info.{info_of}
 use Rattle.cu_expr.specs.Typing.{typed}
@@ -70,7 +71,7 @@ sum_of_nothing = refl
 greatest_of_nothing : typed (stored x Int32 (0 ∷ []) (4 ∷ []) ∷ []) (reduction (Form.Reduce Max (arg.Node 0 ∷ []) None false)) ≡ Err (fault_at_node 4 1 0)
 greatest_of_nothing = refl
 
-reshaped : typed (stored x Int8 (4 ∷ 3 ∷ []) (2 ∷ 3 ∷ []) ∷ []) (reduction (Form.Reshape (arg.Node 0 ∷ []) (pos 5 ∷ pos 2 ∷ []))) ≡ Err (fault_at_node 8 1 0)
+reshaped : typed (stored x Int8 (4 ∷ 3 ∷ []) (2 ∷ 3 ∷ []) ∷ []) (reduction (Form.Reshape (arg.Node 0 ∷ []) (NewShape.Sizes (pos 5 ∷ pos 2 ∷ [])))) ≡ Err (fault_at_node 8 1 0)
 reshaped = refl
 
 -- the first node's fault is answered, and nothing is typed after it

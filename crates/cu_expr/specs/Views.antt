@@ -8,9 +8,10 @@ use Rattle.cu_node.specs.declared.faults.NodeFault.{NodeFault}
 use Rattle.cu_node.specs.declared.info.NodeInfo.{NodeInfo}
 use Rattle.cu_typing_view.specs.Creation.{typed_full, typed_arange, typed_eye}
 use Rattle.cu_typing_view.specs.Entries.{typed_index}
+use Rattle.cu_typing_view.specs.NewShapes.{typed_new_shape}
 use Rattle.cu_typing_view.specs.Pieces.{typed_concat, typed_stack}
-use Rattle.cu_typing_view.specs.Rearranged.{typed_triangle, typed_permute, typed_expand, typed_squeeze, typed_flip, typed_roll}
-use Rattle.cu_typing_view.specs.Reshaped.{typed_reshape, typed_broadcast, typed_rechunk}
+use Rattle.cu_typing_view.specs.Rearranged.{typed_triangle, typed_permute, typed_flip, typed_roll}
+use Rattle.cu_typing_view.specs.Reshaped.{typed_broadcast, typed_rechunk}
 
 -- arrays that are made from no other
 abbrev pub typed_made : Form → Result NodeInfo NodeFault
@@ -24,9 +25,7 @@ abbrev pub typed_view : Form → NodeInfo → Result NodeInfo NodeFault
 typed_view (Form.Triangle lower args k) i = typed_triangle i
 typed_view (Form.Index args items) i = typed_index i items
 typed_view (Form.PermuteDims args axes) i = typed_permute i axes
-typed_view (Form.Reshape args shape) i = typed_reshape i shape
-typed_view (Form.ExpandDims args axis) i = typed_expand i axis
-typed_view (Form.Squeeze args axes) i = typed_squeeze i axes
+typed_view (Form.Reshape args shape) i = typed_new_shape i shape
 typed_view (Form.Flip args axes) i = typed_flip i axes
 typed_view (Form.Roll args shifts axes) i = typed_roll i shifts axes
 typed_view (Form.BroadcastTo args shape chunk) i = typed_broadcast i shape chunk

@@ -72,8 +72,6 @@ fn type_form(
         | Form::Index { .. }
         | Form::PermuteDims { .. }
         | Form::Reshape { .. }
-        | Form::ExpandDims { .. }
-        | Form::Squeeze { .. }
         | Form::Flip { .. }
         | Form::Roll { .. }
         | Form::BroadcastTo { .. }

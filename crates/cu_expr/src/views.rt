@@ -9,9 +9,8 @@ ghost use Rattle.cu_expr.specs.Views.{typed_made, typed_view, typed_pieces};
 use cu_form::Form;
 use cu_node::{FaultCode, NodeFault, NodeInfo, fault};
 use cu_typing_view::{
-    type_arange, type_broadcast, type_concat, type_expand, type_eye, type_flip, type_full,
-    type_index, type_permute, type_rechunk, type_reshape, type_roll, type_squeeze, type_stack,
-    type_triangle,
+    type_arange, type_broadcast, type_concat, type_eye, type_flip, type_full, type_index,
+    type_new_shape, type_permute, type_rechunk, type_roll, type_stack, type_triangle,
 };
 
 /// An array that is made from no other.
@@ -57,9 +56,7 @@ pub(crate) fn type_view(form: &Form, array: &NodeInfo) -> Result<NodeInfo, NodeF
         Form::Triangle { .. } => type_triangle(array),
         Form::Index { items, .. } => type_index(array, items.as_slice()),
         Form::PermuteDims { axes, .. } => type_permute(array, axes.as_slice()),
-        Form::Reshape { shape, .. } => type_reshape(array, shape.as_slice()),
-        Form::ExpandDims { axis, .. } => type_expand(array, *axis),
-        Form::Squeeze { axes, .. } => type_squeeze(array, axes.as_slice()),
+        Form::Reshape { shape, .. } => type_new_shape(array, shape),
         Form::Flip {
             axes: Some(axes),
             ..

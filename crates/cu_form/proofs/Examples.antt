@@ -5,6 +5,7 @@ use Rattle.cu_num.specs.declared.types.Dtype.TheVariants.{Int32}
 use Rattle.cu_form.specs.declared.args.Arg.{Arg}
 use Rattle.cu_node.specs.declared.literal.Literal.{Literal}
 use Rattle.cu_node.specs.declared.element_op.ElementOp.{ElementOp}
+use Rattle.cu_node.specs.declared.new_shape.NewShape.{NewShape}
 use Rattle.cu_form.specs.declared.form.Form.{Form}
 use Rattle.cu_form.specs.Form.{takes_args, names_earlier, in_ranges}
 
@@ -34,10 +35,10 @@ itself : names_earlier 1 (Form.Matmul (Arg.Node 0 ∷ Arg.Node 1 ∷ [])) ≡ fa
 itself = refl
 
 -- one size that is left, and two
-one_left : in_ranges (Form.Reshape (Arg.Node 0 ∷ []) (pos 3 ∷ negsuc 0 ∷ [])) ≡ true
+one_left : in_ranges (Form.Reshape (Arg.Node 0 ∷ []) (NewShape.Sizes (pos 3 ∷ negsuc 0 ∷ []))) ≡ true
 one_left = refl
 
-two_left : in_ranges (Form.Reshape (Arg.Node 0 ∷ []) (negsuc 0 ∷ negsuc 0 ∷ [])) ≡ false
+two_left : in_ranges (Form.Reshape (Arg.Node 0 ∷ []) (NewShape.Sizes (negsuc 0 ∷ negsuc 0 ∷ []))) ≡ false
 two_left = refl
 
 -- the least and the greatest size of a chunk, and one past each

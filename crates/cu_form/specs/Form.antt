@@ -1,10 +1,11 @@
 -- The form of a node of an expression, apart from the text that it is read from (this project's own form).
-use Rattle.std.specs.Prelude.{ℕ, ◌<◌, ◌^◌, ◌-◌, ◌&&◌, ◌||◌, ◌==◌, not, nat_lt, nat_le, ℤ, pos, negsuc, neg_ℤ, int_lt, Bool, true, false, List, [], ◌∷◌, length, count_by, ◌≡◌}
+use Rattle.std.specs.Prelude.{ℕ, ◌<◌, ◌^◌, ◌-◌, ◌&&◌, ◌||◌, not, nat_lt, nat_le, ℤ, pos, neg_ℤ, int_lt, Bool, true, false, List, [], ◌∷◌, length, ◌≡◌}
 use Rattle.std.specs.List.{list_all}
 use Rattle.cu_name.specs.Name.{is_name}
 use Rattle.cu_num.specs.declared.functions.Fn1.TheVariants as fn1
 use Rattle.cu_form.specs.declared.args.Arg.{Arg}
 use Rattle.cu_node.specs.declared.literal.Literal.{Literal}
+use Rattle.cu_node.specs.NewShape.{is_size, is_new_shape}
 use Rattle.cu_node.specs.declared.element_op.ElementOp.{ElementOp}
 use Rattle.cu_form.specs.declared.form.Form.{Form}
 
@@ -19,8 +20,6 @@ args_of (Form.Concat args axis) = args
 args_of (Form.Stack args axis) = args
 args_of (Form.PermuteDims args axes) = args
 args_of (Form.Reshape args shape) = args
-args_of (Form.ExpandDims args axis) = args
-args_of (Form.Squeeze args axes) = args
 args_of (Form.Flip args axes) = args
 args_of (Form.Roll args shifts axes) = args
 args_of (Form.BroadcastTo args shape chunk) = args
@@ -71,22 +70,9 @@ takes_args form = are_arrays 1 1 (args_of form)
 
 -- ---- members
 
--- a size of an axis
-abbrev pub is_size : ℕ → Bool
-is_size n = nat_le n (2 ^ 40)
-
 -- a size of a chunk on an axis
 abbrev pub is_chunk_size : ℕ → Bool
 is_chunk_size n = nat_le 1 n && nat_le n (2 ^ 40)
-
--- a size of an axis of `reshape`, or -1, which stands for the size that is left
-abbrev pub is_new_size : ℤ → Bool
-is_new_size (pos n) = is_size n
-is_new_size (negsuc n) = n == 0
-
--- such sizes, at most one of them -1
-abbrev pub are_new_sizes : List ℤ → Bool
-are_new_sizes shape = list_all is_new_size shape && nat_le (count_by (λ x. int_lt x (pos 0)) shape) 1
 
 -- an integer that may be written: from -2^63 to 2^64 - 1
 abbrev pub is_written : ℤ → Bool
@@ -112,7 +98,7 @@ in_ranges (Form.Elementwise op args) = is_function op && list_all is_written_arg
 in_ranges (Form.Full shape dtype value chunk) = list_all is_size shape && is_written_value value && list_all is_chunk_size chunk
 in_ranges (Form.Arange start stop step dtype chunk) = list_all is_chunk_size chunk
 in_ranges (Form.Eye rows cols k dtype chunk) = is_size rows && is_size cols && list_all is_chunk_size chunk
-in_ranges (Form.Reshape args shape) = are_new_sizes shape
+in_ranges (Form.Reshape args shape) = is_new_shape shape
 in_ranges (Form.BroadcastTo args shape chunk) = list_all is_size shape && list_all is_chunk_size chunk
 in_ranges (Form.Rechunk args chunk) = list_all is_chunk_size chunk
 in_ranges form = true

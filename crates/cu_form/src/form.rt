@@ -3,9 +3,8 @@ ghost use Rattle.std.specs.List.{list_all};
 ghost use Rattle.cu_form.specs.Form.{args_of, is_earlier, names_earlier, is_array, are_arrays, element_takes, takes_args};
 
 use crate::args::Arg;
-use crate::items::Items;
 use cu_name::IdText;
-use cu_node::{ElementOp, IndexItem, Literal};
+use cu_node::{ElementOp, IndexItem, Items, Literal, NewShape};
 use cu_num::{Dtype, FoldKind};
 
 /// What a node of an expression is: its operator with the members of its row. Lists may have any length. Axes and shifts
@@ -66,18 +65,10 @@ pub enum Form {
         args: Items<Arg>,
         axes: Items<i64>,
     },
-    /// to this shape, in which one size may be -1
+    /// `reshape`, `expand_dims` and `squeeze`
     Reshape {
         args: Items<Arg>,
-        shape: Items<i64>,
-    },
-    ExpandDims {
-        args: Items<Arg>,
-        axis: i64,
-    },
-    Squeeze {
-        args: Items<Arg>,
-        axes: Items<i64>,
+        shape: NewShape,
     },
     /// along these axes, or along all
     Flip {
@@ -147,8 +138,6 @@ impl Form {
             | Form::Stack { args, .. }
             | Form::PermuteDims { args, .. }
             | Form::Reshape { args, .. }
-            | Form::ExpandDims { args, .. }
-            | Form::Squeeze { args, .. }
             | Form::Flip { args, .. }
             | Form::Roll { args, .. }
             | Form::BroadcastTo { args, .. }

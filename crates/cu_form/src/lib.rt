@@ -4,10 +4,8 @@
 mod args;
 mod expr;
 mod form;
-mod items;
 
 pub use args::Arg;
-pub use cu_node::{ElementOp, IndexItem, Literal};
+pub use cu_node::{ElementOp, IndexItem, Items, Literal, NewShape};
 pub use expr::{Expr, Node};
 pub use form::Form;
-pub use items::Items;

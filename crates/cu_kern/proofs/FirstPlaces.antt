@@ -1,5 +1,5 @@
 -- The place of a region that a place in the first piece reads.
-use Rattle.std.proofs.Common.{◌≡◌, ◌==◌, zero, suc, ℕ, ◌+◌, ◌-◌, ◌*◌, ◌/◌, ◌%◌, ◌<◌, ◌≤◌, Bool, true, false, if◌then◌else◌, List, [], ◌∷◌, length, drop, refl, ap, sym, ◌∙◌, arith}
+use Rattle.std.proofs.Common.{◌≡◌, ◌==◌, zero, suc, ℕ, ◌+◌, ◌-◌, ◌*◌, ◌/◌, ◌%◌, ◌<◌, Bool, true, false, if◌then◌else◌, List, [], ◌∷◌, length, drop, refl, ap, sym, ◌∙◌, arith}
 use Rattle.cu_shape.specs.Index.{product, place_of, index_at, back_along, back}
 use Rattle.cu_kern.specs.Lays.{IsRun, place_read}
 

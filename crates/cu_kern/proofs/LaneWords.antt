@@ -15,7 +15,7 @@ use Rattle.cu_num.proofs.WordNumbers.{number_of-IsWord, number_of-word_of}
 use Rattle.cu_num.specs.declared.types.Dtype.{Dtype}
 use Rattle.cu_num.specs.declared.types.Dtype.TheVariants.{Bool}
 use Rattle.cu_num.specs.declared.functions.Fn1.{Fn1}
-use Rattle.cu_num.specs.declared.functions.Fn1.TheVariants.{Negative, Positive, Abs, Square, Sign, BitwiseInvert, LogicalNot, Astype}
+use Rattle.cu_num.specs.declared.functions.Fn1.TheVariants.{Astype}
 use Rattle.cu_num.specs.declared.functions.Fn2.{Fn2}
 use Rattle.cu_op.specs.Kernel.{selected}
 use Rattle.cu_op.specs.KernelTypes.{IsArgument}
@@ -73,14 +73,8 @@ cast_argument from t w x h =
     ap (wrapped t) (ap (number_of t) (word_is from w x h) ∙ number_of-word_of t from x (word_range from w x h)) ∙ wrapped-wrapped t x
 
 value1 : (f : Fn1) (from t : Dtype) (w : ℕ) (x : ℤ) → IsArgument f from t → IsWord from w x → op1 f t (number_of t w) ≡ op1 f t x
-value1 Negative from t w x a h = same_argument Negative from t w x a h
-value1 Positive from t w x a h = same_argument Positive from t w x a h
-value1 Abs from t w x a h = same_argument Abs from t w x a h
-value1 Square from t w x a h = same_argument Square from t w x a h
-value1 Sign from t w x a h = same_argument Sign from t w x a h
-value1 BitwiseInvert from t w x a h = same_argument BitwiseInvert from t w x a h
-value1 LogicalNot from t w x a h = same_argument LogicalNot from t w x a h
 value1 Astype from t w x a h = cast_argument from t w x h
+value1 f from t w x a h = same_argument f from t w x a h
 
 pub place1 : (f : Fn1) (t : Dtype) (w r : ℕ) → r ≡ word_of (op1 f t (number_of t w)) → Place1 f t w r
 place1 f t w r e from x a h = is_word (result_type1 f t) r (op1 f t x) (e ∙ ap word_of (value1 f from t w x a h)) (InRange-op1 f t x)

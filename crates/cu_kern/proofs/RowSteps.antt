@@ -1,11 +1,11 @@
 -- A row of places, between two steps of a kernel.
-use Rattle.std.proofs.Common.{◌≡◌, ◌≢◌, ℕ, suc, zero, ◌+◌, ◌-◌, ◌*◌, ◌<◌, ◌≤◌, List, [], ◌∷◌, ◌++◌, length, take, drop, Option, None, Some, refl, ap, sym, ◌∙◌, subst, arith, ℤ, ⊎_elim, ◌⊎◌, inl, inr, length-append}
+use Rattle.std.proofs.Common.{◌≡◌, ◌≢◌, ℕ, ◌+◌, ◌-◌, ◌*◌, ◌<◌, ◌≤◌, List, [], ◌∷◌, ◌++◌, length, take, drop, Option, None, Some, refl, ap, sym, ◌∙◌, subst, arith, ℤ, ⊎_elim, length-append}
 use Rattle.std.specs.List.{slice_get}
 use Rattle.std.specs.Option.{option_map, option_and_then}
 use Rattle.std.proofs.lemmas.Option.{same_Some, slice_get_within}
-use Rattle.std.proofs.lemmas.List.{drop_all, drop-drop, take_at, drop_at}
+use Rattle.std.proofs.lemmas.List.{drop-drop, take_at, drop_at}
 use Rattle.cu_num.specs.Dtype.{size_of}
-use Rattle.cu_num.specs.Element.{element_at, bytes_at}
+use Rattle.cu_num.specs.Element.{element_at}
 use Rattle.cu_num.proofs.ElementBytes.{element_at_same}
 use Rattle.cu_num.specs.declared.types.Dtype.{Dtype}
 use Rattle.cu_num.specs.declared.layout.Endian.TheVariants.{Little}

@@ -1,63 +1,10 @@
-//! Calls on words: each does at every place what a scalar call does for one number.
+//! Calls on words that choose, load, save and fill. Those of a function stand in `lane_functions`.
 ghost use Rattle.std.specs.Prelude.{◌≡◌, ◌*◌, ◌==◌, ℕ, ◌<◌, if◌then◌else◌, length, slice_index};
 ghost use Rattle.cu_num.specs.Dtype.{size_of};
-ghost use Rattle.cu_kern.specs.Lanes.{HasValues1, HasValues2, HasSelected, HasWords, HasElements};
+ghost use Rattle.cu_kern.specs.Lanes.{HasSelected, HasWords, HasElements};
 
-use crate::lane_functions::{
-    lane_abs, lane_add, lane_astype, lane_bitwise_and, lane_bitwise_invert, lane_bitwise_or,
-    lane_bitwise_xor, lane_equal, lane_floor_divide, lane_greater, lane_greater_equal,
-    lane_left_shift, lane_less, lane_less_equal, lane_logical_and, lane_logical_not,
-    lane_logical_or, lane_logical_xor, lane_multiply, lane_negative, lane_not_equal, lane_positive,
-    lane_remainder, lane_right_shift, lane_sign, lane_square, lane_subtract,
-};
 use crate::lane_loops::{load_each, save_each};
-use cu_num::{Dtype, Fn1, Fn2};
-
-/// The words of a function of one argument.
-pub(crate) fn lane1(f: Fn1, t: Dtype, x: &[u64], out: &mut [u64])
-    requires { length x.now ≡ length out.old }
-    ensures { HasValues1 f t x.now out.new }
-{
-    match f {
-        Fn1::Negative => lane_negative(t, x, out),
-        Fn1::Positive => lane_positive(t, x, out),
-        Fn1::Abs => lane_abs(t, x, out),
-        Fn1::Square => lane_square(t, x, out),
-        Fn1::Sign => lane_sign(t, x, out),
-        Fn1::BitwiseInvert => lane_bitwise_invert(t, x, out),
-        Fn1::LogicalNot => lane_logical_not(t, x, out),
-        Fn1::Astype => lane_astype(t, x, out),
-    }
-}
-
-/// The words of a function of two arguments, which are numbers of the type.
-pub(crate) fn lane2(f: Fn2, t: Dtype, x: &[u64], y: &[u64], out: &mut [u64])
-    requires first { length x.now ≡ length out.old }
-    requires second { length y.now ≡ length out.old }
-    ensures { HasValues2 f t x.now y.now out.new }
-{
-    match f {
-        Fn2::Add => lane_add(t, x, y, out),
-        Fn2::Subtract => lane_subtract(t, x, y, out),
-        Fn2::Multiply => lane_multiply(t, x, y, out),
-        Fn2::FloorDivide => lane_floor_divide(t, x, y, out),
-        Fn2::Remainder => lane_remainder(t, x, y, out),
-        Fn2::BitwiseAnd => lane_bitwise_and(t, x, y, out),
-        Fn2::BitwiseOr => lane_bitwise_or(t, x, y, out),
-        Fn2::BitwiseXor => lane_bitwise_xor(t, x, y, out),
-        Fn2::LeftShift => lane_left_shift(t, x, y, out),
-        Fn2::RightShift => lane_right_shift(t, x, y, out),
-        Fn2::Equal => lane_equal(t, x, y, out),
-        Fn2::NotEqual => lane_not_equal(t, x, y, out),
-        Fn2::Less => lane_less(t, x, y, out),
-        Fn2::LessEqual => lane_less_equal(t, x, y, out),
-        Fn2::Greater => lane_greater(t, x, y, out),
-        Fn2::GreaterEqual => lane_greater_equal(t, x, y, out),
-        Fn2::LogicalAnd => lane_logical_and(t, x, y, out),
-        Fn2::LogicalOr => lane_logical_or(t, x, y, out),
-        Fn2::LogicalXor => lane_logical_xor(t, x, y, out),
-    }
-}
+use cu_num::Dtype;
 
 /// Where the first word is 1 the second, else the third.
 pub(crate) fn lane_select(c: &[u64], x: &[u64], y: &[u64], out: &mut [u64])

@@ -6,7 +6,8 @@ ghost use Rattle.cu_op.specs.KernelTypes.{KernelFits};
 ghost use Rattle.cu_kern.specs.Lays.{LayFits, lay_types, HasValue};
 ghost use Rattle.cu_kern.specs.Steps.{HasRow, NamesBefore, StepHolds, loaded_by_place, value_by_place};
 
-use crate::lanes::{lane_fill, lane_save, lane_select, lane1, lane2};
+use crate::lane_functions::{lane1, lane2};
+use crate::lanes::{lane_fill, lane_save, lane_select};
 use crate::lays::{Lay, load_lay};
 use cu_num::{Dtype, size, word};
 use cu_op::Instr;

@@ -6,7 +6,7 @@ ghost use Rattle.cu_num.specs.declared.types.Dtype.TheVariants.{Bool};
 ghost use Rattle.cu_kern.specs.Strips.{strip, IsCall, HasArguments, HasResults};
 
 use crate::calls::Call;
-use crate::strips::{Strip, compare_each, one_from, pair_each, select_from};
+use crate::strips::{Strip, compare_each, compare_fours, one_from, pair_each, select_from};
 use cu_num::{Dtype, Fn1, Fn2};
 
 /// A function of one argument other than `Astype`, with loops for each type.
@@ -122,9 +122,25 @@ fn compare_by_step(f: Fn2, t: Dtype, x: &[u8], y: &[u8], y_step: usize, out: &mu
     ensures { HasResults (Call.Two f t) (strip x.now 1) (strip y.now y_step) (strip y.now y_step) out.new }
 {
     if y_step == 0 {
-        compare_each(f, t, x, 1, y, 0, out);
+        compare_each(f, t, x, y, 0, out);
     } else {
-        compare_each(f, t, x, 1, y, 1, out);
+        compare_each(f, t, x, y, 1, out);
+    }
+}
+
+/// `compare_by_step` in a long run. The calls go over the types: a function with such loops for each would grow so large that they
+/// were no longer built for the call.
+#[inline(always)]
+pub(crate) fn compare_long(f: Fn2, t: Dtype, x: &[u8], y: &[u8], y_step: usize, out: &mut [u8])
+    requires truth { result_type2 f t ≡ Bool }
+    requires some { 64 ≤ length out.old }
+    requires arguments { HasArguments (Call.Two f t) (strip x.now 1) (strip y.now y_step) (strip y.now y_step) (length out.old) }
+    ensures { HasResults (Call.Two f t) (strip x.now 1) (strip y.now y_step) (strip y.now y_step) out.new }
+{
+    if y_step == 0 {
+        compare_fours(f, t, x, y, 0, out);
+    } else {
+        compare_fours(f, t, x, y, 1, out);
     }
 }
 

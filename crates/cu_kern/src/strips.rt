@@ -65,52 +65,67 @@ pub(crate) fn pair_each(
     }
 }
 
-/// A function of two arguments that gives truth values. They are gathered sixteen at a time, so that a compiler takes as many
-/// together where the arguments are wider; the last sixteen are taken with some before them.
+/// A function of two arguments that gives truth values, sixteen at a time; the last sixteen are made with some before them.
 #[inline(always)]
-pub(crate) fn compare_each(
-    f: Fn2,
-    t: Dtype,
-    x: &[u8],
-    x_step: usize,
-    y: &[u8],
-    y_step: usize,
-    out: &mut [u8],
-)
+pub(crate) fn compare_each(f: Fn2, t: Dtype, x: &[u8], y: &[u8], y_step: usize, out: &mut [u8])
     requires truth { result_type2 f t ≡ Bool }
     requires some { 16 ≤ length out.old }
-    requires arguments { HasArguments (Call.Two f t) (strip x.now x_step) (strip y.now y_step) (strip y.now y_step) (length out.old) }
-    ensures { HasResults (Call.Two f t) (strip x.now x_step) (strip y.now y_step) (strip y.now y_step) out.new }
+    requires arguments { HasArguments (Call.Two f t) (strip x.now 1) (strip y.now y_step) (strip y.now y_step) (length out.old) }
+    ensures { HasResults (Call.Two f t) (strip x.now 1) (strip y.now y_step) (strip y.now y_step) out.new }
 {
     let count = out.len();
     for block in 0..count.div_ceil(16) {
         let from = (block * 16).min(count - 16);
-        let part = sixteen(f, t, x, x_step, y, y_step, from);
-        out[from..from + 16].copy_from_slice(&part);
+        put_sixteen(f, t, x, y, y_step, from, out);
     }
+}
+
+/// `compare_each`, four times sixteen in a step. Where the arguments lie beyond the nearest cache this was measured to be faster:
+/// it seems that a processor then fetches ahead in time what the same instruction reads in the next step.
+#[inline(always)]
+pub(crate) fn compare_fours(f: Fn2, t: Dtype, x: &[u8], y: &[u8], y_step: usize, out: &mut [u8])
+    requires truth { result_type2 f t ≡ Bool }
+    requires some { 64 ≤ length out.old }
+    requires arguments { HasArguments (Call.Two f t) (strip x.now 1) (strip y.now y_step) (strip y.now y_step) (length out.old) }
+    ensures { HasResults (Call.Two f t) (strip x.now 1) (strip y.now y_step) (strip y.now y_step) out.new }
+{
+    let count = out.len();
+    for block in 0..count.div_ceil(64) {
+        let from = (block * 64).min(count - 64);
+        put_sixteen(f, t, x, y, y_step, from, out);
+        put_sixteen(f, t, x, y, y_step, from + 16, out);
+        put_sixteen(f, t, x, y, y_step, from + 32, out);
+        put_sixteen(f, t, x, y, y_step, from + 48, out);
+    }
+}
+
+/// Sixteen truth values more, where those before `from` are there. They are gathered in an array, so that a compiler takes as many
+/// together where the arguments are wider.
+#[inline(always)]
+fn put_sixteen(f: Fn2, t: Dtype, x: &[u8], y: &[u8], y_step: usize, from: usize, out: &mut [u8])
+    requires truth { result_type2 f t ≡ Bool }
+    requires room { from + 16 ≤ length out.old }
+    requires done { ResultsBelow (Call.Two f t) (strip x.now 1) (strip y.now y_step) (strip y.now y_step) from out.old }
+    requires arguments { HasArguments (Call.Two f t) (strip x.now 1) (strip y.now y_step) (strip y.now y_step) (length out.old) }
+    ensures { ResultsBelow (Call.Two f t) (strip x.now 1) (strip y.now y_step) (strip y.now y_step) (from + 16) out.new }
+{
+    let part = sixteen(f, t, x, y, y_step, from);
+    out[from..from + 16].copy_from_slice(&part);
 }
 
 /// Sixteen truth values.
 #[inline(always)]
-fn sixteen(
-    f: Fn2,
-    t: Dtype,
-    x: &[u8],
-    x_step: usize,
-    y: &[u8],
-    y_step: usize,
-    from: usize,
-) -> [u8; 16]
+fn sixteen(f: Fn2, t: Dtype, x: &[u8], y: &[u8], y_step: usize, from: usize) -> [u8; 16]
     requires truth { result_type2 f t ≡ Bool }
     requires small { from < 2 ^ 63 }
-    requires places { (k : ℕ) → k < 16 → HasPlace (Call.Two f t) (strip x.now x_step) (strip y.now y_step) (strip y.now y_step) (from + k) }
-    ensures { HasPart (Call.Two f t) (strip x.now x_step) (strip y.now y_step) (strip y.now y_step) from result }
+    requires places { (k : ℕ) → k < 16 → HasPlace (Call.Two f t) (strip x.now 1) (strip y.now y_step) (strip y.now y_step) (from + k) }
+    ensures { HasPart (Call.Two f t) (strip x.now 1) (strip y.now y_step) (strip y.now y_step) from result }
 {
     let r = result2(f, t);
     let mut part = [0; 16];
     for k in 0..16 {
         let at = from + k;
-        let value = value2(f, t, load(t, x, x_step * at), load(t, y, y_step * at));
+        let value = value2(f, t, load(t, x, at), load(t, y, y_step * at));
         save(r, value, &mut part, k);
     }
     part

@@ -3,14 +3,12 @@ use Rattle.std.proofs.Common.{◌≡◌, ◌⊎◌, inl, inr, ℕ, zero, suc, �
 use Rattle.std.specs.Prelude.{option_and_then}
 use Rattle.std.proofs.lemmas.Int.{ints}
 use Rattle.std.proofs.lemmas.List.{append-nil, append_assoc}
-use Rattle.cu_num.specs.Dtype.{InRange, is_bool}
-use Rattle.cu_num.specs.Scalar.{op1, op2, is_nonzero, result_type1, result_type2}
+use Rattle.cu_num.specs.Dtype.{InRange}
+use Rattle.cu_num.specs.Scalar.{is_nonzero}
+use Rattle.cu_num.proofs.ScalarRange.{op1-result_type1, op2-result_type2}
+use Rattle.cu_num.proofs.TypeTests.{bool-is_bool}
 use Rattle.cu_num.specs.declared.types.Dtype.{Dtype}
 use Rattle.cu_num.specs.declared.types.Dtype.TheVariants as types
-use Rattle.cu_num.specs.declared.functions.Fn1.{Fn1}
-use Rattle.cu_num.specs.declared.functions.Fn1.TheVariants as one
-use Rattle.cu_num.specs.declared.functions.Fn2.{Fn2}
-use Rattle.cu_num.specs.declared.functions.Fn2.TheVariants as two
 use Rattle.cu_shape.specs.Index.{back}
 use Rattle.cu_op.specs.Kernel.{selected, last_of, results_from, kernel_value}
 use Rattle.cu_op.specs.declared.kernel.Instr.{Instr}
@@ -27,43 +25,6 @@ use Rattle.cu_expr.specs.Typing.{argument_of}
 -- The value is this; where nothing has to have a value, there may be none.
 abbrev pub Told : {T : Type 0} → Bool → Option T → T → Type 0
 Told must o x = (o ≡ Some x) ⊎ ((must ≡ false) × (o ≡ None))
-
-truth_type : (t : Dtype) → is_bool t ≡ true → t ≡ types.Bool
-truth_type types.Bool h = refl
-truth_type t h = cc
-
--- ---- functions don't tell the type of the result from that of their arguments
-
-same_one : (f : Fn1) (t : Dtype) (x : ℤ) → op1 f t x ≡ op1 f (result_type1 f t) x
-same_one one.Negative t x = refl
-same_one one.Positive t x = refl
-same_one one.Abs t x = refl
-same_one one.Square t x = refl
-same_one one.Sign t x = refl
-same_one one.BitwiseInvert t x = refl
-same_one one.LogicalNot t x = refl
-same_one one.Astype t x = refl
-
-same_two : (f : Fn2) (t : Dtype) (x y : ℤ) → op2 f t x y ≡ op2 f (result_type2 f t) x y
-same_two two.Add t x y = refl
-same_two two.Subtract t x y = refl
-same_two two.Multiply t x y = refl
-same_two two.FloorDivide t x y = refl
-same_two two.Remainder t x y = refl
-same_two two.BitwiseAnd t x y = refl
-same_two two.BitwiseOr t x y = refl
-same_two two.BitwiseXor t x y = refl
-same_two two.LeftShift t x y = refl
-same_two two.RightShift t x y = refl
-same_two two.Equal t x y = refl
-same_two two.NotEqual t x y = refl
-same_two two.Less t x y = refl
-same_two two.LessEqual t x y = refl
-same_two two.Greater t x y = refl
-same_two two.GreaterEqual t x y = refl
-same_two two.LogicalAnd t x y = refl
-same_two two.LogicalOr t x y = refl
-same_two two.LogicalXor t x y = refl
 
 -- a truth value is 1 where it isn't 0
 same_choice : (s x y : ℤ) → InRange types.Bool s → selected s x y ≡ (if is_nonzero s then x else y)
@@ -139,17 +100,17 @@ module _ (must : Bool) (infos : List NodeInfo) (at : NodeElements) (idx : List �
   applied : (op : ElementOp) (t : Dtype) (args : List Arg) → accepts_arguments op (map (argument_of infos) args) ≡ true → AreRead args
       → option_and_then last_of (results_from (function_of op t ∷ []) load (values args)) ≡ Some (function_value op (result_type op t) (values args))
   applied (ElementOp.One f) t [] accepted are = cc
-  applied (ElementOp.One f) t (x ∷ []) accepted are = ap Some (same_one f t (argument_at infos at idx x))
+  applied (ElementOp.One f) t (x ∷ []) accepted are = ap Some (op1-result_type1 f t (argument_at infos at idx x))
   applied (ElementOp.One f) t (x ∷ y ∷ zs) accepted are = cc
   applied (ElementOp.Two f) t [] accepted are = cc
   applied (ElementOp.Two f) t (x ∷ []) accepted are = cc
-  applied (ElementOp.Two f) t (x ∷ y ∷ []) accepted are = ap Some (same_two f t (argument_at infos at idx x) (argument_at infos at idx y))
+  applied (ElementOp.Two f) t (x ∷ y ∷ []) accepted are = ap Some (op2-result_type2 f t (argument_at infos at idx x) (argument_at infos at idx y))
   applied (ElementOp.Two f) t (x ∷ y ∷ z ∷ zs) accepted are = cc
   applied ElementOp.Where t [] accepted are = cc
   applied ElementOp.Where t (c ∷ []) accepted are = cc
   applied ElementOp.Where t (c ∷ x ∷ []) accepted are = cc
   applied ElementOp.Where t (Arg.Node n ∷ x ∷ y ∷ []) accepted are =
-      let truth : InRange types.Bool (read n) = subst (λ (d : Dtype). InRange d (read n)) (truth_type (info_at infos n).dtype accepted) are.0 in
+      let truth : InRange types.Bool (read n) = subst (λ (d : Dtype). InRange d (read n)) (bool-is_bool (info_at infos n).dtype accepted) are.0 in
       ap Some (same_choice (read n) (argument_at infos at idx x) (argument_at infos at idx y) truth)
   applied ElementOp.Where t (Arg.Int c ∷ x ∷ y ∷ []) accepted are = cc
   applied ElementOp.Where t (Arg.Truth c ∷ x ∷ y ∷ []) accepted are = cc

@@ -33,22 +33,8 @@ form_typed inputs infos k (Form.ArgPlace least args axis keepdims) takes is =
 form_typed inputs infos k (Form.Matmul args) takes is =
     let (m, (n, both)) = two_arrays args takes in
     subst (λ (given : List Arg). typed_node inputs infos (Form.Matmul given) ≡ Ok (info_at infos k) → IsTyped infos k (Form.Matmul given)) (sym both) (λ typed. typed) is
-form_typed inputs infos k (Form.Input name) takes is = tt
-form_typed inputs infos k (Form.Full shape dtype value chunk) takes is = tt
-form_typed inputs infos k (Form.Arange start stop step dtype chunk) takes is = tt
-form_typed inputs infos k (Form.Eye rows cols d dtype chunk) takes is = tt
-form_typed inputs infos k (Form.Triangle lower args d) takes is = tt
-form_typed inputs infos k (Form.Index args items) takes is = tt
-form_typed inputs infos k (Form.Concat args axis) takes is = tt
-form_typed inputs infos k (Form.Stack args axis) takes is = tt
-form_typed inputs infos k (Form.PermuteDims args axes) takes is = tt
-form_typed inputs infos k (Form.Reshape args shape) takes is = tt
-form_typed inputs infos k (Form.ExpandDims args axis) takes is = tt
-form_typed inputs infos k (Form.Squeeze args axes) takes is = tt
-form_typed inputs infos k (Form.Flip args axes) takes is = tt
-form_typed inputs infos k (Form.Roll args shifts axes) takes is = tt
-form_typed inputs infos k (Form.BroadcastTo args shape chunk) takes is = tt
 form_typed inputs infos k (Form.Rechunk args chunk) takes is =
     let (n, one) = one_array args takes in
     subst (λ (given : List Arg). typed_node inputs infos (Form.Rechunk given chunk) ≡ Ok (info_at infos k) → IsTyped infos k (Form.Rechunk given chunk)) (sym one)
     (λ typed. rechunk_passed (info_at infos n) chunk (info_at infos k) typed) is
+form_typed inputs infos k form takes is = tt

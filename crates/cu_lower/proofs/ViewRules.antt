@@ -205,12 +205,6 @@ module _ (infos : List NodeInfo) (env at : NodeElements) (k : ℕ) (p : Pull) (i
   view_takes (Form.Reshape args shape) typed pull =
       with_one (λ xs. Form.Reshape xs shape) args typed.args
       (λ n t q. carry (Arg.Node n ∷ []) ((info_at infos n).dims ∷ []) (rule_of infos env at k (Form.Reshape (Arg.Node n ∷ []) shape) idx) pulls.Reshape (cc q.pull) refl) typed pull
-  view_takes (Form.ExpandDims args axis) typed pull =
-      with_one (λ xs. Form.ExpandDims xs axis) args typed.args
-      (λ n t q. carry (Arg.Node n ∷ []) ((info_at infos n).dims ∷ []) (rule_of infos env at k (Form.ExpandDims (Arg.Node n ∷ []) axis) idx) pulls.Reshape (cc q.pull) refl) typed pull
-  view_takes (Form.Squeeze args axes) typed pull =
-      with_one (λ xs. Form.Squeeze xs axes) args typed.args
-      (λ n t q. carry (Arg.Node n ∷ []) ((info_at infos n).dims ∷ []) (rule_of infos env at k (Form.Squeeze (Arg.Node n ∷ []) axes) idx) pulls.Reshape (cc q.pull) refl) typed pull
   view_takes (Form.Flip args axes) typed pull = with_one (λ xs. Form.Flip xs axes) args typed.args (flip_takes axes) typed pull
   view_takes (Form.Roll args shifts axes) typed pull = with_one (λ xs. Form.Roll xs shifts axes) args typed.args (roll_takes shifts axes) typed pull
   view_takes (Form.BroadcastTo args shape chunk) typed pull =

@@ -159,7 +159,7 @@ behind_copies s ins wanted own = aligned_steps s ins wanted ++ own (aligned_plac
 -- The steps of node k, whose arguments have the arrays `ins`; the first array that they write has number `first`. An elementwise function
 -- and a view have one step; a reduction, a search for places and a product have one over chunks and one for each round of merges. Operands
 -- of a function and of a product that have other chunks than are wanted are copied before. A rechunk is a copy of its argument, and an
--- input one of the array with its name; it has no steps where it isn't stored.
+-- input one of the array with its name, which `with_node` asks for where the node is the one that is stored alone.
 abbrev pub steps_of : List NodeInfo → Options → ℕ → Form → List ℕ → ℕ → List Step
 steps_of infos options k (Form.Elementwise op args) ins first =
     behind_copies (copying options first) ins (operands_of infos k (Form.Elementwise op args))

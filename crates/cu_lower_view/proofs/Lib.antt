@@ -6,7 +6,6 @@ pub mod Numbers
 pub mod Permuted
 pub mod Promoted
 pub mod Pulls
-pub mod Resized
 pub mod Sliced
 pub mod Sources
 pub mod Stretched

@@ -1,24 +1,20 @@
 -- The pull of a typed view.
 use Rattle.std.proofs.Common.{◌≡◌, ◌∙◌, ℕ, ◌+◌, ◌≤◌, ◌==◌, ◌&&◌, ℤ, pos, Bool, true, false, List, length, Option, Some, None, Result, Ok, refl, ap, sym, arith, if◌then◌else◌}
-use Rattle.std.specs.Prelude.{nat_le, insert, map, int_lt, count_by}
-use Rattle.std.specs.List.{list_all}
+use Rattle.std.specs.Prelude.{nat_le, map}
 use Rattle.std.specs.Ordering.{int_eq}
 use Rattle.std.proofs.lemmas.Bool.{and_parts, le-leb, leb-true}
 use Rattle.std.proofs.lemmas.List.FromFn.{length-map-range_with_len}
 use Rattle.std.proofs.lemmas.List.Elements.{All-nil}
-use Rattle.cu_result.specs.Results.{◌>>=◌, check}
-use Rattle.cu_result.proofs.ResultSteps.{need_step_ok}
 use Rattle.cu_shape.specs.Index.{product}
-use Rattle.cu_node.specs.Axes.{axis_of, marked_of}
 use Rattle.cu_node.specs.Fault.{fault}
 use Rattle.cu_node.specs.Info.{info_at}
 use Rattle.cu_node.specs.Limited.{limited}
 use Rattle.cu_node.specs.Literal.{literal_number}
-use Rattle.cu_node.specs.declared.faults.FaultCode.TheVariants.{Axis, Shape, ReshapeSize}
+use Rattle.cu_node.specs.declared.faults.FaultCode.TheVariants.{Axis, Shape}
 use Rattle.cu_node.specs.declared.faults.NodeFault.{NodeFault}
 use Rattle.cu_node.specs.declared.index_item.IndexItem.{IndexItem}
 use Rattle.cu_node.specs.declared.info.NodeInfo.{NodeInfo}
-use Rattle.cu_form.specs.Form.{is_new_size}
+use Rattle.cu_node.specs.declared.new_shape.NewShape.{NewShape}
 use Rattle.cu_form.specs.declared.args.Arg.{Arg}
 use Rattle.cu_form.specs.declared.form.Form.{Form}
 use Rattle.cu_pull.specs.Pull.{is_in_triangle, diagonal_of}
@@ -26,19 +22,17 @@ use Rattle.cu_pull.specs.declared.provenance.Provenance.TheVariants.{From, Const
 use Rattle.cu_pull.specs.declared.pull.Pull.{Pull}
 use Rattle.cu_pull.specs.declared.pull.Pull.TheVariants as pull
 use Rattle.cu_typing_view.specs.Entries.{untaken, first_wrong, index_shape, index_chunk, unless_wrong}
-use Rattle.cu_typing_view.specs.Rearranged.{is_permutation, permuted, unmarked, are_single, are_axes}
-use Rattle.cu_typing_view.specs.Reshaped.{can_hold, reshaped, chunk_of, stretches_to}
-use Rattle.cu_typing_view.proofs.HeldElements.{holds_all}
+use Rattle.cu_typing_view.specs.Rearranged.{is_permutation, permuted, are_axes}
+use Rattle.cu_typing_view.specs.Reshaped.{stretches_to}
+use Rattle.cu_typing_view.proofs.NewShapes.{new_shape_count, new_shape_type}
 use Rattle.cu_lower_view.specs.Axes.{named_axis, shift_along, shifts_along}
 use Rattle.cu_lower_view.specs.Runs.{index_runs, axes_taken}
 use Rattle.cu_lower_view.specs.Sources.{sources_of}
 use Rattle.cu_lower_view.specs.Typed.{IsTypedView, IsPull}
 use Rattle.cu_lower_view.specs.View.{flip_pull}
 use Rattle.cu_lower_view.proofs.Joined.{concat_typed, stack_typed}
-use Rattle.cu_lower_view.proofs.Marks.{axis_below}
 use Rattle.cu_lower_view.proofs.Numbers.{zero_in, one_in, tells_const, tells_from, tells_when, tells_concat, full_typed, arange_typed, eye_typed}
 use Rattle.cu_lower_view.proofs.Permuted.{few_axes, fits_permute}
-use Rattle.cu_lower_view.proofs.Resized.{product-insert, product-unmarked}
 use Rattle.cu_lower_view.proofs.Sliced.{length-runs, runs_right, fits_slice}
 use Rattle.cu_lower_view.proofs.Sources.{one_source, fits_one, types_one, short_source}
 use Rattle.cu_lower_view.proofs.Stretched.{stretched_to}
@@ -149,50 +143,15 @@ permute infos args axes i h =
       },
     )
 
-reshape : (infos : List NodeInfo) (args : List Arg) (shape : List ℤ) (i : NodeInfo) → IsTypedView infos (Form.Reshape args shape) i → HasPull infos (Form.Reshape args shape) i
+reshape : (infos : List NodeInfo) (args : List Arg) (shape : NewShape) (i : NodeInfo) → IsTypedView infos (Form.Reshape args shape) i → HasPull infos (Form.Reshape args shape) i
 reshape infos args shape i h =
     let a = source infos args in
-    let one = one_source infos args h.args in
-    let sizes = reshaped (product a.dims) shape in
-    let g = checked_array (can_hold (product a.dims) shape) (fault ReshapeSize) a.dtype sizes (chunk_of (product a.chunk) sizes) i h.typed in
-    let most : count_by (λ n. int_lt n (pos 0)) shape ≤ 1 = leb-true _ 1 (and_parts (list_all is_new_size shape) (nat_le (count_by (λ n. int_lt n (pos 0)) shape) 1) h.ranges).1 in
-    let held : product sizes ≡ product a.dims = holds_all (product a.dims) shape most g.0 in (
+    let one = one_source infos args h.args in (
       pull.Reshape,
       record {
         pull = refl;
-        fits = fits_one (λ s. product s ≡ product i.dims) (sources_of infos args) one (sym held ∙ ap product (sym g.1.dims));
-        types = types_one i.dtype (sources_of infos args) one g.1.dtype;
-        numbers = λ idx x inside e. cc;
-      },
-    )
-
-expand : (infos : List NodeInfo) (args : List Arg) (axis : ℤ) (i : NodeInfo) → IsTypedView infos (Form.ExpandDims args axis) i → HasPull infos (Form.ExpandDims args axis) i
-expand infos args axis i h =
-    let a = source infos args in
-    let one = one_source infos args h.args in
-    let s = need_step_ok (axis_of axis (length a.dims + 1)) (fault Axis) (λ d. limited a.dtype (insert a.dims d 1) (insert a.chunk d 1)) i h.typed in
-    let below = axis_below axis (length a.dims + 1) s.0 s.1 in
-    let g = limited_array a.dtype (insert a.dims s.0 1) (insert a.chunk s.0 1) i s.2 in (
-      pull.Reshape,
-      record {
-        pull = refl;
-        fits = fits_one (λ s. product s ≡ product i.dims) (sources_of infos args) one (sym (product-insert a.dims s.0 (omega arith)) ∙ ap product (sym g.dims));
-        types = types_one i.dtype (sources_of infos args) one g.dtype;
-        numbers = λ idx x inside e. cc;
-      },
-    )
-
-squeeze : (infos : List NodeInfo) (args : List Arg) (axes : List ℤ) (i : NodeInfo) → IsTypedView infos (Form.Squeeze args axes) i → HasPull infos (Form.Squeeze args axes) i
-squeeze infos args axes i h =
-    let a = source infos args in
-    let one = one_source infos args h.args in
-    let s = need_step_ok (marked_of (length a.dims) axes) (fault Axis) (λ marks. check (are_single a.dims marks) (fault Axis) >>= λ _. limited a.dtype (unmarked a.dims marks) (unmarked a.chunk marks)) i h.typed in
-    let g = checked_array (are_single a.dims s.0) (fault Axis) a.dtype (unmarked a.dims s.0) (unmarked a.chunk s.0) i s.2 in (
-      pull.Reshape,
-      record {
-        pull = refl;
-        fits = fits_one (λ s. product s ≡ product i.dims) (sources_of infos args) one (sym (product-unmarked a.dims s.0 g.0) ∙ ap product (sym g.1.dims));
-        types = types_one i.dtype (sources_of infos args) one g.1.dtype;
+        fits = fits_one (λ s. product s ≡ product i.dims) (sources_of infos args) one (new_shape_count a i shape h.ranges h.typed);
+        types = types_one i.dtype (sources_of infos args) one (new_shape_type a i shape h.typed);
         numbers = λ idx x inside e. cc;
       },
     )
@@ -280,8 +239,6 @@ view_pull infos (Form.Concat args axis) i h = concat infos args axis i h
 view_pull infos (Form.Stack args axis) i h = stack infos args axis i h
 view_pull infos (Form.PermuteDims args axes) i h = permute infos args axes i h
 view_pull infos (Form.Reshape args shape) i h = reshape infos args shape i h
-view_pull infos (Form.ExpandDims args axis) i h = expand infos args axis i h
-view_pull infos (Form.Squeeze args axes) i h = squeeze infos args axes i h
 view_pull infos (Form.Flip args axes) i h = flip infos args axes i h
 view_pull infos (Form.Roll args shifts axes) i h = roll infos args shifts axes i h
 view_pull infos (Form.BroadcastTo args shape chunk) i h = broadcast infos args shape chunk i h

@@ -18,9 +18,10 @@ use Rattle.cu_node.specs.declared.faults.NodeFault.{NodeFault}
 use Rattle.cu_node.specs.declared.info.NodeInfo.{NodeInfo}
 use Rattle.cu_typing_view.specs.Creation.{typed_full, typed_arange, typed_eye}
 use Rattle.cu_typing_view.specs.Entries.{typed_index}
+use Rattle.cu_typing_view.specs.NewShapes.{typed_new_shape}
 use Rattle.cu_typing_view.specs.Pieces.{typed_concat, typed_stack}
-use Rattle.cu_typing_view.specs.Rearranged.{typed_triangle, typed_permute, typed_expand, typed_squeeze, typed_flip, typed_roll}
-use Rattle.cu_typing_view.specs.Reshaped.{typed_reshape, typed_broadcast}
+use Rattle.cu_typing_view.specs.Rearranged.{typed_triangle, typed_permute, typed_flip, typed_roll}
+use Rattle.cu_typing_view.specs.Reshaped.{typed_broadcast}
 use Rattle.cu_lower_view.specs.Sources.{sources_of, dtypes_of, source_shapes}
 use Rattle.cu_lower_view.specs.View.{pull_of}
 
@@ -34,9 +35,7 @@ typed_as_view (Form.Index args items) is = typed_index (info_at is 0) items
 typed_as_view (Form.Concat args axis) is = typed_concat is axis
 typed_as_view (Form.Stack args axis) is = typed_stack is axis
 typed_as_view (Form.PermuteDims args axes) is = typed_permute (info_at is 0) axes
-typed_as_view (Form.Reshape args shape) is = typed_reshape (info_at is 0) shape
-typed_as_view (Form.ExpandDims args axis) is = typed_expand (info_at is 0) axis
-typed_as_view (Form.Squeeze args axes) is = typed_squeeze (info_at is 0) axes
+typed_as_view (Form.Reshape args shape) is = typed_new_shape (info_at is 0) shape
 typed_as_view (Form.Flip args axes) is = typed_flip (info_at is 0) axes
 typed_as_view (Form.Roll args shifts axes) is = typed_roll (info_at is 0) shifts axes
 typed_as_view (Form.BroadcastTo args shape chunk) is = typed_broadcast (info_at is 0) shape chunk

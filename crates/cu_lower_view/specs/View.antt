@@ -37,8 +37,6 @@ view_of (Form.Concat args axis) source = Some (pull.Concat (named_axis (length s
 view_of (Form.Stack args axis) source = Some (pull.Stack (named_axis (length source + 1) axis))
 view_of (Form.PermuteDims args axes) source = permute_pull axes source
 view_of (Form.Reshape args shape) source = Some pull.Reshape
-view_of (Form.ExpandDims args axis) source = Some pull.Reshape
-view_of (Form.Squeeze args axes) source = Some pull.Reshape
 view_of (Form.Flip args axes) source = Some (flip_pull axes source)
 view_of (Form.Roll args shifts axes) source = Some (pull.Roll (record { items = shifts_along (length source) shifts axes }))
 view_of (Form.BroadcastTo args shape chunk) source = Some pull.Broadcast

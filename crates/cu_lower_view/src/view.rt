@@ -75,9 +75,7 @@ fn view_of(form: &Form, source: &Dims) -> Option<Pull>
             axis: named_axis(rank + 1, *axis),
         }),
         Form::PermuteDims { axes, .. } => permute_pull(axes.as_slice(), source),
-        Form::Reshape { .. } | Form::ExpandDims { .. } | Form::Squeeze { .. } => Some(
-            Pull::Reshape,
-        ),
+        Form::Reshape { .. } => Some(Pull::Reshape),
         Form::Flip { axes, .. } => Some(flip_pull(axes, source)),
         Form::Roll { shifts, axes, .. } => Some(Pull::Roll {
             shifts: shifts_along(rank, shifts.as_slice(), axes.as_slice()),

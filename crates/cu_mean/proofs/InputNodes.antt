@@ -29,25 +29,7 @@ use Rattle.cu_mean.proofs.HeldElements.{held, read_in_range, read_at_place}
 
 fits_form : (infos : List NodeInfo) (env : NodeElements) (k : ℕ) (form : Form) → (is_input form ≡ true → (idx : List ℕ) → InRange (type_at infos k) (env k idx)) → FitsInput infos env k form
 fits_form infos env k (Form.Input name) h = h refl
-fits_form infos env k (Form.Elementwise op args) h = tt
-fits_form infos env k (Form.Full shape t value chunk) h = tt
-fits_form infos env k (Form.Arange start stop step t chunk) h = tt
-fits_form infos env k (Form.Eye rows cols d t chunk) h = tt
-fits_form infos env k (Form.Triangle lower args d) h = tt
-fits_form infos env k (Form.Index args items) h = tt
-fits_form infos env k (Form.Concat args axis) h = tt
-fits_form infos env k (Form.Stack args axis) h = tt
-fits_form infos env k (Form.PermuteDims args axes) h = tt
-fits_form infos env k (Form.Reshape args shape) h = tt
-fits_form infos env k (Form.ExpandDims args axis) h = tt
-fits_form infos env k (Form.Squeeze args axes) h = tt
-fits_form infos env k (Form.Flip args axes) h = tt
-fits_form infos env k (Form.Roll args shifts axes) h = tt
-fits_form infos env k (Form.BroadcastTo args shape chunk) h = tt
-fits_form infos env k (Form.Rechunk args chunk) h = tt
-fits_form infos env k (Form.Reduce kind args axes keepdims) h = tt
-fits_form infos env k (Form.ArgPlace least args axis keepdims) h = tt
-fits_form infos env k (Form.Matmul args) h = tt
+fits_form infos env k form h = tt
 
 pub inputs_fit : (e : Expression) (infos : List NodeInfo) (inputs : List PlainArray) → AreInputNodes e infos inputs → FitInputs e infos (input_elements e inputs)
 inputs_fit e infos inputs are k node at = fits_form infos (input_elements e inputs) k node.form (λ input idx.
@@ -60,25 +42,7 @@ inputs_fit e infos inputs are k node at = fits_form infos (input_elements e inpu
 
 rule_input : (infos : List NodeInfo) (env at : NodeElements) (k : ℕ) (form : Form) (idx : List ℕ) → is_input form ≡ true → rule_of infos env at k form idx ≡ env k idx
 rule_input infos env at k (Form.Input name) idx h = refl
-rule_input infos env at k (Form.Elementwise op args) idx h = cc
-rule_input infos env at k (Form.Full shape t value chunk) idx h = cc
-rule_input infos env at k (Form.Arange start stop step t chunk) idx h = cc
-rule_input infos env at k (Form.Eye rows cols d t chunk) idx h = cc
-rule_input infos env at k (Form.Triangle lower args d) idx h = cc
-rule_input infos env at k (Form.Index args items) idx h = cc
-rule_input infos env at k (Form.Concat args axis) idx h = cc
-rule_input infos env at k (Form.Stack args axis) idx h = cc
-rule_input infos env at k (Form.PermuteDims args axes) idx h = cc
-rule_input infos env at k (Form.Reshape args shape) idx h = cc
-rule_input infos env at k (Form.ExpandDims args axis) idx h = cc
-rule_input infos env at k (Form.Squeeze args axes) idx h = cc
-rule_input infos env at k (Form.Flip args axes) idx h = cc
-rule_input infos env at k (Form.Roll args shifts axes) idx h = cc
-rule_input infos env at k (Form.BroadcastTo args shape chunk) idx h = cc
-rule_input infos env at k (Form.Rechunk args chunk) idx h = cc
-rule_input infos env at k (Form.Reduce kind args axes keepdims) idx h = cc
-rule_input infos env at k (Form.ArgPlace least args axis keepdims) idx h = cc
-rule_input infos env at k (Form.Matmul args) idx h = cc
+rule_input infos env at k form idx h = cc
 
 -- inside the shape the meaning of an input node is its element
 pub input_meaning : (e : Expression) (infos : List NodeInfo) (env : NodeElements) (k : ℕ) (node : Node) (idx : List ℕ) → IsExpression e → slice_get e.nodes k ≡ Some node → is_input node.form ≡ true
@@ -119,25 +83,7 @@ before_other e k node at other = count_by_more_no is_input_node e.nodes k node (
 same_rule : (infos : List NodeInfo) (env other at : NodeElements) (k : ℕ) (form : Form) (idx : List ℕ) → (is_input form ≡ true → env k idx ≡ other k idx)
     → rule_of infos env at k form idx ≡ rule_of infos other at k form idx
 same_rule infos env other at k (Form.Input name) idx h = h refl
-same_rule infos env other at k (Form.Elementwise op args) idx h = refl
-same_rule infos env other at k (Form.Full shape t value chunk) idx h = refl
-same_rule infos env other at k (Form.Arange start stop step t chunk) idx h = refl
-same_rule infos env other at k (Form.Eye rows cols d t chunk) idx h = refl
-same_rule infos env other at k (Form.Triangle lower args d) idx h = refl
-same_rule infos env other at k (Form.Index args items) idx h = refl
-same_rule infos env other at k (Form.Concat args axis) idx h = refl
-same_rule infos env other at k (Form.Stack args axis) idx h = refl
-same_rule infos env other at k (Form.PermuteDims args axes) idx h = refl
-same_rule infos env other at k (Form.Reshape args shape) idx h = refl
-same_rule infos env other at k (Form.ExpandDims args axis) idx h = refl
-same_rule infos env other at k (Form.Squeeze args axes) idx h = refl
-same_rule infos env other at k (Form.Flip args axes) idx h = refl
-same_rule infos env other at k (Form.Roll args shifts axes) idx h = refl
-same_rule infos env other at k (Form.BroadcastTo args shape chunk) idx h = refl
-same_rule infos env other at k (Form.Rechunk args chunk) idx h = refl
-same_rule infos env other at k (Form.Reduce kind args axes keepdims) idx h = refl
-same_rule infos env other at k (Form.ArgPlace least args axis keepdims) idx h = refl
-same_rule infos env other at k (Form.Matmul args) idx h = refl
+same_rule infos env other at k form idx h = refl
 
 guarded : (b : Bool) (x y : ℤ) → (b ≡ true → x ≡ y) → (if b then x else pos 0) ≡ (if b then y else pos 0)
 guarded true x y h = h refl

@@ -6,7 +6,7 @@ use Rattle.std.proofs.lemmas.Bool.{and_parts, leb-true}
 use Rattle.std.proofs.lemmas.List.Elements.{All-nil, All-cons}
 use Rattle.cu_shape.specs.Index.{product}
 use Rattle.cu_form.specs.Expression.{Expression, IsExpression}
-use Rattle.cu_form.specs.Form.{is_array, are_arrays, takes_args}
+use Rattle.cu_form.specs.Form.{args_of, is_array, are_arrays, takes_args}
 use Rattle.cu_form.specs.declared.args.Arg.{Arg}
 use Rattle.cu_form.specs.declared.expr.Node.{Node}
 use Rattle.cu_form.specs.declared.form.Form.{Form}
@@ -69,21 +69,12 @@ form_keeps infos env k stored (Form.Elementwise op args) takes kept fits h = ele
 form_keeps infos env k stored (Form.Full shape t value chunk) takes kept fits h = full_fits shape t value chunk (info_at infos k) h
 form_keeps infos env k stored (Form.Arange start stop step t chunk) takes kept fits h = arange_fits start stop step t chunk (info_at infos k) h
 form_keeps infos env k stored (Form.Eye rows cols d t chunk) takes kept fits h = tt
-form_keeps infos env k stored (Form.Triangle lower args d) takes kept fits h = one_fits infos args (info_at infos k) takes (view_type (Form.Triangle lower args d) (source infos args) (info_at infos k) h)
-form_keeps infos env k stored (Form.Index args items) takes kept fits h = one_fits infos args (info_at infos k) takes (view_type (Form.Index args items) (source infos args) (info_at infos k) h)
 form_keeps infos env k stored (Form.Concat args axis) takes kept fits h = concat_fits infos args axis (info_at infos k) (many 1 8 args takes) h
 form_keeps infos env k stored (Form.Stack args axis) takes kept fits h = stack_fits infos args axis (info_at infos k) (many 1 8 args takes) h
-form_keeps infos env k stored (Form.PermuteDims args axes) takes kept fits h = one_fits infos args (info_at infos k) takes (view_type (Form.PermuteDims args axes) (source infos args) (info_at infos k) h)
-form_keeps infos env k stored (Form.Reshape args shape) takes kept fits h = one_fits infos args (info_at infos k) takes (view_type (Form.Reshape args shape) (source infos args) (info_at infos k) h)
-form_keeps infos env k stored (Form.ExpandDims args axis) takes kept fits h = one_fits infos args (info_at infos k) takes (view_type (Form.ExpandDims args axis) (source infos args) (info_at infos k) h)
-form_keeps infos env k stored (Form.Squeeze args axes) takes kept fits h = one_fits infos args (info_at infos k) takes (view_type (Form.Squeeze args axes) (source infos args) (info_at infos k) h)
-form_keeps infos env k stored (Form.Flip args axes) takes kept fits h = one_fits infos args (info_at infos k) takes (view_type (Form.Flip args axes) (source infos args) (info_at infos k) h)
-form_keeps infos env k stored (Form.Roll args shifts axes) takes kept fits h = one_fits infos args (info_at infos k) takes (view_type (Form.Roll args shifts axes) (source infos args) (info_at infos k) h)
-form_keeps infos env k stored (Form.BroadcastTo args shape chunk) takes kept fits h = one_fits infos args (info_at infos k) takes (view_type (Form.BroadcastTo args shape chunk) (source infos args) (info_at infos k) h)
-form_keeps infos env k stored (Form.Rechunk args chunk) takes kept fits h = one_fits infos args (info_at infos k) takes (view_type (Form.Rechunk args chunk) (source infos args) (info_at infos k) h)
 form_keeps infos env k stored (Form.Reduce kind args axes keepdims) takes kept fits h = tt
 form_keeps infos env k stored (Form.ArgPlace least args axis keepdims) takes kept fits h = (place_type axis keepdims (source infos args) (info_at infos k) h, place_fits infos args axis takes kept)
 form_keeps infos env k stored (Form.Matmul args) takes kept fits h = tt
+form_keeps infos env k stored form takes kept fits h = one_fits infos (args_of form) (info_at infos k) takes (view_type form (source infos (args_of form)) (info_at infos k) h)
 
 pub node_keeps : (inputs : List InputInfo) (e : Expression) (infos : List NodeInfo) (env : NodeElements) (k : ℕ) (node : Node) → IsExpression e → typed inputs e ≡ Ok infos → All IsInfo infos
     → FitInputs e infos env → slice_get e.nodes k ≡ Some node → KeepsType infos env k node.form

@@ -1,15 +1,11 @@
 -- The result of an elementwise function has the function's type.
-use Rattle.std.proofs.Common.{◌≡◌, List, [], ◌∷◌, map, drop, All, Ok, refl, sym}
+use Rattle.std.proofs.Common.{◌≡◌, List, [], ◌∷◌, map, drop, All, Ok, sym}
 use Rattle.std.proofs.lemmas.List.Elements.{All-nil, All-cons}
 use Rattle.cu_result.proofs.ResultSteps.{need_ok}
 use Rattle.cu_num.specs.Promotion.{promotion}
-use Rattle.cu_num.specs.Scalar.{result_type1, result_type2}
 use Rattle.cu_num.specs.declared.types.Dtype.{Dtype}
-use Rattle.cu_num.specs.declared.functions.Fn1.{Fn1}
-use Rattle.cu_num.specs.declared.functions.Fn1.TheVariants as one
-use Rattle.cu_num.specs.declared.functions.Fn2.{Fn2}
-use Rattle.cu_num.specs.declared.functions.Fn2.TheVariants as two
 use Rattle.cu_num.proofs.Promoted.{first_in_range, second_in_range}
+use Rattle.cu_num.proofs.ScalarRange.{result_type1-result_type1, result_type2-result_type2}
 use Rattle.cu_form.specs.declared.args.Arg.{Arg}
 use Rattle.cu_node.specs.Fault.{fault}
 use Rattle.cu_node.specs.declared.element_op.ElementOp.{ElementOp}
@@ -22,37 +18,6 @@ use Rattle.cu_typing.proofs.Passed.{passed}
 use Rattle.cu_expr.specs.Typing.{argument_of}
 use Rattle.cu_expr.proofs.Kernels.{met}
 use Rattle.cu_meaning.specs.Typed.{type_at, FitsType, IsResultType}
-
-one_again : (f : Fn1) (t : Dtype) → result_type1 f (result_type1 f t) ≡ result_type1 f t
-one_again one.Negative t = refl
-one_again one.Positive t = refl
-one_again one.Abs t = refl
-one_again one.Square t = refl
-one_again one.Sign t = refl
-one_again one.BitwiseInvert t = refl
-one_again one.LogicalNot t = refl
-one_again one.Astype t = refl
-
-two_again : (f : Fn2) (t : Dtype) → result_type2 f (result_type2 f t) ≡ result_type2 f t
-two_again two.Add t = refl
-two_again two.Subtract t = refl
-two_again two.Multiply t = refl
-two_again two.FloorDivide t = refl
-two_again two.Remainder t = refl
-two_again two.BitwiseAnd t = refl
-two_again two.BitwiseOr t = refl
-two_again two.BitwiseXor t = refl
-two_again two.LeftShift t = refl
-two_again two.RightShift t = refl
-two_again two.Equal t = refl
-two_again two.NotEqual t = refl
-two_again two.Less t = refl
-two_again two.LessEqual t = refl
-two_again two.Greater t = refl
-two_again two.GreaterEqual t = refl
-two_again two.LogicalAnd t = refl
-two_again two.LogicalOr t = refl
-two_again two.LogicalXor t = refl
 
 -- a type has its own numbers
 own_numbers : (infos : List NodeInfo) (n : _) (t : Dtype) → type_at infos n ≡ t → FitsType infos t (Arg.Node n)
@@ -82,8 +47,8 @@ choice_fits infos t (c ∷ x ∷ y ∷ []) h =
 choice_fits infos t (c ∷ x ∷ y ∷ z ∷ zs) h = cc
 
 result_fits : (infos : List NodeInfo) (op : ElementOp) (args : List Arg) (t d : Dtype) → d ≡ result_type op t → shared_type op (map (argument_of infos) args) ≡ Ok t → IsResultType infos d op args
-result_fits infos (ElementOp.One f) args t d e h = rw e (one_again f t)
-result_fits infos (ElementOp.Two f) args t d e h = rw e (two_again f t)
+result_fits infos (ElementOp.One f) args t d e h = rw e (result_type1-result_type1 f t)
+result_fits infos (ElementOp.Two f) args t d e h = rw e (result_type2-result_type2 f t)
 result_fits infos ElementOp.Where args t d e h = rw e (choice_fits infos t args h)
 result_fits infos (ElementOp.Astype c) args t d e h = sym e
 

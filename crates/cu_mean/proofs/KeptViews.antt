@@ -1,22 +1,20 @@
 -- A view has the type of its array.
 use Rattle.std.proofs.Common.{◌≡◌, ℕ, ◌+◌, ◌==◌, ◌&&◌, nat_le, ℤ, Bool, true, false, List, length, Option, Some, None, Result, Ok, ap}
-use Rattle.std.specs.Prelude.{insert}
 use Rattle.cu_result.specs.Results.{◌>>=◌, check}
-use Rattle.cu_result.proofs.ResultSteps.{check_step_ok, need_step_ok}
+use Rattle.cu_result.proofs.ResultSteps.{check_step_ok}
 use Rattle.cu_num.specs.declared.types.Dtype.{Dtype}
-use Rattle.cu_shape.specs.Index.{product}
 use Rattle.cu_form.specs.declared.form.Form.{Form}
-use Rattle.cu_node.specs.Axes.{axis_of, marked_of}
 use Rattle.cu_node.specs.Fault.{fault}
 use Rattle.cu_node.specs.Limited.{limited, limited_beside}
-use Rattle.cu_node.specs.declared.faults.FaultCode.TheVariants.{Axis, Shape, ReshapeSize}
+use Rattle.cu_node.specs.declared.faults.FaultCode.TheVariants.{Axis, Shape}
 use Rattle.cu_node.specs.declared.faults.NodeFault.{NodeFault}
 use Rattle.cu_node.specs.declared.info.NodeInfo.{NodeInfo}
 use Rattle.cu_node.proofs.KeptLimits.{given}
 use Rattle.cu_node.specs.declared.index_item.IndexItem.{IndexItem}
 use Rattle.cu_typing_view.specs.Entries.{untaken, first_wrong, index_shape, index_chunk, unless_wrong, typed_index}
-use Rattle.cu_typing_view.specs.Rearranged.{typed_same, typed_triangle, is_permutation, permuted, typed_permute, typed_expand, unmarked, are_single, typed_squeeze, are_axes, typed_flip, typed_roll}
-use Rattle.cu_typing_view.specs.Reshaped.{can_hold, reshaped, chunk_of, typed_reshape, stretches_to, typed_broadcast, typed_rechunk}
+use Rattle.cu_typing_view.specs.Rearranged.{typed_same, typed_triangle, is_permutation, permuted, typed_permute, are_axes, typed_flip, typed_roll}
+use Rattle.cu_typing_view.specs.Reshaped.{stretches_to, typed_broadcast, typed_rechunk}
+use Rattle.cu_typing_view.proofs.NewShapes.{new_shape_type}
 use Rattle.cu_expr.specs.Views.{typed_view}
 
 pub beside_type : (beside : Bool) (t : Dtype) (shape chunk : List ℕ) (i : NodeInfo) → limited_beside beside t shape chunk ≡ Ok i → i.dtype ≡ t
@@ -49,21 +47,6 @@ checked_type b e t shape chunk i h = limited_type t shape chunk i (check_step_ok
 permute_type : (a : NodeInfo) (axes : List ℤ) (i : NodeInfo) → typed_permute a axes ≡ Ok i → i.dtype ≡ a.dtype
 permute_type a axes i h = checked_type (is_permutation (length a.dims) axes) (fault Axis) a.dtype (permuted axes a.dims) (permuted axes a.chunk) i h
 
-reshape_type : (a : NodeInfo) (shape : List ℤ) (i : NodeInfo) → typed_reshape a shape ≡ Ok i → i.dtype ≡ a.dtype
-reshape_type a shape i h =
-    let sizes = reshaped (product a.dims) shape in
-    checked_type (can_hold (product a.dims) shape) (fault ReshapeSize) a.dtype sizes (chunk_of (product a.chunk) sizes) i h
-
-expand_type : (a : NodeInfo) (axis : ℤ) (i : NodeInfo) → typed_expand a axis ≡ Ok i → i.dtype ≡ a.dtype
-expand_type a axis i h =
-    let s = need_step_ok (axis_of axis (length a.dims + 1)) (fault Axis) (λ d. limited a.dtype (insert a.dims d 1) (insert a.chunk d 1)) i h in
-    limited_type a.dtype (insert a.dims s.0 1) (insert a.chunk s.0 1) i s.2
-
-squeeze_type : (a : NodeInfo) (axes : List ℤ) (i : NodeInfo) → typed_squeeze a axes ≡ Ok i → i.dtype ≡ a.dtype
-squeeze_type a axes i h =
-    let s = need_step_ok (marked_of (length a.dims) axes) (fault Axis) (λ marks. check (are_single a.dims marks) (fault Axis) >>= λ _. limited a.dtype (unmarked a.dims marks) (unmarked a.chunk marks)) i h in
-    checked_type (are_single a.dims s.0) (fault Axis) a.dtype (unmarked a.dims s.0) (unmarked a.chunk s.0) i s.2
-
 flip_type : (a : NodeInfo) (axes : Option (List ℤ)) (i : NodeInfo) → typed_flip a axes ≡ Ok i → i.dtype ≡ a.dtype
 flip_type a axes i h = checked_type (are_axes (length a.dims) axes) (fault Axis) a.dtype a.dims a.chunk i h
 
@@ -81,9 +64,7 @@ pub view_type : (form : Form) (a i : NodeInfo) → typed_view form a ≡ Ok i �
 view_type (Form.Triangle lower args k) a i h = triangle_type a i h
 view_type (Form.Index args items) a i h = index_type a items i h
 view_type (Form.PermuteDims args axes) a i h = permute_type a axes i h
-view_type (Form.Reshape args shape) a i h = reshape_type a shape i h
-view_type (Form.ExpandDims args axis) a i h = expand_type a axis i h
-view_type (Form.Squeeze args axes) a i h = squeeze_type a axes i h
+view_type (Form.Reshape args shape) a i h = new_shape_type a i shape h
 view_type (Form.Flip args axes) a i h = flip_type a axes i h
 view_type (Form.Roll args shifts axes) a i h = roll_type a shifts axes i h
 view_type (Form.BroadcastTo args shape chunk) a i h = broadcast_type a shape chunk i h

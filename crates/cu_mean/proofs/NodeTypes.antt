@@ -6,8 +6,10 @@ use Rattle.std.proofs.lemmas.Bool.{and_parts}
 use Rattle.std.proofs.lemmas.List.Elements.{All-nil, All-cons, All-head, All-tail}
 use Rattle.cu_result.specs.Results.{◌>>=◌}
 use Rattle.cu_result.proofs.ResultSteps.{step_ok}
-use Rattle.cu_num.specs.Dtype.{is_integer, IsInteger}
+use Rattle.cu_num.specs.Dtype.{IsInteger}
 use Rattle.cu_num.specs.Fold.{fold_type}
+use Rattle.cu_num.proofs.Promoted.{promoted_integer}
+use Rattle.cu_num.proofs.TypeTests.{IsInteger-is_integer}
 use Rattle.cu_num.specs.declared.folds.FoldKind.{FoldKind}
 use Rattle.cu_num.specs.declared.folds.FoldKind.TheVariants as fold
 use Rattle.cu_num.specs.declared.types.Dtype.{Dtype}
@@ -28,7 +30,6 @@ use Rattle.cu_typing.specs.Reduction.{fold_rule, typed_reduction}
 use Rattle.cu_typing.specs.Types.{typed_elements}
 use Rattle.cu_typing.specs.declared.argument.Argument.{Argument}
 use Rattle.cu_typing.proofs.PassedTogether.{reduction_passed, product_passed}
-use Rattle.cu_expr.proofs.Kernels.{promoted_integer}
 use Rattle.cu_expr.specs.Typing.{argument_of}
 use Rattle.cu_mean.specs.Elementwise.{GoesBack}
 
@@ -86,21 +87,10 @@ sum_is_integer kind axes keepdims i r h e = rw (reduced_type kind axes keepdims 
 
 -- ---- matrix products
 
-integer_type : (d : Dtype) → is_integer d ≡ true → IsInteger d
-integer_type t.Bool h = cc
-integer_type t.Int8 h = tt
-integer_type t.Int16 h = tt
-integer_type t.Int32 h = tt
-integer_type t.Int64 h = tt
-integer_type t.Uint8 h = tt
-integer_type t.Uint16 h = tt
-integer_type t.Uint32 h = tt
-integer_type t.Uint64 h = tt
-
 pub product_is_integer : (l r i : NodeInfo) → typed_matmul l r ≡ Ok i → IsInteger i.dtype
 product_is_integer l r i h =
     let p = (product_passed l r i h).1.1 in
-    rw p.array (integer_type _ (promoted_integer l.dtype r.dtype _ p.promoted p.left_type))
+    rw p.array (promoted_integer l.dtype r.dtype _ p.promoted (IsInteger-is_integer l.dtype p.left_type))
 
 length-rows : (sizes : List ℕ) (b : Bool) (n : ℕ) → length (if b then n ∷ [] else []) ≡ (if b then 1 else 0)
 length-rows sizes true n = refl

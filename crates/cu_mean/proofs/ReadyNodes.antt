@@ -25,25 +25,7 @@ use Rattle.cu_mean.proofs.HeldElements.{read_outside}
 -- no input is told to it
 stored_none : (known : List ℕ → Option NodeInfo) (form : Form) → is_input form ≡ false → stored_of known form ≡ no_info
 stored_none known (Form.Input name) h = cc
-stored_none known (Form.Elementwise op args) h = refl
-stored_none known (Form.Full shape t value chunk) h = refl
-stored_none known (Form.Arange start stop step t chunk) h = refl
-stored_none known (Form.Eye rows cols d t chunk) h = refl
-stored_none known (Form.Triangle lower args d) h = refl
-stored_none known (Form.Index args items) h = refl
-stored_none known (Form.Concat args axis) h = refl
-stored_none known (Form.Stack args axis) h = refl
-stored_none known (Form.PermuteDims args axes) h = refl
-stored_none known (Form.Reshape args shape) h = refl
-stored_none known (Form.ExpandDims args axis) h = refl
-stored_none known (Form.Squeeze args axes) h = refl
-stored_none known (Form.Flip args axes) h = refl
-stored_none known (Form.Roll args shifts axes) h = refl
-stored_none known (Form.BroadcastTo args shape chunk) h = refl
-stored_none known (Form.Rechunk args chunk) h = refl
-stored_none known (Form.Reduce kind args axes keepdims) h = refl
-stored_none known (Form.ArgPlace least args axis keepdims) h = refl
-stored_none known (Form.Matmul args) h = refl
+stored_none known form h = refl
 
 pub ready : (e : Expression) (infos : List NodeInfo) (env : NodeElements) (n : ℕ) (node : Node) (plains : List PlainArray) → IsExpression e → IsTyped e infos → All IsInfo infos
     → slice_get e.nodes n ≡ Some node → is_input node.form ≡ false → HoldFirst e infos env n plains → IsReadyNode node.form infos (info_at infos n) plains

@@ -5,9 +5,9 @@ ghost use Rattle.cu_mean.specs.Node.{is_input, IsReadyNode, IsElement};
 
 use crate::creation::{arange_at, eye_at, literal_number};
 use crate::node::{
-    arg_place_at, concat_node, elementwise_at, expanded_node, flipped_node, indexed_node,
-    permuted_node, product_at, rechunked_node, reduced_at, reshaped_node, rolled_node,
-    squeezed_node, stack_node, stretched_node, triangle_node,
+    arg_place_at, concat_node, elementwise_at, flipped_node, indexed_node, permuted_node,
+    product_at, rechunked_node, reduced_at, reshaped_node, rolled_node, stack_node, stretched_node,
+    triangle_node,
 };
 use crate::plain::Plain;
 use cu_form::Form;
@@ -47,8 +47,6 @@ pub(crate) fn element_at(
         Form::Stack { args, axis } => stack_node(args, *axis, infos, info, plains, idx),
         Form::PermuteDims { args, axes } => permuted_node(args, axes, infos, info, plains, idx),
         Form::Reshape { args, shape } => reshaped_node(args, shape, infos, info, plains, idx),
-        Form::ExpandDims { args, axis } => expanded_node(args, *axis, infos, info, plains, idx),
-        Form::Squeeze { args, axes } => squeezed_node(args, axes, infos, info, plains, idx),
         Form::Flip { args, axes } => flipped_node(args, axes, infos, info, plains, idx),
         Form::Roll { args, shifts, axes } => rolled_node(
             args, shifts, axes, infos, info, plains, idx,

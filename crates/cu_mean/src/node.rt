@@ -25,7 +25,7 @@ use crate::reading::{source, source_dims};
 use crate::reductions::{reduced, reduced_box, reduced_start};
 use crate::views::{flipped, is_in_triangle, permuted, rolled, same_place};
 use cu_form::{Arg, ElementOp, IndexItem, Items};
-use cu_node::NodeInfo;
+use cu_node::{NewShape, NodeInfo};
 use cu_num::FoldKind;
 use cu_shape::{Dims, back};
 
@@ -216,7 +216,7 @@ pub(crate) fn permuted_node(
 /// An array in another shape.
 pub(crate) fn reshaped_node(
     args: &Items<Arg>,
-    shape: &Items<i64>,
+    shape: &NewShape,
     infos: &[NodeInfo],
     info: &NodeInfo,
     plains: &[Plain],
@@ -225,38 +225,6 @@ pub(crate) fn reshaped_node(
     requires ready { IsReadyNode (Form.Reshape args.now shape.now) infos.now info.now plains.now }
     requires inside { IsInside info.now.dims idx.now }
     ensures { IsElement (Form.Reshape args.now shape.now) infos.now info.now plains.now idx.now result }
-{
-    replaced_at(args, infos, info, plains, idx)
-}
-
-/// An array with one axis more.
-pub(crate) fn expanded_node(
-    args: &Items<Arg>,
-    axis: i64,
-    infos: &[NodeInfo],
-    info: &NodeInfo,
-    plains: &[Plain],
-    idx: &Dims,
-) -> i128
-    requires ready { IsReadyNode (Form.ExpandDims args.now axis) infos.now info.now plains.now }
-    requires inside { IsInside info.now.dims idx.now }
-    ensures { IsElement (Form.ExpandDims args.now axis) infos.now info.now plains.now idx.now result }
-{
-    replaced_at(args, infos, info, plains, idx)
-}
-
-/// An array with axes less.
-pub(crate) fn squeezed_node(
-    args: &Items<Arg>,
-    axes: &Items<i64>,
-    infos: &[NodeInfo],
-    info: &NodeInfo,
-    plains: &[Plain],
-    idx: &Dims,
-) -> i128
-    requires ready { IsReadyNode (Form.Squeeze args.now axes.now) infos.now info.now plains.now }
-    requires inside { IsInside info.now.dims idx.now }
-    ensures { IsElement (Form.Squeeze args.now axes.now) infos.now info.now plains.now idx.now result }
 {
     replaced_at(args, infos, info, plains, idx)
 }

@@ -7,7 +7,7 @@ use Rattle.std.proofs.lemmas.Bool.{ltb-true}
 use Rattle.cu_num.specs.Scalar.{truth_number}
 use Rattle.cu_num.specs.Wrap.{wrapped}
 use Rattle.cu_shape.specs.Index.{back, is_inside}
-use Rattle.cu_form.specs.Form.{is_earlier, names_earlier}
+use Rattle.cu_form.specs.Form.{args_of, is_earlier, names_earlier}
 use Rattle.cu_form.specs.declared.args.Arg.{Arg}
 use Rattle.cu_form.specs.declared.form.Form.{Form}
 use Rattle.cu_node.specs.Info.{info_at}
@@ -81,17 +81,8 @@ rule_agrees infos env at other k (Form.Arange start stop step dtype chunk) idx e
 rule_agrees infos env at other k (Form.Eye rows cols d dtype chunk) idx earlier agree = refl
 rule_agrees infos env at other k (Form.Triangle lower args d) idx earlier agree =
     ap (λ (x : ℤ). if is_in_triangle lower d idx then x else pos 0) (source_agrees at other k args 0 idx agree earlier)
-rule_agrees infos env at other k (Form.Index args items) idx earlier agree = source_agrees at other k args 0 _ agree earlier
 rule_agrees infos env at other k (Form.Concat args axis) idx earlier agree = concat_agrees infos at other k (axis_in (length idx) axis) args idx agree earlier
 rule_agrees infos env at other k (Form.Stack args axis) idx earlier agree = source_agrees at other k args (slice_index idx (axis_in (length idx) axis)) _ agree earlier
-rule_agrees infos env at other k (Form.PermuteDims args axes) idx earlier agree = source_agrees at other k args 0 _ agree earlier
-rule_agrees infos env at other k (Form.Reshape args shape) idx earlier agree = source_agrees at other k args 0 _ agree earlier
-rule_agrees infos env at other k (Form.ExpandDims args axis) idx earlier agree = source_agrees at other k args 0 _ agree earlier
-rule_agrees infos env at other k (Form.Squeeze args axes) idx earlier agree = source_agrees at other k args 0 _ agree earlier
-rule_agrees infos env at other k (Form.Flip args axes) idx earlier agree = source_agrees at other k args 0 _ agree earlier
-rule_agrees infos env at other k (Form.Roll args shifts axes) idx earlier agree = source_agrees at other k args 0 _ agree earlier
-rule_agrees infos env at other k (Form.BroadcastTo args shape chunk) idx earlier agree = source_agrees at other k args 0 _ agree earlier
-rule_agrees infos env at other k (Form.Rechunk args chunk) idx earlier agree = source_agrees at other k args 0 idx agree earlier
 rule_agrees infos env at other k (Form.Reduce kind args axes keepdims) idx earlier agree =
     ap (λ (f : List ℕ → ℤ). wrapped (info_at infos k).dtype (fold_of kind (reduced_elements f axes keepdims (source_shape infos args 0) idx))) (source_same at other k args 0 agree earlier)
 rule_agrees infos env at other k (Form.ArgPlace least args axis keepdims) idx earlier agree =
@@ -99,6 +90,7 @@ rule_agrees infos env at other k (Form.ArgPlace least args axis keepdims) idx ea
 rule_agrees infos env at other k (Form.Matmul args) idx earlier agree =
     ap (λ (f : List ℕ → ℤ). wrapped (info_at infos k).dtype (matmul_at f (source_shape infos args 0) (source_at at args 1) (source_shape infos args 1) idx)) (source_same at other k args 0 agree earlier)
     ∙ ap (λ (f : List ℕ → ℤ). wrapped (info_at infos k).dtype (matmul_at (source_at other args 0) (source_shape infos args 0) f (source_shape infos args 1) idx)) (source_same at other k args 1 agree earlier)
+rule_agrees infos env at other k form idx earlier agree = source_agrees at other k (args_of form) 0 _ agree earlier
 
 pub node_agrees : (infos : List NodeInfo) (env at other : NodeElements) (k : ℕ) (form : Form) (idx : List ℕ) → names_earlier k form ≡ true → AgreeBelow k at other
     → node_element infos env at k form idx ≡ node_element infos env other k form idx

@@ -14,6 +14,7 @@ use Rattle.cu_node.specs.declared.element_op.ElementOp.{ElementOp}
 use Rattle.cu_form.specs.declared.form.Form.{Form}
 use Rattle.cu_node.specs.Info.{info_of}
 use Rattle.cu_node.specs.declared.info.NodeInfo.{NodeInfo}
+use Rattle.cu_node.specs.declared.new_shape.NewShape.{NewShape}
 use Rattle.cu_meaning.specs.Argument.{NodeElements}
 use Rattle.cu_meaning.specs.Meaning.{meaning_after, no_elements}
 
@@ -74,7 +75,7 @@ reversed = refl
 last_row : over (Form.Index one (IndexItem.At (negsuc 0) ∷ IndexItem.New ∷ IndexItem.Ellipsis ∷ [])) Int32 (2 ∷ 3 ∷ []) six Int32 (1 ∷ 3 ∷ []) ≡ pos 4 ∷ pos 5 ∷ pos 6 ∷ []
 last_row = refl
 
-reshaped : over (Form.Reshape one (pos 3 ∷ negsuc 0 ∷ [])) Int32 (2 ∷ 3 ∷ []) six Int32 (3 ∷ 2 ∷ []) ≡ six
+reshaped : over (Form.Reshape one (NewShape.Sizes (pos 3 ∷ negsuc 0 ∷ []))) Int32 (2 ∷ 3 ∷ []) six Int32 (3 ∷ 2 ∷ []) ≡ six
 reshaped = refl
 
 transposed : over (Form.PermuteDims one (pos 1 ∷ pos 0 ∷ [])) Int32 (2 ∷ 3 ∷ []) six Int32 (3 ∷ 2 ∷ []) ≡ pos 1 ∷ pos 4 ∷ pos 2 ∷ pos 5 ∷ pos 3 ∷ pos 6 ∷ []

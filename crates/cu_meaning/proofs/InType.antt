@@ -19,7 +19,7 @@ use Rattle.cu_num.proofs.ScalarRange.{InRange-op1, InRange-op2}
 use Rattle.cu_num.proofs.Wrapped.{InRange-wrapped}
 use Rattle.cu_shape.specs.Index.{product, is_inside}
 use Rattle.cu_form.specs.Expression.{Expression, IsExpression}
-use Rattle.cu_form.specs.Form.{is_earlier, names_earlier}
+use Rattle.cu_form.specs.Form.{args_of, is_earlier, names_earlier}
 use Rattle.cu_form.specs.declared.args.Arg.{Arg}
 use Rattle.cu_form.specs.declared.expr.Node.{Node}
 use Rattle.cu_node.specs.declared.element_op.ElementOp.{ElementOp}
@@ -145,22 +145,14 @@ rule_fits infos env at k (Form.Arange start stop step dtype chunk) idx inside be
 rule_fits infos env at k (Form.Eye rows cols d dtype chunk) idx inside below earlier keeps = either_fits (type_at infos k) _ (pos 1) (pos 0) (one_in_range (type_at infos k)) (zero_in_range (type_at infos k))
 rule_fits infos env at k (Form.Triangle lower args d) idx inside below earlier keeps =
     either_fits (type_at infos k) (is_in_triangle lower d idx) _ (pos 0) (source_fits infos at k (type_at infos k) args 0 idx below earlier keeps) (zero_in_range (type_at infos k))
-rule_fits infos env at k (Form.Index args items) idx inside below earlier keeps = source_fits infos at k (type_at infos k) args 0 _ below earlier keeps
 rule_fits infos env at k (Form.Concat args axis) idx inside below earlier keeps = concat_fits infos at k (type_at infos k) (axis_in (length idx) axis) args idx below earlier keeps
 rule_fits infos env at k (Form.Stack args axis) idx inside below earlier keeps = source_fits infos at k (type_at infos k) args (slice_index idx (axis_in (length idx) axis)) _ below earlier keeps
-rule_fits infos env at k (Form.PermuteDims args axes) idx inside below earlier keeps = source_fits infos at k (type_at infos k) args 0 _ below earlier keeps
-rule_fits infos env at k (Form.Reshape args shape) idx inside below earlier keeps = source_fits infos at k (type_at infos k) args 0 _ below earlier keeps
-rule_fits infos env at k (Form.ExpandDims args axis) idx inside below earlier keeps = source_fits infos at k (type_at infos k) args 0 _ below earlier keeps
-rule_fits infos env at k (Form.Squeeze args axes) idx inside below earlier keeps = source_fits infos at k (type_at infos k) args 0 _ below earlier keeps
-rule_fits infos env at k (Form.Flip args axes) idx inside below earlier keeps = source_fits infos at k (type_at infos k) args 0 _ below earlier keeps
-rule_fits infos env at k (Form.Roll args shifts axes) idx inside below earlier keeps = source_fits infos at k (type_at infos k) args 0 _ below earlier keeps
-rule_fits infos env at k (Form.BroadcastTo args shape chunk) idx inside below earlier keeps = source_fits infos at k (type_at infos k) args 0 _ below earlier keeps
-rule_fits infos env at k (Form.Rechunk args chunk) idx inside below earlier keeps = source_fits infos at k (type_at infos k) args 0 idx below earlier keeps
 rule_fits infos env at k (Form.Reduce kind args axes keepdims) idx inside below earlier keeps = InRange-wrapped (type_at infos k) _
 rule_fits infos env at k (Form.ArgPlace least args axis keepdims) idx inside below earlier keeps =
     subst (λ (r : Dtype). InRange r (rule_of infos env at k (Form.ArgPlace least args axis keepdims) idx)) (sym keeps.0)
     (place_fits least (source_at at args 0) (place_axes axis) keepdims (source_shape infos args 0) idx keeps.1)
 rule_fits infos env at k (Form.Matmul args) idx inside below earlier keeps = InRange-wrapped (type_at infos k) _
+rule_fits infos env at k form idx inside below earlier keeps = source_fits infos at k (type_at infos k) (args_of form) 0 _ below earlier keeps
 
 node_fits_by : (infos : List NodeInfo) (env at : NodeElements) (k : ℕ) (form : Form) (idx : List ℕ) (b : Bool) → is_inside (shape_at infos k) idx ≡ b → FitBelow infos at k → names_earlier k form ≡ true
     → KeepsType infos env k form → InRange (type_at infos k) (if b then rule_of infos env at k form idx else pos 0)

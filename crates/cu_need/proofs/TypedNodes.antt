@@ -95,23 +95,7 @@ module _ (infos : List NodeInfo) (kept : (k : ℕ) → IsInfo (info_at infos k))
   partials_within k (Form.Reduce kind args axes keepdims) typed = reduction_within (fold_rule kind (array_of infos args 0).dtype) axes keepdims (array_of infos args 0) k typed
   partials_within k (Form.ArgPlace least args axis keepdims) typed = search_within axis keepdims (array_of infos args 0) k (array_kept args 0) typed
   partials_within k (Form.Matmul args) typed = product_within (array_of infos args 0) (array_of infos args 1) k typed
-  partials_within k (Form.Elementwise op args) typed = tt
-  partials_within k (Form.Input name) typed = tt
-  partials_within k (Form.Full shape dtype value chunk) typed = tt
-  partials_within k (Form.Arange start stop step dtype chunk) typed = tt
-  partials_within k (Form.Eye rows cols d dtype chunk) typed = tt
-  partials_within k (Form.Triangle lower args d) typed = tt
-  partials_within k (Form.Index args items) typed = tt
-  partials_within k (Form.Concat args axis) typed = tt
-  partials_within k (Form.Stack args axis) typed = tt
-  partials_within k (Form.PermuteDims args axes) typed = tt
-  partials_within k (Form.Reshape args shape) typed = tt
-  partials_within k (Form.ExpandDims args axis) typed = tt
-  partials_within k (Form.Squeeze args axes) typed = tt
-  partials_within k (Form.Flip args axes) typed = tt
-  partials_within k (Form.Roll args shifts axes) typed = tt
-  partials_within k (Form.BroadcastTo args shape chunk) typed = tt
-  partials_within k (Form.Rechunk args chunk) typed = tt
+  partials_within k form typed = tt
 
   -- ---- operands
 
@@ -135,24 +119,7 @@ module _ (infos : List NodeInfo) (kept : (k : ℕ) → IsInfo (info_at infos k))
   operands_within : (k : ℕ) (form : Form) → IsTyped infos k form → All IsRechunk (operands_of infos k form)
   operands_within k (Form.Elementwise op args) typed = function_within op args k typed
   operands_within k (Form.Matmul args) typed = matrices_within (array_of infos args 0) (array_of infos args 1) k (array_kept args 0) (array_kept args 1) typed
-  operands_within k (Form.Reduce kind args axes keepdims) typed = All-nil IsRechunk
-  operands_within k (Form.ArgPlace least args axis keepdims) typed = All-nil IsRechunk
-  operands_within k (Form.Input name) typed = All-nil IsRechunk
-  operands_within k (Form.Full shape dtype value chunk) typed = All-nil IsRechunk
-  operands_within k (Form.Arange start stop step dtype chunk) typed = All-nil IsRechunk
-  operands_within k (Form.Eye rows cols d dtype chunk) typed = All-nil IsRechunk
-  operands_within k (Form.Triangle lower args d) typed = All-nil IsRechunk
-  operands_within k (Form.Index args items) typed = All-nil IsRechunk
-  operands_within k (Form.Concat args axis) typed = All-nil IsRechunk
-  operands_within k (Form.Stack args axis) typed = All-nil IsRechunk
-  operands_within k (Form.PermuteDims args axes) typed = All-nil IsRechunk
-  operands_within k (Form.Reshape args shape) typed = All-nil IsRechunk
-  operands_within k (Form.ExpandDims args axis) typed = All-nil IsRechunk
-  operands_within k (Form.Squeeze args axes) typed = All-nil IsRechunk
-  operands_within k (Form.Flip args axes) typed = All-nil IsRechunk
-  operands_within k (Form.Roll args shifts axes) typed = All-nil IsRechunk
-  operands_within k (Form.BroadcastTo args shape chunk) typed = All-nil IsRechunk
-  operands_within k (Form.Rechunk args chunk) typed = All-nil IsRechunk
+  operands_within k form typed = All-nil IsRechunk
 
   -- ---- copies
 
@@ -181,24 +148,7 @@ module _ (infos : List NodeInfo) (kept : (k : ℕ) → IsInfo (info_at infos k))
   copies_within out k (Form.Input name) typed = input_within (k == out) k
   copies_within out k (Form.Rechunk args chunk) typed =
       one_within (in_chunks (array_of infos args 0) (info_at infos k).chunk) (in_chunks_of (array_of infos args 0) k (array_kept args 0) typed.0 typed.1)
-  copies_within out k (Form.Elementwise op args) typed = misaligned_within k (Form.Elementwise op args) typed
-  copies_within out k (Form.Reduce kind args axes keepdims) typed = misaligned_within k (Form.Reduce kind args axes keepdims) typed
-  copies_within out k (Form.ArgPlace least args axis keepdims) typed = misaligned_within k (Form.ArgPlace least args axis keepdims) typed
-  copies_within out k (Form.Matmul args) typed = misaligned_within k (Form.Matmul args) typed
-  copies_within out k (Form.Full shape dtype value chunk) typed = misaligned_within k (Form.Full shape dtype value chunk) typed
-  copies_within out k (Form.Arange start stop step dtype chunk) typed = misaligned_within k (Form.Arange start stop step dtype chunk) typed
-  copies_within out k (Form.Eye rows cols d dtype chunk) typed = misaligned_within k (Form.Eye rows cols d dtype chunk) typed
-  copies_within out k (Form.Triangle lower args d) typed = misaligned_within k (Form.Triangle lower args d) typed
-  copies_within out k (Form.Index args items) typed = misaligned_within k (Form.Index args items) typed
-  copies_within out k (Form.Concat args axis) typed = misaligned_within k (Form.Concat args axis) typed
-  copies_within out k (Form.Stack args axis) typed = misaligned_within k (Form.Stack args axis) typed
-  copies_within out k (Form.PermuteDims args axes) typed = misaligned_within k (Form.PermuteDims args axes) typed
-  copies_within out k (Form.Reshape args shape) typed = misaligned_within k (Form.Reshape args shape) typed
-  copies_within out k (Form.ExpandDims args axis) typed = misaligned_within k (Form.ExpandDims args axis) typed
-  copies_within out k (Form.Squeeze args axes) typed = misaligned_within k (Form.Squeeze args axes) typed
-  copies_within out k (Form.Flip args axes) typed = misaligned_within k (Form.Flip args axes) typed
-  copies_within out k (Form.Roll args shifts axes) typed = misaligned_within k (Form.Roll args shifts axes) typed
-  copies_within out k (Form.BroadcastTo args shape chunk) typed = misaligned_within k (Form.BroadcastTo args shape chunk) typed
+  copies_within out k form typed = misaligned_within k form typed
 
   pub typed_within : (out k : ℕ) (form : Form) → IsTyped infos k form → IsNodeWithin infos out k form
   typed_within out k form typed = record { partials = partials_within k form typed; operands = operands_within k form typed; copies = copies_within out k form typed }

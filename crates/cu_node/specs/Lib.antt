@@ -3,4 +3,5 @@ pub mod Fault
 pub mod Info
 pub mod Limited
 pub mod Literal
+pub mod NewShape
 pub mod Types

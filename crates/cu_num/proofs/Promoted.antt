@@ -403,3 +403,10 @@ promotion_apart a b t e = ⊎_elim
     (λ h. inr (g, h, not_bool t (λ is. no_two t is (first_in_range a b t e (pos 2) (two_inside a g)))))
     (bool_or_integer b))
     (bool_or_integer a)
+
+-- a bool is promoted to bool alone, and an integer type to an integer type
+pub promoted_bool : (a b t : Dtype) → promotion a b ≡ Some t → a ≡ Bool → t ≡ Bool
+promoted_bool a b t e is = ⊎_elim (λ (p, q, r). r) (λ (g, h, i). absurd (subst IsInteger is g)) (promotion_apart a b t e)
+
+pub promoted_integer : (a b t : Dtype) → promotion a b ≡ Some t → IsInteger a → IsInteger t
+promoted_integer a b t e g = ⊎_elim (λ (p, q, r). absurd (subst IsInteger p g)) (λ (g, h, i). i) (promotion_apart a b t e)

@@ -1,5 +1,5 @@
 -- Each value of a sound plan is a number of its array's type, where the inputs' are.
-use Rattle.std.proofs.Common.{◌≡◌, inl, inr, ℕ, ℤ, pos, zero, suc, ◌<◌, ◌≤◌, ◌+◌, ◌-◌, ◌^◌, ◌==◌, Bool, true, false, List, [], ◌∷◌, ◌++◌, length, map, All, Contains, Option, None, Some, refl, ap, sym, ◌∙◌, subst, arith, if◌then◌else◌}
+use Rattle.std.proofs.Common.{◌≡◌, inl, inr, ℕ, ℤ, pos, zero, suc, ◌<◌, ◌≤◌, ◌+◌, ◌-◌, ◌^◌, ◌==◌, true, false, List, [], ◌∷◌, ◌++◌, length, map, All, Contains, Option, None, Some, refl, ap, sym, ◌∙◌, subst, arith, if◌then◌else◌}
 use Rattle.std.specs.List.{slice_get, list_any, AllZip}
 use Rattle.std.specs.Option.{option_and_then, option_map}
 use Rattle.std.proofs.lemmas.Option.{slice_get-map, slice_get_within, get_or_from_slice_get, same_Some}
@@ -7,19 +7,17 @@ use Rattle.std.proofs.lemmas.Bool.Decides.{eqb_tells}
 use Rattle.std.proofs.lemmas.List.Elements.{All-contains}
 use Rattle.std.specs.Ordering.{int_eq}
 use Rattle.cu_num.specs.Dtype.{InRange}
-use Rattle.cu_num.specs.Promotion.{promotion}
-use Rattle.cu_num.specs.Scalar.{op1, op2, result_type1, result_type2, truth_number}
+use Rattle.cu_num.specs.Scalar.{op1, op2, result_type1, result_type2}
 use Rattle.cu_num.specs.Wrap.{wrapped}
+use Rattle.cu_num.proofs.ElementBytes.{InRange-element_at}
+use Rattle.cu_num.proofs.Promoted.{first_in_range, second_in_range}
+use Rattle.cu_num.proofs.ScalarRange.{InRange-op1, InRange-op2}
+use Rattle.cu_num.proofs.Wrapped.{InRange-wrapped}
 use Rattle.cu_num.specs.declared.types.Dtype.{Dtype}
 use Rattle.cu_num.specs.declared.types.Dtype.TheVariants as types
-use Rattle.cu_num.specs.declared.functions.Fn1.{Fn1}
-use Rattle.cu_num.specs.declared.functions.Fn1.TheVariants.{Negative, Positive, Abs, Square, Sign, BitwiseInvert, LogicalNot, Astype}
-use Rattle.cu_num.specs.declared.functions.Fn2.{Fn2}
-use Rattle.cu_num.specs.declared.functions.Fn2.TheVariants.{Add, Subtract, Multiply, FloorDivide, Remainder, BitwiseAnd, BitwiseOr, BitwiseXor, LeftShift, RightShift, Equal, NotEqual, Less, LessEqual, Greater, GreaterEqual, LogicalAnd, LogicalOr, LogicalXor}
 use Rattle.cu_num.specs.declared.folds.FoldKind.{FoldKind}
 use Rattle.cu_num.specs.declared.folds.FoldKind.TheVariants.{Sum}
 use Rattle.cu_num.specs.Element.{element_at}
-use Rattle.cu_num.specs.declared.layout.Endian.{Endian}
 use Rattle.cu_shape.specs.Counts.{at_least_one}
 use Rattle.cu_shape.specs.Index.{back, place_of, product, quotients, remainders, IsInside}
 use Rattle.cu_grid.specs.Grid.{IsGrid}
@@ -57,51 +55,6 @@ use Rattle.cu_op.proofs.PairRanges.{some_map, some_then, best_listed, found_part
 use Rattle.cu_op.proofs.Plans.{grid_ok}
 use Rattle.cu_op.proofs.Values.{any_contains, contains_any, bool_cases, reads_listed}
 
--- the laws of wrapping and of promotion
-abbrev pub Wraps : Type 0
-Wraps = (t : Dtype) (x : ℤ) → InRange t (wrapped t x)
-
-abbrev pub Promotes : Type 0
-Promotes = (a b t : Dtype) → promotion a b ≡ Some t → (x : ℤ) → InRange a x → InRange t x
-
-abbrev pub PromotesBoth : Type 0
-PromotesBoth = (a b t : Dtype) → promotion a b ≡ Some t → (x : ℤ) → InRange b x → InRange t x
-
-truth_range : (b : Bool) → InRange types.Bool (truth_number b)
-truth_range true = (omega arith, omega arith)
-truth_range false = (omega arith, omega arith)
-
-op1_range : Wraps → (f : Fn1) (t : Dtype) (x : ℤ) → InRange (result_type1 f t) (op1 f t x)
-op1_range w Negative t x = w t _
-op1_range w Positive t x = w t _
-op1_range w Abs t x = w t _
-op1_range w Square t x = w t _
-op1_range w Sign t x = w t _
-op1_range w BitwiseInvert t x = w t _
-op1_range w LogicalNot t x = truth_range _
-op1_range w Astype t x = w t _
-
-op2_range : Wraps → (f : Fn2) (t : Dtype) (x y : ℤ) → InRange (result_type2 f t) (op2 f t x y)
-op2_range w Add t x y = w t _
-op2_range w Subtract t x y = w t _
-op2_range w Multiply t x y = w t _
-op2_range w FloorDivide t x y = w t _
-op2_range w Remainder t x y = w t _
-op2_range w BitwiseAnd t x y = w t _
-op2_range w BitwiseOr t x y = w t _
-op2_range w BitwiseXor t x y = w t _
-op2_range w LeftShift t x y = w t _
-op2_range w RightShift t x y = w t _
-op2_range w Equal t x y = truth_range _
-op2_range w NotEqual t x y = truth_range _
-op2_range w Less t x y = truth_range _
-op2_range w LessEqual t x y = truth_range _
-op2_range w Greater t x y = truth_range _
-op2_range w GreaterEqual t x y = truth_range _
-op2_range w LogicalAnd t x y = truth_range _
-op2_range w LogicalOr t x y = truth_range _
-op2_range w LogicalXor t x y = truth_range _
-
 -- a number is one that an instruction gives
 abbrev Has : Operand → ℤ → Type 0
 Has (Typed t) x = InRange t x
@@ -120,43 +73,43 @@ has_push (s ∷ rs) [] r x z h = absurd z
 has_push (s ∷ rs) (y ∷ xs) r x z h = (z.0, has_push rs xs r x z.1 h)
 
 -- of two arguments that have a type together, each number is one of the type
-joint_left : Promotes → (a b : Operand) (t : Dtype) (x : ℤ) → HaveType a b t → Has a x → InRange t x
-joint_left p (Typed a) (Typed b) t x h k = p a b t h x k
-joint_left p (Typed a) (Literal y) t x h k = subst (λ (d : Dtype). InRange d x) h.0 k
-joint_left p (Literal y) (Typed b) t x h k = subst (InRange t) (sym k) h.1
-joint_left p (Literal y) (Literal z) t x h k = absurd h
+joint_left : (a b : Operand) (t : Dtype) (x : ℤ) → HaveType a b t → Has a x → InRange t x
+joint_left (Typed a) (Typed b) t x h k = first_in_range a b t h x k
+joint_left (Typed a) (Literal y) t x h k = subst (λ (d : Dtype). InRange d x) h.0 k
+joint_left (Literal y) (Typed b) t x h k = subst (InRange t) (sym k) h.1
+joint_left (Literal y) (Literal z) t x h k = absurd h
 
-joint_right : PromotesBoth → (a b : Operand) (t : Dtype) (x : ℤ) → HaveType a b t → Has b x → InRange t x
-joint_right p (Typed a) (Typed b) t x h k = p a b t h x k
-joint_right p (Typed a) (Literal y) t x h k = subst (InRange t) (sym k) h.1
-joint_right p (Literal y) (Typed b) t x h k = subst (λ (d : Dtype). InRange d x) h.0 k
-joint_right p (Literal y) (Literal z) t x h k = absurd h
+joint_right : (a b : Operand) (t : Dtype) (x : ℤ) → HaveType a b t → Has b x → InRange t x
+joint_right (Typed a) (Typed b) t x h k = second_in_range a b t h x k
+joint_right (Typed a) (Literal y) t x h k = subst (InRange t) (sym k) h.1
+joint_right (Literal y) (Typed b) t x h k = subst (λ (d : Dtype). InRange d x) h.0 k
+joint_right (Literal y) (Literal z) t x h k = absurd h
 
 selected_range : (t : Dtype) (s x y : ℤ) → InRange t x → InRange t y → InRange t (selected s x y)
 selected_range t s x y hx hy = elim (int_eq s (pos 1)) as (λ b. InRange t (if b then x else y)) [ true ↦ hx | false ↦ hy ]
 
-instruction_range : Wraps → Promotes → PromotesBoth → (i : Instr) (types : List Dtype) (rs : List Operand) (r : Operand) (load : ℕ → Option ℤ) (xs : List ℤ) (v : ℤ)
+instruction_range : (i : Instr) (types : List Dtype) (rs : List Operand) (r : Operand) (load : ℕ → Option ℤ) (xs : List ℤ) (v : ℤ)
     → Gives i types rs r → LoadsTypes types load → AllZip Has rs xs → instruction_value i load xs ≡ Some v → Has r v
-instruction_range w p q (Load k) types rs r load xs v (t, et, er) loads z e = subst (λ (o : Operand). Has o v) (sym er) (loads k t v et e)
-instruction_range w p q (Const x) types rs r load xs v er loads z e = subst (λ (o : Operand). Has o v) (sym er) (sym (same_Some x v e))
-instruction_range w p q (One f t a) types rs r load xs v (d, ea, arg, acc, er) loads z e =
+instruction_range (Load k) types rs r load xs v (t, et, er) loads z e = subst (λ (o : Operand). Has o v) (sym er) (loads k t v et e)
+instruction_range (Const x) types rs r load xs v er loads z e = subst (λ (o : Operand). Has o v) (sym er) (sym (same_Some x v e))
+instruction_range (One f t a) types rs r load xs v (d, ea, arg, acc, er) loads z e =
     let m = some_map (op1 f t) (slice_get xs a) v e in
-    subst (λ (o : Operand). Has o v) (sym er) (subst (InRange (result_type1 f t)) m.2 (op1_range w f t m.0))
-instruction_range w p q (Two f t a b) types rs r load xs v (x, y, ea, eb, have, acc, er) loads z e =
+    subst (λ (o : Operand). Has o v) (sym er) (subst (InRange (result_type1 f t)) m.2 (InRange-op1 f t m.0))
+instruction_range (Two f t a b) types rs r load xs v (x, y, ea, eb, have, acc, er) loads z e =
     let m = some_then (λ u. option_map (op2 f t u) (slice_get xs b)) (slice_get xs a) v e in
     let n = some_map (op2 f t m.0) (slice_get xs b) v m.2 in
-    subst (λ (o : Operand). Has o v) (sym er) (subst (InRange (result_type2 f t)) n.2 (op2_range w f t m.0 n.0))
-instruction_range w p q (Select c a b) types rs r load xs v (x, y, t, ec, ea, eb, have, er) loads z e =
+    subst (λ (o : Operand). Has o v) (sym er) (subst (InRange (result_type2 f t)) n.2 (InRange-op2 f t m.0 n.0))
+instruction_range (Select c a b) types rs r load xs v (x, y, t, ec, ea, eb, have, er) loads z e =
     let l = some_then (λ s. option_and_then (λ u. option_map (selected s u) (slice_get xs b)) (slice_get xs a)) (slice_get xs c) v e in
     let m = some_then (λ u. option_map (selected l.0 u) (slice_get xs b)) (slice_get xs a) v l.2 in
     let n = some_map (selected l.0 m.0) (slice_get xs b) v m.2 in
-    let left = joint_left p x y t m.0 have (has_at rs xs a x m.0 z ea m.1) in
-    let right = joint_right q x y t n.0 have (has_at rs xs b y n.0 z eb n.1) in
+    let left = joint_left x y t m.0 have (has_at rs xs a x m.0 z ea m.1) in
+    let right = joint_right x y t n.0 have (has_at rs xs b y n.0 z eb n.1) in
     subst (λ (o : Operand). Has o v) (sym er) (subst (InRange t) n.2 (selected_range t l.0 m.0 n.0 left right))
 
-results_range : Wraps → Promotes → PromotesBoth → (code : List Instr) (types : List Dtype) (rs : List Operand) (t : Dtype) (load : ℕ → Option ℤ) (xs ys : List ℤ) (v : ℤ)
+results_range : (code : List Instr) (types : List Dtype) (rs : List Operand) (t : Dtype) (load : ℕ → Option ℤ) (xs ys : List ℤ) (v : ℤ)
     → KernelFits code types rs t → LoadsTypes types load → AllZip Has rs xs → results_from code load xs ≡ Some ys → last_of ys ≡ Some v → InRange t v
-results_range w p q [] types rs t load xs ys v fits loads z e l =
+results_range [] types rs t load xs ys v fits loads z e l =
     let same : xs ≡ ys = same_Some xs ys e in
     let n : length rs ≡ length xs = length_has rs xs z in
     has_at rs xs (length xs - 1) (Typed t) v z (subst (λ (m : ℕ). slice_get rs (m - 1) ≡ Some (Typed t)) n fits) (subst (λ (zs : List ℤ). last_of zs ≡ Some v) (sym same) l)
@@ -166,17 +119,17 @@ results_range w p q [] types rs t load xs ys v fits loads z e l =
     length_has [] (x ∷ xs) z = absurd z
     length_has (r ∷ rs) [] z = absurd z
     length_has (r ∷ rs) (x ∷ xs) z = ap suc (length_has rs xs z.1)
-results_range w p q (i ∷ is) types rs t load xs ys v (r, gives, fits) loads z e l =
+results_range (i ∷ is) types rs t load xs ys v (r, gives, fits) loads z e l =
     let m = some_then (λ x. results_from is load (xs ++ x ∷ [])) (instruction_value i load xs) ys e in
-    let here = instruction_range w p q i types rs r load xs m.0 gives loads z m.1 in
-    results_range w p q is types (rs ++ r ∷ []) t load (xs ++ m.0 ∷ []) ys v fits loads (has_push rs xs r m.0 z here) m.2 l
+    let here = instruction_range i types rs r load xs m.0 gives loads z m.1 in
+    results_range is types (rs ++ r ∷ []) t load (xs ++ m.0 ∷ []) ys v fits loads (has_push rs xs r m.0 z here) m.2 l
 
 -- a kernel that fits gives numbers of its type
-pub kernel_range : Wraps → Promotes → PromotesBoth → (code : List Instr) (types : List Dtype) (t : Dtype) (load : ℕ → Option ℤ) (v : ℤ)
+pub kernel_range : (code : List Instr) (types : List Dtype) (t : Dtype) (load : ℕ → Option ℤ) (v : ℤ)
     → KernelFits code types [] t → LoadsTypes types load → kernel_value code load ≡ Some v → InRange t v
-kernel_range w p q code types t load v fits loads e =
+kernel_range code types t load v fits loads e =
     let m = some_then last_of (results_from code load []) v e in
-    results_range w p q code types [] t load [] m.0 v fits loads tt m.1 m.2
+    results_range code types [] t load [] m.0 v fits loads tt m.1 m.2
 
 -- ---- what an operation gives, where what it reads has its arrays' types
 
@@ -198,18 +151,18 @@ loads_types kernel ins out arrays idx at typed j t y et ey =
     subst (λ (d : Dtype). InRange d y) (ap (type_at arrays) (sym same) ∙ f.2) (typed m.0 (back (grid_at arrays m.0).shape idx) y (listed, refl) m.2)
 
 -- a view keeps a source's numbers
-converted : Promotes → (pull : View) (from to : Dtype) (x : ℤ) → Converts pull from to → InRange from x → InRange to x
-converted p (Concat axis) from to x h r = p from to to h x r
-converted p (Stack axis) from to x h r = p from to to h x r
-converted p pull from to x h r = subst (λ (d : Dtype). InRange d x) h r
+converted : (pull : View) (from to : Dtype) (x : ℤ) → Converts pull from to → InRange from x → InRange to x
+converted (Concat axis) from to x h r = first_in_range from to to h x r
+converted (Stack axis) from to x h r = first_in_range from to to h x r
+converted pull from to x h r = subst (λ (d : Dtype). InRange d x) h r
 
-pulled_range : Promotes → (pull : View) (ins : ArrayVec ℕ) (out : ℕ) (arrays : List ArrayInfo) (at : Elements) (idx : List ℕ) (x : ℤ) (o : Provenance) → PullFits arrays pull ins.items out
+pulled_range : (pull : View) (ins : ArrayVec ℕ) (out : ℕ) (arrays : List ArrayInfo) (at : Elements) (idx : List ℕ) (x : ℤ) (o : Provenance) → PullFits arrays pull ins.items out
     → IsInside (grid_at arrays out).shape idx → ReadsTypes (Pull pull ins out) arrays idx at → origin_at arrays pull ins.items out idx ≡ o → pulled ins.items at o ≡ Some x → InRange (type_at arrays out) x
-pulled_range p pull ins out arrays at idx x (From source i) fits inside typed o v =
+pulled_range pull ins out arrays at idx x (From source i) fits inside typed o v =
     let (a, given, value) = some_then (λ b. at b i) (slice_get ins.items source) x v in
-    converted p pull (type_at arrays a) (type_at arrays out) x (at_place (λ b. Converts pull (type_at arrays b) (type_at arrays out)) ins.items source a fits.types given)
+    converted pull (type_at arrays a) (type_at arrays out) x (at_place (λ b. Converts pull (type_at arrays b) (type_at arrays out)) ins.items source a fits.types given)
     (typed a i x (source, given, o) value)
-pulled_range p pull ins out arrays at idx x (Number y) fits inside typed o v = subst (InRange (type_at arrays out)) (same_Some y x v) (fits.numbers idx y inside o)
+pulled_range pull ins out arrays at idx x (Number y) fits inside typed o v = subst (InRange (type_at arrays out)) (same_Some y x v) (fits.numbers idx y inside o)
 
 -- the only array that is written
 only_written : (out a : ℕ) → Contains (out ∷ []) a → out ≡ a
@@ -220,27 +173,27 @@ only_written out a (suc k, l, e) = absurd (let b : suc k < 1 = l in omega arith)
 abbrev ReadsInside : Op → List ArrayInfo → List ℕ → Type 0
 ReadsInside op arrays idx = (b : ℕ) (i : List ℕ) → ReadsAt op arrays idx b i → IsInside (grid_at arrays b).shape i × (product (at_least_one (grid_at arrays b).shape) ≤ 2 ^ 56)
 
-reduced_range : Wraps → (kind : FoldKind) (t : Dtype) (xs : List (Option ℤ)) (x : ℤ) → reduced_to kind t xs ≡ Some x → InRange t x
-reduced_range w kind t xs x e = let m = some_map (λ ys. wrapped t (fold_of kind ys)) (all_some xs) x e in subst (InRange t) m.2 (w t (fold_of kind m.0))
+reduced_range : (kind : FoldKind) (t : Dtype) (xs : List (Option ℤ)) (x : ℤ) → reduced_to kind t xs ≡ Some x → InRange t x
+reduced_range kind t xs x e = let m = some_map (λ ys. wrapped t (fold_of kind ys)) (all_some xs) x e in subst (InRange t) m.2 (InRange-wrapped t (fold_of kind m.0))
 
-fold_range : Wraps → (kind : FoldKind) (arrays : List ArrayInfo) (out a : ℕ) (xs : List (Option ℤ)) (x : ℤ) → Contains (out ∷ []) a → reduced_to kind (type_at arrays out) xs ≡ Some x → InRange (type_at arrays a) x
-fold_range w kind arrays out a xs x among v = subst (λ (b : ℕ). InRange (type_at arrays b) x) (only_written out a among) (reduced_range w kind (type_at arrays out) xs x v)
+fold_range : (kind : FoldKind) (arrays : List ArrayInfo) (out a : ℕ) (xs : List (Option ℤ)) (x : ℤ) → Contains (out ∷ []) a → reduced_to kind (type_at arrays out) xs ≡ Some x → InRange (type_at arrays a) x
+fold_range kind arrays out a xs x among v = subst (λ (b : ℕ). InRange (type_at arrays b) x) (only_written out a among) (reduced_range kind (type_at arrays out) xs x v)
 
-rule_range : Wraps → Promotes → PromotesBoth → (op : Op) (arrays : List ArrayInfo) (at : Elements) (a : ℕ) (idx : List ℕ) (x : ℤ) → Contains (writes_of op) a → Fits arrays op
+rule_range : (op : Op) (arrays : List ArrayInfo) (at : Elements) (a : ℕ) (idx : List ℕ) (x : ℤ) → Contains (writes_of op) a → Fits arrays op
     → IsInside (task_grid arrays op).shape idx → ReadsTypes op arrays idx at → ReadsInside op arrays idx → rule op arrays at a idx ≡ Some x → InRange (type_at arrays a) x
-rule_range w p q (Map kernel ins out) arrays at a idx x among fits inside typed reads v =
+rule_range (Map kernel ins out) arrays at a idx x among fits inside typed reads v =
     subst (λ (b : ℕ). InRange (type_at arrays b) x) (only_written out a among)
-    (kernel_range w p q kernel.code.items (map (type_at arrays) ins.items) (type_at arrays out) (loaded arrays ins.items at idx) x fits.kernel (loads_types kernel ins out arrays idx at typed) v)
-rule_range w p q (Pull pull ins out) arrays at a idx x among fits inside typed reads v =
+    (kernel_range kernel.code.items (map (type_at arrays) ins.items) (type_at arrays out) (loaded arrays ins.items at idx) x fits.kernel (loads_types kernel ins out arrays idx at typed) v)
+rule_range (Pull pull ins out) arrays at a idx x among fits inside typed reads v =
     subst (λ (b : ℕ). InRange (type_at arrays b) x) (only_written out a among)
-    (pulled_range p pull ins out arrays at idx x (origin_at arrays pull ins.items out idx) fits inside typed refl v)
-rule_range w p q (Copy region source out) arrays at a idx x among fits inside typed reads v =
+    (pulled_range pull ins out arrays at idx x (origin_at arrays pull ins.items out idx) fits inside typed refl v)
+rule_range (Copy region source out) arrays at a idx x among fits inside typed reads v =
     subst (λ (b : ℕ). InRange (type_at arrays b) x) (only_written out a among) (subst (λ (d : Dtype). InRange d x) fits.types (typed source idx x (refl, refl) v))
-rule_range w p q (Fold kind axes source out) arrays at a idx x among fits inside typed reads v =
-    fold_range w kind arrays out a (map (at source) (partial_indices arrays (chunk_groups axes (grid_at arrays source)) source out idx)) x among v
-rule_range w p q (Merge kind axis group source out) arrays at a idx x among fits inside typed reads v =
-    fold_range w kind arrays out a (map (at source) (partial_indices arrays (merge_groups axis group (grid_at arrays source)) source out idx)) x among v
-rule_range w p q (PairFold least axis source values out) arrays at a idx x among fits inside typed reads v =
+rule_range (Fold kind axes source out) arrays at a idx x among fits inside typed reads v =
+    fold_range kind arrays out a (map (at source) (partial_indices arrays (chunk_groups axes (grid_at arrays source)) source out idx)) x among v
+rule_range (Merge kind axis group source out) arrays at a idx x among fits inside typed reads v =
+    fold_range kind arrays out a (map (at source) (partial_indices arrays (merge_groups axis group (grid_at arrays source)) source out idx)) x among v
+rule_range (PairFold least axis source values out) arrays at a idx x among fits inside typed reads v =
     let shape = (grid_at arrays source).shape in
     let own = partial_indices arrays (place_groups axis (grid_at arrays source)) source out idx in
     let xs = map (counted_at shape axis (at source)) own in
@@ -250,7 +203,7 @@ rule_range w p q (PairFold least axis source values out) arrays at a idx x among
     let parts = found_parts (at source i) (Some (pos (counted_place axis shape i))) b found in
     let r = reads source i (refl, there) in
     (typed source i b.value (refl, there) parts.value_is, subst (InRange types.Int64) (same_Some _ b.place parts.place_is) (place_range axis shape i fits.0 r.0 r.1))) v
-rule_range w p q (PairMerge least axis group value_source place_source values out) arrays at a idx x among fits inside typed reads v =
+rule_range (PairMerge least axis group value_source place_source values out) arrays at a idx x among fits inside typed reads v =
     let own = partial_indices arrays (merge_groups axis group (grid_at arrays value_source)) value_source out idx in
     let xs = map (λ i. found_at (at value_source i) (at place_source i)) own in
     pair_range arrays values value_source out a (best_in least xs) x among fits.2.stored fits.2.places
@@ -258,8 +211,8 @@ rule_range w p q (PairMerge least axis group value_source place_source values ou
     let (i, there, found) = contains_mapped (λ i. found_at (at value_source i) (at place_source i)) own (Some b) (best_listed least xs b e) in
     let parts = found_parts (at value_source i) (at place_source i) b found in
     (typed value_source i b.value (inl refl, there) parts.value_is, subst (λ (d : Dtype). InRange d b.place) fits.1.places (typed place_source i b.place (inr refl, there) parts.place_is))) v
-rule_range w p q (Mul left right out) arrays at a idx x among fits inside typed reads v =
-    fold_range w Sum arrays out a (products_at (grid_at arrays left) (grid_at arrays right) (at left) (at right) idx) x among v
+rule_range (Mul left right out) arrays at a idx x among fits inside typed reads v =
+    fold_range Sum arrays out a (products_at (grid_at arrays left) (grid_at arrays right) (at left) (at right) idx) x among v
 
 -- ---- one operation after another
 
@@ -267,7 +220,7 @@ rule_range w p q (Mul left right out) arrays at a idx x among fits inside typed 
 abbrev TypedUpTo : List ArrayInfo → ℕ → Elements → Type 0
 TypedUpTo arrays n at = (a : ℕ) (idx : List ℕ) (x : ℤ) → IsReadable arrays n a → IsInside (grid_at arrays a).shape idx → at a idx ≡ Some x → InRange (type_at arrays a) x
 
-module _ (w : Wraps) (p : Promotes) (q : PromotesBoth) (arrays : List ArrayInfo) (grids : (a : ℕ) → a < length arrays → IsGrid (grid_at arrays a)) (reserved : ℕ) where
+module _ (arrays : List ArrayInfo) (grids : (a : ℕ) → a < length arrays → IsGrid (grid_at arrays a)) (reserved : ℕ) where
   step_range : (o : Planned) (n : ℕ) (at : Elements) → IsOperation arrays reserved n o → ((a : ℕ) → a < length arrays → maker_at arrays a ≡ Some n → Contains (writes_of o.op) a)
       → TypedUpTo arrays n at → TypedUpTo arrays (n + 1) (updated o.op arrays at)
   step_range o n at ok all typed a idx x readable inside v =
@@ -277,7 +230,7 @@ module _ (w : Wraps) (p : Promotes) (q : PromotesBoth) (arrays : List ArrayInfo)
             let fit : Fit arrays n o.op = (ok.reads, ok.writes, ok.fits) in
             let nested = All-contains (λ b. IsNested (grid_at arrays b) (task_grid arrays o.op)) (writes_of o.op) a (nested_writes arrays grids n o.op fit) among in
             let wide : IsInside (task_grid arrays o.op).shape idx = subst (λ (ns : List ℕ). IsInside ns idx) (sym nested.shape) inside in
-            rule_range w p q o.op arrays at a idx x among ok.fits wide
+            rule_range o.op arrays at a idx x among ok.fits wide
             (λ b i y r e. typed b i y (All-contains (IsReadable arrays n) (reads_of o.op) b ok.reads (reads_listed o.op arrays idx b i r)) (reads_inside arrays grids n o.op b idx i fit wide r) e)
             (λ b i r. (reads_inside arrays grids n o.op b idx i fit wide r, (grids b (All-contains (IsReadable arrays n) (reads_of o.op) b ok.reads (reads_listed o.op arrays idx b i r)).0).elements))
             (rw t at v)
@@ -301,10 +254,10 @@ module _ (w : Wraps) (p : Promotes) (q : PromotesBoth) (arrays : List ArrayInfo)
       (λ k a l b e. all (suc k) a (omega arith) b (e ∙ ap Some (let f : n + 1 + k ≡ n + suc k = omega arith in f))) next in
       subst (λ (m : ℕ). TypedUpTo arrays m (values_after os arrays (updated o.op arrays at))) (let e : n + 1 + length os ≡ n + suc (length os) = omega arith in e) rest
 
-pub value_range : Wraps → Promotes → PromotesBoth → (p : PlanView) (env : Elements) → Sound p → HasTypes p.arrays env
+pub value_range : (p : PlanView) (env : Elements) → Sound p → HasTypes p.arrays env
     → (a : ℕ) (idx : List ℕ) (x : ℤ) → a < length p.arrays → IsInside (grid_at p.arrays a).shape idx → plan_value p env a idx ≡ Some x → InRange (type_at p.arrays a) x
-value_range w pl pr p env s typed a idx x l inside v =
-    after_range w pl pr p.arrays (λ b h. grid_ok p b s h) p.reserved p.ops 0 env
+value_range p env s typed a idx x l inside v =
+    after_range p.arrays (λ b h. grid_ok p b s h) p.reserved p.ops 0 env
     (λ k b. subst (λ (m : ℕ). IsOperation p.arrays p.reserved m (operation_at p.ops k)) (let e : k ≡ 0 + k = omega arith in e) (s.operations k b))
     (λ k b h within e. (s.makers b k within (e ∙ ap Some (let f : 0 + k ≡ k = omega arith in f))).1)
     (λ b i y readable there e. typed b i y readable.0 (none_before (maker_at p.arrays b) readable.1) e)
@@ -319,19 +272,16 @@ value_range w pl pr p env s typed a idx x l inside v =
     before_end (Some k) h = let b = h k refl in omega (arith, b)
 
 -- what a store holds of an array is a number of its type
-abbrev pub ReadsType : Type 0
-ReadsType = (e : Endian) (t : Dtype) (bytes : List ℕ) (at : ℕ) → InRange t (element_at e t bytes at)
-
-element_range : ReadsType → (l : ArrayLayout) (held : Option (List ℕ)) (idx : List ℕ) (x : ℤ) → InRange l.dtype l.fill → element_in l held idx ≡ Some x → InRange l.dtype x
-element_range r l None idx x fill e = subst (InRange l.dtype) (same_Some l.fill x e) fill
-element_range r l (Some bytes) idx x fill e =
+element_range : (l : ArrayLayout) (held : Option (List ℕ)) (idx : List ℕ) (x : ℤ) → InRange l.dtype l.fill → element_in l held idx ≡ Some x → InRange l.dtype x
+element_range l None idx x fill e = subst (InRange l.dtype) (same_Some l.fill x e) fill
+element_range l (Some bytes) idx x fill e =
     elim (eqb_tells (length bytes) (chunk_bytes l)) [
       | inl p ↦
           let v : Some (element_at l.endian l.dtype bytes (place_of l.chunk (remainders idx l.chunk))) ≡ Some x = rw p.0 at e in
-          subst (InRange l.dtype) (same_Some _ x v) (r l.endian l.dtype bytes (place_of l.chunk (remainders idx l.chunk)))
+          subst (InRange l.dtype) (same_Some _ x v) (InRange-element_at l.endian l.dtype bytes (place_of l.chunk (remainders idx l.chunk)))
       | inr p ↦ let v = rw p.0 at e in cc
     ]
 
-pub stored_range : ReadsType → (arrays : List ArrayInfo) (held : List ℕ → Option (List ℕ)) → All IsArray arrays → HasTypes arrays (stored_inputs arrays held)
-stored_range r arrays held ok a idx x within made e =
-    element_range r (layout_at arrays a) (held (chunk_key_of (array_at arrays a).prefix (layout_at arrays a).encoding (quotients idx (layout_at arrays a).chunk))) idx x (ok a no_array within).fill e
+pub stored_range : (arrays : List ArrayInfo) (held : List ℕ → Option (List ℕ)) → All IsArray arrays → HasTypes arrays (stored_inputs arrays held)
+stored_range arrays held ok a idx x within made e =
+    element_range (layout_at arrays a) (held (chunk_key_of (array_at arrays a).prefix (layout_at arrays a).encoding (quotients idx (layout_at arrays a).chunk))) idx x (ok a no_array within).fill e

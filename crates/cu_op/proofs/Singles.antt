@@ -7,6 +7,7 @@ use Rattle.std.proofs.lemmas.List.Elements.{All-append, All-cons, All-nil, All-h
 use Rattle.std.proofs.lemmas.List.Sums.{sum_by-append, sum_by-cons, sum_by-le}
 use Rattle.cu_num.specs.Dtype.{IsInteger, size_of}
 use Rattle.cu_num.specs.Promotion.{promotion}
+use Rattle.cu_num.proofs.TypeTests.{is_integer-IsInteger}
 use Rattle.cu_num.specs.declared.types.Dtype.{Dtype}
 use Rattle.cu_num.specs.declared.types.Dtype.TheVariants as types
 use Rattle.cu_num.specs.declared.layout.Encoding.TheVariants.{Plain}
@@ -163,7 +164,7 @@ same_aligned g ok =
 -- the kernel of an addition of two arrays of one integer type
 pub add_fits : (t : Dtype) → IsInteger t → promotion t t ≡ Some t → KernelFits (Load 0 ∷ Load 1 ∷ Two Add t 0 1 ∷ []) (t ∷ t ∷ []) [] t
 add_fits t h same =
-    (Typed t, (t, refl, refl), (Typed t, (t, refl, refl), (Typed t, (Typed t, Typed t, refl, refl, same, h, refl), refl)))
+    (Typed t, (t, refl, refl), (Typed t, (t, refl, refl), (Typed t, (Typed t, Typed t, refl, refl, same, is_integer-IsInteger t h, refl), refl)))
 
 -- an input of an addition, and its result
 alike_input : (inputs : List ArrayInfo) (made : ArrayInfo) (g : RegularGrid) (t : Dtype) (a : ℕ) → All (IsAlike g t) inputs → a < length inputs → IsAlike g t (array_at (inputs ++ made ∷ []) a)

@@ -1,16 +1,15 @@
--- Which types an instruction takes and gives (Python array API, type promotion and elementwise functions; which types a
--- function accepts, and that an integer literal takes the type that it meets, are this project's rules).
-use Rattle.std.specs.Prelude.{◌≡◌, ℕ, ℤ, List, [], ◌∷◌, ◌++◌, Option, Some}
+-- Which types an instruction takes and gives (Python array API, type promotion and elementwise functions; that an integer
+-- literal takes the type that it meets is this project's rule).
+use Rattle.std.specs.Prelude.{◌≡◌, ℕ, ℤ, List, [], ◌∷◌, ◌++◌, Option, Some, IsTrue}
 use Rattle.std.specs.List.{slice_get}
-use Rattle.cu_num.specs.Dtype.{InRange, IsInteger}
+use Rattle.cu_num.specs.Dtype.{InRange}
+use Rattle.cu_num.specs.Functions.{accepts1, accepts2}
 use Rattle.cu_num.specs.Promotion.{promotion}
 use Rattle.cu_num.specs.Scalar.{result_type1, result_type2}
 use Rattle.cu_num.specs.declared.types.Dtype.{Dtype}
 use Rattle.cu_num.specs.declared.types.Dtype.TheVariants.{Bool}
 use Rattle.cu_num.specs.declared.functions.Fn1.{Fn1}
-use Rattle.cu_num.specs.declared.functions.Fn1.TheVariants.{BitwiseInvert, LogicalNot, Astype}
-use Rattle.cu_num.specs.declared.functions.Fn2.{Fn2}
-use Rattle.cu_num.specs.declared.functions.Fn2.TheVariants.{BitwiseAnd, BitwiseOr, BitwiseXor, Equal, NotEqual, LogicalAnd, LogicalOr, LogicalXor}
+use Rattle.cu_num.specs.declared.functions.Fn1.TheVariants.{Astype}
 use Rattle.cu_op.specs.declared.kernel.Instr.{Instr}
 use Rattle.cu_op.specs.declared.kernel.Instr.TheVariants.{Load, Const, One, Two, Select}
 use Rattle.cu_op.specs.Kernel.{last_of}
@@ -19,24 +18,6 @@ use Rattle.cu_op.specs.Kernel.{last_of}
 pub data Operand : Type 0 where
   Typed : Dtype → Operand
   Literal : ℤ → Operand
-
--- the types that a function accepts
-abbrev pub Accepts1 : Fn1 → Dtype → Type 0
-Accepts1 BitwiseInvert t = Unit {0}
-Accepts1 LogicalNot t = t ≡ Bool
-Accepts1 Astype t = Unit {0}
-Accepts1 f t = IsInteger t
-
-abbrev pub Accepts2 : Fn2 → Dtype → Type 0
-Accepts2 BitwiseAnd t = Unit {0}
-Accepts2 BitwiseOr t = Unit {0}
-Accepts2 BitwiseXor t = Unit {0}
-Accepts2 Equal t = Unit {0}
-Accepts2 NotEqual t = Unit {0}
-Accepts2 LogicalAnd t = t ≡ Bool
-Accepts2 LogicalOr t = t ≡ Bool
-Accepts2 LogicalXor t = t ≡ Bool
-Accepts2 f t = IsInteger t
 
 -- the argument's type is the function's; of Astype it is any, and `t` is the new type
 abbrev pub IsArgument : Fn1 → Dtype → Dtype → Type 0
@@ -55,9 +36,9 @@ abbrev pub Gives : Instr → List Dtype → List Operand → Operand → Type 0
 Gives (Load k) types results r = (t : Dtype) × (slice_get types k ≡ Some t) × (r ≡ Typed t)
 Gives (Const x) types results r = r ≡ Literal x
 Gives (One f t a) types results r =
-    (d : Dtype) × (slice_get results a ≡ Some (Typed d)) × IsArgument f d t × Accepts1 f t × (r ≡ Typed (result_type1 f t))
+    (d : Dtype) × (slice_get results a ≡ Some (Typed d)) × IsArgument f d t × IsTrue (accepts1 f t) × (r ≡ Typed (result_type1 f t))
 Gives (Two f t a b) types results r =
-    (x : Operand) × (y : Operand) × (slice_get results a ≡ Some x) × (slice_get results b ≡ Some y) × HaveType x y t × Accepts2 f t × (r ≡ Typed (result_type2 f t))
+    (x : Operand) × (y : Operand) × (slice_get results a ≡ Some x) × (slice_get results b ≡ Some y) × HaveType x y t × IsTrue (accepts2 f t) × (r ≡ Typed (result_type2 f t))
 Gives (Select c a b) types results r =
     (x : Operand) × (y : Operand) × (t : Dtype) × (slice_get results c ≡ Some (Typed Bool)) × (slice_get results a ≡ Some x) × (slice_get results b ≡ Some y) × HaveType x y t × (r ≡ Typed t)
 

@@ -26,7 +26,7 @@ ghost use Rattle.cu_op.specs.Value.{Elements, rule, plan_value, stored_inputs, R
 ghost use Rattle.cu_op.specs.Walks.{written_chunks, read_chunks, EachOnce};
 ghost use Rattle.cu_zarr.specs.Spelling.{spelled};
 
-use cu_num::{element_law, promotion_law, wrap_law};
+use cu_num::promotion_law;
 
 /// The value of a sound plan solves its equations, and a rule depends on the elements that it reads alone.
 pub fn value_law()
@@ -43,11 +43,7 @@ pub fn range_law()
     ensures stored { (arrays : List ArrayInfo) (held : List ℕ → Option (List ℕ)) → All IsArray arrays → HasTypes arrays (stored_inputs arrays held) }
     ensures kernel { (code : List Instr) (types : List Dtype) (t : Dtype) (load : ℕ → Option ℤ) (x : ℤ) → KernelFits code types [] t
         → LoadsTypes types load → kernel_value code load ≡ Some x → InRange t x }
-{
-    wrap_law();
-    promotion_law();
-    element_law();
-}
+{}
 
 /// Each chunk of each made array of a sound plan is written by exactly one task, which is of the operation that is the array's
 /// maker, and whose number is that of the region in which the chunk begins. A task's lists name each chunk once.

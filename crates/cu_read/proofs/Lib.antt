@@ -1,9 +1,12 @@
 pub mod Answered
 mod Examples
 mod IndexLength
+mod NewShapes
 pub mod NoFloats
 pub mod NodesRead
+mod Passing
 mod PlainMembers
+mod PlainNodes
 mod PlainReaders
 pub mod Ranges
 pub mod RowForms

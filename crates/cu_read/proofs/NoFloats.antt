@@ -1,79 +1,29 @@
 -- The value of a text that is read as an expression has no float.
-use Rattle.std.proofs.Common.{◌≡◌, ℕ, suc, ◌+◌, ◌++◌, Bool, true, false, List, [], ◌∷◌, Option, Some, None, codes, Ok, refl, subst, arith}
+use Rattle.std.proofs.Common.{◌≡◌, ℕ, ◌+◌, ◌++◌, false, List, [], ◌∷◌, Option, Some, None, codes, Ok, refl, subst}
 use Rattle.serde_json.specs.Data.{Data, Items, no_items, item}
-use Rattle.serde_json.specs.Find.{get, as_bool, as_str, as_array}
+use Rattle.serde_json.specs.Find.{get, as_str, as_array}
 use Rattle.serde_json.specs.Read.{read}
 use Rattle.serde_json.specs.Written.{has_float, items_have_float}
-use Rattle.cu_json.specs.Form.{is_object_of}
 use Rattle.cu_form.specs.Expression.{Expression}
-use Rattle.cu_form.specs.Form.{is_size, is_chunk_size}
+use Rattle.cu_form.specs.Form.{is_chunk_size}
 use Rattle.cu_form.specs.declared.args.Arg.{Arg}
 use Rattle.cu_form.specs.declared.expr.Node.{Node}
 use Rattle.cu_form.specs.declared.form.Form.{Form}
+use Rattle.cu_node.specs.NewShape.{is_size}
 use Rattle.cu_node.specs.declared.element_op.ElementOp.{ElementOp}
-use Rattle.cu_read.specs.Args.{arg_of}
-use Rattle.cu_read.specs.Form.{Has, MayHave, HasArgs, IsObjectOf, IsFunction, IsRow, SaysNode, SayNodes, SaysExpression}
+use Rattle.cu_read.specs.Form.{HasArgs, IsFunction, IsRow, SaysNode, SayNodes, SaysExpression}
 use Rattle.cu_read.specs.IndexItem.{index_item_of}
 use Rattle.cu_read.specs.Lists.{entries_of}
-use Rattle.cu_read.specs.Members.{integer_of, literal_of, natural_of, dtype_of, name_of, integers_of, sizes_of, chunk_sizes_of, new_sizes_of, or_null, present}
+use Rattle.cu_read.specs.Members.{integer_of, literal_of, natural_of, dtype_of, name_of, integers_of, sizes_of, chunk_sizes_of, or_null, present, Has}
 use Rattle.cu_read.specs.Read.{expression_of}
-use Rattle.cu_read.proofs.PlainMembers.{IsPlainReader, Hold, are_distinct, hold_none, and_plain, and_has, and_may, object_plain}
-use Rattle.cu_read.proofs.PlainReaders.{truth_plain, text_plain, integer_plain, natural_plain, literal_plain, dtype_plain, name_plain, or_null_plain, list_plain, integers_plain, new_sizes_plain, args_plain, index_plain}
+use Rattle.cu_read.proofs.NewShapes.{shape_plain}
+use Rattle.cu_read.proofs.PlainMembers.{IsPlainReader, Hold, hold_none, and_plain, and_has, and_may, object_plain}
+use Rattle.cu_read.proofs.PlainNodes.{HasTexts, node_of, args_hold, bare_plain, one_plain, two_plain, one_more, folded_plain}
+use Rattle.cu_read.proofs.PlainReaders.{text_plain, integer_plain, natural_plain, literal_plain, dtype_plain, name_plain, or_null_plain, list_plain, integers_plain, index_plain}
 use Rattle.cu_read.proofs.Says.{text_has_form}
 use Rattle.cu_read.proofs.TextItems.{stepped}
 
--- ---- a node's members
-
--- the two members that each node has
-record HasTexts (d : Data) : Type 0 where
-  op : List ℕ
-  operator : Has as_str (codes "op") d op
-  name : List ℕ
-  id : Has as_str (codes "id") d name
-
-node_of : (names : List (List ℕ)) (count total : ℕ) (d : Data) → HasTexts d → are_distinct (codes "id" ∷ codes "op" ∷ names) ≡ true → IsObjectOf total d → total ≡ suc (suc count)
-    → Hold names count d → has_float d ≡ false
-node_of names count total d t apart is same h =
-    object_plain (codes "id" ∷ codes "op" ∷ names) (suc (suc count)) d apart (subst (λ (n : ℕ). is_object_of n d ≡ true) same is)
-    (and_has as_str (codes "id") (codes "op" ∷ names) (suc count) d t.name text_plain t.id
-    (and_has as_str (codes "op") names count d t.op text_plain t.operator h))
-
-args_hold : (ids : List (List ℕ)) (d : Data) (args : List Arg) → HasArgs ids d args → Hold (codes "args" ∷ []) 1 d
-args_hold ids d args h = and_has (entries_of (arg_of ids)) (codes "args") [] 0 d args (args_plain ids) h (hold_none d)
-
--- a node with arguments alone
-bare_plain : (ids : List (List ℕ)) (d : Data) (args : List Arg) → HasTexts d → IsObjectOf 3 d → HasArgs ids d args → has_float d ≡ false
-bare_plain ids d args t is h = node_of (codes "args" ∷ []) 1 3 d t refl is refl (args_hold ids d args h)
-
--- one with another member
-one_plain : {A : Type 0} (value : Data → Option A) (name : List ℕ) (ids : List (List ℕ)) (d : Data) (x : A) (args : List Arg) → IsPlainReader value
-    → are_distinct (codes "id" ∷ codes "op" ∷ name ∷ codes "args" ∷ []) ≡ true → HasTexts d → IsObjectOf 4 d → Has value name d x → HasArgs ids d args → has_float d ≡ false
-one_plain value name ids d x args reads apart t is m h = node_of (name ∷ codes "args" ∷ []) 2 4 d t apart is refl (and_has value name (codes "args" ∷ []) 1 d x reads m (args_hold ids d args h))
-
--- one with two others
-two_plain : {A B : Type 0} (value : Data → Option A) (name : List ℕ) (next : Data → Option B) (other : List ℕ) (ids : List (List ℕ)) (d : Data) (x : A) (y : B) (args : List Arg)
-    → IsPlainReader value → IsPlainReader next → are_distinct (codes "id" ∷ codes "op" ∷ name ∷ other ∷ codes "args" ∷ []) ≡ true
-    → HasTexts d → IsObjectOf 5 d → Has value name d x → Has next other d y → HasArgs ids d args → has_float d ≡ false
-two_plain value name next other ids d x y args reads reads_next apart t is m n h =
-    node_of (name ∷ other ∷ codes "args" ∷ []) 3 5 d t apart is refl
-    (and_has value name (other ∷ codes "args" ∷ []) 2 d x reads m (and_has next other (codes "args" ∷ []) 1 d y reads_next n (args_hold ids d args h)))
-
-one_more : (a : ℕ) → 3 + a ≡ suc (suc (a + 1))
-one_more a = omega arith
-
-two_more : (a b : ℕ) → 3 + a + b ≡ suc (suc (a + (b + 1)))
-two_more a b = omega arith
-
--- one with `axes` or `axis`, and `keepdims`, where these may be absent
-folded_plain : {A : Type 0} (value : Data → Option A) (name : List ℕ) (ids : List (List ℕ)) (d : Data) (x : Option A) (keepdims : Bool) (args : List Arg) → IsPlainReader value
-    → are_distinct (codes "id" ∷ codes "op" ∷ name ∷ codes "keepdims" ∷ codes "args" ∷ []) ≡ true
-    → HasTexts d → IsObjectOf (3 + present name d + present (codes "keepdims") d) d → MayHave None (or_null value) name d x → MayHave false as_bool (codes "keepdims") d keepdims
-    → HasArgs ids d args → has_float d ≡ false
-folded_plain value name ids d x keepdims args reads apart t is m n h =
-    node_of (name ∷ codes "keepdims" ∷ codes "args" ∷ []) (present name d + (present (codes "keepdims") d + 1)) (3 + present name d + present (codes "keepdims") d) d t apart is
-    (two_more (present name d) (present (codes "keepdims") d))
-    (and_may None (or_null value) name (codes "keepdims" ∷ codes "args" ∷ []) (present (codes "keepdims") d + 1) d x (or_null_plain value reads) m
-    (and_may false as_bool (codes "keepdims") (codes "args" ∷ []) 1 d keepdims truth_plain n (args_hold ids d args h)))
+-- ---- rows
 
 function_plain : (ids : List (List ℕ)) (op : List ℕ) (d : Data) (function : ElementOp) (args : List Arg) → HasTexts d → IsFunction op d function → HasArgs ids d args → has_float d ≡ false
 function_plain ids op d (ElementOp.One f) args t is h = bare_plain ids d args t is.1 h
@@ -86,8 +36,6 @@ sizes_plain = list_plain (natural_of is_size) (natural_plain is_size)
 
 chunk_plain : IsPlainReader chunk_sizes_of
 chunk_plain = list_plain (natural_of is_chunk_size) (natural_plain is_chunk_size)
-
--- ---- rows
 
 chunk_holds : (d : Data) (chunk : List ℕ) → Has chunk_sizes_of (codes "chunk") d chunk → Hold (codes "chunk" ∷ []) 1 d
 chunk_holds d chunk h = and_has chunk_sizes_of (codes "chunk") [] 0 d chunk chunk_plain h (hold_none d)
@@ -117,9 +65,7 @@ row_plain ids op d (Form.Index args items) t h = one_plain (entries_of index_ite
 row_plain ids op d (Form.Concat args axis) t h = one_plain integer_of (codes "axis") ids d axis args integer_plain refl t h.1 h.2 h.3
 row_plain ids op d (Form.Stack args axis) t h = one_plain integer_of (codes "axis") ids d axis args integer_plain refl t h.1 h.2 h.3
 row_plain ids op d (Form.PermuteDims args axes) t h = one_plain integers_of (codes "axes") ids d axes args integers_plain refl t h.1 h.2 h.3
-row_plain ids op d (Form.Reshape args shape) t h = one_plain new_sizes_of (codes "shape") ids d shape args new_sizes_plain refl t h.1 h.2 h.3
-row_plain ids op d (Form.ExpandDims args axis) t h = one_plain integer_of (codes "axis") ids d axis args integer_plain refl t h.1 h.2 h.3
-row_plain ids op d (Form.Squeeze args axes) t h = one_plain integers_of (codes "axes") ids d axes args integers_plain refl t h.1 h.2 h.3
+row_plain ids op d (Form.Reshape args shape) t h = shape_plain ids op d shape args t h.0 h.1
 row_plain ids op d (Form.Flip args axes) t h =
     node_of (codes "axes" ∷ codes "args" ∷ []) (present (codes "axes") d + 1) (3 + present (codes "axes") d) d t refl h.1 (one_more (present (codes "axes") d))
     (and_may None (or_null integers_of) (codes "axes") (codes "args" ∷ []) 1 d axes (or_null_plain integers_of integers_plain) h.2 (args_hold ids d args h.3))

@@ -12,8 +12,7 @@ use Rattle.serde_json.specs.Events.{members_len}
 use Rattle.serde_json.specs.Find.{get, get_member}
 use Rattle.serde_json.specs.Written.{has_float, members_have_float}
 use Rattle.cu_json.specs.Form.{is_object_of}
-use Rattle.cu_read.specs.Form.{Has, MayHave}
-use Rattle.cu_read.specs.Members.{present}
+use Rattle.cu_read.specs.Members.{present, Has, MayHave}
 use Rattle.cu_read.proofs.TextItems.{stepped}
 
 -- ---- the members but one

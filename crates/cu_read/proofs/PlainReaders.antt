@@ -9,7 +9,8 @@ use Rattle.cu_json.specs.Form.{is_object_of}
 use Rattle.cu_name.specs.Name.{is_name}
 use Rattle.cu_num.specs.TypeName.{dtype_named}
 use Rattle.cu_form.specs.declared.args.Arg.{Arg}
-use Rattle.cu_form.specs.Form.{is_written, are_new_sizes}
+use Rattle.cu_form.specs.Form.{is_written}
+use Rattle.cu_node.specs.NewShape.{are_new_sizes}
 use Rattle.cu_node.specs.declared.index_item.IndexItem.{IndexItem}
 use Rattle.cu_node.specs.declared.literal.Literal.{Literal}
 use Rattle.cu_result.specs.Options.{◌>>=◌, when}

@@ -1,5 +1,5 @@
 -- The members of a form that was read lie in their ranges.
-use Rattle.std.proofs.Common.{◌≡◌, ◌++◌, ◌&&◌, Bool, true, false, Option, Some, None, List, [], ◌∷◌, ℕ, ℤ, codes, option_and_then, refl, ◌∙◌, subst}
+use Rattle.std.proofs.Common.{◌≡◌, ◌++◌, ◌&&◌, Bool, true, false, Option, Some, None, List, [], ◌∷◌, ℕ, ℤ, codes, option_and_then, refl, ◌∙◌, subst, arith}
 use Rattle.std.specs.Prelude.{bytes_eq, option_map, if◌then◌else◌}
 use Rattle.std.specs.List.{list_all}
 use Rattle.std.specs.Option.{option_or}
@@ -7,42 +7,22 @@ use Rattle.std.proofs.lemmas.List.Folds.{list_all-append}
 use Rattle.serde_json.specs.Data.{Data, Items, no_items, item}
 use Rattle.serde_json.specs.Find.{get, as_array, as_bool, as_str, as_number, as_u64, as_integer}
 use Rattle.cu_num.specs.declared.functions.Fn1.{Fn1}
-use Rattle.cu_num.specs.declared.functions.Fn1.TheVariants.{Negative, Positive, Abs, Square, Sign, BitwiseInvert, LogicalNot}
 use Rattle.cu_num.specs.declared.functions.Fn2.{Fn2}
-use Rattle.cu_form.specs.Form.{is_size, is_chunk_size, is_written, is_written_arg, is_written_value, is_function, in_ranges}
+use Rattle.cu_form.specs.Form.{is_chunk_size, is_written, is_written_arg, is_written_value, is_function, in_ranges}
 use Rattle.cu_form.specs.declared.args.Arg.{Arg}
+use Rattle.cu_node.specs.NewShape.{is_size}
 use Rattle.cu_node.specs.declared.literal.Literal.{Literal}
 use Rattle.cu_node.specs.declared.element_op.ElementOp.{ElementOp}
 use Rattle.cu_form.specs.declared.form.Form.{Form}
 use Rattle.cu_name.specs.Name.{is_name}
 use Rattle.cu_result.proofs.OptionSteps.{step_some}
 use Rattle.cu_read.specs.Args.{node_named, written_arg, arg_of}
-use Rattle.cu_read.specs.Elementwise.{unary_named, arithmetic_named, comparison_named, function_named}
+use Rattle.cu_read.specs.Elementwise.{unary_named, binary_named, function_named}
 use Rattle.cu_read.specs.Form.{IsRow, IsFunction}
 use Rattle.cu_read.specs.Lists.{entries_after, entries_of}
-use Rattle.cu_read.specs.Members.{passing, written_of, literal_of, natural_of, name_of, sizes_of, chunk_sizes_of, new_sizes_of, integers_of, member_of}
-use Rattle.cu_form.specs.Form.{are_new_sizes}
-
--- ---- tests
-
-both : (a b : Bool) → a ≡ true → b ≡ true → (a && b) ≡ true
-both true true h k = refl
-both true false h k = cc
-both false b h k = cc
-
-passes_by : {A : Type 0} (test : A → Bool) (x y : A) (b : Bool) → test x ≡ b → (if b then Some x else None) ≡ Some y → test y ≡ true
-passes_by test x y true e h = let same : x ≡ y = cc in subst (λ z. test z ≡ true) same e
-passes_by test x y false e h = cc
-
-pub passes : {A : Type 0} (test : A → Bool) (o : Option A) (y : A) → option_and_then (passing test) o ≡ Some y → test y ≡ true
-passes test (Some x) y h = passes_by test x y (test x) refl h
-passes test None y h = cc
-
--- a member, where each value passes
-pub member_passes : {A : Type 0} (value : Data → Option A) (test : A → Bool) → ((d : Data) (x : A) → value d ≡ Some x → test x ≡ true)
-    → (member : Option Data) (x : A) → option_and_then value member ≡ Some x → test x ≡ true
-member_passes value test each (Some d) x h = each d x h
-member_passes value test each None x h = cc
+use Rattle.cu_read.specs.Members.{written_of, literal_of, natural_of, name_of, sizes_of, chunk_sizes_of, member_of}
+use Rattle.cu_read.proofs.NewShapes.{shape_in_ranges}
+use Rattle.cu_read.proofs.Passing.{both, passes, member_passes}
 
 -- ---- lists
 
@@ -95,22 +75,8 @@ arg_passes ids d x h = arg_by ids d (as_str d) (literal_of d) x refl h
 
 -- ---- functions
 
-unary_by : {A : Type 0} (P : A → Type 0) (op name : List ℕ) (x : A) (next : Option A) → P x → ((y : A) → next ≡ Some y → P y)
-    → (y : A) → (if bytes_eq op name then Some x else next) ≡ Some y → P y
-unary_by P op name x next here later y h = unary_case P (bytes_eq op name) x next here later y h where
-  unary_case : {A : Type 0} (P : A → Type 0) (b : Bool) (x : A) (next : Option A) → P x → ((y : A) → next ≡ Some y → P y) → (y : A) → (if b then Some x else next) ≡ Some y → P y
-  unary_case P true x next here later y h = let same : x ≡ y = cc in subst P same here
-  unary_case P false x next here later y h = later y h
-
 unary_is : (op : List ℕ) (f : Fn1) → unary_named op ≡ Some f → is_function (ElementOp.One f) ≡ true
-unary_is op =
-    unary_by (λ f. is_function (ElementOp.One f) ≡ true) op (codes "negative") Negative _ refl
-    (unary_by (λ f. is_function (ElementOp.One f) ≡ true) op (codes "positive") Positive _ refl
-    (unary_by (λ f. is_function (ElementOp.One f) ≡ true) op (codes "abs") Abs _ refl
-    (unary_by (λ f. is_function (ElementOp.One f) ≡ true) op (codes "square") Square _ refl
-    (unary_by (λ f. is_function (ElementOp.One f) ≡ true) op (codes "sign") Sign _ refl
-    (unary_by (λ f. is_function (ElementOp.One f) ≡ true) op (codes "bitwise_invert") BitwiseInvert _ refl
-    (unary_by (λ f. is_function (ElementOp.One f) ≡ true) op (codes "logical_not") LogicalNot _ refl (λ y h. cc)))))))
+unary_is op f h = grind arith
 
 function_by : (op : List ℕ) (is : Bool) (f : Option Fn1) (g : Option Fn2) (function : ElementOp) → unary_named op ≡ f
     → (if is then Some ElementOp.Where else option_or (option_map ElementOp.One f) (option_map ElementOp.Two g)) ≡ Some function → is_function function ≡ true
@@ -120,7 +86,7 @@ function_by op false None (Some g) function e h = let same : ElementOp.Two g ≡
 function_by op false None None function e h = cc
 
 function_named_is : (op : List ℕ) (function : ElementOp) → function_named op ≡ Some function → is_function function ≡ true
-function_named_is op function h = function_by op (bytes_eq op (codes "where")) (unary_named op) (option_or (arithmetic_named op) (comparison_named op)) function refl h
+function_named_is op function h = function_by op (bytes_eq op (codes "where")) (unary_named op) (binary_named op) function refl h
 
 function_is : (op : List ℕ) (d : Data) (function : ElementOp) → IsFunction op d function → is_function function ≡ true
 function_is op d (ElementOp.One f) h = function_named_is op (ElementOp.One f) h.0
@@ -153,20 +119,8 @@ row_in_ranges ids op d (Form.Arange start stop step dtype chunk) h = chunk_sizes
 row_in_ranges ids op d (Form.Eye rows cols k dtype chunk) h =
     both (is_size rows && is_size cols) _ (both (is_size rows) _ (size_passes d (codes "rows") rows h.2) (size_passes d (codes "cols") cols h.3))
     (chunk_sizes_pass d (codes "chunk") chunk h.6)
-row_in_ranges ids op d (Form.Triangle lower args k) h = refl
-row_in_ranges ids op d (Form.Index args items) h = refl
-row_in_ranges ids op d (Form.Concat args axis) h = refl
-row_in_ranges ids op d (Form.Stack args axis) h = refl
-row_in_ranges ids op d (Form.PermuteDims args axes) h = refl
-row_in_ranges ids op d (Form.Reshape args shape) h =
-    member_passes new_sizes_of are_new_sizes (λ v x e. passes are_new_sizes (integers_of v) x e) (get (codes "shape") d) shape h.2
-row_in_ranges ids op d (Form.ExpandDims args axis) h = refl
-row_in_ranges ids op d (Form.Squeeze args axes) h = refl
-row_in_ranges ids op d (Form.Flip args axes) h = refl
-row_in_ranges ids op d (Form.Roll args shifts axes) h = refl
+row_in_ranges ids op d (Form.Reshape args shape) h = shape_in_ranges op d shape h.0
 row_in_ranges ids op d (Form.BroadcastTo args shape chunk) h =
     both (list_all is_size shape) _ (sizes_pass d (codes "shape") shape h.2) (chunk_sizes_pass d (codes "chunk") chunk h.3)
 row_in_ranges ids op d (Form.Rechunk args chunk) h = chunk_sizes_pass d (codes "chunk") chunk h.2
-row_in_ranges ids op d (Form.Reduce kind args axes keepdims) h = refl
-row_in_ranges ids op d (Form.ArgPlace least args axis keepdims) h = refl
-row_in_ranges ids op d (Form.Matmul args) h = refl
+row_in_ranges ids op d form h = refl

@@ -5,24 +5,29 @@ use Rattle.std.specs.Option.{option_or}
 use Rattle.serde_json.specs.Data.{Data}
 use Rattle.serde_json.specs.Find.{as_bool}
 use Rattle.cu_json.specs.Form.{is_object_of}
-use Rattle.cu_form.specs.Form.{is_size}
+use Rattle.cu_form.specs.declared.args.Arg.{Arg}
+use Rattle.cu_node.specs.NewShape.{is_size}
 use Rattle.cu_node.specs.declared.element_op.ElementOp.{ElementOp}
+use Rattle.cu_node.specs.declared.new_shape.NewShape.{NewShape}
 use Rattle.cu_form.specs.declared.form.Form.{Form}
 use Rattle.cu_num.specs.declared.folds.FoldKind.{FoldKind}
 use Rattle.cu_num.specs.declared.functions.Fn1.{Fn1}
 use Rattle.cu_num.specs.declared.functions.Fn2.{Fn2}
 use Rattle.cu_num.specs.declared.types.Dtype.{Dtype}
+use Rattle.cu_result.specs.Results.{◌>>=◌}
 use Rattle.cu_read.specs.Creation.{input_in, full_in, arange_in, eye_in, creation_row}
-use Rattle.cu_read.specs.Elementwise.{unary_named, arithmetic_named, comparison_named, function_named, function_in, function_row, astype_in, elementwise_row}
+use Rattle.cu_read.specs.Elementwise.{unary_named, binary_named, function_named, function_in, function_row, astype_in, elementwise_row}
 use Rattle.cu_read.specs.Form.{IsRow, IsFunction, triangle_name, place_name}
 use Rattle.cu_read.specs.IndexItem.{index_item_of}
 use Rattle.cu_read.specs.Lists.{entries_of}
-use Rattle.cu_read.specs.Members.{integer_of, literal_of, natural_of, dtype_of, name_of, integers_of, sizes_of, chunk_sizes_of, new_sizes_of, member_of, member_or, or_null, present}
+use Rattle.cu_read.specs.Members.{integer_of, literal_of, natural_of, dtype_of, name_of, integers_of, sizes_of, chunk_sizes_of, member_of, member_or, or_null, present}
+use Rattle.cu_read.specs.NewShape.{IsNewShape, new_shape_in, new_shape_row}
 use Rattle.cu_read.specs.Node.{or_row, row_of}
 use Rattle.cu_read.specs.Reduction.{fold_named, reduce_in, place_in, matmul_in, reduce_row, reduction_row}
-use Rattle.cu_read.specs.View.{triangle_in, index_in, concat_in, stack_in, permute_dims_in, reshape_in, expand_dims_in, squeeze_in, flip_in, roll_in, broadcast_to_in, rechunk_in, view_row}
+use Rattle.cu_read.specs.View.{triangle_in, index_in, concat_in, stack_in, permute_dims_in, flip_in, roll_in, broadcast_to_in, rechunk_in, view_row}
 use Rattle.cu_read.specs.declared.faults.NodeCode.{NodeCode}
 use Rattle.cu_read.specs.Args.{args_in}
+use Rattle.cu_read.proofs.NewShapes.{shape_says}
 use Rattle.cu_read.proofs.Steps.{args_are, no_member, one_member, two_members, member_alone, four_members, five_members, by_name}
 
 -- ---- creation
@@ -65,7 +70,7 @@ astype_in_no_table false None (Some g) t h = cc
 astype_in_no_table false None None t h = cc
 
 no_astype : (op : List ℕ) (t : Dtype) → function_named op ≡ Some (ElementOp.Astype t) → ⊥
-no_astype op t h = astype_in_no_table (bytes_eq op (codes "where")) (unary_named op) (option_or (arithmetic_named op) (comparison_named op)) t h
+no_astype op t h = astype_in_no_table (bytes_eq op (codes "where")) (unary_named op) (binary_named op) t h
 
 not_astype : (op : List ℕ) (d : Data) (function : ElementOp) → function_named op ≡ Some function → is_object_of 3 d ≡ true → IsFunction op d function
 not_astype op d (ElementOp.One f) h members = (h, members)
@@ -96,17 +101,8 @@ concat_says ids op d is = one_member (is_object_of 4 d) (member_of integer_of (c
 stack_says : (ids : List (List ℕ)) (op : List ℕ) (d : Data) → op ≡ codes "stack" → IfOk (stack_in ids d) (IsRow ids op d)
 stack_says ids op d is = one_member (is_object_of 4 d) (member_of integer_of (codes "axis") d) (args_in ids d) (λ x xs. Form.Stack xs x) (IsRow ids op d) (λ m x a xs r. (is, m, a, args_are ids d xs r))
 
-expand_dims_says : (ids : List (List ℕ)) (op : List ℕ) (d : Data) → op ≡ codes "expand_dims" → IfOk (expand_dims_in ids d) (IsRow ids op d)
-expand_dims_says ids op d is = one_member (is_object_of 4 d) (member_of integer_of (codes "axis") d) (args_in ids d) (λ x xs. Form.ExpandDims xs x) (IsRow ids op d) (λ m x a xs r. (is, m, a, args_are ids d xs r))
-
 permute_dims_says : (ids : List (List ℕ)) (op : List ℕ) (d : Data) → op ≡ codes "permute_dims" → IfOk (permute_dims_in ids d) (IsRow ids op d)
 permute_dims_says ids op d is = one_member (is_object_of 4 d) (member_of integers_of (codes "axes") d) (args_in ids d) (λ x xs. Form.PermuteDims xs x) (IsRow ids op d) (λ m x a xs r. (is, m, a, args_are ids d xs r))
-
-reshape_says : (ids : List (List ℕ)) (op : List ℕ) (d : Data) → op ≡ codes "reshape" → IfOk (reshape_in ids d) (IsRow ids op d)
-reshape_says ids op d is = one_member (is_object_of 4 d) (member_of new_sizes_of (codes "shape") d) (args_in ids d) (λ x xs. Form.Reshape xs x) (IsRow ids op d) (λ m x a xs r. (is, m, a, args_are ids d xs r))
-
-squeeze_says : (ids : List (List ℕ)) (op : List ℕ) (d : Data) → op ≡ codes "squeeze" → IfOk (squeeze_in ids d) (IsRow ids op d)
-squeeze_says ids op d is = one_member (is_object_of 4 d) (member_of integers_of (codes "axes") d) (args_in ids d) (λ x xs. Form.Squeeze xs x) (IsRow ids op d) (λ m x a xs r. (is, m, a, args_are ids d xs r))
 
 flip_says : (ids : List (List ℕ)) (op : List ℕ) (d : Data) → op ≡ codes "flip" → IfOk (flip_in ids d) (IsRow ids op d)
 flip_says ids op d is = one_member (is_object_of (3 + present (codes "axes") d) d) (member_or None (or_null integers_of) (codes "axes") d) (args_in ids d) (λ x xs. Form.Flip xs x) (IsRow ids op d) (λ m x a xs r. (is, m, a, args_are ids d xs r))
@@ -130,13 +126,10 @@ view_says ids op d =
     (by_name op (codes "concat") _ _ (λ r. IfOk r (IsRow ids op d)) (concat_says ids op d)
     (by_name op (codes "stack") _ _ (λ r. IfOk r (IsRow ids op d)) (stack_says ids op d)
     (by_name op (codes "permute_dims") _ _ (λ r. IfOk r (IsRow ids op d)) (permute_dims_says ids op d)
-    (by_name op (codes "reshape") _ _ (λ r. IfOk r (IsRow ids op d)) (reshape_says ids op d)
-    (by_name op (codes "expand_dims") _ _ (λ r. IfOk r (IsRow ids op d)) (expand_dims_says ids op d)
-    (by_name op (codes "squeeze") _ _ (λ r. IfOk r (IsRow ids op d)) (squeeze_says ids op d)
     (by_name op (codes "flip") _ _ (λ r. IfOk r (IsRow ids op d)) (flip_says ids op d)
     (by_name op (codes "roll") _ _ (λ r. IfOk r (IsRow ids op d)) (roll_says ids op d)
     (by_name op (codes "broadcast_to") _ _ (λ r. IfOk r (IsRow ids op d)) (broadcast_to_says ids op d)
-    (by_name op (codes "rechunk") _ _ (λ r. IfOk r (IsRow ids op d)) (rechunk_says ids op d) tt))))))))))))
+    (by_name op (codes "rechunk") _ _ (λ r. IfOk r (IsRow ids op d)) (rechunk_says ids op d) tt)))))))))
 
 -- ---- reductions
 
@@ -162,6 +155,17 @@ reduction_says ids op d =
     (by_name op (codes "matmul") _ _ (λ r. IfOk r (IsRow ids op d)) (matmul_says ids op d)
     (reduce_row_says ids op d (fold_named op) refl)))
 
+-- ---- new shapes
+
+reshaped : (ids : List (List ℕ)) (op : List ℕ) (d : Data) (found : Result NewShape NodeCode) (args : Result (List Arg) NodeCode) → args_in ids d ≡ args
+    → IfOk found (IsNewShape op d) → IfOk (found >>= λ shape. args >>= λ xs. Ok (Form.Reshape xs shape)) (IsRow ids op d)
+reshaped ids op d (Ok shape) (Ok xs) r h = (h, args_are ids d xs r)
+reshaped ids op d (Ok shape) (Err code) r h = tt
+reshaped ids op d (Err code) args r h = tt
+
+new_shape_says : (ids : List (List ℕ)) (op : List ℕ) (d : Data) → IfOk (new_shape_row op ids d) (IsRow ids op d)
+new_shape_says ids op d = reshaped ids op d (new_shape_in op d) (args_in ids d) refl (shape_says op d)
+
 -- ---- all families
 
 either_says : (row next : Result Form NodeCode) (P : Form → Type 0) → IfOk row P → IfOk next P → IfOk (or_row row next) P
@@ -173,4 +177,7 @@ either_says (Err NodeCode.Id) next P h k = tt
 
 pub row_says : (ids : List (List ℕ)) (op : List ℕ) (d : Data) → IfOk (row_of op ids d) (IsRow ids op d)
 row_says ids op d =
-    either_says _ _ (IsRow ids op d) (creation_says ids op d) (either_says _ _ (IsRow ids op d) (elementwise_says ids op d) (either_says _ _ (IsRow ids op d) (view_says ids op d) (reduction_says ids op d)))
+    either_says _ _ (IsRow ids op d) (creation_says ids op d)
+    (either_says _ _ (IsRow ids op d) (elementwise_says ids op d)
+    (either_says _ _ (IsRow ids op d) (view_says ids op d)
+    (either_says _ _ (IsRow ids op d) (reduction_says ids op d) (new_shape_says ids op d))))

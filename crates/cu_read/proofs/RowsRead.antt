@@ -7,9 +7,10 @@ use Rattle.serde_json.specs.Find.{get, as_array, as_bool}
 use Rattle.cu_json.specs.Form.{is_object_of}
 use Rattle.cu_num.specs.declared.folds.FoldKind.{FoldKind}
 use Rattle.cu_num.specs.declared.folds.FoldKind.TheVariants.{Sum, Prod, Min, Max, Any, All}
-use Rattle.cu_form.specs.Form.{is_size}
+use Rattle.cu_node.specs.NewShape.{is_size}
 use Rattle.cu_form.specs.declared.args.Arg.{Arg}
 use Rattle.cu_node.specs.declared.element_op.ElementOp.{ElementOp}
+use Rattle.cu_node.specs.declared.new_shape.NewShape.{NewShape}
 use Rattle.cu_form.specs.declared.form.Form.{Form}
 use Rattle.cu_result.specs.Results.{◌>>=◌, check, need}
 use Rattle.cu_read.specs.Args.{arg_of, args_in}
@@ -18,11 +19,14 @@ use Rattle.cu_read.specs.Elementwise.{function_named, function_in, elementwise_r
 use Rattle.cu_read.specs.Form.{HasArgs, IsRow}
 use Rattle.cu_read.specs.IndexItem.{index_item_of}
 use Rattle.cu_read.specs.Lists.{entries_after, entries_of}
-use Rattle.cu_read.specs.Members.{integer_of, literal_of, natural_of, dtype_of, name_of, integers_of, sizes_of, chunk_sizes_of, new_sizes_of, member_of, member_or, or_null, present}
+use Rattle.cu_read.specs.Members.{integer_of, literal_of, natural_of, dtype_of, name_of, integers_of, sizes_of, chunk_sizes_of, member_of, member_or, or_null, present}
+use Rattle.cu_read.specs.NewShape.{new_shape_in, new_shape_row}
 use Rattle.cu_read.specs.Node.{or_row, row_of}
 use Rattle.cu_read.specs.Reduction.{fold_named, reduce_in, reduction_row}
 use Rattle.cu_read.specs.View.{view_row}
 use Rattle.cu_read.specs.declared.faults.NodeCode.{NodeCode}
+use Rattle.cu_read.proofs.NewShapes.{IsNoneBefore, shape_read, shape_alone}
+use Rattle.cu_read.proofs.Steps.{alone_read}
 
 -- ---- the arguments
 
@@ -54,10 +58,6 @@ two_read : {A B : Type 0} (b : Bool) (o : Option A) (p : Option B) (args : Resul
     → (check b NodeCode.Form >>= λ _. need o NodeCode.Form >>= λ z. need p NodeCode.Form >>= λ w. args >>= λ ys. Ok (make z w ys)) ≡ Ok (make x y xs)
 two_read b o p args make x y xs h k l r = rw (h, k, l, r) refl
 
-alone_read : {A : Type 0} (b : Bool) (o : Option A) (make : A → Form) (x : A) → b ≡ true → o ≡ Some x
-    → (check b NodeCode.Form >>= λ _. need o NodeCode.Form >>= λ y. Ok (make y)) ≡ Ok (make x)
-alone_read b o make x h k = rw (h, k) refl
-
 four_read : {A B C D : Type 0} (b : Bool) (o : Option A) (p : Option B) (q : Option C) (r : Option D) (make : A → B → C → D → Form) (x : A) (y : B) (z : C) (w : D)
     → b ≡ true → o ≡ Some x → p ≡ Some y → q ≡ Some z → r ≡ Some w
     → (check b NodeCode.Form >>= λ _. need o NodeCode.Form >>= λ x'. need p NodeCode.Form >>= λ y'. need q NodeCode.Form >>= λ z'. need r NodeCode.Form >>= λ w'. Ok (make x' y' z' w')) ≡ Ok (make x y z w)
@@ -68,17 +68,24 @@ five_read : {A B C D E : Type 0} (b : Bool) (o : Option A) (p : Option B) (q : O
     → (check b NodeCode.Form >>= λ _. need o NodeCode.Form >>= λ x'. need p NodeCode.Form >>= λ y'. need q NodeCode.Form >>= λ z'. need r NodeCode.Form >>= λ w'. need s NodeCode.Form >>= λ v'. Ok (make x' y' z' w' v')) ≡ Ok (make x y z w v)
 five_read b o p q r s make x y z w v h k l m n i = rw (h, k, l, m, n, i) refl
 
+with_args : (found : Result NewShape NodeCode) (args : Result (List Arg) NodeCode) (shape : NewShape) (xs : List Arg) → found ≡ Ok shape → args ≡ Ok xs
+    → (found >>= λ s. args >>= λ ys. Ok (Form.Reshape ys s)) ≡ Ok (Form.Reshape xs shape)
+with_args found args shape xs h r = rw (h, r) refl
+
 -- ---- the names of operators
 
 named_row : (op name : List ℕ) (ids : List (List ℕ)) (d : Data) (form : Form) → op ≡ name → row_of name ids d ≡ Ok form → row_of op ids d ≡ Ok form
 named_row op name ids d form is h = subst (λ (o : List ℕ). row_of o ids d ≡ Ok form) (sym is) h
 
 -- the row of each family, where the families before it have no such operator
-abbrev after_creation : List ℕ → List (List ℕ) → Data → Result Form NodeCode
-after_creation op ids d = or_row (elementwise_row op ids d) (or_row (view_row op ids d) (reduction_row op ids d))
+abbrev after_view : List ℕ → List (List ℕ) → Data → Result Form NodeCode
+after_view op ids d = or_row (reduction_row op ids d) (new_shape_row op ids d)
 
 abbrev after_elementwise : List ℕ → List (List ℕ) → Data → Result Form NodeCode
-after_elementwise op ids d = or_row (view_row op ids d) (reduction_row op ids d)
+after_elementwise op ids d = or_row (view_row op ids d) (after_view op ids d)
+
+abbrev after_creation : List ℕ → List (List ℕ) → Data → Result Form NodeCode
+after_creation op ids d = or_row (elementwise_row op ids d) (after_elementwise op ids d)
 
 created : (op : List ℕ) (ids : List (List ℕ)) (d : Data) (form : Form) → creation_row op d ≡ Ok form → row_of op ids d ≡ Ok form
 created op ids d form h = ap (λ (r : Result Form NodeCode). or_row r (after_creation op ids d)) h
@@ -91,13 +98,18 @@ viewed : (op : List ℕ) (ids : List (List ℕ)) (d : Data) (form : Form) → cr
     → view_row op ids d ≡ Ok form → row_of op ids d ≡ Ok form
 viewed op ids d form none lacks h =
     ap (λ (r : Result Form NodeCode). or_row r (after_creation op ids d)) none ∙ ap (λ (r : Result Form NodeCode). or_row r (after_elementwise op ids d)) lacks
-    ∙ ap (λ (r : Result Form NodeCode). or_row r (reduction_row op ids d)) h
+    ∙ ap (λ (r : Result Form NodeCode). or_row r (after_view op ids d)) h
 
 reduced : (op : List ℕ) (ids : List (List ℕ)) (d : Data) (form : Form) → creation_row op d ≡ Err NodeCode.Unknown → elementwise_row op ids d ≡ Err NodeCode.Unknown
     → view_row op ids d ≡ Err NodeCode.Unknown → reduction_row op ids d ≡ Ok form → row_of op ids d ≡ Ok form
 reduced op ids d form none lacks nor h =
     ap (λ (r : Result Form NodeCode). or_row r (after_creation op ids d)) none ∙ ap (λ (r : Result Form NodeCode). or_row r (after_elementwise op ids d)) lacks
-    ∙ ap (λ (r : Result Form NodeCode). or_row r (reduction_row op ids d)) nor ∙ h
+    ∙ ap (λ (r : Result Form NodeCode). or_row r (after_view op ids d)) nor ∙ ap (λ (r : Result Form NodeCode). or_row r (new_shape_row op ids d)) h
+
+reshaped : (op : List ℕ) (ids : List (List ℕ)) (d : Data) (form : Form) → IsNoneBefore ids d op → new_shape_row op ids d ≡ Ok form → row_of op ids d ≡ Ok form
+reshaped op ids d form none h =
+    ap (λ (r : Result Form NodeCode). or_row r (after_creation op ids d)) none.creation ∙ ap (λ (r : Result Form NodeCode). or_row r (after_elementwise op ids d)) none.elementwise
+    ∙ ap (λ (r : Result Form NodeCode). or_row r (after_view op ids d)) none.view ∙ ap (λ (r : Result Form NodeCode). or_row r (new_shape_row op ids d)) none.reduction ∙ h
 
 other_by : (op name : List ℕ) (function : ElementOp) (b : Bool) → bytes_eq op name ≡ b → function_named op ≡ Some function → function_named name ≡ None → bytes_eq op name ≡ false
 other_by op name function true e h none =
@@ -189,14 +201,10 @@ row_read ids op d (Form.Concat args axis) h = named_row op (codes "concat") ids 
     (viewed (codes "concat") ids d (Form.Concat args axis) refl refl (one_read (is_object_of 4 d) (member_of integer_of (codes "axis") d) (args_in ids d) (λ x xs. Form.Concat xs x) axis args h.1 h.2 (args_read ids d args h.3)))
 row_read ids op d (Form.Stack args axis) h = named_row op (codes "stack") ids d (Form.Stack args axis) h.0
     (viewed (codes "stack") ids d (Form.Stack args axis) refl refl (one_read (is_object_of 4 d) (member_of integer_of (codes "axis") d) (args_in ids d) (λ x xs. Form.Stack xs x) axis args h.1 h.2 (args_read ids d args h.3)))
-row_read ids op d (Form.ExpandDims args axis) h = named_row op (codes "expand_dims") ids d (Form.ExpandDims args axis) h.0
-    (viewed (codes "expand_dims") ids d (Form.ExpandDims args axis) refl refl (one_read (is_object_of 4 d) (member_of integer_of (codes "axis") d) (args_in ids d) (λ x xs. Form.ExpandDims xs x) axis args h.1 h.2 (args_read ids d args h.3)))
 row_read ids op d (Form.PermuteDims args axes) h = named_row op (codes "permute_dims") ids d (Form.PermuteDims args axes) h.0
     (viewed (codes "permute_dims") ids d (Form.PermuteDims args axes) refl refl (one_read (is_object_of 4 d) (member_of integers_of (codes "axes") d) (args_in ids d) (λ x xs. Form.PermuteDims xs x) axes args h.1 h.2 (args_read ids d args h.3)))
-row_read ids op d (Form.Squeeze args axes) h = named_row op (codes "squeeze") ids d (Form.Squeeze args axes) h.0
-    (viewed (codes "squeeze") ids d (Form.Squeeze args axes) refl refl (one_read (is_object_of 4 d) (member_of integers_of (codes "axes") d) (args_in ids d) (λ x xs. Form.Squeeze xs x) axes args h.1 h.2 (args_read ids d args h.3)))
-row_read ids op d (Form.Reshape args shape) h = named_row op (codes "reshape") ids d (Form.Reshape args shape) h.0
-    (viewed (codes "reshape") ids d (Form.Reshape args shape) refl refl (one_read (is_object_of 4 d) (member_of new_sizes_of (codes "shape") d) (args_in ids d) (λ x xs. Form.Reshape xs x) shape args h.1 h.2 (args_read ids d args h.3)))
+row_read ids op d (Form.Reshape args shape) h = reshaped op ids d (Form.Reshape args shape) (shape_alone ids op d shape h.0)
+    (with_args (new_shape_in op d) (args_in ids d) shape args (shape_read op d shape h.0) (args_read ids d args h.1))
 row_read ids op d (Form.Flip args axes) h = named_row op (codes "flip") ids d (Form.Flip args axes) h.0
     (viewed (codes "flip") ids d (Form.Flip args axes) refl refl (one_read (is_object_of (3 + present (codes "axes") d) d) (member_or None (or_null integers_of) (codes "axes") d) (args_in ids d) (λ x xs. Form.Flip xs x) axes args h.1 h.2 (args_read ids d args h.3)))
 row_read ids op d (Form.Roll args shifts axes) h = named_row op (codes "roll") ids d (Form.Roll args shifts axes) h.0

@@ -67,7 +67,7 @@ two_members true (Some x) None args make P h = tt
 two_members true None p args make P h = tt
 two_members false o p args make P h = tt
 
-pub member_alone : {A : Type 0} (b : Bool) (o : Option A) (make : A → Form) (P : Form → Type 0) → (b ≡ true → (x : A) → o ≡ Some x → P (make x))
+pub member_alone : {A B : Type 0} (b : Bool) (o : Option A) (make : A → B) (P : B → Type 0) → (b ≡ true → (x : A) → o ≡ Some x → P (make x))
     → IfOk (check b NodeCode.Form >>= λ _. need o NodeCode.Form >>= λ x. Ok (make x)) P
 member_alone true (Some x) make P h = h refl x refl
 member_alone true None make P h = tt
@@ -93,6 +93,10 @@ five_members true (Some x) (Some y) None r s make P h = tt
 five_members true (Some x) None q r s make P h = tt
 five_members true None p q r s make P h = tt
 five_members false o p q r s make P h = tt
+
+pub alone_read : {A B : Type 0} (b : Bool) (o : Option A) (make : A → B) (x : A) → b ≡ true → o ≡ Some x
+    → (check b NodeCode.Form >>= λ _. need o NodeCode.Form >>= λ y. Ok (make y)) ≡ Ok (make x)
+alone_read b o make x h k = rw (h, k) refl
 
 -- ---- the name of an operator
 

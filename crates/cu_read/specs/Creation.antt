@@ -1,7 +1,7 @@
 -- The rows of inputs and of arrays that are made from nothing (Python array API, "Creation Functions").
 use Rattle.std.specs.Prelude.{ℕ, List, codes, bytes_eq, Result, Ok, Err, if◌then◌else◌}
 use Rattle.serde_json.specs.Data.{Data}
-use Rattle.cu_form.specs.Form.{is_size}
+use Rattle.cu_node.specs.NewShape.{is_size}
 use Rattle.cu_form.specs.declared.form.Form.{Form}
 use Rattle.cu_result.specs.Results.{◌>>=◌}
 use Rattle.cu_read.specs.Members.{integer_of, literal_of, natural_of, dtype_of, name_of, sizes_of, chunk_sizes_of}

@@ -55,12 +55,15 @@ comparison_named op =
     else if bytes_eq op (codes "logical_xor") then Some LogicalXor
     else None
 
+-- the functions of two arguments
+abbrev pub binary_named : List ℕ → Option Fn2
+binary_named op = option_or (arithmetic_named op) (comparison_named op)
+
 -- the functions that have no member of their own
 abbrev pub function_named : List ℕ → Option ElementOp
 function_named op =
     if bytes_eq op (codes "where") then Some ElementOp.Where
-    else option_or (option_map ElementOp.One (unary_named op))
-    (option_map ElementOp.Two (option_or (arithmetic_named op) (comparison_named op)))
+    else option_or (option_map ElementOp.One (unary_named op)) (option_map ElementOp.Two (binary_named op))
 
 abbrev pub function_in : ElementOp → List (List ℕ) → Data → Result Form NodeCode
 function_in op ids d = do

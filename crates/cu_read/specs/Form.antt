@@ -1,35 +1,23 @@
 -- The form of an expression's text as a relation between the text and the expression, apart from the order in which faults are
 -- answered (this project's own form).
-use Rattle.std.specs.Prelude.{◌≡◌, ℕ, ◌+◌, ◌≤◌, true, false, List, [], ◌∷◌, ◌++◌, map, length, codes, Bool, Option, Some, None, slice_get, if◌then◌else◌}
+use Rattle.std.specs.Prelude.{◌≡◌, ℕ, ◌+◌, ◌≤◌, true, false, List, [], ◌∷◌, ◌++◌, map, length, codes, Bool, Some, None, slice_get, if◌then◌else◌}
 use Rattle.std.specs.Str.{is_utf8}
 use Rattle.serde_json.specs.Data.{Data, Items, no_items, item}
 use Rattle.serde_json.specs.Find.{as_bool, as_str, as_array}
 use Rattle.serde_json.specs.Read.{read}
-use Rattle.cu_json.specs.Form.{is_object_of}
 use Rattle.cu_form.specs.Expression.{Expression, IsExpression}
-use Rattle.cu_form.specs.Form.{is_size}
 use Rattle.cu_form.specs.declared.args.Arg.{Arg}
 use Rattle.cu_form.specs.declared.expr.Node.{Node}
+use Rattle.cu_node.specs.NewShape.{is_size}
 use Rattle.cu_node.specs.declared.element_op.ElementOp.{ElementOp}
 use Rattle.cu_form.specs.declared.form.Form.{Form}
 use Rattle.cu_read.specs.Args.{arg_of}
 use Rattle.cu_read.specs.Elementwise.{function_named}
 use Rattle.cu_read.specs.IndexItem.{index_item_of}
 use Rattle.cu_read.specs.Lists.{entries_of}
-use Rattle.cu_read.specs.Members.{integer_of, literal_of, natural_of, dtype_of, name_of, integers_of, sizes_of, chunk_sizes_of, new_sizes_of, member_of, member_or, or_null, present}
+use Rattle.cu_read.specs.Members.{integer_of, literal_of, natural_of, dtype_of, name_of, integers_of, sizes_of, chunk_sizes_of, or_null, present, IsObjectOf, Has, MayHave}
+use Rattle.cu_read.specs.NewShape.{IsNewShape}
 use Rattle.cu_read.specs.Reduction.{fold_named}
-
--- The value has exactly so many members. Where as many are named beside it, it has no other.
-abbrev pub IsObjectOf : ℕ → Data → Type 0
-IsObjectOf count d = is_object_of count d ≡ true
-
--- the member is there, and has this value
-abbrev pub Has : {A : Type 0} → (Data → Option A) → List ℕ → Data → A → Type 0
-Has value name d x = member_of value name d ≡ Some x
-
--- the member has this value, which is the default where it isn't there
-abbrev pub MayHave : {A : Type 0} → A → (Data → Option A) → List ℕ → Data → A → Type 0
-MayHave default value name d x = member_or default value name d ≡ Some x
 
 -- the arguments, where the nodes so far have these ids
 abbrev pub HasArgs : List (List ℕ) → Data → List Arg → Type 0
@@ -61,9 +49,7 @@ IsRow ids op d (Form.Index args items) = (op ≡ codes "index") × IsObjectOf 4 
 IsRow ids op d (Form.Concat args axis) = (op ≡ codes "concat") × IsObjectOf 4 d × Has integer_of (codes "axis") d axis × HasArgs ids d args
 IsRow ids op d (Form.Stack args axis) = (op ≡ codes "stack") × IsObjectOf 4 d × Has integer_of (codes "axis") d axis × HasArgs ids d args
 IsRow ids op d (Form.PermuteDims args axes) = (op ≡ codes "permute_dims") × IsObjectOf 4 d × Has integers_of (codes "axes") d axes × HasArgs ids d args
-IsRow ids op d (Form.Reshape args shape) = (op ≡ codes "reshape") × IsObjectOf 4 d × Has new_sizes_of (codes "shape") d shape × HasArgs ids d args
-IsRow ids op d (Form.ExpandDims args axis) = (op ≡ codes "expand_dims") × IsObjectOf 4 d × Has integer_of (codes "axis") d axis × HasArgs ids d args
-IsRow ids op d (Form.Squeeze args axes) = (op ≡ codes "squeeze") × IsObjectOf 4 d × Has integers_of (codes "axes") d axes × HasArgs ids d args
+IsRow ids op d (Form.Reshape args shape) = IsNewShape op d shape × HasArgs ids d args
 IsRow ids op d (Form.Flip args axes) = (op ≡ codes "flip") × IsObjectOf (3 + present (codes "axes") d) d
     × MayHave None (or_null integers_of) (codes "axes") d axes × HasArgs ids d args
 IsRow ids op d (Form.Roll args shifts axes) = (op ≡ codes "roll") × IsObjectOf 5 d × Has integers_of (codes "shifts") d shifts

@@ -6,6 +6,7 @@ pub mod Form
 pub mod IndexItem
 pub mod Lists
 pub mod Members
+pub mod NewShape
 pub mod Node
 pub mod Read
 pub mod Reduction

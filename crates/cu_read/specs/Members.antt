@@ -1,12 +1,14 @@
 -- The values that a member of a node may have (JSON, RFC 8259; their ranges are this project's own rule).
-use Rattle.std.specs.Prelude.{ℕ, Bool, ℤ, List, Option, Some, None, option_map, option_and_then, is_some, is_none, if◌then◌else◌}
+use Rattle.std.specs.Prelude.{◌≡◌, ℕ, Bool, true, ℤ, List, Option, Some, None, option_map, option_and_then, is_some, is_none, if◌then◌else◌}
 use Rattle.std.specs.Option.{option_or}
 use Rattle.serde_json.specs.Data.{Data}
 use Rattle.serde_json.specs.Find.{get, as_null, as_bool, as_number, as_str, as_i64, as_u64, as_integer}
+use Rattle.cu_json.specs.Form.{is_object_of}
 use Rattle.cu_name.specs.Name.{is_name}
 use Rattle.cu_num.specs.declared.types.Dtype.{Dtype}
+use Rattle.cu_node.specs.NewShape.{is_size, are_new_sizes}
 use Rattle.cu_node.specs.declared.literal.Literal.{Literal}
-use Rattle.cu_form.specs.Form.{is_written, is_size, is_chunk_size, are_new_sizes}
+use Rattle.cu_form.specs.Form.{is_written, is_chunk_size}
 use Rattle.cu_read.specs.Lists.{entries_of}
 use Rattle.cu_num.specs.TypeName.{dtype_named}
 
@@ -74,3 +76,17 @@ or_null value d = if is_some (as_null d) then Some None else option_map Some (va
 -- 1 where the member is there, else 0
 abbrev pub present : List ℕ → Data → ℕ
 present name d = if is_some (get name d) then 1 else 0
+
+-- ---- members, as relations
+
+-- The value has exactly so many members. Where as many are named beside it, it has no other.
+abbrev pub IsObjectOf : ℕ → Data → Type 0
+IsObjectOf count d = is_object_of count d ≡ true
+
+-- the member is there, and has this value
+abbrev pub Has : {A : Type 0} → (Data → Option A) → List ℕ → Data → A → Type 0
+Has value name d x = member_of value name d ≡ Some x
+
+-- the member has this value, which is the default where it isn't there
+abbrev pub MayHave : {A : Type 0} → A → (Data → Option A) → List ℕ → Data → A → Type 0
+MayHave default value name d x = member_or default value name d ≡ Some x

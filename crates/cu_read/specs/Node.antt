@@ -10,6 +10,7 @@ use Rattle.cu_form.specs.declared.form.Form.{Form}
 use Rattle.cu_result.specs.Results.{◌>>=◌, check}
 use Rattle.cu_read.specs.Creation.{creation_row}
 use Rattle.cu_read.specs.Elementwise.{elementwise_row}
+use Rattle.cu_read.specs.NewShape.{new_shape_row}
 use Rattle.cu_read.specs.Reduction.{reduction_row}
 use Rattle.cu_read.specs.Rows.{required}
 use Rattle.cu_read.specs.View.{view_row}
@@ -21,7 +22,8 @@ or_row (Err NodeCode.Unknown) next = next
 or_row row next = row
 
 abbrev pub row_of : List ℕ → List (List ℕ) → Data → Result Form NodeCode
-row_of op ids d = or_row (creation_row op d) (or_row (elementwise_row op ids d) (or_row (view_row op ids d) (reduction_row op ids d)))
+row_of op ids d =
+    or_row (creation_row op d) (or_row (elementwise_row op ids d) (or_row (view_row op ids d) (or_row (reduction_row op ids d) (new_shape_row op ids d))))
 
 -- an id that no node so far has
 abbrev pub is_new_id : List (List ℕ) → List ℕ → Bool

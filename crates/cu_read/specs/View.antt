@@ -7,7 +7,7 @@ use Rattle.cu_result.specs.Results.{◌>>=◌}
 use Rattle.cu_read.specs.Args.{args_in}
 use Rattle.cu_read.specs.Lists.{entries_of}
 use Rattle.cu_read.specs.IndexItem.{index_item_of}
-use Rattle.cu_read.specs.Members.{integer_of, integers_of, sizes_of, chunk_sizes_of, new_sizes_of, or_null, present}
+use Rattle.cu_read.specs.Members.{integer_of, integers_of, sizes_of, chunk_sizes_of, or_null, present}
 use Rattle.cu_read.specs.Rows.{has_members, required, optional}
 use Rattle.cu_read.specs.declared.faults.NodeCode.{NodeCode}
 
@@ -45,27 +45,6 @@ permute_dims_in ids d = do
   axes ← required integers_of (codes "axes") d
   args ← args_in ids d
   Ok (Form.PermuteDims args axes)
-
-abbrev pub reshape_in : List (List ℕ) → Data → Result Form NodeCode
-reshape_in ids d = do
-  _ ← has_members 4 d
-  shape ← required new_sizes_of (codes "shape") d
-  args ← args_in ids d
-  Ok (Form.Reshape args shape)
-
-abbrev pub expand_dims_in : List (List ℕ) → Data → Result Form NodeCode
-expand_dims_in ids d = do
-  _ ← has_members 4 d
-  axis ← required integer_of (codes "axis") d
-  args ← args_in ids d
-  Ok (Form.ExpandDims args axis)
-
-abbrev pub squeeze_in : List (List ℕ) → Data → Result Form NodeCode
-squeeze_in ids d = do
-  _ ← has_members 4 d
-  axes ← required integers_of (codes "axes") d
-  args ← args_in ids d
-  Ok (Form.Squeeze args axes)
 
 abbrev pub flip_in : List (List ℕ) → Data → Result Form NodeCode
 flip_in ids d = do
@@ -106,9 +85,6 @@ view_row op ids d =
     else if bytes_eq op (codes "concat") then concat_in ids d
     else if bytes_eq op (codes "stack") then stack_in ids d
     else if bytes_eq op (codes "permute_dims") then permute_dims_in ids d
-    else if bytes_eq op (codes "reshape") then reshape_in ids d
-    else if bytes_eq op (codes "expand_dims") then expand_dims_in ids d
-    else if bytes_eq op (codes "squeeze") then squeeze_in ids d
     else if bytes_eq op (codes "flip") then flip_in ids d
     else if bytes_eq op (codes "roll") then roll_in ids d
     else if bytes_eq op (codes "broadcast_to") then broadcast_to_in ids d

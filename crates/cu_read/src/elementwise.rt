@@ -1,7 +1,7 @@
 //! The rows of elementwise functions.
 ghost use Rattle.std.specs.Prelude.{◌≡◌};
 ghost use Rattle.serde_json.specs.View.{view};
-ghost use Rattle.cu_read.specs.Elementwise.{unary_named, arithmetic_named, comparison_named, function_named, function_in, astype_in, elementwise_row};
+ghost use Rattle.cu_read.specs.Elementwise.{unary_named, arithmetic_named, comparison_named, binary_named, function_named, function_in, astype_in, elementwise_row};
 ghost use Rattle.cu_read.specs.Faults.{Gives};
 
 use crate::args::args_in;
@@ -13,8 +13,9 @@ use cu_num::{Fn1, Fn2};
 use serde_json::Value;
 use std::alloc::Global;
 
-/// The functions of one argument.
-fn unary_named(op: &str) -> Option<Fn1>
+/// The function of one argument that has this name (Python array API, elementwise functions). `astype`, which names a type too, is
+/// none of them.
+pub fn unary_named(op: &str) -> Option<Fn1>
     ensures { result ≡ unary_named op.now }
 {
     match op {
@@ -66,6 +67,16 @@ fn comparison_named(op: &str) -> Option<Fn2>
     }
 }
 
+/// The function of two arguments that has this name (Python array API, elementwise functions).
+pub fn binary_named(op: &str) -> Option<Fn2>
+    ensures { result ≡ binary_named op.now }
+{
+    if let Some(function) = arithmetic_named(op) {
+        return Some(function);
+    }
+    comparison_named(op)
+}
+
 /// The functions that have no member of their own.
 fn function_named(op: &str) -> Option<ElementOp>
     ensures { result ≡ function_named op.now }
@@ -76,10 +87,7 @@ fn function_named(op: &str) -> Option<ElementOp>
     if let Some(function) = unary_named(op) {
         return Some(ElementOp::One(function));
     }
-    if let Some(function) = arithmetic_named(op) {
-        return Some(ElementOp::Two(function));
-    }
-    Some(ElementOp::Two(comparison_named(op)?))
+    Some(ElementOp::Two(binary_named(op)?))
 }
 
 fn function_in(alloc: Global, op: ElementOp, ids: &Ids, value: &Value) -> Result<Form, NodeRefused>

@@ -1,5 +1,5 @@
 //! The reader of expressions: the JSON text of a list of nodes, as an expression or its first fault. Each family of operators
-//! has its rows in a file of its own: `creation`, `elementwise`, `view` and `reduction`.
+//! has its rows in a file of its own: `creation`, `elementwise`, `view`, `reduction` and `new_shape`.
 #![tactic(auto)]
 
 mod args;
@@ -11,6 +11,7 @@ mod index_item;
 mod laws;
 mod lists;
 mod members;
+mod new_shape;
 mod node;
 mod nodes;
 mod read;
@@ -18,6 +19,7 @@ mod reduction;
 mod rows;
 mod view;
 
+pub use elementwise::{binary_named, unary_named};
 pub use faults::{ReadFault, ReadRefused};
 pub use laws::{form_law, plain_law};
 pub use read::{ExprText, read_expr, read_with_value};

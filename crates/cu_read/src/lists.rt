@@ -1,7 +1,8 @@
 //! Lists at a member of a node.
 ghost use Rattle.std.specs.Prelude.{◌≡◌, [], None, pos, int_lt, count_by};
 ghost use Rattle.std.specs.List.{list_all};
-ghost use Rattle.cu_form.specs.Form.{is_size, is_chunk_size, is_new_size, are_new_sizes};
+ghost use Rattle.cu_node.specs.NewShape.{is_size, is_new_size, are_new_sizes};
+ghost use Rattle.cu_form.specs.Form.{is_chunk_size};
 ghost use Rattle.cu_result.specs.Results.{need};
 ghost use Rattle.serde_json.specs.View.{view, items_view};
 ghost use Rattle.cu_read.specs.Lists.{entries_after, entries_of};

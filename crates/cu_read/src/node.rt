@@ -8,6 +8,7 @@ use crate::creation::creation_row;
 use crate::elementwise::elementwise_row;
 use crate::faults::{NodeCode, NodeRefused};
 use crate::ids::Ids;
+use crate::new_shape::new_shape_row;
 use crate::reduction::reduction_row;
 use crate::rows::text;
 use crate::view::view_row;
@@ -32,7 +33,11 @@ fn row_of(alloc: Global, op: &str, ids: &Ids, value: &Value) -> Result<Form, Nod
         Err(NodeRefused::Code(NodeCode::Unknown)) => {}
         row => return row,
     }
-    reduction_row(alloc, op, ids, value)
+    match reduction_row(alloc, op, ids, value) {
+        Err(NodeRefused::Code(NodeCode::Unknown)) => {}
+        row => return row,
+    }
+    new_shape_row(alloc, op, ids, value)
 }
 
 /// Whether the text is an id that no node so far has.

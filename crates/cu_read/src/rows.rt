@@ -3,7 +3,7 @@ ghost use Rattle.std.specs.Prelude.{◌≡◌, None, false, Ok, option_map};
 ghost use Rattle.std.specs.Result.{result_map_both};
 ghost use Rattle.serde_json.specs.Find.{as_bool, as_array, as_str};
 ghost use Rattle.serde_json.specs.View.{view, items_view};
-ghost use Rattle.cu_form.specs.Form.{is_size};
+ghost use Rattle.cu_node.specs.NewShape.{is_size};
 ghost use Rattle.cu_read.specs.Members.{integer_of, literal_of, natural_of, dtype_of, name_of, or_null};
 ghost use Rattle.cu_read.specs.Rows.{has_members, required, optional};
 

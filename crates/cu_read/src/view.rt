@@ -2,13 +2,13 @@
 ghost use Rattle.std.specs.Prelude.{◌≡◌};
 ghost use Rattle.serde_json.specs.View.{view};
 ghost use Rattle.cu_read.specs.Faults.{Gives};
-ghost use Rattle.cu_read.specs.View.{triangle_in, index_in, concat_in, stack_in, permute_dims_in, reshape_in, expand_dims_in, squeeze_in, flip_in, roll_in, broadcast_to_in, rechunk_in, view_row};
+ghost use Rattle.cu_read.specs.View.{triangle_in, index_in, concat_in, stack_in, permute_dims_in, flip_in, roll_in, broadcast_to_in, rechunk_in, view_row};
 
 use crate::args::args_in;
 use crate::faults::{NodeCode, NodeRefused};
 use crate::ids::Ids;
 use crate::index_item::index_items;
-use crate::lists::{chunk_sizes, integers, integers_or_null, new_sizes, sizes};
+use crate::lists::{chunk_sizes, integers, integers_or_null, sizes};
 use crate::members::present;
 use crate::rows::{has_members, integer};
 use cu_form::Form;
@@ -58,33 +58,6 @@ fn permute_dims_in(alloc: Global, ids: &Ids, value: &Value) -> Result<Form, Node
     let axes = integers(alloc, value, "axes")?;
     let args = args_in(alloc, ids, value)?;
     Ok(Form::PermuteDims { args, axes })
-}
-
-fn reshape_in(alloc: Global, ids: &Ids, value: &Value) -> Result<Form, NodeRefused>
-    ensures { Gives result (reshape_in ids.now (view value.now)) }
-{
-    has_members(value, 4)?;
-    let shape = new_sizes(alloc, value, "shape")?;
-    let args = args_in(alloc, ids, value)?;
-    Ok(Form::Reshape { args, shape })
-}
-
-fn expand_dims_in(alloc: Global, ids: &Ids, value: &Value) -> Result<Form, NodeRefused>
-    ensures { Gives result (expand_dims_in ids.now (view value.now)) }
-{
-    has_members(value, 4)?;
-    let axis = integer(value, "axis")?;
-    let args = args_in(alloc, ids, value)?;
-    Ok(Form::ExpandDims { args, axis })
-}
-
-fn squeeze_in(alloc: Global, ids: &Ids, value: &Value) -> Result<Form, NodeRefused>
-    ensures { Gives result (squeeze_in ids.now (view value.now)) }
-{
-    has_members(value, 4)?;
-    let axes = integers(alloc, value, "axes")?;
-    let args = args_in(alloc, ids, value)?;
-    Ok(Form::Squeeze { args, axes })
 }
 
 fn flip_in(alloc: Global, ids: &Ids, value: &Value) -> Result<Form, NodeRefused>
@@ -141,9 +114,6 @@ pub(crate) fn view_row(
         "concat" => concat_in(alloc, ids, value),
         "stack" => stack_in(alloc, ids, value),
         "permute_dims" => permute_dims_in(alloc, ids, value),
-        "reshape" => reshape_in(alloc, ids, value),
-        "expand_dims" => expand_dims_in(alloc, ids, value),
-        "squeeze" => squeeze_in(alloc, ids, value),
         "flip" => flip_in(alloc, ids, value),
         "roll" => roll_in(alloc, ids, value),
         "broadcast_to" => broadcast_to_in(alloc, ids, value),

@@ -1,5 +1,5 @@
 -- What is made of what is made of the parts of a region.
-use Rattle.std.proofs.Common.{◌≡◌, ℕ, ◌+◌, ◌-◌, ◌<◌, ◌≤◌, zero, suc, ℤ, pos, ◌+ℤ◌, ◌≤ℤ◌, ◌||◌, ◌&&◌, true, false, List, [], ◌∷◌, length, map, All, Option, None, Some, refl, sym, ap, ◌∙◌, subst, arith, ⊎_elim}
+use Rattle.std.proofs.Common.{◌≡◌, ℕ, ◌+◌, ◌-◌, ◌<◌, ◌≤◌, zero, suc, ℤ, pos, ◌+ℤ◌, ◌≤ℤ◌, ◌||◌, ◌&&◌, List, [], ◌∷◌, length, map, All, Option, None, Some, refl, sym, ap, ◌∙◌, subst, arith, ⊎_elim}
 use Rattle.std.specs.Prelude.{Bool as Test, option_map, option_and_then}
 use Rattle.std.specs.Int.{int_min, int_max}
 use Rattle.std.proofs.lemmas.Int.{ints, int_min_is, int_max_is}
@@ -8,6 +8,7 @@ use Rattle.std.proofs.lemmas.List.{length-map}
 use Rattle.std.proofs.lemmas.List.Elements.{All-nil, All-cons, All-head, All-tail, All-map}
 use Rattle.cu_num.specs.Dtype.{InRange, greatest, least as lowest}
 use Rattle.cu_num.specs.Scalar.{truth_number, is_nonzero}
+use Rattle.cu_num.proofs.ScalarRange.{truth_number_in_range}
 use Rattle.cu_num.specs.Wrap.{wrapped}
 use Rattle.cu_num.proofs.Wrapped.{wrapped_in_range, InRange-wrapped}
 use Rattle.cu_num.specs.declared.types.Dtype.{Dtype}
@@ -163,12 +164,8 @@ settled_own Max acc = max_own (lowest acc)
 settled_own Any acc = refl
 settled_own Every acc = refl
 
-truth_in_range : (p : Test) → InRange Bool (truth_number p)
-truth_in_range true = (omega (arith, ints), omega (arith, ints))
-truth_in_range false = (omega (arith, ints), omega (arith, ints))
-
 truth_wrapped : (acc : Dtype) (x : ℤ) → acc ≡ Bool → truth_number (is_nonzero x) ≡ wrapped acc x
-truth_wrapped acc x e = sym (wrapped_in_range Bool (truth_number (is_nonzero x)) (truth_in_range (is_nonzero x))) ∙ truth_again x ∙ ap (λ d. wrapped d x) (sym e)
+truth_wrapped acc x e = sym (wrapped_in_range Bool (truth_number (is_nonzero x)) (truth_number_in_range (is_nonzero x))) ∙ truth_again x ∙ ap (λ d. wrapped d x) (sym e)
 
 settled_wrapped : (kind : FoldKind) (t acc : Dtype) (x : ℤ) → Accumulates kind t acc → IsTaken kind acc x → settled kind acc x ≡ wrapped acc x
 unfolding settled

@@ -7,6 +7,7 @@ use crate::findings::{Findings, Place};
 use crate::members::{Said, list_of, refuse_others, text_of};
 use anyhow::{Result, bail};
 use cu_num::{Dtype, Fn1, Fn2, dtype_named, promote, scalar1, scalar2, wrap};
+use cu_read::{binary_named, unary_named};
 use serde_json::Value;
 use std::alloc::Global;
 
@@ -106,43 +107,21 @@ fn element_of(dtype: Dtype, value: &Value) -> Result<i128>
     Ok(wrapped)
 }
 
-/// A function of one argument, by its name in the Python array API.
+/// A function of one argument, by its name in a text; `astype` stands with the new type.
 fn function_of_one(name: &str) -> Result<Fn1> {
-    match name {
-        "negative" => Ok(Fn1::Negative),
-        "positive" => Ok(Fn1::Positive),
-        "abs" => Ok(Fn1::Abs),
-        "square" => Ok(Fn1::Square),
-        "sign" => Ok(Fn1::Sign),
-        "bitwise_invert" => Ok(Fn1::BitwiseInvert),
-        "logical_not" => Ok(Fn1::LogicalNot),
-        "astype" => Ok(Fn1::Astype),
-        _ => bail!("{name} is no function of one argument"),
+    if name == "astype" {
+        return Ok(Fn1::Astype);
+    }
+    match unary_named(name) {
+        Some(function) => Ok(function),
+        None => bail!("{name} is no function of one argument"),
     }
 }
 
-/// A function of two arguments, by its name in the Python array API.
+/// A function of two arguments, by its name in a text.
 fn function_of_two(name: &str) -> Result<Fn2> {
-    match name {
-        "add" => Ok(Fn2::Add),
-        "subtract" => Ok(Fn2::Subtract),
-        "multiply" => Ok(Fn2::Multiply),
-        "floor_divide" => Ok(Fn2::FloorDivide),
-        "remainder" => Ok(Fn2::Remainder),
-        "bitwise_and" => Ok(Fn2::BitwiseAnd),
-        "bitwise_or" => Ok(Fn2::BitwiseOr),
-        "bitwise_xor" => Ok(Fn2::BitwiseXor),
-        "bitwise_left_shift" => Ok(Fn2::LeftShift),
-        "bitwise_right_shift" => Ok(Fn2::RightShift),
-        "equal" => Ok(Fn2::Equal),
-        "not_equal" => Ok(Fn2::NotEqual),
-        "less" => Ok(Fn2::Less),
-        "less_equal" => Ok(Fn2::LessEqual),
-        "greater" => Ok(Fn2::Greater),
-        "greater_equal" => Ok(Fn2::GreaterEqual),
-        "logical_and" => Ok(Fn2::LogicalAnd),
-        "logical_or" => Ok(Fn2::LogicalOr),
-        "logical_xor" => Ok(Fn2::LogicalXor),
-        _ => bail!("{name} is no function of two arguments"),
+    match binary_named(name) {
+        Some(function) => Ok(function),
+        None => bail!("{name} is no function of two arguments"),
     }
 }

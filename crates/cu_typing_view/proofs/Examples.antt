@@ -11,7 +11,8 @@ use Rattle.cu_node.specs.declared.faults.FaultCode.TheVariants.{Promote, Shape, 
 use Rattle.cu_node.specs.declared.info.NodeInfo.{NodeInfo}
 use Rattle.cu_typing_view.specs.Creation.{arange_count, holds_ends, typed_full, typed_arange, typed_eye}
 use Rattle.cu_typing_view.specs.Pieces.{typed_concat, typed_stack}
-use Rattle.cu_typing_view.specs.Rearranged.{typed_triangle, typed_permute, typed_expand, typed_squeeze, typed_flip, typed_roll}
+use Rattle.cu_typing_view.specs.NewShapes.{typed_expand, typed_squeeze}
+use Rattle.cu_typing_view.specs.Rearranged.{typed_triangle, typed_permute, typed_flip, typed_roll}
 use Rattle.cu_typing_view.specs.Reshaped.{typed_reshape, typed_broadcast, typed_rechunk}
 use Rattle.cu_typing_view.specs.Entries.{count_taken, typed_index}
 

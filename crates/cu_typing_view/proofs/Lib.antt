@@ -6,6 +6,7 @@ pub mod Exceeded
 pub mod HeldElements
 pub mod IndexSizes
 pub mod MarkedAxes
+pub mod NewShapes
 pub mod NumbersFit
 pub mod PositiveSizes
 pub mod Steps

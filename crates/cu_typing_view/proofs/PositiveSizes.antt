@@ -3,7 +3,7 @@ use Rattle.std.proofs.Common.{◌≡◌, ℕ, suc, ◌<◌, Bool, true, false, L
 use Rattle.std.proofs.lemmas.List.{length-append}
 use Rattle.std.specs.Prelude.{insert, ℤ, pos, negsuc}
 use Rattle.std.proofs.lemmas.List.Elements.{All-head, All-tail, All-cons, All-append, All-take, All-drop}
-use Rattle.cu_typing_view.specs.Rearranged.{unless_marked, unmarked}
+use Rattle.cu_typing_view.specs.NewShapes.{unless_marked, unmarked}
 use Rattle.cu_typing_view.specs.Reshaped.{chunk_size, left_before, chunk_of, filled}
 
 abbrev pub Positive : List ℕ → Type 0

@@ -1,11 +1,10 @@
--- The typing of views whose axes are moved, turned, put in or taken out (Python array API, "Manipulation Functions":
--- `permute_dims`, `expand_dims`, `squeeze`, `flip`, `roll`; "Linear Algebra Functions": `tril`, `triu`; the chunk shapes and
--- the order of the faults are this project's rules).
-use Rattle.std.specs.Prelude.{ℕ, ◌+◌, ◌==◌, nat_le, ℤ, pos, int_le, ◌&&◌, ◌||◌, not, if◌then◌else◌, Bool, true, List, [], ◌∷◌, ◌++◌, length, map, slice_index, insert, Option, Some, None, is_some, Result}
+-- The typing of views whose axes are moved or turned (Python array API, "Manipulation Functions": `permute_dims`, `flip`, `roll`;
+-- "Linear Algebra Functions": `tril`, `triu`; the chunk shapes and the order of the faults are this project's rules).
+use Rattle.std.specs.Prelude.{ℕ, ◌==◌, nat_le, ℤ, pos, int_le, ◌&&◌, Bool, true, List, length, map, slice_index, Option, Some, None, is_some, Result}
 use Rattle.std.specs.List.{list_all}
-use Rattle.cu_result.specs.Results.{◌>>=◌, check, need}
+use Rattle.cu_result.specs.Results.{◌>>=◌, check}
 use Rattle.cu_shape.specs.Slice.{at_least_zero}
-use Rattle.cu_node.specs.Axes.{axis_of, marked_of}
+use Rattle.cu_node.specs.Axes.{marked_of}
 use Rattle.cu_node.specs.Fault.{fault}
 use Rattle.cu_node.specs.Limited.{limited}
 use Rattle.cu_node.specs.declared.faults.FaultCode.TheVariants.{Axis}
@@ -34,34 +33,6 @@ abbrev pub typed_permute : NodeInfo → List ℤ → Result NodeInfo NodeFault
 typed_permute a axes = do
   _ ← check (is_permutation (length a.dims) axes) (fault Axis)
   limited a.dtype (permuted axes a.dims) (permuted axes a.chunk)
-
--- an axis of size 1 is put in
-abbrev pub typed_expand : NodeInfo → ℤ → Result NodeInfo NodeFault
-typed_expand a number = do
-  axis ← need (axis_of number (length a.dims + 1)) (fault Axis)
-  limited a.dtype (insert a.dims axis 1) (insert a.chunk axis 1)
-
--- the numbers of the axes that aren't marked
-abbrev pub unless_marked : Bool → ℕ → List ℕ
-unless_marked m x = if m then [] else x ∷ []
-
-abbrev pub unmarked : List ℕ → List Bool → List ℕ
-unmarked [] ms = []
-unmarked (x ∷ xs) [] = x ∷ xs
-unmarked (x ∷ xs) (m ∷ ms) = unless_marked m x ++ unmarked xs ms
-
--- each marked axis has size 1
-abbrev pub are_single : List ℕ → List Bool → Bool
-are_single [] ms = true
-are_single (n ∷ ns) [] = true
-are_single (n ∷ ns) (m ∷ ms) = (not m || n == 1) && are_single ns ms
-
--- axes of size 1 are taken out
-abbrev pub typed_squeeze : NodeInfo → List ℤ → Result NodeInfo NodeFault
-typed_squeeze a axes = do
-  marks ← need (marked_of (length a.dims) axes) (fault Axis)
-  _ ← check (are_single a.dims marks) (fault Axis)
-  limited a.dtype (unmarked a.dims marks) (unmarked a.chunk marks)
 
 -- distinct axes, or all of them where there is no list
 abbrev pub are_axes : ℕ → Option (List ℤ) → Bool

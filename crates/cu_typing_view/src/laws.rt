@@ -1,9 +1,13 @@
 //! Laws of the typing of views: calls that do nothing and whose clauses are the laws.
-ghost use Rattle.std.specs.Prelude.{◌≡◌, ◌<◌, ◌≤◌, ◌↔◌, ◌+ℤ◌, ◌*ℤ◌, ◌<ℤ◌, pos, negsuc, ℕ, ℤ, List, Option, None, true, count_by, int_lt, IsTrue};
+ghost use Rattle.std.specs.Prelude.{◌≡◌, ◌<◌, ◌≤◌, ◌↔◌, ◌+ℤ◌, ◌*ℤ◌, ◌<ℤ◌, pos, negsuc, ℕ, ℤ, List, Option, None, Ok, true, count_by, int_lt, IsTrue};
 ghost use Rattle.cu_shape.specs.Broadcast.{broadcast_of, mismatch_of};
 ghost use Rattle.cu_shape.specs.Index.{product};
 ghost use Rattle.cu_shape.specs.Slice.{count_of, start_of, stop_of};
+ghost use Rattle.cu_node.specs.NewShape.{is_new_shape};
+ghost use Rattle.cu_node.specs.declared.info.NodeInfo.{NodeInfo};
+ghost use Rattle.cu_node.specs.declared.new_shape.NewShape.{NewShape};
 ghost use Rattle.cu_typing_view.specs.Creation.{arange_count, arange_at};
+ghost use Rattle.cu_typing_view.specs.NewShapes.{typed_new_shape};
 ghost use Rattle.cu_typing_view.specs.Reshaped.{can_hold, reshaped, stretches_to};
 
 /// The numbers of a range are exactly those that come before its stop, and the indices of a slice exactly those that come
@@ -23,4 +27,10 @@ pub fn broadcast_law()
 /// A shape that `reshape` accepts has as many elements as the array.
 pub fn reshape_law()
     ensures { (count : ℕ) (shape : List ℤ) → count_by (λ n. int_lt n (pos 0)) shape ≤ 1 → can_hold count shape ≡ true → product (reshaped count shape) ≡ count }
+{}
+
+/// An array in a new shape has the type and as many elements.
+pub fn new_shape_law()
+    ensures count { (a i : NodeInfo) (shape : NewShape) → is_new_shape shape ≡ true → typed_new_shape a shape ≡ Ok i → product a.dims ≡ product i.dims }
+    ensures same_type { (a i : NodeInfo) (shape : NewShape) → typed_new_shape a shape ≡ Ok i → i.dtype ≡ a.dtype }
 {}

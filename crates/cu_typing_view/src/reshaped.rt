@@ -13,7 +13,7 @@ const PAST_ELEMENTS: u64 = 0x100_0000_0001;
 /// The same elements in row-major order in another shape, of which one size may be negative, which stands for the size that is
 /// left. On each axis, from the last on, a chunk has as many elements as are left of the argument's chunk, up to the size. The
 /// first of these faults is answered: ReshapeSize where the shape does not hold as many elements, Limit.
-pub fn type_reshape(array: &NodeInfo, shape: &[i64]) -> Result<NodeInfo, NodeFault>
+pub(crate) fn type_reshape(array: &NodeInfo, shape: &[i64]) -> Result<NodeInfo, NodeFault>
     requires { IsInfo array.now }
     ensures value { result ≡ typed_reshape array.now shape.now }
     ensures kept { IfOk result IsInfo }

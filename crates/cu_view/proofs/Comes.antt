@@ -8,7 +8,7 @@ use Rattle.cu_pull.specs.Pull.{concat_from, origin_of, IsInSources}
 use Rattle.cu_pull.specs.declared.provenance.Provenance.{Provenance}
 use Rattle.cu_pull.specs.declared.provenance.Provenance.TheVariants.{From}
 use Rattle.cu_pull.specs.declared.pull.Pull.{Pull}
-use Rattle.cu_pull.specs.declared.pull.Pull.TheVariants.{Slice, Permute, Reshape, Concat, Stack, Flip, Roll, Broadcast, Triangle, Full, Arange, Eye}
+use Rattle.cu_pull.specs.declared.pull.Pull.TheVariants.{Reshape, Concat, Stack, Triangle, Full, Arange, Eye}
 use Rattle.cu_pull.proofs.AxesInside.{inside_at}
 use Rattle.cu_pull.proofs.OriginsInside.{inside_sources}
 use Rattle.cu_view_box.specs.Piece.{read_by_ways, count_along}
@@ -36,18 +36,14 @@ concat_comes join sources shape idx number f h e =
 -- the element at an index of a piece comes from the index that is read, in the piece's source
 pub comes_from : (pull : Pull) (sources : List (List ℕ)) (shape idx : List ℕ) (number : ℕ) → FitsPull pull sources shape → IsInside shape idx → number < pieces_of pull sources shape → number_at pull sources shape idx ≡ number → IsShown pull idx
     → origin_of pull sources shape idx ≡ From (source_of pull number) (index_read pull sources shape idx)
-comes_from (Slice runs taken) sources shape idx number f h b e s = refl
-comes_from (Permute axes) sources shape idx number f h b e s = refl
 comes_from Reshape sources shape idx number f h b e s = absurd (omega arith)
 comes_from (Concat axis) sources shape idx number f h b e s = concat_comes axis sources shape idx number f h e
 comes_from (Stack axis) sources shape idx number f h b e s = ap (λ (k : ℕ). From k (index_in (origin_of (Stack axis) sources shape idx))) e
-comes_from (Flip axes) sources shape idx number f h b e s = refl
-comes_from (Roll shifts) sources shape idx number f h b e s = refl
-comes_from Broadcast sources shape idx number f h b e s = refl
 comes_from (Triangle lower k) sources shape idx number f h b e s = rw s refl
 comes_from (Full value) sources shape idx number f h b e s = absurd (omega arith)
 comes_from (Arange start step) sources shape idx number f h b e s = absurd (omega arith)
 comes_from (Eye k) sources shape idx number f h b e s = absurd (omega arith)
+comes_from pull sources shape idx number f h b e s = refl
 
 from_inside : (pull : Pull) (sources : List (List ℕ)) (shape idx : List ℕ) (s : ℕ) (i : List ℕ) → FitsPull pull sources shape → IsInside shape idx → origin_of pull sources shape idx ≡ From s i → IsInside (get_or sources s []) i
 from_inside pull sources shape idx s i f h e =
@@ -57,20 +53,14 @@ from_inside pull sources shape idx s i f h e =
 -- what a piece reads lies inside its source, also where a triangle has 0
 pub read_inside : (pull : Pull) (sources : List (List ℕ)) (shape idx : List ℕ) (number : ℕ) → FitsPull pull sources shape → IsInside shape idx → number < pieces_of pull sources shape → number_at pull sources shape idx ≡ number
     → IsInside (get_or sources (source_of pull number) []) (index_read pull sources shape idx)
-read_inside (Slice runs taken) sources shape idx number f h b e = from_inside (Slice runs taken) sources shape idx _ _ f h (comes_from (Slice runs taken) sources shape idx number f h b e tt)
-read_inside (Permute axes) sources shape idx number f h b e = from_inside (Permute axes) sources shape idx _ _ f h (comes_from (Permute axes) sources shape idx number f h b e tt)
 read_inside Reshape sources shape idx number f h b e = absurd (omega arith)
-read_inside (Concat axis) sources shape idx number f h b e = from_inside (Concat axis) sources shape idx _ _ f h (comes_from (Concat axis) sources shape idx number f h b e tt)
-read_inside (Stack axis) sources shape idx number f h b e = from_inside (Stack axis) sources shape idx _ _ f h (comes_from (Stack axis) sources shape idx number f h b e tt)
-read_inside (Flip axes) sources shape idx number f h b e = from_inside (Flip axes) sources shape idx _ _ f h (comes_from (Flip axes) sources shape idx number f h b e tt)
-read_inside (Roll shifts) sources shape idx number f h b e = from_inside (Roll shifts) sources shape idx _ _ f h (comes_from (Roll shifts) sources shape idx number f h b e tt)
-read_inside Broadcast sources shape idx number f h b e = from_inside Broadcast sources shape idx _ _ f h (comes_from Broadcast sources shape idx number f h b e tt)
 read_inside (Triangle lower k) sources shape idx number f h b e =
     let g = one_source (λ (s : List ℕ). (s ≡ shape) × (2 ≤ length shape)) sources f in
     subst (λ (x : List ℕ). IsInside x idx) (sym g.holds.0) h
 read_inside (Full value) sources shape idx number f h b e = absurd (omega arith)
 read_inside (Arange start step) sources shape idx number f h b e = absurd (omega arith)
 read_inside (Eye k) sources shape idx number f h b e = absurd (omega arith)
+read_inside pull sources shape idx number f h b e = from_inside pull sources shape idx _ _ f h (comes_from pull sources shape idx number f h b e tt)
 
 -- the ways together read the index that each reads an axis of
 pub ways_read : (pull : Pull) (sources : List (List ℕ)) (shape source lo idx : List ℕ) (number : ℕ) (ways : List Way) → length ways ≡ length source → IsInside shape idx → number_at pull sources shape idx ≡ number

@@ -10,7 +10,7 @@ use Rattle.cu_pull.specs.Pull.{origin_of, diagonal_of, is_in_triangle, IsInSourc
 use Rattle.cu_pull.specs.declared.provenance.Provenance.{Provenance}
 use Rattle.cu_pull.specs.declared.provenance.Provenance.TheVariants.{From, Const}
 use Rattle.cu_pull.specs.declared.pull.Pull.{Pull}
-use Rattle.cu_pull.specs.declared.pull.Pull.TheVariants.{Slice, Permute, Reshape, Concat, Stack, Flip, Roll, Broadcast, Triangle, Full, Arange, Eye}
+use Rattle.cu_pull.specs.declared.pull.Pull.TheVariants.{Reshape, Concat, Stack, Roll, Triangle, Full, Arange, Eye}
 use Rattle.cu_pull.proofs.AxesInside.{by_test}
 use Rattle.cu_pull.proofs.OriginsInside.{inside_sources}
 use Rattle.cu_view_box.specs.Piece.{read_at, HaveRanks}
@@ -36,17 +36,7 @@ shown_from (Triangle lower k) sources shape idx s i e =
       | inl t ↦ t
       | inr t ↦ let f : Const (pos 0) ≡ From s i = rw t at e in cc
     ]
-shown_from (Slice runs taken) sources shape idx s i e = tt
-shown_from (Permute axes) sources shape idx s i e = tt
-shown_from Reshape sources shape idx s i e = tt
-shown_from (Concat axis) sources shape idx s i e = tt
-shown_from (Stack axis) sources shape idx s i e = tt
-shown_from (Flip axes) sources shape idx s i e = tt
-shown_from (Roll shifts) sources shape idx s i e = tt
-shown_from Broadcast sources shape idx s i e = tt
-shown_from (Full value) sources shape idx s i e = tt
-shown_from (Arange start step) sources shape idx s i e = tt
-shown_from (Eye k) sources shape idx s i e = tt
+shown_from pull sources shape idx s i e = tt
 
 from_below : (pull : Pull) (sources : List (List ℕ)) (shape idx : List ℕ) (s : ℕ) (i : List ℕ) → FitsPull pull sources shape → IsInside shape idx → origin_of pull sources shape idx ≡ From s i → source_in (origin_of pull sources shape idx) < length sources
 from_below pull sources shape idx s i f h e =
@@ -55,15 +45,10 @@ from_below pull sources shape idx s i f h e =
 
 -- an element that comes from a source lies in one of the pieces
 pub number_below : (pull : Pull) (sources : List (List ℕ)) (shape idx : List ℕ) (s : ℕ) (i : List ℕ) → FitsPull pull sources shape → IsInside shape idx → pull ≢ Reshape → origin_of pull sources shape idx ≡ From s i → number_at pull sources shape idx < pieces_of pull sources shape
-number_below (Slice runs taken) sources shape idx s i f h n e = omega arith
-number_below (Permute axes) sources shape idx s i f h n e = omega arith
 number_below Reshape sources shape idx s i f h n e = absurd (n refl)
 number_below (Concat axis) sources shape idx s i f h n e = from_below (Concat axis) sources shape idx s i f h e
 number_below (Stack axis) sources shape idx s i f h n e = from_below (Stack axis) sources shape idx s i f h e
-number_below (Flip axes) sources shape idx s i f h n e = omega arith
 number_below (Roll shifts) sources shape idx s i f h n e = place-below (ranges_of shifts.items shape) (range_at shifts.items shape idx) (ranges_inside shifts.items shape idx)
-number_below Broadcast sources shape idx s i f h n e = omega arith
-number_below (Triangle lower k) sources shape idx s i f h n e = omega arith
 number_below (Full value) sources shape idx s i f h n e = cc
 number_below (Arange start step) sources shape idx s i f h n e = cc
 number_below (Eye k) sources shape idx s i f h n e =
@@ -71,6 +56,7 @@ number_below (Eye k) sources shape idx s i f h n e =
       | inl t ↦ let g : Const (pos 1) ≡ From s i = rw t at e in cc
       | inr t ↦ let g : Const (pos 0) ≡ From s i = rw t at e in cc
     ]
+number_below pull sources shape idx s i f h n e = omega arith
 
 -- what is known of an index in its piece
 pub record IsInPiece (pull : Pull) (piece : Piece) (s : ℕ) (i idx : List ℕ) : Type 0 where
@@ -108,17 +94,7 @@ has_axes (Triangle lower k) sources shape lo f e =
     let g = one_source (λ (s : List ℕ). (s ≡ shape) × (2 ≤ length shape)) sources f in
     let l = g.holds.1 in
     omega arith
-has_axes (Slice runs taken) sources shape lo f e = tt
-has_axes (Permute axes) sources shape lo f e = tt
-has_axes Reshape sources shape lo f e = tt
-has_axes (Concat axis) sources shape lo f e = tt
-has_axes (Stack axis) sources shape lo f e = tt
-has_axes (Flip axes) sources shape lo f e = tt
-has_axes (Roll shifts) sources shape lo f e = tt
-has_axes Broadcast sources shape lo f e = tt
-has_axes (Full value) sources shape lo f e = tt
-has_axes (Arange start step) sources shape lo f e = tt
-has_axes (Eye k) sources shape lo f e = tt
+has_axes pull sources shape lo f e = tt
 
 pub is_reshape : (pull : Pull) (sources : List (List ℕ)) (shape : List ℕ) → pull ≡ Reshape → IsView pull sources shape → IsReshape (get_or sources 0 []) shape
 is_reshape pull sources shape e v =

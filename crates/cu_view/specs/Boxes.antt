@@ -7,7 +7,7 @@ use Rattle.cu_pull.specs.Pull.{origin_of}
 use Rattle.cu_pull.specs.declared.provenance.Provenance.{Provenance}
 use Rattle.cu_pull.specs.declared.provenance.Provenance.TheVariants.{From, Const}
 use Rattle.cu_pull.specs.declared.pull.Pull.{Pull}
-use Rattle.cu_pull.specs.declared.pull.Pull.TheVariants.{Slice, Permute, Reshape, Concat, Stack, Flip, Roll, Broadcast, Triangle, Full, Arange, Eye}
+use Rattle.cu_pull.specs.declared.pull.Pull.TheVariants.{Concat, Stack, Roll, Triangle}
 use Rattle.cu_view_box.specs.declared.way.Way.{Way}
 use Rattle.cu_view_box.specs.declared.way.Way.TheVariants.{Fixed, Up, Down}
 use Rattle.cu_view.specs.Pieces.{turn_on, ranges_of}
@@ -22,33 +22,16 @@ range_begin shifts shape number d = if slice_index (index_at (ranges_of shifts s
 
 -- the first index of a piece's box on an axis of the result
 abbrev pub first_on : Pull → List (List ℕ) → List ℕ → ℕ → ℕ → ℕ
-first_on (Slice runs taken) sources shape number d = 0
-first_on (Permute axes) sources shape number d = 0
-first_on Reshape sources shape number d = 0
 first_on (Concat axis) sources shape number d = if d == axis then offset_of axis sources number else 0
 first_on (Stack axis) sources shape number d = if d == axis then number else 0
-first_on (Flip axes) sources shape number d = 0
 first_on (Roll shifts) sources shape number d = range_begin shifts.items shape number d
-first_on Broadcast sources shape number d = 0
-first_on (Triangle lower k) sources shape number d = 0
-first_on (Full value) sources shape number d = 0
-first_on (Arange start step) sources shape number d = 0
-first_on (Eye k) sources shape number d = 0
+first_on pull sources shape number d = 0
 
 -- the source that a piece reads
 abbrev pub source_of : Pull → ℕ → ℕ
-source_of (Slice runs taken) number = 0
-source_of (Permute axes) number = 0
-source_of Reshape number = 0
 source_of (Concat axis) number = number
 source_of (Stack axis) number = number
-source_of (Flip axes) number = 0
-source_of (Roll shifts) number = 0
-source_of Broadcast number = 0
-source_of (Triangle lower k) number = 0
-source_of (Full value) number = 0
-source_of (Arange start step) number = 0
-source_of (Eye k) number = 0
+source_of pull number = 0
 
 -- the index that comes from a source
 abbrev pub index_in : Provenance → List ℕ
@@ -58,17 +41,7 @@ index_in (Const x) = []
 -- the index of its source that a piece reads at an index of its box, also where a triangle has 0
 abbrev pub index_read : Pull → List (List ℕ) → List ℕ → List ℕ → List ℕ
 index_read (Triangle lower k) sources shape idx = idx
-index_read (Slice runs taken) sources shape idx = index_in (origin_of (Slice runs taken) sources shape idx)
-index_read (Permute axes) sources shape idx = index_in (origin_of (Permute axes) sources shape idx)
-index_read Reshape sources shape idx = index_in (origin_of Reshape sources shape idx)
-index_read (Concat axis) sources shape idx = index_in (origin_of (Concat axis) sources shape idx)
-index_read (Stack axis) sources shape idx = index_in (origin_of (Stack axis) sources shape idx)
-index_read (Flip axes) sources shape idx = index_in (origin_of (Flip axes) sources shape idx)
-index_read (Roll shifts) sources shape idx = index_in (origin_of (Roll shifts) sources shape idx)
-index_read Broadcast sources shape idx = index_in (origin_of Broadcast sources shape idx)
-index_read (Full value) sources shape idx = []
-index_read (Arange start step) sources shape idx = []
-index_read (Eye k) sources shape idx = []
+index_read pull sources shape idx = index_in (origin_of pull sources shape idx)
 
 -- ---- slices
 

@@ -1,5 +1,5 @@
-use Rattle.std.proofs.Common.{rules, ◌≡◌, ◌<◌, ◌-◌, ◌*◌, ◌/◌, length, ap, sym, ◌∙◌, arith, Some}
-use Rattle.std.specs.List.{slice_get, between}
+use Rattle.std.proofs.Common.{rules, ◌≡◌, ◌<◌, ◌*◌, ◌/◌, length, ap, sym, ◌∙◌, arith, Some}
+use Rattle.std.specs.List.{slice_get}
 use Rattle.std.proofs.lemmas.Option.{slice_get-get_or}
 use Rattle.std.proofs.lemmas.List.Edits.{length-between}
 use Rattle.cu_num.specs.Dtype.{InRange}

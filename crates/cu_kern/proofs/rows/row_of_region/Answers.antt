@@ -1,4 +1,4 @@
-use Rattle.std.proofs.Common.{◌≡◌, ◌≤◌, ◌<◌, ◌+◌, ◌-◌, ◌*◌, ◌/◌, suc, ap, ◌∙◌, sym, subst, arith, length, Some, ℕ, ℤ, ⊎_elim}
+use Rattle.std.proofs.Common.{◌≡◌, ◌≤◌, ◌<◌, ◌+◌, ◌-◌, ◌*◌, suc, ap, ◌∙◌, sym, subst, arith, length, Some, ℕ, ℤ, ⊎_elim}
 use Rattle.std.proofs.lemmas.Bool.{cases_lt}
 use Rattle.std.proofs.Math.Nat.{mul-le-mul_right}
 use Rattle.std.proofs.lemmas.List.Edits.{length-between}
@@ -9,10 +9,10 @@ use Rattle.cu_num.specs.Wrap.{wrapped}
 use Rattle.cu_num.specs.declared.layout.Endian.TheVariants.{Little}
 use Rattle.cu_num.proofs.ElementBytes.{InRange-element_at}
 use Rattle.cu_num.proofs.Wrapped.{wrapped_in_range}
-use Rattle.cu_shape.specs.Index.{product, index_at}
+use Rattle.cu_shape.specs.Index.{index_at}
 use Rattle.cu_kern.specs.Lays.{lay_element}
 use Rattle.cu_kern.specs.Strips.{strip, strip_element, HasPlaces}
-use Rattle.cu_kern.proofs.Parts.{element_count, length-put_mid, bytes_below, bytes_inside, has_value_same}
+use Rattle.cu_kern.proofs.Parts.{length-put_mid, bytes_below, bytes_inside, has_value_same}
 use Rattle.cu_kern.proofs.Pieces.{part_length, part_count}
 use Rattle.cu_kern.proofs.rows.row_of_region.Goals as goal
 

@@ -1,10 +1,10 @@
-use Rattle.std.proofs.Common.{rules, ◌≡◌, ◌+◌, ℕ, List, Option, ℤ, sym, subst}
+use Rattle.std.proofs.Common.{rules, ◌≡◌, ◌+◌, ℕ, Option, ℤ, sym, subst}
 use Rattle.cu_num.specs.Scalar.{result_type1, result_type2}
 use Rattle.cu_num.specs.declared.types.Dtype.{Dtype}
 use Rattle.cu_op.specs.declared.kernel.Instr.{Instr}
 use Rattle.cu_op.specs.declared.kernel.Instr.TheVariants.{One, Two}
 use Rattle.cu_kern.specs.Steps.{loaded_by_place}
-use Rattle.cu_kern.specs.Rows.{Rows, rows, Computes}
+use Rattle.cu_kern.specs.Rows.{rows, Computes}
 use Rattle.cu_kern.proofs.rows.row_of_step.Goals as goal
 
 pub returns-in-Load : goal.returns-in-Load

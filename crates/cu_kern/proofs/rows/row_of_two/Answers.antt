@@ -1,10 +1,8 @@
-use Rattle.std.proofs.Common.{◌<◌, ◌/◌, length, ap, ◌∙◌, arith}
-use Rattle.cu_num.proofs.ElementBytes.{InRange-element_at}
-use Rattle.cu_num.specs.declared.layout.Endian.TheVariants.{Little}
+use Rattle.std.proofs.Common.{length, ap, ◌∙◌, arith}
 use Rattle.cu_num.specs.Dtype.{size_of}
-use Rattle.cu_num.specs.Scalar.{result_type1, result_type2}
+use Rattle.cu_num.specs.Scalar.{result_type2}
 use Rattle.cu_kern.proofs.Parts.{element_within}
-use Rattle.cu_kern.proofs.RowResults.{one_computed, two_computed, select_computed}
+use Rattle.cu_kern.proofs.RowResults.{two_computed}
 use Rattle.cu_kern.proofs.rows.row_of_two.Goals as goal
 
 pub returns : goal.returns

@@ -1,8 +1,8 @@
-use Rattle.std.proofs.Common.{◌≡◌, ◌≢◌, ◌≤◌, ◌+◌, ◌*◌, length, arith, ap, sym, ◌∙◌, below_more}
+use Rattle.std.proofs.Common.{◌≡◌, ◌≢◌, ◌≤◌, ◌+◌, ◌*◌, length, arith, ap, ◌∙◌, below_more}
 use Rattle.std.specs.Int.{w128, cast_signed, cast_unsigned}
 use Rattle.cu_num.specs.Dtype.{size_of}
 use Rattle.cu_num.specs.Scalar.{op2}
-use Rattle.cu_num.specs.Element.{bytes_at, element_bytes}
+use Rattle.cu_num.specs.Element.{element_at, bytes_at, element_bytes}
 use Rattle.cu_num.specs.declared.layout.Endian.TheVariants.{Little}
 use Rattle.cu_num.proofs.ElementBytes.{bytes_at-written_at_same, bytes_at-written_at_other, length-written_at, length-element_bytes}
 use Rattle.cu_kern.specs.Strips.{strip, strip_element, call_type}
@@ -23,9 +23,10 @@ loop-k-preserved c =
     let whole : at * size_of r ≡ at = ap (λ s. at * s) one ∙ omega arith in
     let fits : at * size_of r + size_of r ≤ length out = omega arith in
     let written = rw c.result2-r.ensures at c.save.ensures in
-    let first = kept c.load.result (record { sfits = c.load.type_inv }) ∙ c.load.ensures.value in
+    let once : c.args.from + at ≡ 1 * (c.args.from + at) = omega arith in
+    let first = kept c.load.result (record { sfits = c.load.type_inv }) ∙ c.load.ensures.value ∙ ap (element_at Little t c.args.x.now) once in
     let second = kept c.load-in-loop-k.result (record { sfits = c.load-in-loop-k.type_inv }) ∙ c.load-in-loop-k.ensures.value in
-    let value : cast_signed w128 (cast_unsigned w128 c.value2-value.result) ≡ op2 f t (strip_element t (strip c.args.x.now c.args.x_step) (c.args.from + at)) (strip_element t (strip c.args.y.now c.args.y_step) (c.args.from + at)) =
+    let value : cast_signed w128 (cast_unsigned w128 c.value2-value.result) ≡ op2 f t (strip_element t (strip c.args.x.now 1) (c.args.from + at)) (strip_element t (strip c.args.y.now c.args.y_step) (c.args.from + at)) =
     kept c.value2-value.result (record { sfits = c.value2-value.type_inv }) ∙ c.value2-value.ensures ∙ (λ i. op2 f t (first i) (second i)) in
     record {
       sixteen = ap length written ∙ (length-written_at _ r out at _ fits ∙ long);

@@ -9,5 +9,5 @@ abbrev pub invariant-loop-k : goal.invariant-loop-k
 invariant-loop-k l = record {
   sixteen : length l.part ≡ 16;
   done : (j : ℕ) → j < l.k → bytes_at (call_type (Two l.f l.t)) l.part j
-      ≡ element_bytes Little (call_type (Two l.f l.t)) (value_along (Two l.f l.t) (strip l.x l.x_step) (strip l.y l.y_step) (strip l.y l.y_step) (l.from + j));
+      ≡ element_bytes Little (call_type (Two l.f l.t)) (value_along (Two l.f l.t) (strip l.x 1) (strip l.y l.y_step) (strip l.y l.y_step) (l.from + j));
 }

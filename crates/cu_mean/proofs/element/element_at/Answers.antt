@@ -55,20 +55,6 @@ returns-in-Reshape c env k e =
     ∙ c.reshaped_node.ensures env k e
     ∙ ap (λ (form : Form). rule_of c.args.infos.now env (elements_in c.args.plains.now) k form c.args.idx.now) (sym c.in-Reshape.is)
 
-pub returns-in-ExpandDims : goal.returns-in-ExpandDims
-returns-in-ExpandDims c env k e =
-    let fits : SFits w64 c.in-ExpandDims.axis = search rules in
-    let form = ap (λ (z : ℤ). Form.ExpandDims c.in-ExpandDims.args z) (to_z-of_z w64 c.in-ExpandDims.axis fits) ∙ sym c.in-ExpandDims.is in
-    to_z-of_z w128 c.expanded_node.result (record { sfits = c.expanded_node.type_inv })
-    ∙ c.expanded_node.ensures env k e
-    ∙ ap (λ (form : Form). rule_of c.args.infos.now env (elements_in c.args.plains.now) k form c.args.idx.now) form
-
-pub returns-in-Squeeze : goal.returns-in-Squeeze
-returns-in-Squeeze c env k e =
-    to_z-of_z w128 c.squeezed_node.result (record { sfits = c.squeezed_node.type_inv })
-    ∙ c.squeezed_node.ensures env k e
-    ∙ ap (λ (form : Form). rule_of c.args.infos.now env (elements_in c.args.plains.now) k form c.args.idx.now) (sym c.in-Squeeze.is)
-
 pub returns-in-Flip : goal.returns-in-Flip
 returns-in-Flip c env k e =
     to_z-of_z w128 c.flipped_node.result (record { sfits = c.flipped_node.type_inv })

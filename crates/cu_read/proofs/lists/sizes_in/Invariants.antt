@@ -1,7 +1,7 @@
 use Rattle.std.proofs.Common.{◌≡◌, [], drop}
 use Rattle.serde_json.specs.View.{items_view}
 use Rattle.cu_read.specs.Lists.{entries_after}
-use Rattle.cu_form.specs.Form.{is_size}
+use Rattle.cu_node.specs.NewShape.{is_size}
 use Rattle.cu_read.specs.Members.{natural_of}
 use Rattle.cu_read.proofs.lists.sizes_in.Given as goal
 

@@ -1,6 +1,6 @@
 use Rattle.std.proofs.Common.{◌≡◌, ◌≤◌, ◌++◌, drop, length}
-use Rattle.cu_typing_view.specs.Rearranged.{unmarked}
-use Rattle.cu_typing_view.proofs.rearranged.unmarked.Given as goal
+use Rattle.cu_typing_view.specs.NewShapes.{unmarked}
+use Rattle.cu_typing_view.proofs.new_shapes.unmarked.Given as goal
 
 abbrev pub invariant-loop-axis : goal.invariant-loop-axis
 invariant-loop-axis l = record {

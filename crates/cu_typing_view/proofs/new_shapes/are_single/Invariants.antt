@@ -1,6 +1,6 @@
 use Rattle.std.proofs.Common.{◌≡◌, drop}
-use Rattle.cu_typing_view.specs.Rearranged.{are_single}
-use Rattle.cu_typing_view.proofs.rearranged.are_single.Given as goal
+use Rattle.cu_typing_view.specs.NewShapes.{are_single}
+use Rattle.cu_typing_view.proofs.new_shapes.are_single.Given as goal
 
 abbrev pub invariant-loop-axis : goal.invariant-loop-axis
 invariant-loop-axis l = record {

@@ -1,5 +1,5 @@
 use Rattle.cu_typing_view.proofs.PositiveSizes.{length-unmarked, positive-unmarked}
-use Rattle.cu_typing_view.proofs.rearranged.type_squeeze.Goals as goal
+use Rattle.cu_typing_view.proofs.new_shapes.type_squeeze.Goals as goal
 
 pub within_limits-requires-clause-ranks : goal.within_limits-requires-clause-ranks
 within_limits-requires-clause-ranks c = rw (c.unmarked.ensures, c.unmarked-2.ensures) (length-unmarked _ _ _ c.requires.ranks)
