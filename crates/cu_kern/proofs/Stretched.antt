@@ -1,6 +1,6 @@
 -- A region that is stretched over a result, and the pace at which its places are read.
 use Rattle.std.proofs.Common.{◌≡◌, ◌==◌, ℕ, zero, suc, ◌+◌, ◌-◌, ◌*◌, ◌/◌, ◌%◌, ◌<◌, ◌≤◌, if◌then◌else◌, List, [], ◌∷◌, length, take, drop, get_or, refl, ap, sym, ◌∙◌, subst, arith, ⊎_elim, inl, inr}
-use Rattle.std.proofs.Math.Nat.{mod-eq_of_lt, mul_assoc, mul-le-mul_right}
+use Rattle.std.proofs.Math.Nat.{mod-eq_of_lt, mod-le, mod-add-mod, mul_assoc, mul-le-mul_right}
 use Rattle.std.proofs.Math.Arith.{mod-mul}
 use Rattle.std.proofs.lemmas.Nat.{div-mul-add, mod-mul-add, mul-add-lt, mod_below, div-add-mod'}
 use Rattle.std.proofs.lemmas.List.{drop-drop, length-drop, drop_more}
@@ -8,7 +8,7 @@ use Rattle.std.proofs.lemmas.Bool.{cases_lt}
 use Rattle.std.proofs.lemmas.Bool.Decides.{eqb_tells}
 use Rattle.cu_shape.specs.Index.{product, place_of, index_at, back_along, IsInside}
 use Rattle.cu_shape.proofs.Places.{place-index, index-inside, length-index_at}
-use Rattle.cu_kern.specs.Lays.{place_read, IsRun}
+use Rattle.cu_kern.specs.Lays.{place_read, IsRun, IsPeriod}
 
 -- ---- products of sizes
 
@@ -177,6 +177,22 @@ resting_is_run l ds lead axis run h e low ones is pos p i b r = ⊎_elim
   where
     ms : List ℕ
     ms = drop lead ds
+
+-- ---- the period after which a region is read again
+
+pub is_period : (l ds : List ℕ) (lead axis period : ℕ) → length l ≤ length ds → lead ≡ length ds - length l → axis ≡ lead → period ≡ product (drop axis ds) → IsPeriod l ds period
+is_period l ds lead axis period h e same is p i b r =
+    let m = product (drop lead ds) in
+    let at : period ≡ m = is ∙ ap (λ a. product (drop a ds)) same in
+    let low : p % period ≤ p = mod-le p period in
+    let again : (p % period + i) % m ≡ (p + i) % m = ap (λ q. (p % q + i) % m) at ∙ mod-add-mod p m i in
+    read_along l ds (p % period + i) lead h e (omega arith) ∙ ap (place_along l (drop lead ds)) again ∙ sym (read_along l ds (p + i) lead h e b)
+
+-- a period that no place reaches
+pub unreached : (l ds : List ℕ) (period : ℕ) → product ds ≤ period → IsPeriod l ds period
+unreached l ds period h p i b r =
+    let small : p % period ≡ p = mod-eq_of_lt (let less : p < period = omega arith in less) in
+    ap (λ q. place_read l ds (q + i)) small
 
 -- ---- the loops that count the places of the last axes
 

@@ -51,6 +51,10 @@ place_read shape result p = place_of shape (back shape (index_at result p))
 abbrev pub IsRun : List ℕ → List ℕ → ℕ → ℕ → Type 0
 IsRun shape result run step = (p i : ℕ) → p + i < product result → p % run + i < run → place_read shape result (p + i) ≡ place_read shape result p + step * i
 
+-- after each `period` places of the result the same places are read again
+abbrev pub IsPeriod : List ℕ → List ℕ → ℕ → Type 0
+IsPeriod shape result period = (p i : ℕ) → p + i < product result → p % period + i < period → place_read shape result (p % period + i) ≡ place_read shape result (p + i)
+
 -- the region has this type and can be read for a result of these sizes
 pub record IsSource (t : Dtype) (result : List ℕ) (l : Lay) (ins : List ℕ) : Type 0 where
   pub fits : LayFits result (length ins) l

@@ -10,7 +10,9 @@ ghost use Rattle.cu_kern.specs.Steps.{value_by_place};
 
 use crate::calls::{Call, call_type};
 use crate::lays::pace_of;
-use crate::sources::{Inputs, Source, left_in, literal_of, source_of, strip_from};
+use crate::sources::{
+    Inputs, Source, left_at, literal_of, place_after, source_of, strip_in_period,
+};
 use crate::strip_functions::call_strips;
 use cu_num::{Dtype, Fn1, Fn2, size};
 use cu_op::Instr;
@@ -36,18 +38,23 @@ fn pieces(call: Call, x: Source<'_>, y: Source<'_>, z: Source<'_>, dims: &Dims, 
     let y_pace = pace_of(&y.lay.dims, dims);
     let z_pace = pace_of(&z.lay.dims, dims);
     let mut done = 0;
+    let mut x_at = 0;
+    let mut y_at = 0;
+    let mut z_at = 0;
     while done < all {
-        let place = done as u64;
-        let left = left_in(x_pace, place)
-            .min(left_in(y_pace, place))
-            .min(left_in(z_pace, place));
+        let left = left_at(x_pace, x_at)
+            .min(left_at(y_pace, y_at))
+            .min(left_at(z_pace, z_at));
         let count = (all - done).min(left as usize);
-        let first = strip_from(x, x_pace, dims, place, count);
-        let second = strip_from(y, y_pace, dims, place, count);
-        let third = strip_from(z, z_pace, dims, place, count);
+        let first = strip_in_period(x, x_pace, dims, x_at, count);
+        let second = strip_in_period(y, y_pace, dims, y_at, count);
+        let third = strip_in_period(z, z_pace, dims, z_at, count);
         let part = &mut out[done * size..(done + count) * size];
         call_strips(call, first, second, third, part);
         done += count;
+        x_at = place_after(x_pace, x_at, count);
+        y_at = place_after(y_pace, y_at, count);
+        z_at = place_after(z_pace, z_at, count);
     }
 }
 

@@ -5,7 +5,7 @@ ghost use Rattle.cu_num.specs.Element.{element_at};
 ghost use Rattle.cu_num.specs.Word.{IsWord};
 ghost use Rattle.cu_num.specs.declared.layout.Endian.TheVariants.{Little};
 ghost use Rattle.cu_shape.specs.Index.{product, index_at};
-ghost use Rattle.cu_kern.specs.Lays.{LayFits, BroadcastsTo, IsRun, lay_element, place_read};
+ghost use Rattle.cu_kern.specs.Lays.{LayFits, BroadcastsTo, IsRun, IsPeriod, lay_element, place_read};
 
 use crate::lanes::{lane_fill, lane_load};
 use cu_num::{Dtype, load, size, word};
@@ -40,11 +40,13 @@ impl Default for Lay {
     }
 }
 
-/// How a region is read along the places of the result: in pieces of `run` places, of which each next one reads `step` places on.
+/// How a region is read along the places of the result: in pieces of `run` places, of which each next one reads `step` places on;
+/// after `period` places it is read from its beginning again.
 #[derive(Clone, Copy)]
 pub(crate) struct Pace {
     pub(crate) run: u64,
     pub(crate) step: u64,
+    pub(crate) period: u64,
 }
 
 /// The words of the elements that the places of the result from `from` on read.
@@ -93,6 +95,8 @@ pub(crate) fn pace_of(shape: &Dims, dims: &Dims) -> Pace
     ensures run { IsRun shape.now dims.now result.run result.step }
     ensures step { result.step ≤ 1 }
     ensures some { 0 < result.run }
+    ensures period { IsPeriod shape.now dims.now result.period }
+    ensures lasting { 0 < result.period }
 {
     let moving = moving_run(shape, dims);
     let resting = resting_run(shape, dims);
@@ -100,13 +104,42 @@ pub(crate) fn pace_of(shape: &Dims, dims: &Dims) -> Pace
         Pace {
             run: resting,
             step: 0,
+            period: unreached_period(shape, dims),
         }
     } else {
         Pace {
             run: moving,
             step: 1,
+            period: period_of(shape, dims),
         }
     }
+}
+
+/// A period that the result's places don't reach.
+fn unreached_period(shape: &Dims, dims: &Dims) -> u64
+    requires small { product dims.now < 2 ^ 63 }
+    ensures period { IsPeriod shape.now dims.now result }
+    ensures some { 0 < result }
+{
+    u64::MAX
+}
+
+/// The places of the last axes of the result, as many axes as a region has.
+fn period_of(shape: &Dims, dims: &Dims) -> u64
+    requires rank { length shape.now ≤ length dims.now }
+    requires some { 0 < product dims.now }
+    requires small { product dims.now < 2 ^ 63 }
+    ensures period { IsPeriod shape.now dims.now result }
+    ensures some { 0 < result }
+{
+    let lead = dims.rank() - shape.rank();
+    let mut axis = dims.rank();
+    let mut period = 1;
+    while axis > lead {
+        axis -= 1;
+        period *= dims.at(axis);
+    }
+    period
 }
 
 /// The places of the last axes on which a region has the result's sizes.

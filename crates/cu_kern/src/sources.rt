@@ -1,12 +1,12 @@
 //! What a kernel reads: regions and literals, along runs of places.
-ghost use Rattle.std.specs.Prelude.{◌≡◌, ◌+◌, ◌-◌, ◌*◌, ◌%◌, ◌^◌, ◌≤◌, ◌<◌, ℕ, ℤ, List, [], All, IfSome, Some, length};
+ghost use Rattle.std.specs.Prelude.{◌≡◌, ◌+◌, ◌-◌, ◌*◌, ◌%◌, ◌^◌, ◌≤◌, ◌<◌, ◌==◌, if◌then◌else◌, ℕ, ℤ, List, [], All, IfSome, Some, length};
 ghost use Rattle.cu_num.specs.Dtype.{InRange};
 ghost use Rattle.cu_num.specs.Element.{element_at};
 ghost use Rattle.cu_num.specs.declared.layout.Endian.TheVariants.{Little};
 ghost use Rattle.cu_shape.specs.Index.{product, index_at};
 ghost use Rattle.cu_op.specs.declared.kernel.Instr.TheVariants.{Load, Const};
 ghost use Rattle.cu_op.specs.Kernel.{instruction_value};
-ghost use Rattle.cu_kern.specs.Lays.{BroadcastsTo, LayFits, IsRun, IsSource, lay_element, loaded_at, place_read};
+ghost use Rattle.cu_kern.specs.Lays.{BroadcastsTo, LayFits, IsRun, IsPeriod, IsSource, lay_element, loaded_at, place_read};
 ghost use Rattle.cu_kern.specs.Strips.{strip, strip_element, HasPlaces};
 
 use crate::lays::{Lay, Pace, place_in};
@@ -92,6 +92,54 @@ pub(crate) fn left_in(pace: Pace, place: u64) -> u64
         return pace.run - place;
     }
     pace.run - place % pace.run
+}
+
+/// The elements that `count` places from one on read whose place in its period is `place`.
+#[inline(always)]
+pub(crate) fn strip_in_period<'a>(
+    source: Source<'a>,
+    pace: Pace,
+    dims: &Dims,
+    place: u64,
+    count: usize,
+) -> Strip<'a>
+    requires fits { LayFits dims.now (length source.ins.now) source.lay.now }
+    requires pace { IsRun source.lay.now.dims dims.now pace.run pace.step }
+    requires period { IsPeriod source.lay.now.dims dims.now pace.period }
+    requires step { pace.step ≤ 1 }
+    requires some { 0 < count }
+    requires within { place + count ≤ product dims.now }
+    requires row { place % pace.run + count ≤ pace.run }
+    requires inside { place + count ≤ pace.period }
+    requires small { product dims.now < 2 ^ 63 }
+    ensures places { HasPlaces source.entry.lay.now.dtype (strip result.bytes.now result.step) count }
+    ensures elements { (p k : ℕ) → place ≡ p % pace.period → k < count → p + k < product dims.now
+        → strip_element source.entry.lay.now.dtype (strip result.bytes.now result.step) k ≡ lay_element source.entry.lay.now source.entry.ins.now (index_at dims.now (p + k)) }
+{
+    strip_from(source, pace, dims, place, count)
+}
+
+/// As many of the places from place `at` of the region's period on as lie in one piece and in the period.
+#[inline(always)]
+pub(crate) fn left_at(pace: Pace, at: u64) -> u64
+    requires some { 0 < pace.run }
+    requires inside { at < pace.period }
+    ensures some { 0 < result }
+    ensures row { at % pace.run + result ≤ pace.run }
+    ensures period { at + result ≤ pace.period }
+{
+    left_in(pace, at).min(pace.period - at)
+}
+
+/// The place of the region's period that is `count` places on, at most the first of the next one.
+#[inline(always)]
+pub(crate) fn place_after(pace: Pace, at: u64, count: usize) -> u64
+    requires { at + count ≤ pace.period }
+    ensures value { result ≡ (if at + count == pace.period then 0 else at + count) }
+    ensures inside { at + count ≤ pace.period }
+{
+    let next = at + count as u64;
+    if next == pace.period { 0 } else { next }
 }
 
 /// The region that a step loads, or the element of a literal; none where it is another step or has another type.
