@@ -23,6 +23,8 @@ COPIES = f"{TOP}/crates/{PROGRAM}/out/copies"
 PARTS = ("src", "specs", "proofs")
 # The memory that a proof may take for each of its processors, in bytes.
 EACH = 1_500_000_000
+# The most processors for one crate: with four the largest took 283 seconds, and with two 192.
+MOST = 2
 
 
 def crates():
@@ -173,7 +175,7 @@ class Work:
             free = self.processors - sum(jobs for _, jobs in self.running.values())
             if free < 1:
                 return
-            self.begin(name, max(1, free // (len(ready) - at)))
+            self.begin(name, max(1, min(MOST, free // (len(ready) - at))))
 
     def end_one(self):
         """Waits until a crate has ended, and returns whether it is proved."""
