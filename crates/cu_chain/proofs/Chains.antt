@@ -4,14 +4,14 @@ use Rattle.std.proofs.lemmas.List.Elements.{All-cons, All-nil}
 use Rattle.cu_num.specs.Promotion.{promotion}
 use Rattle.cu_num.specs.declared.types.Dtype.TheVariants.{Int32}
 use Rattle.cu_grid.specs.Grid.{IsGrid}
-use Rattle.cu_op.specs.Arrays.{array_at, grid_at, maker_at, chunk_count}
+use Rattle.cu_op.specs.Arrays.{array_at, grid_at, maker_at, array_chunk_count}
 use Rattle.cu_op.specs.Layout.{IsArray}
 use Rattle.cu_op.specs.Operation.{writes_of, IsAligned, IsReadable, IsMadeBy}
 use Rattle.cu_op.specs.PlanView.{operation_at}
 use Rattle.cu_op.specs.Sound.{Sound, IsOperation}
 use Rattle.cu_op.proofs.KeyTexts.{keys_differ}
 use Rattle.cu_op.proofs.Singles.{same_aligned, add_fits}
-use Rattle.cu_chain.specs.Chain.{six_in_fours, array_of, chain_arrays, chain_plan}
+use Rattle.cu_chain.specs.Chain.{six_in_fours, array_under, chain_arrays, chain_plan}
 
 grid_ok : IsGrid six_in_fours
 grid_ok = record {
@@ -22,15 +22,15 @@ grid_ok = record {
   chunk_elements = omega arith;
 }
 
-array_ok : (name : List ℕ) (maker : Option ℕ) → length name ≤ 45 → IsArray (array_of name maker)
+array_ok : (name : List ℕ) (maker : Option ℕ) → length name ≤ 45 → IsArray (array_under name maker)
 array_ok name maker short = record { short = short; grid = grid_ok; fill = (omega arith, omega arith) }
 
 arrays_ok : All IsArray chain_arrays
 arrays_ok =
-    let last = All-cons IsArray (array_of (codes "y") (Some 1)) [] (array_ok (codes "y") (Some 1) (omega arith)) (All-nil IsArray) in
-    let made = All-cons IsArray (array_of (codes "_cubed/y/0") (Some 0)) (array_of (codes "y") (Some 1) ∷ []) (array_ok (codes "_cubed/y/0") (Some 0) (omega arith)) last in
-    let right = All-cons IsArray (array_of (codes "b") None) (array_of (codes "_cubed/y/0") (Some 0) ∷ array_of (codes "y") (Some 1) ∷ []) (array_ok (codes "b") None (omega arith)) made in
-    All-cons IsArray (array_of (codes "a") None) (array_of (codes "b") None ∷ array_of (codes "_cubed/y/0") (Some 0) ∷ array_of (codes "y") (Some 1) ∷ []) (array_ok (codes "a") None (omega arith)) right
+    let last = All-cons IsArray (array_under (codes "y") (Some 1)) [] (array_ok (codes "y") (Some 1) (omega arith)) (All-nil IsArray) in
+    let made = All-cons IsArray (array_under (codes "_cubed/y/0") (Some 0)) (array_under (codes "y") (Some 1) ∷ []) (array_ok (codes "_cubed/y/0") (Some 0) (omega arith)) last in
+    let right = All-cons IsArray (array_under (codes "b") None) (array_under (codes "_cubed/y/0") (Some 0) ∷ array_under (codes "y") (Some 1) ∷ []) (array_ok (codes "b") None (omega arith)) made in
+    All-cons IsArray (array_under (codes "a") None) (array_under (codes "b") None ∷ array_under (codes "_cubed/y/0") (Some 0) ∷ array_under (codes "y") (Some 1) ∷ []) (array_ok (codes "a") None (omega arith)) right
 
 first_ok : promotion Int32 Int32 ≡ Some Int32 → IsOperation chain_arrays 0 0 (operation_at chain_plan.ops 0)
 first_ok stays = record {
@@ -92,7 +92,7 @@ encoding_ok (suc (suc zero)) h s = refl
 encoding_ok (suc (suc (suc zero))) h s = refl
 encoding_ok (suc (suc (suc (suc a)))) h s = absurd (omega arith)
 
-few_chunks : (a : ℕ) → a < 4 → maker_at chain_arrays a ≡ None → chunk_count (array_at chain_arrays a) ≤ 65536
+few_chunks : (a : ℕ) → a < 4 → maker_at chain_arrays a ≡ None → array_chunk_count (array_at chain_arrays a) ≤ 65536
 few_chunks zero h e = omega arith
 few_chunks (suc zero) h e = omega arith
 few_chunks (suc (suc zero)) h e = omega arith

@@ -13,15 +13,15 @@ use Rattle.cu_op.specs.declared.layout.ArrayInfo.{ArrayInfo}
 abbrev pub six_in_fours : RegularGrid
 six_in_fours = record { shape = 6 ∷ []; chunk = 4 ∷ [] }
 
-abbrev pub array_of : List ℕ → Option ℕ → ArrayInfo
-array_of name maker = record {
+abbrev pub array_under : List ℕ → Option ℕ → ArrayInfo
+array_under name maker = record {
   prefix = name;
   layout = record { dtype = Int32; grid = six_in_fours; encoding = Plain Slash; endian = Little; fill = pos 0 };
   maker = maker;
 }
 
 abbrev pub chain_arrays : List ArrayInfo
-chain_arrays = array_of (codes "a") None ∷ array_of (codes "b") None ∷ array_of (codes "_cubed/y/0") (Some 0) ∷ array_of (codes "y") (Some 1) ∷ []
+chain_arrays = array_under (codes "a") None ∷ array_under (codes "b") None ∷ array_under (codes "_cubed/y/0") (Some 0) ∷ array_under (codes "y") (Some 1) ∷ []
 
 abbrev pub chain_plan : PlanView
 chain_plan = record {

@@ -2,7 +2,7 @@
 ghost use Rattle.std.specs.Prelude.{◌≡◌, ◌≤◌, IfOk, length};
 ghost use Rattle.cu_num.specs.declared.types.Dtype.TheVariants.{Int32 as Numbers};
 ghost use Rattle.cu_op.specs.OneMap.{addition_of};
-ghost use Rattle.cu_chain.specs.Chain.{six_in_fours, array_of};
+ghost use Rattle.cu_chain.specs.Chain.{six_in_fours, array_under};
 
 use anyhow::{Result, bail};
 use arrayvec::ArrayVec;
@@ -42,7 +42,7 @@ fn grid() -> Result<Grid>
 /// An array of the plan.
 fn array(prefix: Key, grid: Grid, maker: Option<u32>) -> ArrayInfo
     requires { grid ≡ six_in_fours }
-    ensures { result ≡ array_of prefix maker }
+    ensures { result ≡ array_under prefix maker }
 {
     ArrayInfo {
         prefix,

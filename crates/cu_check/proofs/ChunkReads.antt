@@ -26,7 +26,7 @@ use Rattle.cu_command.specs.Stored.{IsArrayChunk}
 use Rattle.cu_command.specs.declared.status.Status.{Status}
 use Rattle.cu_command.specs.declared.status.Status.TheVariants.{BadChunk, DepotFailed, NoMemory}
 use Rattle.cu_check.specs.Arrays.{WhereCalm, IsOwnTurn}
-use Rattle.cu_check.specs.Chunks.{input_of, HasHeldChunk, IsPartFault, part_end, IsReadFault, IsPlaced, HasChunksBelow, HasAllStored}
+use Rattle.cu_check.specs.Chunks.{input_of, HasHeldChunk, IsPartFault, part_end, IsChunkFault, IsPlaced, HasChunksBelow, HasAllStored}
 
 pub on_ok : {T E : Type 0} → (r : Result T E) (P Q : Type 0) → (P → Q) → OnOk r P → OnOk r Q
 on_ok (Ok x) P Q f h = f h
@@ -61,7 +61,7 @@ part_fault old new l key (BadPart bad got want) h = h
 part_fault old new l key NoRoom h = tt
 
 -- what the fault is answered by
-pub ended : (tries : ℕ) (old new : Shown) (l : Layout) (key : List ℕ) (e : TaskFault) → IsPartFault tries old new l key e → IsReadFault tries old new l (λ k. k ≡ key) (part_end key e)
+pub ended : (tries : ℕ) (old new : Shown) (l : Layout) (key : List ℕ) (e : TaskFault) → IsPartFault tries old new l key e → IsChunkFault tries old new l (λ k. k ≡ key) (part_end key e)
 ended tries old new l key Store h = (refl, h)
 ended tries old new l key (BadPart bad got want) h = h
 ended tries old new l key NoRoom h = tt
@@ -132,7 +132,7 @@ own_turn info n bytes entry key below has is = record {
 
 pub turn_fault : (tries : ℕ) (info : ArrayInfo) (n : ℕ) (bytes : List ℕ) (first old new entry : Shown) (status : Status) → n < product (counts_of info.layout.grid.shape info.layout.grid.chunk)
     → first.faults ≤ old.faults → WhereCalm entry (input_of info) (HasChunksBelow (input_of info) bytes n)
-    → IsReadFault tries old new info.layout (λ key. key ≡ key_at info (coordinate_of info.layout.grid n)) status → IsReadFault tries first new info.layout (IsOwnTurn entry (input_of info)) status
+    → IsChunkFault tries old new info.layout (λ key. key ≡ key_at info (coordinate_of info.layout.grid n)) status → IsChunkFault tries first new info.layout (IsOwnTurn entry (input_of info)) status
 turn_fault tries info n bytes first old new entry (DepotFailed key) below count has fault = (own_turn info n bytes entry key below has fault.0, rose_since tries first.faults old.faults new.faults count fault.1)
 turn_fault tries info n bytes first old new entry (BadChunk key got want) below count has fault = (own_turn info n bytes entry key below has fault.0, fault.1, fault.2, fault.3)
 turn_fault tries info n bytes first old new entry NoMemory below count has fault = tt

@@ -15,7 +15,7 @@ use Rattle.cu_expr.specs.Typing.{typed, typed_node}
 use Rattle.cu_expr.specs.declared.inputs.InputInfo.{InputInfo}
 use Rattle.cu_mean.specs.Plain.{PlainArray}
 use Rattle.cu_mean.specs.Whole.{AreInputNodes, HoldsElements, HoldInputs, HoldMeaning}
-use Rattle.cu_meaning.specs.Argument.{NodeElements, shape_at}
+use Rattle.cu_meaning.specs.Argument.{NodeElements, shape_of_node}
 use Rattle.cu_meaning.specs.Meaning.{meaning_of}
 use Rattle.cu_op.specs.Layout.{layout_view}
 use Rattle.cu_store.specs.Faults.{Rose}
@@ -26,9 +26,9 @@ use Rattle.cu_region.specs.Steady.{IsSteady}
 use Rattle.cu_command.specs.declared.job.Job.{Job}
 use Rattle.cu_command.specs.declared.status.Status.{Status}
 use Rattle.cu_command.specs.declared.status.Status.TheVariants.{BadChunk, DepotFailed, NoMemory, Unequal}
-use Rattle.cu_check.specs.Arrays.{arrays_of, compared_arrays, IsThere, IsReadChunk, WhereCalm, IsOwnTurn, IsChunkTurn}
-use Rattle.cu_check.specs.Check.{IsOfNode, plain_element, IsEqual, IsEqualBelow, AreAt, WhereThere, IsCompareFault}
-use Rattle.cu_check.specs.Chunks.{IsReadFault, HasAllStored}
+use Rattle.cu_check.specs.Arrays.{arrays_of_nodes, compared_arrays, IsThere, IsReadChunk, WhereCalm, IsOwnTurn, IsChunkTurn}
+use Rattle.cu_check.specs.Check.{IsLikeStoredNode, plain_element, IsEqual, IsEqualBelow, AreAt, WhereThere, IsCompareFault}
+use Rattle.cu_check.specs.Chunks.{IsChunkFault, HasAllStored}
 use Rattle.cu_check.specs.Elements.{elements_of}
 use Rattle.cu_check.specs.Plains.{AreReadArrays, IsListFault, AreSameBelow, IsFirstDifference}
 use Rattle.cu_check.specs.declared.compare.Difference.{Difference}
@@ -62,14 +62,14 @@ module _ (job : Job) (output : InputInfo) (entry : Shown) (held : Contents) (tol
   -- the output is among the arrays
   pub output_calm : (fact : Contents → Type 0) → WhereCalm entry output fact → fact held
   output_calm fact has =
-      has held told (calm_of (compared_arrays job output) output entry held (in_middle (arrays_of job.inputs.items job.expr.nodes) output []) steady)
+      has held told (calm_of (compared_arrays job output) output entry held (in_middle (arrays_of_nodes job.inputs.items job.expr.nodes) output []) steady)
 
   -- an array of the inputs is too
-  pub all_there : (ps : List PlainArray) (bytes : List ℕ) → AreReadArrays entry (arrays_of job.inputs.items job.expr.nodes) ps → HasAllStored output bytes held
+  pub all_there : (ps : List PlainArray) (bytes : List ℕ) → AreReadArrays entry (arrays_of_nodes job.inputs.items job.expr.nodes) ps → HasAllStored output bytes held
       → All (IsThere held) (compared_arrays job output)
   all_there ps bytes read stored =
-      All-append (IsThere held) (arrays_of job.inputs.items job.expr.nodes) (output ∷ [])
-      (list_there (compared_arrays job output) [] (arrays_of job.inputs.items job.expr.nodes) (output ∷ []) ps entry held refl told steady read)
+      All-append (IsThere held) (arrays_of_nodes job.inputs.items job.expr.nodes) (output ∷ [])
+      (list_there (compared_arrays job output) [] (arrays_of_nodes job.inputs.items job.expr.nodes) (output ∷ []) ps entry held refl told steady read)
       (All-cons (IsThere held) output [] (stored_there output bytes held stored) (All-nil (IsThere held)))
 
 -- ---- elements
@@ -77,41 +77,41 @@ module _ (job : Job) (output : InputInfo) (entry : Shown) (held : Contents) (tol
 some_same : (x y : ℤ) → ◌≡◌ {A = Option ℤ} (Some x) (Some y) → x ≡ y
 some_same x y e = cc
 
-module _ (job : Job) (output : InputInfo) (held : Contents) (p : PlainArray) (bytes : List ℕ) (fits : IsOfNode job output) (stored : HasAllStored output bytes held)
+module _ (job : Job) (output : InputInfo) (held : Contents) (p : PlainArray) (bytes : List ℕ) (fits : IsLikeStoredNode job output) (stored : HasAllStored output bytes held)
     (means : HoldsElements (info_at job.types job.expr.out) (meaning_of job.expr job.types (elements_of job held) job.expr.out) p) where
   abbrev Stored : ℕ → Option ℤ
-  Stored place = stored_element (layout_view output.layout) output.name held (index_at (shape_at job.types job.expr.out) place)
+  Stored place = stored_element (layout_view output.layout) output.name held (index_at (shape_of_node job.types job.expr.out) place)
 
   abbrev Means : ℕ → ℤ
-  Means place = plain_element job held (index_at (shape_at job.types job.expr.out) place)
+  Means place = plain_element job held (index_at (shape_of_node job.types job.expr.out) place)
 
   -- the bytes at a place are the stored element there
-  stored_at : (place : ℕ) → place < product (shape_at job.types job.expr.out) → Stored place ≡ Some (element_at Little output.layout.dtype bytes place)
+  stored_at : (place : ℕ) → place < product (shape_of_node job.types job.expr.out) → Stored place ≡ Some (element_at Little output.layout.dtype bytes place)
   stored_at place below =
-      let inside = index-inside (shape_at job.types job.expr.out) place below in
-      let own : IsInside output.layout.grid.shape (index_at (shape_at job.types job.expr.out) place) = subst (λ (shape : List ℕ). IsInside shape (index_at (shape_at job.types job.expr.out) place)) (sym fits.shape) inside in
-      stored (index_at (shape_at job.types job.expr.out) place) own
-      ∙ ap (λ (shape : List ℕ). Some (element_at Little output.layout.dtype bytes (place_of shape (index_at (shape_at job.types job.expr.out) place)))) fits.shape
-      ∙ ap (λ (at : ℕ). Some (element_at Little output.layout.dtype bytes at)) (place-index (shape_at job.types job.expr.out) place below)
+      let inside = index-inside (shape_of_node job.types job.expr.out) place below in
+      let own : IsInside output.layout.grid.shape (index_at (shape_of_node job.types job.expr.out) place) = subst (λ (shape : List ℕ). IsInside shape (index_at (shape_of_node job.types job.expr.out) place)) (sym fits.shape) inside in
+      stored (index_at (shape_of_node job.types job.expr.out) place) own
+      ∙ ap (λ (shape : List ℕ). Some (element_at Little output.layout.dtype bytes (place_of shape (index_at (shape_of_node job.types job.expr.out) place)))) fits.shape
+      ∙ ap (λ (at : ℕ). Some (element_at Little output.layout.dtype bytes at)) (place-index (shape_of_node job.types job.expr.out) place below)
 
   -- where the number at the place is that of the bytes, the elements are equal
-  equal_at : (place : ℕ) → place < product (shape_at job.types job.expr.out) → slice_get p.cells place ≡ Some (element_at Little output.layout.dtype bytes place) → Stored place ≡ Some (Means place)
+  equal_at : (place : ℕ) → place < product (shape_of_node job.types job.expr.out) → slice_get p.cells place ≡ Some (element_at Little output.layout.dtype bytes place) → Stored place ≡ Some (Means place)
   equal_at place below same = stored_at place below ∙ sym same ∙ means.cells place below
 
-  pub equal_below : (n : ℕ) → n ≤ product (shape_at job.types job.expr.out) → AreSameBelow output.layout.dtype bytes p.cells n → IsEqualBelow job output held n
+  pub equal_below : (n : ℕ) → n ≤ product (shape_of_node job.types job.expr.out) → AreSameBelow output.layout.dtype bytes p.cells n → IsEqualBelow job output held n
   equal_below n within same place below = equal_at place (omega arith) (same place below)
 
-  pub equal_all : AreSameBelow output.layout.dtype bytes p.cells (product (shape_at job.types job.expr.out)) → IsEqual job output held
+  pub equal_all : AreSameBelow output.layout.dtype bytes p.cells (product (shape_of_node job.types job.expr.out)) → IsEqual job output held
   equal_all same idx inside =
-      let below = place-below (shape_at job.types job.expr.out) idx inside in
-      subst (λ (i : List ℕ). stored_element (layout_view output.layout) output.name held i ≡ Some (plain_element job held i)) (index-place (shape_at job.types job.expr.out) idx inside)
-      (equal_at (place_of (shape_at job.types job.expr.out) idx) below (same (place_of (shape_at job.types job.expr.out) idx) below))
+      let below = place-below (shape_of_node job.types job.expr.out) idx inside in
+      subst (λ (i : List ℕ). stored_element (layout_view output.layout) output.name held i ≡ Some (plain_element job held i)) (index-place (shape_of_node job.types job.expr.out) idx inside)
+      (equal_at (place_of (shape_of_node job.types job.expr.out) idx) below (same (place_of (shape_of_node job.types job.expr.out) idx) below))
 
   pub differ_at : (d : Difference) → IsFirstDifference output.layout.dtype bytes p.cells d → AreAt job output held d.place d.stored d.plain
   differ_at d first =
       let count = means.count in
       let low = first.below in
-      let below : d.place < product (shape_at job.types job.expr.out) = omega arith in
+      let below : d.place < product (shape_of_node job.types job.expr.out) = omega arith in
       record {
         stored_is = stored_at d.place below ∙ ap Some (sym first.stored_is);
         plain_is = some_same (Means d.place) d.plain (sym (means.cells d.place below) ∙ first.plain_is);
@@ -124,7 +124,7 @@ rose_since tries a b c first rose = omega arith
 
 module _ (tries : ℕ) (entry old new : Shown) (job : Job) (output : InputInfo) where
   -- of an array of the inputs
-  list_turn : (a : InputInfo) (before behind : List InputInfo) (ps : List PlainArray) (key : List ℕ) → arrays_of job.inputs.items job.expr.nodes ≡ before ++ a ∷ behind → AreReadArrays entry before ps
+  list_turn : (a : InputInfo) (before behind : List InputInfo) (ps : List PlainArray) (key : List ℕ) → arrays_of_nodes job.inputs.items job.expr.nodes ≡ before ++ a ∷ behind → AreReadArrays entry before ps
       → IsOwnTurn entry a key → IsChunkTurn entry (compared_arrays job output) a key
   list_turn a before behind ps key place read own =
       let whole : compared_arrays job output ≡ before ++ a ∷ (behind ++ output ∷ []) = ap (λ (xs : List InputInfo). xs ++ output ∷ []) place ∙ append_assoc before (a ∷ behind) (output ∷ []) in
@@ -136,24 +136,24 @@ module _ (tries : ℕ) (entry old new : Shown) (job : Job) (output : InputInfo) 
         own = own;
       }
 
-  pub list_fault : (status : Status) → IsListFault tries entry old new (arrays_of job.inputs.items job.expr.nodes) status → IsCompareFault tries entry old new job output status
+  pub list_fault : (status : Status) → IsListFault tries entry old new (arrays_of_nodes job.inputs.items job.expr.nodes) status → IsCompareFault tries entry old new (record { job = job; output = output }) status
   list_fault (DepotFailed key) f = (f.fault.1, (f.a, list_turn f.a f.before f.behind f.plains key f.place f.read f.fault.0))
   list_fault (BadChunk key got want) f = (f.a, list_turn f.a f.before f.behind f.plains key f.place f.read f.fault.0, f.fault.1, f.fault.2, f.fault.3)
   list_fault NoMemory f = tt
   list_fault status f = absurd f.fault
 
   -- of the output
-  output_turn : (ps : List PlainArray) (key : List ℕ) → AreReadArrays entry (arrays_of job.inputs.items job.expr.nodes) ps → IsOwnTurn entry output key → IsChunkTurn entry (compared_arrays job output) output key
+  output_turn : (ps : List PlainArray) (key : List ℕ) → AreReadArrays entry (arrays_of_nodes job.inputs.items job.expr.nodes) ps → IsOwnTurn entry output key → IsChunkTurn entry (compared_arrays job output) output key
   output_turn ps key read own = record {
-    before = arrays_of job.inputs.items job.expr.nodes;
+    before = arrays_of_nodes job.inputs.items job.expr.nodes;
     behind = [];
     place = refl;
-    front = λ held told steady. list_there (compared_arrays job output) [] (arrays_of job.inputs.items job.expr.nodes) (output ∷ []) ps entry held refl told steady read;
+    front = λ held told steady. list_there (compared_arrays job output) [] (arrays_of_nodes job.inputs.items job.expr.nodes) (output ∷ []) ps entry held refl told steady read;
     own = own;
   }
 
-  pub output_fault : (mid : Shown) (ps : List PlainArray) (status : Status) → old.faults ≤ mid.faults → AreReadArrays entry (arrays_of job.inputs.items job.expr.nodes) ps
-      → IsReadFault tries mid new output.layout (IsOwnTurn entry output) status → IsCompareFault tries entry old new job output status
+  pub output_fault : (mid : Shown) (ps : List PlainArray) (status : Status) → old.faults ≤ mid.faults → AreReadArrays entry (arrays_of_nodes job.inputs.items job.expr.nodes) ps
+      → IsChunkFault tries mid new output.layout (IsOwnTurn entry output) status → IsCompareFault tries entry old new (record { job = job; output = output }) status
   output_fault mid ps (DepotFailed key) count read f = (rose_since tries old.faults mid.faults new.faults count f.1, (output, output_turn ps key read f.0))
   output_fault mid ps (BadChunk key got want) count read f = (output, output_turn ps key read f.0, f.1, f.2, f.3)
   output_fault mid ps NoMemory count read f = tt
@@ -168,7 +168,7 @@ typed_whole inputs e infos form types k n at =
     sym (over_all inputs infos k n.form (form.nodes k n at).form.earlier) ∙ typed_at inputs e.nodes infos k n types at
 
 pub whole_inputs : (job : Job) (entry : Shown) (ps made : List PlainArray) → IsExpression job.expr → typed job.inputs.items job.expr ≡ Ok job.types
-    → AreReadArrays entry (arrays_of job.inputs.items job.expr.nodes) ps → made ≡ ps → AreInputNodes job.expr job.types made
+    → AreReadArrays entry (arrays_of_nodes job.inputs.items job.expr.nodes) ps → made ≡ ps → AreInputNodes job.expr job.types made
 whole_inputs job entry ps made form types read same =
     subst (AreInputNodes job.expr job.types) (sym same)
     (are_input_nodes job.inputs.items job.expr job.types (typed_whole job.inputs.items job.expr job.types form types) entry ps read)
@@ -176,7 +176,7 @@ whole_inputs job entry ps made form types read same =
 module _ (job : Job) (form : IsExpression job.expr) (types : typed job.inputs.items job.expr ≡ Ok job.types) (ps plains : List PlainArray)
     (means : (env : NodeElements) → HoldInputs job.expr job.types env ps → HoldMeaning job.expr job.types env plains) where
   -- there is an array for each node
-  pub enough : (entry : Shown) → AreReadArrays entry (arrays_of job.inputs.items job.expr.nodes) ps → job.expr.out < length plains
+  pub enough : (entry : Shown) → AreReadArrays entry (arrays_of_nodes job.inputs.items job.expr.nodes) ps → job.expr.out < length plains
   enough entry read =
       let own = means (own_elements job.expr ps) (hold_own job.inputs.items job.expr job.types (typed_whole job.inputs.items job.expr job.types form types) entry ps read) in
       let count = own.count in
@@ -186,12 +186,12 @@ module _ (job : Job) (form : IsExpression job.expr) (types : typed job.inputs.it
 module _ (job : Job) (output : InputInfo) (form : IsExpression job.expr) (types : typed job.inputs.items job.expr ≡ Ok job.types) (ps plains : List PlainArray) (p : PlainArray)
     (means : (env : NodeElements) → HoldInputs job.expr job.types env ps → HoldMeaning job.expr job.types env plains) where
   -- it has as many elements as the node's shape says
-  pub count_of : (entry : Shown) → AreReadArrays entry (arrays_of job.inputs.items job.expr.nodes) ps → slice_get plains job.expr.out ≡ Some p → length p.cells ≡ product (shape_at job.types job.expr.out)
+  pub count_of : (entry : Shown) → AreReadArrays entry (arrays_of_nodes job.inputs.items job.expr.nodes) ps → slice_get plains job.expr.out ≡ Some p → length p.cells ≡ product (shape_of_node job.types job.expr.out)
   count_of entry read at =
       ((means (own_elements job.expr ps) (hold_own job.inputs.items job.expr job.types (typed_whole job.inputs.items job.expr job.types form types) entry ps read)).each job.expr.out p at).count
 
   -- its elements are what the expression means
-  meant : (entry : Shown) (held : Contents) → AreReadArrays entry (arrays_of job.inputs.items job.expr.nodes) ps → slice_get plains job.expr.out ≡ Some p → entry.held ≡ Some held
+  meant : (entry : Shown) (held : Contents) → AreReadArrays entry (arrays_of_nodes job.inputs.items job.expr.nodes) ps → slice_get plains job.expr.out ≡ Some p → entry.held ≡ Some held
       → IsSteady (IsReadChunk (compared_arrays job output)) (Some held) entry.late
       → HoldsElements (info_at job.types job.expr.out) (meaning_of job.expr job.types (elements_of job held) job.expr.out) p
   meant entry held read at told steady =
@@ -199,8 +199,8 @@ module _ (job : Job) (output : InputInfo) (form : IsExpression job.expr) (types 
       (λ a q here was. was.elements held told (calm_of (compared_arrays job output) a entry held here steady)))).each job.expr.out p at
 
   -- the elements are equal
-  pub found_equal : (entry : Shown) (bytes : List ℕ) → IsOfNode job output → AreReadArrays entry (arrays_of job.inputs.items job.expr.nodes) ps → slice_get plains job.expr.out ≡ Some p
-      → WhereCalm entry output (HasAllStored output bytes) → AreSameBelow output.layout.dtype bytes p.cells (product (shape_at job.types job.expr.out)) → WhereThere entry job output (IsEqual job output)
+  pub found_equal : (entry : Shown) (bytes : List ℕ) → IsLikeStoredNode job output → AreReadArrays entry (arrays_of_nodes job.inputs.items job.expr.nodes) ps → slice_get plains job.expr.out ≡ Some p
+      → WhereCalm entry output (HasAllStored output bytes) → AreSameBelow output.layout.dtype bytes p.cells (product (shape_of_node job.types job.expr.out)) → WhereThere entry job output (IsEqual job output)
   found_equal entry bytes fits read at stored same held told steady =
       let here = output_calm job output entry held told steady (HasAllStored output bytes) stored in (
         all_there job output entry held told steady ps bytes read here,
@@ -208,9 +208,9 @@ module _ (job : Job) (output : InputInfo) (form : IsExpression job.expr) (types 
       )
 
   -- the first difference
-  pub found_unequal : (tries : ℕ) (entry old new : Shown) (bytes : List ℕ) (d : Difference) → IsOfNode job output → AreReadArrays entry (arrays_of job.inputs.items job.expr.nodes) ps
+  pub found_unequal : (tries : ℕ) (entry old new : Shown) (bytes : List ℕ) (d : Difference) → IsLikeStoredNode job output → AreReadArrays entry (arrays_of_nodes job.inputs.items job.expr.nodes) ps
       → slice_get plains job.expr.out ≡ Some p → WhereCalm entry output (HasAllStored output bytes) → IsFirstDifference output.layout.dtype bytes p.cells d
-      → IsCompareFault tries entry old new job output (Unequal d.place d.stored d.plain)
+      → IsCompareFault tries entry old new (record { job = job; output = output }) (Unequal d.place d.stored d.plain)
   found_unequal tries entry old new bytes d fits read at stored first =
       let long = count_of entry read at in
       let low = first.below in

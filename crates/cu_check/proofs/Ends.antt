@@ -9,14 +9,14 @@ use Rattle.cu_command.specs.Streams.{ReadsAll, WroteFront}
 use Rattle.cu_command.specs.declared.job.Job.{Job}
 use Rattle.cu_command.specs.declared.status.Status.{Status}
 use Rattle.cu_command.specs.declared.status.Status.TheVariants.{Done, WriteFault, ReadFault, BadChunk, DepotFailed, NoMemory, Unequal}
-use Rattle.cu_check.specs.Check.{IsOutput, IsOfNode, IsEqual, WhereThere, elements_in_all, equal_line, IsCompareFault, Compares, CheckEnds, PrintsLine}
+use Rattle.cu_check.specs.Check.{IsOutputRead, IsLikeStoredNode, IsEqual, WhereThere, elements_in_all, equal_line, IsCompareFault, Compares, CheckEnds, PrintsLine}
 
 rose_since : (tries a b c : ℕ) → a ≤ b → Rose tries b c → Rose tries a c
 rose_since tries a b c first rose = omega arith
 
-module _ (tries : ℕ) (text : List ℕ) (old new : Seen) (job : Job) (output : InputInfo) (is_job : IsJob old.depot text job) (is_out : IsOutput old.depot job.expr output)
-    (fits : IsOfNode job output) (few : elements_in_all job.types ≤ 4194304) where
-  pub fault_ends : (mid : Shown) (status : Status) → old.depot.faults ≤ mid.faults → IsCompareFault tries old.depot mid new.depot job output status → Compares tries text old new status
+module _ (tries : ℕ) (text : List ℕ) (old new : Seen) (job : Job) (output : InputInfo) (is_job : IsJob old.depot text job) (is_out : IsOutputRead old.depot job.expr output)
+    (fits : IsLikeStoredNode job output) (few : elements_in_all job.types ≤ 4194304) where
+  pub fault_ends : (mid : Shown) (status : Status) → old.depot.faults ≤ mid.faults → IsCompareFault tries old.depot mid new.depot (record { job = job; output = output }) status → Compares tries text old new status
   fault_ends mid (Unequal place stored plain) count f = (f.0, (job, output, is_job, is_out, (fits, few, (f.1, f.2))))
   fault_ends mid (BadChunk key got want) count f = (job, output, is_job, is_out, (fits, few, f))
   fault_ends mid (DepotFailed key) count f = (rose_since tries old.depot.faults mid.faults new.depot.faults count f.0, inr (job, output, is_job, is_out, (fits, few, f.1)))

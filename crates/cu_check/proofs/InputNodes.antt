@@ -19,7 +19,7 @@ use Rattle.cu_expr.specs.Typing.{typed_node}
 use Rattle.cu_expr.specs.declared.inputs.InputInfo.{InputInfo}
 use Rattle.cu_mean.specs.Node.{is_input}
 use Rattle.cu_mean.specs.Plain.{PlainArray, IsPlain}
-use Rattle.cu_mean.specs.Reading.{HasInfo}
+use Rattle.cu_mean.specs.Reading.{HasTypeAndShape}
 use Rattle.cu_mean.specs.Whole.{is_input_node, inputs_before, AreInputNodes, HoldsElements, HoldInputs}
 use Rattle.cu_meaning.specs.Argument.{NodeElements}
 use Rattle.cu_op.specs.Layout.{layout_view}
@@ -33,10 +33,10 @@ use Rattle.cu_command.specs.Stored.{IsArrayChunk}
 use Rattle.cu_command.specs.declared.job.Job.{Job}
 use Rattle.cu_command.specs.declared.status.Status.{Status}
 use Rattle.cu_command.specs.declared.status.Status.TheVariants.{BadChunk, DepotFailed, NoMemory}
-use Rattle.cu_check.specs.Arrays.{form_arrays, node_arrays, arrays_of, IsThere, IsReadChunk, IsOwnTurn}
-use Rattle.cu_check.specs.Chunks.{IsReadFault}
+use Rattle.cu_check.specs.Arrays.{form_arrays, node_arrays, arrays_of_nodes, IsThere, IsReadChunk, IsOwnTurn}
+use Rattle.cu_check.specs.Chunks.{IsChunkFault}
 use Rattle.cu_check.specs.Elements.{named_layout, form_element, used_element, elements_of}
-use Rattle.cu_check.specs.Plains.{HasElements, IsReadArray, AreReadArrays, IsListFault}
+use Rattle.cu_check.specs.Plains.{HasStoredElements, IsReadArray, AreReadArrays, IsListFault}
 
 abbrev array_named : List InputInfo → List ℕ → InputInfo
 array_named inputs name = record { name = name; layout = named_layout inputs name }
@@ -45,27 +45,26 @@ array_named inputs name = record { name = name; layout = named_layout inputs nam
 pub read_more : (entry : Shown) (xs : List InputInfo) (ps : List PlainArray) (a : InputInfo) (p : PlainArray) → AreReadArrays entry xs ps → IsReadArray entry a p
     → AreReadArrays entry (xs ++ a ∷ []) (ps ++ p ∷ [])
 read_more entry [] [] a p read one = (one, tt)
-read_more entry [] (q ∷ ps) a p read one = absurd read
-read_more entry (b ∷ xs) [] a p read one = absurd read
 read_more entry (b ∷ xs) (q ∷ ps) a p read one = (read.0, read_more entry xs ps a p read.1 one)
+read_more entry xs ps a p read one = absurd read
 
 -- ---- node after node
 
 pub arrays_more : (inputs : List InputInfo) (nodes : List Node) (k : ℕ) (node : Node) → k < length nodes → node ≡ get_or nodes k node
-    → arrays_of inputs (take (k + 1) nodes) ≡ arrays_of inputs (take k nodes) ++ form_arrays inputs node.form
+    → arrays_of_nodes inputs (take (k + 1) nodes) ≡ arrays_of_nodes inputs (take k nodes) ++ form_arrays inputs node.form
 arrays_more inputs nodes k node below at =
-    ap (arrays_of inputs) (take_more nodes k node below ∙ ap (λ (n : Node). take k nodes ++ n ∷ []) (sym at)) ∙ sym (flat_map_more (node_arrays inputs) [] (take k nodes) node)
+    ap (arrays_of_nodes inputs) (take_more nodes k node below ∙ ap (λ (n : Node). take k nodes ++ n ∷ []) (sym at)) ∙ sym (flat_map_more (node_arrays inputs) [] (take k nodes) node)
 
 pub arrays_split : (inputs : List InputInfo) (nodes : List Node) (k : ℕ) (node : Node) → k < length nodes → node ≡ get_or nodes k node
-    → arrays_of inputs nodes ≡ arrays_of inputs (take k nodes) ++ (form_arrays inputs node.form ++ arrays_of inputs (drop (k + 1) nodes))
+    → arrays_of_nodes inputs nodes ≡ arrays_of_nodes inputs (take k nodes) ++ (form_arrays inputs node.form ++ arrays_of_nodes inputs (drop (k + 1) nodes))
 arrays_split inputs nodes k node below at =
-    ap (arrays_of inputs) (sym (take-append-drop k nodes) ∙ ap (λ (ns : List Node). take k nodes ++ ns) (drop_more nodes k node below ∙ ap (λ (n : Node). n ∷ drop (k + 1) nodes) (sym at)))
+    ap (arrays_of_nodes inputs) (sym (take-append-drop k nodes) ∙ ap (λ (ns : List Node). take k nodes ++ ns) (drop_more nodes k node below ∙ ap (λ (n : Node). n ∷ drop (k + 1) nodes) (sym at)))
     ∙ flat_map-append (node_arrays inputs) (take k nodes) (node ∷ drop (k + 1) nodes)
 
 rose_since : (tries a b c : ℕ) → a ≤ b → Rose tries b c → Rose tries a c
 rose_since tries a b c first rose = omega arith
 
-fault_since : (tries : ℕ) (old mid new : Shown) (l : Layout) (turn : List ℕ → Type 0) (status : Status) → old.faults ≤ mid.faults → IsReadFault tries mid new l turn status → IsReadFault tries old new l turn status
+fault_since : (tries : ℕ) (old mid new : Shown) (l : Layout) (turn : List ℕ → Type 0) (status : Status) → old.faults ≤ mid.faults → IsChunkFault tries mid new l turn status → IsChunkFault tries old new l turn status
 fault_since tries old mid new l turn (DepotFailed key) count f = (f.0, rose_since tries old.faults mid.faults new.faults count f.1)
 fault_since tries old mid new l turn (BadChunk key got want) count f = f
 fault_since tries old mid new l turn NoMemory count f = tt
@@ -73,13 +72,13 @@ fault_since tries old mid new l turn status count f = absurd f
 
 -- the array of this node failed
 pub node_fault : (tries : ℕ) (inputs : List InputInfo) (nodes : List Node) (k : ℕ) (node : Node) (a : InputInfo) (ps : List PlainArray) (old mid new entry : Shown) (status : Status)
-    → k < length nodes → node ≡ get_or nodes k node → form_arrays inputs node.form ≡ a ∷ [] → old.faults ≤ mid.faults → AreReadArrays entry (arrays_of inputs (take k nodes)) ps
-    → IsReadFault tries mid new a.layout (IsOwnTurn entry a) status → IsListFault tries entry old new (arrays_of inputs nodes) status
+    → k < length nodes → node ≡ get_or nodes k node → form_arrays inputs node.form ≡ a ∷ [] → old.faults ≤ mid.faults → AreReadArrays entry (arrays_of_nodes inputs (take k nodes)) ps
+    → IsChunkFault tries mid new a.layout (IsOwnTurn entry a) status → IsListFault tries entry old new (arrays_of_nodes inputs nodes) status
 node_fault tries inputs nodes k node a ps old mid new entry status below at own count read fault = record {
-  before = arrays_of inputs (take k nodes);
-  behind = arrays_of inputs (drop (k + 1) nodes);
+  before = arrays_of_nodes inputs (take k nodes);
+  behind = arrays_of_nodes inputs (drop (k + 1) nodes);
   a = a;
-  place = arrays_split inputs nodes k node below at ∙ ap (λ (xs : List InputInfo). arrays_of inputs (take k nodes) ++ (xs ++ arrays_of inputs (drop (k + 1) nodes))) own;
+  place = arrays_split inputs nodes k node below at ∙ ap (λ (xs : List InputInfo). arrays_of_nodes inputs (take k nodes) ++ (xs ++ arrays_of_nodes inputs (drop (k + 1) nodes))) own;
   plains = ps;
   read = read;
   fault = fault_since tries old mid new a.layout (IsOwnTurn entry a) status count fault;
@@ -139,22 +138,22 @@ behind : (entry : Shown) (inputs : List InputInfo) (rest : List InputInfo) (form
 behind entry inputs rest (Form.Input name) ps read = behind_input entry inputs name rest ps read
 behind entry inputs rest form ps read = record { qs = ps; read = read; at = λ m. ap (slice_get ps) (none_more m); count = sym (none_more (length ps)) }
 
-node_array : (entry : Shown) (inputs : List InputInfo) (nodes : List Node) (ps : List PlainArray) (k : ℕ) (node : Node) (name : List ℕ) → AreReadArrays entry (arrays_of inputs nodes) ps
+node_array : (entry : Shown) (inputs : List InputInfo) (nodes : List Node) (ps : List PlainArray) (k : ℕ) (node : Node) (name : List ℕ) → AreReadArrays entry (arrays_of_nodes inputs nodes) ps
     → slice_get nodes k ≡ Some node → node.form ≡ Form.Input name → IsNodeArray entry inputs name ps (count_by is_input_node (take k nodes))
 node_array entry inputs [] ps k node name read at is = cc
 node_array entry inputs (n ∷ ns) ps zero node name read at is =
     let same : n ≡ node = cc in
-    first_array entry inputs name n.form (arrays_of inputs ns) ps (ap (λ (x : Node). x.form) same ∙ is) read
+    first_array entry inputs name n.form (arrays_of_nodes inputs ns) ps (ap (λ (x : Node). x.form) same ∙ is) read
 node_array entry inputs (n ∷ ns) ps (suc k) node name read at is =
-    let rest = behind entry inputs (arrays_of inputs ns) n.form ps read in
+    let rest = behind entry inputs (arrays_of_nodes inputs ns) n.form ps read in
     let found = node_array entry inputs ns rest.qs k node name rest.read at is in
     record { p = found.p; there = ap (slice_get ps) (sum_by-cons (λ (x : Node). cond (is_input_node x) 1 0) n (take k ns)) ∙ rest.at (count_by is_input_node (take k ns)) ∙ found.there; read = found.read }
 
-array_count : (entry : Shown) (inputs : List InputInfo) (nodes : List Node) (ps : List PlainArray) → AreReadArrays entry (arrays_of inputs nodes) ps → length ps ≡ count_by is_input_node nodes
+array_count : (entry : Shown) (inputs : List InputInfo) (nodes : List Node) (ps : List PlainArray) → AreReadArrays entry (arrays_of_nodes inputs nodes) ps → length ps ≡ count_by is_input_node nodes
 array_count entry inputs [] [] read = refl
 array_count entry inputs [] (p ∷ ps) read = absurd read
 array_count entry inputs (n ∷ ns) ps read =
-    let rest = behind entry inputs (arrays_of inputs ns) n.form ps read in
+    let rest = behind entry inputs (arrays_of_nodes inputs ns) n.form ps read in
     rest.count ∙ ap (λ m. cond (is_input n.form) 1 0 + m) (array_count entry inputs ns rest.qs rest.read) ∙ sym (sum_by-cons (λ (x : Node). cond (is_input_node x) 1 0) n ns)
 
 input_name : (form : Form) → is_input form ≡ true → (name : List ℕ) × (form ≡ Form.Input name)
@@ -183,12 +182,12 @@ module _ (inputs : List InputInfo) (e : Expression) (infos : List NodeInfo)
       sym same ∙ known_layout inputs name
 
   has_info : (entry : Shown) (k : ℕ) (n : Node) (name : List ℕ) (p : PlainArray) → slice_get e.nodes k ≡ Some n → n.form ≡ Form.Input name
-      → IsReadArray entry (array_named inputs name) p → HasInfo (info_at infos k) p
+      → IsReadArray entry (array_named inputs name) p → HasTypeAndShape (info_at infos k) p
   has_info entry k n name p at is read =
       let info = input_info k n name at is in
       record { dtype = read.dtype ∙ sym (ap (λ (i : NodeInfo). i.dtype) info); dims = read.dims ∙ sym (ap (λ (i : NodeInfo). i.dims) info) }
 
-  pub are_input_nodes : (entry : Shown) (ps : List PlainArray) → AreReadArrays entry (arrays_of inputs e.nodes) ps → AreInputNodes e infos ps
+  pub are_input_nodes : (entry : Shown) (ps : List PlainArray) → AreReadArrays entry (arrays_of_nodes inputs e.nodes) ps → AreInputNodes e infos ps
   are_input_nodes entry ps read = record {
     count = array_count entry inputs e.nodes ps read;
     each = λ k node at test.
@@ -229,19 +228,19 @@ in_middle (b ∷ before) a behind = let rest = in_middle before a behind in (suc
 
 -- the array of a node is among the arrays
 listed : (inputs : List InputInfo) (nodes : List Node) (tail : List InputInfo) (k : ℕ) (node : Node) (name : List ℕ) → slice_get nodes k ≡ Some node → node.form ≡ Form.Input name
-    → Contains (arrays_of inputs nodes ++ tail) (array_named inputs name)
+    → Contains (arrays_of_nodes inputs nodes ++ tail) (array_named inputs name)
 listed inputs nodes tail k node name at is =
     let split = arrays_split inputs nodes k node (slice_get_within nodes k node at) (sym (get_or_from_slice_get nodes k node node at)) in
-    let own : arrays_of inputs nodes ≡ arrays_of inputs (take k nodes) ++ array_named inputs name ∷ arrays_of inputs (drop (k + 1) nodes) =
-    split ∙ ap (λ (f : Form). arrays_of inputs (take k nodes) ++ (form_arrays inputs f ++ arrays_of inputs (drop (k + 1) nodes))) is in
-    let whole : arrays_of inputs nodes ++ tail ≡ arrays_of inputs (take k nodes) ++ array_named inputs name ∷ (arrays_of inputs (drop (k + 1) nodes) ++ tail) =
-    ap (λ (xs : List InputInfo). xs ++ tail) own ∙ append_assoc (arrays_of inputs (take k nodes)) (array_named inputs name ∷ arrays_of inputs (drop (k + 1) nodes)) tail in
+    let own : arrays_of_nodes inputs nodes ≡ arrays_of_nodes inputs (take k nodes) ++ array_named inputs name ∷ arrays_of_nodes inputs (drop (k + 1) nodes) =
+    split ∙ ap (λ (f : Form). arrays_of_nodes inputs (take k nodes) ++ (form_arrays inputs f ++ arrays_of_nodes inputs (drop (k + 1) nodes))) is in
+    let whole : arrays_of_nodes inputs nodes ++ tail ≡ arrays_of_nodes inputs (take k nodes) ++ array_named inputs name ∷ (arrays_of_nodes inputs (drop (k + 1) nodes) ++ tail) =
+    ap (λ (xs : List InputInfo). xs ++ tail) own ∙ append_assoc (arrays_of_nodes inputs (take k nodes)) (array_named inputs name ∷ arrays_of_nodes inputs (drop (k + 1) nodes)) tail in
     subst (λ (xs : List InputInfo). Contains xs (array_named inputs name)) (sym whole)
-    (in_middle (arrays_of inputs (take k nodes)) (array_named inputs name) (arrays_of inputs (drop (k + 1) nodes) ++ tail))
+    (in_middle (arrays_of_nodes inputs (take k nodes)) (array_named inputs name) (arrays_of_nodes inputs (drop (k + 1) nodes) ++ tail))
 
 pub hold_inputs : (job : Job) (tail : List InputInfo) (whole : (k : ℕ) (n : Node) → slice_get job.expr.nodes k ≡ Some n → typed_node job.inputs.items job.types n.form ≡ Ok (info_at job.types k))
-    → (entry : Shown) (held : Contents) (ps : List PlainArray) → AreReadArrays entry (arrays_of job.inputs.items job.expr.nodes) ps
-    → ((a : InputInfo) (p : PlainArray) → Contains (arrays_of job.inputs.items job.expr.nodes ++ tail) a → IsReadArray entry a p → HasElements a p held)
+    → (entry : Shown) (held : Contents) (ps : List PlainArray) → AreReadArrays entry (arrays_of_nodes job.inputs.items job.expr.nodes) ps
+    → ((a : InputInfo) (p : PlainArray) → Contains (arrays_of_nodes job.inputs.items job.expr.nodes ++ tail) a → IsReadArray entry a p → HasStoredElements a p held)
     → HoldInputs job.expr job.types (elements_of job held) ps
 hold_inputs job tail whole entry held ps read elements k node p at test there =
     let (name, is) = input_name node.form test in
@@ -266,7 +265,7 @@ abbrev pub own_elements : Expression → List PlainArray → NodeElements
 own_elements e ps k idx = cell_at (slice_get ps (inputs_before e k)) idx
 
 pub hold_own : (inputs : List InputInfo) (e : Expression) (infos : List NodeInfo) (whole : (k : ℕ) (n : Node) → slice_get e.nodes k ≡ Some n → typed_node inputs infos n.form ≡ Ok (info_at infos k))
-    → (entry : Shown) (ps : List PlainArray) → AreReadArrays entry (arrays_of inputs e.nodes) ps → HoldInputs e infos (own_elements e ps) ps
+    → (entry : Shown) (ps : List PlainArray) → AreReadArrays entry (arrays_of_nodes inputs e.nodes) ps → HoldInputs e infos (own_elements e ps) ps
 hold_own inputs e infos whole entry ps read k node p at test there =
     let (name, is) = input_name node.form test in
     let found = node_array entry inputs e.nodes ps k node name read at is in
@@ -281,7 +280,7 @@ hold_own inputs e infos whole entry ps read k node p at test there =
 -- ---- what is there
 
 -- an array that was read is there
-pub array_there : (a : InputInfo) (p : PlainArray) (held : Contents) → IsPlain p → p.dims ≡ a.layout.grid.shape → HasElements a p held → IsThere held a
+pub array_there : (a : InputInfo) (p : PlainArray) (held : Contents) → IsPlain p → p.dims ≡ a.layout.grid.shape → HasStoredElements a p held → IsThere held a
 array_there a p held plain dims has idx inside =
     let below = place-below a.layout.grid.shape idx inside in
     let long : length p.cells ≡ product a.layout.grid.shape = plain.count ∙ ap product dims in (

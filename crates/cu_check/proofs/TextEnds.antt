@@ -15,7 +15,7 @@ use Rattle.cu_command.specs.declared.job.JobFault.{JobFault}
 use Rattle.cu_command.specs.declared.job.JobFault.TheVariants as fault
 use Rattle.cu_command.specs.declared.status.Status.{Status}
 use Rattle.cu_command.specs.declared.status.Status.TheVariants.{OverLimit, BadMeta}
-use Rattle.cu_check.specs.Check.{compared_names, IsOutput, IsMisfit, Compares}
+use Rattle.cu_check.specs.Check.{compared_names, IsOutputRead, IsMisfit, Compares}
 
 -- ---- the text
 
@@ -67,7 +67,7 @@ output_ends tries text e inputs old new mid f said names read count step h =
     (fault_at tries (compared_names e) old.depot mid new.depot e.store_as f (last_turn e old.depot inputs names read) count step h)
 
 pub is_output : {l m : ℕ} (e : Expression) (entry now : Shown) (output : InputInfo) → Steps NoChange l m entry now → output.name ≡ e.store_as → IsArrayLayout output.layout
-    → HoldsLayout now.held (metadata_key_of e.store_as) output.layout → IsOutput entry e output
+    → HoldsLayout now.held (metadata_key_of e.store_as) output.layout → IsOutputRead entry e output
 is_output e entry now output step name layout found = record {
   name = name;
   read = read_at entry now output step layout (subst (λ (n : List ℕ). HoldsLayout now.held (metadata_key_of n) output.layout) (sym name) found);
@@ -76,13 +76,13 @@ is_output e entry now output step name layout found = record {
 -- ---- types, and what is compared
 
 pub untyped_ends : (tries : ℕ) (text : List ℕ) (e : Expression) (inputs : List InputInfo) (output : InputInfo) (old new : Seen) (f : JobFault) → expression_of text ≡ Ok e
-    → names_of inputs ≡ names_in e → All (IsReadAt old.depot) inputs → IsOutput old.depot e output → IsUntyped inputs e f → Compares tries text old new (status_of f)
+    → names_of inputs ≡ names_in e → All (IsReadAt old.depot) inputs → IsOutputRead old.depot e output → IsUntyped inputs e f → Compares tries text old new (status_of f)
 untyped_ends tries text e inputs output old new (fault.Typing code node) said names read is_out (place, fault) =
     (record { expr = e; said = said; inputs = inputs; names = names; read = read; place = place; fault = fault }, (e, said, (output, is_out)))
 untyped_ends tries text e inputs output old new fault.NoMemory said names read is_out h = tt
 untyped_ends tries text e inputs output old new f said names read is_out h = absurd h
 
-pub misfit_ends : (tries : ℕ) (text : List ℕ) (old new : Seen) (job : Job) (output : InputInfo) (status : Status) → IsJob old.depot text job → IsOutput old.depot job.expr output
+pub misfit_ends : (tries : ℕ) (text : List ℕ) (old new : Seen) (job : Job) (output : InputInfo) (status : Status) → IsJob old.depot text job → IsOutputRead old.depot job.expr output
     → IsMisfit job output status → Compares tries text old new status
 misfit_ends tries text old new job output (BadMeta name code) is_job is_out (is_code, named, unfit) = inr (is_code, (job, output, is_job, is_out, (named, unfit)))
 misfit_ends tries text old new job output (OverLimit which count) is_job is_out (is_which, fits, is_count, over) = (is_which, (job, output, is_job, is_out, (fits, is_count, over)))

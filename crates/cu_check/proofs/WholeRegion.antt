@@ -4,7 +4,7 @@ use Rattle.cu_num.specs.Dtype.{size_of}
 use Rattle.cu_num.specs.declared.layout.Endian.TheVariants.{Little}
 use Rattle.cu_shape.specs.Index.{place_of, differences, IsInside}
 use Rattle.cu_grid.specs.Counts.{IsRegion, IsWithin}
-use Rattle.cu_codec.specs.Parts.{part, part_at, place_within, IsTaken}
+use Rattle.cu_codec.specs.Parts.{part, part_at, place_within, IsPartTaken}
 use Rattle.cu_op.specs.declared.layout.Layout.{Layout}
 use Rattle.cu_check.specs.Chunks.{IsPlaced}
 
@@ -35,7 +35,7 @@ whole_place : (ns is : List ℕ) → IsInside ns is → place_within (difference
 whole_place ns is inside = ap (λ ds. place_of ds (differences is (differences ns ns))) (whole_sizes ns) ∙ ap (place_of ns) (whole_index ns is inside)
 
 -- a part of the whole array is placed in it
-pub is_placed : (l : Layout) (coord chunk old new : List ℕ) → IsTaken (size_of l.dtype) Little (part l.grid coord (differences l.grid.shape l.grid.shape) l.grid.shape) chunk old new
+pub is_placed : (l : Layout) (coord chunk old new : List ℕ) → IsPartTaken (size_of l.dtype) Little (part l.grid coord (differences l.grid.shape l.grid.shape) l.grid.shape) chunk old new
     → IsPlaced l coord chunk old new
 is_placed l coord chunk old new took = record {
   own = λ idx inside here. ap (part_at (size_of l.dtype) new) (sym (whole_place l.grid.shape idx inside)) ∙ took.taken idx (whole_within l.grid.shape idx inside) here;

@@ -26,12 +26,12 @@ abbrev pub node_arrays : List InputInfo → Node → List InputInfo
 node_arrays inputs node = form_arrays inputs node.form
 
 -- those of all nodes, in node order
-abbrev pub arrays_of : List InputInfo → List Node → List InputInfo
-arrays_of inputs nodes = flat_map (node_arrays inputs) nodes
+abbrev pub arrays_of_nodes : List InputInfo → List Node → List InputInfo
+arrays_of_nodes inputs nodes = flat_map (node_arrays inputs) nodes
 
 -- and then the output
 abbrev pub compared_arrays : Job → InputInfo → List InputInfo
-compared_arrays job output = arrays_of job.inputs.items job.expr.nodes ++ output ∷ []
+compared_arrays job output = arrays_of_nodes job.inputs.items job.expr.nodes ++ output ∷ []
 
 -- ---- what of them is there
 

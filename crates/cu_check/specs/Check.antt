@@ -5,9 +5,9 @@ use Rattle.cu_form.specs.Expression.{Expression}
 use Rattle.cu_node.specs.declared.info.NodeInfo.{NodeInfo}
 use Rattle.cu_expr.specs.declared.inputs.InputInfo.{InputInfo}
 use Rattle.cu_read.specs.Read.{expression_of}
-use Rattle.cu_meaning.specs.Argument.{shape_at}
+use Rattle.cu_meaning.specs.Argument.{shape_of_node}
 use Rattle.cu_meaning.specs.Meaning.{meaning_of}
-use Rattle.cu_meaning.specs.Typed.{type_at}
+use Rattle.cu_meaning.specs.Typed.{type_of_node}
 use Rattle.cu_op.specs.Layout.{layout_view}
 use Rattle.cu_store.specs.Faults.{Rose}
 use Rattle.cu_store.specs.Held.{Contents}
@@ -26,6 +26,7 @@ use Rattle.cu_command.specs.declared.status.Status.{Status}
 use Rattle.cu_command.specs.declared.status.Status.TheVariants.{Done, BadExpr, BadType, OverLimit, BadMeta, NoArray, ReadFault, WriteFault, BadChunk, DepotFailed, Unequal, NoMemory}
 use Rattle.cu_check.specs.Arrays.{compared_arrays, IsThere, WhereStill, IsChunkTurn}
 use Rattle.cu_check.specs.Elements.{elements_of}
+use Rattle.cu_check.specs.declared.metadata.Compared.{Compared}
 
 -- ---- metadata
 
@@ -34,7 +35,7 @@ abbrev pub compared_names : Expression → List (List ℕ)
 compared_names e = names_in e ++ e.store_as ∷ []
 
 -- what was read of the output's metadata
-pub record IsOutput (entry : Shown) (e : Expression) (output : InputInfo) : Type 0 where
+pub record IsOutputRead (entry : Shown) (e : Expression) (output : InputInfo) : Type 0 where
   pub name : output.name ≡ e.store_as
   pub read : IsReadAt entry output
 
@@ -44,18 +45,18 @@ IsUnreadable tries text entry now f = (e : Expression) × (expression_of text �
 
 -- the expression has no types, and the output's metadata was read and accepted
 abbrev pub IsMistyped : List ℕ → Shown → ℕ → ℕ → Type 0
-IsMistyped text entry code node = IsIllTyped entry text code node × ((e : Expression) × (expression_of text ≡ Ok e) × ((output : InputInfo) × IsOutput entry e output))
+IsMistyped text entry code node = IsIllTyped entry text code node × ((e : Expression) × (expression_of text ≡ Ok e) × ((output : InputInfo) × IsOutputRead entry e output))
 
 -- the job of the text and its output, with a fact of them
 abbrev pub OfTyped : List ℕ → Shown → (Job → InputInfo → Type 0) → Type 0
-OfTyped text entry fact = (job : Job) × (output : InputInfo) × IsJob entry text job × IsOutput entry job.expr output × fact job output
+OfTyped text entry fact = (job : Job) × (output : InputInfo) × IsJob entry text job × IsOutputRead entry job.expr output × fact job output
 
 -- ---- what is compared
 
 -- the output has the type and the shape of the node that is stored
-pub record IsOfNode (job : Job) (output : InputInfo) : Type 0 where
-  pub dtype : output.layout.dtype ≡ type_at job.types job.expr.out
-  pub shape : output.layout.grid.shape ≡ shape_at job.types job.expr.out
+pub record IsLikeStoredNode (job : Job) (output : InputInfo) : Type 0 where
+  pub dtype : output.layout.dtype ≡ type_of_node job.types job.expr.out
+  pub shape : output.layout.grid.shape ≡ shape_of_node job.types job.expr.out
 
 -- the elements of all nodes together; an axis of size 0 counts as 0
 abbrev pub elements_in_all : List NodeInfo → ℕ
@@ -63,7 +64,7 @@ elements_in_all infos = sum_by (λ i. product i.dims) infos
 
 -- the same with few enough elements
 abbrev pub OfCompared : List ℕ → Shown → (Job → InputInfo → Type 0) → Type 0
-OfCompared text entry fact = OfTyped text entry (λ job output. IsOfNode job output × (elements_in_all job.types ≤ 4194304) × fact job output)
+OfCompared text entry fact = OfTyped text entry (λ job output. IsLikeStoredNode job output × (elements_in_all job.types ≤ 4194304) × fact job output)
 
 -- ---- elements
 
@@ -73,18 +74,18 @@ plain_element job held idx = meaning_of job.expr job.types (elements_of job held
 
 -- each stored element of the output is what the expression means there
 abbrev pub IsEqual : Job → InputInfo → Contents → Type 0
-IsEqual job output held = (idx : List ℕ) → IsInside (shape_at job.types job.expr.out) idx
+IsEqual job output held = (idx : List ℕ) → IsInside (shape_of_node job.types job.expr.out) idx
     → stored_element (layout_view output.layout) output.name held idx ≡ Some (plain_element job held idx)
 
 -- at each place of the output, row-major, below this one
 abbrev pub IsEqualBelow : Job → InputInfo → Contents → ℕ → Type 0
 IsEqualBelow job output held place = (p : ℕ) → p < place
-    → stored_element (layout_view output.layout) output.name held (index_at (shape_at job.types job.expr.out) p) ≡ Some (plain_element job held (index_at (shape_at job.types job.expr.out) p))
+    → stored_element (layout_view output.layout) output.name held (index_at (shape_of_node job.types job.expr.out) p) ≡ Some (plain_element job held (index_at (shape_of_node job.types job.expr.out) p))
 
 -- the elements at this place are these
 pub record AreAt (job : Job) (output : InputInfo) (held : Contents) (place : ℕ) (stored plain : ℤ) : Type 0 where
-  pub stored_is : stored_element (layout_view output.layout) output.name held (index_at (shape_at job.types job.expr.out) place) ≡ Some stored
-  pub plain_is : plain_element job held (index_at (shape_at job.types job.expr.out) place) ≡ plain
+  pub stored_is : stored_element (layout_view output.layout) output.name held (index_at (shape_of_node job.types job.expr.out) place) ≡ Some stored
+  pub plain_is : plain_element job held (index_at (shape_of_node job.types job.expr.out) place) ≡ plain
 
 -- all chunks of the arrays are there, and this is so of what was held
 abbrev pub WhereThere : Shown → Job → InputInfo → (Contents → Type 0) → Type 0
@@ -112,41 +113,41 @@ IsUnequal text entry place stored plain = (stored ≢ plain) × OfCompared text 
     × WhereThere entry job output (λ held. IsEqualBelow job output held place × AreAt job output held place stored plain))
 
 -- 13: the chunk under this key, in its turn, holds `got` bytes, which aren't the bytes of a chunk
-abbrev pub IsBadChunk : List ℕ → Shown → Shown → List ℕ → ℕ → ℕ → Type 0
-IsBadChunk text entry now key got want = OfCompared text entry (λ job output. (a : InputInfo) × IsChunkTurn entry (compared_arrays job output) a key
+abbrev pub IsBadComparedChunk : List ℕ → Shown → Shown → List ℕ → ℕ → ℕ → Type 0
+IsBadComparedChunk text entry now key got want = OfCompared text entry (λ job output. (a : InputInfo) × IsChunkTurn entry (compared_arrays job output) a key
     × (want ≡ bytes_of a.layout) × (got ≢ want) × HoldsLength now.held key got)
 
 -- 16: all tries of the calls for this key failed: that of metadata in its turn, or that of a chunk in its turn
-abbrev pub IsDepotFailed : ℕ → List ℕ → Shown → Shown → List ℕ → Type 0
-IsDepotFailed tries text entry now key = Rose tries entry.faults now.faults
+abbrev pub IsFailedKey : ℕ → List ℕ → Shown → Shown → List ℕ → Type 0
+IsFailedKey tries text entry now key = Rose tries entry.faults now.faults
     × (IsUnreadable tries text entry now (fault.DepotFailed key) ⊎ OfCompared text entry (λ job output. (a : InputInfo) × IsChunkTurn entry (compared_arrays job output) a key))
 
 -- 7: the bytes that are held are refused as metadata with this code; or, with code 11, the output's type or shape isn't that of the node
 abbrev pub IsRefusedMetadata : ℕ → List ℕ → Shown → Shown → List ℕ → ℕ → Type 0
 IsRefusedMetadata tries text entry now name code = IsUnreadable tries text entry now (fault.BadMeta name code)
-    ⊎ ((code ≡ 11) × OfTyped text entry (λ job output. (name ≡ output.name) × ¬ (IsOfNode job output)))
+    ⊎ ((code ≡ 11) × OfTyped text entry (λ job output. (name ≡ output.name) × ¬ (IsLikeStoredNode job output)))
 
 -- 6: the nodes have so many elements together, which are too many
 abbrev pub IsOverLimit : List ℕ → Shown → ℕ → ℕ → Type 0
-IsOverLimit text entry which count = (which ≡ 3) × OfTyped text entry (λ job output. IsOfNode job output × (count ≡ elements_in_all job.types) × (4194304 < count))
+IsOverLimit text entry which count = (which ≡ 3) × OfTyped text entry (λ job output. IsLikeStoredNode job output × (count ≡ elements_in_all job.types) × (4194304 < count))
 
 -- ---- what the parts of the command rest on
 
 -- 7 with code 11, and 6: why the output isn't compared with its node
 abbrev pub IsMisfit : Job → InputInfo → Status → Type 0
-IsMisfit job output (BadMeta name code) = (code ≡ 11) × (name ≡ output.name) × ¬ (IsOfNode job output)
-IsMisfit job output (OverLimit which count) = (which ≡ 3) × IsOfNode job output × (count ≡ elements_in_all job.types) × (4194304 < count)
+IsMisfit job output (BadMeta name code) = (code ≡ 11) × (name ≡ output.name) × ¬ (IsLikeStoredNode job output)
+IsMisfit job output (OverLimit which count) = (which ≡ 3) × IsLikeStoredNode job output × (count ≡ elements_in_all job.types) × (4194304 < count)
 IsMisfit job output status = ⊥
 
 -- why comparing ends, from what the depot showed when the chunks began to be read and shows at the end
-abbrev pub IsCompareFault : ℕ → Shown → Shown → Shown → Job → InputInfo → Status → Type 0
-IsCompareFault tries entry old new job output (Unequal place stored plain) = (stored ≢ plain) × (place < product output.layout.grid.shape)
-    × WhereThere entry job output (λ held. IsEqualBelow job output held place × AreAt job output held place stored plain)
-IsCompareFault tries entry old new job output (BadChunk key got want) = (a : InputInfo) × IsChunkTurn entry (compared_arrays job output) a key
+abbrev pub IsCompareFault : ℕ → Shown → Shown → Shown → Compared → Status → Type 0
+IsCompareFault tries entry old new c (Unequal place stored plain) = (stored ≢ plain) × (place < product c.output.layout.grid.shape)
+    × WhereThere entry c.job c.output (λ held. IsEqualBelow c.job c.output held place × AreAt c.job c.output held place stored plain)
+IsCompareFault tries entry old new c (BadChunk key got want) = (a : InputInfo) × IsChunkTurn entry (compared_arrays c.job c.output) a key
     × (want ≡ bytes_of a.layout) × (got ≢ want) × HoldsLength new.held key got
-IsCompareFault tries entry old new job output (DepotFailed key) = Rose tries old.faults new.faults × ((a : InputInfo) × IsChunkTurn entry (compared_arrays job output) a key)
-IsCompareFault tries entry old new job output NoMemory = Unit {0}
-IsCompareFault tries entry old new job output status = ⊥
+IsCompareFault tries entry old new c (DepotFailed key) = Rose tries old.faults new.faults × ((a : InputInfo) × IsChunkTurn entry (compared_arrays c.job c.output) a key)
+IsCompareFault tries entry old new c NoMemory = Unit {0}
+IsCompareFault tries entry old new c status = ⊥
 
 -- ---- the command
 
@@ -157,8 +158,8 @@ Compares tries text old new (NoArray name) = IsUnreadable tries text old.depot n
 Compares tries text old new (BadMeta name code) = IsRefusedMetadata tries text old.depot new.depot name code
 Compares tries text old new (BadType code node) = IsMistyped text old.depot code node
 Compares tries text old new (OverLimit which count) = IsOverLimit text old.depot which count
-Compares tries text old new (DepotFailed key) = IsDepotFailed tries text old.depot new.depot key
-Compares tries text old new (BadChunk key got want) = IsBadChunk text old.depot new.depot key got want
+Compares tries text old new (DepotFailed key) = IsFailedKey tries text old.depot new.depot key
+Compares tries text old new (BadChunk key got want) = IsBadComparedChunk text old.depot new.depot key got want
 Compares tries text old new (Unequal place stored plain) = IsUnequal text old.depot place stored plain
 Compares tries text old new Done = IsFoundEqual text old new
 Compares tries text old new WriteFault = IsUnwritten text old new

@@ -25,7 +25,7 @@ use Rattle.cu_command.specs.declared.status.Status.TheVariants.{BadChunk, DepotF
 use Rattle.cu_check.specs.Arrays.{IsOwnTurn, WhereCalm}
 
 -- an array that is read: keys that are short enough, and a layout of a stored array
-pub record IsReadable (info : ArrayInfo) : Type 0 where
+pub record IsStoredArray (info : ArrayInfo) : Type 0 where
   pub short : length info.prefix ≤ 45
   pub layout : IsArrayLayout info.layout
 
@@ -54,11 +54,11 @@ part_end key (BadPart bad got want) = BadChunk bad got want
 part_end key NoRoom = NoMemory
 
 -- why reading an array ends, where this holds of the key of the chunk that was read last
-abbrev pub IsReadFault : ℕ → Shown → Shown → Layout → (List ℕ → Type 0) → Status → Type 0
-IsReadFault tries old new l turn (DepotFailed key) = turn key × Rose tries old.faults new.faults
-IsReadFault tries old new l turn (BadChunk key got want) = turn key × (want ≡ bytes_of l) × (got ≢ want) × HoldsLength new.held key got
-IsReadFault tries old new l turn NoMemory = Unit {0}
-IsReadFault tries old new l turn status = ⊥
+abbrev pub IsChunkFault : ℕ → Shown → Shown → Layout → (List ℕ → Type 0) → Status → Type 0
+IsChunkFault tries old new l turn (DepotFailed key) = turn key × Rose tries old.faults new.faults
+IsChunkFault tries old new l turn (BadChunk key got want) = turn key × (want ≡ bytes_of l) × (got ≢ want) × HoldsLength new.held key got
+IsChunkFault tries old new l turn NoMemory = Unit {0}
+IsChunkFault tries old new l turn status = ⊥
 
 -- ---- the bytes of all elements
 
@@ -88,4 +88,4 @@ SinceCalm now a fact = (entry : Shown) → Stepped NoChange entry now → WhereC
 
 -- why reading the array ends: a chunk in its turn
 abbrev pub IsArrayFault : ℕ → Shown → Shown → InputInfo → Status → Type 0
-IsArrayFault tries old new a status = (entry : Shown) → Stepped NoChange entry old → IsReadFault tries old new a.layout (IsOwnTurn entry a) status
+IsArrayFault tries old new a status = (entry : Shown) → Stepped NoChange entry old → IsChunkFault tries old new a.layout (IsOwnTurn entry a) status

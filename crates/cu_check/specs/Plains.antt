@@ -12,7 +12,7 @@ use Rattle.cu_store.specs.Steps.{Shown}
 use Rattle.cu_zarr.specs.Stored.{stored_element}
 use Rattle.cu_command.specs.declared.status.Status.{Status}
 use Rattle.cu_check.specs.Arrays.{IsOwnTurn, WhereCalm}
-use Rattle.cu_check.specs.Chunks.{IsReadFault}
+use Rattle.cu_check.specs.Chunks.{IsChunkFault}
 use Rattle.cu_check.specs.declared.compare.Difference.{Difference}
 
 -- the numbers are the first elements of these bytes, so many
@@ -23,15 +23,15 @@ pub record AreNumbers (t : Dtype) (bytes : List ℕ) (n : ℕ) (cells : List ℤ
 -- ---- an array that was read
 
 -- it has the stored elements, place by place
-abbrev pub HasElements : InputInfo → PlainArray → Contents → Type 0
-HasElements a p held = (place : ℕ) → place < product a.layout.grid.shape → stored_element (layout_view a.layout) a.name held (index_at a.layout.grid.shape place) ≡ slice_get p.cells place
+abbrev pub HasStoredElements : InputInfo → PlainArray → Contents → Type 0
+HasStoredElements a p held = (place : ℕ) → place < product a.layout.grid.shape → stored_element (layout_view a.layout) a.name held (index_at a.layout.grid.shape place) ≡ slice_get p.cells place
 
 -- it has the type and the shape of the stored array, and its elements as they were held
 pub record IsReadArray (entry : Shown) (a : InputInfo) (p : PlainArray) : Type 0 where
   pub plain : IsPlain p
   pub dtype : p.dtype ≡ a.layout.dtype
   pub dims : p.dims ≡ a.layout.grid.shape
-  pub elements : WhereCalm entry a (HasElements a p)
+  pub elements : WhereCalm entry a (HasStoredElements a p)
 
 -- the same of each array of a list
 abbrev pub AreReadArrays : Shown → List InputInfo → List PlainArray → Type 0
@@ -48,7 +48,7 @@ pub record IsListFault (tries : ℕ) (entry old new : Shown) (arrays : List Inpu
   pub place : arrays ≡ before ++ a ∷ behind
   pub plains : List PlainArray
   pub read : AreReadArrays entry before plains
-  pub fault : IsReadFault tries old new a.layout (IsOwnTurn entry a) status
+  pub fault : IsChunkFault tries old new a.layout (IsOwnTurn entry a) status
 
 -- ---- comparison
 

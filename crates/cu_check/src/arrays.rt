@@ -8,7 +8,7 @@ ghost use Rattle.cu_command.specs.Seen.{Stepped};
 ghost use Rattle.cu_command.specs.Stored.{IsArrayLayout};
 ghost use Rattle.cu_mean.specs.Plain.{IsPlain};
 ghost use Rattle.cu_check.specs.Arrays.{IsOwnTurn};
-ghost use Rattle.cu_check.specs.Chunks.{HasAllStored, SinceCalm, IsReadFault, IsArrayFault};
+ghost use Rattle.cu_check.specs.Chunks.{HasAllStored, SinceCalm, IsChunkFault, IsArrayFault};
 ghost use Rattle.cu_check.specs.Plains.{AreNumbers, IsReadArray};
 
 use crate::chunks::read_chunks;

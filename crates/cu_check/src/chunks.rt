@@ -8,7 +8,7 @@ ghost use Rattle.cu_region.specs.Reading.{bytes_of, key_at};
 ghost use Rattle.cu_store.specs.Steps.{Shown, NoChange};
 ghost use Rattle.cu_command.specs.Seen.{Stepped};
 ghost use Rattle.cu_check.specs.Arrays.{WhereCalm};
-ghost use Rattle.cu_check.specs.Chunks.{IsReadable, input_of, HasHeldChunk, IsPartFault, part_end, IsReadFault, IsPlaced, HasChunksBelow, HasAllStored, SinceCalm, IsArrayFault};
+ghost use Rattle.cu_check.specs.Chunks.{IsStoredArray, input_of, HasHeldChunk, IsPartFault, part_end, IsChunkFault, IsPlaced, HasChunksBelow, HasAllStored, SinceCalm, IsArrayFault};
 
 use cu_codec::{chunk_key, take_part};
 use cu_command::Status;
@@ -26,7 +26,7 @@ fn read_once<D: Depot>(
     coord: &Dims,
     chunk: &mut [u8],
 ) -> Result<(), TaskFault>
-    requires readable { IsReadable info.now }
+    requires readable { IsStoredArray info.now }
     requires coordinate { IsCoordinate info.now.layout.grid coord.now }
     requires chunk_length { length chunk.old ≡ bytes_of info.now.layout }
     ensures read { OnOk result (HasHeldChunk info.now coord.now (D.shown depot.old) chunk.new) }
@@ -45,7 +45,7 @@ fn read_tries<D: Depot>(
     retries: u32,
     chunk: &mut [u8],
 ) -> Result<(), TaskFault>
-    requires readable { IsReadable info.now }
+    requires readable { IsStoredArray info.now }
     requires coordinate { IsCoordinate info.now.layout.grid coord.now }
     requires chunk_length { length chunk.old ≡ bytes_of info.now.layout }
     ensures read { OnOk result (HasHeldChunk info.now coord.now (D.shown depot.old) chunk.new) }
@@ -108,14 +108,14 @@ fn read_numbered<D: Depot>(
     chunk: &mut [u8],
     all: &mut [u8],
 ) -> Result<(), Status>
-    requires readable { IsReadable info.now }
+    requires readable { IsStoredArray info.now }
     requires number { number < product (counts_of info.now.layout.grid.shape info.now.layout.grid.chunk) }
     requires chunk_length { length chunk.old ≡ bytes_of info.now.layout }
     requires all_length { length all.old ≡ product info.now.layout.grid.shape * size_of info.now.layout.dtype }
     ensures read { OnOk result ((entry : Shown) → Stepped NoChange entry (D.shown depot.old) → WhereCalm entry (input_of info.now) (HasChunksBelow (input_of info.now) all.old number)
         → WhereCalm entry (input_of info.now) (HasChunksBelow (input_of info.now) all.new (number + 1))) }
     ensures step { Stepped NoChange (D.shown depot.old) (D.shown depot.new) }
-    ensures cause { IfErr result (IsReadFault (retries + 1) (D.shown depot.old) (D.shown depot.new) info.now.layout (λ key. key ≡ key_at info.now (coordinate_of info.now.layout.grid number))) }
+    ensures cause { IfErr result (IsChunkFault (retries + 1) (D.shown depot.old) (D.shown depot.new) info.now.layout (λ key. key ≡ key_at info.now (coordinate_of info.now.layout.grid number))) }
 {
     let coord = info.layout.grid.coordinate(number);
     match read_tries(depot, info, &coord, retries, chunk) {
@@ -139,7 +139,7 @@ pub(crate) fn read_chunks<D: Depot>(
     chunk: &mut [u8],
     all: &mut [u8],
 ) -> Result<(), Status>
-    requires readable { IsReadable info.now }
+    requires readable { IsStoredArray info.now }
     requires chunk_length { length chunk.old ≡ bytes_of info.now.layout }
     requires all_length { length all.old ≡ product info.now.layout.grid.shape * size_of info.now.layout.dtype }
     ensures read { OnOk result (SinceCalm (D.shown depot.old) (input_of info.now) (HasAllStored (input_of info.now) all.new)) }

@@ -6,7 +6,7 @@ ghost use Rattle.cu_store.specs.Steps.{Shown, NoChange};
 ghost use Rattle.cu_command.specs.Seen.{Stepped, stream, seen};
 ghost use Rattle.cu_command.specs.Stored.{IsArrayLayout};
 ghost use Rattle.cu_command.specs.declared.status.Status.TheVariants.{Unequal};
-ghost use Rattle.cu_check.specs.Check.{IsOfNode, IsEqual, WhereThere, IsCompareFault, Compares, PrintsLine, Checked};
+ghost use Rattle.cu_check.specs.Check.{IsLikeStoredNode, IsEqual, WhereThere, IsCompareFault, Compares, PrintsLine, Checked};
 
 use crate::arrays::{element_count, read_array};
 use crate::compare::{Difference, compare};
@@ -41,11 +41,11 @@ fn compare_output<D: Depot>(
     requires layouts { All (λ i. IsArrayLayout i.layout) compared.now.job.inputs.items }
     requires name { compared.now.output.name ≡ compared.now.job.expr.store_as }
     requires layout { IsArrayLayout compared.now.output.layout }
-    requires node { IsOfNode compared.now.job compared.now.output }
+    requires node { IsLikeStoredNode compared.now.job compared.now.output }
     ensures equal { OnOk result ((entry : Shown) → Stepped NoChange entry (D.shown depot.old) → WhereThere entry compared.now.job compared.now.output (IsEqual compared.now.job compared.now.output)) }
     ensures step { Stepped NoChange (D.shown depot.old) (D.shown depot.new) }
     ensures cause { IfErr result (λ status. (entry : Shown) → Stepped NoChange entry (D.shown depot.old)
-        → IsCompareFault (retries + 1) entry (D.shown depot.old) (D.shown depot.new) compared.now.job compared.now.output status) }
+        → IsCompareFault (retries + 1) entry (D.shown depot.old) (D.shown depot.new) compared.now status) }
 {
     let job = &compared.job;
     let layout = &compared.output.layout;

@@ -7,7 +7,7 @@ ghost use Rattle.cu_op.specs.Arrays.{no_array};
 ghost use Rattle.cu_store.specs.Steps.{Shown, NoChange};
 ghost use Rattle.cu_command.specs.Seen.{Stepped};
 ghost use Rattle.cu_command.specs.Stored.{IsArrayLayout};
-ghost use Rattle.cu_check.specs.Arrays.{form_arrays, arrays_of};
+ghost use Rattle.cu_check.specs.Arrays.{form_arrays, arrays_of_nodes};
 ghost use Rattle.cu_check.specs.Chunks.{IsArrayFault};
 ghost use Rattle.cu_check.specs.Elements.{named_layout};
 ghost use Rattle.cu_check.specs.Plains.{AreReadArrays, IsListFault};
@@ -93,11 +93,11 @@ pub(crate) fn read_nodes<D: Depot>(
     retries: u32,
 ) -> Result<Vec<Plain>, Status>
     requires layouts { All (λ i. IsArrayLayout i.layout) inputs.now }
-    ensures read { IfOk result (λ arrays. (entry : Shown) → Stepped NoChange entry (D.shown depot.old) → AreReadArrays entry (arrays_of inputs.now expr.now.nodes) arrays.items) }
+    ensures read { IfOk result (λ arrays. (entry : Shown) → Stepped NoChange entry (D.shown depot.old) → AreReadArrays entry (arrays_of_nodes inputs.now expr.now.nodes) arrays.items) }
     ensures step { Stepped NoChange (D.shown depot.old) (D.shown depot.new) }
     ensures form { IsExpression expr.now }
     ensures cause { IfErr result (λ status. (entry : Shown) → Stepped NoChange entry (D.shown depot.old)
-        → IsListFault (retries + 1) entry (D.shown depot.old) (D.shown depot.new) (arrays_of inputs.now expr.now.nodes) status) }
+        → IsListFault (retries + 1) entry (D.shown depot.old) (D.shown depot.new) (arrays_of_nodes inputs.now expr.now.nodes) status) }
 {
     let mut arrays = Vec::new(alloc);
     for node in expr.nodes() {

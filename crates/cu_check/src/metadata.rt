@@ -6,7 +6,7 @@ ghost use Rattle.cu_zarr.specs.Key.{metadata_key_of};
 ghost use Rattle.cu_command.specs.Job.{status_of, IsJob};
 ghost use Rattle.cu_command.specs.Seen.{Stream, Stepped, seen};
 ghost use Rattle.cu_command.specs.Stored.{IsArrayLayout, HoldsLayout, IsMetadataFault};
-ghost use Rattle.cu_check.specs.Check.{IsOutput, IsOfNode, IsMisfit, elements_in_all, Compares};
+ghost use Rattle.cu_check.specs.Check.{IsOutputRead, IsLikeStoredNode, IsMisfit, elements_in_all, Compares};
 
 use cu_command::{
     Job, JobFault, Status, metadata_room, read_input, read_inputs, said_in, types_in,
@@ -57,7 +57,7 @@ fn read_typed<D: Depot>(
     retries: u32,
 ) -> Result<Compared, Status>
     ensures job { IfOk result (λ c. IsJob (D.shown depot.old) text.now c.job) }
-    ensures output { IfOk result (λ c. IsOutput (D.shown depot.old) c.job.expr c.output) }
+    ensures output { IfOk result (λ c. IsOutputRead (D.shown depot.old) c.job.expr c.output) }
     ensures step { Stepped NoChange (D.shown depot.old) (D.shown depot.new) }
     ensures cause { (out next : Stream) → IfErr result (Compares (retries + 1) text.now (seen out (D.shown depot.old)) (seen next (D.shown depot.new))) }
 {
@@ -113,7 +113,7 @@ fn count_elements(types: &Types, nodes: u32) -> u64
 /// Whether the output may be compared with its node: it has the node's type and shape, and there aren't too many elements.
 fn check_output(job: &Job, output: &InputInfo) -> Result<(), Status>
     requires { typed job.now.inputs.items job.now.expr ≡ Ok job.now.types }
-    ensures node { OnOk result (IsOfNode job.now output.now) }
+    ensures node { OnOk result (IsLikeStoredNode job.now output.now) }
     ensures few { OnOk result (elements_in_all job.now.types ≤ 4194304) }
     ensures refused { IfErr result (IsMisfit job.now output.now) }
 {
@@ -140,8 +140,8 @@ pub(crate) fn read_compared<D: Depot>(
     retries: u32,
 ) -> Result<Compared, Status>
     ensures job { IfOk result (λ c. IsJob (D.shown depot.old) text.now c.job) }
-    ensures output { IfOk result (λ c. IsOutput (D.shown depot.old) c.job.expr c.output) }
-    ensures node { IfOk result (λ c. IsOfNode c.job c.output) }
+    ensures output { IfOk result (λ c. IsOutputRead (D.shown depot.old) c.job.expr c.output) }
+    ensures node { IfOk result (λ c. IsLikeStoredNode c.job c.output) }
     ensures few { IfOk result (λ c. elements_in_all c.job.types ≤ 4194304) }
     ensures step { Stepped NoChange (D.shown depot.old) (D.shown depot.new) }
     ensures cause { (out next : Stream) → IfErr result (Compares (retries + 1) text.now (seen out (D.shown depot.old)) (seen next (D.shown depot.new))) }

@@ -32,7 +32,7 @@ abbrev pub part : RegularGrid → List ℕ → List ℕ → List ℕ → Part
 part grid coord lo hi = record { grid = grid; coord = coord; lo = lo; hi = hi }
 
 -- The elements of a region that lie in the chunk are the chunk's elements, whose bytes are in this order, and the others are as before.
-pub record IsTaken (size : ℕ) (e : Endian) (p : Part) (bytes old new : List ℕ) : Type 0 where
+pub record IsPartTaken (size : ℕ) (e : Endian) (p : Part) (bytes old new : List ℕ) : Type 0 where
   pub taken : (idx : List ℕ) → IsWithin p.lo p.hi idx → quotients idx p.grid.chunk ≡ p.coord
       → part_at size new (place_within p.lo p.hi idx) ≡ in_order e (part_at size bytes (place_of p.grid.chunk (remainders idx p.grid.chunk)))
   pub others : (idx : List ℕ) → IsWithin p.lo p.hi idx → quotients idx p.grid.chunk ≢ p.coord

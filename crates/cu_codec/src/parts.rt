@@ -6,7 +6,7 @@ ghost use Rattle.cu_shape.specs.Index.{product, axis_by_axis, differences};
 ghost use Rattle.cu_grid.specs.Counts.{IsRegion, IsWithin};
 ghost use Rattle.cu_grid.specs.Grid.{IsCoordinate, IsInChunk};
 ghost use Rattle.cu_codec.specs.Box.{IsShared};
-ghost use Rattle.cu_codec.specs.Parts.{part, part_at, HasFill, IsOneChunk, IsTaken, IsLaid};
+ghost use Rattle.cu_codec.specs.Parts.{part, part_at, HasFill, IsOneChunk, IsPartTaken, IsLaid};
 
 use crate::boxes::{Placing, copy_box};
 use cu_grid::{Grid, Region};
@@ -29,7 +29,7 @@ pub fn take_part(
     requires region { IsRegion grid.now.shape region.now.lo region.now.hi }
     requires chunk_length { length chunk.now ≡ product grid.now.chunk * size }
     requires out_length { length out.old ≡ product (differences region.now.hi region.now.lo) * size }
-    ensures taken { IsTaken size order (part grid.now coord.now region.now.lo region.now.hi) chunk.now out.old out.new }
+    ensures taken { IsPartTaken size order (part grid.now coord.now region.now.lo region.now.hi) chunk.now out.old out.new }
 {
     let shared = shared(grid, coord, region);
     let placing = Placing {

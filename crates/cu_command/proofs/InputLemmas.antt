@@ -19,7 +19,7 @@ use Rattle.cu_command.specs.Stored.{IsArrayLayout, HoldsLayout, HoldsRefused, Is
 use Rattle.cu_command.specs.declared.status.Status.{Status}
 use Rattle.cu_command.specs.declared.status.Status.TheVariants as status
 use Rattle.cu_command.specs.declared.job.JobFault.{JobFault}
-use Rattle.cu_command.specs.declared.job.JobFault.TheVariants.{Expression, DepotFailed, NoArray, BadMeta, Typing, NoMemory}
+use Rattle.cu_command.specs.declared.job.JobFault.TheVariants.{DepotFailed, NoArray, BadMeta, NoMemory}
 
 -- ---- names
 
@@ -138,8 +138,7 @@ fault_at tries names entry mid now name (NoArray missing) turn earlier step h =
 fault_at tries names entry mid now name (BadMeta refused code) turn earlier step h =
     subst (λ (n : List ℕ). IsTurn names entry n × IsRefusedAt entry now (metadata_key_of n) code) (sym h.0) (turn, refused_at entry now (metadata_key_of name) code step h.1)
 fault_at tries names entry mid now name NoMemory turn earlier step h = tt
-fault_at tries names entry mid now name (Expression code node) turn earlier step h = absurd h
-fault_at tries names entry mid now name (Typing code node) turn earlier step h = absurd h
+fault_at tries names entry mid now name fault turn earlier step h = absurd h
 
 pub metadata_status : (tries before after : ℕ) (held : Option Contents) (name : List ℕ) (status : Status) → IsMetadataFault tries before after held name status → IsMetadataStatus status
 metadata_status tries before after held name (status.DepotFailed key) h = tt

@@ -5,24 +5,24 @@ use Rattle.cu_command.specs.declared.status.Status.{Status}
 use Rattle.cu_command.specs.declared.status.Status.TheVariants.{Done, BadWords, BadExpr, BadType, OverMemory, OverLimit, BadMeta, NoArray, Exists, TaskFailed, ReadFault, WriteFault, BadChunk, DepotFailed, Unequal, BadLoad, NoMemory}
 
 -- the answer's number, which is the exit status of the program
-abbrev pub number_of : Status → ℕ
-number_of Done = 0
-number_of (BadWords code) = 2
-number_of (BadExpr code node) = 3
-number_of (BadType code node) = 4
-number_of (OverMemory node need allowed) = 5
-number_of (OverLimit which count) = 6
-number_of (BadMeta name code) = 7
-number_of (NoArray name) = 8
-number_of (Exists key) = 9
-number_of (TaskFailed op task) = 10
-number_of ReadFault = 11
-number_of WriteFault = 12
-number_of (BadChunk key got want) = 13
-number_of (DepotFailed key) = 16
-number_of (Unequal place stored plain) = 17
-number_of (BadLoad code) = 18
-number_of NoMemory = 70
+abbrev pub exit_status : Status → ℕ
+exit_status Done = 0
+exit_status (BadWords code) = 2
+exit_status (BadExpr code node) = 3
+exit_status (BadType code node) = 4
+exit_status (OverMemory node need allowed) = 5
+exit_status (OverLimit which count) = 6
+exit_status (BadMeta name code) = 7
+exit_status (NoArray name) = 8
+exit_status (Exists key) = 9
+exit_status (TaskFailed op task) = 10
+exit_status ReadFault = 11
+exit_status WriteFault = 12
+exit_status (BadChunk key got want) = 13
+exit_status (DepotFailed key) = 16
+exit_status (Unequal place stored plain) = 17
+exit_status (BadLoad code) = 18
+exit_status NoMemory = 70
 
 -- the line, with no line feed; Done has none
 abbrev pub line_of : Status → List ℕ

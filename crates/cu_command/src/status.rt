@@ -1,7 +1,7 @@
 //! What a command answers, and the line that says it.
 ghost use Rattle.std.specs.Prelude.{◌≡◌, ◌+◌, ◌≤◌, ◌++◌, length, codes, decimal};
 ghost use Rattle.std.specs.Fmt.{signed_decimal};
-ghost use Rattle.cu_command.specs.Status.{number_of, line_of};
+ghost use Rattle.cu_command.specs.Status.{exit_status, line_of};
 
 use arrayvec::ArrayString;
 use cu_name::IdText;
@@ -88,7 +88,7 @@ pub type LineText = ArrayString<256>;
 
 /// The number of an answer, which is the exit status of the program.
 pub fn number(status: &Status) -> u8
-    ensures { result ≡ number_of status.now }
+    ensures { result ≡ exit_status status.now }
 {
     match status {
         Status::Done => 0,

@@ -40,7 +40,7 @@ staged_exactly allowed reserved r is = halved allowed reserved (greater_chunk r)
 
 -- the stages of a rechunk whose chunks fit tile
 pub staged_tiles : (most : ℕ) (r : Rechunk) → IsRechunk r → greater_chunk r ≤ most
-    → Tiles r.source.dims r.chunk (size_of r.source.dtype) most (staging most r).read (staging most r).middle (staging most r).write
+    → Tiles r.source.dims r.chunk (size_of r.source.dtype) most (staging most r)
 staged_tiles most r is fits =
     let item = size_of r.source.dtype in
     let some = size_positive r.source.dtype in

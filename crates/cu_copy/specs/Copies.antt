@@ -10,6 +10,7 @@ use Rattle.cu_node.specs.declared.info.NodeInfo.{NodeInfo}
 use Rattle.cu_rechunk.specs.Stages.{write_sizes, read_sizes, middle_sizes}
 use Rattle.cu_rechunk.specs.declared.staging.Staging.{Staging}
 use Rattle.cu_copy.specs.Chunks.{chunk_bytes, chunk_count}
+use Rattle.cu_copy.specs.declared.copies.CopyCounts.{CopyCounts}
 use Rattle.cu_copy.specs.declared.copies.Rechunk.{Rechunk}
 
 -- an array, and the chunks that it is to have
@@ -62,18 +63,22 @@ between r s = info_of r.source.dtype r.source.dims s.middle
 abbrev pub region_count : NodeInfo → List ℕ → ℕ
 region_count i region = product (counts_of i.dims region)
 
-abbrev pub staged_tasks : Rechunk → Staging → ℕ
-staged_tasks r s = if is_one_copy s then region_count r.source s.write else region_count r.source s.read + region_count r.source s.write
+-- those of one copy, and of two
+abbrev pub staged_counts : Rechunk → Staging → CopyCounts
+staged_counts r s =
+    if is_one_copy s then record { tasks = region_count r.source s.write; cells = chunk_count (rechunked r) }
+    else record { tasks = region_count r.source s.read + region_count r.source s.write; cells = chunk_count (between r s) + chunk_count (rechunked r) }
 
-abbrev pub staged_cells : Rechunk → Staging → ℕ
-staged_cells r s = if is_one_copy s then chunk_count (rechunked r) else chunk_count (between r s) + chunk_count (rechunked r)
+-- the counts of a rechunk; none where a chunk has more bytes than a region may have
+abbrev pub rechunk_counts : ℕ → Rechunk → CopyCounts
+rechunk_counts most r = if nat_le (greater_chunk r) most then staged_counts r (staging most r) else record { tasks = 0; cells = 0 }
 
--- the tasks of a rechunk and the chunks that they store; none where a chunk has more bytes than a region may have
+-- the tasks alone, and the chunks that they store
 abbrev pub rechunk_tasks : ℕ → Rechunk → ℕ
-rechunk_tasks most r = if nat_le (greater_chunk r) most then staged_tasks r (staging most r) else 0
+rechunk_tasks most r = (rechunk_counts most r).tasks
 
 abbrev pub rechunk_cells : ℕ → Rechunk → ℕ
-rechunk_cells most r = if nat_le (greater_chunk r) most then staged_cells r (staging most r) else 0
+rechunk_cells most r = (rechunk_counts most r).cells
 
 -- ---- what is taken for granted
 

@@ -1,10 +1,10 @@
 //! Copies of arrays into other chunks, and their memory and counts.
 
-ghost use Rattle.std.specs.Prelude.{◌≡◌, ◌<◌, ◌≤◌, ◌^◌, nat_le, All, IfSome, None, Some, length, map, sum_by, if◌then◌else◌};
+ghost use Rattle.std.specs.Prelude.{◌≡◌, ◌<◌, ◌≤◌, ◌^◌, nat_le, All, IfSome, None, Some, length, if◌then◌else◌};
 ghost use Rattle.cu_shape.specs.Counts.{at_least_one};
 ghost use Rattle.cu_shape.specs.Index.{product};
 ghost use Rattle.cu_copy.specs.Chunks.{chunk_bytes};
-ghost use Rattle.cu_copy.specs.Copies.{IsRechunk, AreRegions, greater_chunk, is_misaligned, max_mem, rechunk_need, rechunk_tasks, rechunk_cells, rechunked, region_count, staged_tasks, staged_cells, staging};
+ghost use Rattle.cu_copy.specs.Copies.{IsRechunk, AreRegions, greater_chunk, is_misaligned, max_mem, rechunk_counts, rechunk_need, rechunked, region_count, staged_counts, staging};
 
 use crate::chunks::{bytes_of, chunk_bytes};
 use cu_grid::Grid;
@@ -54,6 +54,17 @@ pub fn max_mem(allowed: u64, reserved: u64) -> u64
     allowed.saturating_sub(reserved) / 2
 }
 
+/// The array that a rechunk makes.
+pub fn rechunked(rechunk: &Rechunk) -> NodeInfo
+    ensures { result ≡ rechunked rechunk.now }
+{
+    NodeInfo {
+        dtype: rechunk.source.dtype,
+        dims: rechunk.source.dims,
+        chunk: rechunk.chunk,
+    }
+}
+
 /// The bytes of a chunk that is wanted.
 pub fn wanted_bytes(rechunk: &Rechunk) -> u64
     requires { IsRechunk rechunk.now }
@@ -84,33 +95,29 @@ fn region_count(array: &NodeInfo, sizes: &Dims) -> u64
     Grid::make_middle(array.dims, *sizes).count()
 }
 
-/// The tasks of a rechunk by its stages.
-fn staged_tasks(rechunk: &Rechunk, staging: &Staging) -> u64
-    requires rechunk { IsRechunk rechunk.now }
-    requires regions { AreRegions rechunk.now staging.now }
-    ensures tasks { result ≡ staged_tasks rechunk.now staging.now }
-    ensures few { result ≤ 2 ^ 41 }
-{
-    let written = region_count(&rechunk.source, &staging.write);
-    if staging.read.is(&staging.write) {
-        written
-    } else {
-        region_count(&rechunk.source, &staging.read) + written
-    }
+/// The tasks of copies, and the chunks that they store.
+#[derive(Clone, Copy, Debug, PartialEq, Eq)]
+pub struct CopyCounts {
+    pub tasks: u64,
+    pub cells: u64,
 }
 
-/// The chunks that they store.
-fn staged_cells(rechunk: &Rechunk, staging: &Staging) -> u64
+/// What is counted of a rechunk by its stages.
+fn staged_counts(rechunk: &Rechunk, staging: &Staging) -> CopyCounts
     requires rechunk { IsRechunk rechunk.now }
     requires regions { AreRegions rechunk.now staging.now }
-    ensures cells { result ≡ staged_cells rechunk.now staging.now }
-    ensures few { result ≤ 2 ^ 41 }
+    ensures counts { result ≡ staged_counts rechunk.now staging.now }
+    ensures few_tasks { result.tasks ≤ 2 ^ 41 }
+    ensures few_cells { result.cells ≤ 2 ^ 41 }
 {
-    let stored = region_count(&rechunk.source, &rechunk.chunk);
+    let tasks = region_count(&rechunk.source, &staging.write);
+    let cells = region_count(&rechunk.source, &rechunk.chunk);
     if staging.read.is(&staging.write) {
-        stored
-    } else {
-        region_count(&rechunk.source, &staging.middle) + stored
+        return CopyCounts { tasks, cells };
+    }
+    CopyCounts {
+        tasks: region_count(&rechunk.source, &staging.read) + tasks,
+        cells: region_count(&rechunk.source, &staging.middle) + cells,
     }
 }
 
@@ -132,26 +139,15 @@ pub fn staging_within(most: u64, rechunk: &Rechunk) -> Option<Staging>
     }
 }
 
-/// The tasks of a rechunk where a region has at most `most` bytes; none where one of its chunks has more.
-pub fn rechunk_tasks(most: u64, rechunk: &Rechunk) -> u64
+/// The tasks of a rechunk where a region has at most `most` bytes, and the chunks that they store; none where one of its chunks has more.
+pub fn rechunk_counts(most: u64, rechunk: &Rechunk) -> CopyCounts
     requires { IsRechunk rechunk.now }
-    ensures tasks { result ≡ rechunk_tasks most rechunk.now }
-    ensures few { result ≤ 2 ^ 41 }
+    ensures counts { result ≡ rechunk_counts most rechunk.now }
+    ensures few_tasks { result.tasks ≤ 2 ^ 41 }
+    ensures few_cells { result.cells ≤ 2 ^ 41 }
 {
     match staging_within(most, rechunk) {
-        Some(staging) => staged_tasks(rechunk, &staging),
-        None => 0,
-    }
-}
-
-/// The chunks that they store.
-pub fn rechunk_cells(most: u64, rechunk: &Rechunk) -> u64
-    requires { IsRechunk rechunk.now }
-    ensures cells { result ≡ rechunk_cells most rechunk.now }
-    ensures few { result ≤ 2 ^ 41 }
-{
-    match staging_within(most, rechunk) {
-        Some(staging) => staged_cells(rechunk, &staging),
-        None => 0,
+        Some(staging) => staged_counts(rechunk, &staging),
+        None => CopyCounts { tasks: 0, cells: 0 },
     }
 }

@@ -11,5 +11,5 @@ ghost use Rattle.cu_copy.specs.declared.copies.Rechunk.{Rechunk};
 pub fn copy_law()
     ensures exactly { (allowed reserved : ℕ) (r : Rechunk) → IsRechunk r → (greater_chunk r ≤ max_mem allowed reserved) ↔ (rechunk_need reserved r ≤ allowed) }
     ensures tiles { (most : ℕ) (r : Rechunk) → IsRechunk r → greater_chunk r ≤ most
-        → Tiles r.source.dims r.chunk (size_of r.source.dtype) most (staging most r).read (staging most r).middle (staging most r).write }
+        → Tiles r.source.dims r.chunk (size_of r.source.dtype) most (staging most r) }
 {}

@@ -7,7 +7,8 @@ mod laws;
 
 pub use chunks::{bytes_of, chunk_bytes, chunk_count};
 pub use copies::{
-    Rechunk, max_mem, rechunk_cells, rechunk_need, rechunk_tasks, staging_within, wanted_bytes,
+    CopyCounts, Rechunk, max_mem, rechunk_counts, rechunk_need, rechunked, staging_within,
+    wanted_bytes,
 };
 pub use cu_rechunk::Staging;
 pub use laws::copy_law;

@@ -14,7 +14,7 @@ use Rattle.cu_num.proofs.Wrapped.{wrapped_in_range, InRange-wrapped}
 use Rattle.cu_num.proofs.ElementBytes.{written_at, bytes_at-written_at_same, length-element_bytes}
 use Rattle.cu_reduce.specs.Running.{running}
 use Rattle.cu_reduce.proofs.Combined.{test_of}
-use Rattle.cu_fold.specs.Taken.{Takes}
+use Rattle.cu_fold.specs.Taken.{HasTaken}
 use Rattle.cu_fold.proofs.Totals.{truth_wrapped}
 
 pub or_none : (b : Test) → (b || false) ≡ b
@@ -48,7 +48,7 @@ running_any x (y ∷ ys) f =
     let own : is_nonzero z ≡ b = ap is_nonzero (sym (truth_wrapped Bool b refl)) ∙ test_of b in
     running_any z ys (InRange-wrapped Bool (truth_number b)) ∙ ap (λ t. truth_number (t || list_any is_nonzero ys)) own ∙ ap truth_number (or_turned (is_nonzero x) (is_nonzero y) (list_any is_nonzero ys))
 
-pub takes_found : (old new : List ℕ) (xs : List ℤ) (one : ℤ) → list_any is_nonzero xs ≡ true → 1 ≤ length old → one ≡ pos 1 → new ≡ written_at Bool old 0 (element_bytes Little Bool one) → Takes Any Bool old new 0 xs
+pub takes_found : (old new : List ℕ) (xs : List ℤ) (one : ℤ) → list_any is_nonzero xs ≡ true → 1 ≤ length old → one ≡ pos 1 → new ≡ written_at Bool old 0 (element_bytes Little Bool one) → HasTaken Any Bool old new 0 xs
 takes_found old new xs one found fits is written = record {
   number = λ x f has.
       let total : running Any Bool x xs ≡ pos 1 = running_any x xs f ∙ ap (λ b. truth_number (is_nonzero x || b)) found ∙ ap truth_number (or_some (is_nonzero x)) in
@@ -56,7 +56,7 @@ takes_found old new xs one found fits is written = record {
       ∙ ap (element_bytes Little Bool) (is ∙ sym total);
 }
 
-pub takes_nothing : (old : List ℕ) (xs : List ℤ) → list_any is_nonzero xs ≡ false → Takes Any Bool old old 0 xs
+pub takes_nothing : (old : List ℕ) (xs : List ℤ) → list_any is_nonzero xs ≡ false → HasTaken Any Bool old old 0 xs
 takes_nothing old xs none = record {
   number = λ x f has.
       let total : running Any Bool x xs ≡ x = running_any x xs f ∙ ap (λ b. truth_number (is_nonzero x || b)) none ∙ ap truth_number (or_none (is_nonzero x)) ∙ sym (truth_is x f) in

@@ -9,7 +9,7 @@ use Rattle.cu_num.specs.declared.layout.Endian.TheVariants.{Little}
 use Rattle.cu_num.specs.declared.folds.FoldKind.{FoldKind}
 use Rattle.cu_fold.specs.declared.levels.Level.{Level}
 use Rattle.cu_fold.specs.Levels.{extent, results, chained, moved, sources}
-use Rattle.cu_fold.specs.Taken.{Takes, elements}
+use Rattle.cu_fold.specs.Taken.{HasTaken, elements_at_places}
 use Rattle.cu_fold.proofs.Buffers.{element_at_drop, bytes_at_drop, part_inside}
 use Rattle.cu_fold.proofs.Taking.{takes_more, takes_same}
 
@@ -58,41 +58,41 @@ reaches n i inner width s count bytes less w e h =
 
 -- ---- elements
 
-pub elements_moved : (t : Dtype) (bytes : List ℕ) (m from : ℕ) (ps : List ℕ) → from ≡ m * size_of t → elements t (drop from bytes) ps ≡ elements t bytes (moved m ps)
+pub elements_moved : (t : Dtype) (bytes : List ℕ) (m from : ℕ) (ps : List ℕ) → from ≡ m * size_of t → elements_at_places t (drop from bytes) ps ≡ elements_at_places t bytes (moved m ps)
 elements_moved t bytes m from [] e = refl
 elements_moved t bytes m from (p ∷ ps) e = λ i. element_at_drop t bytes m p from e i ∷ elements_moved t bytes m from ps e i
 
-pub elements_append : (t : Dtype) (bytes : List ℕ) (ps qs : List ℕ) → elements t bytes (ps ++ qs) ≡ elements t bytes ps ++ elements t bytes qs
+pub elements_append : (t : Dtype) (bytes : List ℕ) (ps qs : List ℕ) → elements_at_places t bytes (ps ++ qs) ≡ elements_at_places t bytes ps ++ elements_at_places t bytes qs
 elements_append t bytes [] qs = refl
 elements_append t bytes (p ∷ ps) qs = ap (λ rest. element_at Little t bytes p ∷ rest) (elements_append t bytes ps qs)
 
 -- one index more of a level that is reduced
 pub next_reduced : (kind : FoldKind) (from acc : Dtype) (rest : List Level) (input part old mid new : List ℕ) (i q start : ℕ)
     → part ≡ drop start input → start ≡ i * extent rest * size_of from
-    → Takes kind acc old mid q (elements from input (chained i (λ i. moved (i * extent rest) (sources rest q)))) → Takes kind acc mid new q (elements from part (sources rest q))
-    → Takes kind acc old new q (elements from input (chained (i + 1) (λ i. moved (i * extent rest) (sources rest q))))
+    → HasTaken kind acc old mid q (elements_at_places from input (chained i (λ i. moved (i * extent rest) (sources rest q)))) → HasTaken kind acc mid new q (elements_at_places from part (sources rest q))
+    → HasTaken kind acc old new q (elements_at_places from input (chained (i + 1) (λ i. moved (i * extent rest) (sources rest q))))
 next_reduced kind from acc rest input part old mid new i q start is starts first next =
     let f : ℕ → List ℕ = λ i. moved (i * extent rest) (sources rest q) in
-    let own : elements from part (sources rest q) ≡ elements from input (f i) = ap (λ bytes. elements from bytes (sources rest q)) is ∙ elements_moved from input (i * extent rest) start (sources rest q) starts in
-    let all = takes_more kind acc old mid new q (elements from input (chained i f)) (elements from input (f i)) first (subst (λ xs. Takes kind acc mid new q xs) own next) in
+    let own : elements_at_places from part (sources rest q) ≡ elements_at_places from input (f i) = ap (λ bytes. elements_at_places from bytes (sources rest q)) is ∙ elements_moved from input (i * extent rest) start (sources rest q) starts in
+    let all = takes_more kind acc old mid new q (elements_at_places from input (chained i f)) (elements_at_places from input (f i)) first (subst (λ xs. HasTaken kind acc mid new q xs) own next) in
     let more : i + 1 ≡ suc i = omega arith in
-    subst (λ m. Takes kind acc old new q (elements from input (chained m f))) (sym more)
-    (subst (λ xs. Takes kind acc old new q xs) (sym (elements_append from input (chained i f) (f i))) all)
+    subst (λ m. HasTaken kind acc old new q (elements_at_places from input (chained m f))) (sym more)
+    (subst (λ xs. HasTaken kind acc old new q xs) (sym (elements_append from input (chained i f) (f i))) all)
 
 -- an index of a level that is kept has taken its elements
 pub at_kept : (kind : FoldKind) (from acc : Dtype) (rest : List Level) (input part old new old_part new_part : List ℕ) (i q k start : ℕ) → q ≡ i * results rest + k → k < results rest
     → part ≡ drop start input → start ≡ i * extent rest * size_of from
-    → bytes_at acc old q ≡ bytes_at acc old_part k → bytes_at acc new q ≡ bytes_at acc new_part k → Takes kind acc old_part new_part k (elements from part (sources rest k))
-    → Takes kind acc old new q (elements from input (moved (q / results rest * extent rest) (sources rest (q % results rest))))
+    → bytes_at acc old q ≡ bytes_at acc old_part k → bytes_at acc new q ≡ bytes_at acc new_part k → HasTaken kind acc old_part new_part k (elements_at_places from part (sources rest k))
+    → HasTaken kind acc old new q (elements_at_places from input (moved (q / results rest * extent rest) (sources rest (q % results rest))))
 at_kept kind from acc rest input part old new old_part new_part i q k start e less is starts before after takes =
     let r = results rest in
     let some : 0 < r = omega arith in
     let quotient : q / r ≡ i = ap (λ m. m / r) e ∙ div-mul-add i r k less in
     let remainder : q % r ≡ k = ap (λ m. m % r) e ∙ mod-mul-add i r k less in
-    let own : elements from part (sources rest k) ≡ elements from input (moved (q / r * extent rest) (sources rest (q % r))) =
-    ap (λ bytes. elements from bytes (sources rest k)) is ∙ elements_moved from input (i * extent rest) start (sources rest k) starts
-    ∙ (λ j. elements from input (moved (sym quotient j * extent rest) (sources rest (sym remainder j)))) in
-    subst (λ xs. Takes kind acc old new q xs) own (takes_same kind acc old new old_part new_part q k _ before after takes)
+    let own : elements_at_places from part (sources rest k) ≡ elements_at_places from input (moved (q / r * extent rest) (sources rest (q % r))) =
+    ap (λ bytes. elements_at_places from bytes (sources rest k)) is ∙ elements_moved from input (i * extent rest) start (sources rest k) starts
+    ∙ (λ j. elements_at_places from input (moved (sym quotient j * extent rest) (sources rest (sym remainder j)))) in
+    subst (λ xs. HasTaken kind acc old new q xs) own (takes_same kind acc old new old_part new_part q k _ before after takes)
 
 -- the bytes of a result in the part of an index
 pub part_bytes : (acc : Dtype) (out : List ℕ) (i q k r a e : ℕ) → a ≡ i * (r * size_of acc) → e ≡ a + r * size_of acc → q ≡ i * r + k → k < r → bytes_at acc out q ≡ bytes_at acc (take (e - a) (drop a out)) k

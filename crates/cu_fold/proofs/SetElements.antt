@@ -8,7 +8,7 @@ use Rattle.std.proofs.lemmas.Bool.Decides.{nat_tests, Decides-int_eq}
 use Rattle.std.proofs.lemmas.List.{get_or-drop, length-take-le, take-append-drop}
 use Rattle.std.proofs.lemmas.List.Folds.{list_any-append}
 use Rattle.std.proofs.lemmas.Nat.{pow-add, mod-mul-add, le_or_l, le_or_r}
-use Rattle.cu_num.specs.Dtype.{IsInteger, size_of, width_of}
+use Rattle.cu_num.specs.Dtype.{IsInteger, size_of, bit_width}
 use Rattle.cu_num.specs.Wrap.{residue, wrapped, truth_of}
 use Rattle.cu_num.specs.Scalar.{is_nonzero}
 use Rattle.cu_num.specs.Element.{element_at, bytes_at, number_of_bytes}
@@ -20,7 +20,7 @@ use Rattle.cu_num.proofs.Wrapped.{by_class, is_wrapping, wrapped_in_range}
 use Rattle.cu_reduce.proofs.Folding.{zero_in_range}
 use Rattle.cu_reduce.proofs.Ranges.{range_append}
 use Rattle.cu_fold.specs.SetBytes.{is_set}
-use Rattle.cu_fold.specs.Taken.{elements}
+use Rattle.cu_fold.specs.Taken.{elements_at_places}
 use Rattle.cu_fold.proofs.OneLevel.{elements_append}
 use Rattle.cu_fold.proofs.Nonzero.{or_none}
 
@@ -57,7 +57,7 @@ set_integer : (t : Dtype) → IsInteger t → (n : ℕ) → n < 2 ^ (8 * size_of
 set_integer t h zero less = ap is_nonzero (wrapped_in_range t (pos 0) (zero_in_range t))
 set_integer t h (suc n) less =
     nonzero (wrapped t (pos (suc n))) (λ e.
-    let w = width_of t in
+    let w = bit_width t in
     let P : ℤ → Type 0 = λ z. Same w z (pos (suc n)) in
     let same : residue w (pos 0) ≡ residue w (pos (suc n)) = residue_same w (pos 0) (pos (suc n)) (subst P e ((is_wrapping t h).same (pos (suc n)))) in
     let is : w ≡ 8 * size_of t = width_is t h in
@@ -102,7 +102,7 @@ set_element t bytes k h fits =
     set_wrapped t (number_of_bytes bs) below ∙ set_number bs
 
 pub set_elements : (t : Dtype) (bytes : List ℕ) (n : ℕ) → ((i : ℕ) → get_or bytes i 0 < 256) → n * size_of t ≤ length bytes
-    → list_any is_set (take (n * size_of t) bytes) ≡ list_any is_nonzero (elements t bytes (range_with_len 0 n))
+    → list_any is_set (take (n * size_of t) bytes) ≡ list_any is_nonzero (elements_at_places t bytes (range_with_len 0 n))
 set_elements t bytes zero h fits = let e : 0 * size_of t ≡ 0 = omega arith in ap (λ k. list_any is_set (take k bytes)) e
 set_elements t bytes (suc n) h fits =
     let s = size_of t in
@@ -112,11 +112,11 @@ set_elements t bytes (suc n) h fits =
     let room : n * s + s ≤ length bytes = omega (arith, fits, e) in
     ap (λ k. list_any is_set (take k bytes)) e ∙ ap (list_any is_set) (take-add (n * s) s bytes) ∙ list_any-append is_set (take (n * s) bytes) (bytes_at t bytes n)
     ∙ (λ i. set_elements t bytes n h (let w : n * s ≤ length bytes = omega arith in w) i || sym (set_element t bytes n h room) i)
-    ∙ ap (λ b. list_any is_nonzero (elements t bytes (range_with_len 0 n)) || b) (sym (or_none (is_nonzero (element_at Little t bytes n))))
-    ∙ sym (list_any-append is_nonzero (elements t bytes (range_with_len 0 n)) (element_at Little t bytes n ∷ []))
-    ∙ ap (λ k. list_any is_nonzero (elements t bytes (range_with_len 0 n) ++ elements t bytes (range_with_len k 1))) (sym at)
+    ∙ ap (λ b. list_any is_nonzero (elements_at_places t bytes (range_with_len 0 n)) || b) (sym (or_none (is_nonzero (element_at Little t bytes n))))
+    ∙ sym (list_any-append is_nonzero (elements_at_places t bytes (range_with_len 0 n)) (element_at Little t bytes n ∷ []))
+    ∙ ap (λ k. list_any is_nonzero (elements_at_places t bytes (range_with_len 0 n) ++ elements_at_places t bytes (range_with_len k 1))) (sym at)
     ∙ ap (list_any is_nonzero) (sym (elements_append t bytes (range_with_len 0 n) (range_with_len (0 + n) 1)))
-    ∙ ap (λ ps. list_any is_nonzero (elements t bytes ps)) (range_append 0 n 1 ∙ ap (range_with_len 0) (sym m))
+    ∙ ap (λ ps. list_any is_nonzero (elements_at_places t bytes ps)) (range_append 0 n 1 ∙ ap (range_with_len 0) (sym m))
 
 -- ---- block by block
 

@@ -12,13 +12,13 @@ use Rattle.cu_reduce.specs.Numbers.{HasNumber}
 use Rattle.cu_reduce.specs.Running.{running}
 use Rattle.cu_reduce.proofs.Combined.{combined_wrapped, taken_in_range}
 use Rattle.cu_reduce.proofs.Folding.{running_append, running_in_range}
-use Rattle.cu_fold.specs.Taken.{Takes}
+use Rattle.cu_fold.specs.Taken.{HasTaken}
 use Rattle.cu_fold.proofs.Buffers.{number_read}
 
 -- one number
 pub takes_one : (kind : FoldKind) (from acc : Dtype) (old new : List ℕ) (q : ℕ) (y own next total : ℤ) → Accumulates kind from acc → IsTaken kind acc y → q * size_of acc + size_of acc ≤ length old
     → own ≡ element_at Little acc old q → next ≡ wrapped acc y → total ≡ wrapped acc (combined kind own next) → new ≡ written_at acc old q (element_bytes Little acc total)
-    → Takes kind acc old new q (y ∷ [])
+    → HasTaken kind acc old new q (y ∷ [])
 takes_one kind from acc old new q y own next total a g fits is there made written = record {
   number = λ x f has.
       let before : own ≡ wrapped acc x = is ∙ number_read acc old q x has in
@@ -27,11 +27,11 @@ takes_one kind from acc old new q y own next total a g fits is there made writte
 }
 
 -- none
-pub takes_none : (kind : FoldKind) (acc : Dtype) (old new : List ℕ) (q : ℕ) → bytes_at acc new q ≡ bytes_at acc old q → Takes kind acc old new q []
+pub takes_none : (kind : FoldKind) (acc : Dtype) (old new : List ℕ) (q : ℕ) → bytes_at acc new q ≡ bytes_at acc old q → HasTaken kind acc old new q []
 takes_none kind acc old new q e = record { number = λ x f has. e ∙ has }
 
 -- some, and then more
-pub takes_more : (kind : FoldKind) (acc : Dtype) (old mid new : List ℕ) (q : ℕ) (xs ys : List ℤ) → Takes kind acc old mid q xs → Takes kind acc mid new q ys → Takes kind acc old new q (xs ++ ys)
+pub takes_more : (kind : FoldKind) (acc : Dtype) (old mid new : List ℕ) (q : ℕ) (xs ys : List ℤ) → HasTaken kind acc old mid q xs → HasTaken kind acc mid new q ys → HasTaken kind acc old new q (xs ++ ys)
 takes_more kind acc old mid new q xs ys first next = record {
   number = λ x f has.
       subst (λ z. HasNumber acc new q z) (sym (running_append kind acc x xs ys))
@@ -40,5 +40,5 @@ takes_more kind acc old mid new q xs ys first next = record {
 
 -- the same in other buffers, in which the result has another place
 pub takes_same : (kind : FoldKind) (acc : Dtype) (old new old_part new_part : List ℕ) (q k : ℕ) (xs : List ℤ) → bytes_at acc old q ≡ bytes_at acc old_part k → bytes_at acc new q ≡ bytes_at acc new_part k
-    → Takes kind acc old_part new_part k xs → Takes kind acc old new q xs
+    → HasTaken kind acc old_part new_part k xs → HasTaken kind acc old new q xs
 takes_same kind acc old new old_part new_part q k xs e g h = record { number = λ x f has. g ∙ h.number x f (sym e ∙ has) }

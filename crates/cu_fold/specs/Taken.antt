@@ -12,13 +12,13 @@ use Rattle.cu_fold.specs.declared.levels.Level.{Level}
 use Rattle.cu_fold.specs.declared.steps.Fold.{Fold}
 
 -- the elements at these places
-abbrev pub elements : Dtype → List ℕ → List ℕ → List ℤ
-elements t bytes places = map (λ p. element_at Little t bytes p) places
+abbrev pub elements_at_places : Dtype → List ℕ → List ℕ → List ℤ
+elements_at_places t bytes places = map (λ p. element_at Little t bytes p) places
 
 -- result q has taken these numbers
-pub record Takes (kind : FoldKind) (acc : Dtype) (old new : List ℕ) (q : ℕ) (xs : List ℤ) : Type 0 where
+pub record HasTaken (kind : FoldKind) (acc : Dtype) (old new : List ℕ) (q : ℕ) (xs : List ℤ) : Type 0 where
   pub number : (x : ℤ) → InRange acc x → HasNumber acc old q x → HasNumber acc new q (running kind acc x xs)
 
 -- each result of these levels has taken its elements
 abbrev pub TakesAll : Fold → List Level → List ℕ → List ℕ → List ℕ → Type 0
-TakesAll fold levels input old new = (q : ℕ) → q < results levels → Takes fold.kind fold.acc old new q (elements fold.from input (sources levels q))
+TakesAll fold levels input old new = (q : ℕ) → q < results levels → HasTaken fold.kind fold.acc old new q (elements_at_places fold.from input (sources levels q))

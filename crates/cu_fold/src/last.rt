@@ -3,7 +3,7 @@ ghost use Rattle.std.specs.Prelude.{◌≡◌, ◌*◌, ◌≤◌, ◌<◌, ℕ,
 ghost use Rattle.cu_num.specs.Dtype.{size_of};
 ghost use Rattle.cu_reduce.specs.Kinds.{Accumulates};
 ghost use Rattle.cu_fold.specs.Levels.{results};
-ghost use Rattle.cu_fold.specs.Taken.{Takes, TakesAll, elements};
+ghost use Rattle.cu_fold.specs.Taken.{HasTaken, TakesAll, elements_at_places};
 
 use crate::leaves::{take_row, take_run};
 use crate::levels::Level;
@@ -146,7 +146,7 @@ fn any(from: Dtype, level: Level, input: &[u8], out: &mut [u8])
 fn any_row(from: Dtype, count: usize, input: &[u8], out: &mut [u8])
     requires input { count * size_of from ≤ length input.now }
     requires out { count ≤ length out.old }
-    ensures { (q : ℕ) → q < count → Takes FoldKind.Any Dtype.Bool out.old out.new q (elements from input.now (q ∷ [])) }
+    ensures { (q : ℕ) → q < count → HasTaken FoldKind.Any Dtype.Bool out.old out.new q (elements_at_places from input.now (q ∷ [])) }
 {
     match from {
         Dtype::Bool => take_row(FoldKind::Any, Dtype::Bool, Dtype::Bool, count, input, out),
@@ -200,65 +200,27 @@ fn by_type(kind: FoldKind, from: Dtype, acc: Dtype, level: Level, input: &[u8], 
     ensures { TakesAll (record { kind = kind; from = from; acc = acc }) (level ∷ []) input.now out.old out.new }
 {
     match (from, acc) {
-        (Dtype::Int8, Dtype::Int8) => by_level(kind, Dtype::Int8, Dtype::Int8, level, input, out),
-        (Dtype::Int16, Dtype::Int16) => by_level(
-            kind,
-            Dtype::Int16,
-            Dtype::Int16,
-            level,
-            input,
-            out,
-        ),
-        (Dtype::Int32, Dtype::Int32) => by_level(
-            kind,
-            Dtype::Int32,
-            Dtype::Int32,
-            level,
-            input,
-            out,
-        ),
-        (Dtype::Int64, Dtype::Int64) => by_level(
-            kind,
-            Dtype::Int64,
-            Dtype::Int64,
-            level,
-            input,
-            out,
-        ),
-        (Dtype::Uint8, Dtype::Uint8) => by_level(
-            kind,
-            Dtype::Uint8,
-            Dtype::Uint8,
-            level,
-            input,
-            out,
-        ),
-        (Dtype::Uint16, Dtype::Uint16) => by_level(
-            kind,
-            Dtype::Uint16,
-            Dtype::Uint16,
-            level,
-            input,
-            out,
-        ),
-        (Dtype::Uint32, Dtype::Uint32) => by_level(
-            kind,
-            Dtype::Uint32,
-            Dtype::Uint32,
-            level,
-            input,
-            out,
-        ),
-        (Dtype::Uint64, Dtype::Uint64) => by_level(
-            kind,
-            Dtype::Uint64,
-            Dtype::Uint64,
-            level,
-            input,
-            out,
-        ),
+        (Dtype::Int8, Dtype::Int8) => of_one_type(kind, Dtype::Int8, level, input, out),
+        (Dtype::Int16, Dtype::Int16) => of_one_type(kind, Dtype::Int16, level, input, out),
+        (Dtype::Int32, Dtype::Int32) => of_one_type(kind, Dtype::Int32, level, input, out),
+        (Dtype::Int64, Dtype::Int64) => of_one_type(kind, Dtype::Int64, level, input, out),
+        (Dtype::Uint8, Dtype::Uint8) => of_one_type(kind, Dtype::Uint8, level, input, out),
+        (Dtype::Uint16, Dtype::Uint16) => of_one_type(kind, Dtype::Uint16, level, input, out),
+        (Dtype::Uint32, Dtype::Uint32) => of_one_type(kind, Dtype::Uint32, level, input, out),
+        (Dtype::Uint64, Dtype::Uint64) => of_one_type(kind, Dtype::Uint64, level, input, out),
         _ => by_level(kind, from, acc, level, input, out),
     }
+}
+
+/// With loops for the type that elements and results share.
+#[inline(always)]
+fn of_one_type(kind: FoldKind, t: Dtype, level: Level, input: &[u8], out: &mut [u8])
+    requires types { Accumulates kind t t }
+    requires input { level.size * size_of t ≤ length input.now }
+    requires out { length out.old ≡ results (level ∷ []) * size_of t }
+    ensures { TakesAll (record { kind = kind; from = t; acc = t }) (level ∷ []) input.now out.old out.new }
+{
+    by_level(kind, t, t, level, input, out);
 }
 
 #[inline(always)]

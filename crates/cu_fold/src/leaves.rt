@@ -3,7 +3,7 @@ ghost use Rattle.std.specs.Prelude.{◌≡◌, ◌*◌, ◌≤◌, ◌<◌, ℕ,
 ghost use Rattle.std.specs.List.{range_with_len};
 ghost use Rattle.cu_num.specs.Dtype.{size_of};
 ghost use Rattle.cu_reduce.specs.Kinds.{Accumulates};
-ghost use Rattle.cu_fold.specs.Taken.{Takes, elements};
+ghost use Rattle.cu_fold.specs.Taken.{HasTaken, elements_at_places};
 
 use crate::steps::take_one;
 use cu_num::{Dtype, FoldKind, size};
@@ -21,7 +21,7 @@ pub(crate) fn take_row(
     requires types { Accumulates kind from acc }
     requires input { count * size_of from ≤ length input.now }
     requires out { count * size_of acc ≤ length out.old }
-    ensures { (q : ℕ) → q < count → Takes kind acc out.old out.new q (elements from input.now (q ∷ [])) }
+    ensures { (q : ℕ) → q < count → HasTaken kind acc out.old out.new q (elements_at_places from input.now (q ∷ [])) }
 {
     for at in 0..count {
         take_one(kind, from, acc, input, at, out, at);
@@ -41,7 +41,7 @@ pub(crate) fn take_run(
     requires types { Accumulates kind from acc }
     requires input { count * size_of from ≤ length input.now }
     requires out { size_of acc ≤ length out.old }
-    ensures { Takes kind acc out.old out.new 0 (elements from input.now (range_with_len 0 count)) }
+    ensures { HasTaken kind acc out.old out.new 0 (elements_at_places from input.now (range_with_len 0 count)) }
 {
     let size = size(acc) as usize;
     let mut own = [0u8; 8];

@@ -4,7 +4,7 @@ ghost use Rattle.cu_num.specs.Dtype.{size_of, InRange};
 ghost use Rattle.cu_num.specs.Wrap.{wrapped};
 ghost use Rattle.cu_num.specs.Element.{bytes_at};
 ghost use Rattle.cu_reduce.specs.Kinds.{Accumulates, combined};
-ghost use Rattle.cu_fold.specs.Taken.{Takes, elements};
+ghost use Rattle.cu_fold.specs.Taken.{HasTaken, elements_at_places};
 
 use cu_num::{Dtype, FoldKind, load, save, wrap};
 use cu_reduce::combine;
@@ -62,7 +62,7 @@ pub(crate) fn take_one(
     requires types { Accumulates kind from acc }
     requires input { place * size_of from + size_of from ≤ length input.now }
     requires out { q * size_of acc + size_of acc ≤ length out.old }
-    ensures takes { Takes kind acc out.old out.new q (elements from input.now (place ∷ [])) }
+    ensures takes { HasTaken kind acc out.old out.new q (elements_at_places from input.now (place ∷ [])) }
     ensures others { (p : ℕ) → p ≢ q → bytes_at acc out.new p ≡ bytes_at acc out.old p }
 {
     let own = load(acc, out, q);

@@ -3,7 +3,7 @@ ghost use Rattle.std.specs.Prelude.{◌≡◌, ◌*◌, ◌≤◌, length};
 ghost use Rattle.std.specs.List.{range_with_len, list_any};
 ghost use Rattle.cu_num.specs.Dtype.{size_of};
 ghost use Rattle.cu_fold.specs.SetBytes.{is_set};
-ghost use Rattle.cu_fold.specs.Taken.{Takes, elements};
+ghost use Rattle.cu_fold.specs.Taken.{HasTaken, elements_at_places};
 
 use cu_num::{Dtype, FoldKind, save, size};
 
@@ -41,7 +41,7 @@ fn has_set(bytes: &[u8]) -> bool
 pub(crate) fn take_any(from: Dtype, count: usize, input: &[u8], out: &mut [u8])
     requires input { count * size_of from ≤ length input.now }
     requires out { 1 ≤ length out.old }
-    ensures { Takes FoldKind.Any Dtype.Bool out.old out.new 0 (elements from input.now (range_with_len 0 count)) }
+    ensures { HasTaken FoldKind.Any Dtype.Bool out.old out.new 0 (elements_at_places from input.now (range_with_len 0 count)) }
 {
     let bytes = count * size(from) as usize;
     if has_set(&input[..bytes]) {

@@ -18,13 +18,13 @@ use Rattle.cu_op.specs.Kernel.{selected}
 use Rattle.cu_kern.specs.declared.calls.Call.TheVariants as call
 use Rattle.cu_kern.specs.Lays.{HasValue}
 use Rattle.cu_kern.proofs.DirectValues.{value_in_range}
-use Rattle.cu_kern.specs.Rows.{Rows, StandsAt, HasRows}
+use Rattle.cu_kern.specs.Rows.{Rows, StandsAt, HasStepResults}
 use Rattle.cu_kern.specs.Strips.{strip, strip_element, HasPlaces}
 use Rattle.cu_kern.proofs.Parts.{element_moved, size_most}
 
 -- ---- what an argument reads
 
-pub result_there : (r : Rows) (k a : ℕ) (results : List ℤ) → HasRows r k results → a < r.number → slice_get results a ≡ Some (get_or results a (pos 0))
+pub result_there : (r : Rows) (k a : ℕ) (results : List ℤ) → HasStepResults r k results → a < r.number → slice_get results a ≡ Some (get_or results a (pos 0))
 result_there r k a results h b = let done = h.done in slice_get-get_or results a (pos 0) (omega arith)
 
 stands_in_row : (i : Instr) (t : Dtype) (row : List ℕ) (k : ℕ) (x : ℤ) → ((y : ℤ) → i ≢ Const y) → StandsAt i t row k x → element_at Little t row k ≡ x
@@ -34,12 +34,12 @@ stands_in_row (One f s a) t row k x other h = h.1
 stands_in_row (Two f s a b) t row k x other h = h.1
 stands_in_row (Select c a b) t row k x other h = h.1
 
-pub literal_read : (r : Rows) (k a : ℕ) (results : List ℤ) (y : ℤ) (t : Dtype) → HasRows r k results → a < r.number → slice_get r.code a ≡ Some (Const y) → slice_get r.kinds a ≡ Some t → slice_get results a ≡ Some y
+pub literal_read : (r : Rows) (k a : ℕ) (results : List ℤ) (y : ℤ) (t : Dtype) → HasStepResults r k results → a < r.number → slice_get r.code a ≡ Some (Const y) → slice_get r.kinds a ≡ Some t → slice_get results a ≡ Some y
 literal_read r k a results y t h b code kinds =
     let there = result_there r k a results h b in
     there ∙ ap Some (h.each a (get_or results a (pos 0)) (Const y) t there code kinds)
 
-pub row_read : (r : Rows) (k a count : ℕ) (results : List ℤ) (i : Instr) (t : Dtype) → HasRows r k results → a < r.number → slice_get r.code a ≡ Some i → ((y : ℤ) → i ≢ Const y) → slice_get r.kinds a ≡ Some t
+pub row_read : (r : Rows) (k a count : ℕ) (results : List ℤ) (i : Instr) (t : Dtype) → HasStepResults r k results → a < r.number → slice_get r.code a ≡ Some i → ((y : ℤ) → i ≢ Const y) → slice_get r.kinds a ≡ Some t
     → a < length r.bytes / 1024 → count * size_of t ≤ 1024 → k < count → slice_get results a ≡ Some (strip_element t (strip (between (1024 * a) (length r.bytes) r.bytes) 1) k)
 row_read r k a count results i t h b code other kinds room fits below =
     let there = result_there r k a results h b in

@@ -14,7 +14,7 @@ use Rattle.cu_op.specs.declared.kernel.Instr.TheVariants.{Load, Const, One, Two,
 use Rattle.cu_op.specs.Kernel.{results_from, last_of, kernel_value, instruction_value}
 use Rattle.cu_kern.specs.Lays.{HasValue, lay_element, loaded_at}
 use Rattle.cu_kern.specs.declared.lays.Lay.{Lay}
-use Rattle.cu_kern.specs.Rows.{Rows, rows, StandsAt, HasRows, RowsAt, Computes, Leaves}
+use Rattle.cu_kern.specs.Rows.{Rows, step_rows, StandsAt, HasStepResults, RowsAt, Computes, Leaves}
 use Rattle.cu_kern.proofs.Parts.{part_inside, has_value_element}
 use Rattle.cu_kern.proofs.Running.{slice_get_push}
 
@@ -39,7 +39,7 @@ element_in_front t front back j k h =
 -- the results of the first steps stand in their rows whatever lies behind
 rows_moved : (code : List Instr) (kinds : List Dtype) (old new : List ℕ) (number k : ℕ) (results : List ℤ)
     → ((t : Dtype) (a : ℕ) → a < number → k * size_of t + size_of t ≤ 1024 → element_at Little t (drop (1024 * a) new) k ≡ element_at Little t (drop (1024 * a) old) k)
-    → HasRows (rows code kinds old number) k results → HasRows (rows code kinds new number) k results
+    → HasStepResults (step_rows code kinds old number) k results → HasStepResults (step_rows code kinds new number) k results
 rows_moved code kinds old new number k results same h = record {
   done = h.done;
   each = λ a x i t there is kind.
@@ -48,24 +48,24 @@ rows_moved code kinds old new number k results same h = record {
       stands_moved i t (drop (1024 * a) old) (drop (1024 * a) new) k x (same t a (omega arith)) (h.each a x i t there is kind);
 }
 
-pub rows_front : (code : List Instr) (kinds : List Dtype) (front back : List ℕ) (number k : ℕ) (results : List ℤ) → length front ≡ 1024 * number → HasRows (rows code kinds (front ++ back) number) k results → HasRows (rows code kinds front number) k results
+pub rows_front : (code : List Instr) (kinds : List Dtype) (front back : List ℕ) (number k : ℕ) (results : List ℤ) → length front ≡ 1024 * number → HasStepResults (step_rows code kinds (front ++ back) number) k results → HasStepResults (step_rows code kinds front number) k results
 rows_front code kinds front back number k results long h = rows_moved code kinds (front ++ back) front number k results (λ t a b fits. sym (element_in_front t front back (1024 * a) k (omega arith))) h
 
-pub rows_behind : (code : List Instr) (kinds : List Dtype) (front back : List ℕ) (number k : ℕ) (results : List ℤ) → length front ≡ 1024 * number → HasRows (rows code kinds front number) k results → HasRows (rows code kinds (front ++ back) number) k results
+pub rows_behind : (code : List Instr) (kinds : List Dtype) (front back : List ℕ) (number k : ℕ) (results : List ℤ) → length front ≡ 1024 * number → HasStepResults (step_rows code kinds front number) k results → HasStepResults (step_rows code kinds (front ++ back) number) k results
 rows_behind code kinds front back number k results long h = rows_moved code kinds front (front ++ back) number k results (λ t a b fits. element_in_front t front back (1024 * a) k (omega arith)) h
 
 -- ---- one step more
 
-pub begin_rows : (code : List Instr) (kinds : List Dtype) (bytes : List ℕ) (load : ℕ → Option ℤ) (k : ℕ) → RowsAt (rows code kinds bytes 0) load k
+pub begin_rows : (code : List Instr) (kinds : List Dtype) (bytes : List ℕ) (load : ℕ → Option ℤ) (k : ℕ) → RowsAt (step_rows code kinds bytes 0) load k
 begin_rows code kinds bytes load k = record { results = []; stand = record { done = refl; each = λ a x i t e is kind. cc }; value = refl }
 
 pub next_rows : (code : List Instr) (kinds : List Dtype) (bank front back row : List ℕ) (number count k : ℕ) (i : Instr) (t : Dtype) (loads : ℕ → ℕ → Option ℤ)
     → bank ≡ front ++ back → length front ≡ 1024 * number → drop number code ≡ i ∷ drop (number + 1) code → slice_get code number ≡ Some i → slice_get kinds number ≡ Some t → k < count
-    → RowsAt (rows code kinds bank number) (loads k) k → Leaves i t (rows code kinds front number) loads count row → RowsAt (rows code kinds (front ++ row) (number + 1)) (loads k) k
+    → RowsAt (step_rows code kinds bank number) (loads k) k → Leaves i t (step_rows code kinds front number) loads count row → RowsAt (step_rows code kinds (front ++ row) (number + 1)) (loads k) k
 next_rows code kinds bank front back row number count k i t loads e long more here kind below at leaves =
     let results = at.results in
-    let P : List ℕ → Type 0 = λ bytes. HasRows (rows code kinds bytes number) k results in
-    let stand : HasRows (rows code kinds front number) k results = rows_front code kinds front back number k results long (subst P e at.stand) in
+    let P : List ℕ → Type 0 = λ bytes. HasStepResults (step_rows code kinds bytes number) k results in
+    let stand : HasStepResults (step_rows code kinds front number) k results = rows_front code kinds front back number k results long (subst P e at.stand) in
     let (x, value, stands) = leaves k results below stand in
     let old = rows_behind code kinds front row number k results long stand in
     let done = stand.done in
@@ -108,7 +108,7 @@ ends_with t out k results None h = absurd h
 ends_with t out k results (Some x) h = let P : Option ℤ → Type 0 = HasValue t out k in subst P (sym (last_pushed results x)) h
 
 pub ended_rows : (code : List Instr) (kinds : List Dtype) (bank out : List ℕ) (last k : ℕ) (i : Instr) (t : Dtype) (loads : ℕ → ℕ → Option ℤ) → drop last code ≡ i ∷ [] → k * size_of t + size_of t ≤ length out
-    → RowsAt (rows code kinds bank last) (loads k) k → Computes i t (rows code kinds bank last) loads out → HasValue t out k (kernel_value code (loads k))
+    → RowsAt (step_rows code kinds bank last) (loads k) k → Computes i t (step_rows code kinds bank last) loads out → HasValue t out k (kernel_value code (loads k))
 ended_rows code kinds bank out last k i t loads e room at computes =
     let P : Option ℤ → Type 0 = HasValue t out k in
     subst P (sym (at.value ∙ ap (λ is. option_and_then last_of (results_from is (loads k) at.results)) e)) (ends_with t out k at.results (instruction_value i (loads k) at.results) (computes k at.results room at.stand))

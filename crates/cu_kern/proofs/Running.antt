@@ -10,7 +10,7 @@ use Rattle.cu_num.specs.declared.layout.Endian.TheVariants.{Little}
 use Rattle.cu_num.specs.declared.types.Dtype.{Dtype}
 use Rattle.cu_op.specs.declared.kernel.Instr.{Instr}
 use Rattle.cu_op.specs.Kernel.{results_from, last_of, kernel_value}
-use Rattle.cu_op.specs.KernelTypes.{Operand, Typed, Gives, KernelFits}
+use Rattle.cu_op.specs.KernelTypes.{Operand, Typed, GivesOperand, KernelFits}
 use Rattle.cu_kern.specs.declared.lays.Lay.{Lay}
 use Rattle.cu_kern.specs.Lays.{lay_types, HasValue}
 use Rattle.cu_kern.specs.Steps.{loaded_by_place, IsOf, HoldsResults, StepHolds, NamesBefore}
@@ -56,7 +56,7 @@ begin b words fits = record {
 
 -- the next step
 next_gives : (b : Block) (words : List ℕ) (number : ℕ) (i : Instr) → Running b words number → drop number b.code ≡ i ∷ drop (number + 1) b.code
-    → (operands : List Operand) × (r : Operand) × (length operands ≡ number) × Gives i b.types operands r × KernelFits (drop (number + 1) b.code) b.types (operands ++ r ∷ []) b.dtype
+    → (operands : List Operand) × (r : Operand) × (length operands ≡ number) × GivesOperand i b.types operands r × KernelFits (drop (number + 1) b.code) b.types (operands ++ r ∷ []) b.dtype
     × ((k : ℕ) → k < b.count → Lane b words operands number k)
 next_gives b words number i run e =
     let P : List Instr → Type 0 = λ is. KernelFits is b.types run.operands b.dtype in

@@ -14,7 +14,7 @@ use Rattle.cu_num.specs.declared.functions.Fn2.{Fn2}
 use Rattle.cu_op.specs.declared.kernel.Instr.{Instr}
 use Rattle.cu_op.specs.declared.kernel.Instr.TheVariants.{Load, Const, One, Two, Select}
 use Rattle.cu_op.specs.Kernel.{selected, instruction_value}
-use Rattle.cu_op.specs.KernelTypes.{Operand, Typed, Literal, HaveType, Gives}
+use Rattle.cu_op.specs.KernelTypes.{Operand, Typed, Literal, HaveType, GivesOperand}
 use Rattle.cu_kern.specs.declared.lays.Lay.{Lay}
 use Rattle.cu_kern.specs.Lays.{lay_types, lay_element, loaded_at}
 use Rattle.cu_kern.specs.Steps.{HasRow, NamesBefore, IsOf, HoldsResults, StepHolds}
@@ -121,7 +121,7 @@ select_holds c a b types load before k u v w word eu ev ew place operands r resu
 named : (rs : List Operand) (a words : ℕ) (r : Operand) → slice_get rs a ≡ Some r → words ≡ 64 * length rs → HasRow words a
 named rs a words r e h = let b = slice_get_within rs a r e in omega arith
 
-pub gives_names : (i : Instr) (types : List Dtype) (rs : List Operand) (r : Operand) (lays words : ℕ) → Gives i types rs r → length types ≡ lays → words ≡ 64 * length rs → NamesBefore i lays words
+pub gives_names : (i : Instr) (types : List Dtype) (rs : List Operand) (r : Operand) (lays words : ℕ) → GivesOperand i types rs r → length types ≡ lays → words ≡ 64 * length rs → NamesBefore i lays words
 gives_names (Load k) types rs r lays words (t, et, er) n h = let b = slice_get_within types k t et in omega arith
 gives_names (Const x) types rs r lays words g n h = tt
 gives_names (One f t a) types rs r lays words (d, ea, arg, acc, er) n h = named rs a words (Typed d) ea h

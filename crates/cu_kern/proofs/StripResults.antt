@@ -1,5 +1,5 @@
 -- The elements of a call, written one by one and in parts.
-use Rattle.std.proofs.Common.{◌≡◌, ℕ, ℤ, ◌+◌, ◌-◌, ◌*◌, ◌/◌, ◌<◌, ◌≤◌, List, length, ap, ◌∙◌, arith, ⊎_elim}
+use Rattle.std.proofs.Common.{◌≡◌, ℕ, ℤ, ◌+◌, ◌-◌, ◌*◌, ◌/◌, ◌<◌, ◌≤◌, List, length, length-append, length-take, length-drop, ap, ◌∙◌, arith, ⊎_elim}
 use Rattle.std.proofs.lemmas.Bool.{cases_lt}
 use borrow.Rule.Slice.PartMut.{put_mid}
 use Rattle.cu_num.specs.Dtype.{size_of}
@@ -32,3 +32,6 @@ part_more r g out part from width n e long fits done more k b =
     let room : j * size_of r + size_of r ≤ length part = omega (arith, one j, e) in
     bytes_inside r from n out part k j (omega (arith, one k, one j)) room (omega arith) ∙ more j room ∙ ap (λ q. element_bytes Little r (g q)) sum)
     (cases_lt k from)
+
+pub length-put_mid : (a n : ℕ) (xs ys : List ℕ) → length ys ≡ n → a + n ≤ length xs → length (put_mid a n xs ys) ≡ length xs
+length-put_mid a n xs ys e h = simp (length-append, length-take, length-drop) (omega arith)

@@ -11,5 +11,5 @@ span Uint64 = 2 ^ 64 - 1
 span t = 2 ^ 32 - 1
 
 -- the number, or the one whose bits are its complement
-abbrev pub flipped : Test → ℤ → ℤ
-flipped below x = if below then pos 0 -ℤ pos 1 -ℤ x else x
+abbrev pub complemented : Test → ℤ → ℤ
+complemented below x = if below then pos 0 -ℤ pos 1 -ℤ x else x

@@ -29,5 +29,5 @@ HasSelected cs xs ys out = (k : ℕ) (t : Dtype) (c x y : ℤ) → k < length ou
 abbrev pub HasWords : Dtype → List ℕ → List ℕ → Type 0
 HasWords t bytes out = (k : ℕ) → k < length out → IsWord t (slice_index out k) (element_at Little t bytes k)
 
-abbrev pub HasElements : Dtype → List ℕ → List ℕ → Type 0
-HasElements t xs out = (k : ℕ) (x : ℤ) → k < length xs → IsWord t (slice_index xs k) x → bytes_at t out k ≡ element_bytes Little t x
+abbrev pub HasBytesOfWords : Dtype → List ℕ → List ℕ → Type 0
+HasBytesOfWords t xs out = (k : ℕ) (x : ℤ) → k < length xs → IsWord t (slice_index xs k) x → bytes_at t out k ≡ element_bytes Little t x

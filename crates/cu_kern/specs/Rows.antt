@@ -18,8 +18,8 @@ pub record Rows : Type 0 where
   pub bytes : List ℕ
   pub number : ℕ
 
-abbrev pub rows : List Instr → List Dtype → List ℕ → ℕ → Rows
-rows code kinds bytes number = record { code = code; kinds = kinds; bytes = bytes; number = number }
+abbrev pub step_rows : List Instr → List Dtype → List ℕ → ℕ → Rows
+step_rows code kinds bytes number = record { code = code; kinds = kinds; bytes = bytes; number = number }
 
 -- a step's result at place k of its row; a literal needs none
 abbrev pub StandsAt : Instr → Dtype → List ℕ → ℕ → ℤ → Type 0
@@ -30,20 +30,20 @@ StandsAt (Two f s a b) t row k x = (k * size_of t + size_of t ≤ 1024) × (elem
 StandsAt (Select c a b) t row k x = (k * size_of t + size_of t ≤ 1024) × (element_at Little t row k ≡ x)
 
 -- the results of the first steps at place k stand in their rows
-pub record HasRows (r : Rows) (k : ℕ) (results : List ℤ) : Type 0 where
+pub record HasStepResults (r : Rows) (k : ℕ) (results : List ℤ) : Type 0 where
   pub done : length results ≡ r.number
   pub each : (a : ℕ) (x : ℤ) (i : Instr) (t : Dtype) → slice_get results a ≡ Some x → slice_get r.code a ≡ Some i → slice_get r.kinds a ≡ Some t → StandsAt i t (drop (1024 * a) r.bytes) k x
 
 -- at each place of `out` there is the step's value over the results that stand in the rows
 abbrev pub Computes : Instr → Dtype → Rows → (ℕ → ℕ → Option ℤ) → List ℕ → Type 0
-Computes i t r loads out = (k : ℕ) (results : List ℤ) → k * size_of t + size_of t ≤ length out → HasRows r k results → HasValue t out k (instruction_value i (loads k) results)
+Computes i t r loads out = (k : ℕ) (results : List ℤ) → k * size_of t + size_of t ≤ length out → HasStepResults r k results → HasValue t out k (instruction_value i (loads k) results)
 
 -- the results of the first steps at place k, with which the rest gives the kernel's value
 pub record RowsAt (r : Rows) (load : ℕ → Option ℤ) (k : ℕ) : Type 0 where
   pub results : List ℤ
-  pub stand : HasRows r k results
+  pub stand : HasStepResults r k results
   pub value : kernel_value r.code load ≡ option_and_then last_of (results_from (drop r.number r.code) load results)
 
 -- at the first places of its row a step's result stands, whatever the results before it are that stand in the rows
 abbrev pub Leaves : Instr → Dtype → Rows → (ℕ → ℕ → Option ℤ) → ℕ → List ℕ → Type 0
-Leaves i t r loads count row = (k : ℕ) (results : List ℤ) → k < count → HasRows r k results → (x : ℤ) × (instruction_value i (loads k) results ≡ Some x) × StandsAt i t row k x
+Leaves i t r loads count row = (k : ℕ) (results : List ℤ) → k < count → HasStepResults r k results → (x : ℤ) × (instruction_value i (loads k) results ≡ Some x) × StandsAt i t row k x

@@ -8,7 +8,7 @@ use Rattle.cu_shape.specs.Index.{index_at}
 use Rattle.cu_op.specs.declared.kernel.Instr.{Instr}
 use Rattle.cu_op.specs.declared.kernel.Instr.TheVariants.{Load, Const, One, Two, Select}
 use Rattle.cu_op.specs.Kernel.{instruction_value, kernel_value}
-use Rattle.cu_op.specs.KernelTypes.{Operand, Typed, Literal, Gives}
+use Rattle.cu_op.specs.KernelTypes.{Operand, Typed, Literal, GivesOperand}
 use Rattle.cu_kern.specs.declared.lays.Lay.{Lay}
 use Rattle.cu_kern.specs.Lays.{loaded_at}
 
@@ -43,5 +43,5 @@ HoldsResults words k results = (a : ℕ) (x : ℤ) → slice_get results a ≡ S
 
 -- what a step leaves at place k, whatever the results before it are that these words hold
 abbrev pub StepHolds : Instr → List Dtype → (ℕ → Option ℤ) → List ℕ → ℕ → ℕ → Type 0
-StepHolds i types load before k word = (operands : List Operand) (r : Operand) (results : List ℤ) → Gives i types operands r → AllZip IsOf operands results
+StepHolds i types load before k word = (operands : List Operand) (r : Operand) (results : List ℤ) → GivesOperand i types operands r → AllZip IsOf operands results
     → HoldsResults before k results → (x : ℤ) × (instruction_value i load results ≡ Some x) × IsOf r x × (word ≡ word_of x)

@@ -4,7 +4,7 @@ ghost use Rattle.cu_num.specs.Dtype.{size_of};
 ghost use Rattle.cu_shape.specs.Index.{product};
 ghost use Rattle.cu_kern.specs.Lays.{LayFits, HasValue};
 ghost use Rattle.cu_kern.specs.Steps.{loaded_by_place, value_by_place};
-ghost use Rattle.cu_kern.specs.Rows.{rows, RowsAt};
+ghost use Rattle.cu_kern.specs.Rows.{step_rows, RowsAt};
 
 use crate::lays::Lay;
 use crate::rows::{Earlier, Span, WIDTH, is_literal, kind_at, leave_row, row_of_step, step_at};
@@ -30,7 +30,7 @@ fn leave_rows(plan: Plan<'_>, inputs: Inputs<'_>, span: Span, last: usize, bank:
     requires lays { All (LayFits inputs.dims.now (length inputs.ins.now)) inputs.lays.now }
     requires small { product inputs.dims.now < 2 ^ 63 }
     requires within { span.from + span.count ≤ product inputs.dims.now }
-    ensures { IsTrue result → (k : ℕ) → k < span.count → RowsAt (rows plan.entry.code.now plan.entry.kinds.now bank.new last)
+    ensures { IsTrue result → (k : ℕ) → k < span.count → RowsAt (step_rows plan.entry.code.now plan.entry.kinds.now bank.new last)
         (loaded_by_place inputs.entry.lays.now inputs.entry.ins.now inputs.entry.dims.now (span.from + k)) k }
 {
     for number in 0..last {

@@ -18,8 +18,48 @@ use cu_num::{Dtype, Fn1, Fn2, size};
 use cu_op::Instr;
 use cu_shape::Dims;
 
-/// The elements of a call over regions of its types.
-fn pieces(call: Call, x: Source<'_>, y: Source<'_>, z: Source<'_>, dims: &Dims, out: &mut [u8])
+/// The elements of a call of at most two arguments over regions of their types; a call of one takes its own twice.
+fn pieces(call: Call, x: Source<'_>, y: Source<'_>, dims: &Dims, out: &mut [u8])
+    requires call { IsCall call }
+    requires first { IsSource (first_type call) dims.now x.lay.now x.ins.now }
+    requires second { IsSource (other_type call) dims.now y.lay.now y.ins.now }
+    requires out { length out.old ≡ product dims.now * size_of (call_type call) }
+    ensures { (p : ℕ) → p < product dims.now → HasValue (call_type call) out.new p
+        (Some (call_value call (lay_element x.entry.lay.now x.entry.ins.now (index_at dims.now p)) (lay_element y.entry.lay.now y.entry.ins.now (index_at dims.now p))
+        (lay_element y.entry.lay.now y.entry.ins.now (index_at dims.now p)))) }
+{
+    let size = size(call_type(call)) as usize;
+    let all = out.len() / size;
+    if all == 0 {
+        return;
+    }
+    let x_pace = pace_of(&x.lay.dims, dims);
+    let y_pace = pace_of(&y.lay.dims, dims);
+    let mut done = 0;
+    let mut x_at = 0;
+    let mut y_at = 0;
+    while done < all {
+        let left = left_at(x_pace, x_at).min(left_at(y_pace, y_at));
+        let count = (all - done).min(left as usize);
+        let first = strip_in_period(x, x_pace, dims, x_at, count);
+        let second = strip_in_period(y, y_pace, dims, y_at, count);
+        let part = &mut out[done * size..(done + count) * size];
+        call_strips(call, first, second, second, part);
+        done += count;
+        x_at = place_after(x_pace, x_at, count);
+        y_at = place_after(y_pace, y_at, count);
+    }
+}
+
+/// `pieces` of a call of three arguments: in short rows a third that isn't read would take as long as one that is.
+fn pieces_of_three(
+    call: Call,
+    x: Source<'_>,
+    y: Source<'_>,
+    z: Source<'_>,
+    dims: &Dims,
+    out: &mut [u8],
+)
     requires call { IsCall call }
     requires first { IsSource (first_type call) dims.now x.lay.now x.ins.now }
     requires second { IsSource (other_type call) dims.now y.lay.now y.ins.now }
@@ -144,7 +184,7 @@ fn one_region(f: Fn1, t: Dtype, k: u32, inputs: Inputs<'_>, out: &mut [u8]) -> b
         ins: inputs.ins,
     };
     let call = Call::One(f, lay.dtype, t);
-    pieces(call, source, source, source, inputs.dims, out);
+    pieces(call, source, source, inputs.dims, out);
     true
 }
 
@@ -170,12 +210,7 @@ fn run_two(
     let Some(y) = source_of(second, t, inputs, &second_literal) else {
         return false;
     };
-    // A region of one element, whose place needs no division: a function of two arguments reads no third.
-    let none = Source {
-        lay: &second_literal.lay,
-        ins: &second_literal.bytes,
-    };
-    pieces(Call::Two(f, t), x, y, none, inputs.dims, out);
+    pieces(Call::Two(f, t), x, y, inputs.dims, out);
     true
 }
 
@@ -205,6 +240,6 @@ fn run_select(
     let Some(z) = source_of(third, t, inputs, &third_literal) else {
         return false;
     };
-    pieces(Call::Select(t), x, y, z, inputs.dims, out);
+    pieces_of_three(Call::Select(t), x, y, z, inputs.dims, out);
     true
 }

@@ -3,7 +3,7 @@ ghost use Rattle.std.specs.Prelude.{◌≡◌, ◌<ℤ◌, ◌≤ℤ◌, ◌^◌
 ghost use Rattle.std.specs.Int.{int_div_euclid};
 ghost use Rattle.cu_num.specs.Dtype.{InRange};
 ghost use Rattle.cu_num.specs.Division.{floor_quotient};
-ghost use Rattle.cu_kern.specs.Division.{span, flipped};
+ghost use Rattle.cu_kern.specs.Division.{span, complemented};
 
 use cu_num::{Dtype, size};
 
@@ -50,7 +50,7 @@ fn round_down(t: Dtype, x: i128, y: i128) -> i128
 fn flip(below: bool, x: i128) -> i128
     requires least { neg_ℤ (pos (2 ^ 64)) ≤ℤ x }
     requires most { x ≤ℤ pos (2 ^ 64) }
-    ensures { result ≡ flipped below x }
+    ensures { result ≡ complemented below x }
 {
     if below { -1 - x } else { x }
 }

@@ -1,7 +1,7 @@
 //! Loops over words, one for each function and type: the calls give both as literals, and the loops are built for them.
 ghost use Rattle.std.specs.Prelude.{◌≡◌, ◌*◌, length};
 ghost use Rattle.cu_num.specs.Dtype.{size_of};
-ghost use Rattle.cu_kern.specs.Lanes.{HasValues1, HasValues2, HasWords, HasElements};
+ghost use Rattle.cu_kern.specs.Lanes.{HasValues1, HasValues2, HasWords, HasBytesOfWords};
 
 use cu_num::{Dtype, Fn1, Fn2, load, number, save, scalar1, scalar2, word};
 
@@ -78,7 +78,7 @@ pub(crate) fn load_each(t: Dtype, bytes: &[u8], out: &mut [u64])
 #[inline(always)]
 pub(crate) fn save_each(t: Dtype, x: &[u64], out: &mut [u8])
     requires { length out.old ≡ length x.now * size_of t }
-    ensures { HasElements t x.now out.new }
+    ensures { HasBytesOfWords t x.now out.new }
 {
     for at in 0..x.len() {
         save(t, number(t, x[at]), out, at);

@@ -1,7 +1,7 @@
 //! Calls on words that choose, load, save and fill. Those of a function stand in `lane_functions`.
 ghost use Rattle.std.specs.Prelude.{◌≡◌, ◌*◌, ◌==◌, ℕ, ◌<◌, if◌then◌else◌, length, slice_index};
 ghost use Rattle.cu_num.specs.Dtype.{size_of};
-ghost use Rattle.cu_kern.specs.Lanes.{HasSelected, HasWords, HasElements};
+ghost use Rattle.cu_kern.specs.Lanes.{HasSelected, HasWords, HasBytesOfWords};
 
 use crate::lane_loops::{load_each, save_each};
 use cu_num::Dtype;
@@ -49,7 +49,7 @@ pub(crate) fn lane_load(t: Dtype, bytes: &[u8], out: &mut [u64])
 #[inline(never)]
 pub(crate) fn lane_save(t: Dtype, x: &[u64], out: &mut [u8])
     requires { length out.old ≡ length x.now * size_of t }
-    ensures { HasElements t x.now out.new }
+    ensures { HasBytesOfWords t x.now out.new }
 {
     match t {
         Dtype::Bool => save_each(Dtype::Bool, x, out),

@@ -12,7 +12,7 @@ ghost use Rattle.cu_op.specs.KernelTypes.{IsArgument};
 ghost use Rattle.cu_kern.specs.Lays.{LayFits, HasValue, lay_element};
 ghost use Rattle.cu_kern.specs.Strips.{strip, strip_element, HasPlaces};
 ghost use Rattle.cu_kern.specs.Steps.{loaded_by_place};
-ghost use Rattle.cu_kern.specs.Rows.{rows, Rows, HasRows, Computes, Leaves};
+ghost use Rattle.cu_kern.specs.Rows.{step_rows, Rows, HasStepResults, Computes, Leaves};
 
 use crate::calls::Call;
 use crate::lays::{Lay, pace_of};
@@ -106,7 +106,7 @@ fn argument<'a>(
     requires literal { (y : ℤ) → slice_get earlier.code.now a ≡ Some (Const y) → InRange t y → element_at Little t literal.now 0 ≡ y }
     ensures places { IfSome result (λ s. HasPlaces t (strip s.bytes.now s.step) count) }
     ensures elements { IfSome result (λ s. (k : ℕ) (results : List ℤ) → k < count
-        → HasRows (rows earlier.entry.code.now earlier.entry.kinds.now earlier.entry.bytes.now earlier.entry.number) k results
+        → HasStepResults (step_rows earlier.entry.code.now earlier.entry.kinds.now earlier.entry.bytes.now earlier.entry.number) k results
         → slice_get results a ≡ Some (strip_element t (strip s.bytes.now s.step) k)) }
 {
     let at = a as usize;
@@ -151,7 +151,7 @@ fn takes(f: Fn1, origin: Dtype, t: Dtype) -> bool
 /// A function of an earlier step; `false` where types differ.
 fn row_of_one(f: Fn1, t: Dtype, a: u32, earlier: Earlier<'_>, out: &mut [u8]) -> bool
     ensures { IsTrue result → (loads : ℕ → ℕ → Option ℤ)
-        → Computes (One f t a) (result_type1 f t) (rows earlier.entry.code.now earlier.entry.kinds.now earlier.entry.bytes.now earlier.entry.number) loads out.new }
+        → Computes (One f t a) (result_type1 f t) (step_rows earlier.entry.code.now earlier.entry.kinds.now earlier.entry.bytes.now earlier.entry.number) loads out.new }
 {
     let origin = kind_at(earlier.kinds, a);
     if !takes(f, origin, t) {
@@ -169,7 +169,7 @@ fn row_of_one(f: Fn1, t: Dtype, a: u32, earlier: Earlier<'_>, out: &mut [u8]) ->
 /// A function of two earlier steps; `false` where types differ.
 fn row_of_two(f: Fn2, t: Dtype, a: u32, b: u32, earlier: Earlier<'_>, out: &mut [u8]) -> bool
     ensures { IsTrue result → (loads : ℕ → ℕ → Option ℤ)
-        → Computes (Two f t a b) (result_type2 f t) (rows earlier.entry.code.now earlier.entry.kinds.now earlier.entry.bytes.now earlier.entry.number) loads out.new }
+        → Computes (Two f t a b) (result_type2 f t) (step_rows earlier.entry.code.now earlier.entry.kinds.now earlier.entry.bytes.now earlier.entry.number) loads out.new }
 {
     let count = out.len() / size(result2(f, t)) as usize;
     let first_literal = literal_bytes(step_at(earlier.code, a), t);
@@ -187,7 +187,7 @@ fn row_of_two(f: Fn2, t: Dtype, a: u32, b: u32, earlier: Earlier<'_>, out: &mut 
 /// A choice of two earlier steps by a third; `false` where types differ.
 fn row_of_select(c: u32, a: u32, b: u32, t: Dtype, earlier: Earlier<'_>, out: &mut [u8]) -> bool
     ensures { IsTrue result → (loads : ℕ → ℕ → Option ℤ)
-        → Computes (Select c a b) t (rows earlier.entry.code.now earlier.entry.kinds.now earlier.entry.bytes.now earlier.entry.number) loads out.new }
+        → Computes (Select c a b) t (step_rows earlier.entry.code.now earlier.entry.kinds.now earlier.entry.bytes.now earlier.entry.number) loads out.new }
 {
     let count = out.len() / size(t) as usize;
     let choice_literal = literal_bytes(step_at(earlier.code, c), Dtype::Bool);
@@ -274,7 +274,7 @@ pub(crate) fn row_of_step(
     requires small { product inputs.dims.now < 2 ^ 63 }
     requires within { span.from + span.count ≤ product inputs.dims.now }
     requires room { length out.old ≡ span.count * size_of t }
-    ensures { IsTrue result → Computes instr t (rows earlier.entry.code.now earlier.entry.kinds.now earlier.entry.bytes.now earlier.entry.number)
+    ensures { IsTrue result → Computes instr t (step_rows earlier.entry.code.now earlier.entry.kinds.now earlier.entry.bytes.now earlier.entry.number)
         (λ k. loaded_by_place inputs.entry.lays.now inputs.entry.ins.now inputs.entry.dims.now (span.from + k)) out.new }
 {
     match instr {
@@ -303,7 +303,7 @@ pub(crate) fn leave_row(
     requires lays { All (LayFits inputs.dims.now (length inputs.ins.now)) inputs.lays.now }
     requires small { product inputs.dims.now < 2 ^ 63 }
     requires within { span.from + span.count ≤ product inputs.dims.now }
-    ensures { IsTrue result → Leaves instr t (rows earlier.entry.code.now earlier.entry.kinds.now earlier.entry.bytes.now earlier.entry.number)
+    ensures { IsTrue result → Leaves instr t (step_rows earlier.entry.code.now earlier.entry.kinds.now earlier.entry.bytes.now earlier.entry.number)
         (λ k. loaded_by_place inputs.entry.lays.now inputs.entry.ins.now inputs.entry.dims.now (span.from + k)) span.count row.new }
 {
     match instr {
@@ -325,7 +325,7 @@ fn leave_computed(
     requires lays { All (LayFits inputs.dims.now (length inputs.ins.now)) inputs.lays.now }
     requires small { product inputs.dims.now < 2 ^ 63 }
     requires within { span.from + span.count ≤ product inputs.dims.now }
-    ensures { IsTrue result → Leaves instr t (rows earlier.entry.code.now earlier.entry.kinds.now earlier.entry.bytes.now earlier.entry.number)
+    ensures { IsTrue result → Leaves instr t (step_rows earlier.entry.code.now earlier.entry.kinds.now earlier.entry.bytes.now earlier.entry.number)
         (λ k. loaded_by_place inputs.entry.lays.now inputs.entry.ins.now inputs.entry.dims.now (span.from + k)) span.count row.new }
 {
     if !fits_row(t, t, span.count) {

@@ -1,5 +1,5 @@
 //! What a kernel reads: regions and literals, along runs of places.
-ghost use Rattle.std.specs.Prelude.{◌≡◌, ◌+◌, ◌-◌, ◌*◌, ◌%◌, ◌^◌, ◌≤◌, ◌<◌, ◌==◌, if◌then◌else◌, ℕ, ℤ, List, [], All, IfSome, Some, length};
+ghost use Rattle.std.specs.Prelude.{◌≡◌, ◌+◌, ◌-◌, ◌*◌, ◌%◌, ◌^◌, ◌≤◌, ◌<◌, ◌==◌, if◌then◌else◌, min, ℕ, ℤ, List, [], All, IfSome, Some, length};
 ghost use Rattle.cu_num.specs.Dtype.{InRange};
 ghost use Rattle.cu_num.specs.Element.{element_at};
 ghost use Rattle.cu_num.specs.declared.layout.Endian.TheVariants.{Little};
@@ -124,6 +124,7 @@ pub(crate) fn strip_in_period<'a>(
 pub(crate) fn left_at(pace: Pace, at: u64) -> u64
     requires some { 0 < pace.run }
     requires inside { at < pace.period }
+    ensures value { result ≡ min (pace.run - at % pace.run) (pace.period - at) }
     ensures some { 0 < result }
     ensures row { at % pace.run + result ≤ pace.run }
     ensures period { at + result ≤ pace.period }

@@ -4,14 +4,14 @@ ghost use Rattle.cu_kern.specs.Strips.{strip, IsCall, HasArguments, HasResults};
 
 use crate::calls::Call;
 use crate::strip_loops::{
-    astype_by_types, compare_by_type, compare_long, one_by_type, pair_by_type, select_by_type,
+    astype_by_types, compare_long_by_type, compare_short_by_type, one_by_type, pair_by_type,
+    select_by_type,
 };
 use crate::strips::Strip;
 use cu_num::{Dtype, Fn1, Fn2};
 
-/// From so many elements on a comparison of 32 or 64 bits takes more of them in a step: the arguments of shorter runs lie in the
-/// nearest cache, where that gains nothing.
-const LONG: usize = 1024;
+/// From so many elements on a comparison has longer steps.
+const LONG: usize = 128;
 
 /// The elements of a call along a run.
 pub(crate) fn call_strips(call: Call, x: Strip<'_>, y: Strip<'_>, z: Strip<'_>, out: &mut [u8])
@@ -221,31 +221,18 @@ fn pair_equal(t: Dtype, x: &[u8], x_step: usize, y: &[u8], y_step: usize, out: &
     requires arguments { HasArguments (Call.Two Fn2.Equal t) (strip x.now x_step) (strip y.now y_step) (strip y.now y_step) (length out.old) }
     ensures { HasResults (Call.Two Fn2.Equal t) (strip x.now x_step) (strip y.now y_step) (strip y.now y_step) out.new }
 {
-    if x_step == 1 {
-        if out.len() >= LONG {
-            long_equal(t, x, y, y_step, out);
-            return;
+    if x_step == 0 || out.len() < 16 {
+        pair_by_type(Fn2::Equal, t, x, x_step, y, y_step, out);
+    } else if y_step == 0 {
+        if out.len() < LONG {
+            compare_short_by_type(Fn2::Equal, t, x, y, 0, out);
+        } else {
+            compare_long_by_type(Fn2::Equal, t, x, y, 0, out);
         }
-        if out.len() >= 16 {
-            compare_by_type(Fn2::Equal, t, x, y, y_step, out);
-            return;
-        }
-    }
-    pair_by_type(Fn2::Equal, t, x, x_step, y, y_step, out);
-}
-
-#[inline(never)]
-fn long_equal(t: Dtype, x: &[u8], y: &[u8], y_step: usize, out: &mut [u8])
-    requires long { 1024 ≤ length out.old }
-    requires arguments { HasArguments (Call.Two Fn2.Equal t) (strip x.now 1) (strip y.now y_step) (strip y.now y_step) (length out.old) }
-    ensures { HasResults (Call.Two Fn2.Equal t) (strip x.now 1) (strip y.now y_step) (strip y.now y_step) out.new }
-{
-    match t {
-        Dtype::Int32 => compare_long(Fn2::Equal, Dtype::Int32, x, y, y_step, out),
-        Dtype::Int64 => compare_long(Fn2::Equal, Dtype::Int64, x, y, y_step, out),
-        Dtype::Uint32 => compare_long(Fn2::Equal, Dtype::Uint32, x, y, y_step, out),
-        Dtype::Uint64 => compare_long(Fn2::Equal, Dtype::Uint64, x, y, y_step, out),
-        _ => compare_by_type(Fn2::Equal, t, x, y, y_step, out),
+    } else if out.len() < LONG {
+        compare_short_by_type(Fn2::Equal, t, x, y, 1, out);
+    } else {
+        compare_long_by_type(Fn2::Equal, t, x, y, 1, out);
     }
 }
 
@@ -254,31 +241,18 @@ fn pair_not_equal(t: Dtype, x: &[u8], x_step: usize, y: &[u8], y_step: usize, ou
     requires arguments { HasArguments (Call.Two Fn2.NotEqual t) (strip x.now x_step) (strip y.now y_step) (strip y.now y_step) (length out.old) }
     ensures { HasResults (Call.Two Fn2.NotEqual t) (strip x.now x_step) (strip y.now y_step) (strip y.now y_step) out.new }
 {
-    if x_step == 1 {
-        if out.len() >= LONG {
-            long_not_equal(t, x, y, y_step, out);
-            return;
+    if x_step == 0 || out.len() < 16 {
+        pair_by_type(Fn2::NotEqual, t, x, x_step, y, y_step, out);
+    } else if y_step == 0 {
+        if out.len() < LONG {
+            compare_short_by_type(Fn2::NotEqual, t, x, y, 0, out);
+        } else {
+            compare_long_by_type(Fn2::NotEqual, t, x, y, 0, out);
         }
-        if out.len() >= 16 {
-            compare_by_type(Fn2::NotEqual, t, x, y, y_step, out);
-            return;
-        }
-    }
-    pair_by_type(Fn2::NotEqual, t, x, x_step, y, y_step, out);
-}
-
-#[inline(never)]
-fn long_not_equal(t: Dtype, x: &[u8], y: &[u8], y_step: usize, out: &mut [u8])
-    requires long { 1024 ≤ length out.old }
-    requires arguments { HasArguments (Call.Two Fn2.NotEqual t) (strip x.now 1) (strip y.now y_step) (strip y.now y_step) (length out.old) }
-    ensures { HasResults (Call.Two Fn2.NotEqual t) (strip x.now 1) (strip y.now y_step) (strip y.now y_step) out.new }
-{
-    match t {
-        Dtype::Int32 => compare_long(Fn2::NotEqual, Dtype::Int32, x, y, y_step, out),
-        Dtype::Int64 => compare_long(Fn2::NotEqual, Dtype::Int64, x, y, y_step, out),
-        Dtype::Uint32 => compare_long(Fn2::NotEqual, Dtype::Uint32, x, y, y_step, out),
-        Dtype::Uint64 => compare_long(Fn2::NotEqual, Dtype::Uint64, x, y, y_step, out),
-        _ => compare_by_type(Fn2::NotEqual, t, x, y, y_step, out),
+    } else if out.len() < LONG {
+        compare_short_by_type(Fn2::NotEqual, t, x, y, 1, out);
+    } else {
+        compare_long_by_type(Fn2::NotEqual, t, x, y, 1, out);
     }
 }
 
@@ -287,31 +261,18 @@ fn pair_less(t: Dtype, x: &[u8], x_step: usize, y: &[u8], y_step: usize, out: &m
     requires arguments { HasArguments (Call.Two Fn2.Less t) (strip x.now x_step) (strip y.now y_step) (strip y.now y_step) (length out.old) }
     ensures { HasResults (Call.Two Fn2.Less t) (strip x.now x_step) (strip y.now y_step) (strip y.now y_step) out.new }
 {
-    if x_step == 1 {
-        if out.len() >= LONG {
-            long_less(t, x, y, y_step, out);
-            return;
+    if x_step == 0 || out.len() < 16 {
+        pair_by_type(Fn2::Less, t, x, x_step, y, y_step, out);
+    } else if y_step == 0 {
+        if out.len() < LONG {
+            compare_short_by_type(Fn2::Less, t, x, y, 0, out);
+        } else {
+            compare_long_by_type(Fn2::Less, t, x, y, 0, out);
         }
-        if out.len() >= 16 {
-            compare_by_type(Fn2::Less, t, x, y, y_step, out);
-            return;
-        }
-    }
-    pair_by_type(Fn2::Less, t, x, x_step, y, y_step, out);
-}
-
-#[inline(never)]
-fn long_less(t: Dtype, x: &[u8], y: &[u8], y_step: usize, out: &mut [u8])
-    requires long { 1024 ≤ length out.old }
-    requires arguments { HasArguments (Call.Two Fn2.Less t) (strip x.now 1) (strip y.now y_step) (strip y.now y_step) (length out.old) }
-    ensures { HasResults (Call.Two Fn2.Less t) (strip x.now 1) (strip y.now y_step) (strip y.now y_step) out.new }
-{
-    match t {
-        Dtype::Int32 => compare_long(Fn2::Less, Dtype::Int32, x, y, y_step, out),
-        Dtype::Int64 => compare_long(Fn2::Less, Dtype::Int64, x, y, y_step, out),
-        Dtype::Uint32 => compare_long(Fn2::Less, Dtype::Uint32, x, y, y_step, out),
-        Dtype::Uint64 => compare_long(Fn2::Less, Dtype::Uint64, x, y, y_step, out),
-        _ => compare_by_type(Fn2::Less, t, x, y, y_step, out),
+    } else if out.len() < LONG {
+        compare_short_by_type(Fn2::Less, t, x, y, 1, out);
+    } else {
+        compare_long_by_type(Fn2::Less, t, x, y, 1, out);
     }
 }
 
@@ -320,31 +281,18 @@ fn pair_less_equal(t: Dtype, x: &[u8], x_step: usize, y: &[u8], y_step: usize, o
     requires arguments { HasArguments (Call.Two Fn2.LessEqual t) (strip x.now x_step) (strip y.now y_step) (strip y.now y_step) (length out.old) }
     ensures { HasResults (Call.Two Fn2.LessEqual t) (strip x.now x_step) (strip y.now y_step) (strip y.now y_step) out.new }
 {
-    if x_step == 1 {
-        if out.len() >= LONG {
-            long_less_equal(t, x, y, y_step, out);
-            return;
+    if x_step == 0 || out.len() < 16 {
+        pair_by_type(Fn2::LessEqual, t, x, x_step, y, y_step, out);
+    } else if y_step == 0 {
+        if out.len() < LONG {
+            compare_short_by_type(Fn2::LessEqual, t, x, y, 0, out);
+        } else {
+            compare_long_by_type(Fn2::LessEqual, t, x, y, 0, out);
         }
-        if out.len() >= 16 {
-            compare_by_type(Fn2::LessEqual, t, x, y, y_step, out);
-            return;
-        }
-    }
-    pair_by_type(Fn2::LessEqual, t, x, x_step, y, y_step, out);
-}
-
-#[inline(never)]
-fn long_less_equal(t: Dtype, x: &[u8], y: &[u8], y_step: usize, out: &mut [u8])
-    requires long { 1024 ≤ length out.old }
-    requires arguments { HasArguments (Call.Two Fn2.LessEqual t) (strip x.now 1) (strip y.now y_step) (strip y.now y_step) (length out.old) }
-    ensures { HasResults (Call.Two Fn2.LessEqual t) (strip x.now 1) (strip y.now y_step) (strip y.now y_step) out.new }
-{
-    match t {
-        Dtype::Int32 => compare_long(Fn2::LessEqual, Dtype::Int32, x, y, y_step, out),
-        Dtype::Int64 => compare_long(Fn2::LessEqual, Dtype::Int64, x, y, y_step, out),
-        Dtype::Uint32 => compare_long(Fn2::LessEqual, Dtype::Uint32, x, y, y_step, out),
-        Dtype::Uint64 => compare_long(Fn2::LessEqual, Dtype::Uint64, x, y, y_step, out),
-        _ => compare_by_type(Fn2::LessEqual, t, x, y, y_step, out),
+    } else if out.len() < LONG {
+        compare_short_by_type(Fn2::LessEqual, t, x, y, 1, out);
+    } else {
+        compare_long_by_type(Fn2::LessEqual, t, x, y, 1, out);
     }
 }
 
@@ -353,31 +301,18 @@ fn pair_greater(t: Dtype, x: &[u8], x_step: usize, y: &[u8], y_step: usize, out:
     requires arguments { HasArguments (Call.Two Fn2.Greater t) (strip x.now x_step) (strip y.now y_step) (strip y.now y_step) (length out.old) }
     ensures { HasResults (Call.Two Fn2.Greater t) (strip x.now x_step) (strip y.now y_step) (strip y.now y_step) out.new }
 {
-    if x_step == 1 {
-        if out.len() >= LONG {
-            long_greater(t, x, y, y_step, out);
-            return;
+    if x_step == 0 || out.len() < 16 {
+        pair_by_type(Fn2::Greater, t, x, x_step, y, y_step, out);
+    } else if y_step == 0 {
+        if out.len() < LONG {
+            compare_short_by_type(Fn2::Greater, t, x, y, 0, out);
+        } else {
+            compare_long_by_type(Fn2::Greater, t, x, y, 0, out);
         }
-        if out.len() >= 16 {
-            compare_by_type(Fn2::Greater, t, x, y, y_step, out);
-            return;
-        }
-    }
-    pair_by_type(Fn2::Greater, t, x, x_step, y, y_step, out);
-}
-
-#[inline(never)]
-fn long_greater(t: Dtype, x: &[u8], y: &[u8], y_step: usize, out: &mut [u8])
-    requires long { 1024 ≤ length out.old }
-    requires arguments { HasArguments (Call.Two Fn2.Greater t) (strip x.now 1) (strip y.now y_step) (strip y.now y_step) (length out.old) }
-    ensures { HasResults (Call.Two Fn2.Greater t) (strip x.now 1) (strip y.now y_step) (strip y.now y_step) out.new }
-{
-    match t {
-        Dtype::Int32 => compare_long(Fn2::Greater, Dtype::Int32, x, y, y_step, out),
-        Dtype::Int64 => compare_long(Fn2::Greater, Dtype::Int64, x, y, y_step, out),
-        Dtype::Uint32 => compare_long(Fn2::Greater, Dtype::Uint32, x, y, y_step, out),
-        Dtype::Uint64 => compare_long(Fn2::Greater, Dtype::Uint64, x, y, y_step, out),
-        _ => compare_by_type(Fn2::Greater, t, x, y, y_step, out),
+    } else if out.len() < LONG {
+        compare_short_by_type(Fn2::Greater, t, x, y, 1, out);
+    } else {
+        compare_long_by_type(Fn2::Greater, t, x, y, 1, out);
     }
 }
 
@@ -386,31 +321,18 @@ fn pair_greater_equal(t: Dtype, x: &[u8], x_step: usize, y: &[u8], y_step: usize
     requires arguments { HasArguments (Call.Two Fn2.GreaterEqual t) (strip x.now x_step) (strip y.now y_step) (strip y.now y_step) (length out.old) }
     ensures { HasResults (Call.Two Fn2.GreaterEqual t) (strip x.now x_step) (strip y.now y_step) (strip y.now y_step) out.new }
 {
-    if x_step == 1 {
-        if out.len() >= LONG {
-            long_greater_equal(t, x, y, y_step, out);
-            return;
+    if x_step == 0 || out.len() < 16 {
+        pair_by_type(Fn2::GreaterEqual, t, x, x_step, y, y_step, out);
+    } else if y_step == 0 {
+        if out.len() < LONG {
+            compare_short_by_type(Fn2::GreaterEqual, t, x, y, 0, out);
+        } else {
+            compare_long_by_type(Fn2::GreaterEqual, t, x, y, 0, out);
         }
-        if out.len() >= 16 {
-            compare_by_type(Fn2::GreaterEqual, t, x, y, y_step, out);
-            return;
-        }
-    }
-    pair_by_type(Fn2::GreaterEqual, t, x, x_step, y, y_step, out);
-}
-
-#[inline(never)]
-fn long_greater_equal(t: Dtype, x: &[u8], y: &[u8], y_step: usize, out: &mut [u8])
-    requires long { 1024 ≤ length out.old }
-    requires arguments { HasArguments (Call.Two Fn2.GreaterEqual t) (strip x.now 1) (strip y.now y_step) (strip y.now y_step) (length out.old) }
-    ensures { HasResults (Call.Two Fn2.GreaterEqual t) (strip x.now 1) (strip y.now y_step) (strip y.now y_step) out.new }
-{
-    match t {
-        Dtype::Int32 => compare_long(Fn2::GreaterEqual, Dtype::Int32, x, y, y_step, out),
-        Dtype::Int64 => compare_long(Fn2::GreaterEqual, Dtype::Int64, x, y, y_step, out),
-        Dtype::Uint32 => compare_long(Fn2::GreaterEqual, Dtype::Uint32, x, y, y_step, out),
-        Dtype::Uint64 => compare_long(Fn2::GreaterEqual, Dtype::Uint64, x, y, y_step, out),
-        _ => compare_by_type(Fn2::GreaterEqual, t, x, y, y_step, out),
+    } else if out.len() < LONG {
+        compare_short_by_type(Fn2::GreaterEqual, t, x, y, 1, out);
+    } else {
+        compare_long_by_type(Fn2::GreaterEqual, t, x, y, 1, out);
     }
 }
 

@@ -6,7 +6,7 @@ ghost use Rattle.cu_num.specs.declared.types.Dtype.TheVariants.{Bool};
 ghost use Rattle.cu_kern.specs.Strips.{strip, IsCall, HasArguments, HasResults};
 
 use crate::calls::Call;
-use crate::strips::{Strip, compare_each, compare_fours, one_from, pair_each, select_from};
+use crate::strips::{Strip, compare_long, compare_short, one_from, pair_each, select_from};
 use cu_num::{Dtype, Fn1, Fn2};
 
 /// A function of one argument other than `Astype`, with loops for each type.
@@ -95,52 +95,57 @@ pub(crate) fn pair_by_type(
 
 /// A function of at least sixteen arguments of which the first move on, that gives truth values, with loops for each type.
 #[inline(always)]
-pub(crate) fn compare_by_type(f: Fn2, t: Dtype, x: &[u8], y: &[u8], y_step: usize, out: &mut [u8])
+pub(crate) fn compare_short_by_type(
+    f: Fn2,
+    t: Dtype,
+    x: &[u8],
+    y: &[u8],
+    y_step: usize,
+    out: &mut [u8],
+)
     requires truth { result_type2 f t ≡ Bool }
     requires some { 16 ≤ length out.old }
     requires arguments { HasArguments (Call.Two f t) (strip x.now 1) (strip y.now y_step) (strip y.now y_step) (length out.old) }
     ensures { HasResults (Call.Two f t) (strip x.now 1) (strip y.now y_step) (strip y.now y_step) out.new }
 {
     match t {
-        Dtype::Bool => compare_by_step(f, Dtype::Bool, x, y, y_step, out),
-        Dtype::Int8 => compare_by_step(f, Dtype::Int8, x, y, y_step, out),
-        Dtype::Int16 => compare_by_step(f, Dtype::Int16, x, y, y_step, out),
-        Dtype::Int32 => compare_by_step(f, Dtype::Int32, x, y, y_step, out),
-        Dtype::Int64 => compare_by_step(f, Dtype::Int64, x, y, y_step, out),
-        Dtype::Uint8 => compare_by_step(f, Dtype::Uint8, x, y, y_step, out),
-        Dtype::Uint16 => compare_by_step(f, Dtype::Uint16, x, y, y_step, out),
-        Dtype::Uint32 => compare_by_step(f, Dtype::Uint32, x, y, y_step, out),
-        Dtype::Uint64 => compare_by_step(f, Dtype::Uint64, x, y, y_step, out),
+        Dtype::Bool => compare_short(f, Dtype::Bool, x, y, y_step, out),
+        Dtype::Int8 => compare_short(f, Dtype::Int8, x, y, y_step, out),
+        Dtype::Int16 => compare_short(f, Dtype::Int16, x, y, y_step, out),
+        Dtype::Int32 => compare_short(f, Dtype::Int32, x, y, y_step, out),
+        Dtype::Int64 => compare_short(f, Dtype::Int64, x, y, y_step, out),
+        Dtype::Uint8 => compare_short(f, Dtype::Uint8, x, y, y_step, out),
+        Dtype::Uint16 => compare_short(f, Dtype::Uint16, x, y, y_step, out),
+        Dtype::Uint32 => compare_short(f, Dtype::Uint32, x, y, y_step, out),
+        Dtype::Uint64 => compare_short(f, Dtype::Uint64, x, y, y_step, out),
     }
 }
 
+/// `compare_short_by_type` for a run of at least 128 elements.
 #[inline(always)]
-fn compare_by_step(f: Fn2, t: Dtype, x: &[u8], y: &[u8], y_step: usize, out: &mut [u8])
+pub(crate) fn compare_long_by_type(
+    f: Fn2,
+    t: Dtype,
+    x: &[u8],
+    y: &[u8],
+    y_step: usize,
+    out: &mut [u8],
+)
     requires truth { result_type2 f t ≡ Bool }
-    requires some { 16 ≤ length out.old }
+    requires some { 128 ≤ length out.old }
     requires arguments { HasArguments (Call.Two f t) (strip x.now 1) (strip y.now y_step) (strip y.now y_step) (length out.old) }
     ensures { HasResults (Call.Two f t) (strip x.now 1) (strip y.now y_step) (strip y.now y_step) out.new }
 {
-    if y_step == 0 {
-        compare_each(f, t, x, y, 0, out);
-    } else {
-        compare_each(f, t, x, y, 1, out);
-    }
-}
-
-/// `compare_by_step` in a long run. The calls go over the types: a function with such loops for each would grow so large that they
-/// were no longer built for the call.
-#[inline(always)]
-pub(crate) fn compare_long(f: Fn2, t: Dtype, x: &[u8], y: &[u8], y_step: usize, out: &mut [u8])
-    requires truth { result_type2 f t ≡ Bool }
-    requires some { 64 ≤ length out.old }
-    requires arguments { HasArguments (Call.Two f t) (strip x.now 1) (strip y.now y_step) (strip y.now y_step) (length out.old) }
-    ensures { HasResults (Call.Two f t) (strip x.now 1) (strip y.now y_step) (strip y.now y_step) out.new }
-{
-    if y_step == 0 {
-        compare_fours(f, t, x, y, 0, out);
-    } else {
-        compare_fours(f, t, x, y, 1, out);
+    match t {
+        Dtype::Bool => compare_long(f, Dtype::Bool, x, y, y_step, out),
+        Dtype::Int8 => compare_long(f, Dtype::Int8, x, y, y_step, out),
+        Dtype::Int16 => compare_long(f, Dtype::Int16, x, y, y_step, out),
+        Dtype::Int32 => compare_long(f, Dtype::Int32, x, y, y_step, out),
+        Dtype::Int64 => compare_long(f, Dtype::Int64, x, y, y_step, out),
+        Dtype::Uint8 => compare_long(f, Dtype::Uint8, x, y, y_step, out),
+        Dtype::Uint16 => compare_long(f, Dtype::Uint16, x, y, y_step, out),
+        Dtype::Uint32 => compare_long(f, Dtype::Uint32, x, y, y_step, out),
+        Dtype::Uint64 => compare_long(f, Dtype::Uint64, x, y, y_step, out),
     }
 }
 

@@ -65,9 +65,9 @@ pub(crate) fn pair_each(
     }
 }
 
-/// A function of two arguments that gives truth values, sixteen at a time; the last sixteen are made with some before them.
+/// A function of two arguments that gives truth values, sixteen in a step. The last step begins so early that it ends with the run.
 #[inline(always)]
-pub(crate) fn compare_each(f: Fn2, t: Dtype, x: &[u8], y: &[u8], y_step: usize, out: &mut [u8])
+pub(crate) fn compare_short(f: Fn2, t: Dtype, x: &[u8], y: &[u8], y_step: usize, out: &mut [u8])
     requires truth { result_type2 f t ≡ Bool }
     requires some { 16 ≤ length out.old }
     requires arguments { HasArguments (Call.Two f t) (strip x.now 1) (strip y.now y_step) (strip y.now y_step) (length out.old) }
@@ -80,27 +80,24 @@ pub(crate) fn compare_each(f: Fn2, t: Dtype, x: &[u8], y: &[u8], y_step: usize, 
     }
 }
 
-/// `compare_each`, four times sixteen in a step. Where the arguments lie beyond the nearest cache this was measured to be faster:
-/// it seems that a processor then fetches ahead in time what the same instruction reads in the next step.
+/// `compare_short`, twice sixty-four in a step. Where the arguments lie beyond the nearest cache this was measured to be faster.
 #[inline(always)]
-pub(crate) fn compare_fours(f: Fn2, t: Dtype, x: &[u8], y: &[u8], y_step: usize, out: &mut [u8])
+pub(crate) fn compare_long(f: Fn2, t: Dtype, x: &[u8], y: &[u8], y_step: usize, out: &mut [u8])
     requires truth { result_type2 f t ≡ Bool }
-    requires some { 64 ≤ length out.old }
+    requires some { 128 ≤ length out.old }
     requires arguments { HasArguments (Call.Two f t) (strip x.now 1) (strip y.now y_step) (strip y.now y_step) (length out.old) }
     ensures { HasResults (Call.Two f t) (strip x.now 1) (strip y.now y_step) (strip y.now y_step) out.new }
 {
     let count = out.len();
-    for block in 0..count.div_ceil(64) {
-        let from = (block * 64).min(count - 64);
-        put_sixteen(f, t, x, y, y_step, from, out);
-        put_sixteen(f, t, x, y, y_step, from + 16, out);
-        put_sixteen(f, t, x, y, y_step, from + 32, out);
-        put_sixteen(f, t, x, y, y_step, from + 48, out);
+    for block in 0..count.div_ceil(128) {
+        let from = (block * 128).min(count - 128);
+        for half in 0..2 {
+            put_sixty_four(f, t, x, y, y_step, from + half * 64, out);
+        }
     }
 }
 
-/// Sixteen truth values more, where those before `from` are there. They are gathered in an array, so that a compiler takes as many
-/// together where the arguments are wider.
+/// Sixteen truth values more, where those before `from` are there.
 #[inline(always)]
 fn put_sixteen(f: Fn2, t: Dtype, x: &[u8], y: &[u8], y_step: usize, from: usize, out: &mut [u8])
     requires truth { result_type2 f t ≡ Bool }
@@ -109,26 +106,57 @@ fn put_sixteen(f: Fn2, t: Dtype, x: &[u8], y: &[u8], y_step: usize, from: usize,
     requires arguments { HasArguments (Call.Two f t) (strip x.now 1) (strip y.now y_step) (strip y.now y_step) (length out.old) }
     ensures { ResultsBelow (Call.Two f t) (strip x.now 1) (strip y.now y_step) (strip y.now y_step) (from + 16) out.new }
 {
-    let part = sixteen(f, t, x, y, y_step, from);
-    out[from..from + 16].copy_from_slice(&part);
+    let mut part = [0; 16];
+    gather(f, t, x, y, y_step, from, &mut part);
+    write(&part, &mut out[from..from + 16]);
 }
 
-/// Sixteen truth values.
+/// Sixty-four truth values more, where those before `from` are there. All are made before the first is written: where the result
+/// lies a little behind an argument, counted within a page, a read waits for the write before it.
 #[inline(always)]
-fn sixteen(f: Fn2, t: Dtype, x: &[u8], y: &[u8], y_step: usize, from: usize) -> [u8; 16]
+fn put_sixty_four(f: Fn2, t: Dtype, x: &[u8], y: &[u8], y_step: usize, from: usize, out: &mut [u8])
     requires truth { result_type2 f t ≡ Bool }
+    requires room { from + 64 ≤ length out.old }
+    requires done { ResultsBelow (Call.Two f t) (strip x.now 1) (strip y.now y_step) (strip y.now y_step) from out.old }
+    requires arguments { HasArguments (Call.Two f t) (strip x.now 1) (strip y.now y_step) (strip y.now y_step) (length out.old) }
+    ensures { ResultsBelow (Call.Two f t) (strip x.now 1) (strip y.now y_step) (strip y.now y_step) (from + 64) out.new }
+{
+    let mut part = [0; 64];
+    for quarter in 0..4 {
+        let at = quarter * 16;
+        gather(f, t, x, y, y_step, from + at, &mut part[at..at + 16]);
+    }
+    write(&part, &mut out[from..from + 64]);
+}
+
+/// Sixteen truth values, made apart from the result, so that a compiler takes as many together where the arguments are wider.
+#[inline(always)]
+fn gather(f: Fn2, t: Dtype, x: &[u8], y: &[u8], y_step: usize, from: usize, part: &mut [u8])
+    requires truth { result_type2 f t ≡ Bool }
+    requires room { length part.old ≡ 16 }
     requires small { from < 2 ^ 63 }
     requires places { (k : ℕ) → k < 16 → HasPlace (Call.Two f t) (strip x.now 1) (strip y.now y_step) (strip y.now y_step) (from + k) }
-    ensures { HasPart (Call.Two f t) (strip x.now 1) (strip y.now y_step) (strip y.now y_step) from result }
+    ensures len { length part.new ≡ 16 }
+    ensures values { HasPart (Call.Two f t) (strip x.now 1) (strip y.now y_step) (strip y.now y_step) from part.new }
 {
     let r = result2(f, t);
-    let mut part = [0; 16];
     for k in 0..16 {
         let at = from + k;
         let value = value2(f, t, load(t, x, at), load(t, y, y_step * at));
-        save(r, value, &mut part, k);
+        save(r, value, part, k);
     }
-    part
+}
+
+/// Writes bytes one by one: built, these are writes from registers. A copy of a slice first asks how the two lie, and goes over the
+/// stack.
+#[inline(always)]
+fn write(part: &[u8], place: &mut [u8])
+    requires { length place.old ≡ length part.now }
+    ensures { place.new ≡ part.now }
+{
+    for k in 0..part.len() {
+        place[k] = part[k];
+    }
 }
 
 /// A function of one argument, at one place.

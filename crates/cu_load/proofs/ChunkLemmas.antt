@@ -20,12 +20,12 @@ use Rattle.cu_grid.specs.declared.fault.GridFault.TheVariants.{ZeroChunk, Rank, 
 use Rattle.cu_grid.proofs.Parting.{in_array}
 use Rattle.cu_grid.proofs.Products.{product_within, size_within}
 use Rattle.cu_grid.proofs.Regions.{inside-at}
-use Rattle.cu_zarr.specs.Layout.{chunk_bytes, index_in_chunk}
-use Rattle.cu_zarr.specs.Spelling.{padded, spelled}
+use Rattle.cu_zarr.specs.Layout.{stored_chunk_bytes, index_in_chunk}
+use Rattle.cu_zarr.specs.Spelling.{padded_element, spelled}
 use Rattle.cu_zarr.proofs.Joined.{joined_by_place}
 use Rattle.cu_codec.specs.Parts.{part, part_at, place_within, IsLaid}
 use Rattle.cu_load.specs.Load.{HasBytes, given_at, chunks_in, given_coord}
-use Rattle.cu_load.specs.LoadForm.{GivenArray, IsGiven}
+use Rattle.cu_load.specs.LoadForm.{GivenArray, IsGivenArray}
 
 -- ---- the bytes of the elements
 
@@ -90,11 +90,11 @@ whole_place shape lo hi idx low high same = rw (low, high, differences_zero shap
 
 -- ---- the bytes of a chunk
 
-part_given : (a : GivenArray) (coord lo hi input new : List ℕ) (p : ℕ) (b : Bool) → IsGiven a → HasBytes a.layout.dtype a.elements input
+part_given : (a : GivenArray) (coord lo hi input new : List ℕ) (p : ℕ) (b : Bool) → IsGivenArray a → HasBytes a.layout.dtype a.elements input
     → lo ≡ replicate (length a.layout.shape) 0 → hi ≡ a.layout.shape → is_inside a.layout.shape (index_in_chunk a.layout coord p) ≡ b
     → part_at (size_of a.layout.dtype) new p ≡ (if is_inside a.layout.shape (index_in_chunk a.layout coord p)
     then part_at (size_of a.layout.dtype) input (place_within lo hi (index_in_chunk a.layout coord p)) else element_bytes Little a.layout.dtype a.layout.fill)
-    → option_map (element_bytes a.layout.endian a.layout.dtype) (padded a.layout (given_at a) coord p) ≡ Some (part_at (size_of a.layout.dtype) new p)
+    → option_map (element_bytes a.layout.endian a.layout.dtype) (padded_element a.layout (given_at a) coord p) ≡ Some (part_at (size_of a.layout.dtype) new p)
 part_given a coord lo hi input new p true ok bytes low high test laid =
     let idx : List ℕ = index_in_chunk a.layout coord p in
     let inside = inside_from_test a.layout.shape idx test in
@@ -109,15 +109,15 @@ part_given a coord lo hi input new p false ok bytes low high test laid =
     let laid_out = rw test at laid in
     rw (test, ok.order) (ap Some (sym laid_out))
 
-pub laid_value : (a : GivenArray) (coord lo hi input new : List ℕ) → IsGiven a
+pub laid_value : (a : GivenArray) (coord lo hi input new : List ℕ) → IsGivenArray a
     → HasBytes a.layout.dtype a.elements input → lo ≡ replicate (length a.layout.shape) 0 → hi ≡ a.layout.shape
-    → IsLaid a.layout.dtype a.layout.fill (part (record { shape = a.layout.shape; chunk = a.layout.chunk }) coord lo hi) input new → length new ≡ chunk_bytes a.layout
+    → IsLaid a.layout.dtype a.layout.fill (part (record { shape = a.layout.shape; chunk = a.layout.chunk }) coord lo hi) input new → length new ≡ stored_chunk_bytes a.layout
     → spelled a.layout (given_at a) coord ≡ Some new
 laid_value a coord lo hi input new ok bytes low high laid long =
     joined_by_place (size_of a.layout.dtype) (product a.layout.chunk)
-    (λ p. option_map (element_bytes a.layout.endian a.layout.dtype) (padded a.layout (given_at a) coord p)) new
+    (λ p. option_map (element_bytes a.layout.endian a.layout.dtype) (padded_element a.layout (given_at a) coord p)) new
     (λ p below. part_given a coord lo hi input new p (is_inside a.layout.shape (index_in_chunk a.layout coord p)) ok bytes low high refl (laid p below))
-    ∙ ap Some (take_all (chunk_bytes a.layout) new (omega arith))
+    ∙ ap Some (take_all (stored_chunk_bytes a.layout) new (omega arith))
 
 -- ---- the limits of the grid
 
@@ -138,17 +138,17 @@ limits_of g size none =
     let e = unless (nat_lt (2 ^ 28) (product g.chunk * size)) ChunkTooLarge None d.1 in
     record { elements = not_below _ _ c.0; chunks = not_below _ _ d.0; bytes = not_below _ _ e.0 }
 
-pub given_limits : (a : GivenArray) → IsGiven a → IsWithinLimits (record { shape = a.layout.shape; chunk = a.layout.chunk }) (size_of a.layout.dtype)
+pub given_limits : (a : GivenArray) → IsGivenArray a → IsWithinLimits (record { shape = a.layout.shape; chunk = a.layout.chunk }) (size_of a.layout.dtype)
 given_limits a ok = limits_of (record { shape = a.layout.shape; chunk = a.layout.chunk }) (size_of a.layout.dtype) ok.layout.grid
 
-pub few_elements : (a : GivenArray) → IsGiven a → product a.layout.shape ≤ 2 ^ 40
+pub few_elements : (a : GivenArray) → IsGivenArray a → product a.layout.shape ≤ 2 ^ 40
 few_elements a ok =
     let most = product_within a.layout.shape in
     let limit = (given_limits a ok).elements in
     omega (arith, most, limit)
 
 -- the coordinate of a chunk is one that a key can have
-pub small_coord : (a : GivenArray) (k most : ℕ) → IsGiven a → 65536 ≤ most → k < chunks_in a → All (λ i. i < most) (given_coord a k)
+pub small_coord : (a : GivenArray) (k most : ℕ) → IsGivenArray a → 65536 ≤ most → k < chunks_in a → All (λ i. i < most) (given_coord a k)
 small_coord a k most ok large below n d within =
     let inside = index-inside (counts_of a.layout.shape a.layout.chunk) k below in
     let long = inside-length (counts_of a.layout.shape a.layout.chunk) (given_coord a k) inside in

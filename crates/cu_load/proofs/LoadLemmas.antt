@@ -31,7 +31,7 @@ use Rattle.cu_meta.specs.Storable.{IsStorable}
 use Rattle.cu_meta.proofs.Accepted.{few_sizes, fill_accepted}
 use Rattle.cu_command.specs.Name.{name_in}
 use Rattle.cu_name.specs.Name.{is_name}
-use Rattle.cu_load.specs.LoadForm.{NamedLayout, GivenArray, given_by, IfCode, has_form, text_member, list_member, sizes_at, layout_given, elements_after, head_in, array_in, load_of, IsGiven}
+use Rattle.cu_load.specs.LoadForm.{NamedLayout, GivenArray, given_by, IfCode, has_form, text_member, list_member, sizes_at, layout_given, elements_after, head_in, array_in, load_of, IsGivenArray}
 use Rattle.cu_load.specs.declared.load_form.LoadForm.{LoadForm}
 use Rattle.cu_load.specs.declared.load_form.LoadRefused.{LoadRefused}
 
@@ -211,10 +211,10 @@ elements_accepted t front elements (item d ds) before h =
 same_array : (a b : GivenArray) (r : Result GivenArray ℕ) → r ≡ Ok a → r ≡ Ok b → a ≡ b
 same_array a b r e h = cc
 
-array_accepted : (d : Data) (a : GivenArray) → array_in d ≡ Ok a → IsGiven a
+array_accepted : (d : Data) (a : GivenArray) → array_in d ≡ Ok a → IsGivenArray a
 array_accepted d a h = head_found (head_in d) refl
   where
-    head_found : (r : Result NamedLayout ℕ) → head_in d ≡ r → IsGiven a
+    head_found : (r : Result NamedLayout ℕ) → head_in d ≡ r → IsGivenArray a
     head_found (Err code) e = absurd (code_is_no_array code a (rw e at h))
     head_found (Ok head) e =
         let is = head_accepted d head e in
@@ -230,9 +230,9 @@ array_accepted d a h = head_found (head_in d) refl
         let many_elements : length elements ≡ product head.layout.shape = omega arith in
         let made : GivenArray = record { name = head.name; layout = head.layout; elements = elements } in
         let same : made ≡ a = same_array made a (Ok made) refl h4 in
-        subst IsGiven same (record { name = is.name; layout = is.layout; order = is.order; count = many_elements; elements = are.range })))
+        subst IsGivenArray same (record { name = is.name; layout = is.layout; order = is.order; count = many_elements; elements = are.range })))
 
-load_accepted : (text : List ℕ) (a : GivenArray) → load_of text ≡ Ok a → IsGiven a
+load_accepted : (text : List ℕ) (a : GivenArray) → load_of text ≡ Ok a → IsGivenArray a
 unfolding load_of
 load_accepted text a h =
     let short = true_of (nat_le (length text) 1048576) (λ long. code_is_no_array 8 a (rw long at h)) in
@@ -242,7 +242,7 @@ load_accepted text a h =
     some_of (read text) (λ none. code_is_no_array 1 a (rw none at h1)) (λ d e.
     array_accepted d a (rw e at h1))
 
-pub given : (text : List ℕ) (result : Result LoadForm LoadRefused) → IfOk result (λ f. load_of text ≡ Ok (given_by f)) → IfOk result (λ f. IsGiven (given_by f))
+pub given : (text : List ℕ) (result : Result LoadForm LoadRefused) → IfOk result (λ f. load_of text ≡ Ok (given_by f)) → IfOk result (λ f. IsGivenArray (given_by f))
 given text (Ok f) h = load_accepted text (given_by f) h
 given text (Err e) h = tt
 

@@ -21,7 +21,7 @@ use Rattle.cu_command.specs.declared.status.Status.TheVariants.{DepotFailed, NoM
 use Rattle.cu_load.proofs.AskLemmas.{rose_earlier}
 use Rattle.cu_load.proofs.ChunkLemmas.{small_coord}
 use Rattle.cu_load.specs.Load.{given_at, counts_in, chunks_in, given_coord, key_of_chunk, given_chunk, ChunkPut, ChunksPut, ArrayPut, IsArrayKey, IsArrayCalm, IsStoreFault, HasGivenElements, StoresGiven, HoldsChunk, HoldsChunks, ValuesStay}
-use Rattle.cu_load.specs.LoadForm.{GivenArray, IsGiven}
+use Rattle.cu_load.specs.LoadForm.{GivenArray, IsGivenArray}
 
 -- ---- the changes of an array
 
@@ -46,22 +46,22 @@ metadata_put a key bytes same text other value own = inl (own.0 ∙ same, own.1 
 
 -- ---- each key has one value
 
-small_chunk : (a : GivenArray) (k : ℕ) → IsGiven a → k < chunks_in a → All (λ i. i < 2 ^ 64) (given_coord a k)
+small_chunk : (a : GivenArray) (k : ℕ) → IsGivenArray a → k < chunks_in a → All (λ i. i < 2 ^ 64) (given_coord a k)
 small_chunk a k ok below = small_coord a k (2 ^ 64) ok (omega arith) below
 
-same_chunk_number : (a : GivenArray) (j k : ℕ) → IsGiven a → j < chunks_in a → k < chunks_in a → key_of_chunk a j ≡ key_of_chunk a k → j ≡ k
+same_chunk_number : (a : GivenArray) (j k : ℕ) → IsGivenArray a → j < chunks_in a → k < chunks_in a → key_of_chunk a j ≡ key_of_chunk a k → j ≡ k
 same_chunk_number a j k ok small_j small_k e =
     let long : length (given_coord a j) ≡ length (given_coord a k) = length-index_at (counts_in a) j ∙ sym (length-index_at (counts_in a) k) in
     let same = same_chunk a.name a.layout.encoding (given_coord a j) (given_coord a k) (small_chunk a j ok small_j) (small_chunk a k ok small_k) long e in
     sym (place-index (counts_in a) j small_j) ∙ ap (place_of (counts_in a)) same ∙ place-index (counts_in a) k small_k
 
-chunk_apart : (a : GivenArray) (k : ℕ) → IsGiven a → k < chunks_in a → key_of_chunk a k ≡ metadata_key_of a.name → ⊥
+chunk_apart : (a : GivenArray) (k : ℕ) → IsGivenArray a → k < chunks_in a → key_of_chunk a k ≡ metadata_key_of a.name → ⊥
 chunk_apart a k ok below e = chunk_not_metadata a.name a.layout.encoding (given_coord a k) (small_chunk a k ok below) e
 
 chunk_value_once : (a : GivenArray) (j k : ℕ) (x y : List ℕ) → j ≡ k → given_chunk a j ≡ Some x → given_chunk a k ≡ Some y → Some x ≡ Some y
 chunk_value_once a j k x y number here there = sym here ∙ ap (given_chunk a) number ∙ there
 
-pub one_value : (a : GivenArray) (key : List ℕ) (v w : Option (List ℕ)) → IsGiven a → ArrayPut a key v → ArrayPut a key w → v ≡ w
+pub one_value : (a : GivenArray) (key : List ℕ) (v w : Option (List ℕ)) → IsGivenArray a → ArrayPut a key v → ArrayPut a key w → v ≡ w
 one_value a key v w ok (inl here) (inl there) = here.1 ∙ sym there.1
 one_value a key v w ok (inl here) (inr (k, below, (bytes, value, put))) = absurd (chunk_apart a k ok below (sym put.0 ∙ here.0))
 one_value a key v w ok (inr (k, below, (bytes, value, put))) (inl there) = absurd (chunk_apart a k ok below (sym put.0 ∙ there.0))
@@ -82,14 +82,14 @@ now_value : (a : GivenArray) (late now_late : List Write) (key : List ℕ) (valu
 now_value a late now_late key value calm of_array stay (inl own) = own
 now_value a late now_late key value calm of_array stay (inr (bytes, is, among)) = subst (λ (v : Option (List ℕ)). ArrayPut a key v) (sym is) (late_value a late key (Some bytes) calm of_array (stay key bytes among))
 
-stays_at : (a : GivenArray) (late now_late : List Write) (held next : Contents) (key bytes : List ℕ) → IsGiven a → IsArrayCalm a late → AllLateIn now_late (OrLate (ArrayPut a) late)
+stays_at : (a : GivenArray) (late now_late : List Write) (held next : Contents) (key bytes : List ℕ) → IsGivenArray a → IsArrayCalm a late → AllLateIn now_late (OrLate (ArrayPut a) late)
     → ArrayPut a key (Some bytes) → held key ≡ Some bytes → IsChangedBy (OrLate (ArrayPut a) now_late) held next key → next key ≡ Some bytes
 stays_at a late now_late held next key bytes ok calm stay write holds (inl same) = same ∙ holds
 stays_at a late now_late held next key bytes ok calm stay write holds (inr changed) =
     one_value a key (next key) (Some bytes) ok (now_value a late now_late key (next key) calm (array_put_key a key (Some bytes) write) stay changed) write
 
 -- A value of the array that is held stays held where only the array's values and late puts land.
-pub values_stay : (a : GivenArray) (late now_late : List Write) (held next : Option Contents) → IsGiven a → IsArrayCalm a late → AllLateIn now_late (OrLate (ArrayPut a) late)
+pub values_stay : (a : GivenArray) (late now_late : List Write) (held next : Option Contents) → IsGivenArray a → IsArrayCalm a late → AllLateIn now_late (OrLate (ArrayPut a) late)
     → Lands (OrLate (ArrayPut a) now_late) held next → ValuesStay a held next
 values_stay a late now_late None None ok calm stay lands key bytes write holds = tt
 values_stay a late now_late None (Some next) ok calm stay lands key bytes write holds = absurd lands
@@ -109,7 +109,7 @@ all_stay a held next stays stored k below = stored_stays a held next k below sta
 
 -- ---- the stored array
 
-pub stores_given : (a : GivenArray) (held : Option Contents) → IsGiven a → IsGrid (record { shape = a.layout.shape; chunk = a.layout.chunk })
+pub stores_given : (a : GivenArray) (held : Option Contents) → IsGivenArray a → IsGrid (record { shape = a.layout.shape; chunk = a.layout.chunk })
     → Holds held (metadata_key_of a.name) (metadata_text a.layout) → HoldsChunks a held (chunks_in a) → StoresGiven a held
 stores_given a None ok grid metadata stored = tt
 stores_given a (Some held) ok grid metadata stored = (metadata, stored, elements)

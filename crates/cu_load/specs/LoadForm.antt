@@ -108,7 +108,7 @@ load_of text = do
 
 -- what each given array has: a name, a layout in which an array may be stored, the lower bytes first, and as many elements of its
 -- type as its shape says
-pub record IsGiven (a : GivenArray) : Type 0 where
+pub record IsGivenArray (a : GivenArray) : Type 0 where
   pub name : is_name a.name ≡ true
   pub layout : IsStorable a.layout
   pub order : a.layout.endian ≡ Little

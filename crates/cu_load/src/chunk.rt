@@ -2,10 +2,10 @@
 ghost use Rattle.std.specs.Prelude.{◌≡◌, ◌*◌, ◌≤◌, ◌^◌, IfOk, Some, length, replicate};
 ghost use Rattle.cu_num.specs.Dtype.{size_of};
 ghost use Rattle.cu_grid.specs.Grid.{IsGrid, IsCoordinate};
-ghost use Rattle.cu_zarr.specs.Layout.{chunk_bytes};
+ghost use Rattle.cu_zarr.specs.Layout.{stored_chunk_bytes};
 ghost use Rattle.cu_zarr.specs.Spelling.{spelled};
 ghost use Rattle.cu_load.specs.Load.{HasBytes, given_at};
-ghost use Rattle.cu_load.specs.LoadForm.{IsGiven, given_by};
+ghost use Rattle.cu_load.specs.LoadForm.{IsGivenArray, given_by};
 
 use crate::load_form::LoadForm;
 use cu_codec::lay_part;
@@ -56,10 +56,10 @@ fn whole_region(grid: &Grid) -> Region
 
 /// Writes the bytes of one chunk as they are stored. `input` has those of the array's elements.
 pub(crate) fn spell_chunk(form: &LoadForm, coord: &Dims, input: &[u8], chunk: &mut [u8])
-    requires given { IsGiven (given_by form.now) }
+    requires given { IsGivenArray (given_by form.now) }
     requires coordinate { IsCoordinate form.now.layout.grid coord.now }
     requires input { HasBytes form.now.layout.dtype form.now.elements.items input.now }
-    requires chunk_length { length chunk.old ≡ chunk_bytes (given_by form.now).layout }
+    requires chunk_length { length chunk.old ≡ stored_chunk_bytes (given_by form.now).layout }
     ensures { spelled (given_by form.now).layout (given_at (given_by form.now)) coord.now ≡ Some chunk.new }
 {
     let layout = &form.layout;

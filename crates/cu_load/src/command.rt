@@ -1,7 +1,7 @@
 //! The command's one call: from the text to the stored array and the report.
 ghost use Rattle.cu_command.specs.Seen.{stream, seen};
 ghost use Rattle.cu_load.specs.Load.{Stored, Loaded};
-ghost use Rattle.cu_load.specs.LoadForm.{IsGiven, given_by};
+ghost use Rattle.cu_load.specs.LoadForm.{IsGivenArray, given_by};
 
 use crate::ask::ask_keys;
 use crate::load_form::{LoadForm, LoadRefused, read_load};
@@ -51,7 +51,7 @@ fn store_form<W: Sink, D: Depot>(
     out: &mut W,
     depot: &mut D,
 ) -> Status
-    requires { IsGiven (given_by form.now) }
+    requires { IsGivenArray (given_by form.now) }
     ensures answer { Stored retries (given_by form.now)
         (seen (stream (W.written out.old) (W.faults out.old)) (D.shown depot.old)) (seen (stream (W.written out.new) (W.faults out.new)) (D.shown depot.new)) result }
 {

@@ -8,7 +8,7 @@ ghost use Rattle.cu_num.specs.Dtype.{size_of};
 ghost use Rattle.cu_shape.specs.Index.{product};
 ghost use Rattle.cu_grid.specs.Limits.{first_fault};
 ghost use Rattle.cu_num.specs.TypeName.{dtype_named};
-ghost use Rattle.cu_load.specs.LoadForm.{head_view, given_by, IfCode, text_member, list_member, has_form, sizes_at, elements_after, head_in, array_in, load_of, IsGiven};
+ghost use Rattle.cu_load.specs.LoadForm.{head_view, given_by, IfCode, text_member, list_member, has_form, sizes_at, elements_after, head_in, array_in, load_of, IsGivenArray};
 
 use cu_command::name_at;
 use cu_grid::Grid;
@@ -83,7 +83,7 @@ pub(crate) enum LoadRefused {
 pub(crate) fn read_load(alloc: Global, text: &[u8]) -> Result<LoadForm, LoadRefused>
     ensures ok { IfOk result (λ f. load_of text.now ≡ Ok (given_by f)) }
     ensures code { IfErr result (λ e. IfCode e (λ code. load_of text.now ≡ Err code)) }
-    ensures given { IfOk result (λ f. IsGiven (given_by f)) }
+    ensures given { IfOk result (λ f. IsGivenArray (given_by f)) }
 {
     if text.len() > TEXT_BYTES {
         return Err(LoadRefused::Code(TOO_LONG));

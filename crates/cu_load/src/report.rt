@@ -4,7 +4,7 @@ ghost use Rattle.cu_store.specs.Faults.{Rose};
 ghost use Rattle.cu_command.specs.Streams.{WroteFront};
 ghost use Rattle.cu_shape.specs.Index.{product};
 ghost use Rattle.cu_load.specs.Load.{WrotePart, load_line};
-ghost use Rattle.cu_load.specs.LoadForm.{IsGiven, given_by};
+ghost use Rattle.cu_load.specs.LoadForm.{IsGivenArray, given_by};
 
 use crate::load_form::LoadForm;
 use cu_command::{LineText, push_field, write_all};
@@ -12,7 +12,7 @@ use cu_store::{Failed, Sink};
 
 /// The elements of the array.
 fn element_count(form: &LoadForm) -> u64
-    requires { IsGiven (given_by form.now) }
+    requires { IsGivenArray (given_by form.now) }
     ensures { result ≡ product form.now.layout.grid.shape }
 {
     match form.layout.grid.shape().elements() {
@@ -23,7 +23,7 @@ fn element_count(form: &LoadForm) -> u64
 
 /// The line that reports an array that was stored.
 fn report_text(form: &LoadForm) -> LineText
-    requires { IsGiven (given_by form.now) }
+    requires { IsGivenArray (given_by form.now) }
     ensures { result.bytes ≡ load_line (given_by form.now) }
 {
     let mut line = LineText::new();
@@ -35,7 +35,7 @@ fn report_text(form: &LoadForm) -> LineText
 
 /// Writes the report.
 pub(crate) fn report<W: Sink>(out: &mut W, form: &LoadForm) -> Result<(), Failed>
-    requires { IsGiven (given_by form.now) }
+    requires { IsGivenArray (given_by form.now) }
     ensures all { OnOk result (WroteFront (W.written out.old) (W.written out.new) (load_line (given_by form.now)) (length (load_line (given_by form.now)))) }
     ensures front { OnErr result (WrotePart (given_by form.now) (W.written out.old) (W.written out.new)) }
     ensures cause { OnErr result (Rose 1 (W.faults out.old) (W.faults out.new)) }

@@ -1,9 +1,9 @@
 //! The memory that storing an array takes, all of it taken before anything is stored.
 ghost use Rattle.std.specs.Prelude.{◌≡◌, length, IfOk};
-ghost use Rattle.cu_zarr.specs.Layout.{chunk_bytes};
+ghost use Rattle.cu_zarr.specs.Layout.{stored_chunk_bytes};
 ghost use Rattle.cu_zarr.specs.Metadata.{metadata_text};
 ghost use Rattle.cu_load.specs.Load.{HasBytes};
-ghost use Rattle.cu_load.specs.LoadForm.{IsGiven, given_by};
+ghost use Rattle.cu_load.specs.LoadForm.{IsGivenArray, given_by};
 
 use crate::chunk::element_bytes;
 use crate::load_form::LoadForm;
@@ -26,8 +26,8 @@ pub(crate) struct Room {
 
 /// The bytes of a chunk.
 fn chunk_bytes(form: &LoadForm) -> usize
-    requires { IsGiven (given_by form.now) }
-    ensures { result ≡ chunk_bytes (given_by form.now).layout }
+    requires { IsGivenArray (given_by form.now) }
+    ensures { result ≡ stored_chunk_bytes (given_by form.now).layout }
 {
     match form.layout.grid.chunk().elements() {
         Some(count) => (count * size(form.layout.dtype)) as usize,
@@ -36,10 +36,10 @@ fn chunk_bytes(form: &LoadForm) -> usize
 }
 
 pub(crate) fn take_room(alloc: Global, form: &LoadForm) -> Result<Room, NoMemory>
-    requires { IsGiven (given_by form.now) }
+    requires { IsGivenArray (given_by form.now) }
     ensures input { IfOk result (λ room. HasBytes form.now.layout.dtype form.now.elements.items room.input.items) }
     ensures metadata { IfOk result (λ room. room.metadata.items ≡ metadata_text (given_by form.now).layout) }
-    ensures chunk { IfOk result (λ room. length room.chunk.items ≡ chunk_bytes (given_by form.now).layout) }
+    ensures chunk { IfOk result (λ room. length room.chunk.items ≡ stored_chunk_bytes (given_by form.now).layout) }
 {
     let _shape = form.layout.grid.shape();
     let input = element_bytes(alloc, form.layout.dtype, &form.elements)?;

@@ -5,10 +5,10 @@ ghost use Rattle.cu_store.specs.Steps.{Steps};
 ghost use Rattle.cu_command.specs.Seen.{Stepped};
 ghost use Rattle.cu_command.specs.Keys.{IsKeyFault};
 ghost use Rattle.cu_zarr.specs.Key.{metadata_key_of};
-ghost use Rattle.cu_zarr.specs.Layout.{chunk_bytes};
+ghost use Rattle.cu_zarr.specs.Layout.{stored_chunk_bytes};
 ghost use Rattle.cu_zarr.specs.Metadata.{metadata_text};
 ghost use Rattle.cu_load.specs.Load.{ArrayPut, ChunkPut, ChunksPut, HasBytes, IsArrayCalm, IsStoreFault, HoldsChunk, HoldsChunks, StoresGiven, chunks_in, key_of_chunk};
-ghost use Rattle.cu_load.specs.LoadForm.{IsGiven, given_by};
+ghost use Rattle.cu_load.specs.LoadForm.{IsGivenArray, given_by};
 
 use crate::chunk::spell_chunk;
 use crate::load_form::LoadForm;
@@ -28,10 +28,10 @@ fn store_chunk<D: Depot>(
     chunk: &mut [u8],
     retries: u32,
 ) -> Result<(), Status>
-    requires given { IsGiven (given_by form.now) }
+    requires given { IsGivenArray (given_by form.now) }
     requires number { number < chunks_in (given_by form.now) }
     requires input { HasBytes form.now.layout.dtype form.now.elements.items input.now }
-    requires chunk_length { length chunk.old ≡ chunk_bytes (given_by form.now).layout }
+    requires chunk_length { length chunk.old ≡ stored_chunk_bytes (given_by form.now).layout }
     ensures stored { OnOk result (HoldsChunk (given_by form.now) (D.shown depot.new).held number) }
     ensures step { Steps (ChunkPut (given_by form.now) number) 1 (retries + 1) (D.shown depot.old) (D.shown depot.new) }
     ensures cause { IfErr result (IsKeyFault (retries + 1) (D.shown depot.old).faults (D.shown depot.new).faults (D.shown depot.new).lacks (key_of_chunk (given_by form.now) number)) }
@@ -52,9 +52,9 @@ fn store_chunks<D: Depot>(
     chunk: &mut [u8],
     retries: u32,
 ) -> Result<(), Status>
-    requires given { IsGiven (given_by form.now) }
+    requires given { IsGivenArray (given_by form.now) }
     requires input { HasBytes form.now.layout.dtype form.now.elements.items input.now }
-    requires chunk_length { length chunk.old ≡ chunk_bytes (given_by form.now).layout }
+    requires chunk_length { length chunk.old ≡ stored_chunk_bytes (given_by form.now).layout }
     ensures step { OnOk result (Stepped (ChunksPut (given_by form.now) (chunks_in (given_by form.now))) (D.shown depot.old) (D.shown depot.new)) }
     ensures failed { IfErr result (IsStoreFault (retries + 1) (given_by form.now) (D.shown depot.old) (D.shown depot.new)) }
     ensures stored { IsArrayCalm (given_by form.now) (D.shown depot.old).late → OnOk result (HoldsChunks (given_by form.now) (D.shown depot.new).held (chunks_in (given_by form.now))) }
@@ -76,10 +76,10 @@ pub(crate) fn store_array<D: Depot>(
     chunk: &mut [u8],
     retries: u32,
 ) -> Result<(), Status>
-    requires given { IsGiven (given_by form.now) }
+    requires given { IsGivenArray (given_by form.now) }
     requires input { HasBytes form.now.layout.dtype form.now.elements.items input.now }
     requires metadata { metadata.now ≡ metadata_text (given_by form.now).layout }
-    requires chunk_length { length chunk.old ≡ chunk_bytes (given_by form.now).layout }
+    requires chunk_length { length chunk.old ≡ stored_chunk_bytes (given_by form.now).layout }
     ensures step { OnOk result (Stepped (ArrayPut (given_by form.now)) (D.shown depot.old) (D.shown depot.new)) }
     ensures failed { IfErr result (IsStoreFault (retries + 1) (given_by form.now) (D.shown depot.old) (D.shown depot.new)) }
     ensures stores { IsArrayCalm (given_by form.now) (D.shown depot.old).late → OnOk result (StoresGiven (given_by form.now) (D.shown depot.new).held) }

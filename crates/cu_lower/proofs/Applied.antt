@@ -16,7 +16,7 @@ use Rattle.cu_form.specs.declared.args.Arg.{Arg}
 use Rattle.cu_node.specs.declared.element_op.ElementOp.{ElementOp}
 use Rattle.cu_node.specs.Info.{info_at}
 use Rattle.cu_node.specs.declared.info.NodeInfo.{NodeInfo}
-use Rattle.cu_meaning.specs.Argument.{NodeElements, shape_at, argument_at}
+use Rattle.cu_meaning.specs.Argument.{NodeElements, shape_of_node, argument_at}
 use Rattle.cu_meaning.specs.Rule.{function_value}
 use Rattle.cu_expr.specs.Kernel.{loads_from, function_of, kernel_of}
 use Rattle.cu_typing.specs.Types.{accepts_arguments, result_type}
@@ -37,7 +37,7 @@ same_choice (negsuc n) x y h = let w : pos 0 ≤ℤ negsuc n = h.0 in absurd (om
 module _ (must : Bool) (infos : List NodeInfo) (at : NodeElements) (idx : List ℕ) (load : ℕ → Option ℤ) where
   -- the element of a node that is read at the index
   abbrev read : ℕ → ℤ
-  read n = at n (back (shape_at infos n) idx)
+  read n = at n (back (shape_of_node infos n) idx)
 
   abbrev IsRead : ℕ → Type 0
   IsRead n = InRange (info_at infos n).dtype (read n)

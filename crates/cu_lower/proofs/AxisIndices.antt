@@ -15,7 +15,7 @@ use Rattle.cu_form.specs.Form.{is_array}
 use Rattle.cu_form.specs.declared.args.Arg.{Arg}
 use Rattle.cu_node.specs.Axes.{axis_of, marked_after}
 use Rattle.cu_node.specs.declared.info.NodeInfo.{NodeInfo}
-use Rattle.cu_meaning.specs.Argument.{NodeElements, shape_at, element_from, source_at}
+use Rattle.cu_meaning.specs.Argument.{NodeElements, shape_of_node, element_from, source_at}
 use Rattle.cu_meaning.specs.Index.{is_named, natural}
 use Rattle.cu_meaning.specs.View as meant
 use Rattle.cu_pull.specs.Pull as pulled
@@ -58,7 +58,7 @@ turned_named : (rank : ℕ) (axes : Option (List ℤ)) (d : ℕ) → is_turned r
 turned_named rank None d = refl
 turned_named rank (Some axes) d = refl
 
-pub flipped_same : (axes : Option (List ℤ)) (shape idx : List ℕ) → pulled.flipped (axes_that (length shape) (is_turned (length shape) axes)) shape idx ≡ meant.flipped axes shape idx
+pub flipped_same : (axes : Option (List ℤ)) (shape idx : List ℕ) → pulled.flipped (axes_that (length shape) (is_turned (length shape) axes)) shape idx ≡ meant.flipped_index axes shape idx
 flipped_same axes shape idx =
     by_each (flipped_on (axes_that (length shape) (is_turned (length shape) axes)) shape idx)
     (λ d. if is_named (length shape) axes d then slice_index shape d - 1 - slice_index idx d else slice_index idx d) 0 (length shape)
@@ -69,7 +69,7 @@ flipped_same axes shape idx =
 
 -- ---- shifts
 
-pub rolled_same : (shifts axes : List ℤ) (shape idx : List ℕ) → pulled.rolled (shifts_along (length shape) shifts axes) shape idx ≡ meant.rolled shifts axes shape idx
+pub rolled_same : (shifts axes : List ℤ) (shape idx : List ℕ) → pulled.rolled (shifts_along (length shape) shifts axes) shape idx ≡ meant.rolled_index shifts axes shape idx
 rolled_same shifts axes shape idx =
     by_each (rolled_on (shifts_along (length shape) shifts axes) shape idx)
     (λ d. natural (int_rem_euclid (pos (slice_index idx d) -ℤ meant.shift_on (length shape) shifts axes d) (pos (slice_index shape d)))) 0 (length shape)
@@ -132,7 +132,7 @@ same_place rank d (pos n ∷ axes) h =
     ∙ ap (λ (m : ℕ). cond (not (int_eq (pos n) (pos d))) (1 + m) 0) (same_place rank d axes h.1)
 same_place rank d (negsuc n ∷ axes) h = absurd h
 
-pub permuted_same : (rank : ℕ) (axes : List ℤ) (idx : List ℕ) → AreAxes rank axes → pulled.permuted (map (named_axis rank) axes) idx ≡ meant.permuted axes idx
+pub permuted_same : (rank : ℕ) (axes : List ℤ) (idx : List ℕ) → AreAxes rank axes → pulled.permuted (map (named_axis rank) axes) idx ≡ meant.permuted_index axes idx
 permuted_same rank axes idx h =
     ap (λ n. for_each_axis n (permuted_on (map (named_axis rank) axes) idx)) (length-map axes (named_axis rank))
     ∙ by_each (permuted_on (map (named_axis rank) axes) idx) (λ d. slice_index idx (position_or_len (λ axis. int_eq axis (pos d)) axes)) 0 (length axes)
@@ -153,7 +153,7 @@ pub concat_same : (infos : List NodeInfo) (at : NodeElements) (axis k : ℕ) (al
     → taken_from at all (concat_from axis k (shapes_of (sources_of infos args)) idx) ≡ meant.concat_at infos at axis args idx
 concat_same infos at axis k all [] idx arrays from = refl
 concat_same infos at axis k all (Arg.Node n ∷ args) idx arrays from =
-    let size = slice_index (shape_at infos n) axis in
+    let size = slice_index (shape_of_node infos n) axis in
     let behind = slice_set idx axis (slice_index idx axis - size) in
     let here : source_at at all k idx ≡ at n idx = ap (λ a. element_from at a idx) (ap (slice_get all) (let z : k ≡ k + 0 = omega arith in z) ∙ from 0) in
     let rest = concat_same infos at axis (k + 1) all args behind arrays (λ j. ap (slice_get all) (let s : k + 1 + j ≡ k + suc j = omega arith in s) ∙ from (suc j)) in

@@ -7,7 +7,7 @@ use Rattle.cu_node.specs.declared.info.NodeInfo.{NodeInfo}
 use Rattle.cu_op.specs.Operation.{reads_of}
 use Rattle.cu_op.specs.Value.{Elements}
 use Rattle.cu_op.specs.declared.layout.ArrayInfo.{ArrayInfo}
-use Rattle.cu_lower_reduce.specs.Copies.{aligned_places, aligned_steps, AreOperands, IsCopySetting}
+use Rattle.cu_lower_reduce.specs.Copies.{aligned_places, aligned_steps, AreOperands}
 use Rattle.cu_lower_reduce.specs.Steps.{all_made, last_made, made_infos, HaveEach, HaveInfos, IsGiven, AreSteps, SolveSteps}
 use Rattle.cu_lower_reduce.specs.declared.copy.CopySetting.{CopySetting}
 use Rattle.cu_lower_reduce.specs.declared.step.Step.{Step}
@@ -89,9 +89,9 @@ module _ (laws : OperandsLaw) (s : CopySetting) (ins : List ℕ) (rs : List Rech
       pub own_known : HaveInfos arrays next (all_made (own read next))
       own_known = made_back arrays s.first copies (own read next) made
 
-      pub behind_hold : IsCopySetting s → length rs ≤ 3 → AreOperands s rs → AreSteps arrays s.reserved read next next (own read next) → AreSteps arrays s.reserved ins s.first s.first (behind_copies s ins rs own)
-      behind_hold room few can held =
-          steps_join arrays s.reserved ins s.first s.first next copies (own read next) refl (laws.steps arrays s ins rs room few can known (made_front arrays s.first copies (own read next) made))
+      pub behind_hold : AreOperands s rs → AreSteps arrays s.reserved read next next (own read next) → AreSteps arrays s.reserved ins s.first s.first (behind_copies s ins rs own)
+      behind_hold can held =
+          steps_join arrays s.reserved ins s.first s.first next copies (own read next) refl (laws.steps arrays s ins rs can known (made_front arrays s.first copies (own read next) made))
           (steps_more arrays s.reserved ins read s.first next next (own read next) (omega arith) (omega arith) (laws.given s ins rs ins_long) held)
 
       module _ (at : Elements) (solves : SolveSteps arrays at (behind_copies s ins rs own)) where

@@ -9,7 +9,7 @@ use Rattle.cu_form.specs.declared.args.Arg.{Arg}
 use Rattle.cu_form.specs.declared.form.Form.{Form}
 use Rattle.cu_node.specs.Info.{info_at}
 use Rattle.cu_node.specs.declared.info.NodeInfo.{NodeInfo}
-use Rattle.cu_meaning.specs.Argument.{NodeElements, shape_at}
+use Rattle.cu_meaning.specs.Argument.{NodeElements, shape_of_node}
 use Rattle.cu_meaning.specs.Rule.{rule_of}
 use Rattle.cu_need.specs.Need.{IsTyped}
 use Rattle.cu_need.specs.Operands.{left_wanted, operands_of, right_wanted}
@@ -21,14 +21,14 @@ use Rattle.cu_lower.specs.Parts.{copying, product_of, setting, steps_of, CanCopy
 use Rattle.cu_lower.specs.declared.options.Options.{Options}
 use Rattle.cu_lower.proofs.Applied.{Told}
 use Rattle.cu_lower.proofs.Behind.{behind_hold, behind_last, own_known, own_solved, read_known, read_value}
-use Rattle.cu_lower.proofs.OperandSteps.{copy_setting, made_few, own_setting, HasRoom}
+use Rattle.cu_lower.proofs.OperandSteps.{made_few, misaligned_few, own_setting, HasRoom}
 use Rattle.cu_lower.proofs.ProductValues.{product_told}
 use Rattle.cu_lower.proofs.StepLaws.{HaveLaws}
 
-module _ (laws : HaveLaws) (infos : List NodeInfo) (options : Options) (arrays : List ArrayInfo) (k first : ℕ) (room : HasRoom options first) where
+module _ (laws : HaveLaws) (infos : List NodeInfo) (options : Options) (arrays : List ArrayInfo) (k first : ℕ) where
   -- ---- a product of nodes l and m, whose arrays are a and b
 
-  module _ (l m a b : ℕ) (can : CanCopy infos options k (Form.Matmul (Arg.Node l ∷ Arg.Node m ∷ [])) first)
+  module _ (room : HasRoom options first) (l m a b : ℕ) (can : CanCopy infos options k (Form.Matmul (Arg.Node l ∷ Arg.Node m ∷ [])) first)
       (product : (ins : List ℕ) → IsProduct (product_of infos k (Arg.Node l ∷ Arg.Node m ∷ []) ins)) (left : HasInfo arrays a (info_at infos l)) (right : HasInfo arrays b (info_at infos m))
       (made : HaveInfos arrays first (all_made (steps_of infos options k (Form.Matmul (Arg.Node l ∷ Arg.Node m ∷ [])) (a ∷ b ∷ []) first))) where
     abbrev form : Form
@@ -45,10 +45,11 @@ module _ (laws : HaveLaws) (infos : List NodeInfo) (options : Options) (arrays :
 
     next_few : next ≤ first + 16
     next_few =
-        let c = laws.operands.sizes (copying options first) (a ∷ b ∷ []) (operands_of infos k form) (copy_setting options first room) can.few can.operands refl in
+        let c = laws.operands.sizes (copying options first) (a ∷ b ∷ []) (operands_of infos k form) can.operands refl in
         let few = c.few in
+        let two = misaligned_few (operands_of infos k form) in
         let most = made_few (aligned_steps (copying options first) (a ∷ b ∷ []) (operands_of infos k form)) in
-        omega (arith, few, most)
+        omega (arith, few, two, most)
 
     reads_known : HaveEach arrays reads
         (rechunked (left_wanted (info_at infos k) (info_at infos l) (info_at infos m)) ∷ rechunked (right_wanted (info_at infos k) (info_at infos l) (info_at infos m)) ∷ [])
@@ -59,12 +60,12 @@ module _ (laws : HaveLaws) (infos : List NodeInfo) (options : Options) (arrays :
 
     pub multiply_steps : AreSteps arrays options.reserved (a ∷ b ∷ []) first first (steps_of infos options k (Form.Matmul (Arg.Node l ∷ Arg.Node m ∷ [])) (a ∷ b ∷ []) first)
     multiply_steps =
-        behind_hold laws.operands (copying options first) (a ∷ b ∷ []) (operands_of infos k form) own arrays (left, (right, tt)) made (copy_setting options first room) can.few can.operands
+        behind_hold laws.operands (copying options first) (a ∷ b ∷ []) (operands_of infos k form) own arrays (left, (right, tt)) made can.operands
         (laws.products.steps arrays (setting options next) (product_of infos k (Arg.Node l ∷ Arg.Node m ∷ []) reads) (own_setting options first next room next_few) (product reads) reads_known.0 reads_known.1.0 made_known)
 
     pub multiply_told : (must : Bool) (elements meaning : NodeElements) (at : Elements) → SolveSteps arrays at (steps_of infos options k (Form.Matmul (Arg.Node l ∷ Arg.Node m ∷ [])) (a ∷ b ∷ []) first)
-        → ((i : List ℕ) → IsInside (shape_at infos l) i → Told must (at a i) (meaning l i)) → ((i : List ℕ) → IsInside (shape_at infos m) i → Told must (at b i) (meaning m i))
-        → (idx : List ℕ) → IsInside (shape_at infos k) idx
+        → ((i : List ℕ) → IsInside (shape_of_node infos l) i → Told must (at a i) (meaning l i)) → ((i : List ℕ) → IsInside (shape_of_node infos m) i → Told must (at b i) (meaning m i))
+        → (idx : List ℕ) → IsInside (shape_of_node infos k) idx
         → Told must (at (last_made first (steps_of infos options k (Form.Matmul (Arg.Node l ∷ Arg.Node m ∷ [])) (a ∷ b ∷ []) first)) idx) (rule_of infos elements meaning k (Form.Matmul (Arg.Node l ∷ Arg.Node m ∷ [])) idx)
     multiply_told must elements meaning at solves lefts rights idx inside =
         let x = product_of infos k (Arg.Node l ∷ Arg.Node m ∷ []) reads in
@@ -84,10 +85,10 @@ module _ (laws : HaveLaws) (infos : List NodeInfo) (options : Options) (arrays :
     pub rechunk_steps : IsStaged (copying options first) (in_chunks (info_at infos m) (info_at infos k).chunk) → HasInfo arrays a (info_at infos m)
         → HaveInfos arrays first (all_made (steps_of infos options k (Form.Rechunk (Arg.Node m ∷ []) chunk) (a ∷ []) first))
         → AreSteps arrays options.reserved (a ∷ []) first first (steps_of infos options k (Form.Rechunk (Arg.Node m ∷ []) chunk) (a ∷ []) first)
-    rechunk_steps staged known made = laws.rechunks.steps arrays (copying options first) a (in_chunks (info_at infos m) (info_at infos k).chunk) (copy_setting options first room) staged known made
+    rechunk_steps staged known made = laws.rechunks.steps arrays (copying options first) a (in_chunks (info_at infos m) (info_at infos k).chunk) staged known made
 
     pub rechunk_told : (must : Bool) (elements meaning : NodeElements) (at : Elements) → IsTyped infos k (Form.Rechunk (Arg.Node m ∷ []) chunk) → SolveSteps arrays at (steps_of infos options k (Form.Rechunk (Arg.Node m ∷ []) chunk) (a ∷ []) first)
-        → ((i : List ℕ) → IsInside (shape_at infos m) i → Told must (at a i) (meaning m i)) → (idx : List ℕ) → IsInside (shape_at infos k) idx
+        → ((i : List ℕ) → IsInside (shape_of_node infos m) i → Told must (at a i) (meaning m i)) → (idx : List ℕ) → IsInside (shape_of_node infos k) idx
         → Told must (at (last_made first (steps_of infos options k (Form.Rechunk (Arg.Node m ∷ []) chunk) (a ∷ []) first)) idx) (rule_of infos elements meaning k (Form.Rechunk (Arg.Node m ∷ []) chunk) idx)
     rechunk_told must elements meaning at typed solves sources idx inside =
         subst (λ (o : Option ℤ). Told must o (meaning m idx)) (sym (laws.rechunks.value arrays at (copying options first) a (in_chunks (info_at infos m) (info_at infos k).chunk) solves idx))
@@ -98,7 +99,7 @@ module _ (laws : HaveLaws) (infos : List NodeInfo) (options : Options) (arrays :
   module _ (a : ℕ) (name : List ℕ) where
     pub input_steps : IsStaged (copying options first) (in_chunks (info_at infos k) (info_at infos k).chunk) → HasInfo arrays a (info_at infos k)
         → HaveInfos arrays first (all_made (steps_of infos options k (Form.Input name) (a ∷ []) first)) → AreSteps arrays options.reserved (a ∷ []) first first (steps_of infos options k (Form.Input name) (a ∷ []) first)
-    input_steps staged known made = laws.rechunks.steps arrays (copying options first) a (in_chunks (info_at infos k) (info_at infos k).chunk) (copy_setting options first room) staged known made
+    input_steps staged known made = laws.rechunks.steps arrays (copying options first) a (in_chunks (info_at infos k) (info_at infos k).chunk) staged known made
 
     pub input_told : (must : Bool) (elements meaning : NodeElements) (at : Elements) → SolveSteps arrays at (steps_of infos options k (Form.Input name) (a ∷ []) first) → (idx : List ℕ) → Told must (at a idx) (elements k idx)
         → Told must (at (last_made first (steps_of infos options k (Form.Input name) (a ∷ []) first)) idx) (rule_of infos elements meaning k (Form.Input name) idx)

@@ -3,7 +3,7 @@ use Rattle.std.proofs.Common.{◌≡◌, ℕ, ◌≤◌, ◌+◌, ◌==◌, if�
 use Rattle.std.specs.Prelude.{nat_lt, slice_get}
 use Rattle.std.proofs.lemmas.Bool.{cases_Bool, ltb-false}
 use Rattle.std.proofs.lemmas.List.Sums.{sum_by-cons}
-use Rattle.cu_op.specs.Cells.{tasks_of as operation_tasks}
+use Rattle.cu_op.specs.Cells.{tasks_of}
 use Rattle.cu_op.specs.Sound.{made_chunks}
 use Rattle.cu_op.specs.declared.layout.ArrayInfo.{ArrayInfo}
 use Rattle.cu_op.specs.declared.operation.Planned.{Planned}
@@ -12,7 +12,7 @@ use Rattle.cu_form.specs.declared.expr.Node.{Node}
 use Rattle.cu_form.specs.declared.form.Form.{Form}
 use Rattle.cu_node.specs.declared.info.NodeInfo.{NodeInfo}
 use Rattle.cu_expr.specs.declared.inputs.InputInfo.{InputInfo}
-use Rattle.cu_need.specs.Counts.{tasks_of, cells_of, over_limit, plan_counts}
+use Rattle.cu_need.specs.Counts.{node_tasks, node_cells, over_limit, plan_counts}
 use Rattle.cu_need.specs.Live.{is_live, live_behind, IsClosed}
 use Rattle.cu_need.specs.declared.counts.PlanCounts.{PlanCounts}
 use Rattle.cu_lower_reduce.specs.Steps.{made_infos, step_tasks, AreSteps}
@@ -20,7 +20,7 @@ use Rattle.cu_copy.specs.Copies.{in_chunks, max_mem, rechunk_cells, rechunk_task
 use Rattle.cu_lower_reduce.specs.declared.step.Step.{Step}
 use Rattle.cu_node.specs.Info.{info_at}
 use Rattle.cu_lower.specs.Inputs.{input_array, input_names, input_place}
-use Rattle.cu_lower.specs.Parts.{Grown, IsGrown, is_given, sources_of, with_steps, with_last, with_place}
+use Rattle.cu_lower.specs.Parts.{Grown, IsGrown, is_given, source_places, with_steps, with_last, with_place}
 use Rattle.cu_lower.specs.Plan.{first_grown, grown_after}
 use Rattle.cu_lower.specs.Premises.{IsLowerable}
 use Rattle.cu_lower.specs.declared.options.Options.{Options}
@@ -43,20 +43,20 @@ dead_first e k n ns h = rw h refl
 
 -- the tasks of steps are those that are counted of each
 steps_sum : (arrays : List ArrayInfo) (reserved : ℕ) (ins : List ℕ) (first next : ℕ) (ss : List Step) → AreSteps arrays reserved ins first next ss
-    → sum_by (λ (s : Step). operation_tasks arrays s.op) ss ≡ sum_by step_tasks ss
+    → sum_by (λ (s : Step). tasks_of arrays s.op) ss ≡ sum_by step_tasks ss
 steps_sum arrays reserved ins first next [] are = refl
 steps_sum arrays reserved ins first next (s ∷ ss) are =
-    let a = sum_by-cons (λ (s : Step). operation_tasks arrays s.op) s ss in
+    let a = sum_by-cons (λ (s : Step). tasks_of arrays s.op) s ss in
     let b = sum_by-cons step_tasks s ss in
     let own = are.0.tasks in
     let rest = steps_sum arrays reserved ins first (next + length (made_infos s)) ss are.1 in
     omega (arith, a, b, own, rest)
 
 -- an input that isn't stored has none
-given_tasks : (most split_every : ℕ) (infos : List NodeInfo) (out k : ℕ) (name : List ℕ) → (k == out) ≡ false → tasks_of most split_every infos out k (Form.Input name) ≡ 0
+given_tasks : (most split_every : ℕ) (infos : List NodeInfo) (out k : ℕ) (name : List ℕ) → (k == out) ≡ false → node_tasks most split_every infos out k (Form.Input name) ≡ 0
 given_tasks most split_every infos out k name other = ap (λ (b : Bool). sum_by (rechunk_tasks most) (if b then in_chunks (info_at infos k) (info_at infos k).chunk ∷ [] else []) + 0) other
 
-given_cells : (most split_every : ℕ) (infos : List NodeInfo) (out k : ℕ) (name : List ℕ) → (k == out) ≡ false → cells_of most split_every infos out k (Form.Input name) ≡ 0
+given_cells : (most split_every : ℕ) (infos : List NodeInfo) (out k : ℕ) (name : List ℕ) → (k == out) ≡ false → node_cells most split_every infos out k (Form.Input name) ≡ 0
 given_cells most split_every infos out k name other = ap (λ (b : Bool). sum_by (rechunk_cells most) (if b then in_chunks (info_at infos k) (info_at infos k).chunk ∷ [] else []) + 0) other
 
 module _ (e : Expression) (infos : List NodeInfo) (inputs : List InputInfo) (options : Options) (ok : IsLowerable e infos inputs options) (laws : HaveLaws) (closed : IsClosed e (is_live e)) where
@@ -112,11 +112,11 @@ module _ (e : Expression) (infos : List NodeInfo) (inputs : List InputInfo) (opt
   next_given g n h i = growing.live_next e infos options g n.form h.live ∙ node_given e infos options g n.form (length g.places) refl i
 
   abbrev task_total : Grown → ℕ
-  task_total g = sum_by (λ (o : Planned). operation_tasks grown.arrays o.op) g.ops
+  task_total g = sum_by (λ (o : Planned). tasks_of grown.arrays o.op) g.ops
 
-  node_tasks : (g : Grown) (n : Node) → IsNext g n → is_given e (length g.places) n.form ≡ false
-      → sum_by (λ (s : Step). operation_tasks grown.arrays s.op) (growing.own_steps e infos options g n.form) ≡ tasks_of most options.split_every infos e.out (length g.places) n.form
-  node_tasks g n h other =
+  made_tasks : (g : Grown) (n : Node) → IsNext g n → is_given e (length g.places) n.form ≡ false
+      → sum_by (λ (s : Step). tasks_of grown.arrays s.op) (growing.own_steps e infos options g n.form) ≡ node_tasks most options.split_every infos e.out (length g.places) n.form
+  made_tasks g n h other =
       let k = length g.places in
       let steps = all_steps e infos inputs options ok laws in
       let front = subst (λ (x : Grown). Front x grown) (next_made g n h other) h.front in
@@ -125,31 +125,31 @@ module _ (e : Expression) (infos : List NodeInfo) (inputs : List InputInfo) (opt
       let own = growing.own_steps e infos options g n.form in
       let before : Front g grown = front_then g (with_steps e g own) grown (growing.front_steps e g own) (standing.steps_front e infos inputs options ok.form steps g own front) in
       let same = standing.own_same e infos inputs options ok.form steps g k n n.form h.at refl refl before in
-      let sum = steps_sum grown.arrays options.reserved (sources_of e grown.places n.form) (length g.arrays) (length g.arrays) (placed.steps_at e infos inputs options ok laws (length g.places) n.form (length g.arrays))
+      let sum = steps_sum grown.arrays options.reserved (source_places e grown.places n.form) (length g.arrays) (length g.arrays) (placed.steps_at e infos inputs options ok laws (length g.places) n.form (length g.arrays))
       (operations.node_steps e infos inputs options ok laws closed (length g.places) n.form s) in
-      ap (sum_by (λ (s : Step). operation_tasks grown.arrays s.op)) same ∙ sum
+      ap (sum_by (λ (s : Step). tasks_of grown.arrays s.op)) same ∙ sum
       ∙ (node_own e infos inputs options ok laws k n n.form h.at refl h.live other grown.places (length g.arrays) small).tasks
 
-  more_tasks : (g : Grown) (n : Node) → IsNext g n → task_total (next g n.form) ≡ task_total g + tasks_of most options.split_every infos e.out (length g.places) n.form
+  more_tasks : (g : Grown) (n : Node) → IsNext g n → task_total (next g n.form) ≡ task_total g + node_tasks most options.split_every infos e.out (length g.places) n.form
   more_tasks g n h =
       elim (given_kind e (length g.places) n.form) [
         | inl i ↦
             let new = ap task_total (next_given g n h i) in
-            let none = ap (tasks_of most options.split_every infos e.out (length g.places)) i.is ∙ given_tasks most options.split_every infos e.out (length g.places) i.name i.other in
+            let none = ap (node_tasks most options.split_every infos e.out (length g.places)) i.is ∙ given_tasks most options.split_every infos e.out (length g.places) i.name i.other in
             omega (arith, new, none)
         | inr other ↦
             let new = ap task_total (next_made g n h other) in
             let sum = steps_tasks e grown.arrays g (growing.own_steps e infos options g n.form) in
-            let own = node_tasks g n h other in
+            let own = made_tasks g n h other in
             omega (arith, new, sum, own)
       ]
 
-  more_cells : (g : Grown) (n : Node) → IsNext g n → sum_by made_chunks (next g n.form).arrays ≡ sum_by made_chunks g.arrays + cells_of most options.split_every infos e.out (length g.places) n.form
+  more_cells : (g : Grown) (n : Node) → IsNext g n → sum_by made_chunks (next g n.form).arrays ≡ sum_by made_chunks g.arrays + node_cells most options.split_every infos e.out (length g.places) n.form
   more_cells g n h =
       elim (given_kind e (length g.places) n.form) [
         | inl i ↦
             let new = ap (λ (x : Grown). sum_by made_chunks x.arrays) (next_given g n h i) in
-            let none = ap (cells_of most options.split_every infos e.out (length g.places)) i.is ∙ given_cells most options.split_every infos e.out (length g.places) i.name i.other in
+            let none = ap (node_cells most options.split_every infos e.out (length g.places)) i.is ∙ given_cells most options.split_every infos e.out (length g.places) i.name i.other in
             omega (arith, new, none)
         | inr other ↦
             let new = ap (λ (x : Grown). sum_by made_chunks x.arrays) (next_made g n h other) in
@@ -158,10 +158,10 @@ module _ (e : Expression) (infos : List NodeInfo) (inputs : List InputInfo) (opt
             omega (arith, new, sum, own)
       ]
 
-  pub tasks_all : sum_by (λ (o : Planned). operation_tasks grown.arrays o.op) grown.ops ≡ (plan_counts (max_mem options.allowed options.reserved) options.split_every e infos).tasks
+  pub tasks_all : sum_by (λ (o : Planned). tasks_of grown.arrays o.op) grown.ops ≡ (plan_counts (max_mem options.allowed options.reserved) options.split_every e infos).tasks
   tasks_all =
       let steps = all_steps e infos inputs options ok laws in
-      let sum = grows_by task_total (λ numbered. tasks_of most options.split_every infos e.out numbered.0 numbered.1.form) more_tasks
+      let sum = grows_by task_total (λ numbered. node_tasks most options.split_every infos e.out numbered.0 numbered.1.form) more_tasks
       (λ g n dead. ap task_total (growing.dead_next e infos options g n.form dead))
       (first_grown e inputs) e.nodes 0 refl (standing.from_first e infos inputs options ok.form (all_steps e infos inputs options ok laws)) (standing.at_first e infos inputs options ok.form (all_steps e infos inputs options ok laws)) (front_here grown) in
       omega (arith, sum)
@@ -174,7 +174,7 @@ module _ (e : Expression) (infos : List NodeInfo) (inputs : List InputInfo) (opt
   pub cells_all : sum_by made_chunks grown.arrays ≡ (plan_counts (max_mem options.allowed options.reserved) options.split_every e infos).cells
   cells_all =
       let none = no_cells (input_names e) in
-      let sum = grows_by (λ g. sum_by made_chunks g.arrays) (λ numbered. cells_of most options.split_every infos e.out numbered.0 numbered.1.form) more_cells
+      let sum = grows_by (λ g. sum_by made_chunks g.arrays) (λ numbered. node_cells most options.split_every infos e.out numbered.0 numbered.1.form) more_cells
       (λ g n dead. ap (λ (x : Grown). sum_by made_chunks x.arrays) (growing.dead_next e infos options g n.form dead))
       (first_grown e inputs) e.nodes 0 refl (standing.from_first e infos inputs options ok.form (all_steps e infos inputs options ok laws)) (standing.at_first e infos inputs options ok.form (all_steps e infos inputs options ok laws)) (front_here grown) in
       omega (arith, sum, none)

@@ -14,7 +14,7 @@ use Rattle.cu_node.specs.declared.index_item.IndexItem.{IndexItem}
 use Rattle.cu_pull.specs.Pull.{counts_of_runs, taken_by, sliced as read_by_runs}
 use Rattle.cu_typing_view.specs.Entries.{takes_axis, step_of, count_taken, untaken, is_wrong, first_wrong, index_shape}
 use Rattle.cu_meaning.specs.Index.{natural}
-use Rattle.cu_meaning.specs.View.{takes_axis as takes_one, sliced, indexed_from, indexed}
+use Rattle.cu_meaning.specs.View.{takes_axis as takes_one, sliced_index, indexed_from, indexed}
 use Rattle.cu_lower_view.specs.Runs.{whole_run, single_run, slice_run, index_runs}
 
 -- ---- shapes one behind the other
@@ -79,7 +79,7 @@ slice_count : (start stop step : Option ℤ) (n : ℕ) → int_eq (step_of step)
 unfolding count_taken slice_run
 slice_count start stop step n h = rw h refl
 
-slice_taken : (start stop : Option ℤ) (step : ℤ) (n i : ℕ) → int_eq step (pos 0) ≡ false → at_least_zero (index_taken (slice_run start stop step n) i) ≡ sliced start stop step n i
+slice_taken : (start stop : Option ℤ) (step : ℤ) (n i : ℕ) → int_eq step (pos 0) ≡ false → at_least_zero (index_taken (slice_run start stop step n) i) ≡ sliced_index start stop step n i
 unfolding slice_run
 slice_taken start stop step n i h = rw h (natural_same (pos (first_of start stop step n) +ℤ pos i *ℤ step))
 
@@ -173,7 +173,7 @@ reads more seen k (IndexItem.Slice start stop step ∷ items) (n ∷ ns) (i ∷ 
       place = ap (λ p. i * p + place_of (index_shape more items ns) idx) r.sizes ∙ ap (λ p. i * product (counts_of_runs runs) + p) r.place;
       inside = (subst (λ (c : ℕ). i < c) count h.0, r.inside);
       taken = ap (λ j. j ∷ taken_by runs there) (slice_taken start stop (step_of step) n i some)
-          ∙ ap (λ is. sliced start stop (step_of step) n i ∷ is) r.taken;
+          ∙ ap (λ is. sliced_index start stop (step_of step) n i ∷ is) r.taken;
     }
 reads more seen k (IndexItem.New ∷ items) ns [] right spare h = absurd h
 reads more seen k (IndexItem.New ∷ items) ns (i ∷ idx) right spare h =

@@ -31,7 +31,7 @@ use Rattle.cu_typing.specs.declared.argument.Argument.{Argument}
 use Rattle.cu_typing.specs.declared.argument.Argument.TheVariants.{Array, Written}
 use Rattle.cu_expr.specs.Typing.{argument_of}
 use Rattle.cu_copy.specs.Copies.{rechunked}
-use Rattle.cu_need.specs.Chunks.{aligned_bytes, arrays_in, chunk_bytes, greatest}
+use Rattle.cu_need.specs.Chunks.{aligned_bytes, arrays_in, chunk_bytes, largest}
 use Rattle.cu_need.specs.Need.{own_need}
 use Rattle.cu_need.specs.Operands.{in_aligned, operands_of}
 use Rattle.cu_num.specs.Dtype.{InRange}
@@ -46,19 +46,19 @@ use Rattle.cu_lower_view.specs.Sources.{source_shapes}
 use Rattle.cu_lower_view.specs.Typed.{IsTypedView, IsPull, SuitsType}
 use Rattle.cu_lower.proofs.FormKinds.{view_steps, view_needs, sources_in}
 use Rattle.std.proofs.lemmas.List.Elements.{All-head, All-tail}
-use Rattle.cu_lower_reduce.specs.Copies.{aligned_places, aligned_steps, IsCopySetting}
+use Rattle.cu_lower_reduce.specs.Copies.{aligned_places, aligned_steps}
 use Rattle.cu_lower_reduce.specs.Steps.{all_made, HasInfo, HaveEach, HaveInfos, IsGiven, AreSteps}
 use Rattle.cu_lower_reduce.specs.declared.step.Step.{Step}
 use Rattle.cu_tree.specs.Partials.{chunks_of}
 use Rattle.cu_lower.specs.declared.options.Options.{Options}
-use Rattle.cu_lower.specs.Parts.{array_places, code_of, copying, type_or_bool, map_of, only_step, pull_in, view_op, steps_of, CanCopy}
+use Rattle.cu_lower.specs.Parts.{array_places, instructions_of, copying, type_or_bool, map_of, only_step, pull_in, view_op, steps_of, CanCopy}
 use Rattle.cu_lower.proofs.Arguments.{Each, each_so, mapped_places, arrays_told}
 use Rattle.cu_lower.proofs.Behind.{behind_hold, own_known, read_known}
 use Rattle.cu_lower.proofs.StepLaws.{HaveLaws}
 
 -- ---- sums and greatest numbers
 
-same_greatest : (ns : List ℕ) → greatest ns ≡ room.greatest ns
+same_greatest : (ns : List ℕ) → largest ns ≡ room.largest ns
 same_greatest [] = refl
 same_greatest (n ∷ ns) = ap (max n) (same_greatest ns)
 
@@ -109,34 +109,31 @@ module _ (arrays : List ArrayInfo) where
 
   -- the greatest chunk of the arrays that are read and of the one that is made
   greatest_of : (made : NodeInfo) (out : ℕ) (read rooms : List ℕ) → HasInfo arrays out made → map (chunk_room arrays) read ≡ rooms
-      → room.greatest (map (chunk_room arrays) (read ++ out ∷ [])) ≡ greatest (chunk_bytes made ∷ rooms)
+      → room.largest (map (chunk_room arrays) (read ++ out ∷ [])) ≡ largest (chunk_bytes made ∷ rooms)
   greatest_of made out read rooms own same =
-      ap room.greatest (map_push (chunk_room arrays) read out)
+      ap room.largest (map_push (chunk_room arrays) read out)
       ∙ greatest_push (map (chunk_room arrays) read) (chunk_room arrays out)
-      ∙ ap (λ r. max r (room.greatest (map (chunk_room arrays) read))) (room_of_known out made own)
-      ∙ ap (max (chunk_bytes made)) (ap room.greatest same ∙ sym (same_greatest rooms))
+      ∙ ap (λ r. max r (room.largest (map (chunk_room arrays) read))) (room_of_known out made own)
+      ∙ ap (max (chunk_bytes made)) (ap room.largest same ∙ sym (same_greatest rooms))
 
   wanted_rooms : (made : NodeInfo) (read : List ℕ) (is : List NodeInfo) → HaveEach arrays read (wanted made is) → map (chunk_room arrays) read ≡ map (aligned_bytes made) is
   wanted_rooms made [] [] h = refl
-  wanted_rooms made [] (i ∷ is) h = absurd h
-  wanted_rooms made (a ∷ read) [] h = absurd h
   wanted_rooms made (a ∷ read) (i ∷ is) h = λ j. room_of_known a (rechunked (in_aligned made i)) h.0 j ∷ wanted_rooms made read is h.1 j
+  wanted_rooms made read is h = absurd h
 
   wanted_types : (made : NodeInfo) (read : List ℕ) (is : List NodeInfo) → HaveEach arrays read (wanted made is) → map (type_at arrays) read ≡ types_of is
   wanted_types made [] [] h = refl
-  wanted_types made [] (i ∷ is) h = absurd h
-  wanted_types made (a ∷ read) [] h = absurd h
   wanted_types made (a ∷ read) (i ∷ is) h = λ j. h.0.dtype j ∷ wanted_types made read is h.1 j
+  wanted_types made read is h = absurd h
 
   pub wanted_aligned : (made : NodeInfo) (out : ℕ) (read : List ℕ) (is : List NodeInfo) → HasInfo arrays out made → HaveEach arrays read (wanted made is) → All (λ i. IsAligned (aligned_grid made i) (result_grid made)) is
       → All (λ a. IsAligned (grid_at arrays a) (grid_at arrays out)) read
   wanted_aligned made out [] [] own h all = All-nil (λ a. IsAligned (grid_at arrays a) (grid_at arrays out))
-  wanted_aligned made out [] (i ∷ is) own h all = absurd h
-  wanted_aligned made out (a ∷ read) [] own h all = absurd h
   wanted_aligned made out (a ∷ read) (i ∷ is) own h all =
       All-cons (λ b. IsAligned (grid_at arrays b) (grid_at arrays out)) a read
       (subst (λ (g : RegularGrid). IsAligned (grid_at arrays a) g) (sym own.grid) (subst (λ (g : RegularGrid). IsAligned g (result_grid made)) (sym h.0.grid) (All-head (λ x. IsAligned (aligned_grid made x) (result_grid made)) i is all)))
       (wanted_aligned made out read is own h.1 (All-tail (λ x. IsAligned (aligned_grid made x) (result_grid made)) i is all))
+  wanted_aligned made out read is own h all = absurd h
 
 module _ (infos : List NodeInfo) (options : Options) (arrays : List ArrayInfo) (places : List ℕ) (k first : ℕ) where
   -- the array of a node has the node's type and grid
@@ -191,10 +188,10 @@ module _ (infos : List NodeInfo) (options : Options) (arrays : List ArrayInfo) (
         (subst (λ (is : List NodeInfo). All A is) (arrays_told infos args) (elementwise_map op (map (argument_of infos) args) t (info_at infos k) typed).aligned)
 
     -- the code of the node is the kernel of its function
-    pub code_is : code_of op (map (argument_of infos) args) ≡ kernel_of op t (map (argument_of infos) args)
+    pub code_is : instructions_of op (map (argument_of infos) args) ≡ kernel_of op t (map (argument_of infos) args)
     code_is = ap (λ r. kernel_of op (type_or_bool r) (map (argument_of infos) args)) typed.shared
 
-    fits : MapFits arrays (code_of op (map (argument_of infos) args)) reads out
+    fits : MapFits arrays (instructions_of op (map (argument_of infos) args)) reads out
     fits =
         let types : map (type_at arrays) reads ≡ types_of (arrays_of (map (argument_of infos) args)) = wanted_types arrays (info_at infos k) reads (arrays_in infos args) reads_known ∙ ap types_of (sym (arrays_told infos args)) in
         record {
@@ -213,14 +210,14 @@ module _ (infos : List NodeInfo) (options : Options) (arrays : List ArrayInfo) (
         let result = room_of_known arrays out r out_known in
         let scratch = greatest_of arrays r out reads (map (aligned_bytes r) is) out_known rooms in
         let sums : sum_by (chunk_room arrays) reads ≡ sum_by (aligned_bytes r) is = sum_mapped (chunk_room arrays) reads ∙ ap (sum_by (λ n. n)) rooms ∙ sym (sum_mapped (aligned_bytes r) is) in
-        let steps : length (code_of op (map (argument_of infos) args)) ≡ length args + 1 =
+        let steps : length (instructions_of op (map (argument_of infos) args)) ≡ length args + 1 =
         ap length code_is ∙ kernel_long op t (map (argument_of infos) args) ∙ ap (λ n. n + 1) (length-map args (argument_of infos)) in
         omega (arith, result, scratch, sums, steps)
 
-    pub map_steps : IsCopySetting (copying options first) → CanCopy infos options k (Form.Elementwise op args) first
+    pub map_steps : CanCopy infos options k (Form.Elementwise op args) first
         → AreSteps arrays options.reserved (array_places places args) first first (steps_of infos options k (Form.Elementwise op args) (array_places places args) first)
-    map_steps room can =
-        behind_hold laws.operands (copying options first) (array_places places args) (operands_of infos k form) own_step arrays (sources_known (info_at infos k) args s.known) s.made room can.few can.operands
+    map_steps can =
+        behind_hold laws.operands (copying options first) (array_places places args) (operands_of infos k form) own_step arrays (sources_known (info_at infos k) args s.known) s.made can.operands
         (record { writes = refl; reads = given_all reads out out; fits = fits; need = projected; tasks = task_count out out_known }, tt)
 
   -- ---- a view

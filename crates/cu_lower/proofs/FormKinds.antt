@@ -17,11 +17,11 @@ use Rattle.cu_expr.specs.Typing.{argument_of, typed_form}
 use Rattle.cu_need.specs.Chunks.{arrays_in}
 use Rattle.cu_need.specs.Need.{own_need}
 use Rattle.cu_need.specs.View.{is_view, view_need}
-use Rattle.cu_lower_view.specs.Sources.{sources_of as view_sources_of}
+use Rattle.cu_lower_view.specs.Sources.{sources_of}
 use Rattle.cu_lower_view.specs.Typed.{typed_as_view}
 use Rattle.cu_lower.proofs.ViewRules.{all_arrays}
 use Rattle.cu_lower.specs.Inputs.{input_place}
-use Rattle.cu_lower.specs.Parts.{Grown, array_places, is_given, sources_of, view_op, only_step, steps_of, with_made, with_node, with_place}
+use Rattle.cu_lower.specs.Parts.{Grown, array_places, is_given, source_places, view_op, only_step, steps_of, with_made, with_next_node, with_place}
 
 -- ---- inputs that are given, and others
 
@@ -47,14 +47,14 @@ stored false h = cc
 pub input_stored : (e : Expression) (k : ℕ) (name : List ℕ) → is_given e k (Form.Input name) ≡ false → (k == e.out) ≡ true
 input_stored e k name h = stored (k == e.out) h
 
-pub node_made : (e : Expression) (infos : List NodeInfo) (options : Options) (g : Grown) (f : Form) → is_given e (length g.places) f ≡ false → with_node e infos options g f ≡ with_made e infos options g f
+pub node_made : (e : Expression) (infos : List NodeInfo) (options : Options) (g : Grown) (f : Form) → is_given e (length g.places) f ≡ false → with_next_node e infos options g f ≡ with_made e infos options g f
 node_made e infos options g (Form.Input name) made =
     ap (λ (b : Bool). if b then with_made e infos options g (Form.Input name) else with_place g (input_place e name)) (input_stored e (length g.places) name made)
 node_made e infos options g f made = refl
 
-pub node_given : (e : Expression) (infos : List NodeInfo) (options : Options) (g : Grown) (f : Form) (k : ℕ) → length g.places ≡ k → (i : IsGivenInput e k f) → with_node e infos options g f ≡ with_place g (input_place e i.name)
+pub node_given : (e : Expression) (infos : List NodeInfo) (options : Options) (g : Grown) (f : Form) (k : ℕ) → length g.places ≡ k → (i : IsGivenInput e k f) → with_next_node e infos options g f ≡ with_place g (input_place e i.name)
 node_given e infos options g f k number i =
-    ap (with_node e infos options g) i.is
+    ap (with_next_node e infos options g) i.is
     ∙ ap (λ (b : Bool). if b then with_made e infos options g (Form.Input i.name) else with_place g (input_place e i.name)) (ap (λ n. n == e.out) number ∙ i.other)
 
 -- ---- the kinds of forms
@@ -133,7 +133,7 @@ view_needs reserved split_every infos k (Form.Matmul args) view = cc
 view_needs reserved split_every infos k f view = ap (λ (b : Bool). if b then view_need reserved (info_at infos k) (arrays_in infos (args_of f)) else reserved) view
 
 -- its sources are its arguments' arrays
-pub view_sources : (e : Expression) (places : List ℕ) (f : Form) → is_view f ≡ true → sources_of e places f ≡ array_places places (args_of f)
+pub view_sources : (e : Expression) (places : List ℕ) (f : Form) → is_view f ≡ true → source_places e places f ≡ array_places places (args_of f)
 view_sources e places (Form.Input name) view = cc
 view_sources e places f view = refl
 
@@ -159,7 +159,7 @@ view_arrays (Form.Stack args axis) view takes = all_arrays 1 8 args takes
 view_arrays (Form.Matmul args) view takes = cc
 view_arrays f view takes = all_arrays 1 1 (args_of f) takes
 
-pub sources_in : (infos : List NodeInfo) (args : List Arg) → arrays_in infos args ≡ view_sources_of infos args
+pub sources_in : (infos : List NodeInfo) (args : List Arg) → arrays_in infos args ≡ sources_of infos args
 sources_in infos [] = refl
 sources_in infos (Arg.Node n ∷ args) = ap (λ is. info_at infos n ∷ is) (sources_in infos args)
 sources_in infos (Arg.Int x ∷ args) = sources_in infos args

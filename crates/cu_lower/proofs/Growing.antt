@@ -22,7 +22,7 @@ use Rattle.cu_lower_reduce.specs.declared.step.Step.{Step}
 use Rattle.cu_lower.specs.Inputs.{input_names, input_place}
 use Rattle.cu_lower.specs.Plan.{grown_after}
 use Rattle.cu_lower.specs.declared.options.Options.{Options}
-use Rattle.cu_lower.specs.Parts.{Grown, IsGrowing, IsGrown, HasSteps, Make, sources_of, pair_arrays, is_none, steps_of, with_step, with_steps, with_place, with_last, with_node, with_live}
+use Rattle.cu_lower.specs.Parts.{Grown, IsGrowing, IsGrown, HasSteps, Make, source_places, pair_arrays, is_none, steps_of, with_step, with_steps, with_place, with_last, with_next_node, with_live}
 use Rattle.cu_lower.proofs.InputNames.{input_placed}
 use Rattle.cu_lower.proofs.FormKinds.{given_kind, node_made, node_given}
 
@@ -285,19 +285,19 @@ made_grown e g i ss make known =
 module _ (e : Expression) (infos : List NodeInfo) (options : Options) where
   -- the steps of the next node
   abbrev pub own_steps : Grown → Form → List Step
-  own_steps g form = steps_of infos options (length g.places) form (sources_of e g.places form) (length g.arrays)
+  own_steps g form = steps_of infos options (length g.places) form (source_places e g.places form) (length g.arrays)
 
   abbrev pub next : Grown → Form → Grown
   next g form = with_live e infos options g form
 
-  pub live_next : (g : Grown) (form : Form) → is_live e (length g.places) ≡ true → next g form ≡ with_node e infos options g form
-  live_next g form h = ap (λ (b : Bool). if b then with_node e infos options g form else with_place g 0) h
+  pub live_next : (g : Grown) (form : Form) → is_live e (length g.places) ≡ true → next g form ≡ with_next_node e infos options g form
+  live_next g form h = ap (λ (b : Bool). if b then with_next_node e infos options g form else with_place g 0) h
 
   pub dead_next : (g : Grown) (form : Form) → is_live e (length g.places) ≡ false → next g form ≡ with_place g 0
-  dead_next g form h = ap (λ (b : Bool). if b then with_node e infos options g form else with_place g 0) h
+  dead_next g form h = ap (λ (b : Bool). if b then with_next_node e infos options g form else with_place g 0) h
 
   -- what a node adds is a place, or steps and a place
-  front_node : (g : Grown) (form : Form) → Front g (with_node e infos options g form)
+  front_node : (g : Grown) (form : Form) → Front g (with_next_node e infos options g form)
   front_node g form =
       elim (given_kind e (length g.places) form) [
         | inl input ↦ subst (Front g) (sym (node_given e infos options g form (length g.places) refl input)) (front_place g (input_place e input.name))
@@ -334,7 +334,7 @@ module _ (e : Expression) (infos : List NodeInfo) (options : Options) where
       omega (arith, below, nodes, inputs, arrays, ops)
 
   node_grown : (g : Grown) (form : Form) → length g.arrays < 2 ^ 30 → HasSteps e infos options (length g.places) form
-      → ((name : List ℕ) → form ≡ Form.Input name → input_place e name < length (input_names e)) → IsGrown e g → IsGrown e (with_node e infos options g form)
+      → ((name : List ℕ) → form ≡ Form.Input name → input_place e name < length (input_names e)) → IsGrown e g → IsGrown e (with_next_node e infos options g form)
   node_grown g form small steps placed known =
       elim (given_kind e (length g.places) form) [
         | inl input ↦
@@ -366,7 +366,7 @@ module _ (e : Expression) (infos : List NodeInfo) (options : Options) where
   abbrev pub AreFrom : ℕ → List Node → Type 0
   AreFrom k ns = (i : ℕ) → slice_get ns i ≡ slice_get e.nodes (k + i)
 
-  node_longer : (g : Grown) (form : Form) → length (with_node e infos options g form).places ≡ length g.places + 1
+  node_longer : (g : Grown) (form : Form) → length (with_next_node e infos options g form).places ≡ length g.places + 1
   node_longer g form =
       elim (given_kind e (length g.places) form) [
         | inl input ↦ ap (λ (x : Grown). length x.places) (node_given e infos options g form (length g.places) refl input) ∙ length-append g.places (input_place e input.name ∷ [])

@@ -14,13 +14,13 @@ use Rattle.cu_form.specs.Expression.{Expression}
 use Rattle.cu_form.specs.declared.expr.Node.{Node}
 use Rattle.cu_form.specs.declared.form.Form.{Form}
 use Rattle.cu_node.specs.declared.info.NodeInfo.{NodeInfo}
-use Rattle.cu_meaning.specs.Argument.{NodeElements, shape_at}
+use Rattle.cu_meaning.specs.Argument.{NodeElements, shape_of_node}
 use Rattle.cu_meaning.specs.Meaning.{meaning_of}
 use Rattle.cu_expr.specs.declared.inputs.InputInfo.{InputInfo}
 use Rattle.cu_need.specs.Live.{is_live, IsClosed}
 use Rattle.cu_lower.specs.Inputs.{input_array, input_names, input_place}
-use Rattle.cu_lower.specs.Plan.{lowered, place_in, plan_of}
-use Rattle.cu_lower.specs.Premises.{IsLowerable, IsLiveInput, OutputDiffers, AreThere, HaveElements, IsOfNode, IsOutput, run_of}
+use Rattle.cu_lower.specs.Plan.{lowered, array_of_node, plan_of}
+use Rattle.cu_lower.specs.Premises.{IsLowerable, IsLiveInput, OutputDiffers, AreThere, HaveElements, IsOfNode, IsOutput, expression_run}
 use Rattle.cu_lower.specs.declared.options.Options.{Options}
 use Rattle.cu_lower.proofs.Applied.{Told}
 use Rattle.cu_lower.proofs.Meanings as meanings
@@ -28,6 +28,7 @@ use Rattle.cu_lower.proofs.Meanings.{HaveRanges}
 use Rattle.cu_lower.proofs.Names.{array_name, used_is_name}
 use Rattle.cu_lower.proofs.InputNames.{names_once}
 use Rattle.cu_need.specs.Need.{own_need}
+use Rattle.cu_need.specs.Operands.{copies_of}
 use Rattle.cu_lower_reduce.specs.Steps.{all_made}
 use Rattle.cu_lower_reduce.specs.declared.step.Step.{Step}
 use Rattle.cu_lower.specs.Parts.{Grown, is_given}
@@ -73,12 +74,15 @@ module _ (e : Expression) (infos : List NodeInfo) (inputs : List InputInfo) (opt
         at = w.node.at;
         live = w.node.live;
         allowed = operations.step_allowed e infos inputs options ok laws lives.closed (standing.ops_of e infos inputs options ok.form (all_steps e infos inputs options ok laws)) j w;
+        copies = λ copy none.
+            operations.step_copied e infos inputs options ok laws lives.closed (standing.ops_of e infos inputs options ok.form (all_steps e infos inputs options ok laws)) j w copy
+            (ap (copies_of infos e.out w.k) (sym w.node.is) ∙ none);
         need = λ other. let most = own other in omega (arith, most, same);
       })
 
   -- ---- names
 
-  pub named : (recorded metadata : List ℕ) → OutputDiffers e → HasPlanNames (run_of e (plan_of e infos inputs options) recorded metadata) e.store_as recorded metadata
+  pub named : (recorded metadata : List ℕ) → OutputDiffers e → HasPlanNames (expression_run e (plan_of e infos inputs options) recorded metadata) e.store_as recorded metadata
   named recorded metadata differs = record {
     named = array_name e.store_as ok.form.store_as;
     texts = refl;
@@ -100,7 +104,7 @@ module _ (e : Expression) (infos : List NodeInfo) (inputs : List InputInfo) (opt
 
   -- ---- arrays
 
-  made_output : (n : Node) (f : Form) → slice_get e.nodes e.out ≡ Some n → n.form ≡ f → is_given e e.out f ≡ false → IsOutput e infos (array_at grown.arrays (place_in grown e.out))
+  made_output : (n : Node) (f : Form) → slice_get e.nodes e.out ≡ Some n → n.form ≡ f → is_given e e.out f ≡ false → IsOutput e infos (array_at grown.arrays (array_of_node grown e.out))
   made_output n f at is other =
       let s = placed.node_stands e infos inputs options ok laws e.out n f at is other lives.closed.stored in
       let ss = placed.steps_at e infos inputs options ok laws e.out f (length s.before.arrays) in
@@ -117,9 +121,9 @@ module _ (e : Expression) (infos : List NodeInfo) (inputs : List InputInfo) (opt
       some_steps [] h = absurd (omega arith)
       some_steps (s ∷ ss) h = omega arith
 
-      out_made : (n : Node) (f : Form) → slice_get e.nodes e.out ≡ Some n → n.form ≡ f → is_given e e.out f ≡ false → maker_at grown.arrays (place_in grown e.out) ≡ None → ⊥
+      out_made : (n : Node) (f : Form) → slice_get e.nodes e.out ≡ Some n → n.form ≡ f → is_given e e.out f ≡ false → maker_at grown.arrays (array_of_node grown e.out) ≡ None → ⊥
       out_made n f at is other none =
-          let l = soundness.without_maker e infos inputs options ok laws lives.closed (place_in grown e.out) (soundness.out_within e infos inputs options ok laws lives.closed) none in
+          let l = soundness.without_maker e infos inputs options ok laws lives.closed (array_of_node grown e.out) (soundness.out_within e infos inputs options ok laws lives.closed) none in
           let s = placed.node_stands e infos inputs options ok laws e.out n f at is other lives.closed.stored in
           let first = s.known.growing.inputs in
           let some = make_some _ _ s.make in
@@ -132,7 +136,7 @@ module _ (e : Expression) (infos : List NodeInfo) (inputs : List InputInfo) (opt
   stored_made (Form.Input name) = ap not (eq-eqb e.out e.out refl)
   stored_made f = refl
 
-  pub output : IsOutput e infos (array_at grown.arrays (place_in grown e.out))
+  pub output : IsOutput e infos (array_at grown.arrays (array_of_node grown e.out))
   output =
       let n = get_or e.nodes e.out no_node in
       made_output n n.form (slice_get-get_or e.nodes e.out no_node ok.form.out) refl (stored_made n.form)
@@ -159,22 +163,22 @@ module _ (e : Expression) (infos : List NodeInfo) (inputs : List InputInfo) (opt
 
 module _ (e : Expression) (infos : List NodeInfo) (inputs : List InputInfo) (options : Options) (env : Elements) (elements : NodeElements)
     (have : HaveElements e infos inputs options env elements) (lives : LiveLaw e) (ranges : HaveRanges) (laws : HaveLaws) where
-  carried : (must : Bool) → (must ≡ true → AreThere e infos env) → (k : ℕ) (idx : List ℕ) → is_live e k ≡ true → IsInside (shape_at infos k) idx
-      → Told must (plan_value (plan_of e infos inputs options) env (place_in (lowered e infos inputs options) k) idx) (meaning_of e infos elements k idx)
+  carried : (must : Bool) → (must ≡ true → AreThere e infos env) → (k : ℕ) (idx : List ℕ) → is_live e k ≡ true → IsInside (shape_of_node infos k) idx
+      → Told must (plan_value (plan_of e infos inputs options) env (array_of_node (lowered e infos inputs options) k) idx) (meaning_of e infos elements k idx)
   carried must there k idx live inside =
       let out = have.lowerable.form.out in
       let low = lives.below k live in
       meanings.carries e infos inputs options have.lowerable laws lives.closed ranges must env elements have.typed have.given there
       k (get_or e.nodes k no_node) (slice_get-get_or e.nodes k no_node (omega (arith, out, low))) live idx inside
 
-  pub equal : (k : ℕ) (idx : List ℕ) (x : ℤ) → is_live e k ≡ true → IsInside (shape_at infos k) idx
-      → plan_value (plan_of e infos inputs options) env (place_in (lowered e infos inputs options) k) idx ≡ Some x → x ≡ meaning_of e infos elements k idx
+  pub equal : (k : ℕ) (idx : List ℕ) (x : ℤ) → is_live e k ≡ true → IsInside (shape_of_node infos k) idx
+      → plan_value (plan_of e infos inputs options) env (array_of_node (lowered e infos inputs options) k) idx ≡ Some x → x ≡ meaning_of e infos elements k idx
   equal k idx x live inside is =
-      told_some false (plan_value (plan_of e infos inputs options) env (place_in (lowered e infos inputs options) k) idx) (meaning_of e infos elements k idx) x
+      told_some false (plan_value (plan_of e infos inputs options) env (array_of_node (lowered e infos inputs options) k) idx) (meaning_of e infos elements k idx) x
       (carried false (λ wanted. cc) k idx live inside) is
 
-  pub defined : AreThere e infos env → (k : ℕ) (idx : List ℕ) → is_live e k ≡ true → IsInside (shape_at infos k) idx
-      → plan_value (plan_of e infos inputs options) env (place_in (lowered e infos inputs options) k) idx ≡ Some (meaning_of e infos elements k idx)
+  pub defined : AreThere e infos env → (k : ℕ) (idx : List ℕ) → is_live e k ≡ true → IsInside (shape_of_node infos k) idx
+      → plan_value (plan_of e infos inputs options) env (array_of_node (lowered e infos inputs options) k) idx ≡ Some (meaning_of e infos elements k idx)
   defined there k idx live inside =
-      told_there (plan_value (plan_of e infos inputs options) env (place_in (lowered e infos inputs options) k) idx) (meaning_of e infos elements k idx)
+      told_there (plan_value (plan_of e infos inputs options) env (array_of_node (lowered e infos inputs options) k) idx) (meaning_of e infos elements k idx)
       (carried true (λ wanted. there) k idx live inside)

@@ -21,7 +21,7 @@ use Rattle.cu_form.specs.declared.expr.Node.{Node}
 use Rattle.cu_form.specs.declared.form.Form.{Form}
 use Rattle.cu_node.specs.declared.element_op.ElementOp.{ElementOp}
 use Rattle.cu_node.specs.declared.info.NodeInfo.{NodeInfo}
-use Rattle.cu_meaning.specs.Argument.{NodeElements, shape_at}
+use Rattle.cu_meaning.specs.Argument.{NodeElements, shape_of_node}
 use Rattle.cu_meaning.specs.Meaning.{meaning_of}
 use Rattle.cu_meaning.specs.Rule.{rule_of, node_element}
 use Rattle.cu_meaning.proofs.Equation.{equation}
@@ -30,9 +30,9 @@ use Rattle.cu_need.specs.Live.{is_live, IsClosed}
 use Rattle.cu_need.specs.View.{is_view}
 use Rattle.cu_lower_reduce.specs.Steps.{all_made, SolveSteps, last_made}
 use Rattle.cu_lower_reduce.specs.declared.step.Step.{Step}
-use Rattle.cu_lower.specs.Plan.{place_in, as_plan}
+use Rattle.cu_lower.specs.Plan.{array_of_node, as_plan}
 use Rattle.cu_lower.specs.Inputs.{input_place}
-use Rattle.cu_lower.specs.Parts.{Grown, array_places, sources_of, steps_of, setting, reduction_of, search_of}
+use Rattle.cu_lower.specs.Parts.{Grown, array_places, source_places, steps_of, setting, reduction_of, search_of}
 use Rattle.cu_lower.specs.Premises.{IsLowerable, IsLiveInput, AreOfInputs, AreThere}
 use Rattle.cu_lower.specs.declared.options.Options.{Options}
 use Rattle.cu_lower.proofs.Applied.{Told}
@@ -91,21 +91,21 @@ module _ (e : Expression) (infos : List NodeInfo) (inputs : List InputInfo) (opt
 
   -- the array of node k carries its meaning
   abbrev pub Carries : ℕ → Type 0
-  Carries k = (idx : List ℕ) → IsInside (shape_at infos k) idx → Told must (at (place_in grown k) idx) (meaning k idx)
+  Carries k = (idx : List ℕ) → IsInside (shape_of_node infos k) idx → Told must (at (array_of_node grown k) idx) (meaning k idx)
 
   -- inside a node's shape its meaning is that of its form
-  meaning_is : (k : ℕ) (n : Node) (f : Form) (idx : List ℕ) → slice_get e.nodes k ≡ Some n → n.form ≡ f → IsInside (shape_at infos k) idx → meaning k idx ≡ rule_of infos elements meaning k f idx
+  meaning_is : (k : ℕ) (n : Node) (f : Form) (idx : List ℕ) → slice_get e.nodes k ≡ Some n → n.form ≡ f → IsInside (shape_of_node infos k) idx → meaning k idx ≡ rule_of infos elements meaning k f idx
   meaning_is k n f idx node is inside =
       equation e infos elements k n idx ok.form node
       ∙ ap (λ g. node_element infos elements meaning k g idx) is
-      ∙ ap (λ (b : Bool). if b then rule_of infos elements meaning k f idx else pos 0) (test_from_inside (shape_at infos k) idx inside)
+      ∙ ap (λ (b : Bool). if b then rule_of infos elements meaning k f idx else pos 0) (test_from_inside (shape_of_node infos k) idx inside)
 
   -- ---- an input
 
   -- the array with its name has its elements
   named_told : AreOfInputs e infos env elements → (must ≡ true → AreThere e infos env)
       → (k : ℕ) (n : Node) (name : List ℕ) → slice_get e.nodes k ≡ Some n → n.form ≡ Form.Input name → is_live e k ≡ true
-      → (idx : List ℕ) → IsInside (shape_at infos k) idx → Told must (at (input_place e name) idx) (elements k idx)
+      → (idx : List ℕ) → IsInside (shape_of_node infos k) idx → Told must (at (input_place e name) idx) (elements k idx)
   named_told of_inputs there k n name node is live idx inside =
       let f = standing.named_at e infos inputs options ok.form (all_steps e infos inputs options ok laws) k n name node is live in
       let none : maker_at grown.arrays (input_place e name) ≡ None = ap (λ (a : ArrayInfo). a.maker) f.1 in
@@ -137,7 +137,7 @@ module _ (e : Expression) (infos : List NodeInfo) (inputs : List InputInfo) (opt
         carries = earlier n a.below a.live;
         ranged = λ idx x inside some.
             subst (λ (d : Dtype). InRange d x) known.dtype
-            (ranges plan env (place_in grown n) idx x sound types known.within (subst (λ (g : RegularGrid). IsInside g.shape idx) (sym known.grid) inside) some);
+            (ranges plan env (array_of_node grown n) idx x sound types known.within (subst (λ (g : RegularGrid). IsInside g.shape idx) (sym known.grid) inside) some);
       }
 
   arguments_carried : HasTypes grown.arrays env → (k : ℕ) (f : Form) → Stands k f → ((n : ℕ) → n < k → is_live e n ≡ true → Carries n) → Each IsCarried (args_of f)
@@ -148,15 +148,15 @@ module _ (e : Expression) (infos : List NodeInfo) (inputs : List InputInfo) (opt
   steps_solved k f s = solve_steps e s.before grown (placed.steps_at e infos inputs options ok laws k f (length s.before.arrays)) at (λ j a idx below among. solves.made j a idx below among) s.front
 
   -- its array is the last that they make
-  place_is : (k : ℕ) (f : Form) (s : Stands k f) → place_in grown k ≡ length s.before.arrays + length (all_made (placed.steps_at e infos inputs options ok laws k f (length s.before.arrays))) - 1
+  place_is : (k : ℕ) (f : Form) (s : Stands k f) → array_of_node grown k ≡ length s.before.arrays + length (all_made (placed.steps_at e infos inputs options ok laws k f (length s.before.arrays))) - 1
   place_is k f s =
       let l = steps_long e s.before (placed.steps_at e infos inputs options ok laws k f (length s.before.arrays)) in
       let place = s.place in
       omega (arith, l, place)
 
   -- the rule of its form is what its array carries
-  carries_rule : (k : ℕ) (f : Form) (s : Stands k f) (place : ℕ) → place_in grown k ≡ place
-      → ((idx : List ℕ) → IsInside (shape_at infos k) idx → Told must (at place idx) (rule_of infos elements meaning k f idx)) → Carries k
+  carries_rule : (k : ℕ) (f : Form) (s : Stands k f) (place : ℕ) → array_of_node grown k ≡ place
+      → ((idx : List ℕ) → IsInside (shape_of_node infos k) idx → Told must (at place idx) (rule_of infos elements meaning k f idx)) → Carries k
   carries_rule k f s place is told idx inside =
       subst (λ (a : ℕ). Told must (at a idx) (meaning k idx)) (sym is)
       (subst (λ (x : ℤ). Told must (at place idx) x) (sym (meaning_is k s.node f idx s.at s.is inside)) (told idx inside))
@@ -175,7 +175,7 @@ module _ (e : Expression) (infos : List NodeInfo) (inputs : List InputInfo) (opt
       let own = operations.pull_is e infos inputs options ok laws closed k f s viewed in
       let written = typed.view e infos inputs options ok k s.node f s.at s.is viewed in
       let alone = operations.view_alone e infos inputs options ok laws closed k f s viewed in
-      let one = ap (λ (ss : List Step). length (all_made ss)) (view_steps infos options k f (sources_of e grown.places f) (length s.before.arrays) viewed) in
+      let one = ap (λ (ss : List Step). length (all_made ss)) (view_steps infos options k f (source_places e grown.places f) (length s.before.arrays) viewed) in
       let place = place_is k f s in
       carries_rule k f s (length s.before.arrays) (omega (arith, place, one))
       (values.view_told must infos elements meaning options grown.arrays grown.places at k (length s.before.arrays) f viewed written own alone
@@ -194,7 +194,7 @@ module _ (e : Expression) (infos : List NodeInfo) (inputs : List InputInfo) (opt
       let value = laws.reductions.value grown.arrays at (setting options first) x (operations.is_setting e infos inputs options ok laws closed k f s) (operations.reduces e infos inputs options ok laws closed k m kind axes keepdims s)
       c.known (placed.stood_infos e infos inputs options ok laws k f s) (steps_solved k f s) c.ranged in
       carries_rule k f s (last_made first (placed.steps_at e infos inputs options ok laws k f first)) (place_is k f s)
-      (λ idx inside. reduction_told must infos elements meaning k m kind axes keepdims (at (place_in grown m)) (at (last_made first (placed.steps_at e infos inputs options ok laws k f first)) idx) idx
+      (λ idx inside. reduction_told must infos elements meaning k m kind axes keepdims (at (array_of_node grown m)) (at (last_made first (placed.steps_at e infos inputs options ok laws k f first)) idx) idx
       (typed.known_kept e infos inputs options ok m) (typed.reduction e infos inputs options ok k m s.node kind axes keepdims s.at s.is) inside (value idx inside) c.carries)
 
   place_carries : HasTypes grown.arrays env → (k m : ℕ) (least : Bool) (axis : Option ℤ) (keepdims : Bool) (s : Stands k (Form.ArgPlace least (Arg.Node m ∷ []) axis keepdims))
@@ -207,7 +207,7 @@ module _ (e : Expression) (infos : List NodeInfo) (inputs : List InputInfo) (opt
       let value = laws.searches.value grown.arrays at (setting options first) x (operations.is_setting e infos inputs options ok laws closed k f s) (operations.searches e infos inputs options ok laws closed k m least axis keepdims s)
       c.known (placed.stood_infos e infos inputs options ok laws k f s) (steps_solved k f s) in
       carries_rule k f s (last_made first (placed.steps_at e infos inputs options ok laws k f first)) (place_is k f s)
-      (λ idx inside. search_told must infos elements meaning k m least axis keepdims (at (place_in grown m)) (at (last_made first (placed.steps_at e infos inputs options ok laws k f first)) idx) idx
+      (λ idx inside. search_told must infos elements meaning k m least axis keepdims (at (array_of_node grown m)) (at (last_made first (placed.steps_at e infos inputs options ok laws k f first)) idx) idx
       (typed.known_kept e infos inputs options ok m) (typed.search e infos inputs options ok k m s.node least axis keepdims s.at s.is) inside (value idx inside) c.carries)
 
   matmul_carries : HasTypes grown.arrays env → (k l m : ℕ) (s : Stands k (Form.Matmul (Arg.Node l ∷ Arg.Node m ∷ []))) → ((n : ℕ) → n < k → is_live e n ≡ true → Carries n) → Carries k
@@ -216,7 +216,7 @@ module _ (e : Expression) (infos : List NodeInfo) (inputs : List InputInfo) (opt
       let first = length s.before.arrays in
       let both = arguments_carried types k (Form.Matmul (Arg.Node l ∷ Arg.Node m ∷ [])) s earlier in
       carries_rule k f s (last_made first (placed.steps_at e infos inputs options ok laws k f first)) (place_is k f s)
-      (copied.multiply_told laws infos options grown.arrays k (length s.before.arrays) (operations.room e infos inputs options ok laws closed k f s) l m (place_in grown l) (place_in grown m)
+      (copied.multiply_told laws infos options grown.arrays k (length s.before.arrays) (operations.room e infos inputs options ok laws closed k f s) l m (array_of_node grown l) (array_of_node grown m)
       (operations.matmul_copies e infos inputs options ok laws closed k l m s) (operations.multiplies e infos inputs options ok laws closed k l m s) both.0.known both.1.0.known (placed.stood_infos e infos inputs options ok laws k f s)
       must elements meaning at (steps_solved k f s) both.0.carries both.1.0.carries)
 
@@ -228,7 +228,7 @@ module _ (e : Expression) (infos : List NodeInfo) (inputs : List InputInfo) (opt
       let first = length s.before.arrays in
       let c = (arguments_carried types k f s earlier).0 in
       carries_rule k f s (last_made first (placed.steps_at e infos inputs options ok laws k f first)) (place_is k f s)
-      (copied.rechunk_told laws infos options grown.arrays k (length s.before.arrays) (operations.room e infos inputs options ok laws closed k f s) m (place_in grown m) chunk
+      (copied.rechunk_told laws infos options grown.arrays k (length s.before.arrays) m (array_of_node grown m) chunk
       must elements meaning at (typed.rechunk e infos inputs options ok k m s.node chunk s.at s.is) (steps_solved k f s) c.carries)
 
   stored_carries : AreOfInputs e infos env elements → (must ≡ true → AreThere e infos env) → (k : ℕ) (name : List ℕ) (s : Stands k (Form.Input name)) → Carries k
@@ -236,7 +236,7 @@ module _ (e : Expression) (infos : List NodeInfo) (inputs : List InputInfo) (opt
       let f = Form.Input name in
       let first = length s.before.arrays in
       carries_rule k f s (last_made first (placed.steps_at e infos inputs options ok laws k f first)) (place_is k f s)
-      (λ idx inside. copied.input_told laws infos options grown.arrays k (length s.before.arrays) (operations.room e infos inputs options ok laws closed k f s) (input_place e name) name
+      (λ idx inside. copied.input_told laws infos options grown.arrays k (length s.before.arrays) (input_place e name) name
       must elements meaning at (steps_solved k f s) idx (named_told of_inputs there k s.node name s.at s.is s.live idx inside))
 
   -- ---- each live node

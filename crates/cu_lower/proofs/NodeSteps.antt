@@ -13,7 +13,7 @@ use Rattle.cu_expr.specs.declared.inputs.InputInfo.{InputInfo}
 use Rattle.cu_need.specs.Chunks.{arrays_in}
 use Rattle.cu_need.specs.Live.{is_live}
 use Rattle.cu_need.specs.Operands.{in_aligned, operands_of}
-use Rattle.cu_lower.specs.Parts.{array_places, is_given, sources_of, steps_of}
+use Rattle.cu_lower.specs.Parts.{array_places, is_given, source_places, steps_of}
 use Rattle.cu_lower.specs.Premises.{IsLowerable}
 use Rattle.cu_lower.specs.declared.options.Options.{Options}
 use Rattle.cu_lower.proofs.FormKinds.{IsInput, IsReduce, IsArgPlace, IsMatmul, IsRechunked, form_kind, input_stored}
@@ -38,7 +38,7 @@ sources_long infos places k op args = places_long infos places args ∙ sym (len
 module _ (e : Expression) (infos : List NodeInfo) (inputs : List InputInfo) (options : Options) (ok : IsLowerable e infos inputs options) (laws : HaveLaws) where
   -- the steps of node k over the arrays of these nodes
   abbrev OwnSteps : ℕ → Form → List ℕ → ℕ → Type 0
-  OwnSteps k f places first = AreOwn infos options e.out k f (steps_of infos options k f (sources_of e places f) first)
+  OwnSteps k f places first = AreOwn infos options e.out k f (steps_of infos options k f (source_places e places f) first)
 
   -- a live node with this form
   record IsNode (k : ℕ) (f : Form) : Type 0 where
@@ -50,9 +50,9 @@ module _ (e : Expression) (infos : List NodeInfo) (inputs : List InputInfo) (opt
   abbrev to_form : (k : ℕ) (f g : Form) → IsNode k f → f ≡ g → IsNode k g
   to_form k f g n is = record { node = n.node; at = n.at; is = n.is ∙ is; live = n.live }
 
-  function_steps : (k : ℕ) (op : ElementOp) (args : List Arg) → IsNode k (Form.Elementwise op args) → (places : List ℕ) (first : ℕ) → first < 2 ^ 30 → OwnSteps k (Form.Elementwise op args) places first
-  function_steps k op args n places first small =
-      function_own laws infos options e.out k op args (array_places places args) first (ready.has_room e infos inputs options ok k n.node first n.at n.live small)
+  function_steps : (k : ℕ) (op : ElementOp) (args : List Arg) → IsNode k (Form.Elementwise op args) → (places : List ℕ) (first : ℕ) → OwnSteps k (Form.Elementwise op args) places first
+  function_steps k op args n places first =
+      function_own laws infos options e.out k op args (array_places places args) first
       (ready.function_copies e infos inputs options ok k n.node op args n.at n.is n.live first) (sources_long infos places k op args) (typed.known_kept e infos inputs options ok k)
 
   reduce_steps : (k : ℕ) (f : Form) → IsNode k f → (r : IsReduce f) → (places : List ℕ) (first : ℕ) → first < 2 ^ 30 → OwnSteps k f places first
@@ -80,33 +80,33 @@ module _ (e : Expression) (infos : List NodeInfo) (inputs : List InputInfo) (opt
       (ready.matmul_copies e infos inputs options ok k n.node (Arg.Node l ∷ Arg.Node m ∷ []) n.at (n.is ∙ two) n.live first) refl
       (typed.known_kept e infos inputs options ok l) (typed.known_kept e infos inputs options ok m) (typed.known_kept e infos inputs options ok k) passed)
 
-  rechunk_steps : (k : ℕ) (f : Form) → IsNode k f → (r : IsRechunked f) → (places : List ℕ) (first : ℕ) → first < 2 ^ 30 → OwnSteps k f places first
-  rechunk_steps k f n r places first small =
+  rechunk_steps : (k : ℕ) (f : Form) → IsNode k f → (r : IsRechunked f) → (places : List ℕ) (first : ℕ) → OwnSteps k f places first
+  rechunk_steps k f n r places first =
       let (m, one) = typed.rechunk_form e infos inputs options ok k n.node f n.at n.is r in
       subst (λ (x : Form). OwnSteps k x places first) (sym one)
-      (rechunk_own laws infos options e.out k (Arg.Node m ∷ []) r.chunk (array_places places (Arg.Node m ∷ [])) first (ready.has_room e infos inputs options ok k n.node first n.at n.live small)
+      (rechunk_own laws infos options e.out k (Arg.Node m ∷ []) r.chunk (array_places places (Arg.Node m ∷ [])) first
       (ready.rechunk_staged e infos inputs options ok k n.node (Arg.Node m ∷ []) r.chunk n.at (n.is ∙ one) n.live first)
       (typed.rechunk e infos inputs options ok k m n.node r.chunk n.at (n.is ∙ one)))
 
-  input_steps : (k : ℕ) (f : Form) → IsNode k f → (i : IsInput f) → is_given e k f ≡ false → (places : List ℕ) (first : ℕ) → first < 2 ^ 30 → OwnSteps k f places first
-  input_steps k f n i made places first small =
+  input_steps : (k : ℕ) (f : Form) → IsNode k f → (i : IsInput f) → is_given e k f ≡ false → (places : List ℕ) (first : ℕ) → OwnSteps k f places first
+  input_steps k f n i made places first =
       let stored = input_stored e k i.name (subst (λ (x : Form). is_given e k x ≡ false) i.is made) in
       subst (λ (x : Form). OwnSteps k x places first) (sym i.is)
-      (input_own laws infos options e.out k i.name (sources_of e places (Form.Input i.name)) first (ready.has_room e infos inputs options ok k n.node first n.at n.live small) stored
+      (input_own laws infos options e.out k i.name (source_places e places (Form.Input i.name)) first stored
       (ready.input_staged e infos inputs options ok k n.node i.name n.at (n.is ∙ i.is) n.live stored first))
 
   pub node_own : (k : ℕ) (n : Node) (f : Form) → slice_get e.nodes k ≡ Some n → n.form ≡ f → is_live e k ≡ true → is_given e k f ≡ false
-      → (places : List ℕ) (first : ℕ) → first < 2 ^ 30 → AreOwn infos options e.out k f (steps_of infos options k f (sources_of e places f) first)
+      → (places : List ℕ) (first : ℕ) → first < 2 ^ 30 → AreOwn infos options e.out k f (steps_of infos options k f (source_places e places f) first)
   node_own k n f at is live made places first small =
       let own : IsNode k f = record { node = n; at = at; is = is; live = live } in
       elim (form_kind f) [
-        | inl m ↦ subst (λ (x : Form). OwnSteps k x places first) (sym m.is) (function_steps k m.op m.args (to_form k f (Form.Elementwise m.op m.args) own m.is) places first small)
+        | inl m ↦ subst (λ (x : Form). OwnSteps k x places first) (sym m.is) (function_steps k m.op m.args (to_form k f (Form.Elementwise m.op m.args) own m.is) places first)
         | inr (inl r) ↦ reduce_steps k f own r places first small
         | inr (inr (inl r)) ↦ place_steps k f own r places first small
         | inr (inr (inr (inl r))) ↦ matmul_steps k f own r places first small
-        | inr (inr (inr (inr (inl r)))) ↦ rechunk_steps k f own r places first small
-        | inr (inr (inr (inr (inr (inl i))))) ↦ input_steps k f own i made places first small
-        | inr (inr (inr (inr (inr (inr viewed))))) ↦ viewed_own infos options e.out k f (sources_of e places f) first viewed (typed.known_kept e infos inputs options ok k)
+        | inr (inr (inr (inr (inl r)))) ↦ rechunk_steps k f own r places first
+        | inr (inr (inr (inr (inr (inl i))))) ↦ input_steps k f own i made places first
+        | inr (inr (inr (inr (inr (inr viewed))))) ↦ viewed_own infos options e.out k f (source_places e places f) first viewed (typed.known_kept e infos inputs options ok k)
       ]
 
   pub all_steps : growing.AllHaveSteps e infos options

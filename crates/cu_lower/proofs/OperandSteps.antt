@@ -1,12 +1,12 @@
 -- What the steps of a node come to whatever arrays its arguments have, and those of a node with copies.
-use Rattle.std.proofs.Common.{◌≡◌, ◌⊎◌, ℕ, ◌<◌, ◌≤◌, ◌+◌, ◌*◌, ◌/◌, ◌-◌, ◌^◌, ◌==◌, Bool, true, false, List, [], ◌∷◌, ◌++◌, All, length, max, Option, None, Some, Ok, sum_by, ℤ, refl, ap, sym, ◌∙◌, subst, inl, inr, arith, if◌then◌else◌}
+use Rattle.std.proofs.Common.{◌≡◌, ◌≢◌, ◌⊎◌, ℕ, ◌<◌, ◌≤◌, ◌+◌, ◌*◌, ◌^◌, ◌==◌, Bool, true, false, List, [], ◌∷◌, ◌++◌, All, filter, length, max, Option, None, Some, Ok, sum_by, ℤ, refl, ap, sym, ◌∙◌, subst, inl, inr, arith, if◌then◌else◌}
 use Rattle.std.specs.Prelude.{slice_index}
 use Rattle.std.proofs.lemmas.Bool.{cases_lt}
 use Rattle.std.proofs.lemmas.List.{append_assoc, length-append}
 use Rattle.std.proofs.lemmas.List.Elements.{All-append, All-cons, All-nil, All-weaker}
-use Rattle.std.proofs.lemmas.List.Sums.{sum_by-append, sum_by-cons}
+use Rattle.std.proofs.lemmas.List.Sums.{count_by-le-length, length-filter, sum_by-append, sum_by-cons}
 use Rattle.cu_copy.specs.Chunks.{chunk_count}
-use Rattle.cu_copy.specs.Copies.{in_chunks, max_mem, rechunk_cells, rechunk_tasks, rechunked}
+use Rattle.cu_copy.specs.Copies.{in_chunks, is_misaligned, max_mem, rechunk_cells, rechunk_tasks, rechunked}
 use Rattle.cu_copy.specs.declared.copies.Rechunk.{Rechunk}
 use Rattle.cu_grid.specs.Grid.{IsGrid}
 use Rattle.cu_op.specs.declared.operation.Op.{Op}
@@ -15,7 +15,7 @@ use Rattle.cu_form.specs.declared.form.Form.{Form}
 use Rattle.cu_node.specs.Info.{IsInfo, info_at}
 use Rattle.cu_node.specs.declared.element_op.ElementOp.{ElementOp}
 use Rattle.cu_node.specs.declared.info.NodeInfo.{NodeInfo}
-use Rattle.cu_need.specs.Counts.{cells_of, own_cells, own_tasks, tasks_of}
+use Rattle.cu_need.specs.Counts.{node_cells, own_cells, own_tasks, node_tasks}
 use Rattle.cu_need.specs.Need.{own_need, IsTyped}
 use Rattle.cu_need.specs.Operands.{copies_of, operands_of}
 use Rattle.cu_need.specs.Reduction.{array_of}
@@ -28,11 +28,11 @@ use Rattle.cu_tree.specs.Needs.{fold_need, merge_need, pair_fold_need, pair_merg
 use Rattle.cu_tree.specs.Partials.{chunks_written, first_partial, merged, product_partial, product_rounds, reduction_rounds, IsMiddle}
 use Rattle.cu_tree.specs.declared.round.Round.{Round}
 use Rattle.cu_typing.specs.Matmul.{typed_matmul}
-use Rattle.cu_lower_reduce.specs.Copies.{aligned_places, aligned_steps, copy_steps, is_copy, AreCopies, IsCopySetting, IsCopyStep, IsStaged}
+use Rattle.cu_lower_reduce.specs.Copies.{aligned_places, aligned_steps, copy_steps, is_copy, AreCopies, IsCopyStep, IsStaged}
 use Rattle.cu_lower_reduce.specs.Partials.{IsSetting}
 use Rattle.cu_lower_reduce.specs.Products.{multiplied, product_steps}
 use Rattle.cu_lower_reduce.specs.Reductions.{folded, merges, reduction_steps, IsReduction}
-use Rattle.cu_lower_reduce.specs.Searches.{pair_merges, pairs_found, search_steps, value_bytes, IsSearch}
+use Rattle.cu_lower_reduce.specs.Searches.{pair_merges, pairs_found, search_steps, value_chunk_bytes, IsSearch}
 use Rattle.cu_lower_reduce.specs.Steps.{all_made, grid_of, info_bytes, made_infos, step_tasks, with_merges, with_values, ComeTo}
 use Rattle.cu_lower_reduce.specs.declared.product.Product.{Product}
 use Rattle.cu_lower_reduce.specs.declared.reduction.Reduction.{Reduction}
@@ -57,16 +57,6 @@ pub record HasRoom (options : Options) (first : ℕ) : Type 0 where
   pub allowed : options.allowed ≤ 2 ^ 40
   pub room : first < 2 ^ 30
 
-half : (a b : ℕ) → a ≤ 2 ^ 40 → (a - b) / 2 ≤ 2 ^ 40
-half a b h = omega arith
-
-pub copy_setting : (options : Options) (first : ℕ) → HasRoom options first → IsCopySetting (copying options first)
-copy_setting options first h = record {
-  reserved = h.reserved;
-  most = half options.allowed options.reserved h.allowed;
-  room = (let r = h.room in omega (arith, r));
-}
-
 -- steps may stand behind a few arrays
 pub own_setting : (options : Options) (first next : ℕ) → HasRoom options first → next ≤ first + 16 → IsSetting (setting options next)
 own_setting options first next h behind = record { several = h.several; few = h.few; reserved = h.reserved; room = (let r = h.room in omega (arith, r, behind)) }
@@ -87,8 +77,9 @@ pub record AreOwn (infos : List NodeInfo) (options : Options) (out k : ℕ) (f :
   pub make : Make (info_at infos k) ss
   pub needs : All (λ s. is_copy s.op ≡ false → s.need ≤ own_need options.reserved options.split_every infos k f) ss
   pub copies : All (λ s. is_copy s.op ≡ true → s.need ≤ options.reserved + 2 * max_mem options.allowed options.reserved) ss
-  pub tasks : sum_by step_tasks ss ≡ tasks_of (max_mem options.allowed options.reserved) options.split_every infos out k f
-  pub cells : sum_by chunk_count (all_made ss) ≡ cells_of (max_mem options.allowed options.reserved) options.split_every infos out k f
+  pub copied : All (λ s. is_copy s.op ≡ true → copies_of infos out k f ≢ []) ss
+  pub tasks : sum_by step_tasks ss ≡ node_tasks (max_mem options.allowed options.reserved) options.split_every infos out k f
+  pub cells : sum_by chunk_count (all_made ss) ≡ node_cells (max_mem options.allowed options.reserved) options.split_every infos out k f
   pub attained : is_computed f ≡ true → Attain (own_need options.reserved options.split_every infos k f) ss
 
 -- Steps none of which is a copy, which make an array of which this is known: none needs more than so many bytes, and one as many; they
@@ -136,6 +127,10 @@ made_two : (values : Option NodeInfo) (made : NodeInfo) → length (with_values 
 made_two None made = omega arith
 made_two (Some values) made = omega arith
 
+-- some of the arrays have other chunks than are wanted
+pub misaligned_few : (rs : List Rechunk) → length (filter is_misaligned rs) ≤ length rs
+misaligned_few rs = let n = length-filter is_misaligned rs in let l = count_by-le-length is_misaligned rs in omega (arith, n, l)
+
 -- a step makes one or two arrays
 pub made_few : (ss : List Step) → length (all_made ss) ≤ 2 * length ss
 made_few [] = omega arith
@@ -152,10 +147,11 @@ module _ (infos : List NodeInfo) (options : Options) (out k : ℕ) (f : Form) wh
   abbrev most : ℕ
   most = max_mem options.allowed options.reserved
 
-  pub behind_own : (first n : ℕ) (copies own : List Step) → n ≤ 3 → AreCopies (copying options first) n (sum_by (rechunk_tasks most) (copies_of infos out k f)) (sum_by (rechunk_cells most) (copies_of infos out k f)) copies
+  pub behind_own : (first : ℕ) (copies own : List Step) → length (copies_of infos out k f) ≤ 3
+      → AreCopies (copying options first) (length (copies_of infos out k f)) (sum_by (rechunk_tasks most) (copies_of infos out k f)) (sum_by (rechunk_cells most) (copies_of infos out k f)) copies
       → AreComputed (own_need options.reserved options.split_every infos k f) (own_tasks options.split_every infos k f) (own_cells options.split_every infos k f) (info_at infos k) own
       → AreOwn infos options out k f (copies ++ own)
-  behind_own first n copies own few c h = record {
+  behind_own first copies own few c h = record {
     make = record {
       ends = join_ends copies own (info_at infos k) h.ends;
       grids = subst (All (λ m. IsGrid (grid_of m))) (sym (made_append copies own)) (All-append (λ m. IsGrid (grid_of m)) (all_made copies) (all_made own) c.grids h.grids);
@@ -167,6 +163,9 @@ module _ (infos : List NodeInfo) (options : Options) (out k : ℕ) (f : Form) wh
     copies = All-append (λ s. is_copy s.op ≡ true → s.need ≤ options.reserved + 2 * most) copies own
         (All-weaker (IsCopyStep (copying options first)) (λ s. is_copy s.op ≡ true → s.need ≤ options.reserved + 2 * most) (λ s w e. w.need) copies c.each)
         (All-weaker (λ s. is_copy s.op ≡ false) (λ s. is_copy s.op ≡ true → s.need ≤ options.reserved + 2 * most) (λ s w e. not_both (is_copy s.op) _ e w) own h.others);
+    copied = All-append (λ s. is_copy s.op ≡ true → copies_of infos out k f ≢ []) copies own
+        (λ i d below e none. let n = ap length none in let l = c.few in absurd (omega (arith, n, l, below)))
+        (All-weaker (λ s. is_copy s.op ≡ false) (λ s. is_copy s.op ≡ true → copies_of infos out k f ≢ []) (λ s w e. not_both (is_copy s.op) _ e w) own h.others);
     tasks = sum_by-append step_tasks copies own ∙ (λ j. c.tasks_are j + h.tasks_are j);
     cells = ap (sum_by chunk_count) (made_append copies own) ∙ sum_by-append chunk_count (all_made copies) (all_made own) ∙ (λ j. c.cells_are j + h.cells_are j);
     attained = λ computed. attain_back (own_need options.reserved options.split_every infos k f) copies own h.attained;
@@ -177,7 +176,7 @@ module _ (infos : List NodeInfo) (options : Options) (out k : ℕ) (f : Form) wh
       → AreComputed (own_need options.reserved options.split_every infos k f) (own_tasks options.split_every infos k f) (own_cells options.split_every infos k f) (info_at infos k) ss
       → AreOwn infos options out k f ss
   computed_own ss none h =
-      behind_own 0 0 [] ss (omega arith) (record {
+      behind_own 0 [] ss (let n = ap length none in omega (arith, n)) (record {
         each = All-nil (IsCopyStep (copying options 0));
         few = omega arith;
         grids = All-nil (λ m. IsGrid (grid_of m));
@@ -186,11 +185,11 @@ module _ (infos : List NodeInfo) (options : Options) (out k : ℕ) (f : Form) wh
       }) h
 
   -- of a node that is a copy alone
-  copies_own : (laws : HaveLaws) (first source : ℕ) (r : Rechunk) → HasRoom options first → IsStaged (copying options first) r → rechunked r ≡ info_at infos k → copies_of infos out k f ≡ r ∷ []
+  copies_own : (laws : HaveLaws) (first source : ℕ) (r : Rechunk) → IsStaged (copying options first) r → rechunked r ≡ info_at infos k → copies_of infos out k f ≡ r ∷ []
       → own_tasks options.split_every infos k f ≡ 0 → own_cells options.split_every infos k f ≡ 0 → is_computed f ≡ false → AreOwn infos options out k f (copy_steps (copying options first) source r)
-  copies_own laws first source r room staged made one tasks cells alone =
+  copies_own laws first source r staged made one tasks cells alone =
       let s = copying options first in
-      let c = laws.rechunks.sizes (copying options first) source r (copy_setting options first room) staged in
+      let c = laws.rechunks.sizes (copying options first) source r staged in
       let e = laws.rechunks.ends (copying options first) source r in
       record {
         make = record {
@@ -201,6 +200,7 @@ module _ (infos : List NodeInfo) (options : Options) (out k : ℕ) (f : Form) wh
         needs = All-weaker (IsCopyStep (copying options first)) (λ x. is_copy x.op ≡ false → x.need ≤ own_need options.reserved options.split_every infos k f) (λ x w q. not_both (is_copy x.op) _ w.copy q)
             (copy_steps (copying options first) source r) c.each;
         copies = All-weaker (IsCopyStep (copying options first)) (λ x. is_copy x.op ≡ true → x.need ≤ options.reserved + 2 * most) (λ x w q. w.need) (copy_steps (copying options first) source r) c.each;
+        copied = All-weaker (IsCopyStep (copying options first)) (λ x. is_copy x.op ≡ true → copies_of infos out k f ≢ []) (λ x w q none. let e : r ∷ [] ≡ [] = sym one ∙ none in cc e) (copy_steps (copying options first) source r) c.each;
         tasks = (let a = c.tasks_are in let b = ap (sum_by (rechunk_tasks most)) one in let d = sum_by-cons (rechunk_tasks most) r [] in omega (arith, a, b, d, tasks));
         cells = (let a = c.cells_are in let b = ap (sum_by (rechunk_cells most)) one in let d = sum_by-cons (rechunk_cells most) r [] in omega (arith, a, b, d, cells));
         attained = λ computed. not_both (is_computed f) _ computed alone;
@@ -238,38 +238,38 @@ multiplied_attain s x partial (r ∷ rs) =
     greater (product_need s.reserved (info_bytes x.left_info) (info_bytes x.right_info) (info_bytes x.made)) (merge_need s.reserved s.split_every (info_bytes x.made)) _
 
 found_attain : (s : Setting) (x : Search) (values places : NodeInfo) (rs : List Round)
-    → Attain (with_merges rs (pair_fold_need s.reserved (info_bytes x.from) (value_bytes x) (info_bytes x.made)) (pair_merge_need s.reserved s.split_every (value_bytes x) (info_bytes x.made))) (pairs_found s x values places rs)
+    → Attain (with_merges rs (pair_fold_need s.reserved (info_bytes x.from) (value_chunk_bytes x) (info_bytes x.made)) (pair_merge_need s.reserved s.split_every (value_chunk_bytes x) (info_bytes x.made))) (pairs_found s x values places rs)
 found_attain s x values places [] = inl (refl, refl)
 found_attain s x values places (r ∷ rs) =
-    greater (pair_fold_need s.reserved (info_bytes x.from) (value_bytes x) (info_bytes x.made)) (pair_merge_need s.reserved s.split_every (value_bytes x) (info_bytes x.made)) _
+    greater (pair_fold_need s.reserved (info_bytes x.from) (value_chunk_bytes x) (info_bytes x.made)) (pair_merge_need s.reserved s.split_every (value_chunk_bytes x) (info_bytes x.made)) _
 
 -- ---- by the form
 
-pub function_own : (laws : HaveLaws) (infos : List NodeInfo) (options : Options) (out k : ℕ) (op : ElementOp) (args : List Arg) (ins : List ℕ) (first : ℕ) → HasRoom options first
+pub function_own : (laws : HaveLaws) (infos : List NodeInfo) (options : Options) (out k : ℕ) (op : ElementOp) (args : List Arg) (ins : List ℕ) (first : ℕ)
     → CanCopy infos options k (Form.Elementwise op args) first → length ins ≡ length (operands_of infos k (Form.Elementwise op args)) → IsInfo (info_at infos k)
     → AreOwn infos options out k (Form.Elementwise op args) (steps_of infos options k (Form.Elementwise op args) ins first)
-function_own laws infos options out k op args ins first room can long kept =
+function_own laws infos options out k op args ins first can long kept =
     let s = copying options first in
     let rs = operands_of infos k (Form.Elementwise op args) in
     let copies = aligned_steps (copying options first) ins (operands_of infos k (Form.Elementwise op args)) in
     let need = own_need options.reserved options.split_every infos k (Form.Elementwise op args) in
     let map = map_of infos op args (aligned_places (copying options first) ins (operands_of infos k (Form.Elementwise op args))) (first + length (all_made copies)) in
-    behind_own infos options out k (Form.Elementwise op args) first (length rs) copies (only_step infos k map need) can.few
-    (laws.operands.sizes (copying options first) ins rs (copy_setting options first room) can.few can.operands long)
+    behind_own infos options out k (Form.Elementwise op args) first copies (only_step infos k map need) (let most = misaligned_few rs in let few = can.few in omega (arith, most, few))
+    (laws.operands.sizes (copying options first) ins rs can.operands long)
     (only_computed infos k map need kept refl (let one = sum_by-cons step_tasks (record { op = map; values = None; made = info_at infos k; need = need }) [] in omega (arith, one)))
 
-pub rechunk_own : (laws : HaveLaws) (infos : List NodeInfo) (options : Options) (out k : ℕ) (args : List Arg) (chunk : List ℕ) (ins : List ℕ) (first : ℕ) → HasRoom options first
+pub rechunk_own : (laws : HaveLaws) (infos : List NodeInfo) (options : Options) (out k : ℕ) (args : List Arg) (chunk : List ℕ) (ins : List ℕ) (first : ℕ)
     → IsStaged (copying options first) (in_chunks (array_of infos args 0) (info_at infos k).chunk) → IsTyped infos k (Form.Rechunk args chunk)
     → AreOwn infos options out k (Form.Rechunk args chunk) (steps_of infos options k (Form.Rechunk args chunk) ins first)
-rechunk_own laws infos options out k args chunk ins first room staged typed =
+rechunk_own laws infos options out k args chunk ins first staged typed =
     let made : rechunked (in_chunks (array_of infos args 0) (info_at infos k).chunk) ≡ info_at infos k = λ j. record { dtype = sym typed.1 j; dims = sym typed.0 j; chunk = (info_at infos k).chunk } in
-    copies_own infos options out k (Form.Rechunk args chunk) laws first (slice_index ins 0) (in_chunks (array_of infos args 0) (info_at infos k).chunk) room staged made refl refl refl refl
+    copies_own infos options out k (Form.Rechunk args chunk) laws first (slice_index ins 0) (in_chunks (array_of infos args 0) (info_at infos k).chunk) staged made refl refl refl refl
 
-pub input_own : (laws : HaveLaws) (infos : List NodeInfo) (options : Options) (out k : ℕ) (name : List ℕ) (ins : List ℕ) (first : ℕ) → HasRoom options first → (k == out) ≡ true
+pub input_own : (laws : HaveLaws) (infos : List NodeInfo) (options : Options) (out k : ℕ) (name : List ℕ) (ins : List ℕ) (first : ℕ) → (k == out) ≡ true
     → IsStaged (copying options first) (in_chunks (info_at infos k) (info_at infos k).chunk)
     → AreOwn infos options out k (Form.Input name) (steps_of infos options k (Form.Input name) ins first)
-input_own laws infos options out k name ins first room stored staged =
-    copies_own infos options out k (Form.Input name) laws first (slice_index ins 0) (in_chunks (info_at infos k) (info_at infos k).chunk) room staged refl
+input_own laws infos options out k name ins first stored staged =
+    copies_own infos options out k (Form.Input name) laws first (slice_index ins 0) (in_chunks (info_at infos k) (info_at infos k).chunk) staged refl
     (ap (λ (b : Bool). if b then in_chunks (info_at infos k) (info_at infos k).chunk ∷ [] else []) stored) refl refl refl
 
 pub reduction_own : (laws : HaveLaws) (infos : List NodeInfo) (options : Options) (out k : ℕ) (kind : FoldKind) (args : List Arg) (axes : Option (List ℤ)) (keepdims : Bool) (ins : List ℕ) (first : ℕ) → HasRoom options first
@@ -306,7 +306,8 @@ matmul_own laws infos options out k args ins first room can long hl hr hm typed 
     let copies = aligned_steps (copying options first) ins (operands_of infos k (Form.Matmul args)) in
     let read = aligned_places (copying options first) ins (operands_of infos k (Form.Matmul args)) in
     let next = first + length (all_made copies) in
-    let c = laws.operands.sizes (copying options first) ins rs (copy_setting options first room) can.few can.operands long in
+    let c = laws.operands.sizes (copying options first) ins rs can.operands long in
+    let two = misaligned_few rs in
     let few = made_few copies in
     let most = c.few in
     let s = setting options next in
@@ -315,11 +316,11 @@ matmul_own laws infos options out k args ins first room can long hl hr hm typed 
     let rounds = product_rounds options.split_every x.left_info x.made in
     let kept = left_kept (array_of infos args 0) (array_of infos args 1) (info_at infos k) hl typed in
     let product = product_typed (array_of infos args 0) (array_of infos args 1) (info_at infos k) (slice_index read 0) (slice_index read 1) hl hr hm typed in
-    let room_next : next ≤ first + 16 = omega (arith, few, most) in
+    let room_next : next ≤ first + 16 = omega (arith, two, few, most) in
     let own = come_computed _ _ _ (info_at infos k) (product_steps s x) (laws.products.sizes s x (own_setting options first next room room_next) product)
     (All-cons (λ s. is_copy s.op ≡ false) _ (merges s Sum (info_at infos k) next partial rounds) refl (merges_other s Sum (info_at infos k) next partial rounds))
     (multiplied_attain s x partial rounds) in
-    behind_own infos options out k (Form.Matmul args) first 2 copies (product_steps s x) (omega arith) c
+    behind_own infos options out k (Form.Matmul args) first copies (product_steps s x) (omega (arith, two)) c
     (subst (λ (i : NodeInfo).
     AreComputed
     (with_merges (product_rounds options.split_every i (info_at infos k)) (product_need options.reserved (info_bytes x.left_info) (info_bytes x.right_info) (info_bytes (info_at infos k))) (merge_need options.reserved options.split_every (info_bytes (info_at infos k))))

@@ -1,5 +1,5 @@
 -- Each operation of the plan of an expression fits its arrays, by the form of its node; the arrays that it makes are its own.
-use Rattle.std.proofs.Common.{◌≡◌, ℕ, ◌<◌, ◌≤◌, ◌+◌, ◌-◌, ◌*◌, ◌==◌, ◌&&◌, Bool, true, false, ℤ, List, [], ◌∷◌, All, Contains, Option, Some, length, get_or, refl, ap, sym, ◌∙◌, subst, inl, inr, arith}
+use Rattle.std.proofs.Common.{◌≡◌, ◌≢◌, ℕ, ◌<◌, ◌≤◌, ◌+◌, ◌-◌, ◌*◌, ◌==◌, ◌&&◌, Bool, true, false, ℤ, List, [], ◌∷◌, All, Contains, Option, Some, length, get_or, refl, ap, sym, ◌∙◌, subst, inl, inr, arith}
 use Rattle.std.specs.Prelude.{slice_index, unwrap_or}
 use Rattle.std.proofs.lemmas.Bool.{cases_Bool}
 use Rattle.std.proofs.lemmas.List.Elements.{All-nil, All-cons}
@@ -20,6 +20,7 @@ use Rattle.cu_node.specs.declared.info.NodeInfo.{NodeInfo}
 use Rattle.cu_expr.specs.declared.inputs.InputInfo.{InputInfo}
 use Rattle.cu_need.specs.Live.{is_live, IsClosed}
 use Rattle.cu_need.specs.Need.{need_of, own_need}
+use Rattle.cu_need.specs.Operands.{copies_of}
 use Rattle.cu_copy.specs.Copies.{max_mem}
 use Rattle.cu_lower_reduce.specs.Copies.{is_copy}
 use Rattle.cu_need.specs.View.{is_view}
@@ -32,8 +33,8 @@ use Rattle.cu_lower_reduce.specs.Searches.{IsSearch}
 use Rattle.cu_lower_reduce.specs.declared.step.Step.{Step}
 use Rattle.cu_num.specs.declared.folds.FoldKind.{FoldKind}
 use Rattle.cu_lower.specs.Inputs.{input_names, input_place}
-use Rattle.cu_lower.specs.Parts.{Grown, CanCopy, array_places, sources_of, steps_of, pull_in, setting, reduction_of, search_of, product_of, with_step}
-use Rattle.cu_lower.specs.Plan.{place_in}
+use Rattle.cu_lower.specs.Parts.{Grown, CanCopy, array_places, source_places, steps_of, pull_in, setting, reduction_of, search_of, product_of, with_step}
+use Rattle.cu_lower.specs.Plan.{array_of_node}
 use Rattle.cu_lower.specs.Premises.{IsLowerable}
 use Rattle.cu_lower.specs.declared.options.Options.{Options}
 use Rattle.cu_lower.proofs.Arguments.{Each, each_so, IsEarlierNode, all_places}
@@ -42,7 +43,7 @@ use Rattle.cu_lower.proofs.Fitting.{StandsAlone}
 use Rattle.cu_lower.proofs.CopiedSteps as copied
 use Rattle.cu_lower.proofs.FormKinds.{form_kind, input_stored, view_sources}
 use Rattle.cu_lower.proofs.Needs.{node_need}
-use Rattle.cu_lower.proofs.OperandSteps.{copy_setting, own_setting, AreOwn, HasRoom}
+use Rattle.cu_lower.proofs.OperandSteps.{own_setting, AreOwn, HasRoom}
 use Rattle.cu_lower.proofs.Ready as ready
 use Rattle.cu_lower.proofs.Growing.{front_then, front_step, step_long, step_ops}
 use Rattle.cu_lower.proofs.NodeSteps.{all_steps, node_own}
@@ -81,7 +82,7 @@ module _ (e : Expression) (infos : List NodeInfo) (inputs : List InputInfo) (opt
 
   -- the arrays that a node reads
   abbrev pub ins_of : Form → List ℕ
-  ins_of f = sources_of e grown.places f
+  ins_of f = source_places e grown.places f
 
   -- ---- the steps of a node
 
@@ -112,18 +113,18 @@ module _ (e : Expression) (infos : List NodeInfo) (inputs : List InputInfo) (opt
       subst (λ (p : View). IsPull infos f (info_at infos k) p) same w.1
 
   -- what is known of an argument of a reduction, a search or a rechunk
-  argument_known : (k m : ℕ) (f : Form) (args : List Arg) → Stands k f → args_of f ≡ Arg.Node m ∷ args → HasInfo grown.arrays (place_in grown m) (info_at infos m)
-  argument_known k m f args s is = (subst (Each (λ n. HasInfo grown.arrays (place_in grown n) (info_at infos n))) is (placed.arguments_known e infos inputs options ok laws closed k f s)).0
+  argument_known : (k m : ℕ) (f : Form) (args : List Arg) → Stands k f → args_of f ≡ Arg.Node m ∷ args → HasInfo grown.arrays (array_of_node grown m) (info_at infos m)
+  argument_known k m f args s is = (subst (Each (λ n. HasInfo grown.arrays (array_of_node grown n) (info_at infos n))) is (placed.arguments_known e infos inputs options ok laws closed k f s)).0
 
   -- a node as a reduction, a search for places or a product
   pub reduces : (k m : ℕ) (kind : FoldKind) (axes : Option (List ℤ)) (keepdims : Bool) → Stands k (Form.Reduce kind (Arg.Node m ∷ []) axes keepdims) → IsReduction (reduction_of infos k kind (Arg.Node m ∷ []) axes (ins_of (Form.Reduce kind (Arg.Node m ∷ []) axes keepdims)))
   reduces k m kind axes keepdims s =
-      reduction_typed kind axes keepdims (info_at infos m) (info_at infos k) (place_in grown m) (typed.known_kept e infos inputs options ok m) (typed.known_kept e infos inputs options ok k)
+      reduction_typed kind axes keepdims (info_at infos m) (info_at infos k) (array_of_node grown m) (typed.known_kept e infos inputs options ok m) (typed.known_kept e infos inputs options ok k)
       (typed.reduction e infos inputs options ok k m s.node kind axes keepdims s.at s.is)
 
   pub searches : (k m : ℕ) (least : Bool) (axis : Option ℤ) (keepdims : Bool) → Stands k (Form.ArgPlace least (Arg.Node m ∷ []) axis keepdims) → IsSearch (search_of infos k least (Arg.Node m ∷ []) axis (ins_of (Form.ArgPlace least (Arg.Node m ∷ []) axis keepdims)))
   searches k m least axis keepdims s =
-      search_typed least axis keepdims (info_at infos m) (info_at infos k) (place_in grown m) (typed.known_kept e infos inputs options ok m) (typed.known_kept e infos inputs options ok k)
+      search_typed least axis keepdims (info_at infos m) (info_at infos k) (array_of_node grown m) (typed.known_kept e infos inputs options ok m) (typed.known_kept e infos inputs options ok k)
       (typed.search e infos inputs options ok k m s.node least axis keepdims s.at s.is)
 
   pub multiplies : (k l m : ℕ) → Stands k (Form.Matmul (Arg.Node l ∷ Arg.Node m ∷ [])) → (ins : List ℕ) → IsProduct (product_of infos k (Arg.Node l ∷ Arg.Node m ∷ []) ins)
@@ -146,7 +147,7 @@ module _ (e : Expression) (infos : List NodeInfo) (inputs : List InputInfo) (opt
   function_steps k op args s =
       let (t, passed) = typed.elementwise e infos inputs options ok k s.node op args s.at s.is in
       fitting.map_steps infos options grown.arrays grown.places k (length s.before.arrays) op args t passed laws (function_alone k op args s)
-      (copy_setting options (length s.before.arrays) (room k (Form.Elementwise op args) s)) (function_copies k op args s)
+      (function_copies k op args s)
 
   reduce_steps : (k m : ℕ) (kind : FoldKind) (axes : Option (List ℤ)) (keepdims : Bool) (s : Stands k (Form.Reduce kind (Arg.Node m ∷ []) axes keepdims)) → AreNodeSteps k (Form.Reduce kind (Arg.Node m ∷ []) axes keepdims) s
   reduce_steps k m kind axes keepdims s =
@@ -164,19 +165,19 @@ module _ (e : Expression) (infos : List NodeInfo) (inputs : List InputInfo) (opt
   matmul_steps k l m s =
       let f = Form.Matmul (Arg.Node l ∷ Arg.Node m ∷ []) in
       let known = placed.arguments_known e infos inputs options ok laws closed k (Form.Matmul (Arg.Node l ∷ Arg.Node m ∷ [])) s in
-      copied.multiply_steps laws infos options grown.arrays k (length s.before.arrays) (room k f s) l m (place_in grown l) (place_in grown m) (matmul_copies k l m s) (multiplies k l m s)
+      copied.multiply_steps laws infos options grown.arrays k (length s.before.arrays) (room k f s) l m (array_of_node grown l) (array_of_node grown m) (matmul_copies k l m s) (multiplies k l m s)
       known.0 known.1.0 (placed.stood_infos e infos inputs options ok laws k f s)
 
   rechunk_steps : (k m : ℕ) (chunk : List ℕ) (s : Stands k (Form.Rechunk (Arg.Node m ∷ []) chunk)) → AreNodeSteps k (Form.Rechunk (Arg.Node m ∷ []) chunk) s
   rechunk_steps k m chunk s =
       let f = Form.Rechunk (Arg.Node m ∷ []) chunk in
-      copied.rechunk_steps laws infos options grown.arrays k (length s.before.arrays) (room k f s) m (place_in grown m) chunk
+      copied.rechunk_steps laws infos options grown.arrays k (length s.before.arrays) m (array_of_node grown m) chunk
       (ready.rechunk_staged e infos inputs options ok k s.node (Arg.Node m ∷ []) chunk s.at s.is s.live (length s.before.arrays))
       (argument_known k m f [] s refl) (placed.stood_infos e infos inputs options ok laws k f s)
 
   input_steps : (k : ℕ) (name : List ℕ) (s : Stands k (Form.Input name)) → AreNodeSteps k (Form.Input name) s
   input_steps k name s =
-      copied.input_steps laws infos options grown.arrays k (length s.before.arrays) (room k (Form.Input name) s) (input_place e name) name
+      copied.input_steps laws infos options grown.arrays k (length s.before.arrays) (input_place e name) name
       (ready.input_staged e infos inputs options ok k s.node name s.at s.is s.live (input_stored e k name s.other) (length s.before.arrays))
       (placed.named_known e infos inputs options ok laws k s.node name s.at s.is s.live) (placed.stood_infos e infos inputs options ok laws k (Form.Input name) s)
 
@@ -218,6 +219,10 @@ module _ (e : Expression) (infos : List NodeInfo) (inputs : List InputInfo) (opt
   pub step_need : (size : Grown → ℕ) (j : ℕ) (w : Stood size j) → is_copy w.step.step.op ≡ false → w.step.step.need ≤ own_need options.reserved options.split_every infos w.k w.operator
   step_need size j w = all_among (λ x. is_copy x.op ≡ false → x.need ≤ own_need options.reserved options.split_every infos w.k w.operator) _ w.step.step (own size j w).needs w.step.among
 
+  -- a copy belongs to a node that has copies
+  pub step_copied : (size : Grown → ℕ) (j : ℕ) (w : Stood size j) → is_copy w.step.step.op ≡ true → copies_of infos e.out w.k w.operator ≢ []
+  step_copied size j w = all_among (λ x. is_copy x.op ≡ true → copies_of infos e.out w.k w.operator ≢ []) _ w.step.step (own size j w).copied w.step.among
+
   need_within : (size : Grown → ℕ) (j : ℕ) (w : Stood size j) → need_of options.reserved options.split_every infos e.out w.k w.operator ≤ options.allowed
   need_within size j w = subst (λ (x : Form). need_of options.reserved options.split_every infos e.out w.k x ≤ options.allowed) w.node.is (typed.need_within e infos inputs options ok w.k w.node.node w.node.at w.node.live)
 
@@ -250,7 +255,7 @@ module _ (e : Expression) (infos : List NodeInfo) (inputs : List InputInfo) (opt
   arguments_before : (size : Grown → ℕ) (j : ℕ) (w : Stood size j) → All (λ a. a < length w.step.before.arrays) (array_places grown.places (args_of w.operator))
   arguments_before size j w =
       all_places grown.places (λ a. a < length w.step.before.arrays) (args_of w.operator)
-      (each_so (IsEarlierNode e w.k) (λ n. place_in grown n < length w.step.before.arrays) (λ n a. let early = w.node.earlier n a.below a.live in let past = w.step.past in omega (arith, early, past)) (args_of w.operator)
+      (each_so (IsEarlierNode e w.k) (λ n. array_of_node grown n < length w.step.before.arrays) (λ n a. let early = w.node.earlier n a.below a.live in let past = w.step.past in omega (arith, early, past)) (args_of w.operator)
       (placed.arguments e infos inputs options ok laws closed w.k w.operator w.node))
 
   -- a named array comes before all that are made
@@ -265,7 +270,7 @@ module _ (e : Expression) (infos : List NodeInfo) (inputs : List InputInfo) (opt
       source_before w.operator (λ name is. named_before size j w name is) (arguments_before size j w)
     where
       source_before : (f : Form) → ((name : List ℕ) → f ≡ Form.Input name → input_place e name < length w.step.before.arrays) → All (λ a. a < length w.step.before.arrays) (array_places grown.places (args_of f))
-          → All (λ a. a < length w.step.before.arrays) (sources_of e grown.places f)
+          → All (λ a. a < length w.step.before.arrays) (source_places e grown.places f)
       source_before (Form.Input name) named all = All-cons (λ a. a < length w.step.before.arrays) (input_place e name) [] (named name refl) (All-nil (λ a. a < length w.step.before.arrays))
       source_before f named all = all
 

@@ -6,7 +6,7 @@ use Rattle.cu_form.specs.declared.args.Arg.{Arg}
 use Rattle.cu_form.specs.declared.form.Form.{Form}
 use Rattle.cu_node.specs.Info.{IsInfo, info_at}
 use Rattle.cu_node.specs.declared.info.NodeInfo.{NodeInfo}
-use Rattle.cu_meaning.specs.Argument.{NodeElements, shape_at}
+use Rattle.cu_meaning.specs.Argument.{NodeElements, shape_of_node}
 use Rattle.cu_meaning.specs.Rule.{place_axes, rule_of}
 use Rattle.cu_op.specs.Value.{counted_at, pair_part}
 use Rattle.cu_pull.specs.Pull.{has_axis}
@@ -43,7 +43,7 @@ pub search_told : (must : Bool) (infos : List NodeInfo) (elements meaning : Node
     → IsInfo (info_at infos n) → typed_arg_place axis keepdims (info_at infos n) ≡ Ok (info_at infos k) → IsInside (info_at infos k).dims idx
     → o ≡ pair_part true (best_in least (map (counted_at (info_at infos n).dims (sought_axis (length (info_at infos n).dims) axis) source)
     (reduced_indices (axes_sought (info_at infos n) axis) (info_at infos n).dims (info_at infos k).dims idx)))
-    → ((i : List ℕ) → IsInside (shape_at infos n) i → Told must (source i) (meaning n i))
+    → ((i : List ℕ) → IsInside (shape_of_node infos n) i → Told must (source i) (meaning n i))
     → Told must o (rule_of infos elements meaning k (Form.ArgPlace least (Arg.Node n ∷ []) axis keepdims) idx)
 search_told must infos elements meaning k n least axis keepdims source o idx kept typed inside value told =
     let from = info_at infos n in

@@ -14,7 +14,7 @@ use Rattle.cu_expr.specs.declared.inputs.InputInfo.{InputInfo}
 use Rattle.cu_need.specs.Live.{is_live, IsClosed}
 use Rattle.cu_lower_reduce.specs.Steps.{all_made, grid_of, HasInfo, HaveInfos}
 use Rattle.cu_lower_reduce.specs.declared.step.Step.{Step}
-use Rattle.cu_lower.specs.Plan.{lowered, place_in}
+use Rattle.cu_lower.specs.Plan.{lowered, array_of_node}
 use Rattle.cu_lower.specs.Inputs.{input_place}
 use Rattle.cu_lower.specs.Parts.{Grown, is_given, made_layout, with_steps}
 use Rattle.cu_lower.specs.Premises.{IsLowerable}
@@ -52,7 +52,7 @@ module _ (e : Expression) (infos : List NodeInfo) (inputs : List InputInfo) (opt
       layouts_known grown.arrays (length s.before.arrays) (all_made ss) (omega (arith, l, w)) (layouts k f s)
 
   -- the node's own is the last of them
-  own_place : (k : ℕ) (f : Form) (s : Stands k f) → place_in grown k ≡ length s.before.arrays + length s.make.ends.0
+  own_place : (k : ℕ) (f : Form) (s : Stands k f) → array_of_node grown k ≡ length s.before.arrays + length s.make.ends.0
   own_place k f s =
       let ss = steps_at k f (length s.before.arrays) in
       let l = steps_long e s.before ss in
@@ -60,12 +60,12 @@ module _ (e : Expression) (infos : List NodeInfo) (inputs : List InputInfo) (opt
       let place = s.place in
       omega (arith, l, ends, place)
 
-  pub stood_layout : (k : ℕ) (f : Form) → Stands k f → (array_at grown.arrays (place_in grown k)).layout ≡ made_layout (info_at infos k)
+  pub stood_layout : (k : ℕ) (f : Form) → Stands k f → (array_at grown.arrays (array_of_node grown k)).layout ≡ made_layout (info_at infos k)
   stood_layout k f s =
       ap (λ a. (array_at grown.arrays a).layout) (own_place k f s)
       ∙ last_layout grown.arrays (length s.before.arrays) s.make.ends.0 (info_at infos k) (subst (HaveLayouts grown.arrays (length s.before.arrays)) s.make.ends.1 (layouts k f s))
 
-  stood_known : (k : ℕ) (f : Form) → Stands k f → HasInfo grown.arrays (place_in grown k) (info_at infos k)
+  stood_known : (k : ℕ) (f : Form) → Stands k f → HasInfo grown.arrays (array_of_node grown k) (info_at infos k)
   stood_known k f s =
       subst (λ (a : ℕ). HasInfo grown.arrays a (info_at infos k)) (sym (own_place k f s))
       (last_known grown.arrays (length s.before.arrays) s.make.ends.0 (info_at infos k) (subst (HaveInfos grown.arrays (length s.before.arrays)) s.make.ends.1 (stood_infos k f s)))
@@ -83,7 +83,7 @@ module _ (e : Expression) (infos : List NodeInfo) (inputs : List InputInfo) (opt
         dtype = ap (λ (a : ArrayInfo). a.layout.dtype) f.1 ∙ ap (λ (i : NodeInfo). i.dtype) known;
       }
 
-  input_known : (k : ℕ) (n : Node) → slice_get e.nodes k ≡ Some n → is_live e k ≡ true → IsGivenInput e k n.form → HasInfo grown.arrays (place_in grown k) (info_at infos k)
+  input_known : (k : ℕ) (n : Node) → slice_get e.nodes k ≡ Some n → is_live e k ≡ true → IsGivenInput e k n.form → HasInfo grown.arrays (array_of_node grown k) (info_at infos k)
   input_known k n at live i =
       let f = standing.from_input e infos inputs options ok.form (all_steps e infos inputs options ok laws) k n i at live in
       subst (λ (a : ℕ). HasInfo grown.arrays a (info_at infos k)) (sym f.0) (named_known k n i.name at i.is live)
@@ -93,7 +93,7 @@ module _ (e : Expression) (infos : List NodeInfo) (inputs : List InputInfo) (opt
   node_stands k n f at is other live = standing.from_node e infos inputs options ok.form (all_steps e infos inputs options ok laws) k n f at is other live
 
   -- the array of a live node has the node's type and grid
-  pub live_known : (k : ℕ) (n : Node) → slice_get e.nodes k ≡ Some n → is_live e k ≡ true → HasInfo grown.arrays (place_in grown k) (info_at infos k)
+  pub live_known : (k : ℕ) (n : Node) → slice_get e.nodes k ≡ Some n → is_live e k ≡ true → HasInfo grown.arrays (array_of_node grown k) (info_at infos k)
   live_known k n at live =
       elim (given_kind e k n.form) [
         | inl input ↦ input_known k n at live input
@@ -105,6 +105,6 @@ module _ (e : Expression) (infos : List NodeInfo) (inputs : List InputInfo) (opt
   pub arguments : IsClosed e (is_live e) → (k : ℕ) (f : Form) → Stands k f → Each (IsEarlierNode e k) (args_of f)
   arguments closed k f s = live_arguments e ok.form closed k s.node f s.at s.is s.live
 
-  pub arguments_known : IsClosed e (is_live e) → (k : ℕ) (f : Form) → Stands k f → Each (λ n. HasInfo grown.arrays (place_in grown n) (info_at infos n)) (args_of f)
+  pub arguments_known : IsClosed e (is_live e) → (k : ℕ) (f : Form) → Stands k f → Each (λ n. HasInfo grown.arrays (array_of_node grown n) (info_at infos n)) (args_of f)
   arguments_known closed k f s =
-      each_so (IsEarlierNode e k) (λ n. HasInfo grown.arrays (place_in grown n) (info_at infos n)) (λ n a. live_known n a.node a.at a.live) (args_of f) (arguments closed k f s)
+      each_so (IsEarlierNode e k) (λ n. HasInfo grown.arrays (array_of_node grown n) (info_at infos n)) (λ n a. live_known n a.node a.at a.live) (args_of f) (arguments closed k f s)

@@ -26,9 +26,8 @@ use Rattle.cu_lower_reduce.specs.declared.product.Product.{Product}
 inside_drop : (k : ℕ) (ds is : List ℕ) → IsInside ds is → IsInside (drop k ds) (drop k is)
 inside_drop zero ds is h = h
 inside_drop (suc k) [] [] h = tt
-inside_drop (suc k) [] (i ∷ is) h = absurd h
-inside_drop (suc k) (d ∷ ds) [] h = absurd h
 inside_drop (suc k) (d ∷ ds) (i ∷ is) h = inside_drop k ds is h.1
+inside_drop (suc k) ds is h = absurd h
 
 inside_take : (xs ys is : List ℕ) → IsInside (xs ++ ys) is → IsInside xs (take (length xs) is)
 inside_take [] ys is h = tt
@@ -37,9 +36,8 @@ inside_take (x ∷ xs) ys (i ∷ is) h = (h.0, inside_take xs ys is h.1)
 
 inside_pair : (ns is : List ℕ) (m n i j : ℕ) → IsInside ns is → i < m → j < n → IsInside (ns ++ m ∷ n ∷ []) (is ++ i ∷ j ∷ [])
 inside_pair [] [] m n i j h p q = (p, (q, tt))
-inside_pair [] (x ∷ is) m n i j h p q = absurd h
-inside_pair (d ∷ ns) [] m n i j h p q = absurd h
 inside_pair (d ∷ ns) (x ∷ is) m n i j h p q = (h.0, inside_pair ns is m n i j h.1 p q)
+inside_pair ns is m n i j h p q = absurd h
 
 -- an index that is read through broadcasting
 inside_along : (ns cs ms ds is : List ℕ) → IsAlignedAlong ns cs ms ds → IsInside ms is → IsInside ns (back_along ns is)
@@ -54,12 +52,7 @@ inside_along (n ∷ ns) (c ∷ cs) (m ∷ ms) (d ∷ ds) (i ∷ is) a h = (here 
         other : ((n ≡ m) × (c ≡ d)) ⊎ ((n ≡ 1) × (m ≢ 1)) → n ≢ 1 → i < n
         other (inl e) q = let s = e.0 in omega arith
         other (inr e) q = absurd (q e.0)
-inside_along [] [] [] (d ∷ ds) is a h = absurd a
-inside_along [] [] (m ∷ ms) ds is a h = absurd a
-inside_along [] (c ∷ cs) ms ds is a h = absurd a
-inside_along (n ∷ ns) [] ms ds is a h = absurd a
-inside_along (n ∷ ns) (c ∷ cs) [] ds is a h = absurd a
-inside_along (n ∷ ns) (c ∷ cs) (m ∷ ms) [] is a h = absurd a
+inside_along ns cs ms ds is a h = absurd a
 
 pub inside_back : (g r : RegularGrid) (is : List ℕ) → IsAligned g r → IsInside r.shape is → IsInside g.shape (back g.shape is)
 inside_back g r is a h =

@@ -17,7 +17,7 @@ use Rattle.cu_copy.specs.Copies.{rechunked}
 use Rattle.cu_node.specs.Info.{IsInfo, info_of}
 use Rattle.cu_node.specs.declared.info.NodeInfo.{NodeInfo}
 use Rattle.cu_typing.specs.Accepted.{GoesInto}
-use Rattle.cu_typing.specs.Accepted.{IsProduct as HasPassed}
+use Rattle.cu_typing.specs.Accepted.{IsAcceptedProduct as HasPassed}
 use Rattle.cu_typing.specs.Joined.{aligned_chunk, aligned_on, chunk_on, fills, lead_of}
 use Rattle.cu_typing.specs.Matmul.{leading, rows, columns, left_inner, leading_array, leading_arrays, leading_chunk, right_aligned, typed_matmul}
 use Rattle.cu_typing.proofs.PassedTogether.{product_passed}

@@ -9,7 +9,7 @@ use Rattle.cu_form.specs.declared.args.Arg.{Arg}
 use Rattle.cu_form.specs.declared.form.Form.{Form}
 use Rattle.cu_node.specs.Info.{info_at}
 use Rattle.cu_node.specs.declared.info.NodeInfo.{NodeInfo}
-use Rattle.cu_meaning.specs.Argument.{NodeElements, shape_at}
+use Rattle.cu_meaning.specs.Argument.{NodeElements, shape_of_node}
 use Rattle.cu_meaning.specs.Rule.{rule_of}
 use Rattle.cu_op.specs.Matrix.{left_inner, product_at}
 use Rattle.cu_reduce.specs.Folds.{exact_sum, reduced_to}
@@ -35,7 +35,7 @@ over_range P first (suc count) h = All-cons P first (range_with_len (first + 1) 
 pub product_told : (must : Bool) (infos : List NodeInfo) (elements meaning : NodeElements) (k l m : ℕ) (ins : List ℕ) (left right : List ℕ → Option ℤ) (o : Option ℤ) (idx : List ℕ)
     → IsProduct (product_of infos k (Arg.Node l ∷ Arg.Node m ∷ []) ins) → IsInside (info_at infos k).dims idx
     → o ≡ reduced_to Sum (info_at infos k).dtype (inner_products (product_of infos k (Arg.Node l ∷ Arg.Node m ∷ []) ins) left right idx)
-    → ((i : List ℕ) → IsInside (shape_at infos l) i → Told must (left i) (meaning l i)) → ((i : List ℕ) → IsInside (shape_at infos m) i → Told must (right i) (meaning m i))
+    → ((i : List ℕ) → IsInside (shape_of_node infos l) i → Told must (left i) (meaning l i)) → ((i : List ℕ) → IsInside (shape_of_node infos m) i → Told must (right i) (meaning m i))
     → Told must o (rule_of infos elements meaning k (Form.Matmul (Arg.Node l ∷ Arg.Node m ∷ [])) idx)
 product_told must infos elements meaning k l m ins left right o idx h inside value lefts rights =
     let x : Product = product_of infos k (Arg.Node l ∷ Arg.Node m ∷ []) ins in

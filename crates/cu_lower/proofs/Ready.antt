@@ -125,7 +125,8 @@ module _ (e : Expression) (infos : List NodeInfo) (inputs : List InputInfo) (opt
   pub function_copies : (k : ℕ) (n : Node) (op : ElementOp) (args : List Arg) → slice_get e.nodes k ≡ Some n → n.form ≡ Form.Elementwise op args → is_live e k ≡ true → (first : ℕ)
       → CanCopy infos options k (Form.Elementwise op args) first
   function_copies k n op args at is live first = record {
-    operands = record { rechunks = operands k n (Form.Elementwise op args) at is; staged = staged k n (Form.Elementwise op args) at is live first };
+    rechunks = operands k n (Form.Elementwise op args) at is;
+    operands = record { staged = staged k n (Form.Elementwise op args) at is live first };
     few =
         let takes = (written k n (Form.Elementwise op args) at is).takes in
         let three = three_arguments op args takes in
@@ -136,7 +137,8 @@ module _ (e : Expression) (infos : List NodeInfo) (inputs : List InputInfo) (opt
 
   pub matmul_copies : (k : ℕ) (n : Node) (args : List Arg) → slice_get e.nodes k ≡ Some n → n.form ≡ Form.Matmul args → is_live e k ≡ true → (first : ℕ) → CanCopy infos options k (Form.Matmul args) first
   matmul_copies k n args at is live first = record {
-    operands = record { rechunks = operands k n (Form.Matmul args) at is; staged = staged k n (Form.Matmul args) at is live first };
+    rechunks = operands k n (Form.Matmul args) at is;
+    operands = record { staged = staged k n (Form.Matmul args) at is live first };
     few = omega arith;
   }
 

@@ -11,7 +11,7 @@ use Rattle.cu_form.specs.declared.args.Arg.{Arg}
 use Rattle.cu_form.specs.declared.form.Form.{Form}
 use Rattle.cu_node.specs.Info.{IsInfo, info_at}
 use Rattle.cu_node.specs.declared.info.NodeInfo.{NodeInfo}
-use Rattle.cu_meaning.specs.Argument.{NodeElements, shape_at}
+use Rattle.cu_meaning.specs.Argument.{NodeElements, shape_of_node}
 use Rattle.cu_meaning.specs.Reduction.{reduced_start, reduced_elements}
 use Rattle.cu_meaning.specs.Rule.{rule_of}
 use Rattle.cu_pull.specs.Pull.{has_axis}
@@ -99,7 +99,7 @@ elements_are f axes keepdims shape ms idx few named =
 pub reduction_told : (must : Bool) (infos : List NodeInfo) (elements meaning : NodeElements) (k n : ℕ) (kind : FoldKind) (axes : Option (List ℤ)) (keepdims : Bool) (source : List ℕ → Option ℤ) (o : Option ℤ) (idx : List ℕ)
     → IsInfo (info_at infos n) → typed_reduction kind axes keepdims (info_at infos n) ≡ Ok (info_at infos k) → IsInside (info_at infos k).dims idx
     → o ≡ reduced_to kind (info_at infos k).dtype (map source (reduced_indices (axes_reduced (info_at infos n) axes) (info_at infos n).dims (info_at infos k).dims idx))
-    → ((i : List ℕ) → IsInside (shape_at infos n) i → Told must (source i) (meaning n i))
+    → ((i : List ℕ) → IsInside (shape_of_node infos n) i → Told must (source i) (meaning n i))
     → Told must o (rule_of infos elements meaning k (Form.Reduce kind (Arg.Node n ∷ []) axes keepdims) idx)
 reduction_told must infos elements meaning k n kind axes keepdims source o idx kept typed inside value told =
     let from = info_at infos n in

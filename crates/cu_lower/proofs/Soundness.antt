@@ -13,7 +13,7 @@ use Rattle.cu_name.specs.Keys.{made_prefix_of}
 use Rattle.cu_name.proofs.Prefixes.{length-made_prefix_of}
 use Rattle.cu_shape.specs.Index.{product}
 use Rattle.cu_grid.specs.Grid.{RegularGrid, IsGrid}
-use Rattle.cu_op.specs.Arrays.{array_at, maker_at, grid_counts, chunk_count}
+use Rattle.cu_op.specs.Arrays.{array_at, maker_at, grid_counts, array_chunk_count}
 use Rattle.cu_op.specs.Layout.{IsArray, IsLayout}
 use Rattle.cu_op.specs.Names.{HasOwnNames}
 use Rattle.cu_op.specs.Operation.{writes_of}
@@ -32,7 +32,7 @@ use Rattle.cu_need.specs.Counts.{plan_counts}
 use Rattle.cu_need.specs.Live.{is_live, IsClosed}
 use Rattle.cu_lower_reduce.specs.Steps.{made_infos, grid_of}
 use Rattle.cu_lower.specs.Inputs.{input_array, input_names, layout_named}
-use Rattle.cu_lower.specs.Plan.{place_in, as_plan}
+use Rattle.cu_lower.specs.Plan.{array_of_node, as_plan}
 use Rattle.cu_lower.specs.Parts.{Grown, made_layout}
 use Rattle.cu_lower.specs.Premises.{IsLowerable}
 use Rattle.cu_lower.specs.declared.options.Options.{Options}
@@ -125,7 +125,7 @@ module _ (e : Expression) (infos : List NodeInfo) (inputs : List InputInfo) (opt
   pub input_maker : (a : ℕ) → a < given → maker_at grown.arrays a ≡ None
   input_maker a below = ap (λ (x : ArrayInfo). x.maker) (input_at a below)
 
-  input_ok : (a : ℕ) → a < given → IsArray (array_at grown.arrays a) × (chunk_count (array_at grown.arrays a) ≤ 65536)
+  input_ok : (a : ℕ) → a < given → IsArray (array_at grown.arrays a) × (array_chunk_count (array_at grown.arrays a) ≤ 65536)
   input_ok a below =
       let name = get_or (input_names e) a [] in
       let (k, u) = used a below in
@@ -139,7 +139,7 @@ module _ (e : Expression) (infos : List NodeInfo) (inputs : List InputInfo) (opt
         fill = fill_fits inputs name ok.fills;
       } in (
         subst IsArray (sym (input_at a below)) fine,
-        subst (λ (x : ArrayInfo). chunk_count x ≤ 65536) (sym (input_at a below)) (subst (λ (g : RegularGrid). product (grid_counts g) ≤ 65536) grid (info_chunks (info_at infos k) info)),
+        subst (λ (x : ArrayInfo). array_chunk_count x ≤ 65536) (sym (input_at a below)) (subst (λ (g : RegularGrid). product (grid_counts g) ≤ 65536) grid (info_chunks (info_at infos k) info)),
       )
 
   -- ---- an array that an operation makes
@@ -151,7 +151,7 @@ module _ (e : Expression) (infos : List NodeInfo) (inputs : List InputInfo) (opt
     pub layout : (array_at grown.arrays a).layout ≡ made_layout info
     pub maker : ℕ
     pub made : maker_at grown.arrays a ≡ Some maker
-    pub named : ((a ≡ place_in grown e.out) × ((array_at grown.arrays a).prefix ≡ e.store_as)) ⊎ ((array_at grown.arrays a).prefix ≡ made_prefix_of e.store_as (a - given))
+    pub named : ((a ≡ array_of_node grown e.out) × ((array_at grown.arrays a).prefix ≡ e.store_as)) ⊎ ((array_at grown.arrays a).prefix ≡ made_prefix_of e.store_as (a - given))
 
   pub made_array : (a : ℕ) → StoodArray a → IsMadeArray a
   made_array a w =
@@ -173,7 +173,7 @@ module _ (e : Expression) (infos : List NodeInfo) (inputs : List InputInfo) (opt
         ];
       }
     where
-      own_place : (a : ℕ) (w : StoodArray a) → (w.step.last && (length w.step.before.places == e.out)) ≡ true → suc (a - length w.step.before.arrays) ≡ length (made_infos w.step.step) → a ≡ place_in grown e.out
+      own_place : (a : ℕ) (w : StoodArray a) → (w.step.last && (length w.step.before.places == e.out)) ≡ true → suc (a - length w.step.before.arrays) ≡ length (made_infos w.step.step) → a ≡ array_of_node grown e.out
       own_place a w stored last =
           let both = and_parts w.step.last (length w.step.before.places == e.out) stored in
           let out = eqb-true (length w.step.before.places) e.out both.1 in
@@ -183,8 +183,8 @@ module _ (e : Expression) (infos : List NodeInfo) (inputs : List InputInfo) (opt
           let low = w.step.least in
           let ends = ap (λ (g : Grown). length g.arrays) (w.step.ends both.0) in
           let place = w.node.place in
-          let here : a ≡ place_in grown w.k = omega (arith, long, low, ends, place, last) in
-          here ∙ ap (place_in grown) k
+          let here : a ≡ array_of_node grown w.k = omega (arith, long, low, ends, place, last) in
+          here ∙ ap (array_of_node grown) k
 
   made_short : (a : ℕ) → a < length grown.arrays → IsMadeArray a → length (array_at grown.arrays a).prefix ≤ 45
   made_short a below m =
@@ -277,7 +277,7 @@ module _ (e : Expression) (infos : List NodeInfo) (inputs : List InputInfo) (opt
             (step_within e w.step.last w.step.before grown w.step.step w.step.front, subst (λ o. Contains (writes_of o) a) (sym is) among)
       ]
 
-  pub out_within : place_in grown e.out < length grown.arrays
+  pub out_within : array_of_node grown e.out < length grown.arrays
   out_within =
       let n = get_or e.nodes e.out no_node in
       (placed.live_known e infos inputs options ok laws e.out n (slice_get-get_or e.nodes e.out no_node ok.form.out) closed.stored).within

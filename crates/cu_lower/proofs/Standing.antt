@@ -18,9 +18,9 @@ use Rattle.cu_expr.specs.declared.inputs.InputInfo.{InputInfo}
 use Rattle.cu_need.specs.Live.{is_live}
 use Rattle.cu_lower_reduce.specs.declared.step.Step.{Step}
 use Rattle.cu_lower.specs.Inputs.{input_array, input_names, input_arrays, input_place}
-use Rattle.cu_lower.specs.Plan.{first_grown, lowered, place_in}
+use Rattle.cu_lower.specs.Plan.{first_grown, lowered, array_of_node}
 use Rattle.cu_lower.specs.declared.options.Options.{Options}
-use Rattle.cu_lower.specs.Parts.{Grown, IsGrown, HasSteps, Make, array_places, is_given, is_none, sources_of, steps_of, with_step, with_steps, with_place, with_last, with_node}
+use Rattle.cu_lower.specs.Parts.{Grown, IsGrown, HasSteps, Make, array_places, is_given, is_none, source_places, steps_of, with_step, with_steps, with_place, with_last, with_next_node}
 use Rattle.cu_lower.proofs.Growing as growing
 use Rattle.cu_lower.proofs.Growing.{Front, Located}
 use Rattle.cu_lower.proofs.InputNames.{input_placed}
@@ -89,7 +89,7 @@ module _ (e : Expression) (infos : List NodeInfo) (inputs : List InputInfo) (opt
 
   -- the steps of node k
   abbrev pub own_steps : ℕ → Form → ℕ → List Step
-  own_steps k f first = steps_of infos options k f (sources_of e whole.places f) first
+  own_steps k f first = steps_of infos options k f (source_places e whole.places f) first
 
   -- a live node's form, and what was grown before its steps
   pub record Standing (k : ℕ) (f : Form) : Type 0 where
@@ -104,8 +104,8 @@ module _ (e : Expression) (infos : List NodeInfo) (inputs : List InputInfo) (opt
     pub front : Front (with_steps e before (own_steps k f (length before.arrays))) whole
     pub make : Make (info_at infos k) (own_steps k f (length before.arrays))
     pub small : length before.arrays < 2 ^ 30
-    pub place : place_in whole k ≡ length (with_steps e before (own_steps k f (length before.arrays))).arrays - 1
-    pub earlier : (n : ℕ) → n < k → is_live e n ≡ true → place_in whole n < length before.arrays
+    pub place : array_of_node whole k ≡ length (with_steps e before (own_steps k f (length before.arrays))).arrays - 1
+    pub earlier : (n : ℕ) → n < k → is_live e n ≡ true → array_of_node whole n < length before.arrays
 
   -- the places of earlier nodes stay
   same_places : (h : Grown) (args : List Arg) → Front h whole → list_all (is_earlier (length h.places)) args ≡ true → array_places h.places args ≡ array_places whole.places args
@@ -118,7 +118,7 @@ module _ (e : Expression) (infos : List NodeInfo) (inputs : List InputInfo) (opt
   same_places h (Arg.Int x ∷ args) f earlier = same_places h args f earlier
   same_places h (Arg.Truth b ∷ args) f earlier = same_places h args f earlier
 
-  same_sources : (h : Grown) (f : Form) → Front h whole → list_all (is_earlier (length h.places)) (args_of f) ≡ true → sources_of e h.places f ≡ sources_of e whole.places f
+  same_sources : (h : Grown) (f : Form) → Front h whole → list_all (is_earlier (length h.places)) (args_of f) ≡ true → source_places e h.places f ≡ source_places e whole.places f
   same_sources h (Form.Input name) front earlier = refl
   same_sources h f front earlier = same_places h (args_of f) front earlier
 
@@ -127,7 +127,7 @@ module _ (e : Expression) (infos : List NodeInfo) (inputs : List InputInfo) (opt
       → growing.own_steps e infos options h f ≡ own_steps k f (length h.arrays)
   own_same h k n f at is number before =
       let named : list_all (is_earlier (length h.places)) (args_of f) ≡ true = subst (λ (i : ℕ). list_all (is_earlier i) (args_of f) ≡ true) (sym number) (subst (λ (x : Form). list_all (is_earlier k) (args_of x) ≡ true) is (form.nodes k n at).form.earlier) in
-      ap (λ i. steps_of infos options i f (sources_of e h.places f) (length h.arrays)) number
+      ap (λ i. steps_of infos options i f (source_places e h.places f) (length h.arrays)) number
       ∙ ap (λ xs. steps_of infos options k f xs (length h.arrays)) (same_sources h f before named)
 
   pub steps_front : (h : Grown) (ss : List Step) → Front (with_last (with_steps e h ss)) whole → Front (with_steps e h ss) whole
@@ -168,12 +168,12 @@ module _ (e : Expression) (infos : List NodeInfo) (inputs : List InputInfo) (opt
       let s = r.1 in
       let alive : is_live e (length h.places) ≡ true = subst (λ (i : ℕ). is_live e i ≡ true) (sym s.number) live in
       let front = subst (λ (x : Grown). Front x whole) (growing.live_next e infos options h n.form alive) s.front in
-      let own = subst (λ (x : Form). Front (with_node e infos options h x) whole) is front in
+      let own = subst (λ (x : Form). Front (with_next_node e infos options h x) whole) is front in
       stands h k n f at is other live s.number s.known (subst (λ (x : Grown). Front x whole) (node_made e infos options h f (subst (λ (i : ℕ). is_given e i f ≡ false) (sym s.number) other)) own)
 
   -- the array of an input that isn't stored
   pub from_input : (k : ℕ) (n : Node) (i : IsGivenInput e k n.form) → slice_get e.nodes k ≡ Some n → is_live e k ≡ true
-      → (place_in whole k ≡ input_place e i.name) × (place_in whole k < given)
+      → (array_of_node whole k ≡ input_place e i.name) × (array_of_node whole k < given)
   from_input k n i at live =
       let r = growing.reached e infos options steps (first_grown e inputs) e.nodes from_first at_first k k n (omega arith) at in
       let h = r.0 in
@@ -181,7 +181,7 @@ module _ (e : Expression) (infos : List NodeInfo) (inputs : List InputInfo) (opt
       let alive : is_live e (length h.places) ≡ true = subst (λ (i : ℕ). is_live e i ≡ true) (sym s.number) live in
       let f = subst (λ (g : Grown). Front g whole) (growing.live_next e infos options h n.form alive) s.front in
       let there = subst (λ (g : Grown). Front g whole) (node_given e infos options h n.form k s.number i) f in
-      let place : place_in whole k ≡ input_place e i.name = seam h.places there.places.0 whole.places (input_place e i.name) 0 k there.places.1 (sym s.number) in
+      let place : array_of_node whole k ≡ input_place e i.name = seam h.places there.places.0 whole.places (input_place e i.name) 0 k there.places.1 (sym s.number) in
       (place, subst (λ (a : ℕ). a < given) (sym place) (input_placed e k n i.name at live i.is).0)
 
   -- the array with the name of a live input
@@ -219,7 +219,7 @@ module _ (e : Expression) (infos : List NodeInfo) (inputs : List InputInfo) (opt
       }
 
   from_form : (size : Grown → ℕ) → ((g : Grown) (place : ℕ) → size (with_place g place) ≡ size g) → (h : Grown) (k j : ℕ) (n : Node) (f : Form) → slice_get e.nodes k ≡ Some n → n.form ≡ f
-      → is_live e k ≡ true → length h.places ≡ k → IsGrown e h → Front (with_node e infos options h f) whole → size h ≤ j → j < size (with_node e infos options h f) → Stood size j
+      → is_live e k ≡ true → length h.places ≡ k → IsGrown e h → Front (with_next_node e infos options h f) whole → size h ≤ j → j < size (with_next_node e infos options h f) → Stood size j
   from_form size same h k j n f at is live number grown front least below =
       elim (given_kind e k f) [
         | inl input ↦

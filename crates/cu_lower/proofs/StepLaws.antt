@@ -1,5 +1,5 @@
 -- The laws of the steps of a node: those of views, reductions, searches for places and products.
-use Rattle.std.specs.Prelude.{◌≡◌, ◌<◌, ◌≤◌, ◌+◌, ◌∷◌, ◌++◌, [], ℕ, ℤ, true, List, All, Some, filter, length, map, slice_index, sum_by}
+use Rattle.std.specs.Prelude.{◌≡◌, ◌<◌, ◌+◌, ◌∷◌, ◌++◌, [], ℕ, ℤ, true, List, All, Some, filter, length, map, slice_index, sum_by}
 use Rattle.cu_copy.specs.Copies.{is_misaligned, rechunk_cells, rechunk_tasks, rechunked}
 use Rattle.cu_copy.specs.declared.copies.Rechunk.{Rechunk}
 use Rattle.cu_num.specs.Dtype.{InRange}
@@ -19,9 +19,9 @@ use Rattle.cu_tree.specs.Partials.{first_partial, reduction_rounds, product_part
 use Rattle.cu_lower_reduce.specs.Partials.{IsSetting}
 use Rattle.cu_lower_reduce.specs.Products.{product_steps, inner_products, IsProduct}
 use Rattle.cu_lower_reduce.specs.Reductions.{reduction_steps, reduced_indices, IsReduction}
-use Rattle.cu_lower_reduce.specs.Searches.{search_steps, value_bytes, IsSearch}
+use Rattle.cu_lower_reduce.specs.Searches.{search_steps, value_chunk_bytes, IsSearch}
 use Rattle.cu_lower_reduce.specs.Steps.{HasInfo, HaveEach, HaveInfos, IsGiven, all_made, AreSteps, SolveSteps, last_made, with_merges, info_bytes, ComeTo}
-use Rattle.cu_lower_reduce.specs.Copies.{aligned_places, aligned_steps, copy_steps, AreCopies, AreOperands, IsCopySetting, IsStaged}
+use Rattle.cu_lower_reduce.specs.Copies.{aligned_places, aligned_steps, copy_steps, AreCopies, AreOperands, IsStaged}
 use Rattle.cu_lower_reduce.specs.declared.copy.CopySetting.{CopySetting}
 use Rattle.cu_lower_reduce.specs.declared.product.Product.{Product}
 use Rattle.cu_lower_reduce.specs.declared.reduction.Reduction.{Reduction}
@@ -45,7 +45,7 @@ pub record SearchLaw : Type 0 where
   pub steps : (arrays : List ArrayInfo) (s : Setting) (x : Search) → IsSetting s → IsSearch x → HasInfo arrays x.source x.from → HaveInfos arrays s.first (all_made (search_steps s x))
       → AreSteps arrays s.reserved (x.source ∷ []) s.first s.first (search_steps s x)
   pub sizes : (s : Setting) (x : Search) → IsSetting s → IsSearch x
-      → ComeTo (with_merges (reduction_rounds (sought_axes x.axis) s.split_every x.from) (pair_fold_need s.reserved (info_bytes x.from) (value_bytes x) (info_bytes x.made)) (pair_merge_need s.reserved s.split_every (value_bytes x) (info_bytes x.made)))
+      → ComeTo (with_merges (reduction_rounds (sought_axes x.axis) s.split_every x.from) (pair_fold_need s.reserved (info_bytes x.from) (value_chunk_bytes x) (info_bytes x.made)) (pair_merge_need s.reserved s.split_every (value_chunk_bytes x) (info_bytes x.made)))
       (chunks_written (first_partial Int64 (sought_axes x.axis) x.from) (reduction_rounds (sought_axes x.axis) s.split_every x.from) x.made)
       (chunks_written (first_partial Int64 (sought_axes x.axis) x.from) (reduction_rounds (sought_axes x.axis) s.split_every x.from) x.made
       + chunks_before (first_partial x.from.dtype (sought_axes x.axis) x.from) (reduction_rounds (sought_axes x.axis) s.split_every x.from)) x.made (search_steps s x)
@@ -67,23 +67,23 @@ pub record ProductLaw : Type 0 where
       → at (last_made s.first (product_steps s x)) idx ≡ reduced_to Sum x.made.dtype (inner_products x (at x.left) (at x.right) idx)
 
 pub record RechunkLaw : Type 0 where
-  pub steps : (arrays : List ArrayInfo) (s : CopySetting) (source : ℕ) (r : Rechunk) → IsCopySetting s → IsStaged s r → HasInfo arrays source r.source → HaveInfos arrays s.first (all_made (copy_steps s source r))
+  pub steps : (arrays : List ArrayInfo) (s : CopySetting) (source : ℕ) (r : Rechunk) → IsStaged s r → HasInfo arrays source r.source → HaveInfos arrays s.first (all_made (copy_steps s source r))
       → AreSteps arrays s.reserved (source ∷ []) s.first s.first (copy_steps s source r)
   pub last : (arrays : List ArrayInfo) (s : CopySetting) (source : ℕ) (r : Rechunk) → HaveInfos arrays s.first (all_made (copy_steps s source r)) → HasInfo arrays (last_made s.first (copy_steps s source r)) (rechunked r)
   pub ends : (s : CopySetting) (source : ℕ) (r : Rechunk) → (rest : List NodeInfo) × (all_made (copy_steps s source r) ≡ rest ++ rechunked r ∷ [])
-  pub sizes : (s : CopySetting) (source : ℕ) (r : Rechunk) → IsCopySetting s → IsStaged s r → AreCopies s 1 (rechunk_tasks s.most r) (rechunk_cells s.most r) (copy_steps s source r)
+  pub sizes : (s : CopySetting) (source : ℕ) (r : Rechunk) → IsStaged s r → AreCopies s 1 (rechunk_tasks s.most r) (rechunk_cells s.most r) (copy_steps s source r)
   pub value : (arrays : List ArrayInfo) (at : Elements) (s : CopySetting) (source : ℕ) (r : Rechunk) → SolveSteps arrays at (copy_steps s source r)
       → (idx : List ℕ) → at (last_made s.first (copy_steps s source r)) idx ≡ at source idx
 
 pub record OperandsLaw : Type 0 where
-  pub steps : (arrays : List ArrayInfo) (s : CopySetting) (sources : List ℕ) (rs : List Rechunk) → IsCopySetting s → length rs ≤ 3 → AreOperands s rs → HaveEach arrays sources (map (λ r. r.source) rs)
+  pub steps : (arrays : List ArrayInfo) (s : CopySetting) (sources : List ℕ) (rs : List Rechunk) → AreOperands s rs → HaveEach arrays sources (map (λ r. r.source) rs)
       → HaveInfos arrays s.first (all_made (aligned_steps s sources rs)) → AreSteps arrays s.reserved sources s.first s.first (aligned_steps s sources rs)
   pub places : (arrays : List ArrayInfo) (s : CopySetting) (sources : List ℕ) (rs : List Rechunk) → HaveEach arrays sources (map (λ r. r.source) rs)
       → HaveInfos arrays s.first (all_made (aligned_steps s sources rs)) → HaveEach arrays (aligned_places s sources rs) (map rechunked rs)
   pub given : (s : CopySetting) (sources : List ℕ) (rs : List Rechunk) → length sources ≡ length rs
       → All (IsGiven sources s.first (s.first + length (all_made (aligned_steps s sources rs)))) (aligned_places s sources rs)
-  pub sizes : (s : CopySetting) (sources : List ℕ) (rs : List Rechunk) → IsCopySetting s → length rs ≤ 3 → AreOperands s rs → length sources ≡ length rs
-      → AreCopies s (length rs) (sum_by (rechunk_tasks s.most) (filter is_misaligned rs)) (sum_by (rechunk_cells s.most) (filter is_misaligned rs)) (aligned_steps s sources rs)
+  pub sizes : (s : CopySetting) (sources : List ℕ) (rs : List Rechunk) → AreOperands s rs → length sources ≡ length rs
+      → AreCopies s (length (filter is_misaligned rs)) (sum_by (rechunk_tasks s.most) (filter is_misaligned rs)) (sum_by (rechunk_cells s.most) (filter is_misaligned rs)) (aligned_steps s sources rs)
   pub value : (arrays : List ArrayInfo) (at : Elements) (s : CopySetting) (sources : List ℕ) (rs : List Rechunk) (j : ℕ) → length sources ≡ length rs → j < length rs
       → SolveSteps arrays at (aligned_steps s sources rs) → (idx : List ℕ) → at (slice_index (aligned_places s sources rs) j) idx ≡ at (slice_index sources j) idx
 

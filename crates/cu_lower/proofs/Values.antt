@@ -25,7 +25,7 @@ use Rattle.cu_form.specs.declared.form.Form.{Form}
 use Rattle.cu_node.specs.Info.{info_at}
 use Rattle.cu_node.specs.declared.element_op.ElementOp.{ElementOp}
 use Rattle.cu_node.specs.declared.info.NodeInfo.{NodeInfo}
-use Rattle.cu_meaning.specs.Argument.{NodeElements, shape_at, argument_at}
+use Rattle.cu_meaning.specs.Argument.{NodeElements, shape_of_node, argument_at}
 use Rattle.cu_meaning.specs.Rule.{function_value, rule_of}
 use Rattle.cu_typing.specs.Accepted.{IsElementwise}
 use Rattle.cu_typing.specs.Types.{result_type}
@@ -53,11 +53,11 @@ use Rattle.cu_lower.proofs.ViewRules.{view_takes}
 module _ (must : Bool) (infos : List NodeInfo) (elements meaning : NodeElements) (options : Options) (arrays : List ArrayInfo) (places : List ℕ) (at : Elements) where
   -- the array of a node carries its meaning
   abbrev pub CarriesAt : ℕ → Type 0
-  CarriesAt n = (idx : List ℕ) → IsInside (shape_at infos n) idx → Told must (at (slice_index places n) idx) (meaning n idx)
+  CarriesAt n = (idx : List ℕ) → IsInside (shape_of_node infos n) idx → Told must (at (slice_index places n) idx) (meaning n idx)
 
   -- its elements are numbers of its type
   abbrev pub RangedAt : ℕ → Type 0
-  RangedAt n = (idx : List ℕ) (x : ℤ) → IsInside (shape_at infos n) idx → at (slice_index places n) idx ≡ Some x → InRange (info_at infos n).dtype x
+  RangedAt n = (idx : List ℕ) (x : ℤ) → IsInside (shape_of_node infos n) idx → at (slice_index places n) idx ≡ Some x → InRange (info_at infos n).dtype x
 
   -- what is known of the array of an argument
   pub record IsCarried (n : ℕ) : Type 0 where
@@ -69,7 +69,7 @@ module _ (must : Bool) (infos : List NodeInfo) (elements meaning : NodeElements)
 
   -- what is read of node n at an index of node k
   abbrev read : ℕ → List ℕ → ℕ → ℤ
-  read k idx n = meaning n (back (shape_at infos n) idx)
+  read k idx n = meaning n (back (shape_of_node infos n) idx)
 
   abbrev read_at : List ℕ → ℕ → Option ℤ
   read_at idx a = at a (back (grid_at arrays a).shape idx)
@@ -86,18 +86,18 @@ module _ (must : Bool) (infos : List NodeInfo) (elements meaning : NodeElements)
   AreTold k idx (Arg.Int x ∷ args) xs = AreTold k idx args xs
   AreTold k idx (Arg.Truth b ∷ args) xs = AreTold k idx args xs
 
-  argument_told : (k out : ℕ) (idx : List ℕ) → HasInfo arrays out (info_at infos k) → IsInside (shape_at infos k) idx → (n a : ℕ) → IsCarried n
+  argument_told : (k out : ℕ) (idx : List ℕ) → HasInfo arrays out (info_at infos k) → IsInside (shape_of_node infos k) idx → (n a : ℕ) → IsCarried n
       → HasInfo arrays a (rechunked (in_aligned (info_at infos k) (info_at infos n))) → ((i : List ℕ) → at a i ≡ at (slice_index places n) i) → IsAligned (grid_at arrays a) (grid_at arrays out) → IsTold k idx n a
   argument_told k out idx own inside n a c known same aligned =
       let into : IsInside (grid_at arrays out).shape idx = subst (λ (g : RegularGrid). IsInside g.shape idx) (sym own.grid) inside in
-      let shape : (grid_at arrays a).shape ≡ shape_at infos n = ap (λ (g : RegularGrid). g.shape) known.grid in
-      let there : IsInside (shape_at infos n) (back (shape_at infos n) idx) = subst (λ (ds : List ℕ). IsInside ds (back ds idx)) shape (inside_back (grid_at arrays a) (grid_at arrays out) idx aligned into) in
-      let source : read_at idx a ≡ at (slice_index places n) (back (shape_at infos n) idx) = ap (λ ds. at a (back ds idx)) shape ∙ same (back (shape_at infos n) idx) in (
-        subst (λ (o : Option ℤ). Told must o (read k idx n)) (sym source) (c.carries (back (shape_at infos n) idx) there),
-        (λ some. c.ranged (back (shape_at infos n) idx) (read k idx n) there (sym source ∙ some)),
+      let shape : (grid_at arrays a).shape ≡ shape_of_node infos n = ap (λ (g : RegularGrid). g.shape) known.grid in
+      let there : IsInside (shape_of_node infos n) (back (shape_of_node infos n) idx) = subst (λ (ds : List ℕ). IsInside ds (back ds idx)) shape (inside_back (grid_at arrays a) (grid_at arrays out) idx aligned into) in
+      let source : read_at idx a ≡ at (slice_index places n) (back (shape_of_node infos n) idx) = ap (λ ds. at a (back ds idx)) shape ∙ same (back (shape_of_node infos n) idx) in (
+        subst (λ (o : Option ℤ). Told must o (read k idx n)) (sym source) (c.carries (back (shape_of_node infos n) idx) there),
+        (λ some. c.ranged (back (shape_of_node infos n) idx) (read k idx n) there (sym source ∙ some)),
       )
 
-  arguments_told : (k out : ℕ) (idx : List ℕ) → HasInfo arrays out (info_at infos k) → IsInside (shape_at infos k) idx → (args : List Arg) (xs : List ℕ) → Each IsCarried args
+  arguments_told : (k out : ℕ) (idx : List ℕ) → HasInfo arrays out (info_at infos k) → IsInside (shape_of_node infos k) idx → (args : List Arg) (xs : List ℕ) → Each IsCarried args
       → HaveEach arrays xs (map rechunked (map (in_aligned (info_at infos k)) (arrays_in infos args))) → SameElements at (array_places places args) xs → All (λ a. IsAligned (grid_at arrays a) (grid_at arrays out)) xs
       → AreTold k idx args xs
   arguments_told k out idx own inside [] xs each known same aligned = tt
@@ -125,7 +125,7 @@ module _ (must : Bool) (infos : List NodeInfo) (elements meaning : NodeElements)
 
   module _ (k first : ℕ) (op : ElementOp) (args : List Arg) (t : Dtype) (typed : IsElementwise op (map (argument_of infos) args) t (info_at infos k)) (laws : HaveLaws)
       (s : StandsAlone infos options arrays places k first (Form.Elementwise op args)) where
-    pub function_told : Each IsCarried args → SolveSteps arrays at (steps_of infos options k (Form.Elementwise op args) (array_places places args) first) → (idx : List ℕ) → IsInside (shape_at infos k) idx
+    pub function_told : Each IsCarried args → SolveSteps arrays at (steps_of infos options k (Form.Elementwise op args) (array_places places args) first) → (idx : List ℕ) → IsInside (shape_of_node infos k) idx
         → Told must (at (last_made first (steps_of infos options k (Form.Elementwise op args) (array_places places args) first)) idx) (rule_of infos elements meaning k (Form.Elementwise op args) idx)
     function_told carried solves idx inside =
         let ins = array_places places args in
@@ -170,7 +170,7 @@ module _ (must : Bool) (infos : List NodeInfo) (elements meaning : NodeElements)
   provenance_told args (Const x) each arrays inside = inl refl
 
   module _ (k first : ℕ) (f : Form) (viewed : is_view f ≡ true) (typed : IsTypedView infos f (info_at infos k)) (own : IsPull infos f (info_at infos k) (pull_in infos f)) (s : StandsAlone infos options arrays places k first f) where
-    pub view_told : Each IsCarried (args_of f) → SolveSteps arrays at (steps_of infos options k f (array_places places (args_of f)) first) → (idx : List ℕ) → IsInside (shape_at infos k) idx
+    pub view_told : Each IsCarried (args_of f) → SolveSteps arrays at (steps_of infos options k f (array_places places (args_of f)) first) → (idx : List ℕ) → IsInside (shape_of_node infos k) idx
         → Told must (at first idx) (rule_of infos elements meaning k f idx)
     view_told carried solves idx inside =
         let p = pull_in infos f in

@@ -22,7 +22,7 @@ use Rattle.cu_node.specs.declared.index_item.IndexItem.{IndexItem}
 use Rattle.cu_node.specs.declared.info.NodeInfo.{NodeInfo}
 use Rattle.cu_node.proofs.KeptLimits.{given}
 use Rattle.cu_typing_view.specs.Entries.{untaken, first_wrong, index_shape, index_chunk, unless_wrong}
-use Rattle.cu_typing_view.specs.Rearranged.{is_permutation, permuted}
+use Rattle.cu_typing_view.specs.Rearranged.{is_permutation, permuted_sizes}
 use Rattle.cu_meaning.specs.Argument.{NodeElements}
 use Rattle.cu_meaning.specs.Rule.{rule_of}
 use Rattle.cu_pull.specs.Fits.{FitsPull}
@@ -108,7 +108,7 @@ module _ (infos : List NodeInfo) (env at : NodeElements) (k : ℕ) (p : Pull) (i
       let rank = length source.dims in
       let view = pulls.Permute (record { items = map (named_axis rank) axes }) in
       let same : view ≡ p = some_if (nat_le (length axes) 6) view p pull.pull in
-      let right = check_step_ok (is_permutation rank axes) (fault WrongAxis) (λ t. limited source.dtype (permuted axes source.dims) (permuted axes source.chunk)) result typed.typed in
+      let right = check_step_ok (is_permutation rank axes) (fault WrongAxis) (λ t. limited source.dtype (permuted_sizes axes source.dims) (permuted_sizes axes source.chunk)) result typed.typed in
       let both = and_parts (length axes == rank) (list_all (λ d. int_le (pos 0) d) axes && is_some (marked_of rank axes)) right.0 in
       let marked = and_parts (list_all (λ d. int_le (pos 0) d) axes) (is_some (marked_of rank axes)) both.1 in
       carry (Arg.Node n ∷ []) (source.dims ∷ []) (rule_of infos env at k (Form.PermuteDims (Arg.Node n ∷ []) axes) idx) view same

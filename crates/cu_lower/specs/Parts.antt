@@ -35,7 +35,7 @@ use Rattle.cu_need.specs.Reduction.{array_of, axes_reduced, sought_axis}
 use Rattle.cu_pull.specs.declared.pull.Pull.{Pull as View}
 use Rattle.cu_pull.specs.declared.pull.Pull.TheVariants.{Reshape}
 use Rattle.cu_lower_view.specs.View.{pull_of}
-use Rattle.cu_copy.specs.Copies.{in_chunks, max_mem, rechunked}
+use Rattle.cu_copy.specs.Copies.{in_chunks, max_mem, rechunked, IsRechunk}
 use Rattle.cu_copy.specs.declared.copies.Rechunk.{Rechunk}
 use Rattle.cu_lower_reduce.specs.Copies.{aligned_places, aligned_steps, copy_steps, AreOperands, IsStaged}
 use Rattle.cu_lower_reduce.specs.Steps.{all_made, grid_of}
@@ -84,8 +84,8 @@ type_or_bool (Ok t) = t
 type_or_bool (Err f) = Bool
 
 -- a load or a literal for each argument in order, then the function
-abbrev pub code_of : ElementOp → List Argument → List Instr
-code_of op told = kernel_of op (type_or_bool (shared_type op told)) told
+abbrev pub instructions_of : ElementOp → List Argument → List Instr
+instructions_of op told = kernel_of op (type_or_bool (shared_type op told)) told
 
 -- the arrays of the arguments that are arrays, in order
 abbrev pub array_places : List ℕ → List Arg → List ℕ
@@ -96,7 +96,7 @@ array_places places (Arg.Truth b ∷ args) = array_places places args
 
 -- the map that makes array `out` of the arguments, whose arrays are `ins`
 abbrev pub map_of : List NodeInfo → ElementOp → List Arg → List ℕ → ℕ → Op
-map_of infos op args ins out = Map (record { code = record { items = code_of op (map (argument_of infos) args) } }) (record { items = ins }) out
+map_of infos op args ins out = Map (record { code = record { items = instructions_of op (map (argument_of infos) args) } }) (record { items = ins }) out
 
 -- ---- a view
 
@@ -159,7 +159,7 @@ behind_copies s ins wanted own = aligned_steps s ins wanted ++ own (aligned_plac
 -- The steps of node k, whose arguments have the arrays `ins`; the first array that they write has number `first`. An elementwise function
 -- and a view have one step; a reduction, a search for places and a product have one over chunks and one for each round of merges. Operands
 -- of a function and of a product that have other chunks than are wanted are copied before. A rechunk is a copy of its argument, and an
--- input one of the array with its name, which `with_node` asks for where the node is the one that is stored alone.
+-- input one of the array with its name, which `with_next_node` asks for where the node is the one that is stored alone.
 abbrev pub steps_of : List NodeInfo → Options → ℕ → Form → List ℕ → ℕ → List Step
 steps_of infos options k (Form.Elementwise op args) ins first =
     behind_copies (copying options first) ins (operands_of infos k (Form.Elementwise op args))
@@ -207,9 +207,9 @@ abbrev pub with_last : Grown → Grown
 with_last g = with_place g (length g.arrays - 1)
 
 -- the arrays that the next node's steps read: those of its arguments, or that with an input's name
-abbrev pub sources_of : Expression → List ℕ → Form → List ℕ
-sources_of e places (Form.Input name) = input_place e name ∷ []
-sources_of e places form = array_places places (args_of form)
+abbrev pub source_places : Expression → List ℕ → Form → List ℕ
+source_places e places (Form.Input name) = input_place e name ∷ []
+source_places e places form = array_places places (args_of form)
 
 -- node k is an input that isn't itself stored, and so has its array from the beginning
 abbrev pub is_given : Expression → ℕ → Form → Test
@@ -219,16 +219,16 @@ is_given e k form = false
 -- with the next node's steps; its array is the last that they write
 abbrev pub with_made : Expression → List NodeInfo → Options → Grown → Form → Grown
 with_made e infos options g form =
-    with_last (with_steps e g (steps_of infos options (length g.places) form (sources_of e g.places form) (length g.arrays)))
+    with_last (with_steps e g (steps_of infos options (length g.places) form (source_places e g.places form) (length g.arrays)))
 
 -- with the next node
-abbrev pub with_node : Expression → List NodeInfo → Options → Grown → Form → Grown
-with_node e infos options g (Form.Input name) = if length g.places == e.out then with_made e infos options g (Form.Input name) else with_place g (input_place e name)
-with_node e infos options g form = with_made e infos options g form
+abbrev pub with_next_node : Expression → List NodeInfo → Options → Grown → Form → Grown
+with_next_node e infos options g (Form.Input name) = if length g.places == e.out then with_made e infos options g (Form.Input name) else with_place g (input_place e name)
+with_next_node e infos options g form = with_made e infos options g form
 
 -- only a live node adds something
 abbrev pub with_live : Expression → List NodeInfo → Options → Grown → Form → Grown
-with_live e infos options g form = if is_live e (length g.places) then with_node e infos options g form else with_place g 0
+with_live e infos options g form = if is_live e (length g.places) then with_next_node e infos options g form else with_place g 0
 
 -- ---- while a plan grows
 
@@ -261,6 +261,7 @@ pub record IsWritten (k : ℕ) (form : Form) : Type 0 where
 
 -- what the copies of a node take for granted
 pub record CanCopy (infos : List NodeInfo) (options : Options) (k : ℕ) (form : Form) (first : ℕ) : Type 0 where
+  pub rechunks : All IsRechunk (operands_of infos k form)
   pub operands : AreOperands (copying options first) (operands_of infos k form)
   pub few : length (operands_of infos k form) ≤ 3
 
@@ -284,4 +285,4 @@ pub record CanGrow (infos : List NodeInfo) (options : Options) (k : ℕ) (form :
 -- the steps of a node that isn't given make its array
 abbrev pub HasSteps : Expression → List NodeInfo → Options → ℕ → Form → Type 0
 HasSteps e infos options k form =
-    is_given e k form ≡ false → (places : List ℕ) (first : ℕ) → first < 2 ^ 30 → Make (info_at infos k) (steps_of infos options k form (sources_of e places form) first)
+    is_given e k form ≡ false → (places : List ℕ) (first : ℕ) → first < 2 ^ 30 → Make (info_at infos k) (steps_of infos options k form (source_places e places form) first)

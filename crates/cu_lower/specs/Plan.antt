@@ -22,12 +22,12 @@ abbrev pub lowered : Expression → List NodeInfo → List InputInfo → Options
 lowered e infos inputs options = grown_after e infos options (first_grown e inputs) e.nodes
 
 -- the number of a node's array
-abbrev pub place_in : Grown → ℕ → ℕ
-place_in g k = slice_index g.places k
+abbrev pub array_of_node : Grown → ℕ → ℕ
+array_of_node g k = slice_index g.places k
 
 -- what was grown as a plan, whose result is the stored node's array
 abbrev pub as_plan : Expression → Options → Grown → PlanView
-as_plan e options g = record { arrays = g.arrays; ops = g.ops; out = place_in g e.out; allowed = options.allowed; reserved = options.reserved }
+as_plan e options g = record { arrays = g.arrays; ops = g.ops; out = array_of_node g e.out; allowed = options.allowed; reserved = options.reserved }
 
 -- the plan of an expression, where `infos` is what is known of its nodes
 abbrev pub plan_of : Expression → List NodeInfo → List InputInfo → Options → PlanView

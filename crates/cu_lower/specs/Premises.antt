@@ -16,13 +16,14 @@ use Rattle.cu_form.specs.declared.expr.Node.{Node}
 use Rattle.cu_form.specs.declared.form.Form.{Form}
 use Rattle.cu_node.specs.Info.{IsInfo, info_at}
 use Rattle.cu_node.specs.declared.info.NodeInfo.{NodeInfo}
-use Rattle.cu_meaning.specs.Argument.{NodeElements, shape_at}
+use Rattle.cu_meaning.specs.Argument.{NodeElements, shape_of_node}
 use Rattle.cu_expr.specs.Typing.{typed}
 use Rattle.cu_expr.specs.declared.inputs.InputInfo.{InputInfo}
 use Rattle.cu_need.specs.Counts.{plan_counts, over_limit}
 use Rattle.cu_need.specs.Live.{is_live}
 use Rattle.cu_need.specs.declared.counts.PlanCounts.{PlanCounts}
 use Rattle.cu_need.specs.Need.{own_need, first_over}
+use Rattle.cu_need.specs.Operands.{copies_of}
 use Rattle.cu_copy.specs.Copies.{max_mem}
 use Rattle.cu_lower_reduce.specs.Copies.{is_copy}
 use Rattle.cu_lower.specs.Inputs.{input_place}
@@ -57,11 +58,11 @@ OutputDiffers e = (k : ℕ) (name : List ℕ) → IsLiveInput e k name → name 
 -- these are the elements of the live input nodes: those of the arrays with their names, 0 where an array has none
 abbrev pub AreOfInputs : Expression → List NodeInfo → Elements → NodeElements → Type 0
 AreOfInputs e infos env elements =
-    (k : ℕ) (name idx : List ℕ) → IsLiveInput e k name → IsInside (shape_at infos k) idx → elements k idx ≡ unwrap_or (env (input_place e name) idx) (pos 0)
+    (k : ℕ) (name idx : List ℕ) → IsLiveInput e k name → IsInside (shape_of_node infos k) idx → elements k idx ≡ unwrap_or (env (input_place e name) idx) (pos 0)
 
 -- the arrays of the live input nodes have an element at each of their indices
 abbrev pub AreThere : Expression → List NodeInfo → Elements → Type 0
-AreThere e infos env = (k : ℕ) (name idx : List ℕ) → IsLiveInput e k name → IsInside (shape_at infos k) idx → (x : ℤ) × (env (input_place e name) idx ≡ Some x)
+AreThere e infos env = (k : ℕ) (name idx : List ℕ) → IsLiveInput e k name → IsInside (shape_of_node infos k) idx → (x : ℤ) × (env (input_place e name) idx ≡ Some x)
 
 -- the inputs' arrays have elements of their types, and nodes these elements
 pub record HaveElements (e : Expression) (infos : List NodeInfo) (inputs : List InputInfo) (options : Options) (env : Elements) (elements : NodeElements) : Type 0 where
@@ -69,13 +70,14 @@ pub record HaveElements (e : Expression) (infos : List NodeInfo) (inputs : List 
   pub typed : HasTypes (plan_of e infos inputs options).arrays env
   pub given : AreOfInputs e infos env elements
 
--- An operation belongs to a live node and needs at most what is allowed; one that isn't a copy needs at most what the node does besides
--- its copies.
+-- An operation belongs to a live node and needs at most what is allowed. A copy belongs to a node that has copies, and any other operation
+-- needs at most what the node does besides them.
 pub record IsOfNode (e : Expression) (infos : List NodeInfo) (options : Options) (o : Planned) : Type 0 where
   pub node : Node
   pub at : slice_get e.nodes o.node ≡ Some node
   pub live : is_live e o.node ≡ true
   pub allowed : o.projected ≤ options.allowed
+  pub copies : is_copy o.op ≡ true → copies_of infos e.out o.node node.form ≢ []
   pub need : is_copy o.op ≡ false → o.projected ≤ own_need options.reserved options.split_every infos o.node node.form
 
 -- an operation of this form computes something: a rechunk and an input are copies alone
@@ -110,5 +112,5 @@ pub record IsOutput (e : Expression) (infos : List NodeInfo) (a : ArrayInfo) : T
   pub made : a.maker ≢ None
 
 -- the run of a plan with a record and metadata, under the keys of the output's name
-abbrev pub run_of : Expression → PlanView → List ℕ → List ℕ → PlanRun
-run_of e plan recorded metadata = record { plan = plan; texts = (record_key_of e.store_as, recorded) ∷ (metadata_key_of e.store_as, metadata) ∷ [] }
+abbrev pub expression_run : Expression → PlanView → List ℕ → List ℕ → PlanRun
+expression_run e plan recorded metadata = record { plan = plan; texts = (record_key_of e.store_as, recorded) ∷ (metadata_key_of e.store_as, metadata) ∷ [] }

@@ -10,15 +10,15 @@ ghost use Rattle.cu_state.specs.Names.{HasPlanNames};
 ghost use Rattle.cu_form.specs.Expression.{Expression};
 ghost use Rattle.cu_form.specs.declared.expr.Node.{Node};
 ghost use Rattle.cu_node.specs.declared.info.NodeInfo.{NodeInfo};
-ghost use Rattle.cu_meaning.specs.Argument.{NodeElements, shape_at};
+ghost use Rattle.cu_meaning.specs.Argument.{NodeElements, shape_of_node};
 ghost use Rattle.cu_meaning.specs.Meaning.{meaning_of};
 ghost use Rattle.cu_expr.specs.declared.inputs.InputInfo.{InputInfo};
 ghost use Rattle.cu_need.specs.Counts.{plan_counts};
 ghost use Rattle.cu_need.specs.Live.{is_live};
 ghost use Rattle.cu_lower.specs.Inputs.{input_array, input_place};
 ghost use Rattle.cu_copy.specs.Copies.{max_mem};
-ghost use Rattle.cu_lower.specs.Plan.{lowered, place_in, plan_of};
-ghost use Rattle.cu_lower.specs.Premises.{IsLowerable, IsLiveInput, OutputDiffers, AreThere, HaveElements, HasCounts, IsComputedNode, IsOfNode, IsOutput, NeedsAsMuch, run_of};
+ghost use Rattle.cu_lower.specs.Plan.{lowered, array_of_node, plan_of};
+ghost use Rattle.cu_lower.specs.Premises.{IsLowerable, IsLiveInput, OutputDiffers, AreThere, HaveElements, HasCounts, IsComputedNode, IsOfNode, IsOutput, NeedsAsMuch, expression_run};
 ghost use Rattle.cu_lower.specs.declared.options.Options.{Options};
 
 use cu_lower_reduce::{operands_law, product_law, rechunk_law, reduction_law, search_law};
@@ -27,8 +27,9 @@ use cu_need::live_law;
 use cu_op::range_law;
 
 /// The plan of an expression that can be lowered is sound. Each of its operations belongs to a live node and needs at most what is
-/// allowed. One that isn't a copy needs at most what the node does besides its copies, and one of the node's needs as much: so that need of
-/// a live node that is neither a rechunk nor an input is the greatest of its operations but the copies. The tasks of the plan and the
+/// allowed. A copy belongs to a node that has copies; any other operation needs at most what the node does besides them, and one of the
+/// node's needs as much: so that need of a live node that is neither a rechunk nor an input is the greatest of its operations but the
+/// copies. The tasks of the plan and the
 /// chunks of its made arrays are as many as are counted of the expression. Where no input has the output's name, the plan's names are
 /// those of a plan with a name.
 pub fn plan_law()
@@ -38,7 +39,7 @@ pub fn plan_law()
     ensures counts { (e : Expression) (infos : List NodeInfo) (inputs : List InputInfo) (options : Options) → IsLowerable e infos inputs options
         → HasCounts (plan_of e infos inputs options) (plan_counts (max_mem options.allowed options.reserved) options.split_every e infos) }
     ensures names { (e : Expression) (infos : List NodeInfo) (inputs : List InputInfo) (options : Options) (recorded metadata : List ℕ) → IsLowerable e infos inputs options
-        → OutputDiffers e → HasPlanNames (run_of e (plan_of e infos inputs options) recorded metadata) e.store_as recorded metadata }
+        → OutputDiffers e → HasPlanNames (expression_run e (plan_of e infos inputs options) recorded metadata) e.store_as recorded metadata }
     ensures attained { (e : Expression) (infos : List NodeInfo) (inputs : List InputInfo) (options : Options) (k : ℕ) (node : Node) → IsLowerable e infos inputs options
         → IsComputedNode e k node → NeedsAsMuch infos options (plan_of e infos inputs options).ops k node }
 {
@@ -79,13 +80,13 @@ pub fn array_law()
 /// shape where the arrays of the live inputs have their elements. So it is of the plan's result.
 pub fn value_law()
     ensures equal { (e : Expression) (infos : List NodeInfo) (inputs : List InputInfo) (options : Options) (env : Elements) (elements : NodeElements) (k : ℕ) (idx : List ℕ) (x : ℤ)
-        → HaveElements e infos inputs options env elements → is_live e k ≡ true → IsInside (shape_at infos k) idx
-        → plan_value (plan_of e infos inputs options) env (place_in (lowered e infos inputs options) k) idx ≡ Some x → x ≡ meaning_of e infos elements k idx }
+        → HaveElements e infos inputs options env elements → is_live e k ≡ true → IsInside (shape_of_node infos k) idx
+        → plan_value (plan_of e infos inputs options) env (array_of_node (lowered e infos inputs options) k) idx ≡ Some x → x ≡ meaning_of e infos elements k idx }
     ensures defined { (e : Expression) (infos : List NodeInfo) (inputs : List InputInfo) (options : Options) (env : Elements) (elements : NodeElements) (k : ℕ) (idx : List ℕ)
-        → HaveElements e infos inputs options env elements → AreThere e infos env → is_live e k ≡ true → IsInside (shape_at infos k) idx
-        → plan_value (plan_of e infos inputs options) env (place_in (lowered e infos inputs options) k) idx ≡ Some (meaning_of e infos elements k idx) }
+        → HaveElements e infos inputs options env elements → AreThere e infos env → is_live e k ≡ true → IsInside (shape_of_node infos k) idx
+        → plan_value (plan_of e infos inputs options) env (array_of_node (lowered e infos inputs options) k) idx ≡ Some (meaning_of e infos elements k idx) }
     ensures result { (e : Expression) (infos : List NodeInfo) (inputs : List InputInfo) (options : Options) (env : Elements) (elements : NodeElements) (idx : List ℕ)
-        → HaveElements e infos inputs options env elements → AreThere e infos env → IsInside (shape_at infos e.out) idx
+        → HaveElements e infos inputs options env elements → AreThere e infos env → IsInside (shape_of_node infos e.out) idx
         → plan_value (plan_of e infos inputs options) env (plan_of e infos inputs options).out idx ≡ Some (meaning_of e infos elements e.out idx) }
 {
     live_law();

@@ -12,7 +12,7 @@ ghost use Rattle.cu_expr.specs.Kernel.{loads_from, function_of};
 ghost use Rattle.cu_typing.specs.Types.{array_type, pair_type, shared_type};
 ghost use Rattle.cu_expr.specs.Typing.{argument_of};
 ghost use Rattle.cu_lower.specs.Inputs.{input_names};
-ghost use Rattle.cu_lower.specs.Parts.{type_or_bool, made_layout, made_array, array_places, sources_of, map_of, view_op};
+ghost use Rattle.cu_lower.specs.Parts.{type_or_bool, made_layout, made_array, array_places, source_places, map_of, view_op};
 
 use crate::inputs::place_of;
 use arrayvec::ArrayVec;
@@ -119,11 +119,11 @@ fn array_places(places: &[u32], args: &[Arg]) -> ArrayVec<u32, 8>
 }
 
 /// The arrays that the steps of the next node read, where nodes have these arrays: those of its arguments, or that with an input's name.
-pub(crate) fn sources_of(names: &[IdText], places: &[u32], form: &Form) -> ArrayVec<u32, 8>
+pub(crate) fn source_places(names: &[IdText], places: &[u32], form: &Form) -> ArrayVec<u32, 8>
     requires inputs { length names.now ≤ 256 }
     requires few { length (args_of form.now) ≤ 8 }
     requires earlier { names_earlier (length places.now) form.now ≡ true }
-    ensures { (e : Expression) → names.now ≡ input_names e → result.items ≡ sources_of e places.now form.now }
+    ensures { (e : Expression) → names.now ≡ input_names e → result.items ≡ source_places e places.now form.now }
 {
     match form {
         Form::Input { name } => {

@@ -10,13 +10,13 @@ ghost use Rattle.cu_need.specs.Live.{is_live};
 ghost use Rattle.cu_lower.specs.Inputs.{input_names};
 ghost use Rattle.cu_lower.specs.Plan.{first_grown, lowered, as_plan, plan_of};
 ghost use Rattle.cu_lower_reduce.specs.Steps.{grid_of, made_infos, all_made};
-ghost use Rattle.cu_lower.specs.Parts.{AreOptions, IsGrowing, IsGrown, CanGrow, HasSteps, Make, is_given, pair_arrays, sources_of, steps_of, with_step, with_steps, with_place, with_made, with_node, with_live};
+ghost use Rattle.cu_lower.specs.Parts.{AreOptions, IsGrowing, IsGrown, CanGrow, HasSteps, Make, is_given, pair_arrays, source_places, steps_of, with_step, with_steps, with_place, with_made, with_next_node, with_live};
 ghost use Rattle.cu_lower.specs.Premises.{IsLowerable};
 
 use crate::inputs::{input_arrays, input_names, place_of};
 use crate::laws::plan_law;
 use crate::options::Options;
-use crate::parts::{made_array, sources_of};
+use crate::parts::{made_array, source_places};
 use crate::steps::steps_of;
 use cu_expr::InputInfo;
 use cu_form::{Expr, Form};
@@ -171,14 +171,14 @@ impl Growing {
         requires inputs { length names.now ≤ 256 }
         requires nodes { length self.old.places ≤ 256 }
         requires form { CanGrow infos.now options.now (length self.old.places) form.now }
-        requires steps { (places : List ℕ) (first : ℕ) → first < 2 ^ 30 → Make (info_at infos.now (length self.old.places)) (steps_of infos.now options.now (length self.old.places) form.now (sources_of expr.now places form.now) first) }
+        requires steps { (places : List ℕ) (first : ℕ) → first < 2 ^ 30 → Make (info_at infos.now (length self.old.places)) (steps_of infos.now options.now (length self.old.places) form.now (source_places expr.now places form.now) first) }
         requires infos { All IsInfo infos.now }
         requires options { AreOptions options.now }
         ensures { OnOk result (self.new ≡ with_made expr.now infos.now options.now self.old form.now) }
     {
         let node = self.places.len() as u32;
         let first = self.arrays.len() as u32;
-        let sources = sources_of(names, &self.places, form);
+        let sources = source_places(names, &self.places, form);
         let steps = steps_of(alloc, infos, options, node, form, sources, first)?;
         self.add_steps(expr, names.len() as u32, steps)?;
         let place = self.arrays.len() as u32 - 1;
@@ -203,7 +203,7 @@ impl Growing {
         requires steps { HasSteps expr.now infos.now options.now (length self.old.places) form.now }
         requires infos { All IsInfo infos.now }
         requires options { AreOptions options.now }
-        ensures { OnOk result (self.new ≡ with_node expr.now infos.now options.now self.old form.now) }
+        ensures { OnOk result (self.new ≡ with_next_node expr.now infos.now options.now self.old form.now) }
     {
         match form {
             Form::Input { name } if self.places.len() as u32 != expr.out() => {

@@ -1,7 +1,6 @@
 //! The steps of reductions, searches for places and products.
 
 ghost use Rattle.std.specs.Prelude.{◌≡◌, ◌<◌, ◌^◌, ◌++◌, IfOk, OnOk, length, slice_index};
-ghost use Rattle.cu_copy.specs.Copies.{rechunked};
 ghost use Rattle.cu_lower_reduce.specs.Partials.{IsSetting};
 ghost use Rattle.cu_lower_reduce.specs.Products.{product_steps, IsProduct};
 ghost use Rattle.cu_lower_reduce.specs.Reductions.{reduction_steps, IsReduction};
@@ -9,7 +8,7 @@ ghost use Rattle.cu_lower_reduce.specs.Searches.{search_steps, IsSearch};
 ghost use Rattle.cu_lower.specs.Parts.{AreOptions, setting, reduction_of, search_of, product_of};
 
 use crate::options::Options;
-use cu_copy::Rechunk;
+use cu_copy::rechunked;
 use cu_form::{Arg, Items};
 use cu_lower_reduce::{
     Product, Reduction, Search, Setting, Step, product_step, product_step_count, reduction_step,
@@ -84,17 +83,6 @@ pub(crate) fn search_of(
         source: source_of(ins, 0),
         from,
         made: info_at(infos, node),
-    }
-}
-
-/// An operand in the chunks that are wanted of it.
-fn rechunked(wanted: &Rechunk) -> NodeInfo
-    ensures { result ≡ rechunked wanted.now }
-{
-    NodeInfo {
-        dtype: wanted.source.dtype,
-        dims: wanted.source.dims,
-        chunk: wanted.chunk,
     }
 }
 

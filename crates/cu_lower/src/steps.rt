@@ -167,7 +167,6 @@ pub(crate) fn steps_of(
     requires form { CanGrow infos.now options.now node form.now }
     ensures { IfOk result (λ steps. steps.items ≡ steps_of infos.now options.now node form.now sources.items first) }
 {
-    let s = setting(options, first);
     let copies = copying(options, first);
     let ins = sources.as_slice();
     match form {
@@ -183,7 +182,7 @@ pub(crate) fn steps_of(
             ..
         } => {
             let x = reduction_of(infos, node, *kind, args.as_slice(), axes, ins);
-            reduction_steps(alloc, &s, &x)
+            reduction_steps(alloc, &setting(options, first), &x)
         }
         Form::ArgPlace {
             least,
@@ -192,7 +191,7 @@ pub(crate) fn steps_of(
             ..
         } => {
             let x = search_of(infos, node, *least, args.as_slice(), *axis, ins);
-            search_steps(alloc, &s, &x)
+            search_steps(alloc, &setting(options, first), &x)
         }
         Form::Matmul { args } => {
             let aligned = align_operands(alloc, infos, &copies, node, form, ins)?;

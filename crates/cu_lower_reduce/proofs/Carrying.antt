@@ -8,7 +8,7 @@ use Rattle.cu_shape.proofs.Places.{inside-length}
 use Rattle.cu_reduce.specs.Folds.{reduced_to}
 use Rattle.cu_reduce.specs.Groups.{Groups, groups_from, groups_of, group_counts, group_lo, group_hi, group_indices}
 use Rattle.cu_reduce.specs.Kinds.{Accumulates, IsTaken, HasEnough}
-use Rattle.cu_reduce.specs.Parts.{cut, Rises, part_indices, IsBetween, group_cuts, HaveMembers, composed, Covers, KeepsAxes, HasOnes}
+use Rattle.cu_reduce.specs.Parts.{part_start, Rises, part_indices, IsBetween, group_cuts, HaveMembers, composed, Covers, KeepsAxes, HasOnes}
 use Rattle.cu_reduce.specs.Running.{IsEnough}
 use Rattle.cu_reduce.proofs.Chained.{IsRound, composed_rise, round_of_kinds, round_enough}
 use Rattle.cu_reduce.proofs.Covered.{groups_cover, composed_cover, whole_part}
@@ -30,20 +30,13 @@ same_map f g (x ∷ xs) h = let e : f x ≡ g x = h 0 x (omega arith) in let t =
 
 pub covers-length : (p : ℕ → Bool) (first : ℕ) (cs : List (ℕ → ℕ)) (ms ns : List ℕ) → Covers p first cs ms ns → (length cs ≡ length ms) × (length ms ≡ length ns)
 covers-length p first [] [] [] c = (refl, refl)
-covers-length p first [] [] (n ∷ ns) c = absurd c
-covers-length p first [] (m ∷ ms) ns c = absurd c
-covers-length p first (c ∷ cs) [] ns w = absurd w
-covers-length p first (c ∷ cs) (m ∷ ms) [] w = absurd w
 covers-length p first (c ∷ cs) (m ∷ ms) (n ∷ ns) w = let e = covers-length p (first + 1) cs ms ns w.3 in (ap suc e.0, ap suc e.1)
+covers-length p first cs ms ns w = absurd w
 
 -- an index of a part is one of the whole
-pub part_inside : (p : ℕ → Bool) (first : ℕ) (cs : List (ℕ → ℕ)) (ms ns q i : List ℕ) → Covers p first cs ms ns → Rises cs → IsInside ms q → IsBetween (cut cs q) (cut cs (map suc q)) i → IsInside ns i
+pub part_inside : (p : ℕ → Bool) (first : ℕ) (cs : List (ℕ → ℕ)) (ms ns q i : List ℕ) → Covers p first cs ms ns → Rises cs → IsInside ms q → IsBetween (part_start cs q) (part_start cs (map suc q)) i → IsInside ns i
 part_inside p first [] [] [] q [] c r b w = tt
 part_inside p first [] [] [] q (i ∷ is) c r b w = absurd w
-part_inside p first [] [] (n ∷ ns) q i c r b w = absurd c
-part_inside p first [] (m ∷ ms) ns q i c r b w = absurd c
-part_inside p first (c ∷ cs) [] ns q i w r b v = absurd w
-part_inside p first (c ∷ cs) (m ∷ ms) [] q i w r b v = absurd w
 part_inside p first (c ∷ cs) (m ∷ ms) (n ∷ ns) [] i w r b v = absurd b
 part_inside p first (c ∷ cs) (m ∷ ms) (n ∷ ns) (q ∷ qs) [] w r b v = absurd v
 part_inside p first (c ∷ cs) (m ∷ ms) (n ∷ ns) (q ∷ qs) (i ∷ is) w r b v =
@@ -52,6 +45,7 @@ part_inside p first (c ∷ cs) (m ∷ ms) (n ∷ ns) (q ∷ qs) (i ∷ is) w r b
     let u = risen_to c r.0 (suc q) m (omega arith) in
     let l = v.1 in
     (omega arith, part_inside p (first + 1) cs ms ns qs is w.3 r.1 b.1 v.2)
+part_inside p first cs ms ns q i c r b w = absurd c
 
 -- ---- groups of an array's chunks
 

@@ -8,7 +8,7 @@ use Rattle.cu_tree.specs.Partials.{merged, written_before, AreMerges}
 use Rattle.cu_tree.specs.declared.round.Round.{Round}
 use Rattle.cu_lower_reduce.specs.Partials.{partial_after}
 use Rattle.cu_lower_reduce.specs.Reductions.{merges}
-use Rattle.cu_lower_reduce.specs.Searches.{stored, places_number, value_bytes, pair_merges}
+use Rattle.cu_lower_reduce.specs.Searches.{stored, places_number, value_chunk_bytes, pair_merges}
 use Rattle.cu_lower_reduce.specs.Steps.{info_bytes}
 use Rattle.cu_lower_reduce.specs.declared.search.Search.{Search}
 use Rattle.cu_lower_reduce.specs.declared.step.Setting.{Setting}
@@ -52,7 +52,7 @@ pub pair_at : (s : Setting) (x : Search) (source : ℕ) (values places : NodeInf
       op = PairMerge x.least (get_or rounds at d).axis s.split_every n (n + 1) (stored (drop (at + 1) rounds) (n + 2)) (places_number (drop (at + 1) rounds) (n + 2));
       values = stored (drop (at + 1) rounds) (partial_after values rounds (at + 1));
       made = written_before (drop (at + 1) rounds) (partial_after places rounds (at + 1)) x.made;
-      need = pair_merge_need s.reserved s.split_every (value_bytes x) (info_bytes x.made);
+      need = pair_merge_need s.reserved s.split_every (value_chunk_bytes x) (info_bytes x.made);
     })
 pair_at s x source values places [] at n d h e = absurd (omega arith)
 pair_at s x source values places (r ∷ rs) zero n d h e = let z : n ≡ source = omega arith in rw z refl

@@ -18,6 +18,7 @@ use Rattle.cu_node.specs.Info.{IsInfo, info_of}
 use Rattle.cu_node.specs.declared.info.NodeInfo.{NodeInfo}
 use Rattle.cu_copy.specs.Chunks.{chunk_bytes, chunk_count}
 use Rattle.cu_copy.specs.Copies.{IsRechunk, between, greater_chunk, is_one_copy, rechunk_cells, rechunk_tasks, rechunked, region_count, staging}
+use Rattle.cu_copy.specs.declared.copies.CopyCounts.{CopyCounts}
 use Rattle.cu_copy.specs.declared.copies.Rechunk.{Rechunk}
 use Rattle.cu_copy.proofs.Staged.{staged_tiles}
 use Rattle.cu_tree.proofs.Sizes.{size_positive}
@@ -76,7 +77,7 @@ chosen s source r st one =
     else copied s.reserved source s.first st.read r.source (between r st) ∷ copied s.reserved s.first (s.first + 1) st.write (between r st) (rechunked r) ∷ []
 
 abbrev pub AreStages : CopySetting → Rechunk → Staging → Type 0
-AreStages s r st = Tiles r.source.dims r.chunk (size_of r.source.dtype) s.most st.read st.middle st.write
+AreStages s r st = Tiles r.source.dims r.chunk (size_of r.source.dtype) s.most st
 
 chosen_hold : (arrays : List ArrayInfo) (s : CopySetting) (given : List ℕ) (first source : ℕ) (r : Rechunk) (st : Staging) (one : Bool) → IsCopied r.source → AreStages s r st → first ≤ s.first
     → IsGiven given first s.first source → HasInfo arrays source r.source → HaveInfos arrays s.first (all_made (chosen s source r st one)) → AreSteps arrays s.reserved given first s.first (chosen s source r st one)
@@ -142,13 +143,16 @@ chosen_grids s source r st false t h zero d l = regions_fit r.source (size_of r.
 chosen_grids s source r st false t h (suc zero) d l = grid_rechunked r h
 chosen_grids s source r st false t h (suc (suc k)) d l = absurd (omega arith)
 
-chosen_tasks : (s : CopySetting) (source : ℕ) (r : Rechunk) (st : Staging) (one : Bool)
-    → sum_by step_tasks (chosen s source r st one) ≡ (if one then region_count r.source st.write else region_count r.source st.read + region_count r.source st.write)
+abbrev chosen_counts : Rechunk → Staging → Bool → CopyCounts
+chosen_counts r st one =
+    if one then record { tasks = region_count r.source st.write; cells = chunk_count (rechunked r) }
+    else record { tasks = region_count r.source st.read + region_count r.source st.write; cells = chunk_count (between r st) + chunk_count (rechunked r) }
+
+chosen_tasks : (s : CopySetting) (source : ℕ) (r : Rechunk) (st : Staging) (one : Bool) → sum_by step_tasks (chosen s source r st one) ≡ (chosen_counts r st one).tasks
 chosen_tasks s source r st true = omega arith
 chosen_tasks s source r st false = omega arith
 
-chosen_cells : (s : CopySetting) (source : ℕ) (r : Rechunk) (st : Staging) (one : Bool)
-    → sum_by chunk_count (all_made (chosen s source r st one)) ≡ (if one then chunk_count (rechunked r) else chunk_count (between r st) + chunk_count (rechunked r))
+chosen_cells : (s : CopySetting) (source : ℕ) (r : Rechunk) (st : Staging) (one : Bool) → sum_by chunk_count (all_made (chosen s source r st one)) ≡ (chosen_counts r st one).cells
 chosen_cells s source r st true = omega arith
 chosen_cells s source r st false = omega arith
 
@@ -157,8 +161,8 @@ chosen_few s source r st true = omega arith
 chosen_few s source r st false = omega arith
 
 -- where the greater chunk fits
-counted : (g most n : ℕ) → g ≤ most → n ≡ (if leb g most then n else 0)
-counted g most n h = rw (le-leb g most h) refl
+counted : (g most : ℕ) (c : CopyCounts) → g ≤ most → c ≡ (if leb g most then c else record { tasks = 0; cells = 0 })
+counted g most c h = rw (le-leb g most h) refl
 
 -- ---- the copies of a rechunk
 
@@ -187,10 +191,11 @@ pub copies_come : (s : CopySetting) (source : ℕ) (r : Rechunk) → IsStaged s 
 copies_come s source r h =
     let st = staging s.most r in
     let one = is_one_copy (staging s.most r) in
+    let counts = counted (greater_chunk r) s.most (chosen_counts r (staging s.most r) (is_one_copy (staging s.most r))) h.fits in
     record {
       each = chosen_steps s source r st one (tiles s r h) h.fits;
       few = chosen_few s source r st one;
       grids = chosen_grids s source r st one (tiles s r h) h.rechunk;
-      tasks_are = chosen_tasks s source r st one ∙ counted (greater_chunk r) s.most _ h.fits;
-      cells_are = chosen_cells s source r st one ∙ counted (greater_chunk r) s.most _ h.fits;
+      tasks_are = chosen_tasks s source r st one ∙ ap (λ (c : CopyCounts). c.tasks) counts;
+      cells_are = chosen_cells s source r st one ∙ ap (λ (c : CopyCounts). c.cells) counts;
     }

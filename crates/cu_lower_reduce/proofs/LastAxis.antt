@@ -120,9 +120,8 @@ split_inside (n ∷ ns) m (i ∷ is) b = ap (λ (js : List ℕ). i ∷ js) (spli
 
 pub inside_longer : (ns is : List ℕ) (n i : ℕ) → IsInside ns is → i < n → IsInside (ns ++ n ∷ []) (is ++ i ∷ [])
 inside_longer [] [] n i b h = (h, tt)
-inside_longer [] (j ∷ is) n i b h = absurd b
-inside_longer (m ∷ ns) [] n i b h = absurd b
 inside_longer (m ∷ ns) (j ∷ is) n i b h = (b.0, inside_longer ns is n i b.1 h)
+inside_longer ns is n i b h = absurd b
 
 product_one : (ns : List ℕ) → product (ns ++ 1 ∷ []) ≡ product ns
 product_one [] = refl
@@ -130,9 +129,8 @@ product_one (n ∷ ns) = ap (λ (k : ℕ). n * k) (product_one ns)
 
 place_longer : (ns is : List ℕ) → IsInside ns is → place_of (ns ++ 1 ∷ []) (is ++ 0 ∷ []) ≡ place_of ns is
 place_longer [] [] b = refl
-place_longer [] (i ∷ is) b = absurd b
-place_longer (n ∷ ns) [] b = absurd b
 place_longer (n ∷ ns) (i ∷ is) b = let e = product_one ns in let f = place_longer ns is b.1 in (λ j. i * e j + f j)
+place_longer ns is b = absurd b
 
 pub index_longer : (ns is : List ℕ) → IsInside ns is → index_at (ns ++ 1 ∷ []) (place_of ns is) ≡ is ++ 0 ∷ []
 index_longer ns is b =

@@ -77,7 +77,7 @@ one_given : (s : CopySetting) (given : List ℕ) (first last a : ℕ) (r : Rechu
 one_given s given first last a r true before c e = let n = copies_some s a r in inr (omega (arith, n), omega (arith, n))
 one_given s given first last a r false before c e = inl c
 
-one_comes : (s : CopySetting) (a : ℕ) (r : Rechunk) (b : Bool) → (b ≡ true → IsStaged s r) → AreCopies s 1 (if b then rechunk_tasks s.most r else 0) (if b then rechunk_cells s.most r else 0) (steps_if s a r b)
+one_comes : (s : CopySetting) (a : ℕ) (r : Rechunk) (b : Bool) → (b ≡ true → IsStaged s r) → AreCopies s (if b then 1 else 0) (if b then rechunk_tasks s.most r else 0) (if b then rechunk_cells s.most r else 0) (steps_if s a r b)
 one_comes s a r true h = copies_come s a r (h refl)
 one_comes s a r false h = record { each = All-nil (IsCopyStep s); few = omega arith; grids = All-nil (λ i. IsGrid (grid_of i)); tasks_are = refl; cells_are = refl }
 
@@ -139,7 +139,7 @@ operands_given s given first last (a ∷ ins) (r ∷ rs) before c e =
     (one_given s given first last a r (is_misaligned r) before (All-head (Contains given) a ins c) (omega (arith, l, e)))
     (operands_given (behind s own) given first last ins rs (omega arith) (All-tail (Contains given) a ins c) (omega (arith, l, e)))
 
-copies_join : (s : CopySetting) (m n t u c d : ℕ) (own rest : List Step) (made : List Step) → AreCopies s 1 t c own → AreCopies (behind s made) n u d rest → AreCopies s (suc n) (t + u) (c + d) (own ++ rest)
+copies_join : (s : CopySetting) (m n t u c d : ℕ) (own rest : List Step) (made : List Step) → AreCopies s m t c own → AreCopies (behind s made) n u d rest → AreCopies s (m + n) (t + u) (c + d) (own ++ rest)
 copies_join s m n t u c d own rest made h k = record {
   each = All-append (IsCopyStep s) own rest h.each (λ i x l. let w = k.each i x l in record { copy = w.copy; need = w.need });
   few = (let l = length-append own rest in let a = h.few in let b = k.few in omega (arith, l, a, b));
@@ -152,8 +152,22 @@ sum_filter : (f : Rechunk → ℕ) (r : Rechunk) (rs : List Rechunk) (b : Bool) 
 sum_filter f r rs true = sym (sum_by-cons f r rs)
 sum_filter f r rs false = omega arith
 
+count_filter : (r : Rechunk) (rs : List Rechunk) (b : Bool) → (if b then 1 else 0) + length rs ≡ length (cond b (r ∷ rs) rs)
+count_filter r rs true = omega arith
+count_filter r rs false = omega arith
+
+-- the same by other names of what they come to
+same_copies : (s : CopySetting) (m n t u c d : ℕ) (steps : List Step) → m ≡ n → t ≡ u → c ≡ d → AreCopies s m t c steps → AreCopies s n u d steps
+same_copies s m n t u c d steps arrays tasks cells h = record {
+  each = h.each;
+  few = (let a = h.few in omega (arith, a, arrays));
+  grids = h.grids;
+  tasks_are = h.tasks_are ∙ tasks;
+  cells_are = h.cells_are ∙ cells;
+}
+
 pub operands_come : (s : CopySetting) (sources : List ℕ) (rs : List Rechunk) → All (IsStaged s) (filter is_misaligned rs) → length sources ≡ length rs
-    → AreCopies s (length rs) (sum_by (rechunk_tasks s.most) (filter is_misaligned rs)) (sum_by (rechunk_cells s.most) (filter is_misaligned rs)) (aligned_steps s sources rs)
+    → AreCopies s (length (filter is_misaligned rs)) (sum_by (rechunk_tasks s.most) (filter is_misaligned rs)) (sum_by (rechunk_cells s.most) (filter is_misaligned rs)) (aligned_steps s sources rs)
 operands_come s [] [] h e = record { each = All-nil (IsCopyStep s); few = omega arith; grids = All-nil (λ i. IsGrid (grid_of i)); tasks_are = refl; cells_are = refl }
 operands_come s [] (r ∷ rs) h e = absurd (omega arith)
 operands_come s (a ∷ ins) [] h e = absurd (omega arith)
@@ -161,10 +175,8 @@ operands_come s (a ∷ ins) (r ∷ rs) h e =
     let own = operand_steps s a r in
     let left = filter is_misaligned rs in
     let rest = operands_come (behind s own) ins rs (staged_behind s own left (staged_tail s r left (is_misaligned r) h)) (omega arith) in
-    subst (λ (t : ℕ). AreCopies s (suc (length rs)) t (sum_by (rechunk_cells s.most) (filter is_misaligned (r ∷ rs))) (aligned_steps s (a ∷ ins) (r ∷ rs))) (sum_filter (rechunk_tasks s.most) r left (is_misaligned r))
-    (subst (λ (c : ℕ). AreCopies s (suc (length rs)) ((if is_misaligned r then rechunk_tasks s.most r else 0) + sum_by (rechunk_tasks s.most) left) c (aligned_steps s (a ∷ ins) (r ∷ rs)))
-    (sum_filter (rechunk_cells s.most) r left (is_misaligned r))
-    (copies_join s 1 (length rs) _ _ _ _ own _ own (one_comes s a r (is_misaligned r) (staged_head s r left (is_misaligned r) h)) rest))
+    same_copies s _ _ _ _ _ _ (aligned_steps s (a ∷ ins) (r ∷ rs)) (count_filter r left (is_misaligned r)) (sum_filter (rechunk_tasks s.most) r left (is_misaligned r)) (sum_filter (rechunk_cells s.most) r left (is_misaligned r))
+    (copies_join s _ _ _ _ _ _ own _ own (one_comes s a r (is_misaligned r) (staged_head s r left (is_misaligned r) h)) rest)
 
 pub operands_value : (arrays : List ArrayInfo) (at : Elements) (s : CopySetting) (sources : List ℕ) (rs : List Rechunk) (j : ℕ) → length sources ≡ length rs → j < length rs
     → SolveSteps arrays at (aligned_steps s sources rs) → (idx : List ℕ) → at (slice_index (aligned_places s sources rs) j) idx ≡ at (slice_index sources j) idx

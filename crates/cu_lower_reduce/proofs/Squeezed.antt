@@ -14,24 +14,14 @@ same_elements [] [] [] [] h = refl
 same_elements (n ∷ ns) (c ∷ cs) [] [] h = let e = same_elements ns cs [] [] h.2 in rw (h.0, e) refl
 same_elements (n ∷ ns) (c ∷ cs) (m ∷ ms) (d ∷ ds) (inl h) = rw (h.0, same_elements ns cs ms ds h.2) refl
 same_elements (n ∷ ns) (c ∷ cs) (m ∷ ms) (d ∷ ds) (inr h) = let e = same_elements ns cs (m ∷ ms) (d ∷ ds) h.2 in rw (h.0, e) (omega arith)
-same_elements [] [] [] (d ∷ ds) h = absurd h
-same_elements [] [] (m ∷ ms) ds h = absurd h
-same_elements [] (c ∷ cs) ms ds h = absurd h
-same_elements (n ∷ ns) [] ms ds h = absurd h
-same_elements (n ∷ ns) (c ∷ cs) [] (d ∷ ds) h = absurd h
-same_elements (n ∷ ns) (c ∷ cs) (m ∷ ms) [] h = absurd h
+same_elements ns cs ms ds h = absurd h
 
 pub same_chunk : (ns cs ms ds : List ℕ) → IsSqueezedAlong ns cs ms ds → product cs ≡ product ds
 same_chunk [] [] [] [] h = refl
 same_chunk (n ∷ ns) (c ∷ cs) [] [] h = let e = same_chunk ns cs [] [] h.2 in rw (h.1, e) refl
 same_chunk (n ∷ ns) (c ∷ cs) (m ∷ ms) (d ∷ ds) (inl h) = rw (h.1, same_chunk ns cs ms ds h.2) refl
 same_chunk (n ∷ ns) (c ∷ cs) (m ∷ ms) (d ∷ ds) (inr h) = let e = same_chunk ns cs (m ∷ ms) (d ∷ ds) h.2 in rw (h.1, e) (omega arith)
-same_chunk [] [] [] (d ∷ ds) h = absurd h
-same_chunk [] [] (m ∷ ms) ds h = absurd h
-same_chunk [] (c ∷ cs) ms ds h = absurd h
-same_chunk (n ∷ ns) [] ms ds h = absurd h
-same_chunk (n ∷ ns) (c ∷ cs) [] (d ∷ ds) h = absurd h
-same_chunk (n ∷ ns) (c ∷ cs) (m ∷ ms) [] h = absurd h
+same_chunk ns cs ms ds h = absurd h
 
 -- none need be taken out
 pub same_grid : (ns cs : List ℕ) → length cs ≡ length ns → IsSqueezedAlong ns cs ns cs

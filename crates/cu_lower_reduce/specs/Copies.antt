@@ -73,7 +73,6 @@ pub record IsStaged (s : CopySetting) (r : Rechunk) : Type 0 where
 
 -- arrays in the chunks that are wanted of them, of which those that have others can be copied
 pub record AreOperands (s : CopySetting) (rs : List Rechunk) : Type 0 where
-  pub rechunks : All IsRechunk rs
   pub staged : All (IsStaged s) (filter is_misaligned rs)
 
 -- ---- what copies come to

@@ -32,8 +32,8 @@ places_number [] next = next
 places_number (r ∷ rs) next = next + 1
 
 -- the bytes of a chunk of values, which has as many elements as one of the result
-abbrev pub value_bytes : Search → ℕ
-value_bytes x = product x.made.chunk * size_of x.from.dtype
+abbrev pub value_chunk_bytes : Search → ℕ
+value_chunk_bytes x = product x.made.chunk * size_of x.from.dtype
 
 -- A merge for each round, from array number `source` on: it has these values, and the next one these places.
 abbrev pub pair_merges : Setting → Search → ℕ → NodeInfo → NodeInfo → List Round → List Step
@@ -43,7 +43,7 @@ pair_merges s x source values places (r ∷ rs) =
       op = PairMerge x.least r.axis s.split_every source (source + 1) (stored rs (source + 2)) (places_number rs (source + 2));
       values = stored rs (merged r values);
       made = written_before rs (merged r places) x.made;
-      need = pair_merge_need s.reserved s.split_every (value_bytes x) (info_bytes x.made);
+      need = pair_merge_need s.reserved s.split_every (value_chunk_bytes x) (info_bytes x.made);
     } ∷ pair_merges s x (source + 2) (merged r values) (merged r places) rs
 
 -- the search in chunks, and the merges
@@ -53,7 +53,7 @@ pairs_found s x values places rs =
       op = PairFold x.least x.axis x.source (stored rs s.first) (places_number rs s.first);
       values = stored rs values;
       made = written_before rs places x.made;
-      need = pair_fold_need s.reserved (info_bytes x.from) (value_bytes x) (info_bytes x.made);
+      need = pair_fold_need s.reserved (info_bytes x.from) (value_chunk_bytes x) (info_bytes x.made);
     } ∷ pair_merges s x s.first values places rs
 
 abbrev pub search_steps : Setting → Search → List Step

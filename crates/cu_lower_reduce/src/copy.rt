@@ -3,12 +3,11 @@
 ghost use Rattle.std.specs.Prelude.{◌≡◌, ◌≤◌, ◌<◌, ◌*◌, ◌^◌, ℕ, Some, slice_get, length};
 ghost use Rattle.cu_num.specs.Dtype.{size_of};
 ghost use Rattle.cu_shape.specs.Index.{product};
-ghost use Rattle.cu_copy.specs.Copies.{staging};
-ghost use Rattle.cu_node.specs.Info.{info_of};
+ghost use Rattle.cu_copy.specs.Copies.{between, staging};
 ghost use Rattle.cu_lower_reduce.specs.Copies.{copied, copy_steps, IsCopySetting, IsStaged};
 
 use crate::step::Step;
-use cu_copy::{Rechunk, Staging, staging_within};
+use cu_copy::{Rechunk, Staging, rechunked, staging_within};
 use cu_node::NodeInfo;
 use cu_num::{Dtype, size};
 use cu_op::Op;
@@ -51,14 +50,14 @@ pub fn copy_step_count(s: &CopySetting, rechunk: &Rechunk) -> u32
     }
 }
 
-/// An array in chunks of this shape.
-fn in_chunks(array: &NodeInfo, chunk: &Dims) -> NodeInfo
-    ensures { result ≡ info_of array.now.dtype array.now.dims chunk.now }
+/// The array between two copies.
+fn array_between(rechunk: &Rechunk, staging: &Staging) -> NodeInfo
+    ensures { result ≡ between rechunk.now staging.now }
 {
     NodeInfo {
-        dtype: array.dtype,
-        dims: array.dims,
-        chunk: *chunk,
+        dtype: rechunk.source.dtype,
+        dims: rechunk.source.dims,
+        chunk: staging.middle,
     }
 }
 
@@ -70,11 +69,11 @@ pub fn copy_step(s: &CopySetting, source: u32, rechunk: &Rechunk, at: u32) -> St
     ensures { slice_get (copy_steps s.now source rechunk.now) at ≡ Some result }
 {
     let staging = staging_of(s, rechunk);
-    let made = in_chunks(&rechunk.source, &rechunk.chunk);
+    let made = rechunked(rechunk);
     if staging.read.is(&staging.write) {
         return copied(s, source, s.first, &staging.write, &rechunk.source, &made);
     }
-    let between = in_chunks(&rechunk.source, &staging.middle);
+    let between = array_between(rechunk, &staging);
     if at == 0 {
         copied(s, source, s.first, &staging.read, &rechunk.source, &between)
     } else {

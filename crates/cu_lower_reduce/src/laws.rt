@@ -1,6 +1,6 @@
 //! Laws of the steps: calls that do nothing and whose clauses are the laws.
 
-ghost use Rattle.std.specs.Prelude.{◌≡◌, ◌<◌, ◌≤◌, ◌+◌, ◌∷◌, ◌++◌, [], true, ℕ, ℤ, List, All, Some, filter, length, map, slice_index, sum_by};
+ghost use Rattle.std.specs.Prelude.{◌≡◌, ◌<◌, ◌+◌, ◌∷◌, ◌++◌, [], true, ℕ, ℤ, List, All, Some, filter, length, map, slice_index, sum_by};
 ghost use Rattle.cu_copy.specs.Copies.{is_misaligned, rechunk_cells, rechunk_tasks, rechunked};
 ghost use Rattle.cu_copy.specs.declared.copies.Rechunk.{Rechunk};
 ghost use Rattle.cu_node.specs.declared.info.NodeInfo.{NodeInfo};
@@ -15,11 +15,11 @@ ghost use Rattle.cu_op.specs.declared.layout.ArrayInfo.{ArrayInfo};
 ghost use Rattle.cu_tree.specs.Marks.{sought_axes};
 ghost use Rattle.cu_tree.specs.Needs.{fold_need, merge_need, pair_fold_need, pair_merge_need, product_need};
 ghost use Rattle.cu_tree.specs.Partials.{first_partial, reduction_rounds, product_partial, product_rounds, chunks_written, chunks_before};
-ghost use Rattle.cu_lower_reduce.specs.Copies.{aligned_places, aligned_steps, copy_steps, AreCopies, AreOperands, IsCopySetting, IsStaged};
+ghost use Rattle.cu_lower_reduce.specs.Copies.{aligned_places, aligned_steps, copy_steps, AreCopies, AreOperands, IsStaged};
 ghost use Rattle.cu_lower_reduce.specs.Partials.{IsSetting};
 ghost use Rattle.cu_lower_reduce.specs.Products.{product_steps, inner_products, IsProduct};
 ghost use Rattle.cu_lower_reduce.specs.Reductions.{reduction_steps, reduced_indices, IsReduction};
-ghost use Rattle.cu_lower_reduce.specs.Searches.{value_bytes, search_steps, IsSearch};
+ghost use Rattle.cu_lower_reduce.specs.Searches.{value_chunk_bytes, search_steps, IsSearch};
 ghost use Rattle.cu_lower_reduce.specs.Steps.{HasInfo, HaveEach, HaveInfos, IsGiven, all_made, AreSteps, SolveSteps, last_made, with_merges, info_bytes, ComeTo};
 ghost use Rattle.cu_lower_reduce.specs.declared.copy.CopySetting.{CopySetting};
 ghost use Rattle.cu_lower_reduce.specs.declared.product.Product.{Product};
@@ -66,7 +66,7 @@ pub fn search_law()
         → AreSteps arrays s.reserved (x.source ∷ []) s.first s.first (search_steps s x) }
     ensures last { (arrays : List ArrayInfo) (s : Setting) (x : Search) → HaveInfos arrays s.first (all_made (search_steps s x)) → HasInfo arrays (last_made s.first (search_steps s x)) x.made }
     ensures sizes { (s : Setting) (x : Search) → IsSetting s → IsSearch x
-        → ComeTo (with_merges (reduction_rounds (sought_axes x.axis) s.split_every x.from) (pair_fold_need s.reserved (info_bytes x.from) (value_bytes x) (info_bytes x.made)) (pair_merge_need s.reserved s.split_every (value_bytes x) (info_bytes x.made)))
+        → ComeTo (with_merges (reduction_rounds (sought_axes x.axis) s.split_every x.from) (pair_fold_need s.reserved (info_bytes x.from) (value_chunk_bytes x) (info_bytes x.made)) (pair_merge_need s.reserved s.split_every (value_chunk_bytes x) (info_bytes x.made)))
         (chunks_written (first_partial Int64 (sought_axes x.axis) x.from) (reduction_rounds (sought_axes x.axis) s.split_every x.from) x.made)
         (chunks_written (first_partial Int64 (sought_axes x.axis) x.from) (reduction_rounds (sought_axes x.axis) s.split_every x.from) x.made
         + chunks_before (first_partial x.from.dtype (sought_axes x.axis) x.from) (reduction_rounds (sought_axes x.axis) s.split_every x.from)) x.made (search_steps s x) }
@@ -80,27 +80,27 @@ pub fn search_law()
 /// needs at most a chunk and a region of the greatest size, they have as many tasks and chunks as are counted, and their last array has the
 /// elements of the source in the chunks that are wanted.
 pub fn rechunk_law()
-    ensures steps { (arrays : List ArrayInfo) (s : CopySetting) (source : ℕ) (r : Rechunk) → IsCopySetting s → IsStaged s r → HasInfo arrays source r.source → HaveInfos arrays s.first (all_made (copy_steps s source r))
+    ensures steps { (arrays : List ArrayInfo) (s : CopySetting) (source : ℕ) (r : Rechunk) → IsStaged s r → HasInfo arrays source r.source → HaveInfos arrays s.first (all_made (copy_steps s source r))
         → AreSteps arrays s.reserved (source ∷ []) s.first s.first (copy_steps s source r) }
     ensures last { (arrays : List ArrayInfo) (s : CopySetting) (source : ℕ) (r : Rechunk) → HaveInfos arrays s.first (all_made (copy_steps s source r)) → HasInfo arrays (last_made s.first (copy_steps s source r)) (rechunked r) }
     ensures ends { (s : CopySetting) (source : ℕ) (r : Rechunk) → (rest : List NodeInfo) × (all_made (copy_steps s source r) ≡ rest ++ rechunked r ∷ []) }
-    ensures sizes { (s : CopySetting) (source : ℕ) (r : Rechunk) → IsCopySetting s → IsStaged s r
+    ensures sizes { (s : CopySetting) (source : ℕ) (r : Rechunk) → IsStaged s r
         → AreCopies s 1 (rechunk_tasks s.most r) (rechunk_cells s.most r) (copy_steps s source r) }
     ensures value { (arrays : List ArrayInfo) (at : Elements) (s : CopySetting) (source : ℕ) (r : Rechunk) → SolveSteps arrays at (copy_steps s source r)
         → (idx : List ℕ) → at (last_made s.first (copy_steps s source r)) idx ≡ at source idx }
 {}
 
-/// The same of the arrays that an operation reads in chunks that it tells: those that have other chunks are copied, and each array that is
-/// then read has the chunks that are wanted, the elements of its source, and is given or made by the copies.
+/// The same of the arrays that an operation reads in chunks that it tells: those that have other chunks are copied, by at most two copies
+/// each, and each array that is then read has the chunks that are wanted, the elements of its source, and is given or made by the copies.
 pub fn operands_law()
-    ensures steps { (arrays : List ArrayInfo) (s : CopySetting) (sources : List ℕ) (rs : List Rechunk) → IsCopySetting s → length rs ≤ 3 → AreOperands s rs → HaveEach arrays sources (map (λ r. r.source) rs)
+    ensures steps { (arrays : List ArrayInfo) (s : CopySetting) (sources : List ℕ) (rs : List Rechunk) → AreOperands s rs → HaveEach arrays sources (map (λ r. r.source) rs)
         → HaveInfos arrays s.first (all_made (aligned_steps s sources rs)) → AreSteps arrays s.reserved sources s.first s.first (aligned_steps s sources rs) }
     ensures places { (arrays : List ArrayInfo) (s : CopySetting) (sources : List ℕ) (rs : List Rechunk) → HaveEach arrays sources (map (λ r. r.source) rs)
         → HaveInfos arrays s.first (all_made (aligned_steps s sources rs)) → HaveEach arrays (aligned_places s sources rs) (map rechunked rs) }
     ensures given { (s : CopySetting) (sources : List ℕ) (rs : List Rechunk) → length sources ≡ length rs
         → All (IsGiven sources s.first (s.first + length (all_made (aligned_steps s sources rs)))) (aligned_places s sources rs) }
-    ensures sizes { (s : CopySetting) (sources : List ℕ) (rs : List Rechunk) → IsCopySetting s → length rs ≤ 3 → AreOperands s rs → length sources ≡ length rs
-        → AreCopies s (length rs) (sum_by (rechunk_tasks s.most) (filter is_misaligned rs)) (sum_by (rechunk_cells s.most) (filter is_misaligned rs)) (aligned_steps s sources rs) }
+    ensures sizes { (s : CopySetting) (sources : List ℕ) (rs : List Rechunk) → AreOperands s rs → length sources ≡ length rs
+        → AreCopies s (length (filter is_misaligned rs)) (sum_by (rechunk_tasks s.most) (filter is_misaligned rs)) (sum_by (rechunk_cells s.most) (filter is_misaligned rs)) (aligned_steps s sources rs) }
     ensures value { (arrays : List ArrayInfo) (at : Elements) (s : CopySetting) (sources : List ℕ) (rs : List Rechunk) (j : ℕ) → length sources ≡ length rs → j < length rs
         → SolveSteps arrays at (aligned_steps s sources rs) → (idx : List ℕ) → at (slice_index (aligned_places s sources rs) j) idx ≡ at (slice_index sources j) idx }
 {}

@@ -24,7 +24,7 @@ use Rattle.cu_pull.specs.Pull.{concat_from}
 use Rattle.cu_pull.specs.declared.provenance.Provenance.{Provenance}
 use Rattle.cu_pull.specs.declared.provenance.Provenance.TheVariants.{From, Const}
 use Rattle.cu_pull.proofs.AxesInside.{inside_at}
-use Rattle.cu_typing_view.specs.Creation.{arange_count, arange_at, holds_ends, typed_full, typed_numbers, typed_arange, typed_eye}
+use Rattle.cu_typing_view.specs.Creation.{arange_count, arange_element, holds_ends, typed_full, typed_numbers, typed_arange, typed_eye}
 use Rattle.cu_lower_view.proofs.Typed.{checked_array}
 
 -- ---- 0 and 1
@@ -113,9 +113,9 @@ number_in : (t : Dtype) (start step : ℤ) (n k : ℕ) → holds_ends t start st
 unfolding holds_ends
 number_in t start step n k h l =
     let some : (n == 0) ≡ false = ne_eqb n 0 (λ none. let never : ⊥ = omega arith in never) in
-    let ends : (in_range t (arange_at start step 0) && in_range t (arange_at start step (n - 1))) ≡ true = rw some at h in
-    let both = and_parts (in_range t (arange_at start step 0)) (in_range t (arange_at start step (n - 1))) ends in
-    between (least t) (greatest t) start step k (n - 1) (omega arith) (in_range_true t (arange_at start step 0) both.0) (in_range_true t (arange_at start step (n - 1)) both.1)
+    let ends : (in_range t (arange_element start step 0) && in_range t (arange_element start step (n - 1))) ≡ true = rw some at h in
+    let both = and_parts (in_range t (arange_element start step 0)) (in_range t (arange_element start step (n - 1))) ends in
+    between (least t) (greatest t) start step k (n - 1) (omega arith) (in_range_true t (arange_element start step 0) both.0) (in_range_true t (arange_element start step (n - 1)) both.1)
 
 -- what typing gave of a range: its rank, and that each number is one of the type
 pub record IsNumbers (start step : ℤ) (i : NodeInfo) : Type 0 where

@@ -5,14 +5,14 @@ use Rattle.std.specs.List.{list_all}
 use Rattle.std.proofs.lemmas.Bool.{and_parts, eqb-true}
 use Rattle.std.proofs.lemmas.List.{length-map}
 use Rattle.cu_node.specs.Axes.{marked_of, marked_after}
-use Rattle.cu_typing_view.specs.Rearranged.{is_permutation, permuted}
+use Rattle.cu_typing_view.specs.Rearranged.{is_permutation, permuted_sizes}
 use Rattle.cu_pull.specs.Fits.{FitsPermute}
 use Rattle.cu_lower_view.specs.Axes.{named_axis}
 use Rattle.cu_lower_view.proofs.Marks.{named_from_start, first_named, each_named}
 
 -- the sizes of axes that are counted from the start
 sizes_named : (axes : List ℤ) (xs : List ℕ) (marks last : List Bool) → list_all (λ d. int_le (pos 0) d) axes ≡ true → marked_after (length xs) marks axes ≡ Some last
-    → permuted axes xs ≡ map (λ axis. get_or xs axis 0) (map (named_axis (length xs)) axes)
+    → permuted_sizes axes xs ≡ map (λ axis. get_or xs axis 0) (map (named_axis (length xs)) axes)
 sizes_named [] xs marks last from_zero named = refl
 sizes_named (pos d ∷ ds) xs marks last from_zero named =
     let f = first_named (length xs) marks (pos d) ds last named in
@@ -26,7 +26,7 @@ there : (o : Option (List Bool)) → is_some o ≡ true → (x : List Bool) × (
 there (Some x) h = (x, refl)
 there None h = cc
 
-pub fits_permute : (axes : List ℤ) (shape source : List ℕ) → length source ≤ 6 → is_permutation (length source) axes ≡ true → shape ≡ permuted axes source → FitsPermute (map (named_axis (length source)) axes) shape source
+pub fits_permute : (axes : List ℤ) (shape source : List ℕ) → length source ≤ 6 → is_permutation (length source) axes ≡ true → shape ≡ permuted_sizes axes source → FitsPermute (map (named_axis (length source)) axes) shape source
 fits_permute axes shape source short h e =
     let long = and_parts (length axes == length source) (list_all (λ d. int_le (pos 0) d) axes && is_some (marked_of (length source) axes)) h in
     let both = and_parts (list_all (λ d. int_le (pos 0) d) axes) (is_some (marked_of (length source) axes)) long.1 in

@@ -22,7 +22,7 @@ use Rattle.cu_pull.specs.declared.provenance.Provenance.TheVariants.{From, Const
 use Rattle.cu_pull.specs.declared.pull.Pull.{Pull}
 use Rattle.cu_pull.specs.declared.pull.Pull.TheVariants as pull
 use Rattle.cu_typing_view.specs.Entries.{untaken, first_wrong, index_shape, index_chunk, unless_wrong}
-use Rattle.cu_typing_view.specs.Rearranged.{is_permutation, permuted, are_axes}
+use Rattle.cu_typing_view.specs.Rearranged.{is_permutation, permuted_sizes, are_axes}
 use Rattle.cu_typing_view.specs.Reshaped.{stretches_to}
 use Rattle.cu_typing_view.proofs.NewShapes.{new_shape_count, new_shape_type}
 use Rattle.cu_lower_view.specs.Axes.{named_axis, shift_along, shifts_along}
@@ -132,7 +132,7 @@ permute infos args axes i h =
     let a = source infos args in
     let one = one_source infos args h.args in
     let short = short_source infos args h.kept h.args in
-    let g = checked_array (is_permutation (length a.dims) axes) (fault Axis) a.dtype (permuted axes a.dims) (permuted axes a.chunk) i h.typed in
+    let g = checked_array (is_permutation (length a.dims) axes) (fault Axis) a.dtype (permuted_sizes axes a.dims) (permuted_sizes axes a.chunk) i h.typed in
     let p : Pull = pull.Permute (record { items = map (named_axis (length a.dims)) axes }) in (
       p,
       record {

@@ -5,7 +5,7 @@ use Rattle.std.proofs.Math.Bool.{and_comm}
 use Rattle.std.proofs.Math.Nat.{max_comm}
 use Rattle.std.proofs.lemmas.Bool.{eq-eqb, ne_eqb}
 use Rattle.std.proofs.lemmas.Bool.Decides.{eqb_tells}
-use Rattle.cu_shape.specs.Broadcast.{aligned, rank_of, size_of, are_apart, sizes_of, last_apart, broadcast_of, mismatch_of}
+use Rattle.cu_shape.specs.Broadcast.{aligned, rank_of, broadcast_size, are_apart, broadcast_sizes, last_apart, broadcast_of, mismatch_of}
 use Rattle.cu_typing_view.specs.Reshaped.{stretches_to}
 use Rattle.cu_typing_view.proofs.Stretched.{stretched_gives}
 
@@ -26,7 +26,7 @@ apart_last_comm (n ∷ ns) [] first = refl
 apart_last_comm (n ∷ ns) (m ∷ ms) first = rw (apart_comm n m, apart_last_comm ns ms (first + 1)) refl
 
 -- on an axis on which the sizes aren't apart
-size_comm : (n m : ℕ) → are_apart n m ≡ false → size_of n m ≡ size_of m n
+size_comm : (n m : ℕ) → are_apart n m ≡ false → broadcast_size n m ≡ broadcast_size m n
 size_comm n m h =
     elim (eqb_tells n 1) [
       | inl p ↦ elim (eqb_tells m 1) [
@@ -47,7 +47,7 @@ none_of (Some x) b k h = cc
 none_of None true k h = cc
 none_of None false k h = (refl, refl)
 
-sizes_comm : (A B : List ℕ) (first : ℕ) → last_apart A B first ≡ None → sizes_of A B ≡ sizes_of B A
+sizes_comm : (A B : List ℕ) (first : ℕ) → last_apart A B first ≡ None → broadcast_sizes A B ≡ broadcast_sizes B A
 sizes_comm [] [] first h = refl
 sizes_comm [] (m ∷ ms) first h = refl
 sizes_comm (n ∷ ns) [] first h = refl
@@ -61,7 +61,7 @@ mismatch_comm a b =
 
 broadcast_comm : (a b : List ℕ) → mismatch_of a b ≡ None → broadcast_of b a ≡ broadcast_of a b
 broadcast_comm a b h =
-    ap (λ r. sizes_of (aligned r b) (aligned r a)) (max_comm (length b) (length a)) ∙ sym (sizes_comm (aligned (rank_of a b) a) (aligned (rank_of a b) b) 0 h)
+    ap (λ r. broadcast_sizes (aligned r b) (aligned r a)) (max_comm (length b) (length a)) ∙ sym (sizes_comm (aligned (rank_of a b) a) (aligned (rank_of a b) b) 0 h)
 
 -- a shape that stretches to another is broadcast to it
 pub stretched_to : (source shape : List ℕ) → stretches_to source shape ≡ true → (mismatch_of shape source ≡ None) × (broadcast_of shape source ≡ shape)

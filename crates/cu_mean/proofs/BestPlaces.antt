@@ -8,7 +8,7 @@ use Rattle.std.proofs.lemmas.Int.{ints}
 use Rattle.cu_reduce.specs.Folds.{least_of, greatest_of}
 use Rattle.cu_reduce.specs.Places.{best_place}
 use Rattle.cu_reduce.proofs.Bests.{here, later}
-use Rattle.cu_mean.specs.Places.{best_of, takes_place, IsBest}
+use Rattle.cu_mean.specs.Places.{best_number, takes_place, IsBestFrom}
 use Rattle.cu_mean.specs.declared.places.Best.{Best}
 use Rattle.cu_mean.specs.Reductions.{IsNone}
 
@@ -45,14 +45,14 @@ max_second x m h = let l : x ≤ℤ m = let w : x <ℤ m = le_false m x h in ome
 
 -- ---- one element more in front
 
-front_taken : (least : Bool) (x : ℤ) (xs : List ℤ) (last : Bool) → IsNone xs last → takes_place least x (best_of least xs) last ≡ true → x ≡ best_of least (x ∷ xs)
+front_taken : (least : Bool) (x : ℤ) (xs : List ℤ) (last : Bool) → IsNone xs last → takes_place least x (best_number least xs) last ≡ true → x ≡ best_number least (x ∷ xs)
 front_taken true x [] last n h = refl
 front_taken false x [] last n h = refl
 front_taken true x (y ∷ ys) last n h = let g = rw n at h in sym (min_first x (least_of (y ∷ ys)) g)
 front_taken false x (y ∷ ys) last n h = let g = rw n at h in sym (max_first x (greatest_of (y ∷ ys)) g)
 
-front_left : (least : Bool) (x : ℤ) (xs : List ℤ) (last : Bool) → IsNone xs last → takes_place least x (best_of least xs) last ≡ false
-    → (best_of least (x ∷ xs) ≡ best_of least xs) × (best_of least (x ∷ xs) ≡ x → ⊥)
+front_left : (least : Bool) (x : ℤ) (xs : List ℤ) (last : Bool) → IsNone xs last → takes_place least x (best_number least xs) last ≡ false
+    → (best_number least (x ∷ xs) ≡ best_number least xs) × (best_number least (x ∷ xs) ≡ x → ⊥)
 front_left true x [] last n h = let g = rw n at h in cc
 front_left false x [] last n h = let g = rw n at h in cc
 front_left true x (y ∷ ys) last n h =
@@ -64,19 +64,19 @@ front_left false x (y ∷ ys) last n h =
     let e = max_second x (greatest_of (y ∷ ys)) g in
     (e, λ s. let l : x <ℤ greatest_of (y ∷ ys) = le_false (greatest_of (y ∷ ys)) x g in let t : greatest_of (y ∷ ys) ≡ x = sym e ∙ s in omega (arith, ints))
 
-place_of_best : (least : Bool) (xs : List ℤ) → best_place least xs ≡ position_or_len (int_eq (best_of least xs)) xs
+place_of_best : (least : Bool) (xs : List ℤ) → best_place least xs ≡ position_or_len (int_eq (best_number least xs)) xs
 place_of_best least xs = refl
 
-pub taken : (least : Bool) (x : ℤ) (xs : List ℤ) (from : ℕ) (best : Best) (last : Bool) → IsBest least (from + 1) xs best → IsNone xs last → takes_place least x best.number last ≡ true
-    → (x ≡ best_of least (x ∷ xs)) × (from ≡ from + best_place least (x ∷ xs))
+pub taken : (least : Bool) (x : ℤ) (xs : List ℤ) (from : ℕ) (best : Best) (last : Bool) → IsBestFrom least (from + 1) xs best → IsNone xs last → takes_place least x best.number last ≡ true
+    → (x ≡ best_number least (x ∷ xs)) × (from ≡ from + best_place least (x ∷ xs))
 taken least x xs from best last is none h =
     let e = front_taken least x xs last none (ap (λ (m : ℤ). takes_place least x m last) (sym is.number) ∙ h) in
-    let p : best_place least (x ∷ xs) ≡ 0 = here (best_of least (x ∷ xs)) x xs (sym e) in
+    let p : best_place least (x ∷ xs) ≡ 0 = here (best_number least (x ∷ xs)) x xs (sym e) in
     (e, omega (arith, p))
 
-pub left : (least : Bool) (x : ℤ) (xs : List ℤ) (from : ℕ) (best : Best) (last : Bool) → IsBest least (from + 1) xs best → IsNone xs last → takes_place least x best.number last ≡ false
-    → IsBest least from (x ∷ xs) best
+pub left : (least : Bool) (x : ℤ) (xs : List ℤ) (from : ℕ) (best : Best) (last : Bool) → IsBestFrom least (from + 1) xs best → IsNone xs last → takes_place least x best.number last ≡ false
+    → IsBestFrom least from (x ∷ xs) best
 left least x xs from best last is none h =
     let w = front_left least x xs last none (ap (λ (m : ℤ). takes_place least x m last) (sym is.number) ∙ h) in
-    let p : best_place least (x ∷ xs) ≡ suc (best_place least xs) = later (best_of least (x ∷ xs)) x xs w.1 ∙ ap (λ (v : ℤ). suc (position_or_len (int_eq v) xs)) w.0 in
+    let p : best_place least (x ∷ xs) ≡ suc (best_place least xs) = later (best_number least (x ∷ xs)) x xs w.1 ∙ ap (λ (v : ℤ). suc (position_or_len (int_eq v) xs)) w.0 in
     record { number = is.number ∙ sym w.0; place = omega (arith, p, is.place) }

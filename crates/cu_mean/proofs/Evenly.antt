@@ -37,12 +37,7 @@ even_place (d ∷ ds) (i ∷ is) (n ∷ ns) s p even h =
     let here = axis_place n (product ds) (product ns) s p (p / product ns) (p % product ns) even.1 h refl refl in
     let place : place_of ds (sums is (index_at ns (p % product ns))) ≡ place_of ds is + (p % product ns) * s = behind.1 in
     ((omega arith, behind.0), omega arith)
-even_place [] [] (n ∷ ns) s p even h = absurd even
-even_place [] (i ∷ is) [] s p even h = absurd even
-even_place [] (i ∷ is) (n ∷ ns) s p even h = absurd even
-even_place (d ∷ ds) [] [] s p even h = absurd even
-even_place (d ∷ ds) [] (n ∷ ns) s p even h = absurd even
-even_place (d ∷ ds) (i ∷ is) [] s p even h = absurd even
+even_place ds is ns s p even h = absurd even
 
 one_of : (n m : ℕ) → n * m ≡ 1 → (n ≤ 1) × (m ≡ 1)
 one_of zero m h = absurd (omega arith)
@@ -56,12 +51,7 @@ ones_even [] [] [] s t even h = tt
 ones_even (d ∷ ds) (i ∷ is) (n ∷ ns) s t even h =
     let one = one_of n (product ns) h in
     (even.0, inl one.0, ones_even ds is ns s t even.2 one.1)
-ones_even [] [] (n ∷ ns) s t even h = absurd even
-ones_even [] (i ∷ is) [] s t even h = absurd even
-ones_even [] (i ∷ is) (n ∷ ns) s t even h = absurd even
-ones_even (d ∷ ds) [] [] s t even h = absurd even
-ones_even (d ∷ ds) [] (n ∷ ns) s t even h = absurd even
-ones_even (d ∷ ds) (i ∷ is) [] s t even h = absurd even
+ones_even ds is ns s t even h = absurd even
 
 -- one axis more in front of a box of one element
 pub one_even : (size start count : ℕ) (ds is ns : List ℕ) (s t : ℕ) → start + count ≤ size → AreEven ds is ns s → product ns ≡ 1 → product ds ≡ t → AreEven (size ∷ ds) (start ∷ is) (count ∷ ns) t

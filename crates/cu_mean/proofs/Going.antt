@@ -14,7 +14,7 @@ use Rattle.cu_meaning.specs.Meaning.{meaning_of}
 use Rattle.cu_mean.specs.Going.{HasCells, KeepType, AddsComputed, MovesInput, HoldFirst, IsGoing, input_elements}
 use Rattle.cu_mean.specs.Node.{is_input, IsElement, IsReadyNode}
 use Rattle.cu_mean.specs.Plain.{PlainArray}
-use Rattle.cu_mean.specs.Whole.{inputs_before, HoldsElements, IsTyped}
+use Rattle.cu_mean.specs.Whole.{inputs_before, HoldsElements, AreTypes}
 use Rattle.cu_expr.proofs.Nodes.{typed_count}
 use Rattle.cu_mean.proofs.Found.{within, found, pushed_last, pushed_before}
 use Rattle.cu_mean.proofs.HeldElements.{computed_holds, computed_keeps}
@@ -108,7 +108,7 @@ going_keeps e infos inputs n node rest plains at going =
     (λ idx. meaning_fits e infos env n idx g.form (λ m other there. node_keeps g.types.inputs e infos env m other g.form g.types.types g.kept fit there))
 
 -- what is known of a node
-pub known_at : (e : Expression) (infos : List NodeInfo) (n : ℕ) (info : NodeInfo) → IsTyped e infos → n < length e.nodes → info ≡ get_or infos n info → info ≡ info_at infos n
+pub known_at : (e : Expression) (infos : List NodeInfo) (n : ℕ) (info : NodeInfo) → AreTypes e infos → n < length e.nodes → info ≡ get_or infos n info → info ≡ info_at infos n
 known_at e infos n info types lt is =
     let count = typed_count types.inputs e.nodes infos types.types in
     get_or_read infos n info (omega arith) is no_info

@@ -9,15 +9,15 @@ use Rattle.cu_form.specs.Expression.{Expression, IsExpression}
 use Rattle.cu_form.specs.declared.expr.Node.{Node}
 use Rattle.cu_node.specs.Info.{info_at}
 use Rattle.cu_node.specs.declared.info.NodeInfo.{NodeInfo}
-use Rattle.cu_meaning.specs.Argument.{NodeElements, shape_at}
+use Rattle.cu_meaning.specs.Argument.{NodeElements, shape_of_node}
 use Rattle.cu_meaning.specs.Meaning.{meaning_of, AgreeBelow}
 use Rattle.cu_meaning.specs.Rule.{rule_of}
-use Rattle.cu_meaning.specs.Typed.{type_at}
+use Rattle.cu_meaning.specs.Typed.{type_of_node}
 use Rattle.cu_meaning.proofs.Earlier.{node_agrees}
 use Rattle.cu_meaning.proofs.Equation.{equation, outside}
-use Rattle.cu_mean.specs.Going.{HasCells, IsComputed, HoldFirst, KeepType}
+use Rattle.cu_mean.specs.Going.{HasCells, IsEvaluated, HoldFirst, KeepType}
 use Rattle.cu_mean.specs.Plain.{PlainArray, IsPlain}
-use Rattle.cu_mean.specs.Reading.{plain_at, found_at, elements_in}
+use Rattle.cu_mean.specs.Reading.{plain_at, element_or_zero, elements_in}
 use Rattle.cu_mean.specs.Whole.{HoldsElements}
 use Rattle.cu_mean.proofs.Found.{there, within, read_or, found}
 use Rattle.cu_reduce.proofs.Folding.{zero_in_range}
@@ -63,7 +63,7 @@ read_at_place p place below count =
 -- ---- the arrays of the first nodes
 
 agree_by : (e : Expression) (infos : List NodeInfo) (env : NodeElements) (k : ℕ) (p : PlainArray) (idx : List ℕ) (b : Bool) → IsExpression e → k < length e.nodes
-    → HoldsElements (info_at infos k) (meaning_of e infos env k) p → is_inside (shape_at infos k) idx ≡ b → plain_at p idx ≡ meaning_of e infos env k idx
+    → HoldsElements (info_at infos k) (meaning_of e infos env k) p → is_inside (shape_of_node infos k) idx ≡ b → plain_at p idx ≡ meaning_of e infos env k idx
 agree_by e infos env k p idx true is lt h test = held (info_at infos k) (meaning_of e infos env k) p idx h test
 agree_by e infos env k p idx false is lt h test =
     let node = there e.nodes k lt in
@@ -74,28 +74,28 @@ pub held_agree : (e : Expression) (infos : List NodeInfo) (env : NodeElements) (
     → HoldFirst e infos env n plains → AgreeBelow n (meaning_of e infos env) (elements_in plains)
 held_agree e infos env n plains is le first k idx lt =
     let p = there plains k (omega (arith, first.count)) in
-    sym (ap (λ o. found_at o idx) p.1 ∙ agree_by e infos env k p.0 idx (is_inside (shape_at infos k) idx) is (omega arith) (first.each k p.0 p.1) refl)
+    sym (ap (λ o. element_or_zero o idx) p.1 ∙ agree_by e infos env k p.0 idx (is_inside (shape_of_node infos k) idx) is (omega arith) (first.each k p.0 p.1) refl)
 
 -- so the meaning of the next node is its rule over them
 pub meaning_here : (e : Expression) (infos : List NodeInfo) (env : NodeElements) (n : ℕ) (node : Node) (plains : List PlainArray) (idx : List ℕ) → IsExpression e
-    → slice_get e.nodes n ≡ Some node → HoldFirst e infos env n plains → IsInside (shape_at infos n) idx → meaning_of e infos env n idx ≡ rule_of infos env (elements_in plains) n node.form idx
+    → slice_get e.nodes n ≡ Some node → HoldFirst e infos env n plains → IsInside (shape_of_node infos n) idx → meaning_of e infos env n idx ≡ rule_of infos env (elements_in plains) n node.form idx
 meaning_here e infos env n node plains idx is at first inside =
     let lt = within e.nodes n node at in
     equation e infos env n node idx is at
     ∙ node_agrees infos env (meaning_of e infos env) (elements_in plains) n node.form idx (is.nodes n node at).form.earlier (held_agree e infos env n plains is (omega arith) first)
-    ∙ ap (λ (b : Bool). if b then rule_of infos env (elements_in plains) n node.form idx else pos 0) (test_from_inside (shape_at infos n) idx inside)
+    ∙ ap (λ (b : Bool). if b then rule_of infos env (elements_in plains) n node.form idx else pos 0) (test_from_inside (shape_of_node infos n) idx inside)
 
 -- ---- a node that is computed
 
 cell_is : (e : Expression) (infos : List NodeInfo) (env : NodeElements) (n : ℕ) (node : Node) (plains : List PlainArray) (cells : List ℤ) (place : ℕ) → IsExpression e
-    → slice_get e.nodes n ≡ Some node → HoldFirst e infos env n plains → HasCells node.form infos (info_at infos n) plains (product (shape_at infos n)) cells
-    → place < product (shape_at infos n) → get_or cells place (pos 0) ≡ meaning_of e infos env n (index_at (shape_at infos n) place)
+    → slice_get e.nodes n ≡ Some node → HoldFirst e infos env n plains → HasCells node.form infos (info_at infos n) plains (product (shape_of_node infos n)) cells
+    → place < product (shape_of_node infos n) → get_or cells place (pos 0) ≡ meaning_of e infos env n (index_at (shape_of_node infos n) place)
 cell_is e infos env n node plains cells place is at first has below =
     has.each place below env n refl
-    ∙ sym (meaning_here e infos env n node plains (index_at (shape_at infos n) place) is at first (index-inside (shape_at infos n) place below))
+    ∙ sym (meaning_here e infos env n node plains (index_at (shape_of_node infos n) place) is at first (index-inside (shape_of_node infos n) place below))
 
 pub computed_holds : (e : Expression) (infos : List NodeInfo) (env : NodeElements) (n : ℕ) (node : Node) (plains : List PlainArray) (p : PlainArray) → IsExpression e
-    → slice_get e.nodes n ≡ Some node → HoldFirst e infos env n plains → IsComputed node.form infos (info_at infos n) plains p → HoldsElements (info_at infos n) (meaning_of e infos env n) p
+    → slice_get e.nodes n ≡ Some node → HoldFirst e infos env n plains → IsEvaluated node.form infos (info_at infos n) plains p → HoldsElements (info_at infos n) (meaning_of e infos env n) p
 computed_holds e infos env n node plains p is at first h = record {
   info = h.same;
   count = h.cells.count;
@@ -103,9 +103,9 @@ computed_holds e infos env n node plains p is at first h = record {
 }
 
 pub computed_keeps : (e : Expression) (infos : List NodeInfo) (env : NodeElements) (n : ℕ) (node : Node) (plains : List PlainArray) → IsExpression e
-    → slice_get e.nodes n ≡ Some node → HoldFirst e infos env n plains → ((idx : List ℕ) → InRange (type_at infos n) (meaning_of e infos env n idx))
+    → slice_get e.nodes n ≡ Some node → HoldFirst e infos env n plains → ((idx : List ℕ) → InRange (type_of_node infos n) (meaning_of e infos env n idx))
     → KeepType node.form infos (info_at infos n) plains
 computed_keeps e infos env n node plains is at first fits cells has =
-    All-from_get_or (InRange (type_at infos n)) cells (pos 0) (λ place below.
-    subst (λ (x : ℤ). InRange (type_at infos n) x) (sym (cell_is e infos env n node plains cells place is at first has (let c = has.count in omega arith)))
-    (fits (index_at (shape_at infos n) place)))
+    All-from_get_or (InRange (type_of_node infos n)) cells (pos 0) (λ place below.
+    subst (λ (x : ℤ). InRange (type_of_node infos n) x) (sym (cell_is e infos env n node plains cells place is at first has (let c = has.count in omega arith)))
+    (fits (index_at (shape_of_node infos n) place)))

@@ -10,7 +10,7 @@ use Rattle.cu_shape.specs.Slice.{from_end}
 use Rattle.cu_shape.proofs.Places.{outside_rank}
 use Rattle.cu_node.specs.declared.index_item.IndexItem.{IndexItem}
 use Rattle.cu_meaning.specs.Index.{natural}
-use Rattle.cu_meaning.specs.View.{indexed_from, sliced}
+use Rattle.cu_meaning.specs.View.{indexed_from, sliced_index}
 use Rattle.cu_mean.specs.Indexing.{IsOutside}
 use Rattle.cu_mean.proofs.Joined.{not_below}
 
@@ -56,7 +56,7 @@ place_none spare x items shape is axis le = ap (λ (s : List ℕ). indexed_from 
 
 pub slice_step : (spare : ℕ) (start stop step : Option ℤ) (items : List IndexItem) (shape idx : List ℕ) (axis at : ℕ) → axis < length shape → at < length idx
     → indexed_from spare (IndexItem.Slice start stop step ∷ items) (drop axis shape) (drop at idx)
-    ≡ sliced start stop (unwrap_or step (pos 1)) (slice_index shape axis) (slice_index idx at) ∷ indexed_from spare items (drop (axis + 1) shape) (drop (at + 1) idx)
+    ≡ sliced_index start stop (unwrap_or step (pos 1)) (slice_index shape axis) (slice_index idx at) ∷ indexed_from spare items (drop (axis + 1) shape) (drop (at + 1) idx)
 slice_step spare start stop step items shape idx axis at lt below =
     ap (λ (s : List ℕ). indexed_from spare (IndexItem.Slice start stop step ∷ items) s (drop at idx)) (drop_more shape axis 0 lt)
     ∙ ap (λ (is : List ℕ). indexed_from spare (IndexItem.Slice start stop step ∷ items) (slice_index shape axis ∷ drop (axis + 1) shape) is) (drop_more idx at 0 below)

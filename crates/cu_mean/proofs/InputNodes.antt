@@ -10,24 +10,24 @@ use Rattle.cu_form.specs.declared.expr.Node.{Node}
 use Rattle.cu_form.specs.declared.form.Form.{Form}
 use Rattle.cu_node.specs.Info.{info_at}
 use Rattle.cu_node.specs.declared.info.NodeInfo.{NodeInfo}
-use Rattle.cu_meaning.specs.Argument.{NodeElements, shape_at}
+use Rattle.cu_meaning.specs.Argument.{NodeElements, shape_of_node}
 use Rattle.cu_meaning.specs.Meaning.{meaning_of}
 use Rattle.cu_meaning.specs.Rule.{rule_of}
-use Rattle.cu_meaning.specs.Typed.{type_at}
+use Rattle.cu_meaning.specs.Typed.{type_of_node}
 use Rattle.cu_meaning.proofs.Equation.{equation}
 use Rattle.cu_meaning.proofs.Earlier.{node_agrees}
 use Rattle.cu_mean.specs.Going.{input_elements, HoldFirst}
 use Rattle.cu_mean.specs.Laws.{FitsInput, FitInputs}
 use Rattle.cu_mean.specs.Node.{is_input}
 use Rattle.cu_mean.specs.Plain.{PlainArray, IsPlain}
-use Rattle.cu_mean.specs.Reading.{plain_at, found_at}
+use Rattle.cu_mean.specs.Reading.{plain_at, element_or_zero}
 use Rattle.cu_mean.specs.Whole.{is_input_node, inputs_before, AreInputNodes, HoldsElements, HoldInputs, HoldMeaning}
 use Rattle.cu_mean.proofs.Found.{there, within, read_or}
 use Rattle.cu_mean.proofs.HeldElements.{held, read_in_range, read_at_place}
 
 -- ---- their elements are numbers of their types
 
-fits_form : (infos : List NodeInfo) (env : NodeElements) (k : ℕ) (form : Form) → (is_input form ≡ true → (idx : List ℕ) → InRange (type_at infos k) (env k idx)) → FitsInput infos env k form
+fits_form : (infos : List NodeInfo) (env : NodeElements) (k : ℕ) (form : Form) → (is_input form ≡ true → (idx : List ℕ) → InRange (type_of_node infos k) (env k idx)) → FitsInput infos env k form
 fits_form infos env k (Form.Input name) h = h refl
 fits_form infos env k form h = tt
 
@@ -35,8 +35,8 @@ pub inputs_fit : (e : Expression) (infos : List NodeInfo) (inputs : List PlainAr
 inputs_fit e infos inputs are k node at = fits_form infos (input_elements e inputs) k node.form (λ input idx.
     let p = are.each k node at input in
     let own : InRange p.0.dtype (plain_at p.0 idx) = read_in_range p.0 idx p.1.plain in
-    let same : found_at (slice_get inputs (inputs_before e k)) idx ≡ plain_at p.0 idx = ap (λ o. found_at o idx) p.1.there in
-    subst (λ (x : ℤ). InRange (type_at infos k) x) (sym same) (subst (λ t. InRange t (plain_at p.0 idx)) p.1.info.dtype own))
+    let same : element_or_zero (slice_get inputs (inputs_before e k)) idx ≡ plain_at p.0 idx = ap (λ o. element_or_zero o idx) p.1.there in
+    subst (λ (x : ℤ). InRange (type_of_node infos k) x) (sym same) (subst (λ t. InRange t (plain_at p.0 idx)) p.1.info.dtype own))
 
 -- ---- an input's array holds its elements
 
@@ -46,10 +46,10 @@ rule_input infos env at k form idx h = cc
 
 -- inside the shape the meaning of an input node is its element
 pub input_meaning : (e : Expression) (infos : List NodeInfo) (env : NodeElements) (k : ℕ) (node : Node) (idx : List ℕ) → IsExpression e → slice_get e.nodes k ≡ Some node → is_input node.form ≡ true
-    → IsInside (shape_at infos k) idx → meaning_of e infos env k idx ≡ env k idx
+    → IsInside (shape_of_node infos k) idx → meaning_of e infos env k idx ≡ env k idx
 input_meaning e infos env k node idx is at input inside =
     equation e infos env k node idx is at
-    ∙ ap (λ (b : Bool). if b then rule_of infos env (meaning_of e infos env) k node.form idx else pos 0) (test_from_inside (shape_at infos k) idx inside)
+    ∙ ap (λ (b : Bool). if b then rule_of infos env (meaning_of e infos env) k node.form idx else pos 0) (test_from_inside (shape_of_node infos k) idx inside)
     ∙ rule_input infos env (meaning_of e infos env) k node.form idx input
 
 pub input_holds : (e : Expression) (infos : List NodeInfo) (inputs : List PlainArray) (k : ℕ) (node : Node) (p : PlainArray) → IsExpression e → AreInputNodes e infos inputs → slice_get e.nodes k ≡ Some node
@@ -58,16 +58,16 @@ input_holds e infos inputs k node p is are at input got =
     let given = are.each k node at input in
     let q : given.0 ≡ p = cc (given.1.there, got) in
     let plain : IsPlain p = subst (λ (r : PlainArray). IsPlain r) q given.1.plain in
-    let dtype : p.dtype ≡ type_at infos k = sym (ap (λ (r : PlainArray). r.dtype) q) ∙ given.1.info.dtype in
-    let dims : p.dims ≡ shape_at infos k = sym (ap (λ (r : PlainArray). r.dims) q) ∙ given.1.info.dims in
+    let dtype : p.dtype ≡ type_of_node infos k = sym (ap (λ (r : PlainArray). r.dtype) q) ∙ given.1.info.dtype in
+    let dims : p.dims ≡ shape_of_node infos k = sym (ap (λ (r : PlainArray). r.dims) q) ∙ given.1.info.dims in
     record {
       info = record { dtype = dtype; dims = dims };
       count = plain.count ∙ ap product dims;
       cells = λ place below.
-          let idx = index_at (shape_at infos k) place in
-          let inside : IsInside (shape_at infos k) idx = index-inside (shape_at infos k) place below in
+          let idx = index_at (shape_of_node infos k) place in
+          let inside : IsInside (shape_of_node infos k) idx = index-inside (shape_of_node infos k) place below in
           read_at_place p place (rw dims below) plain.count
-          ∙ ap (λ (x : ℤ). Some x) (ap (λ (ds : List ℕ). plain_at p (index_at ds place)) dims ∙ sym (input_meaning e infos (input_elements e inputs) k node idx is at input inside ∙ ap (λ o. found_at o idx) got));
+          ∙ ap (λ (x : ℤ). Some x) (ap (λ (ds : List ℕ). plain_at p (index_at ds place)) dims ∙ sym (input_meaning e infos (input_elements e inputs) k node idx is at input inside ∙ ap (λ o. element_or_zero o idx) got));
     }
 
 -- ---- how many come before a node
@@ -91,7 +91,7 @@ guarded false x y h = refl
 
 -- the elements agree there
 abbrev SameInputs : Expression → List NodeInfo → NodeElements → NodeElements → Type 0
-SameInputs e infos env other = (k : ℕ) (node : Node) (idx : List ℕ) → slice_get e.nodes k ≡ Some node → is_input node.form ≡ true → is_inside (shape_at infos k) idx ≡ true → env k idx ≡ other k idx
+SameInputs e infos env other = (k : ℕ) (node : Node) (idx : List ℕ) → slice_get e.nodes k ≡ Some node → is_input node.form ≡ true → is_inside (shape_of_node infos k) idx ≡ true → env k idx ≡ other k idx
 
 same_at : (e : Expression) (infos : List NodeInfo) (env other : NodeElements) (most k : ℕ) (idx : List ℕ) → IsExpression e → SameInputs e infos env other → k < most → k < length e.nodes
     → meaning_of e infos env k idx ≡ meaning_of e infos other k idx
@@ -103,7 +103,7 @@ same_at e infos env other (suc most) k idx is same lt within =
     equation e infos env k node idx is at
     ∙ node_agrees infos env (meaning_of e infos env) (meaning_of e infos other) k node.form idx (is.nodes k node at).form.earlier
     (λ m i below. same_at e infos env other most m i is same (omega arith) (omega arith))
-    ∙ guarded (is_inside (shape_at infos k) idx) (rule_of infos env (meaning_of e infos other) k node.form idx) (rule_of infos other (meaning_of e infos other) k node.form idx)
+    ∙ guarded (is_inside (shape_of_node infos k) idx) (rule_of infos env (meaning_of e infos other) k node.form idx) (rule_of infos other (meaning_of e infos other) k node.form idx)
     (λ inside. same_rule infos env other (meaning_of e infos other) k node.form idx (λ input. same k node idx at input inside))
     ∙ sym (equation e infos other k node idx is at)
 
@@ -111,7 +111,7 @@ same_at e infos env other (suc most) k idx is same lt within =
 agrees : (e : Expression) (infos : List NodeInfo) (inputs : List PlainArray) (env : NodeElements) → AreInputNodes e infos inputs → HoldInputs e infos env inputs → SameInputs e infos (input_elements e inputs) env
 agrees e infos inputs env are holds k node idx at input inside =
     let p = are.each k node at input in
-    ap (λ o. found_at o idx) p.1.there ∙ held (info_at infos k) (env k) p.0 idx (holds k node p.0 at input p.1.there) inside
+    ap (λ o. element_or_zero o idx) p.1.there ∙ held (info_at infos k) (env k) p.0 idx (holds k node p.0 at input p.1.there) inside
 
 pub first_holds : (e : Expression) (infos : List NodeInfo) (inputs plains : List PlainArray) (env : NodeElements) → IsExpression e → AreInputNodes e infos inputs
     → HoldFirst e infos (input_elements e inputs) (length e.nodes) plains → HoldInputs e infos env inputs → HoldMeaning e infos env plains
@@ -125,6 +125,6 @@ first_holds e infos inputs plains env is are first holds = record {
       record {
         info = h.info;
         count = h.count;
-        cells = λ place below. h.cells place below ∙ ap (λ (x : ℤ). Some x) (same (index_at (shape_at infos k) place));
+        cells = λ place below. h.cells place below ∙ ap (λ (x : ℤ). Some x) (same (index_at (shape_of_node infos k) place));
       };
 }

@@ -21,7 +21,7 @@ use Rattle.cu_expr.specs.Inputs.{named_input, stored_of}
 use Rattle.cu_meaning.specs.Argument.{NodeElements, source_shape}
 use Rattle.cu_meaning.specs.Reduction.{reduced_box}
 use Rattle.cu_meaning.specs.Rule.{place_axes}
-use Rattle.cu_meaning.specs.Typed.{type_at, FitsType, KeepsType}
+use Rattle.cu_meaning.specs.Typed.{type_of_node, FitsType, KeepsType}
 use Rattle.cu_mean.specs.Laws.{FitsInput, FitInputs}
 use Rattle.cu_mean.proofs.KeptElements.{elementwise_fits}
 use Rattle.cu_mean.proofs.KeptNumbers.{full_fits, arange_fits, reduced_within, place_type}
@@ -48,7 +48,7 @@ one_fits : (infos : List NodeInfo) (args : List Arg) (i : NodeInfo) → are_arra
 one_fits infos args i h e =
     let s = single args h in
     let P : List Arg → Type 0 = λ xs. i.dtype ≡ (source infos xs).dtype in
-    let own : i.dtype ≡ type_at infos s.0 = subst P s.1 e in
+    let own : i.dtype ≡ type_of_node infos s.0 = subst P s.1 e in
     rw s.1 (All-cons (FitsType infos i.dtype) (Arg.Node s.0) [] (λ x r. rw own r) (All-nil (FitsType infos i.dtype)))
 
 place_fits : (infos : List NodeInfo) (args : List Arg) (axis : _) → are_arrays 1 1 args ≡ true → All IsInfo infos → product (reduced_box (place_axes axis) (source_shape infos args 0)) ≤ 2 ^ 40

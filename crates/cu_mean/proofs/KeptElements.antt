@@ -17,34 +17,28 @@ use Rattle.cu_typing.specs.Types.{pair_type, shared_type, result_type}
 use Rattle.cu_typing.proofs.Passed.{passed}
 use Rattle.cu_expr.specs.Typing.{argument_of}
 use Rattle.cu_expr.proofs.Kernels.{met}
-use Rattle.cu_meaning.specs.Typed.{type_at, FitsType, IsResultType}
+use Rattle.cu_meaning.specs.Typed.{type_of_node, FitsType, IsResultType}
 
 -- a type has its own numbers
-own_numbers : (infos : List NodeInfo) (n : _) (t : Dtype) → type_at infos n ≡ t → FitsType infos t (Arg.Node n)
+own_numbers : (infos : List NodeInfo) (n : _) (t : Dtype) → type_of_node infos n ≡ t → FitsType infos t (Arg.Node n)
 own_numbers infos n t e = λ x r. rw (← e) r
 
 -- both of two arguments fit the type that they have together
 pair_fits : (infos : List NodeInfo) (x y : Arg) (t : Dtype) → pair_type (argument_of infos x) (argument_of infos y) ≡ Ok t → FitsType infos t x × FitsType infos t y
 pair_fits infos (Arg.Node m) (Arg.Node n) t h =
-    let p = need_ok (promotion (type_at infos m) (type_at infos n)) (fault Promote) t h in
-    (first_in_range (type_at infos m) (type_at infos n) t p, second_in_range (type_at infos m) (type_at infos n) t p)
-pair_fits infos (Arg.Node m) (Arg.Int x) t h = let w = met (type_at infos m) t (written.Int x) h in (own_numbers infos m t w.0, w.1)
-pair_fits infos (Arg.Node m) (Arg.Truth b) t h = let w = met (type_at infos m) t (written.Truth b) h in (own_numbers infos m t w.0, w.1)
-pair_fits infos (Arg.Int x) (Arg.Node n) t h = let w = met (type_at infos n) t (written.Int x) h in (w.1, own_numbers infos n t w.0)
-pair_fits infos (Arg.Truth b) (Arg.Node n) t h = let w = met (type_at infos n) t (written.Truth b) h in (w.1, own_numbers infos n t w.0)
-pair_fits infos (Arg.Int x) (Arg.Int y) t h = cc
-pair_fits infos (Arg.Int x) (Arg.Truth c) t h = cc
-pair_fits infos (Arg.Truth b) (Arg.Int y) t h = cc
-pair_fits infos (Arg.Truth b) (Arg.Truth c) t h = cc
+    let p = need_ok (promotion (type_of_node infos m) (type_of_node infos n)) (fault Promote) t h in
+    (first_in_range (type_of_node infos m) (type_of_node infos n) t p, second_in_range (type_of_node infos m) (type_of_node infos n) t p)
+pair_fits infos (Arg.Node m) (Arg.Int x) t h = let w = met (type_of_node infos m) t (written.Int x) h in (own_numbers infos m t w.0, w.1)
+pair_fits infos (Arg.Node m) (Arg.Truth b) t h = let w = met (type_of_node infos m) t (written.Truth b) h in (own_numbers infos m t w.0, w.1)
+pair_fits infos (Arg.Int x) (Arg.Node n) t h = let w = met (type_of_node infos n) t (written.Int x) h in (w.1, own_numbers infos n t w.0)
+pair_fits infos (Arg.Truth b) (Arg.Node n) t h = let w = met (type_of_node infos n) t (written.Truth b) h in (w.1, own_numbers infos n t w.0)
+pair_fits infos x y t h = cc
 
 choice_fits : (infos : List NodeInfo) (t : Dtype) (args : List Arg) → shared_type ElementOp.Where (map (argument_of infos) args) ≡ Ok t → All (FitsType infos t) (drop 1 args)
-choice_fits infos t [] h = cc
-choice_fits infos t (c ∷ []) h = cc
-choice_fits infos t (c ∷ x ∷ []) h = cc
 choice_fits infos t (c ∷ x ∷ y ∷ []) h =
     let both = pair_fits infos x y t h in
     All-cons (FitsType infos t) x (y ∷ []) both.0 (All-cons (FitsType infos t) y [] both.1 (All-nil (FitsType infos t)))
-choice_fits infos t (c ∷ x ∷ y ∷ z ∷ zs) h = cc
+choice_fits infos t args h = cc
 
 result_fits : (infos : List NodeInfo) (op : ElementOp) (args : List Arg) (t d : Dtype) → d ≡ result_type op t → shared_type op (map (argument_of infos) args) ≡ Ok t → IsResultType infos d op args
 result_fits infos (ElementOp.One f) args t d e h = rw e (result_type1-result_type1 f t)

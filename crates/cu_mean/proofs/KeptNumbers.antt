@@ -25,7 +25,7 @@ use Rattle.cu_node.specs.declared.literal.Literal.{Literal}
 use Rattle.cu_node.proofs.KeptLimits.{given}
 use Rattle.cu_typing.specs.Reduction.{place_rule, typed_arg_place}
 use Rattle.cu_typing.proofs.PassedTogether.{reduction_passed}
-use Rattle.cu_typing_view.specs.Creation.{arange_count, arange_at, holds_ends, typed_full, typed_numbers, typed_arange}
+use Rattle.cu_typing_view.specs.Creation.{arange_count, arange_element, holds_ends, typed_full, typed_numbers, typed_arange}
 use Rattle.cu_expr.proofs.Kernels.{in_range_true, suits_in_range}
 use Rattle.cu_meaning.specs.Index.{is_named}
 use Rattle.cu_meaning.specs.Reduction.{reduced_box}
@@ -63,9 +63,9 @@ number_fits : (t : Dtype) (start step : ℤ) (n k : ℕ) → holds_ends t start 
 unfolding holds_ends
 number_fits t start step n k h l =
     let some : (n == 0) ≡ false = ne_eqb n 0 (λ none. let never : ⊥ = omega arith in never) in
-    let ends : (in_range t (arange_at start step 0) && in_range t (arange_at start step (n - 1))) ≡ true = rw some at h in
-    let both = and_parts (in_range t (arange_at start step 0)) (in_range t (arange_at start step (n - 1))) ends in
-    between (least t) (greatest t) start step k (n - 1) (omega arith) (in_range_true t (arange_at start step 0) both.0) (in_range_true t (arange_at start step (n - 1)) both.1)
+    let ends : (in_range t (arange_element start step 0) && in_range t (arange_element start step (n - 1))) ≡ true = rw some at h in
+    let both = and_parts (in_range t (arange_element start step 0)) (in_range t (arange_element start step (n - 1))) ends in
+    between (least t) (greatest t) start step k (n - 1) (omega arith) (in_range_true t (arange_element start step 0) both.0) (in_range_true t (arange_element start step (n - 1)) both.1)
 
 inside_one : (n : ℕ) (idx : List ℕ) → is_inside (n ∷ []) idx ≡ true → slice_index idx 0 < n
 inside_one n [] h = cc

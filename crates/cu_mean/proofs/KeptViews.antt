@@ -1,5 +1,5 @@
 -- A view has the type of its array.
-use Rattle.std.proofs.Common.{◌≡◌, ℕ, ◌+◌, ◌==◌, ◌&&◌, nat_le, ℤ, Bool, true, false, List, length, Option, Some, None, Result, Ok, ap}
+use Rattle.std.proofs.Common.{◌≡◌, ℕ, ◌==◌, ◌&&◌, nat_le, ℤ, Bool, true, false, List, length, Option, Some, None, Result, Ok, ap}
 use Rattle.cu_result.specs.Results.{◌>>=◌, check}
 use Rattle.cu_result.proofs.ResultSteps.{check_step_ok}
 use Rattle.cu_num.specs.declared.types.Dtype.{Dtype}
@@ -12,7 +12,7 @@ use Rattle.cu_node.specs.declared.info.NodeInfo.{NodeInfo}
 use Rattle.cu_node.proofs.KeptLimits.{given}
 use Rattle.cu_node.specs.declared.index_item.IndexItem.{IndexItem}
 use Rattle.cu_typing_view.specs.Entries.{untaken, first_wrong, index_shape, index_chunk, unless_wrong, typed_index}
-use Rattle.cu_typing_view.specs.Rearranged.{typed_same, typed_triangle, is_permutation, permuted, typed_permute, are_axes, typed_flip, typed_roll}
+use Rattle.cu_typing_view.specs.Rearranged.{typed_same, typed_triangle, is_permutation, permuted_sizes, typed_permute, are_axes, typed_flip, typed_roll}
 use Rattle.cu_typing_view.specs.Reshaped.{stretches_to, typed_broadcast, typed_rechunk}
 use Rattle.cu_typing_view.proofs.NewShapes.{new_shape_type}
 use Rattle.cu_expr.specs.Views.{typed_view}
@@ -45,7 +45,7 @@ pub checked_type : (b : Bool) (e : NodeFault) (t : Dtype) (shape chunk : List �
 checked_type b e t shape chunk i h = limited_type t shape chunk i (check_step_ok b e (λ _. limited t shape chunk) i h).1
 
 permute_type : (a : NodeInfo) (axes : List ℤ) (i : NodeInfo) → typed_permute a axes ≡ Ok i → i.dtype ≡ a.dtype
-permute_type a axes i h = checked_type (is_permutation (length a.dims) axes) (fault Axis) a.dtype (permuted axes a.dims) (permuted axes a.chunk) i h
+permute_type a axes i h = checked_type (is_permutation (length a.dims) axes) (fault Axis) a.dtype (permuted_sizes axes a.dims) (permuted_sizes axes a.chunk) i h
 
 flip_type : (a : NodeInfo) (axes : Option (List ℤ)) (i : NodeInfo) → typed_flip a axes ≡ Ok i → i.dtype ≡ a.dtype
 flip_type a axes i h = checked_type (are_axes (length a.dims) axes) (fault Axis) a.dtype a.dims a.chunk i h

@@ -70,14 +70,7 @@ go_back infos (Arg.Truth b ∷ args) shape idx e h = All-cons (GoesBack infos id
 
 sum_type : (d : Dtype) → IsInteger (fold_type fold.Sum d)
 sum_type t.Bool = tt
-sum_type t.Int8 = tt
-sum_type t.Int16 = tt
-sum_type t.Int32 = tt
-sum_type t.Int64 = tt
-sum_type t.Uint8 = tt
-sum_type t.Uint16 = tt
-sum_type t.Uint32 = tt
-sum_type t.Uint64 = tt
+sum_type d = tt
 
 pub reduced_type : (kind : FoldKind) (axes : Option (List ℤ)) (keepdims : Bool) (i r : NodeInfo) → typed_reduction kind axes keepdims i ≡ Ok r → r.dtype ≡ fold_type kind i.dtype
 reduced_type kind axes keepdims i r h = let p = reduction_passed (fold_rule kind i.dtype) axes keepdims i r h in ap (λ (j : NodeInfo). j.dtype) p.1.array

@@ -18,7 +18,7 @@ use Rattle.cu_node.specs.declared.element_op.ElementOp.{ElementOp}
 use Rattle.cu_node.specs.declared.literal.Literal.{Literal}
 use Rattle.cu_node.specs.declared.literal.Literal.TheVariants.{Int, Truth}
 use Rattle.cu_node.specs.declared.info.NodeInfo.{NodeInfo}
-use Rattle.cu_meaning.specs.Typed.{type_at}
+use Rattle.cu_meaning.specs.Typed.{type_of_node}
 use Rattle.cu_typing.specs.Types.{accepts_arguments, met_type, pair_type, shared_type, result_type, typed_elements}
 use Rattle.cu_typing.specs.declared.argument.Argument.{Argument}
 use Rattle.cu_expr.specs.Typing.{argument_of}
@@ -52,26 +52,20 @@ promoted a b s h = need_ok (promotion a b) (fault Promote) s h
 -- ---- the operands
 
 pub first_fits : (infos : List NodeInfo) (a b : Arg) (s : Dtype) (x : ℤ) → pair_type (argument_of infos a) (argument_of infos b) ≡ Ok s → MayBe infos a x → InRange s x
-first_fits infos (Arg.Node n) (Arg.Node m) s x h r = first_in_range _ _ s (promoted (type_at infos n) (type_at infos m) s h) x r
-first_fits infos (Arg.Node n) (Arg.Int z) s x h r = array_met (type_at infos n) s (Int z) x h r
-first_fits infos (Arg.Node n) (Arg.Truth b) s x h r = array_met (type_at infos n) s (Truth b) x h r
-first_fits infos (Arg.Int z) (Arg.Node m) s x h r = integer_met (type_at infos m) s z x h r
-first_fits infos (Arg.Truth b) (Arg.Node m) s x h r = truth_met (type_at infos m) s b x h r
-first_fits infos (Arg.Int z) (Arg.Int y) s x h r = cc
-first_fits infos (Arg.Int z) (Arg.Truth b) s x h r = cc
-first_fits infos (Arg.Truth b) (Arg.Int y) s x h r = cc
-first_fits infos (Arg.Truth b) (Arg.Truth d) s x h r = cc
+first_fits infos (Arg.Node n) (Arg.Node m) s x h r = first_in_range _ _ s (promoted (type_of_node infos n) (type_of_node infos m) s h) x r
+first_fits infos (Arg.Node n) (Arg.Int z) s x h r = array_met (type_of_node infos n) s (Int z) x h r
+first_fits infos (Arg.Node n) (Arg.Truth b) s x h r = array_met (type_of_node infos n) s (Truth b) x h r
+first_fits infos (Arg.Int z) (Arg.Node m) s x h r = integer_met (type_of_node infos m) s z x h r
+first_fits infos (Arg.Truth b) (Arg.Node m) s x h r = truth_met (type_of_node infos m) s b x h r
+first_fits infos a b s x h r = cc
 
 pub second_fits : (infos : List NodeInfo) (a b : Arg) (s : Dtype) (y : ℤ) → pair_type (argument_of infos a) (argument_of infos b) ≡ Ok s → MayBe infos b y → InRange s y
-second_fits infos (Arg.Node n) (Arg.Node m) s y h r = second_in_range _ _ s (promoted (type_at infos n) (type_at infos m) s h) y r
-second_fits infos (Arg.Node n) (Arg.Int z) s y h r = integer_met (type_at infos n) s z y h r
-second_fits infos (Arg.Node n) (Arg.Truth b) s y h r = truth_met (type_at infos n) s b y h r
-second_fits infos (Arg.Int z) (Arg.Node m) s y h r = array_met (type_at infos m) s (Int z) y h r
-second_fits infos (Arg.Truth b) (Arg.Node m) s y h r = array_met (type_at infos m) s (Truth b) y h r
-second_fits infos (Arg.Int z) (Arg.Int x) s y h r = cc
-second_fits infos (Arg.Int z) (Arg.Truth b) s y h r = cc
-second_fits infos (Arg.Truth b) (Arg.Int x) s y h r = cc
-second_fits infos (Arg.Truth b) (Arg.Truth d) s y h r = cc
+second_fits infos (Arg.Node n) (Arg.Node m) s y h r = second_in_range _ _ s (promoted (type_of_node infos n) (type_of_node infos m) s h) y r
+second_fits infos (Arg.Node n) (Arg.Int z) s y h r = integer_met (type_of_node infos n) s z y h r
+second_fits infos (Arg.Node n) (Arg.Truth b) s y h r = truth_met (type_of_node infos n) s b y h r
+second_fits infos (Arg.Int z) (Arg.Node m) s y h r = array_met (type_of_node infos m) s (Int z) y h r
+second_fits infos (Arg.Truth b) (Arg.Node m) s y h r = array_met (type_of_node infos m) s (Truth b) y h r
+second_fits infos a b s y h r = cc
 
 -- ---- the value is that by the result's type
 

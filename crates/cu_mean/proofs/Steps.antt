@@ -73,10 +73,7 @@ sum_of_wrapped t x s i =
 pub wrapped_kept : (kind : FoldKind) (t : Dtype) (xs : List ℤ) → wrapped t (kept_of kind t xs) ≡ wrapped t (fold_of kind xs)
 wrapped_kept fold.Sum t xs = wrapped-wrapped t _
 wrapped_kept fold.Prod t xs = wrapped-wrapped t _
-wrapped_kept fold.Min t xs = refl
-wrapped_kept fold.Max t xs = refl
-wrapped_kept fold.Any t xs = refl
-wrapped_kept fold.All t xs = refl
+wrapped_kept kind t xs = refl
 
 -- ---- indices inside
 

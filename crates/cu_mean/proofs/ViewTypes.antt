@@ -1,10 +1,10 @@
 -- What the types of views have to do with those of their arguments.
-use Rattle.std.proofs.Common.{◌≡◌, ◌+◌, ◌*◌, ◌-◌, ◌<◌, ◌≤◌, ◌==◌, zero, suc, ℕ, ℤ, pos, negsuc, List, [], ◌∷◌, ◌++◌, Bool, true, false, length, take, drop, Some, None, Ok, refl, sym, ap, ◌∙◌, arith}
-use Rattle.std.specs.Prelude.{insert, slice_set, nat_lt, nat_le, slice_index, sum_by, not, ◌||◌, ◌&&◌, int_lt, count_by, if◌then◌else◌}
+use Rattle.std.proofs.Common.{◌≡◌, ◌+◌, ◌-◌, ◌<◌, ◌≤◌, ◌==◌, zero, suc, ℕ, ℤ, pos, negsuc, List, [], ◌∷◌, Bool, true, false, length, Some, None, Ok, refl, ap, ◌∙◌, arith}
+use Rattle.std.specs.Prelude.{insert, slice_set, nat_lt, nat_le, slice_index, sum_by, ◌&&◌, if◌then◌else◌}
 use Rattle.std.specs.List.{list_all}
 use Rattle.std.proofs.lemmas.Bool.{and_parts, eqb-true, leb-true, ltb-true}
 use Rattle.std.proofs.Math.ListN.{length-set}
-use Rattle.cu_result.specs.Results.{◌>>=◌, check, need}
+use Rattle.cu_result.specs.Results.{◌>>=◌, need}
 use Rattle.cu_result.proofs.ResultSteps.{check_step_ok, need_step_ok}
 use Rattle.cu_num.specs.declared.types.Dtype.{Dtype}
 use Rattle.cu_node.specs.Axes.{axis_of}
@@ -15,7 +15,7 @@ use Rattle.cu_node.specs.declared.faults.FaultCode.TheVariants.{Axis, Shape, Pro
 use Rattle.cu_node.specs.declared.info.NodeInfo.{NodeInfo}
 use Rattle.cu_node.proofs.KeptLimits.{given}
 use Rattle.cu_typing_view.specs.Pieces.{promoted, same_shape, same_off, concat_along, typed_concat, stack_along, typed_stack}
-use Rattle.cu_typing_view.specs.Rearranged.{is_permutation, permuted, typed_permute}
+use Rattle.cu_typing_view.specs.Rearranged.{is_permutation, permuted_sizes, typed_permute}
 use Rattle.cu_typing_view.specs.Reshaped.{stretches_to, typed_broadcast}
 
 limited_shape : (t : Dtype) (shape chunk : List ℕ) (i : NodeInfo) → limited t shape chunk ≡ Ok i → i.dims ≡ shape
@@ -25,7 +25,7 @@ limited_shape t shape chunk i h = ap (λ (j : NodeInfo). j.dims) (given true t s
 
 pub permuted_axes : (a : NodeInfo) (axes : List ℤ) (i : NodeInfo) → typed_permute a axes ≡ Ok i → length axes ≡ length a.dims
 permuted_axes a axes i h =
-    let p = check_step_ok (is_permutation (length a.dims) axes) (fault Axis) (λ _. limited a.dtype (permuted axes a.dims) (permuted axes a.chunk)) i h in
+    let p = check_step_ok (is_permutation (length a.dims) axes) (fault Axis) (λ _. limited a.dtype (permuted_sizes axes a.dims) (permuted_sizes axes a.chunk)) i h in
     eqb-true _ _ (and_parts _ _ p.0).0
 
 -- ---- ranks

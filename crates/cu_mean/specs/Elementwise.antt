@@ -4,17 +4,17 @@ use Rattle.cu_num.specs.Dtype.{InRange}
 use Rattle.cu_num.specs.Scalar.{truth_number}
 use Rattle.cu_form.specs.declared.args.Arg.{Arg}
 use Rattle.cu_node.specs.declared.info.NodeInfo.{NodeInfo}
-use Rattle.cu_meaning.specs.Argument.{shape_at}
-use Rattle.cu_meaning.specs.Typed.{type_at}
+use Rattle.cu_meaning.specs.Argument.{shape_of_node}
+use Rattle.cu_meaning.specs.Typed.{type_of_node}
 
 -- an array among the arguments has at most as many axes as the index
 abbrev pub GoesBack : List NodeInfo → List ℕ → Arg → Type 0
-GoesBack infos idx (Arg.Node n) = length (shape_at infos n) ≤ length idx
+GoesBack infos idx (Arg.Node n) = length (shape_of_node infos n) ≤ length idx
 GoesBack infos idx (Arg.Int x) = Unit {0}
 GoesBack infos idx (Arg.Truth b) = Unit {0}
 
 -- x is a number that the argument may have
 abbrev pub MayBe : List NodeInfo → Arg → ℤ → Type 0
-MayBe infos (Arg.Node n) x = InRange (type_at infos n) x
+MayBe infos (Arg.Node n) x = InRange (type_of_node infos n) x
 MayBe infos (Arg.Int z) x = x ≡ z
 MayBe infos (Arg.Truth b) x = x ≡ truth_number b

@@ -10,8 +10,8 @@ use Rattle.cu_meaning.specs.Argument.{NodeElements}
 use Rattle.cu_meaning.specs.Meaning.{meaning_of}
 use Rattle.cu_mean.specs.Node.{IsElement}
 use Rattle.cu_mean.specs.Plain.{PlainArray}
-use Rattle.cu_mean.specs.Reading.{HasInfo, found_at}
-use Rattle.cu_mean.specs.Whole.{inputs_before, AreInputNodes, HoldsElements, IsTyped}
+use Rattle.cu_mean.specs.Reading.{HasTypeAndShape, element_or_zero}
+use Rattle.cu_mean.specs.Whole.{inputs_before, AreInputNodes, HoldsElements, AreTypes}
 
 -- ---- one node
 
@@ -25,14 +25,14 @@ abbrev pub KeepType : Form → List NodeInfo → NodeInfo → List PlainArray �
 KeepType form infos info plains = (cells : List ℤ) → HasCells form infos info plains (product info.dims) cells → All (InRange info.dtype) cells
 
 -- the array has the node's type and shape, and its elements
-pub record IsComputed (form : Form) (infos : List NodeInfo) (info : NodeInfo) (plains : List PlainArray) (p : PlainArray) : Type 0 where
-  pub same : HasInfo info p
+pub record IsEvaluated (form : Form) (infos : List NodeInfo) (info : NodeInfo) (plains : List PlainArray) (p : PlainArray) : Type 0 where
+  pub same : HasTypeAndShape info p
   pub cells : HasCells form infos info plains (product info.dims) p.cells
 
 -- the node's array was added
 pub record AddsComputed (form : Form) (infos : List NodeInfo) (info : NodeInfo) (old new : List PlainArray) : Type 0 where
   pub plain : PlainArray
-  pub computed : IsComputed form infos info old plain
+  pub computed : IsEvaluated form infos info old plain
   pub added : new ≡ old ++ plain ∷ []
 
 -- the first of the inputs that are left was moved
@@ -45,12 +45,12 @@ pub record MovesInput (rest plains new_rest new_plains : List PlainArray) : Type
 
 -- the elements of the input nodes, by the nodes' numbers
 abbrev pub input_elements : Expression → List PlainArray → NodeElements
-input_elements e inputs k idx = found_at (slice_get inputs (inputs_before e k)) idx
+input_elements e inputs k idx = element_or_zero (slice_get inputs (inputs_before e k)) idx
 
 -- an expression with its types, and an array for each input node
 pub record IsEvaluation (e : Expression) (infos : List NodeInfo) (inputs : List PlainArray) : Type 0 where
   pub form : IsExpression e
-  pub types : IsTyped e infos
+  pub types : AreTypes e infos
   pub kept : All IsInfo infos
   pub arrays : AreInputNodes e infos inputs
 

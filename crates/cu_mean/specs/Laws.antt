@@ -6,11 +6,11 @@ use Rattle.cu_form.specs.declared.expr.Node.{Node}
 use Rattle.cu_form.specs.declared.form.Form.{Form}
 use Rattle.cu_node.specs.declared.info.NodeInfo.{NodeInfo}
 use Rattle.cu_meaning.specs.Argument.{NodeElements}
-use Rattle.cu_meaning.specs.Typed.{type_at}
+use Rattle.cu_meaning.specs.Typed.{type_of_node}
 
 -- those of node k, where it is an input
 abbrev pub FitsInput : List NodeInfo → NodeElements → ℕ → Form → Type 0
-FitsInput infos env k (Form.Input name) = (idx : List ℕ) → InRange (type_at infos k) (env k idx)
+FitsInput infos env k (Form.Input name) = (idx : List ℕ) → InRange (type_of_node infos k) (env k idx)
 FitsInput infos env k form = Unit {0}
 
 -- those of each input

@@ -8,7 +8,7 @@ use Rattle.cu_meaning.specs.Argument.{NodeElements}
 use Rattle.cu_meaning.specs.Rule.{rule_of}
 use Rattle.cu_expr.specs.Typing.{told_of, typed_form}
 use Rattle.cu_mean.specs.Plain.{PlainArray}
-use Rattle.cu_mean.specs.Reading.{elements_in, HaveInfos}
+use Rattle.cu_mean.specs.Reading.{elements_in, HaveTypesAndShapes}
 
 -- a node that is an input
 abbrev pub is_input : Form → Bool
@@ -23,7 +23,7 @@ pub record IsReadyNode (form : Form) (infos : List NodeInfo) (info : NodeInfo) (
   pub typed : typed_form no_info form (told_of infos form) ≡ Ok info
   pub kept : All IsInfo infos
   pub own : IsInfo info
-  pub before : HaveInfos infos plains
+  pub before : HaveTypesAndShapes infos plains
 
 -- x is the node's element at the index, whatever number the node has
 abbrev pub IsElement : Form → List NodeInfo → NodeInfo → List PlainArray → List ℕ → ℤ → Type 0

@@ -11,19 +11,19 @@ abbrev pub plain_at : PlainArray → List ℕ → ℤ
 plain_at p idx = if is_inside p.dims idx then get_or p.cells (place_of p.dims idx) (pos 0) else pos 0
 
 -- the same of an array that may not be there
-abbrev pub found_at : Option PlainArray → List ℕ → ℤ
-found_at (Some p) idx = plain_at p idx
-found_at None idx = pos 0
+abbrev pub element_or_zero : Option PlainArray → List ℕ → ℤ
+element_or_zero (Some p) idx = plain_at p idx
+element_or_zero None idx = pos 0
 
 -- the elements of the arrays of a list, by their numbers
 abbrev pub elements_in : List PlainArray → NodeElements
-elements_in plains n idx = found_at (slice_get plains n) idx
+elements_in plains n idx = element_or_zero (slice_get plains n) idx
 
 -- the array has the type and the shape
-pub record HasInfo (i : NodeInfo) (p : PlainArray) : Type 0 where
+pub record HasTypeAndShape (i : NodeInfo) (p : PlainArray) : Type 0 where
   pub dtype : p.dtype ≡ i.dtype
   pub dims : p.dims ≡ i.dims
 
 -- each array has the type and the shape of its number
-abbrev pub HaveInfos : List NodeInfo → List PlainArray → Type 0
-HaveInfos infos plains = (n : ℕ) (p : PlainArray) → slice_get plains n ≡ Some p → HasInfo (info_at infos n) p
+abbrev pub HaveTypesAndShapes : List NodeInfo → List PlainArray → Type 0
+HaveTypesAndShapes infos plains = (n : ℕ) (p : PlainArray) → slice_get plains n ≡ Some p → HasTypeAndShape (info_at infos n) p

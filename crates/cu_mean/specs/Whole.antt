@@ -11,10 +11,10 @@ use Rattle.cu_expr.specs.Typing.{typed}
 use Rattle.cu_expr.specs.declared.inputs.InputInfo.{InputInfo}
 use Rattle.cu_mean.specs.Node.{is_input}
 use Rattle.cu_mean.specs.Plain.{PlainArray, IsPlain}
-use Rattle.cu_mean.specs.Reading.{HasInfo}
+use Rattle.cu_mean.specs.Reading.{HasTypeAndShape}
 
 -- the types are those of the expression over some stored arrays
-pub record IsTyped (e : Expression) (infos : List NodeInfo) : Type 0 where
+pub record AreTypes (e : Expression) (infos : List NodeInfo) : Type 0 where
   pub inputs : List InputInfo
   pub types : typed inputs e ≡ Ok infos
 
@@ -31,7 +31,7 @@ inputs_before e k = count_by is_input_node (take k e.nodes)
 pub record IsInput (i : NodeInfo) (inputs : List PlainArray) (number : ℕ) (p : PlainArray) : Type 0 where
   pub there : slice_get inputs number ≡ Some p
   pub plain : IsPlain p
-  pub info : HasInfo i p
+  pub info : HasTypeAndShape i p
 
 -- there is an array for each input node, in the order of the nodes, of the node's type and shape
 pub record AreInputNodes (e : Expression) (infos : List NodeInfo) (inputs : List PlainArray) : Type 0 where
@@ -42,7 +42,7 @@ pub record AreInputNodes (e : Expression) (infos : List NodeInfo) (inputs : List
 
 -- the array has the type and the shape, and at each place in row-major order the element of the index there
 pub record HoldsElements (i : NodeInfo) (element : List ℕ → ℤ) (p : PlainArray) : Type 0 where
-  pub info : HasInfo i p
+  pub info : HasTypeAndShape i p
   pub count : length p.cells ≡ product i.dims
   pub cells : (place : ℕ) → place < product i.dims → slice_get p.cells place ≡ Some (element (index_at i.dims place))
 

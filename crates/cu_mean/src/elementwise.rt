@@ -6,7 +6,7 @@ ghost use Rattle.cu_meaning.specs.Rule.{function_value};
 ghost use Rattle.cu_typing.specs.Types.{pair_type, typed_elements};
 ghost use Rattle.cu_expr.specs.Typing.{argument_of};
 ghost use Rattle.cu_mean.specs.Elementwise.{GoesBack, MayBe};
-ghost use Rattle.cu_mean.specs.Reading.{elements_in, HaveInfos};
+ghost use Rattle.cu_mean.specs.Reading.{elements_in, HaveTypesAndShapes};
 
 use crate::plain::Plain;
 use crate::reading::stretched;
@@ -18,7 +18,7 @@ use cu_shape::Dims;
 /// An argument's element at an index of the result.
 fn argument(infos: &[NodeInfo], plains: &[Plain], arg: Arg, idx: &Dims) -> i128
     requires rank { GoesBack infos.now idx.now arg }
-    requires infos { HaveInfos infos.now plains.now }
+    requires infos { HaveTypesAndShapes infos.now plains.now }
     ensures value { result ≡ argument_at infos.now (elements_in plains.now) idx.now arg }
     ensures range { MayBe infos.now arg result }
 {
@@ -47,7 +47,7 @@ fn pair_type(infos: &[NodeInfo], x: Arg, y: Arg) -> Dtype
 fn one(f: Fn1, t: Dtype, x: Arg, infos: &[NodeInfo], plains: &[Plain], idx: &Dims) -> i128
     requires typed { typed_elements (ElementOp.One f) (argument_of infos.now x ∷ []) ≡ Ok t }
     requires rank { GoesBack infos.now idx.now x }
-    requires infos { HaveInfos infos.now plains.now }
+    requires infos { HaveTypesAndShapes infos.now plains.now }
     ensures { result ≡ op1 f t (argument_at infos.now (elements_in plains.now) idx.now x) }
 {
     let value = argument(infos, plains, x, idx);
@@ -62,7 +62,7 @@ fn two(f: Fn2, t: Dtype, a: Arg, b: Arg, infos: &[NodeInfo], plains: &[Plain], i
     requires typed { typed_elements (ElementOp.Two f) (argument_of infos.now a ∷ argument_of infos.now b ∷ []) ≡ Ok t }
     requires first { GoesBack infos.now idx.now a }
     requires second { GoesBack infos.now idx.now b }
-    requires infos { HaveInfos infos.now plains.now }
+    requires infos { HaveTypesAndShapes infos.now plains.now }
     ensures { result ≡ op2 f t (argument_at infos.now (elements_in plains.now) idx.now a) (argument_at infos.now (elements_in plains.now) idx.now b) }
 {
     let x = argument(infos, plains, a, idx);
@@ -82,7 +82,7 @@ fn selected(
     requires condition { GoesBack infos.now idx.now condition }
     requires first { GoesBack infos.now idx.now a }
     requires second { GoesBack infos.now idx.now b }
-    requires infos { HaveInfos infos.now plains.now }
+    requires infos { HaveTypesAndShapes infos.now plains.now }
     ensures { result ≡ if is_nonzero (argument_at infos.now (elements_in plains.now) idx.now condition) then argument_at infos.now (elements_in plains.now) idx.now a
         else argument_at infos.now (elements_in plains.now) idx.now b }
 {
@@ -103,7 +103,7 @@ pub(crate) fn function_at(
 ) -> i128
     requires typed { typed_elements op (map (argument_of infos.now) args.now) ≡ Ok t }
     requires ranks { All (GoesBack infos.now idx.now) args.now }
-    requires infos { HaveInfos infos.now plains.now }
+    requires infos { HaveTypesAndShapes infos.now plains.now }
     ensures { result ≡ function_value op t (map (argument_at infos.now (elements_in plains.now) idx.now) args.now) }
 {
     match (op, args) {

@@ -4,10 +4,10 @@ ghost use Rattle.cu_shape.specs.Index.{product};
 ghost use Rattle.cu_form.specs.Expression.{IsExpression};
 ghost use Rattle.cu_node.specs.Info.{IsInfo};
 ghost use Rattle.cu_meaning.specs.Argument.{NodeElements};
-ghost use Rattle.cu_mean.specs.Going.{HasCells, KeepType, IsComputed, AddsComputed, MovesInput, IsGoing, HoldFirst, input_elements};
+ghost use Rattle.cu_mean.specs.Going.{HasCells, KeepType, IsEvaluated, AddsComputed, MovesInput, IsGoing, HoldFirst, input_elements};
 ghost use Rattle.cu_mean.specs.Node.{IsReadyNode};
 ghost use Rattle.cu_mean.specs.Plain.{PlainArray};
-ghost use Rattle.cu_mean.specs.Whole.{IsTyped, AreInputNodes, HoldInputs, HoldMeaning};
+ghost use Rattle.cu_mean.specs.Whole.{AreTypes, AreInputNodes, HoldInputs, HoldMeaning};
 
 use crate::digits::index_at;
 use crate::element::{element_at, is_input};
@@ -76,7 +76,7 @@ fn computed(
 ) -> Result<Plain, AllocError>
     requires ready { IsReadyNode form.now infos.now info.now plains.now }
     requires keeps { KeepType form.now infos.now info.now plains.now }
-    ensures { IfOk result (IsComputed form.now infos.now info.now plains.now) }
+    ensures { IfOk result (IsEvaluated form.now infos.now info.now plains.now) }
 {
     let cells = cells_of(alloc, form, infos, info, plains)?;
     Ok(Plain::make(info.dtype, info.dims, cells))
@@ -132,7 +132,7 @@ fn push_node(
 
 /// What is known of each node.
 fn known(alloc: Global, expr: &Expr, types: &Types) -> Result<Vec<NodeInfo>, AllocError>
-    requires { IsTyped expr.now types.now }
+    requires { AreTypes expr.now types.now }
     ensures infos { IfOk result (λ infos. infos.items ≡ types.now) }
     ensures kept { IfOk result (λ infos. All IsInfo infos.items) }
 {
@@ -151,7 +151,7 @@ fn arrays(
     types: &Types,
     inputs: Plains,
 ) -> Result<Vec<Plain>, AllocError>
-    requires types { IsTyped expr.now types.now }
+    requires types { AreTypes expr.now types.now }
     requires inputs { AreInputNodes expr.now types.now inputs }
     ensures { IfOk result (λ plains. HoldFirst expr.now types.now (input_elements expr.now inputs) (length expr.now.nodes) plains.items) }
 {
@@ -169,7 +169,7 @@ fn arrays(
 /// array for each input node, in the order of the nodes, of the node's type and shape; they become the arrays of these nodes. The time
 /// is linear in the elements that are read, and each element takes 16 bytes.
 pub fn whole(alloc: Global, expr: &Expr, types: &Types, inputs: Plains) -> Result<Plains, NoMemory>
-    requires types { IsTyped expr.now types.now }
+    requires types { AreTypes expr.now types.now }
     requires inputs { AreInputNodes expr.now types.now inputs }
     ensures { (env : NodeElements) → HoldInputs expr.now types.now env inputs → IfOk result (HoldMeaning expr.now types.now env) }
 {

@@ -4,7 +4,7 @@ ghost use Rattle.std.specs.Bool.{OnTrue, OnFalse};
 ghost use Rattle.cu_shape.specs.Slice.{from_end, first_of};
 ghost use Rattle.cu_node.specs.declared.index_item.IndexItem.{IndexItem};
 ghost use Rattle.cu_meaning.specs.Index.{natural};
-ghost use Rattle.cu_meaning.specs.View.{indexed, sliced, takes_axis};
+ghost use Rattle.cu_meaning.specs.View.{indexed, sliced_index, takes_axis};
 ghost use Rattle.cu_mean.specs.Indexing.{read_from, HasStep, IsFound, IsFront, IsOutside, TakesEntry};
 
 use crate::axes::natural;
@@ -84,7 +84,7 @@ fn first_of(start: Option<i64>, stop: Option<i64>, step: i64, n: u64) -> u64
 /// The place that a slice takes at `i` on an axis of size `n`.
 fn slice_at(start: Option<i64>, stop: Option<i64>, step: Option<i64>, n: u64, i: u64) -> i128
     requires { unwrap_or step (pos 1) ≢ pos 0 }
-    ensures { natural result ≡ sliced start stop (unwrap_or step (pos 1)) n i }
+    ensures { natural result ≡ sliced_index start stop (unwrap_or step (pos 1)) n i }
 {
     let step = step.unwrap_or(1);
     step_from(first_of(start, stop, step, n), i, step)

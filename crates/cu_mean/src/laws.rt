@@ -10,7 +10,7 @@ ghost use Rattle.cu_expr.specs.Typing.{typed};
 ghost use Rattle.cu_expr.specs.declared.inputs.InputInfo.{InputInfo};
 ghost use Rattle.cu_meaning.specs.Argument.{NodeElements};
 ghost use Rattle.cu_meaning.specs.Meaning.{meaning_of};
-ghost use Rattle.cu_meaning.specs.Typed.{type_at, KeepsType};
+ghost use Rattle.cu_meaning.specs.Typed.{type_of_node, KeepsType};
 ghost use Rattle.cu_mean.specs.Laws.{FitInputs};
 
 /// The types that typing gives are those that each form keeps, where the elements of the inputs are numbers of their types.
@@ -22,5 +22,5 @@ pub fn keeps_law()
 /// Each element of a typed expression is a number of its node's type, where those of the inputs are.
 pub fn range_law()
     ensures { (inputs : List InputInfo) (e : Expression) (infos : List NodeInfo) (env : NodeElements) (k : ℕ) (idx : List ℕ) → IsExpression e → typed inputs e ≡ Ok infos
-        → All IsInfo infos → FitInputs e infos env → InRange (type_at infos k) (meaning_of e infos env k idx) }
+        → All IsInfo infos → FitInputs e infos env → InRange (type_of_node infos k) (meaning_of e infos env k idx) }
 {}

@@ -9,7 +9,7 @@ ghost use Rattle.cu_meaning.specs.Index.{axis_in};
 ghost use Rattle.cu_meaning.specs.Reduction.{reduced_elements};
 ghost use Rattle.cu_reduce.specs.Places.{best_place};
 ghost use Rattle.cu_pull.specs.Pull.{is_in_triangle};
-ghost use Rattle.cu_meaning.specs.View.{concat_at, flipped, permuted, rolled, same_place, stack_at};
+ghost use Rattle.cu_meaning.specs.View.{concat_at, flipped_index, permuted_index, rolled_index, same_place, stack_at};
 ghost use Rattle.cu_mean.specs.Axes.{axes_from};
 ghost use Rattle.cu_mean.specs.Node.{IsReadyNode, IsElement};
 ghost use Rattle.cu_mean.specs.Reading.{elements_in};
@@ -86,23 +86,29 @@ pub(crate) fn product_at(
     matmul_at(info.dtype, plains, args, &a, &b, idx)
 }
 
+/// The axes along which a place is sought: all of them, or those of these numbers.
+#[derive(Clone, Copy)]
+struct Axes<'a> {
+    all: bool,
+    numbers: &'a [i64],
+}
+
 /// The place of a least or of a greatest element.
 fn place_at(
     least: bool,
     args: &[Arg],
-    all: bool,
-    numbers: &[i64],
+    axes: Axes<'_>,
     keepdims: bool,
     infos: &[NodeInfo],
     plains: &[Plain],
     idx: &Dims,
 ) -> i128
     requires { All IsInfo infos.now }
-    ensures { result ≡ pos (best_place least (reduced_elements (source_at (elements_in plains.now) args.now 0) (axes_from all numbers.now) keepdims (source_shape infos.now args.now 0) idx.now)) }
+    ensures { result ≡ pos (best_place least (reduced_elements (source_at (elements_in plains.now) args.now 0) (axes_from axes.entry.all axes.entry.numbers.now) keepdims (source_shape infos.now args.now 0) idx.now)) }
 {
     let shape = source_dims(infos, args, 0);
-    let start = reduced_start(all, numbers, keepdims, shape.rank(), idx);
-    let sizes = reduced_box(all, numbers, &shape);
+    let start = reduced_start(axes.all, axes.numbers, keepdims, shape.rank(), idx);
+    let sizes = reduced_box(axes.all, axes.numbers, &shape);
     best_place(least, plains, args, &start, &sizes) as i128
 }
 
@@ -120,27 +126,22 @@ pub(crate) fn arg_place_at(
     requires { IsReadyNode (Form.ArgPlace least args.now axis keepdims) infos.now info.now plains.now }
     ensures { IsElement (Form.ArgPlace least args.now axis keepdims) infos.now info.now plains.now idx.now result }
 {
+    let args = args.as_slice();
     match axis {
-        Some(number) => place_at(
-            least,
-            args.as_slice(),
-            false,
-            &[number],
-            keepdims,
-            infos,
-            plains,
-            idx,
-        ),
-        None => place_at(
-            least,
-            args.as_slice(),
-            true,
-            &[],
-            keepdims,
-            infos,
-            plains,
-            idx,
-        ),
+        Some(number) => {
+            let axes = Axes {
+                all: false,
+                numbers: &[number],
+            };
+            place_at(least, args, axes, keepdims, infos, plains, idx)
+        }
+        None => {
+            let axes = Axes {
+                all: true,
+                numbers: &[],
+            };
+            place_at(least, args, axes, keepdims, infos, plains, idx)
+        }
     }
 }
 

@@ -3,7 +3,7 @@ ghost use Rattle.std.specs.Prelude.{◌≡◌, ◌≤◌, ◌^◌, ℤ, List, �
 ghost use Rattle.cu_shape.specs.Index.{product, indices_of};
 ghost use Rattle.cu_meaning.specs.Argument.{source_at};
 ghost use Rattle.cu_reduce.specs.Places.{best_place};
-ghost use Rattle.cu_mean.specs.Places.{IsBest, takes_place};
+ghost use Rattle.cu_mean.specs.Places.{IsBestFrom, takes_place};
 ghost use Rattle.cu_mean.specs.Reading.{elements_in};
 ghost use Rattle.cu_mean.specs.Reductions.{AreApart, IsNone, elements_along};
 
@@ -32,7 +32,7 @@ fn takes_place(least: bool, x: i128, best: i128, last: bool) -> bool
 
 /// The best with one element more in front; `last` says that there are none behind it.
 fn best_with(least: bool, x: i128, place: u64, best: Best, last: bool) -> Best
-    ensures { (xs : List ℤ) → IsBest least (place + 1) xs best → IsNone xs last → IsBest least place (x ∷ xs) result }
+    ensures { (xs : List ℤ) → IsBestFrom least (place + 1) xs best → IsNone xs last → IsBestFrom least place (x ∷ xs) result }
 {
     if takes_place(least, x, best.number, last) {
         Best { number: x, place }

@@ -4,8 +4,8 @@ ghost use Rattle.cu_shape.specs.Index.{back};
 ghost use Rattle.cu_num.specs.Dtype.{InRange};
 ghost use Rattle.cu_node.specs.declared.info.NodeInfo.{NodeInfo};
 ghost use Rattle.cu_meaning.specs.Argument.{argument_at, source_at, source_shape};
-ghost use Rattle.cu_meaning.specs.Typed.{type_at};
-ghost use Rattle.cu_mean.specs.Reading.{plain_at, elements_in, HaveInfos};
+ghost use Rattle.cu_meaning.specs.Typed.{type_of_node};
+ghost use Rattle.cu_mean.specs.Reading.{plain_at, elements_in, HaveTypesAndShapes};
 
 use crate::plain::Plain;
 use cu_form::Arg;
@@ -29,7 +29,7 @@ pub(crate) fn plain_at(plain: &Plain, idx: &Dims) -> i128
 /// The element of the array of a number at an index; 0 where there is none.
 pub(crate) fn element(plains: &[Plain], node: u32, idx: &Dims) -> i128
     ensures value { result ≡ elements_in plains.now node idx.now }
-    ensures range { (infos : List NodeInfo) → HaveInfos infos plains.now → InRange (type_at infos node) result }
+    ensures range { (infos : List NodeInfo) → HaveTypesAndShapes infos plains.now → InRange (type_of_node infos node) result }
 {
     if (node as usize) < plains.len() {
         plain_at(&plains[node as usize], idx)
@@ -68,7 +68,7 @@ pub(crate) fn source_dims(infos: &[NodeInfo], args: &[Arg], number: usize) -> Di
 pub(crate) fn stretched(plains: &[Plain], shape: &Dims, node: u32, idx: &Dims) -> i128
     requires { length shape.now ≤ length idx.now }
     ensures value { result ≡ elements_in plains.now node (back shape.now idx.now) }
-    ensures range { (infos : List NodeInfo) → HaveInfos infos plains.now → InRange (type_at infos node) result }
+    ensures range { (infos : List NodeInfo) → HaveTypesAndShapes infos plains.now → InRange (type_of_node infos node) result }
 {
     element(plains, node, &back(shape, idx))
 }

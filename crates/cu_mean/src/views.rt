@@ -5,7 +5,7 @@ ghost use Rattle.std.specs.Int.{int_rem_euclid};
 ghost use Rattle.std.specs.List.{position_or_len};
 ghost use Rattle.std.specs.Ordering.{int_eq};
 ghost use Rattle.cu_meaning.specs.Index.{axis_in, is_named, natural};
-ghost use Rattle.cu_meaning.specs.View.{flipped, permuted, shift_on, rolled, same_place};
+ghost use Rattle.cu_meaning.specs.View.{flipped_index, permuted_index, shift_on, rolled_index, same_place};
 ghost use Rattle.cu_pull.specs.Pull.{diagonal_of, is_in_triangle};
 
 use crate::axes::{is_named, names, natural};
@@ -50,7 +50,7 @@ fn flipped_on(axes: &Option<Items<i64>>, shape: &Dims, idx: &Dims, axis: u32) ->
 
 /// The index counted from the other end on the axes that are named.
 pub(crate) fn flipped(axes: &Option<Items<i64>>, shape: &Dims, idx: &Dims) -> Dims
-    ensures { result ≡ flipped axes.now shape.now idx.now }
+    ensures { result ≡ flipped_index axes.now shape.now idx.now }
 {
     let mut read = Dims::default();
     for axis in 0..shape.rank() {
@@ -90,7 +90,7 @@ fn permuted_on(axes: &[i64], idx: &Dims, axis: u32) -> u64
 /// The index of the array whose axis `axes[j]` is axis j of the result.
 pub(crate) fn permuted(axes: &[i64], idx: &Dims) -> Dims
     requires { length axes.now ≤ 6 }
-    ensures { result ≡ permuted axes.now idx.now }
+    ensures { result ≡ permuted_index axes.now idx.now }
 {
     let mut read = Dims::default();
     for axis in 0..axes.len() as u32 {
@@ -145,7 +145,7 @@ fn rolled_at(shifts: &[i64], axes: &[i64], shape: &Dims, idx: &Dims, axis: u32) 
 /// The index that comes to this one by the shifts.
 pub(crate) fn rolled(shifts: &[i64], axes: &[i64], shape: &Dims, idx: &Dims) -> Dims
     requires { IsInside shape.now idx.now }
-    ensures { result ≡ rolled shifts.now axes.now shape.now idx.now }
+    ensures { result ≡ rolled_index shifts.now axes.now shape.now idx.now }
 {
     let mut read = Dims::default();
     for axis in 0..shape.rank() {

@@ -12,7 +12,7 @@ use Rattle.cu_form.specs.declared.args.Arg.{Arg}
 use Rattle.cu_form.specs.declared.form.Form.{Form}
 use Rattle.cu_node.specs.Info.{info_at}
 use Rattle.cu_node.specs.declared.info.NodeInfo.{NodeInfo}
-use Rattle.cu_meaning.specs.Argument.{NodeElements, shape_at, argument_at, element_from, shape_from, source_at, source_shape}
+use Rattle.cu_meaning.specs.Argument.{NodeElements, shape_of_node, argument_at, element_from, shape_from, source_at, source_shape}
 use Rattle.cu_meaning.specs.Index.{axis_in}
 use Rattle.cu_meaning.specs.Matmul.{matmul_at}
 use Rattle.cu_meaning.specs.Meaning.{AgreeBelow}
@@ -54,8 +54,8 @@ arguments_agree : (infos : List NodeInfo) (at other : NodeElements) (k : ℕ) (i
     → list_all (is_earlier k) args ≡ true → map (argument_at infos at idx) args ≡ map (argument_at infos other idx) args
 arguments_agree infos at other k idx [] agree earlier = refl
 arguments_agree infos at other k idx (Arg.Node n ∷ args) agree earlier =
-    ap (λ (x : ℤ). x ∷ map (argument_at infos at idx) args) (agree n (back (shape_at infos n) idx) (ltb-true n k (left_true (nat_lt n k) (list_all (is_earlier k) args) earlier)))
-    ∙ ap (λ (xs : List ℤ). other n (back (shape_at infos n) idx) ∷ xs) (arguments_agree infos at other k idx args agree (right_true (nat_lt n k) (list_all (is_earlier k) args) earlier))
+    ap (λ (x : ℤ). x ∷ map (argument_at infos at idx) args) (agree n (back (shape_of_node infos n) idx) (ltb-true n k (left_true (nat_lt n k) (list_all (is_earlier k) args) earlier)))
+    ∙ ap (λ (xs : List ℤ). other n (back (shape_of_node infos n) idx) ∷ xs) (arguments_agree infos at other k idx args agree (right_true (nat_lt n k) (list_all (is_earlier k) args) earlier))
 arguments_agree infos at other k idx (Arg.Int x ∷ args) agree earlier = ap (λ (xs : List ℤ). x ∷ xs) (arguments_agree infos at other k idx args agree earlier)
 arguments_agree infos at other k idx (Arg.Truth b ∷ args) agree earlier = ap (λ (xs : List ℤ). truth_number b ∷ xs) (arguments_agree infos at other k idx args agree earlier)
 
@@ -95,4 +95,4 @@ rule_agrees infos env at other k form idx earlier agree = source_agrees at other
 pub node_agrees : (infos : List NodeInfo) (env at other : NodeElements) (k : ℕ) (form : Form) (idx : List ℕ) → names_earlier k form ≡ true → AgreeBelow k at other
     → node_element infos env at k form idx ≡ node_element infos env other k form idx
 node_agrees infos env at other k form idx earlier agree =
-    ap (λ (x : ℤ). if is_inside (shape_at infos k) idx then x else pos 0) (rule_agrees infos env at other k form idx earlier agree)
+    ap (λ (x : ℤ). if is_inside (shape_of_node infos k) idx then x else pos 0) (rule_agrees infos env at other k form idx earlier agree)

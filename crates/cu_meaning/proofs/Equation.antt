@@ -7,7 +7,7 @@ use Rattle.cu_form.specs.Expression.{Expression, IsExpression}
 use Rattle.cu_form.specs.Form.{names_earlier}
 use Rattle.cu_form.specs.declared.expr.Node.{Node}
 use Rattle.cu_node.specs.declared.info.NodeInfo.{NodeInfo}
-use Rattle.cu_meaning.specs.Argument.{NodeElements, shape_at}
+use Rattle.cu_meaning.specs.Argument.{NodeElements, shape_of_node}
 use Rattle.cu_meaning.specs.Meaning.{with_node, meaning_after, no_elements, meaning_of}
 use Rattle.cu_meaning.specs.Rule.{rule_of, node_element}
 use Rattle.cu_meaning.proofs.Earlier.{node_agrees}
@@ -58,6 +58,6 @@ pub equation : (e : Expression) (infos : List NodeInfo) (env : NodeElements) (k 
 equation e infos env k node idx is h = solved infos env e.nodes 0 no_elements k k node idx (omega arith) h (is.nodes k node h).form.earlier
 
 pub outside : (e : Expression) (infos : List NodeInfo) (env : NodeElements) (k : ℕ) (node : Node) (idx : List ℕ) → IsExpression e → slice_get e.nodes k ≡ Some node
-    → is_inside (shape_at infos k) idx ≡ false → meaning_of e infos env k idx ≡ pos 0
+    → is_inside (shape_of_node infos k) idx ≡ false → meaning_of e infos env k idx ≡ pos 0
 outside e infos env k node idx is h not_inside =
     equation e infos env k node idx is h ∙ ap (λ (b : Bool). if b then rule_of infos env (meaning_of e infos env) k node.form idx else pos 0) not_inside

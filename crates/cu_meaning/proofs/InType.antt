@@ -25,7 +25,7 @@ use Rattle.cu_form.specs.declared.expr.Node.{Node}
 use Rattle.cu_node.specs.declared.element_op.ElementOp.{ElementOp}
 use Rattle.cu_form.specs.declared.form.Form.{Form}
 use Rattle.cu_node.specs.declared.info.NodeInfo.{NodeInfo}
-use Rattle.cu_meaning.specs.Argument.{NodeElements, shape_at, argument_at, element_from, shape_from, source_at, source_shape}
+use Rattle.cu_meaning.specs.Argument.{NodeElements, shape_of_node, argument_at, element_from, shape_from, source_at, source_shape}
 use Rattle.cu_meaning.specs.Index.{axis_in}
 use Rattle.cu_meaning.specs.Meaning.{no_elements, meaning_of}
 use Rattle.cu_meaning.specs.Reduction.{reduced_elements, reduced_box}
@@ -33,7 +33,7 @@ use Rattle.cu_reduce.specs.Folds.{least_of, greatest_of}
 use Rattle.cu_reduce.specs.Places.{best_place}
 use Rattle.cu_reduce.proofs.Folding.{zero_in_range, one_in_range}
 use Rattle.cu_meaning.specs.Rule.{function_value, place_axes, rule_of}
-use Rattle.cu_meaning.specs.Typed.{type_at, FitsType, IsResultType, KeepsType}
+use Rattle.cu_meaning.specs.Typed.{type_of_node, FitsType, IsResultType, KeepsType}
 use Rattle.cu_pull.specs.Pull.{is_in_triangle}
 use Rattle.cu_meaning.specs.View.{concat_at}
 use Rattle.cu_meaning.proofs.Equation.{equation, past}
@@ -54,7 +54,7 @@ either_fits t false x y h k = k
 
 -- the elements of the nodes before number k are numbers of their types
 abbrev FitBelow : List NodeInfo → NodeElements → ℕ → Type 0
-FitBelow infos at k = (n : ℕ) (idx : List ℕ) → n < k → InRange (type_at infos n) (at n idx)
+FitBelow infos at k = (n : ℕ) (idx : List ℕ) → n < k → InRange (type_of_node infos n) (at n idx)
 
 element_fits : (infos : List NodeInfo) (at : NodeElements) (k : ℕ) (t : Dtype) (arg : Arg) (idx : List ℕ) → FitBelow infos at k → is_earlier k arg ≡ true
     → FitsType infos t arg → InRange t (element_from at (Some arg) idx)
@@ -136,28 +136,28 @@ place_fits least element axes keepdims shape idx few =
 
 -- ---- the rule
 
-rule_fits : (infos : List NodeInfo) (env at : NodeElements) (k : ℕ) (form : Form) (idx : List ℕ) → is_inside (shape_at infos k) idx ≡ true → FitBelow infos at k → names_earlier k form ≡ true
-    → KeepsType infos env k form → InRange (type_at infos k) (rule_of infos env at k form idx)
+rule_fits : (infos : List NodeInfo) (env at : NodeElements) (k : ℕ) (form : Form) (idx : List ℕ) → is_inside (shape_of_node infos k) idx ≡ true → FitBelow infos at k → names_earlier k form ≡ true
+    → KeepsType infos env k form → InRange (type_of_node infos k) (rule_of infos env at k form idx)
 rule_fits infos env at k (Form.Input name) idx inside below earlier keeps = keeps idx
-rule_fits infos env at k (Form.Elementwise op args) idx inside below earlier keeps = function_fits infos at k (type_at infos k) op args idx below earlier keeps
+rule_fits infos env at k (Form.Elementwise op args) idx inside below earlier keeps = function_fits infos at k (type_of_node infos k) op args idx below earlier keeps
 rule_fits infos env at k (Form.Full shape dtype value chunk) idx inside below earlier keeps = keeps
 rule_fits infos env at k (Form.Arange start stop step dtype chunk) idx inside below earlier keeps = keeps idx inside
-rule_fits infos env at k (Form.Eye rows cols d dtype chunk) idx inside below earlier keeps = either_fits (type_at infos k) _ (pos 1) (pos 0) (one_in_range (type_at infos k)) (zero_in_range (type_at infos k))
+rule_fits infos env at k (Form.Eye rows cols d dtype chunk) idx inside below earlier keeps = either_fits (type_of_node infos k) _ (pos 1) (pos 0) (one_in_range (type_of_node infos k)) (zero_in_range (type_of_node infos k))
 rule_fits infos env at k (Form.Triangle lower args d) idx inside below earlier keeps =
-    either_fits (type_at infos k) (is_in_triangle lower d idx) _ (pos 0) (source_fits infos at k (type_at infos k) args 0 idx below earlier keeps) (zero_in_range (type_at infos k))
-rule_fits infos env at k (Form.Concat args axis) idx inside below earlier keeps = concat_fits infos at k (type_at infos k) (axis_in (length idx) axis) args idx below earlier keeps
-rule_fits infos env at k (Form.Stack args axis) idx inside below earlier keeps = source_fits infos at k (type_at infos k) args (slice_index idx (axis_in (length idx) axis)) _ below earlier keeps
-rule_fits infos env at k (Form.Reduce kind args axes keepdims) idx inside below earlier keeps = InRange-wrapped (type_at infos k) _
+    either_fits (type_of_node infos k) (is_in_triangle lower d idx) _ (pos 0) (source_fits infos at k (type_of_node infos k) args 0 idx below earlier keeps) (zero_in_range (type_of_node infos k))
+rule_fits infos env at k (Form.Concat args axis) idx inside below earlier keeps = concat_fits infos at k (type_of_node infos k) (axis_in (length idx) axis) args idx below earlier keeps
+rule_fits infos env at k (Form.Stack args axis) idx inside below earlier keeps = source_fits infos at k (type_of_node infos k) args (slice_index idx (axis_in (length idx) axis)) _ below earlier keeps
+rule_fits infos env at k (Form.Reduce kind args axes keepdims) idx inside below earlier keeps = InRange-wrapped (type_of_node infos k) _
 rule_fits infos env at k (Form.ArgPlace least args axis keepdims) idx inside below earlier keeps =
     subst (λ (r : Dtype). InRange r (rule_of infos env at k (Form.ArgPlace least args axis keepdims) idx)) (sym keeps.0)
     (place_fits least (source_at at args 0) (place_axes axis) keepdims (source_shape infos args 0) idx keeps.1)
-rule_fits infos env at k (Form.Matmul args) idx inside below earlier keeps = InRange-wrapped (type_at infos k) _
-rule_fits infos env at k form idx inside below earlier keeps = source_fits infos at k (type_at infos k) (args_of form) 0 _ below earlier keeps
+rule_fits infos env at k (Form.Matmul args) idx inside below earlier keeps = InRange-wrapped (type_of_node infos k) _
+rule_fits infos env at k form idx inside below earlier keeps = source_fits infos at k (type_of_node infos k) (args_of form) 0 _ below earlier keeps
 
-node_fits_by : (infos : List NodeInfo) (env at : NodeElements) (k : ℕ) (form : Form) (idx : List ℕ) (b : Bool) → is_inside (shape_at infos k) idx ≡ b → FitBelow infos at k → names_earlier k form ≡ true
-    → KeepsType infos env k form → InRange (type_at infos k) (if b then rule_of infos env at k form idx else pos 0)
+node_fits_by : (infos : List NodeInfo) (env at : NodeElements) (k : ℕ) (form : Form) (idx : List ℕ) (b : Bool) → is_inside (shape_of_node infos k) idx ≡ b → FitBelow infos at k → names_earlier k form ≡ true
+    → KeepsType infos env k form → InRange (type_of_node infos k) (if b then rule_of infos env at k form idx else pos 0)
 node_fits_by infos env at k form idx true e below earlier keeps = rule_fits infos env at k form idx e below earlier keeps
-node_fits_by infos env at k form idx false e below earlier keeps = zero_in_range (type_at infos k)
+node_fits_by infos env at k form idx false e below earlier keeps = zero_in_range (type_of_node infos k)
 
 -- ---- the meaning
 
@@ -170,17 +170,17 @@ none_past (node ∷ nodes) zero h = cc
 none_past (node ∷ nodes) (suc k) h = omega (arith, none_past nodes k h)
 
 number_fits : (e : Expression) (infos : List NodeInfo) (env : NodeElements) (k : ℕ) (idx : List ℕ) (found : Option Node) → slice_get e.nodes k ≡ found → IsExpression e → KeepTypes e infos env
-    → FitBelow infos (meaning_of e infos env) k → InRange (type_at infos k) (meaning_of e infos env k idx)
+    → FitBelow infos (meaning_of e infos env) k → InRange (type_of_node infos k) (meaning_of e infos env k idx)
 number_fits e infos env k idx (Some node) h is keeps below =
-    subst (InRange (type_at infos k)) (sym (equation e infos env k node idx is h))
-    (node_fits_by infos env (meaning_of e infos env) k node.form idx (is_inside (shape_at infos k) idx) refl below (is.nodes k node h).form.earlier (keeps k node h))
+    subst (InRange (type_of_node infos k)) (sym (equation e infos env k node idx is h))
+    (node_fits_by infos env (meaning_of e infos env) k node.form idx (is_inside (shape_of_node infos k) idx) refl below (is.nodes k node h).form.earlier (keeps k node h))
 number_fits e infos env k idx None h is keeps below =
-    subst (InRange (type_at infos k)) (sym (past infos env e.nodes 0 no_elements k idx (omega (arith, none_past e.nodes k h)))) (zero_in_range (type_at infos k))
+    subst (InRange (type_of_node infos k)) (sym (past infos env e.nodes 0 no_elements k idx (omega (arith, none_past e.nodes k h)))) (zero_in_range (type_of_node infos k))
 
 below_all : (e : Expression) (infos : List NodeInfo) (env : NodeElements) (m : ℕ) → IsExpression e → KeepTypes e infos env → FitBelow infos (meaning_of e infos env) m
 below_all e infos env zero is keeps = λ n idx lt. absurd (omega arith)
 below_all e infos env (suc m) is keeps = λ n idx lt.
     number_fits e infos env n idx (slice_get e.nodes n) refl is keeps (λ j i less. below_all e infos env m is keeps j i (omega arith))
 
-pub meaning_fits : (e : Expression) (infos : List NodeInfo) (env : NodeElements) (k : ℕ) (idx : List ℕ) → IsExpression e → KeepTypes e infos env → InRange (type_at infos k) (meaning_of e infos env k idx)
+pub meaning_fits : (e : Expression) (infos : List NodeInfo) (env : NodeElements) (k : ℕ) (idx : List ℕ) → IsExpression e → KeepTypes e infos env → InRange (type_of_node infos k) (meaning_of e infos env k idx)
 meaning_fits e infos env k idx is keeps = below_all e infos env (suc k) is keeps k idx (omega arith)

@@ -11,12 +11,12 @@ abbrev pub NodeElements : Type 0
 NodeElements = ℕ → List ℕ → ℤ
 
 -- the shape of a node's array
-abbrev pub shape_at : List NodeInfo → ℕ → List ℕ
-shape_at infos k = (info_at infos k).dims
+abbrev pub shape_of_node : List NodeInfo → ℕ → List ℕ
+shape_of_node infos k = (info_at infos k).dims
 
 -- an argument's element at an index of the result: a node's through broadcasting, and a written value everywhere
 abbrev pub argument_at : List NodeInfo → NodeElements → List ℕ → Arg → ℤ
-argument_at infos at idx (Arg.Node n) = at n (back (shape_at infos n) idx)
+argument_at infos at idx (Arg.Node n) = at n (back (shape_of_node infos n) idx)
 argument_at infos at idx (Arg.Int x) = x
 argument_at infos at idx (Arg.Truth b) = truth_number b
 
@@ -27,7 +27,7 @@ element_from at arg idx = pos 0
 
 -- the shape of the node that an argument names; rank 0 where it names none
 abbrev pub shape_from : List NodeInfo → Option Arg → List ℕ
-shape_from infos (Some (Arg.Node n)) = shape_at infos n
+shape_from infos (Some (Arg.Node n)) = shape_of_node infos n
 shape_from infos arg = []
 
 -- the same of argument number j

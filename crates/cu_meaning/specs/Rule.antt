@@ -11,13 +11,13 @@ use Rattle.cu_form.specs.declared.form.Form.{Form}
 use Rattle.cu_node.specs.Info.{info_at}
 use Rattle.cu_node.specs.Literal.{literal_number}
 use Rattle.cu_node.specs.declared.info.NodeInfo.{NodeInfo}
-use Rattle.cu_meaning.specs.Argument.{NodeElements, shape_at, argument_at, source_at, source_shape}
+use Rattle.cu_meaning.specs.Argument.{NodeElements, shape_of_node, argument_at, source_at, source_shape}
 use Rattle.cu_meaning.specs.Index.{axis_in}
 use Rattle.cu_meaning.specs.Matmul.{matmul_at}
 use Rattle.cu_meaning.specs.Reduction.{reduced_elements}
 use Rattle.cu_reduce.specs.Folds.{fold_of}
 use Rattle.cu_reduce.specs.Places.{best_place}
-use Rattle.cu_meaning.specs.View.{arange_at, eye_at, indexed, permuted, same_place, flipped, rolled, concat_at, stack_at}
+use Rattle.cu_meaning.specs.View.{arange_at, eye_at, indexed, permuted_index, same_place, flipped_index, rolled_index, concat_at, stack_at}
 
 -- An elementwise function of its arguments' elements. `t` is the type of the result: comparisons and logical functions do not
 -- depend on the type.
@@ -43,10 +43,10 @@ rule_of infos env at k (Form.Triangle lower args d) idx = if is_in_triangle lowe
 rule_of infos env at k (Form.Index args items) idx = source_at at args 0 (indexed items (source_shape infos args 0) idx)
 rule_of infos env at k (Form.Concat args axis) idx = concat_at infos at (axis_in (length idx) axis) args idx
 rule_of infos env at k (Form.Stack args axis) idx = stack_at at (axis_in (length idx) axis) args idx
-rule_of infos env at k (Form.PermuteDims args axes) idx = source_at at args 0 (permuted axes idx)
-rule_of infos env at k (Form.Reshape args shape) idx = source_at at args 0 (same_place (source_shape infos args 0) (shape_at infos k) idx)
-rule_of infos env at k (Form.Flip args axes) idx = source_at at args 0 (flipped axes (shape_at infos k) idx)
-rule_of infos env at k (Form.Roll args shifts axes) idx = source_at at args 0 (rolled shifts axes (shape_at infos k) idx)
+rule_of infos env at k (Form.PermuteDims args axes) idx = source_at at args 0 (permuted_index axes idx)
+rule_of infos env at k (Form.Reshape args shape) idx = source_at at args 0 (same_place (source_shape infos args 0) (shape_of_node infos k) idx)
+rule_of infos env at k (Form.Flip args axes) idx = source_at at args 0 (flipped_index axes (shape_of_node infos k) idx)
+rule_of infos env at k (Form.Roll args shifts axes) idx = source_at at args 0 (rolled_index shifts axes (shape_of_node infos k) idx)
 rule_of infos env at k (Form.BroadcastTo args shape chunk) idx = source_at at args 0 (back (source_shape infos args 0) idx)
 rule_of infos env at k (Form.Rechunk args chunk) idx = source_at at args 0 idx
 rule_of infos env at k (Form.Reduce kind args axes keepdims) idx =
@@ -58,4 +58,4 @@ rule_of infos env at k (Form.Matmul args) idx =
 
 -- outside the node's shape the element is 0
 abbrev pub node_element : List NodeInfo → NodeElements → NodeElements → ℕ → Form → List ℕ → ℤ
-node_element infos env at k form idx = if is_inside (shape_at infos k) idx then rule_of infos env at k form idx else pos 0
+node_element infos env at k form idx = if is_inside (shape_of_node infos k) idx then rule_of infos env at k form idx else pos 0

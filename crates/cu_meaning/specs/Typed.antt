@@ -12,18 +12,18 @@ use Rattle.cu_form.specs.declared.form.Form.{Form}
 use Rattle.cu_node.specs.Info.{info_at}
 use Rattle.cu_node.specs.Literal.{literal_number}
 use Rattle.cu_node.specs.declared.info.NodeInfo.{NodeInfo}
-use Rattle.cu_meaning.specs.Argument.{NodeElements, shape_at, source_shape}
+use Rattle.cu_meaning.specs.Argument.{NodeElements, shape_of_node, source_shape}
 use Rattle.cu_meaning.specs.Reduction.{reduced_box}
 use Rattle.cu_meaning.specs.Rule.{place_axes}
 use Rattle.cu_meaning.specs.View.{arange_at}
 
 -- the type of a node
-abbrev pub type_at : List NodeInfo → ℕ → Dtype
-type_at infos k = (info_at infos k).dtype
+abbrev pub type_of_node : List NodeInfo → ℕ → Dtype
+type_of_node infos k = (info_at infos k).dtype
 
 -- each number that the argument may have is one of the type
 abbrev pub FitsType : List NodeInfo → Dtype → Arg → Type 0
-FitsType infos t (Arg.Node n) = (x : ℤ) → InRange (type_at infos n) x → InRange t x
+FitsType infos t (Arg.Node n) = (x : ℤ) → InRange (type_of_node infos n) x → InRange t x
 FitsType infos t (Arg.Int x) = InRange t x
 FitsType infos t (Arg.Truth b) = InRange t (truth_number b)
 
@@ -36,12 +36,12 @@ IsResultType infos t (ElementOp.Astype d) args = d ≡ t
 
 -- the form of node k gives numbers of the node's type
 abbrev pub KeepsType : List NodeInfo → NodeElements → ℕ → Form → Type 0
-KeepsType infos env k (Form.Input name) = (idx : List ℕ) → InRange (type_at infos k) (env k idx)
-KeepsType infos env k (Form.Elementwise op args) = IsResultType infos (type_at infos k) op args
-KeepsType infos env k (Form.Full shape dtype value chunk) = InRange (type_at infos k) (literal_number value)
-KeepsType infos env k (Form.Arange start stop step dtype chunk) = (idx : List ℕ) → is_inside (shape_at infos k) idx ≡ true → InRange (type_at infos k) (arange_at start step idx)
+KeepsType infos env k (Form.Input name) = (idx : List ℕ) → InRange (type_of_node infos k) (env k idx)
+KeepsType infos env k (Form.Elementwise op args) = IsResultType infos (type_of_node infos k) op args
+KeepsType infos env k (Form.Full shape dtype value chunk) = InRange (type_of_node infos k) (literal_number value)
+KeepsType infos env k (Form.Arange start stop step dtype chunk) = (idx : List ℕ) → is_inside (shape_of_node infos k) idx ≡ true → InRange (type_of_node infos k) (arange_at start step idx)
 KeepsType infos env k (Form.Eye rows cols d dtype chunk) = Unit {0}
 KeepsType infos env k (Form.Reduce kind args axes keepdims) = Unit {0}
-KeepsType infos env k (Form.ArgPlace least args axis keepdims) = (type_at infos k ≡ Int64) × (product (reduced_box (place_axes axis) (source_shape infos args 0)) ≤ 2 ^ 40)
+KeepsType infos env k (Form.ArgPlace least args axis keepdims) = (type_of_node infos k ≡ Int64) × (product (reduced_box (place_axes axis) (source_shape infos args 0)) ≤ 2 ^ 40)
 KeepsType infos env k (Form.Matmul args) = Unit {0}
-KeepsType infos env k form = All (FitsType infos (type_at infos k)) (args_of form)
+KeepsType infos env k form = All (FitsType infos (type_of_node infos k)) (args_of form)

@@ -32,14 +32,14 @@ takes_axis IndexItem.Ellipsis = false
 takes_axis item = true
 
 -- the index that a slice takes at i on an axis of size n
-abbrev pub sliced : Option ℤ → Option ℤ → ℤ → ℕ → ℕ → ℕ
-sliced start stop step n i = natural (pos (first_of start stop step n) +ℤ pos i *ℤ step)
+abbrev pub sliced_index : Option ℤ → Option ℤ → ℤ → ℕ → ℕ → ℕ
+sliced_index start stop step n i = natural (pos (first_of start stop step n) +ℤ pos i *ℤ step)
 
 -- Entries take the axes of the array in order; `spare` is the count of axes that no entry takes, for which an ellipsis stands. The
 -- axes that are left follow at the end.
 abbrev pub indexed_from : ℕ → List IndexItem → List ℕ → List ℕ → List ℕ
 indexed_from spare (IndexItem.At x ∷ items) (n ∷ shape) idx = natural (from_end x n) ∷ indexed_from spare items shape idx
-indexed_from spare (IndexItem.Slice start stop step ∷ items) (n ∷ shape) (i ∷ idx) = sliced start stop (unwrap_or step (pos 1)) n i ∷ indexed_from spare items shape idx
+indexed_from spare (IndexItem.Slice start stop step ∷ items) (n ∷ shape) (i ∷ idx) = sliced_index start stop (unwrap_or step (pos 1)) n i ∷ indexed_from spare items shape idx
 indexed_from spare (IndexItem.New ∷ items) shape (i ∷ idx) = indexed_from spare items shape idx
 indexed_from spare (IndexItem.Ellipsis ∷ items) shape idx = take spare idx ++ indexed_from spare items (drop spare shape) (drop spare idx)
 indexed_from spare items shape idx = idx
@@ -48,24 +48,24 @@ abbrev pub indexed : List IndexItem → List ℕ → List ℕ → List ℕ
 indexed items shape idx = indexed_from (length shape - count_by takes_axis items) items shape idx
 
 -- axis axes[j] of the array is axis j of the result
-abbrev pub permuted : List ℤ → List ℕ → List ℕ
-permuted axes idx = for_each_axis (length axes) (λ d. slice_index idx (position_or_len (λ axis. int_eq axis (pos d)) axes))
+abbrev pub permuted_index : List ℤ → List ℕ → List ℕ
+permuted_index axes idx = for_each_axis (length axes) (λ d. slice_index idx (position_or_len (λ axis. int_eq axis (pos d)) axes))
 
 -- the index at the same place in row-major order
 abbrev pub same_place : List ℕ → List ℕ → List ℕ → List ℕ
 same_place shape result idx = index_at shape (place_of result idx)
 
 -- counted from the other end on the axes that are named
-abbrev pub flipped : Option (List ℤ) → List ℕ → List ℕ → List ℕ
-flipped axes shape idx = for_each_axis (length shape) (λ d. if is_named (length shape) axes d then slice_index shape d - 1 - slice_index idx d else slice_index idx d)
+abbrev pub flipped_index : Option (List ℤ) → List ℕ → List ℕ → List ℕ
+flipped_index axes shape idx = for_each_axis (length shape) (λ d. if is_named (length shape) axes d then slice_index shape d - 1 - slice_index idx d else slice_index idx d)
 
 -- the shift of an axis; 0 where it isn't named
 abbrev pub shift_on : ℕ → List ℤ → List ℤ → ℕ → ℤ
 shift_on rank shifts axes d = slice_index_or shifts (position_or_len (λ axis. axis_in rank axis == d) axes) (pos 0)
 
 -- (i - shift) mod n on each axis
-abbrev pub rolled : List ℤ → List ℤ → List ℕ → List ℕ → List ℕ
-rolled shifts axes shape idx = for_each_axis (length shape) (λ d. natural (int_rem_euclid (pos (slice_index idx d) -ℤ shift_on (length shape) shifts axes d) (pos (slice_index shape d))))
+abbrev pub rolled_index : List ℤ → List ℤ → List ℕ → List ℕ → List ℕ
+rolled_index shifts axes shape idx = for_each_axis (length shape) (λ d. natural (int_rem_euclid (pos (slice_index idx d) -ℤ shift_on (length shape) shifts axes d) (pos (slice_index shape d))))
 
 -- ---- several arrays
 

@@ -6,10 +6,10 @@ ghost use Rattle.cu_form.specs.Form.{names_earlier};
 ghost use Rattle.cu_form.specs.declared.expr.Node.{Node};
 ghost use Rattle.cu_form.specs.declared.form.Form.{Form};
 ghost use Rattle.cu_node.specs.declared.info.NodeInfo.{NodeInfo};
-ghost use Rattle.cu_meaning.specs.Argument.{NodeElements, shape_at};
+ghost use Rattle.cu_meaning.specs.Argument.{NodeElements, shape_of_node};
 ghost use Rattle.cu_meaning.specs.Meaning.{meaning_of, AgreeBelow};
 ghost use Rattle.cu_meaning.specs.Rule.{node_element};
-ghost use Rattle.cu_meaning.specs.Typed.{type_at, KeepsType};
+ghost use Rattle.cu_meaning.specs.Typed.{type_of_node, KeepsType};
 ghost use Rattle.cu_num.specs.Dtype.{InRange};
 
 /// The meaning of each node is the rule of its operator over the meaning itself. The rule depends on the elements of earlier nodes
@@ -20,11 +20,11 @@ pub fn meaning_law()
     ensures earlier { (infos : List NodeInfo) (env at other : NodeElements) (k : ℕ) (form : Form) (idx : List ℕ) → names_earlier k form ≡ true → AgreeBelow k at other
         → node_element infos env at k form idx ≡ node_element infos env other k form idx }
     ensures outside { (e : Expression) (infos : List NodeInfo) (env : NodeElements) (k : ℕ) (node : Node) (idx : List ℕ) → IsExpression e → slice_get e.nodes k ≡ Some node
-        → is_inside (shape_at infos k) idx ≡ false → meaning_of e infos env k idx ≡ pos 0 }
+        → is_inside (shape_of_node infos k) idx ≡ false → meaning_of e infos env k idx ≡ pos 0 }
 {}
 
 /// Each element is a number of its node's type, where the types of the nodes are those that each form keeps.
 pub fn type_law()
     ensures { (e : Expression) (infos : List NodeInfo) (env : NodeElements) (k : ℕ) (idx : List ℕ) → IsExpression e
-        → ((n : ℕ) (node : Node) → slice_get e.nodes n ≡ Some node → KeepsType infos env n node.form) → InRange (type_at infos k) (meaning_of e infos env k idx) }
+        → ((n : ℕ) (node : Node) → slice_get e.nodes n ≡ Some node → KeepsType infos env n node.form) → InRange (type_of_node infos k) (meaning_of e infos env k idx) }
 {}

@@ -4,12 +4,12 @@ use Rattle.std.specs.Str.{bytes_eq}
 use Rattle.std.proofs.lemmas.Slice.Eq.{bytes_eq-Decides}
 use Rattle.cu_store.specs.Held.{IsAmong}
 use Rattle.cu_mem.specs.declared.late.Waiting.{Waiting}
-use Rattle.cu_mem.specs.Late.{is_due, one_less, waiting, writes_of}
+use Rattle.cu_mem.specs.Late.{is_due, one_less, waiting, late_writes}
 use Rattle.cu_mem.proofs.LateLemmas.{landed, waiting_each, waiting_each-waiting}
 
 -- a key holds what it held, or what landed there
 abbrev pub LandedAt : List Waiting → List ℕ → Option (List ℕ) → Option (List ℕ) → Type 0
-LandedAt late key held now = (now ≡ held) ⊎ ((bytes : List ℕ) × IsAmong (writes_of late) key bytes × (now ≡ Some bytes))
+LandedAt late key held now = (now ≡ held) ⊎ ((bytes : List ℕ) × IsAmong (late_writes late) key bytes × (now ≡ Some bytes))
 
 -- where the first lands or not, and then the others
 landed_next : (here : Bool) (w : Waiting) (ws : List Waiting) (key : List ℕ) (held now : Option (List ℕ)) → (here ≡ true → key ≡ w.entry.0) → LandedAt ws key (if here then Some w.entry.1 else held) now → LandedAt (w ∷ ws) key held now
@@ -29,13 +29,13 @@ landed_among (w ∷ ws) key held =
     (landed_among ws key _)
 
 -- what still waits was waiting
-waits_next : (due : Bool) (w : Waiting) (ws : List Waiting) (key bytes : List ℕ) → IsAmong (writes_of (if due then ws else one_less w ∷ ws)) key bytes → ((key ≡ w.entry.0) × (bytes ≡ w.entry.1)) ⊎ IsAmong (writes_of ws) key bytes
+waits_next : (due : Bool) (w : Waiting) (ws : List Waiting) (key bytes : List ℕ) → IsAmong (late_writes (if due then ws else one_less w ∷ ws)) key bytes → ((key ≡ w.entry.0) × (bytes ≡ w.entry.1)) ⊎ IsAmong (late_writes ws) key bytes
 waits_next true w ws key bytes among = inr among
 waits_next false w ws key bytes among = among
 
-each_among : (late : List Waiting) (key bytes : List ℕ) → IsAmong (writes_of (waiting_each late)) key bytes → IsAmong (writes_of late) key bytes
+each_among : (late : List Waiting) (key bytes : List ℕ) → IsAmong (late_writes (waiting_each late)) key bytes → IsAmong (late_writes late) key bytes
 each_among [] key bytes among = among
 each_among (w ∷ ws) key bytes among = elim (waits_next (is_due w) w (waiting_each ws) key bytes among) [ inl own ↦ inl own | inr other ↦ inr (each_among ws key bytes other) ]
 
-pub waiting_among : (late : List Waiting) (key bytes : List ℕ) → IsAmong (writes_of (waiting late)) key bytes → IsAmong (writes_of late) key bytes
+pub waiting_among : (late : List Waiting) (key bytes : List ℕ) → IsAmong (late_writes (waiting late)) key bytes → IsAmong (late_writes late) key bytes
 waiting_among late = rw (← waiting_each-waiting late) (each_among late)

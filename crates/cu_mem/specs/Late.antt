@@ -21,5 +21,5 @@ abbrev pub waiting : List Waiting → List Waiting
 waiting late = map one_less (filter (λ w. not (is_due w)) late)
 
 -- the keys and bytes of the late puts
-abbrev pub writes_of : List Waiting → List Write
-writes_of late = map (λ w. w.entry) late
+abbrev pub late_writes : List Waiting → List Write
+late_writes late = map (λ w. w.entry) late

@@ -9,7 +9,7 @@ use Rattle.cu_store.specs.declared.faults.DepotFault.TheVariants.{Failed, NoMemo
 use Rattle.cu_mem.specs.declared.late.Waiting.{Waiting}
 use Rattle.cu_mem.specs.declared.script.CallKind.{CallKind}
 use Rattle.cu_mem.specs.Entries.{bytes_under}
-use Rattle.cu_mem.specs.Late.{lands_on, waiting, writes_of}
+use Rattle.cu_mem.specs.Late.{lands_on, waiting, late_writes}
 use Rattle.cu_mem.specs.Script.{Progress, next}
 
 pub record Memory : Type 0 where
@@ -28,7 +28,7 @@ contents m = bytes_under m.entries
 
 -- what it shows as a depot
 abbrev pub shown_of : Memory → Shown
-shown_of m = record { held = Some (contents m); late = writes_of m.late; faults = m.faults; calls = m.calls; lacks = true }
+shown_of m = record { held = Some (contents m); late = late_writes m.late; faults = m.faults; calls = m.calls; lacks = true }
 
 -- what is held once the late puts have landed that are due at the next call
 abbrev pub arrived : Memory → Contents

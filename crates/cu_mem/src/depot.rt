@@ -153,7 +153,7 @@ fn copy_front(bytes: &[u8], buf: &mut [u8]) -> u64
 
 impl Depot for MemDepot {
     ghost use Rattle.cu_mem.specs.Memory.{contents, shown_of, OnlyLands, LandsAndSets, Raises, put_late};
-    ghost use Rattle.cu_mem.specs.Late.{waiting, writes_of};
+    ghost use Rattle.cu_mem.specs.Late.{waiting, late_writes};
     ghost use Rattle.cu_mem.specs.Script.{fails, land, next};
 
     ghost shown = { shown_of };
@@ -206,7 +206,7 @@ impl Depot for MemDepot {
         ensures stored { OnOk result (Holds (Some (contents self.new)) key.now bytes.now) }
         ensures step { Steps (PutOf key.now bytes.now) 1 1 (shown_of self.old) (shown_of self.new) }
         ensures refused { OnErr result (LandsLate (shown_of self.old) (shown_of self.new)) }
-        ensures late_unless_failed { AddsOnlyFailed result (writes_of self.old.late) (writes_of self.new.late) }
+        ensures late_unless_failed { AddsOnlyFailed result (late_writes self.old.late) (late_writes self.new.late) }
         ensures cause { Caused 1 (shown_of self.old) (shown_of self.new) result }
 
         ensures failed { result ≡ Err DepotFault.Failed → IsTrue (fails self.old.script CallKind.Put key.now) }

@@ -19,8 +19,8 @@ use Rattle.cu_grid.specs.declared.fault.GridFault.{GridFault}
 use Rattle.cu_zarr.specs.Layout.{ArrayLayout}
 use Rattle.cu_json.specs.Form.{is_text, is_number, is_list_of, as_natural, naturals_after, naturals_of}
 use Rattle.cu_meta.specs.Fault.{Fault}
-use Rattle.cu_meta.specs.Part.{is_part_of, setting}
-use Rattle.cu_meta.specs.Members.{dtype_of, grid_of, encoding_of, within, truth, whole_of, fill_of, endian_of, are_attributes, are_dimension_names, are_no_transformers, are_understood}
+use Rattle.cu_meta.specs.Part.{is_part_of, configuration_member}
+use Rattle.cu_meta.specs.Members.{data_type_of, chunk_grid_of, encoding_of, within, truth, whole_of, fill_of, endian_of, are_attributes, are_dimension_names, are_no_transformers, are_understood}
 use Rattle.cu_meta.specs.Metadata.{layout_in, read_metadata}
 use Rattle.cu_meta.specs.Storable.{IsStorable}
 
@@ -67,13 +67,13 @@ no_fault (Some f) h = cc
 same_grid : (g k : RegularGrid) → Some g ≡ Some k → g ≡ k
 same_grid g k h = cc
 
-grid_accepted : (t : Dtype) (shape part : Data) (g : RegularGrid) → grid_of t shape part ≡ Some g → (length g.shape ≤ 6) × (first_fault g.shape g.chunk (size_of t) ≡ None)
+grid_accepted : (t : Dtype) (shape part : Data) (g : RegularGrid) → chunk_grid_of t shape part ≡ Some g → (length g.shape ≤ 6) × (first_fault g.shape g.chunk (size_of t) ≡ None)
 grid_accepted t shape part g h =
     some_of (naturals_of 6 shape) (λ none. none_is_no_some g (rw none at h)) (λ sizes e.
     let h0 = rw e at h in
     let named = true_of (is_part_of (codes "regular") (codes "chunk_shape") part) (λ other. none_is_no_some g (rw other at h0)) in
     let h1 = rw named at h0 in
-    some_of (setting (codes "chunk_shape") part) (λ none. none_is_no_some g (rw none at h1)) (λ chunks f.
+    some_of (configuration_member (codes "chunk_shape") part) (λ none. none_is_no_some g (rw none at h1)) (λ chunks f.
     let h2 = rw f at h1 in
     some_of (naturals_of 6 chunks) (λ none. none_is_no_some g (rw none at h2)) (λ chunk k.
     let h3 = rw k at h2 in
@@ -145,12 +145,12 @@ endian_accepted t codecs e h one =
     let h3 = rw named at h2 in
     let single = eq-eqb (size_of t) 1 one in
     let h4 = rw single at h3 in
-    little_chosen (is_none (setting (codes "endian") codec)) (is_text (codes "little") (setting (codes "endian") codec)) (is_text (codes "big") (setting (codes "endian") codec)) e h4)
+    little_chosen (is_none (configuration_member (codes "endian") codec)) (is_text (codes "little") (configuration_member (codes "endian") codec)) (is_text (codes "big") (configuration_member (codes "endian") codec)) e h4)
 
 -- ---- the whole
 
 layout_accepted : (t : Dtype) (g : RegularGrid) (l : ArrayLayout) (codecs fill shape grid : Data) → l.dtype ≡ t → l.shape ≡ g.shape → l.chunk ≡ g.chunk
-    → grid_of t shape grid ≡ Some g → fill_of t fill ≡ Some l.fill → endian_of t codecs ≡ Some l.endian → IsStorable l
+    → chunk_grid_of t shape grid ≡ Some g → fill_of t fill ≡ Some l.fill → endian_of t codecs ≡ Some l.endian → IsStorable l
 layout_accepted t g l codecs fill shape grid a b c p q r =
     let fits = grid_accepted t shape grid g p in
     record { axes = rw b fits.0; grid = rw (a, b, c) fits.1; fill = rw a (fill_accepted t fill l.fill q); endian = rw a (endian_accepted t codecs l.endian r) }
@@ -176,9 +176,9 @@ layout_in_accepted d l h =
     let h6 = rw e5 at h5 in
     some_of (get (codes "codecs") d) (λ none. fault_is_no_layout _ l (rw none at h6)) (λ codecs e6.
     let h7 = rw e6 at h6 in
-    some_of (dtype_of data_type) (λ none. fault_is_no_layout _ l (rw none at h7)) (λ t e7.
+    some_of (data_type_of data_type) (λ none. fault_is_no_layout _ l (rw none at h7)) (λ t e7.
     let h8 = rw e7 at h7 in
-    some_of (grid_of t shape grid) (λ none. fault_is_no_layout _ l (rw none at h8)) (λ g e8.
+    some_of (chunk_grid_of t shape grid) (λ none. fault_is_no_layout _ l (rw none at h8)) (λ g e8.
     let h9 = rw e8 at h8 in
     some_of (encoding_of key_encoding) (λ none. fault_is_no_layout _ l (rw none at h9)) (λ encoding e9.
     let h10 = rw e9 at h9 in

@@ -11,7 +11,7 @@ use Rattle.cu_op.specs.declared.layout.Layout.{Layout}
 use Rattle.cu_op.specs.Layout.{layout_view}
 use Rattle.cu_meta.specs.declared.fault.MetaFault.{MetaFault}
 use Rattle.cu_meta.specs.declared.fault.MetaRefused.{MetaRefused}
-use Rattle.cu_meta.specs.Fault.{Fault, json, too_long, fault_view, IfFault}
+use Rattle.cu_meta.specs.Fault.{Fault, json, too_long, fault_view, IfMetaFault}
 use Rattle.cu_meta.specs.Metadata.{read_metadata, layout_in}
 
 longer : (m n : ℕ) → n < m → nat_le m n ≡ false
@@ -45,11 +45,11 @@ answered_ok said (Err f) result is seen = subst (λ r. IfOk r (λ m. said ≡ Ok
 
 pub answered_fault : (said : Result ArrayLayout Fault) (found : Result Layout MetaFault) (result : Result Layout MetaRefused)
     → result ≡ result_map_both (λ l. l) (λ f. MetaRefused.Fault f) found → result_map_both layout_view fault_view found ≡ said
-    → IfErr result (λ e. IfFault e (λ f. said ≡ Err (fault_view f)))
-answered_fault said (Ok l) result is seen = subst (λ r. IfErr r (λ e. IfFault e (λ f. said ≡ Err (fault_view f)))) (sym is) tt
-answered_fault said (Err f) result is seen = subst (λ r. IfErr r (λ e. IfFault e (λ f. said ≡ Err (fault_view f)))) (sym is) (sym seen)
+    → IfErr result (λ e. IfMetaFault e (λ f. said ≡ Err (fault_view f)))
+answered_fault said (Ok l) result is seen = subst (λ r. IfErr r (λ e. IfMetaFault e (λ f. said ≡ Err (fault_view f)))) (sym is) tt
+answered_fault said (Err f) result is seen = subst (λ r. IfErr r (λ e. IfMetaFault e (λ f. said ≡ Err (fault_view f)))) (sym is) (sym seen)
 
 pub refused_for_no_value : (bytes text : List ℕ) (e : MetaRefused) → length bytes ≤ 1048576 → IsUtf8 bytes → text ≡ bytes
-    → IfFault e (λ f. (f ≡ MetaFault.Json) × (read text ≡ None)) → IfFault e (λ f. read_metadata bytes ≡ Err (fault_view f))
+    → IfMetaFault e (λ f. (f ≡ MetaFault.Json) × (read text ≡ None)) → IfMetaFault e (λ f. read_metadata bytes ≡ Err (fault_view f))
 refused_for_no_value bytes text (MetaRefused.Fault f) short utf8 same h = read_no_value bytes short utf8 (ap read (sym same) ∙ h.1) ∙ ap (λ g. Err (fault_view g)) (sym h.0)
 refused_for_no_value bytes text MetaRefused.NoMemory short utf8 same h = tt

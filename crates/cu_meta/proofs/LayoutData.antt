@@ -140,14 +140,7 @@ fill_data_text Uint64 x = integer_text x
 name_text : (t : Dtype) → escape (type_name t) ≡ type_name t
 unfolding escape_byte
 name_text Bool = refl
-name_text Int8 = refl
-name_text Int16 = refl
-name_text Int32 = refl
-name_text Int64 = refl
-name_text Uint8 = refl
-name_text Uint16 = refl
-name_text Uint32 = refl
-name_text Uint64 = refl
+name_text t = refl
 
 whole_text : (chunk encoding codec fill shape : Data) (name : List ℕ)
     → compact_text (whole_data chunk encoding codec name fill shape) ≡ text_of (compact_text chunk) (compact_text encoding) (compact_text codec) (escape name) (compact_text fill) (compact_text shape)

@@ -16,7 +16,7 @@ use Rattle.cu_grid.specs.Limits.{first_fault}
 use Rattle.cu_zarr.specs.Layout.{ArrayLayout}
 use Rattle.cu_num.specs.TypeName.{type_name}
 use Rattle.cu_json.specs.Form.{is_number, is_text, naturals_after, naturals_of}
-use Rattle.cu_meta.specs.Members.{dtype_of, grid_of, encoding_of, fill_of, endian_of, are_understood}
+use Rattle.cu_meta.specs.Members.{data_type_of, chunk_grid_of, encoding_of, fill_of, endian_of, are_understood}
 use Rattle.cu_meta.specs.Metadata.{layout_in}
 use Rattle.cu_meta.specs.Storable.{IsStorable}
 use Rattle.cu_meta.proofs.LayoutData.{numbers, configured, encoding_data, endian_data, codec_data, fill_data, whole_data, layout_data}
@@ -34,19 +34,12 @@ naturals_back front (n ∷ ns) = naturals_back (front ++ n ∷ []) ns ∙ ap Som
 sizes_back : (ns : List ℕ) → length ns ≤ 6 → naturals_of 6 (array (numbers ns)) ≡ Some ns
 sizes_back ns few = rw (numbers_len ns, le-leb (length ns) 6 few) (naturals_back [] ns)
 
-dtype_back : (t : Dtype) → dtype_of (string (type_name t)) ≡ Some t
+dtype_back : (t : Dtype) → data_type_of (string (type_name t)) ≡ Some t
 dtype_back Bool = refl
-dtype_back Int8 = refl
-dtype_back Int16 = refl
-dtype_back Int32 = refl
-dtype_back Int64 = refl
-dtype_back Uint8 = refl
-dtype_back Uint16 = refl
-dtype_back Uint32 = refl
-dtype_back Uint64 = refl
+dtype_back t = refl
 
 grid_back : (t : Dtype) (shape chunk : List ℕ) → length shape ≤ 6 → length chunk ≤ 6 → first_fault shape chunk (size_of t) ≡ None
-    → grid_of t (array (numbers shape)) (configured (codes "chunk_shape") (array (numbers chunk)) (codes "regular")) ≡ Some (record { shape = shape; chunk = chunk })
+    → chunk_grid_of t (array (numbers shape)) (configured (codes "chunk_shape") (array (numbers chunk)) (codes "regular")) ≡ Some (record { shape = shape; chunk = chunk })
 grid_back t shape chunk few few_chunk h = rw (sizes_back shape few, sizes_back chunk few_chunk, h) refl
 
 encoding_back : (e : Encoding) → encoding_of (encoding_data e) ≡ Some e
@@ -111,7 +104,7 @@ whole_members chunk encoding codec fill shape name = record {
 }
 
 layout_of_members : (d chunk_grid encoding codecs data_type fill shape : Data) (l : ArrayLayout) → HasMembers d chunk_grid encoding codecs data_type fill shape
-    → dtype_of data_type ≡ Some l.dtype → grid_of l.dtype shape chunk_grid ≡ Some (record { shape = l.shape; chunk = l.chunk }) → encoding_of encoding ≡ Some l.encoding
+    → data_type_of data_type ≡ Some l.dtype → chunk_grid_of l.dtype shape chunk_grid ≡ Some (record { shape = l.shape; chunk = l.chunk }) → encoding_of encoding ≡ Some l.encoding
     → fill_of l.dtype fill ≡ Some l.fill → endian_of l.dtype codecs ≡ Some l.endian → layout_in d ≡ Ok l
 layout_of_members d chunk_grid encoding codecs data_type fill shape l m a b c e f =
     rw (m.is_object, m.version, m.kind, m.has_shape, m.has_type, m.has_grid, m.has_encoding, m.has_fill, m.has_codecs, a, b, c, e, f, m.no_attributes, m.no_names, m.no_transformers, m.understood) refl

@@ -31,6 +31,6 @@ fault_view MetaFault.TooLong = too_long
 fault_view MetaFault.Other = other
 
 -- where the refusal has a fault, it has the property; want of memory says nothing
-abbrev pub IfFault : MetaRefused → (MetaFault → Type 0) → Type 0
-IfFault (MetaRefused.Fault f) P = P f
-IfFault MetaRefused.NoMemory P = Unit {0}
+abbrev pub IfMetaFault : MetaRefused → (MetaFault → Type 0) → Type 0
+IfMetaFault (MetaRefused.Fault f) P = P f
+IfMetaFault MetaRefused.NoMemory P = Unit {0}

@@ -17,21 +17,21 @@ use Rattle.cu_grid.specs.Grid.{RegularGrid}
 use Rattle.cu_grid.specs.Limits.{first_fault}
 use Rattle.cu_json.specs.Form.{is_text, is_list_of, each_item, each_member, naturals_of}
 use Rattle.cu_result.specs.Options.{◌>>=◌, when}
-use Rattle.cu_meta.specs.Part.{is_part, is_part_of, name_of, setting, sets_nothing}
+use Rattle.cu_meta.specs.Part.{is_part, is_part_of, part_name, configuration_member, sets_nothing}
 
 -- `data_type`: a part that sets nothing
-abbrev pub dtype_of : Data → Option Dtype
-dtype_of d = do
+abbrev pub data_type_of : Data → Option Dtype
+data_type_of d = do
   _ ← when (is_part d && sets_nothing d)
-  name ← name_of d
+  name ← part_name d
   dtype_named name
 
 -- `shape` and `chunk_grid`: a regular grid within the limits
-abbrev pub grid_of : Dtype → Data → Data → Option RegularGrid
-grid_of t shape part = do
+abbrev pub chunk_grid_of : Dtype → Data → Data → Option RegularGrid
+chunk_grid_of t shape part = do
   sizes ← naturals_of 6 shape
   _ ← when (is_part_of (codes "regular") (codes "chunk_shape") part)
-  chunks ← setting (codes "chunk_shape") part
+  chunks ← configuration_member (codes "chunk_shape") part
   chunk ← naturals_of 6 chunks
   _ ← when (is_none (first_fault sizes chunk (size_of t)))
   Some (record { shape = sizes; chunk = chunk })
@@ -47,8 +47,8 @@ separator_of usual value =
 -- `chunk_key_encoding`
 abbrev pub encoding_of : Data → Option Encoding
 encoding_of part =
-    if is_part_of (codes "default") (codes "separator") part then option_map Plain (separator_of Slash (setting (codes "separator") part))
-    else if is_part_of (codes "v2") (codes "separator") part then option_map V2 (separator_of Dot (setting (codes "separator") part))
+    if is_part_of (codes "default") (codes "separator") part then option_map Plain (separator_of Slash (configuration_member (codes "separator") part))
+    else if is_part_of (codes "v2") (codes "separator") part then option_map V2 (separator_of Dot (configuration_member (codes "separator") part))
     else None
 
 -- a number of the type
@@ -93,7 +93,7 @@ endian_of t codecs = do
   _ ← when (is_list_of 1 codecs)
   codec ← at 0 codecs
   _ ← when (is_part_of (codes "bytes") (codes "endian") codec)
-  endian_set t (setting (codes "endian") codec)
+  endian_set t (configuration_member (codes "endian") codec)
 
 -- `attributes`: any object
 abbrev pub are_attributes : Option Data → Test

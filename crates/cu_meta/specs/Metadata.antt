@@ -8,25 +8,25 @@ use Rattle.cu_zarr.specs.Layout.{ArrayLayout}
 use Rattle.cu_result.specs.Results.{◌>>=◌, check}
 use Rattle.cu_json.specs.Form.{is_text, is_number}
 use Rattle.cu_meta.specs.Fault.{Fault, json, format, field, dtype, grid, key_encoding, fill, codec, unknown, too_long}
-use Rattle.cu_meta.specs.Members.{dtype_of, grid_of, encoding_of, fill_of, endian_of, are_attributes, are_dimension_names, are_no_transformers, are_understood}
+use Rattle.cu_meta.specs.Members.{data_type_of, chunk_grid_of, encoding_of, fill_of, endian_of, are_attributes, are_dimension_names, are_no_transformers, are_understood}
 
 -- a member that has to be there
-abbrev pub member_of : List ℕ → Data → Result Data Fault
-member_of name d = ok_or (get name d) (field name)
+abbrev pub required_member : List ℕ → Data → Result Data Fault
+required_member name d = ok_or (get name d) (field name)
 
 -- the layout that a value says
 abbrev pub layout_in : Data → Result ArrayLayout Fault
 layout_in d = do
   members ← ok_or (as_object d) json
   _ ← check (is_number 3 (get (codes "zarr_format") d) && is_text (codes "array") (get (codes "node_type") d)) format
-  shape ← member_of (codes "shape") d
-  data_type ← member_of (codes "data_type") d
-  chunk_grid ← member_of (codes "chunk_grid") d
-  chunk_key_encoding ← member_of (codes "chunk_key_encoding") d
-  fill_value ← member_of (codes "fill_value") d
-  codecs ← member_of (codes "codecs") d
-  t ← ok_or (dtype_of data_type) dtype
-  g ← ok_or (grid_of t shape chunk_grid) grid
+  shape ← required_member (codes "shape") d
+  data_type ← required_member (codes "data_type") d
+  chunk_grid ← required_member (codes "chunk_grid") d
+  chunk_key_encoding ← required_member (codes "chunk_key_encoding") d
+  fill_value ← required_member (codes "fill_value") d
+  codecs ← required_member (codes "codecs") d
+  t ← ok_or (data_type_of data_type) dtype
+  g ← ok_or (chunk_grid_of t shape chunk_grid) grid
   encoding ← ok_or (encoding_of chunk_key_encoding) key_encoding
   x ← ok_or (fill_of t fill_value) fill
   endian ← ok_or (endian_of t codecs) codec

@@ -16,16 +16,16 @@ abbrev pub is_part : Data → Bool
 is_part d = is_some (as_str d) || unwrap_or (option_map (each_member is_part_member) (as_object d)) false
 
 -- the name
-abbrev pub name_of : Data → Option (List ℕ)
-name_of d = option_or (as_str d) (option_and_then as_str (get (codes "name") d))
+abbrev pub part_name : Data → Option (List ℕ)
+part_name d = option_or (as_str d) (option_and_then as_str (get (codes "name") d))
 
 -- the part has this name
 abbrev pub has_name : List ℕ → Data → Bool
-has_name name d = unwrap_or (option_map (λ found. bytes_eq found name) (name_of d)) false
+has_name name d = unwrap_or (option_map (λ found. bytes_eq found name) (part_name d)) false
 
 -- a member of the configuration
-abbrev pub setting : List ℕ → Data → Option Data
-setting k d = option_and_then (get k) (get (codes "configuration") d)
+abbrev pub configuration_member : List ℕ → Data → Option Data
+configuration_member k d = option_and_then (get k) (get (codes "configuration") d)
 
 -- the configuration, where there is one, has no other member than this one
 abbrev pub sets_at_most : List ℕ → Data → Bool

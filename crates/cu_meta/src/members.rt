@@ -4,7 +4,7 @@ ghost use Rattle.serde_json.specs.Find.{as_array};
 ghost use Rattle.serde_json.specs.View.{view, items_view, members_view};
 ghost use Rattle.cu_num.specs.Dtype.{size_of, least, greatest};
 ghost use Rattle.cu_json.specs.Form.{naturals_of, naturals_after, each_item, is_list_of};
-ghost use Rattle.cu_meta.specs.Members.{dtype_of, grid_of, separator_of, encoding_of, within, whole_of, fill_of, endian_set, endian_of, are_attributes, is_text_or_null, are_dimension_names, are_no_transformers, is_known, may_be_passed_over, are_understood};
+ghost use Rattle.cu_meta.specs.Members.{data_type_of, chunk_grid_of, separator_of, encoding_of, within, whole_of, fill_of, endian_set, endian_of, are_attributes, is_text_or_null, are_dimension_names, are_no_transformers, is_known, may_be_passed_over, are_understood};
 
 use crate::part::{is_part_of, is_plain_part, part_name, setting};
 use arrayvec::ArrayVec;
@@ -19,7 +19,7 @@ const MOST_AXES: usize = 6;
 
 /// The type that `data_type` names.
 pub(crate) fn dtype_in(value: &Value) -> Option<Dtype>
-    ensures { result ≡ dtype_of (view value.now) }
+    ensures { result ≡ data_type_of (view value.now) }
 {
     if !is_plain_part(value) {
         return None;
@@ -53,7 +53,7 @@ fn naturals(items: &Vec<Value>) -> Option<Dims>
 
 /// The grid that `shape` and `chunk_grid` say.
 pub(crate) fn grid_in(dtype: Dtype, shape: &Value, part: &Value) -> Option<Grid>
-    ensures { result ≡ grid_of dtype (view shape.now) (view part.now) }
+    ensures { result ≡ chunk_grid_of dtype (view shape.now) (view part.now) }
 {
     let sizes = sizes_in(shape)?;
     if !is_part_of(part, "regular", "chunk_shape") {

@@ -3,7 +3,7 @@ ghost use Rattle.std.specs.Prelude.{◌≡◌, ◌&&◌, codes, option_map, opti
 ghost use Rattle.serde_json.specs.Find.{get, as_object};
 ghost use Rattle.serde_json.specs.View.{view, members_view};
 ghost use Rattle.cu_json.specs.Form.{each_member};
-ghost use Rattle.cu_meta.specs.Part.{is_part_member, is_part, name_of, has_name, setting, sets_at_most, sets_nothing, is_part_of};
+ghost use Rattle.cu_meta.specs.Part.{is_part_member, is_part, part_name, has_name, configuration_member, sets_at_most, sets_nothing, is_part_of};
 
 use cu_json::{each_named, is_object_of};
 use serde_json::{Map, Value};
@@ -39,7 +39,7 @@ fn is_part(value: &Value) -> bool
 
 /// The name of a part.
 pub(crate) fn part_name(value: &Value) -> Option<&str>
-    ensures { option_map (λ s. s.now) result ≡ name_of (view value.now) }
+    ensures { option_map (λ s. s.now) result ≡ part_name (view value.now) }
 {
     match value.as_str() {
         Some(name) => Some(name),
@@ -58,7 +58,7 @@ fn has_name(value: &Value, name: &str) -> bool
 
 /// A member of a part's configuration.
 pub(crate) fn setting<'v>(value: &'v Value, key: &str) -> Option<&'v Value>
-    ensures { option_map (λ v. view v.now) result ≡ setting key.now (view value.now) }
+    ensures { option_map (λ v. view v.now) result ≡ configuration_member key.now (view value.now) }
 {
     value.get("configuration")?.get(key)
 }

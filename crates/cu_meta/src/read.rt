@@ -6,8 +6,8 @@ ghost use Rattle.serde_json.specs.Find.{get};
 ghost use Rattle.serde_json.specs.Read.{read};
 ghost use Rattle.serde_json.specs.View.{view};
 ghost use Rattle.cu_op.specs.Layout.{layout_view};
-ghost use Rattle.cu_meta.specs.Fault.{fault_view, field, IfFault};
-ghost use Rattle.cu_meta.specs.Metadata.{member_of, layout_in, read_metadata};
+ghost use Rattle.cu_meta.specs.Fault.{fault_view, field, IfMetaFault};
+ghost use Rattle.cu_meta.specs.Metadata.{required_member, layout_in, read_metadata};
 
 use crate::fault::{MetaFault, MetaRefused};
 use crate::members::{
@@ -27,7 +27,7 @@ const TEXT_BYTES: usize = 1_048_576;
 /// The layout of a stored array, from the text of its `zarr.json`, or the first fault.
 pub fn read_meta(alloc: Global, bytes: &[u8]) -> Result<Layout, MetaRefused>
     ensures ok { IfOk result (λ l. read_metadata bytes.now ≡ Ok (layout_view l)) }
-    ensures fault { IfErr result (λ e. IfFault e (λ f. read_metadata bytes.now ≡ Err (fault_view f))) }
+    ensures fault { IfErr result (λ e. IfMetaFault e (λ f. read_metadata bytes.now ≡ Err (fault_view f))) }
 {
     if bytes.len() > TEXT_BYTES {
         return Err(MetaRefused::Fault(MetaFault::TooLong));
@@ -51,7 +51,7 @@ fn refused(answer: Result<Layout, MetaFault>) -> Result<Layout, MetaRefused>
 
 fn value_in(alloc: Global, text: &str) -> Result<Value, MetaRefused>
     ensures ok { IfOk result (λ v. read text.now ≡ Some (view v)) }
-    ensures fault { IfErr result (λ e. IfFault e (λ f. (f ≡ MetaFault.Json) × (read text.now ≡ None))) }
+    ensures fault { IfErr result (λ e. IfMetaFault e (λ f. (f ≡ MetaFault.Json) × (read text.now ≡ None))) }
 {
     match Value::from_str(alloc, text) {
         Ok(value) => Ok(value),
@@ -74,7 +74,7 @@ fn fault_of(name: &str) -> MetaFault
 /// A member that has to be there.
 fn member<'v>(value: &'v Value, name: &str) -> Result<&'v Value, MetaFault>
     requires { length name.now ≤ 24 }
-    ensures { result_map_both (λ v. view v.now) fault_view result ≡ member_of name.now (view value.now) }
+    ensures { result_map_both (λ v. view v.now) fault_view result ≡ required_member name.now (view value.now) }
 {
     match value.get(name) {
         Some(found) => Ok(found),

@@ -12,7 +12,7 @@ use Rattle.cu_node.specs.declared.info.NodeInfo.{NodeInfo}
 use Rattle.cu_num.specs.Dtype.{size_of}
 use Rattle.cu_shape.specs.Index.{product}
 use Rattle.cu_typing.specs.Joined.{aligned_chunk}
-use Rattle.cu_need.specs.Chunks.{arrays_in, chunk_bytes, aligned_bytes, is_aligned, greatest}
+use Rattle.cu_need.specs.Chunks.{arrays_in, chunk_bytes, aligned_bytes, is_aligned, largest}
 use Rattle.cu_copy.specs.Copies.{is_misaligned, rechunk_need}
 use Rattle.cu_need.specs.Elementwise.{are_aligned, function_need}
 use Rattle.cu_need.specs.Need.{need_of}
@@ -53,18 +53,18 @@ own_sum result (i ∷ is) h =
     ∙ sym (sum_by-cons chunk_bytes i is)
 
 function_aligned : (reserved instructions : ℕ) (result : NodeInfo) (is : List NodeInfo) → are_aligned result is ≡ true
-    → function_need reserved result instructions is ≡ reserved + greatest (map chunk_bytes (result ∷ is)) + sum_by chunk_bytes is + chunk_bytes result + 512 * instructions
+    → function_need reserved result instructions is ≡ reserved + largest (map chunk_bytes (result ∷ is)) + sum_by chunk_bytes is + chunk_bytes result + 512 * instructions
 function_aligned reserved instructions result is h =
     let sizes = own_greatest result is h in
     let sum = own_sum result is h in
-    let scratch : greatest (chunk_bytes result ∷ map (aligned_bytes result) is) ≡ greatest (map chunk_bytes (result ∷ is)) = ap (λ (ns : List ℕ). greatest (chunk_bytes result ∷ ns)) sizes in
+    let scratch : largest (chunk_bytes result ∷ map (aligned_bytes result) is) ≡ largest (map chunk_bytes (result ∷ is)) = ap (λ (ns : List ℕ). largest (chunk_bytes result ∷ ns)) sizes in
     omega (arith, scratch, sum)
 
 pub aligned_need : (reserved split_every out k : ℕ) (infos : List NodeInfo) (op : ElementOp) (args : List Arg) → are_aligned (info_at infos k) (arrays_in infos args) ≡ true
     → need_of reserved split_every infos out k (Form.Elementwise op args)
-    ≡ reserved + greatest (map chunk_bytes (info_at infos k ∷ arrays_in infos args)) + sum_by chunk_bytes (arrays_in infos args) + chunk_bytes (info_at infos k) + 512 * (length args + 1)
+    ≡ reserved + largest (map chunk_bytes (info_at infos k ∷ arrays_in infos args)) + sum_by chunk_bytes (arrays_in infos args) + chunk_bytes (info_at infos k) + 512 * (length args + 1)
 aligned_need reserved split_every out k infos op args h =
-    let none : greatest (map (rechunk_need reserved) (copies_of infos out k (Form.Elementwise op args))) ≡ 0 =
-    ap (λ (copies : List Rechunk). greatest (map (rechunk_need reserved) copies)) (none_misaligned (info_at infos k) (arrays_in infos args) h) in
+    let none : largest (map (rechunk_need reserved) (copies_of infos out k (Form.Elementwise op args))) ≡ 0 =
+    ap (λ (copies : List Rechunk). largest (map (rechunk_need reserved) copies)) (none_misaligned (info_at infos k) (arrays_in infos args) h) in
     let own = function_aligned reserved (length args + 1) (info_at infos k) (arrays_in infos args) h in
     omega (arith, none, own)

@@ -8,7 +8,7 @@ use Rattle.cu_num.specs.declared.types.Dtype.{Dtype}
 use Rattle.cu_node.specs.Info.{IsInfo}
 use Rattle.cu_node.specs.Limited.{is_chunk_within}
 use Rattle.cu_node.specs.declared.info.NodeInfo.{NodeInfo}
-use Rattle.cu_typing.specs.Accepted.{IsProduct}
+use Rattle.cu_typing.specs.Accepted.{IsAcceptedProduct}
 use Rattle.cu_typing.specs.Joined.{lead_of, fills, aligned_on, aligned_chunk}
 use Rattle.cu_typing.specs.Matmul.{leading, rows, columns, left_inner, leading_array, leading_arrays, leading_chunk, left_aligned, right_aligned}
 use Rattle.cu_typing.proofs.Chunks.{length-joined_chunk, length-aligned_chunk}
@@ -98,7 +98,7 @@ front k xs ys zs e = (λ j. take (e j) (append_assoc xs ys zs j)) ∙ take_front
 
 -- ---- the operands of a product that was typed
 
-module _ (l r made : NodeInfo) (t : Dtype) (lead : List ℕ) (p : IsProduct l r t lead made) where
+module _ (l r made : NodeInfo) (t : Dtype) (lead : List ℕ) (p : IsAcceptedProduct l r t lead made) where
   pub shape_is : made.dims ≡ lead ++ rows l.dims ++ columns r.dims
   shape_is = ap (λ (i : NodeInfo). i.dims) p.array
 

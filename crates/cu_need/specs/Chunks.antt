@@ -23,6 +23,6 @@ abbrev pub is_aligned : NodeInfo → NodeInfo → Bool
 is_aligned result i = bytes_eq i.chunk (aligned_chunk result.dims result.chunk i)
 
 -- the greatest of some numbers; of none it is 0
-abbrev pub greatest : List ℕ → ℕ
-greatest [] = 0
-greatest (x ∷ xs) = max x (greatest xs)
+abbrev pub largest : List ℕ → ℕ
+largest [] = 0
+largest (x ∷ xs) = max x (largest xs)

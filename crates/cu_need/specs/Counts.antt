@@ -31,17 +31,17 @@ own_cells split_every infos k form = own_tasks split_every infos k form
 
 -- With those of the copies, each region of which has at most `most` bytes: a copy has a task for each region, and each task stores all
 -- chunks in its region.
-abbrev pub tasks_of : ℕ → ℕ → List NodeInfo → ℕ → ℕ → Form → ℕ
-tasks_of most split_every infos out k form = sum_by (rechunk_tasks most) (copies_of infos out k form) + own_tasks split_every infos k form
+abbrev pub node_tasks : ℕ → ℕ → List NodeInfo → ℕ → ℕ → Form → ℕ
+node_tasks most split_every infos out k form = sum_by (rechunk_tasks most) (copies_of infos out k form) + own_tasks split_every infos k form
 
-abbrev pub cells_of : ℕ → ℕ → List NodeInfo → ℕ → ℕ → Form → ℕ
-cells_of most split_every infos out k form = sum_by (rechunk_cells most) (copies_of infos out k form) + own_cells split_every infos k form
+abbrev pub node_cells : ℕ → ℕ → List NodeInfo → ℕ → ℕ → Form → ℕ
+node_cells most split_every infos out k form = sum_by (rechunk_cells most) (copies_of infos out k form) + own_cells split_every infos k form
 
 -- the sums over the live nodes
 abbrev pub plan_counts : ℕ → ℕ → Expression → List NodeInfo → PlanCounts
 plan_counts most split_every e infos = record {
-  tasks = sum_by (λ numbered. tasks_of most split_every infos e.out numbered.0 numbered.1.form) (live_nodes e);
-  cells = sum_by (λ numbered. cells_of most split_every infos e.out numbered.0 numbered.1.form) (live_nodes e);
+  tasks = sum_by (λ numbered. node_tasks most split_every infos e.out numbered.0 numbered.1.form) (live_nodes e);
+  cells = sum_by (λ numbered. node_cells most split_every infos e.out numbered.0 numbered.1.form) (live_nodes e);
 }
 
 -- The first limit that a plan exceeds, with the count: 1 is that of 65,536 tasks, 2 that of 262,144 stored chunks.

@@ -3,7 +3,7 @@
 use Rattle.std.specs.Prelude.{ℕ, ◌+◌, ◌*◌, Bool, List, ◌∷◌, map, sum_by}
 use Rattle.std.specs.List.{list_all}
 use Rattle.cu_node.specs.declared.info.NodeInfo.{NodeInfo}
-use Rattle.cu_need.specs.Chunks.{chunk_bytes, aligned_bytes, is_aligned, greatest}
+use Rattle.cu_need.specs.Chunks.{chunk_bytes, aligned_bytes, is_aligned, largest}
 
 -- each argument's array has the chunk to which it is aligned
 abbrev pub are_aligned : NodeInfo → List NodeInfo → Bool
@@ -13,4 +13,4 @@ are_aligned result arrays = list_all (is_aligned result) arrays
 -- instruction, of which there is one for each argument and one for the function.
 abbrev pub function_need : ℕ → NodeInfo → ℕ → List NodeInfo → ℕ
 function_need reserved result instructions arrays =
-    reserved + greatest (chunk_bytes result ∷ map (aligned_bytes result) arrays) + sum_by (aligned_bytes result) arrays + chunk_bytes result + 512 * instructions
+    reserved + largest (chunk_bytes result ∷ map (aligned_bytes result) arrays) + sum_by (aligned_bytes result) arrays + chunk_bytes result + 512 * instructions

@@ -14,7 +14,7 @@ use Rattle.cu_typing.specs.Joined.{arrays_of}
 use Rattle.cu_typing.specs.Matmul.{typed_matmul}
 use Rattle.cu_typing.specs.Reduction.{typed_reduction, typed_arg_place}
 use Rattle.cu_typing.specs.declared.argument.Argument.{Argument}
-use Rattle.cu_need.specs.Chunks.{arrays_in, greatest}
+use Rattle.cu_need.specs.Chunks.{arrays_in, largest}
 use Rattle.cu_copy.specs.Copies.{IsRechunk, rechunk_need}
 use Rattle.cu_need.specs.Elementwise.{function_need}
 use Rattle.cu_need.specs.Live.{is_live, live_nodes}
@@ -37,7 +37,7 @@ own_need reserved split_every infos k form = if is_view form then view_need rese
 -- The bytes that node k needs, where node `out` is stored: the greatest of these and of what each copy needs. An input that isn't stored is
 -- read by the nodes that use it, and needs the reserved bytes alone.
 abbrev pub need_of : ℕ → ℕ → List NodeInfo → ℕ → ℕ → Form → ℕ
-need_of reserved split_every infos out k form = max (own_need reserved split_every infos k form) (greatest (map (rechunk_need reserved) (copies_of infos out k form)))
+need_of reserved split_every infos out k form = max (own_need reserved split_every infos k form) (largest (map (rechunk_need reserved) (copies_of infos out k form)))
 
 -- the first live node that needs more than is allowed, with what it needs
 abbrev pub first_over : ℕ → ℕ → ℕ → Expression → List NodeInfo → Option NodeNeed

@@ -3,7 +3,7 @@
 use Rattle.std.specs.Prelude.{ℕ, ◌+◌, Bool, true, false, List, ◌∷◌, map}
 use Rattle.cu_form.specs.declared.form.Form.{Form}
 use Rattle.cu_node.specs.declared.info.NodeInfo.{NodeInfo}
-use Rattle.cu_need.specs.Chunks.{chunk_bytes, greatest}
+use Rattle.cu_need.specs.Chunks.{chunk_bytes, largest}
 
 -- The form is a view, or an array that is made from nothing: each element of the result is one of a source, or a number that the index
 -- tells. The same elements in other chunks are a copy, and no view.
@@ -18,4 +18,4 @@ is_view form = true
 
 -- the greatest chunk as scratch, and a chunk of the result
 abbrev pub view_need : ℕ → NodeInfo → List NodeInfo → ℕ
-view_need reserved result sources = reserved + greatest (chunk_bytes result ∷ map chunk_bytes sources) + chunk_bytes result
+view_need reserved result sources = reserved + largest (chunk_bytes result ∷ map chunk_bytes sources) + chunk_bytes result

@@ -3,10 +3,10 @@
 ghost use Rattle.std.specs.Prelude.{◌≡◌, ◌≤◌, ◌^◌, true, All};
 ghost use Rattle.cu_form.specs.Form.{takes_args};
 ghost use Rattle.cu_node.specs.Info.{IsInfo};
-ghost use Rattle.cu_need.specs.Counts.{own_tasks, own_cells, tasks_of, cells_of, plan_counts, over_limit};
+ghost use Rattle.cu_need.specs.Counts.{own_tasks, own_cells, node_tasks, node_cells, plan_counts, over_limit};
 ghost use Rattle.cu_need.specs.Need.{ArePartialsWithin, IsNodeWithin, AreWithinLimits};
 
-use crate::copies::{copies_cells, copies_tasks};
+use crate::copies::copies_counts;
 use crate::live::live_marks;
 use crate::operands::copies_of;
 use crate::reduction::{
@@ -71,22 +71,31 @@ fn own_tasks(split_every: u32, infos: &[NodeInfo], number: u32, form: &Form) -> 
     }
 }
 
-/// The chunks that they store.
-fn own_cells(split_every: u32, infos: &[NodeInfo], number: u32, form: &Form) -> u64
+/// What the node with this number adds to the counts besides copies.
+fn own_counts(split_every: u32, infos: &[NodeInfo], number: u32, form: &Form) -> PlanCounts
     requires several { 2 ≤ split_every }
     requires infos { All IsInfo infos.now }
     requires partials { ArePartialsWithin infos.now number form.now }
-    ensures cells { result ≡ own_cells split_every infos.now number form.now }
-    ensures few { result ≤ 2 ^ 38 }
+    ensures tasks { result.tasks ≡ own_tasks split_every infos.now number form.now }
+    ensures cells { result.cells ≡ own_cells split_every infos.now number form.now }
+    ensures few_tasks { result.tasks ≤ 2 ^ 37 }
+    ensures few_cells { result.cells ≤ 2 ^ 38 }
 {
     info_law();
     let tasks = own_tasks(split_every, infos, number, form);
     match form {
         Form::ArgPlace { args, axis, .. } => {
             let source = array_of(infos, args.as_slice(), 0);
-            tasks + value_chunks(split_every, &source, axes_sought(&source, *axis))
+            let values = value_chunks(split_every, &source, axes_sought(&source, *axis));
+            PlanCounts {
+                tasks,
+                cells: tasks + values,
+            }
         }
-        _ => tasks,
+        _ => PlanCounts {
+            tasks,
+            cells: tasks,
+        },
     }
 }
 
@@ -103,15 +112,16 @@ fn counts_of_node(
     requires args { takes_args form.now ≡ true }
     requires infos { All IsInfo infos.now }
     requires within { IsNodeWithin infos.now out number form.now }
-    ensures tasks { result.tasks ≡ tasks_of most split_every infos.now out number form.now }
-    ensures cells { result.cells ≡ cells_of most split_every infos.now out number form.now }
+    ensures tasks { result.tasks ≡ node_tasks most split_every infos.now out number form.now }
+    ensures cells { result.cells ≡ node_cells most split_every infos.now out number form.now }
     ensures few_tasks { result.tasks ≤ 2 ^ 44 }
     ensures few_cells { result.cells ≤ 2 ^ 44 }
 {
-    let copies = copies_of(infos, out, number, form);
+    let copied = copies_counts(most, copies_of(infos, out, number, form).as_slice());
+    let own = own_counts(split_every, infos, number, form);
     PlanCounts {
-        tasks: copies_tasks(most, copies.as_slice()) + own_tasks(split_every, infos, number, form),
-        cells: copies_cells(most, copies.as_slice()) + own_cells(split_every, infos, number, form),
+        tasks: copied.tasks + own.tasks,
+        cells: copied.cells + own.cells,
     }
 }
 

@@ -9,7 +9,7 @@ ghost use Rattle.cu_node.specs.Info.{IsInfo, info_at};
 ghost use Rattle.cu_node.specs.declared.element_op.ElementOp.{ElementOp};
 ghost use Rattle.cu_node.specs.declared.info.NodeInfo.{NodeInfo};
 ghost use Rattle.cu_typing.specs.Joined.{aligned_chunk};
-ghost use Rattle.cu_need.specs.Chunks.{arrays_in, chunk_bytes, greatest};
+ghost use Rattle.cu_need.specs.Chunks.{arrays_in, chunk_bytes, largest};
 ghost use Rattle.cu_copy.specs.Copies.{IsRechunk, greater_chunk, in_chunks, is_misaligned, max_mem, rechunk_need};
 ghost use Rattle.cu_need.specs.Counts.{over_limit};
 ghost use Rattle.cu_need.specs.Elementwise.{are_aligned};
@@ -44,7 +44,7 @@ pub fn aligned_law()
     ensures chunk { (result i : NodeInfo) → (is_misaligned (in_aligned result i) ≡ false) ↔ (i.chunk ≡ aligned_chunk result.dims result.chunk i) }
     ensures need { (reserved split_every out k : ℕ) (infos : List NodeInfo) (op : ElementOp) (args : List Arg) → are_aligned (info_at infos k) (arrays_in infos args) ≡ true
         → need_of reserved split_every infos out k (Form.Elementwise op args)
-        ≡ reserved + greatest (map chunk_bytes (info_at infos k ∷ arrays_in infos args)) + sum_by chunk_bytes (arrays_in infos args) + chunk_bytes (info_at infos k) + 512 * (length args + 1) }
+        ≡ reserved + largest (map chunk_bytes (info_at infos k ∷ arrays_in infos args)) + sum_by chunk_bytes (arrays_in infos args) + chunk_bytes (info_at infos k) + 512 * (length args + 1) }
 {}
 
 /// A rechunk needs the reserved bytes and twice the greater of its chunks, and so does an input that is itself stored, whose chunks are its

@@ -6,7 +6,7 @@ use Rattle.std.proofs.lemmas.Bool.{cases_order}
 use Rattle.std.proofs.Math.Nat.{mod-eq_of_lt, mul-le-mul_right}
 use Rattle.std.specs.List.{between}
 use borrow.Rule.Slice.PartMut.{put_mid}
-use Rattle.cu_num.specs.Dtype.{size_of, width_of, InRange, IsInteger}
+use Rattle.cu_num.specs.Dtype.{size_of, bit_width, InRange, IsInteger}
 use Rattle.cu_num.specs.Wrap.{residue, truth_of, wrapped}
 use Rattle.cu_num.specs.Element.{low_bytes, number_of_bytes, in_order, element_bytes, bytes_at, element_at}
 use Rattle.cu_num.proofs.Bytes.{length-low_bytes, number_of_bytes-low_bytes}
@@ -31,7 +31,7 @@ length-element_bytes e t x =
     length-in_order e (low_bytes (size_of t) (residue (8 * size_of t) (wrapped t x))) ∙ length-low_bytes (size_of t) (residue (8 * size_of t) (wrapped t x))
 
 -- an integer type has eight bits a byte
-pub width_is : (t : Dtype) → IsInteger t → width_of t ≡ 8 * size_of t
+pub width_is : (t : Dtype) → IsInteger t → bit_width t ≡ 8 * size_of t
 width_is Bool h = absurd h
 width_is Int8 h = refl
 width_is Int16 h = refl
@@ -52,7 +52,7 @@ read_integer t h x =
     let whole : residue (8 * size_of t) (wrapped t x) % 2 ^ (8 * size_of t) ≡ residue (8 * size_of t) (wrapped t x) = mod-eq_of_lt (residue-lt (8 * size_of t) (wrapped t x)) in
     ap (λ n. wrapped t (pos n)) whole
     ∙ ap (λ w. wrapped t (pos (residue w (wrapped t x)))) (sym (width_is t h))
-    ∙ wrapped_same t h (pos (residue (width_of t) (wrapped t x))) (wrapped t x) (same-residue (width_of t) (wrapped t x))
+    ∙ wrapped_same t h (pos (residue (bit_width t) (wrapped t x))) (wrapped t x) (same-residue (bit_width t) (wrapped t x))
     ∙ wrapped-wrapped t x
 
 -- the two's complement of a number of the type gives the number back

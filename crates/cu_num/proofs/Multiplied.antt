@@ -5,7 +5,7 @@ use Rattle.std.proofs.lemmas.Bool.{cases_lt}
 use mir.ValLaws.{to_z_pos, to_z-neg}
 use Rattle.std.specs.Int.{w128, int_wrap, int_wrapping_mul, cast_signed}
 use Rattle.std.specs.Prelude.{FitsSigned}
-use Rattle.cu_num.specs.Dtype.{width_of, InRange, IsInteger}
+use Rattle.cu_num.specs.Dtype.{bit_width, InRange, IsInteger}
 use Rattle.cu_num.specs.Wrap.{residue, wrapped}
 use Rattle.cu_num.proofs.Residue.{Same, same_trans, same-residue, same_narrower, residue-lt, is_euclid}
 use Rattle.cu_num.proofs.Wrapped.{wrapped_same, bool_or_integer, width_of-le}
@@ -33,9 +33,9 @@ same-int_wrap z =
 
 integer_multiplied : (t : Dtype) → IsInteger t → (z : ℤ) → wrapped t (int_wrap w128 z) ≡ wrapped t z
 integer_multiplied t h z =
-    let sum : 128 ≡ width_of t + (128 - width_of t) = omega (arith, width_of-le t) in
+    let sum : 128 ≡ bit_width t + (128 - bit_width t) = omega (arith, width_of-le t) in
     let P : ℕ → Type 0 = λ w. Same w (int_wrap w128 z) z in
-    wrapped_same t h (int_wrap w128 z) z (same_narrower (width_of t) (128 - width_of t) (int_wrap w128 z) z (subst P sum (same-int_wrap z)))
+    wrapped_same t h (int_wrap w128 z) z (same_narrower (bit_width t) (128 - bit_width t) (int_wrap w128 z) z (subst P sum (same-int_wrap z)))
 
 bool_multiplied : (x y : ℤ) → InRange Bool x → InRange Bool y → int_wrap w128 (x *ℤ y) ≡ x *ℤ y
 bool_multiplied x y (low, high) (least, most) = int_wrap_fits w128 (x *ℤ y) (fits_signed_mul w128 x y 1 1 (omega (arith, ints)) (omega (arith, ints)) (omega arith))

@@ -5,8 +5,8 @@ use Rattle.std.proofs.lemmas.Bool.{cases_lt, cases_Bool}
 use Rattle.std.proofs.Math.Nat.{pow-le-pow_right, max_comm}
 use borrow.Author.Tests.{eqb-true, ltb-true, ltb-false}
 use Rattle.std.specs.Prelude.{Bool as Test}
-use Rattle.cu_num.specs.Dtype.{size_of, width_of, is_signed, least, greatest, InRange, IsInteger}
-use Rattle.cu_num.specs.Promotion.{Kind, Truth, Signed, Unsigned, kind_of, signed_type, unsigned_type, mixed_type, promotion_of_kinds, promotion, IsRefused}
+use Rattle.cu_num.specs.Dtype.{size_of, bit_width, is_signed, least, greatest, InRange, IsInteger}
+use Rattle.cu_num.specs.Promotion.{Kind, Truth, Signed, Unsigned, kind_of, signed_type, unsigned_type, mixed_type, promotion_of_kinds, promotion, HasNoPromotion}
 use Rattle.cu_num.proofs.Wrapped.{bool_or_integer}
 use Rattle.cu_num.proofs.ElementBytes.{width_is}
 use Rattle.cu_num.specs.declared.types.Dtype.{Dtype}
@@ -14,7 +14,7 @@ use Rattle.cu_num.specs.declared.types.Dtype.TheVariants.{Bool, Int8, Int16, Int
 
 -- ---- a type by its kind
 
-signed_kind : (t : Dtype) → is_signed t ≡ true → kind_of t ≡ Signed (width_of t)
+signed_kind : (t : Dtype) → is_signed t ≡ true → kind_of t ≡ Signed (bit_width t)
 signed_kind Bool e = cc
 signed_kind Int8 e = refl
 signed_kind Int16 e = refl
@@ -25,7 +25,7 @@ signed_kind Uint16 e = cc
 signed_kind Uint32 e = cc
 signed_kind Uint64 e = cc
 
-unsigned_kind : (t : Dtype) → IsInteger t → is_signed t ≡ false → kind_of t ≡ Unsigned (width_of t)
+unsigned_kind : (t : Dtype) → IsInteger t → is_signed t ≡ false → kind_of t ≡ Unsigned (bit_width t)
 unsigned_kind Bool h e = absurd h
 unsigned_kind Int8 h e = cc
 unsigned_kind Int16 h e = cc
@@ -36,7 +36,7 @@ unsigned_kind Uint16 h e = refl
 unsigned_kind Uint32 h e = refl
 unsigned_kind Uint64 h e = refl
 
-signed_back : (t : Dtype) → is_signed t ≡ true → signed_type (width_of t) ≡ Some t
+signed_back : (t : Dtype) → is_signed t ≡ true → signed_type (bit_width t) ≡ Some t
 signed_back Bool e = cc
 signed_back Int8 e = refl
 signed_back Int16 e = refl
@@ -47,7 +47,7 @@ signed_back Uint16 e = cc
 signed_back Uint32 e = cc
 signed_back Uint64 e = cc
 
-unsigned_back : (t : Dtype) → IsInteger t → is_signed t ≡ false → unsigned_type (width_of t) ≡ Some t
+unsigned_back : (t : Dtype) → IsInteger t → is_signed t ≡ false → unsigned_type (bit_width t) ≡ Some t
 unsigned_back Bool h e = absurd h
 unsigned_back Int8 h e = cc
 unsigned_back Int16 h e = cc
@@ -64,29 +64,29 @@ of_kinds : (a b : Dtype) (k l : Kind) → kind_of a ≡ k → kind_of b ≡ l �
 unfolding promotion
 of_kinds a b k l p q = ap (λ x. promotion_of_kinds x (kind_of b)) p ∙ ap (promotion_of_kinds k) q
 
-both_signed : (a b : Dtype) → is_signed a ≡ true → is_signed b ≡ true → promotion a b ≡ signed_type (max (width_of a) (width_of b))
+both_signed : (a b : Dtype) → is_signed a ≡ true → is_signed b ≡ true → promotion a b ≡ signed_type (max (bit_width a) (bit_width b))
 both_signed a b p q = of_kinds a b _ _ (signed_kind a p) (signed_kind b q)
 
-both_unsigned : (a b : Dtype) → IsInteger a → IsInteger b → is_signed a ≡ false → is_signed b ≡ false → promotion a b ≡ unsigned_type (max (width_of a) (width_of b))
+both_unsigned : (a b : Dtype) → IsInteger a → IsInteger b → is_signed a ≡ false → is_signed b ≡ false → promotion a b ≡ unsigned_type (max (bit_width a) (bit_width b))
 both_unsigned a b g h p q = of_kinds a b _ _ (unsigned_kind a g p) (unsigned_kind b h q)
 
-pub signed_first : (a b : Dtype) → IsInteger b → is_signed a ≡ true → is_signed b ≡ false → promotion a b ≡ mixed_type (width_of a) (width_of b)
+pub signed_first : (a b : Dtype) → IsInteger b → is_signed a ≡ true → is_signed b ≡ false → promotion a b ≡ mixed_type (bit_width a) (bit_width b)
 signed_first a b h p q = of_kinds a b _ _ (signed_kind a p) (unsigned_kind b h q)
 
-pub signed_second : (a b : Dtype) → IsInteger a → is_signed a ≡ false → is_signed b ≡ true → promotion a b ≡ mixed_type (width_of b) (width_of a)
+pub signed_second : (a b : Dtype) → IsInteger a → is_signed a ≡ false → is_signed b ≡ true → promotion a b ≡ mixed_type (bit_width b) (bit_width a)
 signed_second a b h p q = of_kinds a b _ _ (unsigned_kind a h p) (signed_kind b q)
 
 -- r is the wider of a and b
 pub wider_signed : (a b r : Dtype) → IsInteger a → IsInteger b → is_signed a ≡ true → is_signed b ≡ true → (size_of b ≤ size_of a → r ≡ a) → (size_of a < size_of b → r ≡ b) → Some r ≡ promotion a b
 wider_signed a b r g h p q first second = ⊎_elim
-    (λ less. ap Some (second less) ∙ sym (both_signed a b p q ∙ ap signed_type (let e : max (width_of a) (width_of b) ≡ width_of b = omega (arith, width_is a g, width_is b h) in e) ∙ signed_back b q))
-    (λ more. ap Some (first more) ∙ sym (both_signed a b p q ∙ ap signed_type (let e : max (width_of a) (width_of b) ≡ width_of a = omega (arith, width_is a g, width_is b h) in e) ∙ signed_back a p))
+    (λ less. ap Some (second less) ∙ sym (both_signed a b p q ∙ ap signed_type (let e : max (bit_width a) (bit_width b) ≡ bit_width b = omega (arith, width_is a g, width_is b h) in e) ∙ signed_back b q))
+    (λ more. ap Some (first more) ∙ sym (both_signed a b p q ∙ ap signed_type (let e : max (bit_width a) (bit_width b) ≡ bit_width a = omega (arith, width_is a g, width_is b h) in e) ∙ signed_back a p))
     (cases_lt (size_of a) (size_of b))
 
 pub wider_unsigned : (a b r : Dtype) → IsInteger a → IsInteger b → is_signed a ≡ false → is_signed b ≡ false → (size_of b ≤ size_of a → r ≡ a) → (size_of a < size_of b → r ≡ b) → Some r ≡ promotion a b
 wider_unsigned a b r g h p q first second = ⊎_elim
-    (λ less. ap Some (second less) ∙ sym (both_unsigned a b g h p q ∙ ap unsigned_type (let e : max (width_of a) (width_of b) ≡ width_of b = omega (arith, width_is a g, width_is b h) in e) ∙ unsigned_back b h q))
-    (λ more. ap Some (first more) ∙ sym (both_unsigned a b g h p q ∙ ap unsigned_type (let e : max (width_of a) (width_of b) ≡ width_of a = omega (arith, width_is a g, width_is b h) in e) ∙ unsigned_back a g p))
+    (λ less. ap Some (second less) ∙ sym (both_unsigned a b g h p q ∙ ap unsigned_type (let e : max (bit_width a) (bit_width b) ≡ bit_width b = omega (arith, width_is a g, width_is b h) in e) ∙ unsigned_back b h q))
+    (λ more. ap Some (first more) ∙ sym (both_unsigned a b g h p q ∙ ap unsigned_type (let e : max (bit_width a) (bit_width b) ≡ bit_width a = omega (arith, width_is a g, width_is b h) in e) ∙ unsigned_back a g p))
     (cases_lt (size_of a) (size_of b))
 
 -- ---- the types that the rule makes
@@ -96,28 +96,28 @@ chosen : (b : Test) (first t : Dtype) (rest : Option Dtype) → cond b (Some fir
 chosen true first t rest e = inl (refl, cc)
 chosen false first t rest e = inr e
 
-signed_made : (w : ℕ) (t : Dtype) → signed_type w ≡ Some t → (is_signed t ≡ true) × (width_of t ≡ w)
+signed_made : (w : ℕ) (t : Dtype) → signed_type w ≡ Some t → (is_signed t ≡ true) × (bit_width t ≡ w)
 signed_made w t e = from Int8 8 refl refl _ e (λ e. from Int16 16 refl refl _ e (λ e. from Int32 32 refl refl _ e (λ e. from Int64 64 refl refl _ e (λ e. cc))))
   where
-    from : (u : Dtype) (n : ℕ) → is_signed u ≡ true → width_of u ≡ n → (rest : Option Dtype) → cond (nat_eq w n) (Some u) rest ≡ Some t → (rest ≡ Some t → (is_signed t ≡ true) × (width_of t ≡ w)) → (is_signed t ≡ true) × (width_of t ≡ w)
+    from : (u : Dtype) (n : ℕ) → is_signed u ≡ true → bit_width u ≡ n → (rest : Option Dtype) → cond (nat_eq w n) (Some u) rest ≡ Some t → (rest ≡ Some t → (is_signed t ≡ true) × (bit_width t ≡ w)) → (is_signed t ≡ true) × (bit_width t ≡ w)
     from u n s m rest e other = ⊎_elim
-        (λ (same, is). let number = eqb-true w n same in (sym (ap is_signed is) ∙ s, sym (ap width_of is) ∙ m ∙ sym number))
+        (λ (same, is). let number = eqb-true w n same in (sym (ap is_signed is) ∙ s, sym (ap bit_width is) ∙ m ∙ sym number))
         other
         (chosen (nat_eq w n) u t rest e)
 
-unsigned_made : (w : ℕ) (t : Dtype) → unsigned_type w ≡ Some t → (IsInteger t × (is_signed t ≡ false)) × (width_of t ≡ w)
+unsigned_made : (w : ℕ) (t : Dtype) → unsigned_type w ≡ Some t → (IsInteger t × (is_signed t ≡ false)) × (bit_width t ≡ w)
 unsigned_made w t e = from Uint8 8 tt refl refl _ e (λ e. from Uint16 16 tt refl refl _ e (λ e. from Uint32 32 tt refl refl _ e (λ e. from Uint64 64 tt refl refl _ e (λ e. cc))))
   where
-    from : (u : Dtype) (n : ℕ) → IsInteger u → is_signed u ≡ false → width_of u ≡ n → (rest : Option Dtype) → cond (nat_eq w n) (Some u) rest ≡ Some t
-        → (rest ≡ Some t → (IsInteger t × (is_signed t ≡ false)) × (width_of t ≡ w)) → (IsInteger t × (is_signed t ≡ false)) × (width_of t ≡ w)
+    from : (u : Dtype) (n : ℕ) → IsInteger u → is_signed u ≡ false → bit_width u ≡ n → (rest : Option Dtype) → cond (nat_eq w n) (Some u) rest ≡ Some t
+        → (rest ≡ Some t → (IsInteger t × (is_signed t ≡ false)) × (bit_width t ≡ w)) → (IsInteger t × (is_signed t ≡ false)) × (bit_width t ≡ w)
     from u n i s m rest e other = ⊎_elim
-        (λ (same, is). let number = eqb-true w n same in ((subst IsInteger is i, sym (ap is_signed is) ∙ s), sym (ap width_of is) ∙ m ∙ sym number))
+        (λ (same, is). let number = eqb-true w n same in ((subst IsInteger is i, sym (ap is_signed is) ∙ s), sym (ap bit_width is) ∙ m ∙ sym number))
         other
         (chosen (nat_eq w n) u t rest e)
 
 -- ---- the numbers of an argument are numbers of the promoted type
 
-signed_bounds : (t : Dtype) → is_signed t ≡ true → (least t ≡ neg_ℤ (pos (2 ^ (width_of t - 1)))) × (greatest t +ℤ pos 1 ≡ pos (2 ^ (width_of t - 1)))
+signed_bounds : (t : Dtype) → is_signed t ≡ true → (least t ≡ neg_ℤ (pos (2 ^ (bit_width t - 1)))) × (greatest t +ℤ pos 1 ≡ pos (2 ^ (bit_width t - 1)))
 signed_bounds Bool e = cc
 signed_bounds Int8 e = (refl, refl)
 signed_bounds Int16 e = (refl, refl)
@@ -128,7 +128,7 @@ signed_bounds Uint16 e = cc
 signed_bounds Uint32 e = cc
 signed_bounds Uint64 e = cc
 
-unsigned_bounds : (t : Dtype) → IsInteger t → is_signed t ≡ false → (least t ≡ pos 0) × (greatest t +ℤ pos 1 ≡ pos (2 ^ width_of t))
+unsigned_bounds : (t : Dtype) → IsInteger t → is_signed t ≡ false → (least t ≡ pos 0) × (greatest t +ℤ pos 1 ≡ pos (2 ^ bit_width t))
 unsigned_bounds Bool h e = absurd h
 unsigned_bounds Int8 h e = cc
 unsigned_bounds Int16 h e = cc
@@ -139,23 +139,23 @@ unsigned_bounds Uint16 h e = (refl, refl)
 unsigned_bounds Uint32 h e = (refl, refl)
 unsigned_bounds Uint64 h e = (refl, refl)
 
-within_signed : (a t : Dtype) → is_signed a ≡ true → is_signed t ≡ true → width_of a ≤ width_of t → (x : ℤ) → InRange a x → InRange t x
+within_signed : (a t : Dtype) → is_signed a ≡ true → is_signed t ≡ true → bit_width a ≤ bit_width t → (x : ℤ) → InRange a x → InRange t x
 within_signed a t p q h x (low, high) =
-    let power = pow-le-pow_right {n = 2} (omega arith) (let less : width_of a - 1 ≤ width_of t - 1 = omega arith in less) in
+    let power = pow-le-pow_right {n = 2} (omega arith) (let less : bit_width a - 1 ≤ bit_width t - 1 = omega arith in less) in
     let from = signed_bounds a p in
     let to = signed_bounds t q in
     (omega (arith, ints), omega (arith, ints))
 
-within_unsigned : (a t : Dtype) → IsInteger a → is_signed a ≡ false → IsInteger t → is_signed t ≡ false → width_of a ≤ width_of t → (x : ℤ) → InRange a x → InRange t x
+within_unsigned : (a t : Dtype) → IsInteger a → is_signed a ≡ false → IsInteger t → is_signed t ≡ false → bit_width a ≤ bit_width t → (x : ℤ) → InRange a x → InRange t x
 within_unsigned a t g p i q h x (low, high) =
     let power = pow-le-pow_right {n = 2} (omega arith) h in
     let from = unsigned_bounds a g p in
     let to = unsigned_bounds t i q in
     (omega (arith, ints), omega (arith, ints))
 
-within_mixed : (a t : Dtype) → IsInteger a → is_signed a ≡ false → is_signed t ≡ true → width_of a < width_of t → (x : ℤ) → InRange a x → InRange t x
+within_mixed : (a t : Dtype) → IsInteger a → is_signed a ≡ false → is_signed t ≡ true → bit_width a < bit_width t → (x : ℤ) → InRange a x → InRange t x
 within_mixed a t g p q h x (low, high) =
-    let power = pow-le-pow_right {n = 2} (omega arith) (let less : width_of a ≤ width_of t - 1 = omega arith in less) in
+    let power = pow-le-pow_right {n = 2} (omega arith) (let less : bit_width a ≤ bit_width t - 1 = omega arith in less) in
     let from = unsigned_bounds a g p in
     let to = signed_bounds t q in
     (omega (arith, ints), omega (arith, ints))
@@ -172,7 +172,7 @@ bool_second : (a : Dtype) → IsInteger a → promotion a Bool ≡ None
 bool_second a h = by_sign a (λ p. of_kinds a Bool _ Truth (signed_kind a p) refl) (λ p. of_kinds a Bool _ Truth (unsigned_kind a h p) refl)
 
 -- no signed type holds the numbers of uint64
-too_wide : (t : Dtype) → is_signed t ≡ true → mixed_type (width_of t) 64 ≡ None
+too_wide : (t : Dtype) → is_signed t ≡ true → mixed_type (bit_width t) 64 ≡ None
 too_wide Bool e = cc
 too_wide Int8 e = refl
 too_wide Int16 e = refl
@@ -183,10 +183,10 @@ too_wide Uint16 e = cc
 too_wide Uint32 e = cc
 too_wide Uint64 e = cc
 
-some : (a : Dtype) (u : ℕ) (t : Dtype) → is_signed a ≡ true → signed_type (2 * u) ≡ Some t → mixed_type (width_of a) u ≡ None → ⊥
-some a u t p is e = by (nat_lt u (width_of a)) e
+some : (a : Dtype) (u : ℕ) (t : Dtype) → is_signed a ≡ true → signed_type (2 * u) ≡ Some t → mixed_type (bit_width a) u ≡ None → ⊥
+some a u t p is e = by (nat_lt u (bit_width a)) e
   where
-    by : (b : Test) → signed_type (cond b (width_of a) (2 * u)) ≡ None → ⊥
+    by : (b : Test) → signed_type (cond b (bit_width a) (2 * u)) ≡ None → ⊥
     by true none = let back = signed_back a p in cc
     by false none = cc
 
@@ -208,7 +208,7 @@ unsigned_some a b g h p q e = ⊎_elim
 
 -- what the rule makes of a signed type of s bits and an unsigned type of u bits
 abbrev MadeOf : ℕ → ℕ → Dtype → Type 0
-MadeOf s u t = (is_signed t ≡ true) × (((u < s) × (width_of t ≡ s)) ⊎ ((s ≤ u) × (width_of t ≡ 2 * u)))
+MadeOf s u t = (is_signed t ≡ true) × (((u < s) × (bit_width t ≡ s)) ⊎ ((s ≤ u) × (bit_width t ≡ 2 * u)))
 
 mixed_made : (s u : ℕ) (t : Dtype) → mixed_type s u ≡ Some t → MadeOf s u t
 mixed_made s u t e = by (nat_lt u s) refl e
@@ -244,7 +244,7 @@ promotion_comm a b = of (kind_of a) (kind_of b)
     of (Unsigned u) (Unsigned w) = ap unsigned_type (max_comm u w)
 
 -- each narrower unsigned type has one
-not_too_wide : (a b : Dtype) → is_signed a ≡ true → IsInteger b → is_signed b ≡ false → mixed_type (width_of a) (width_of b) ≡ None → b ≡ Uint64
+not_too_wide : (a b : Dtype) → is_signed a ≡ true → IsInteger b → is_signed b ≡ false → mixed_type (bit_width a) (bit_width b) ≡ None → b ≡ Uint64
 not_too_wide a Bool p h q e = absurd h
 not_too_wide a Int8 p h q e = cc
 not_too_wide a Int16 p h q e = cc
@@ -257,7 +257,7 @@ not_too_wide a Uint64 p h q e = refl
 
 -- ---- the refused pairs
 
-pub refused_none : (a b : Dtype) → IsRefused a b → promotion a b ≡ None
+pub refused_none : (a b : Dtype) → HasNoPromotion a b → promotion a b ≡ None
 refused_none a b h = ⊎_elim
     (λ (is, other). ap (λ t. promotion t b) is ∙ bool_first b other)
     (λ h. ⊎_elim
@@ -279,7 +279,7 @@ integers_refused a b g h e = by_sign a
     (λ q. inl (not_too_wide b a q g p (sym (signed_second a b g p q) ∙ e), q))
     (λ q. absurd (unsigned_some a b g h p q e)))
 
-pub none_refused : (a b : Dtype) → promotion a b ≡ None → IsRefused a b
+pub none_refused : (a b : Dtype) → promotion a b ≡ None → HasNoPromotion a b
 none_refused a b e = ⊎_elim
     (λ is. ⊎_elim
     (λ other. absurd (bools_some a b is other e))
@@ -297,17 +297,17 @@ first_integer_in_range : (a b t : Dtype) → IsInteger a → IsInteger b → pro
 first_integer_in_range a b t g h e x r = by_sign a
     (λ p. by_sign b
     (λ q.
-    let is : (is_signed t ≡ true) × (width_of t ≡ max (width_of a) (width_of b)) = signed_made (max (width_of a) (width_of b)) t (sym (both_signed a b p q) ∙ e) in
+    let is : (is_signed t ≡ true) × (bit_width t ≡ max (bit_width a) (bit_width b)) = signed_made (max (bit_width a) (bit_width b)) t (sym (both_signed a b p q) ∙ e) in
     within_signed a t p is.0 (omega arith) x r)
     (λ q.
-    let is : MadeOf (width_of a) (width_of b) t = mixed_made (width_of a) (width_of b) t (sym (signed_first a b h p q) ∙ e) in
+    let is : MadeOf (bit_width a) (bit_width b) t = mixed_made (bit_width a) (bit_width b) t (sym (signed_first a b h p q) ∙ e) in
     within_signed a t p is.0 (⊎_elim (λ l. omega arith) (λ l. omega arith) is.1) x r))
     (λ p. by_sign b
     (λ q.
-    let is : MadeOf (width_of b) (width_of a) t = mixed_made (width_of b) (width_of a) t (sym (signed_second a b g p q) ∙ e) in
+    let is : MadeOf (bit_width b) (bit_width a) t = mixed_made (bit_width b) (bit_width a) t (sym (signed_second a b g p q) ∙ e) in
     within_mixed a t g p is.0 (⊎_elim (λ l. omega arith) (λ l. omega (arith, width_is a g, size_pos a)) is.1) x r)
     (λ q.
-    let is : (IsInteger t × (is_signed t ≡ false)) × (width_of t ≡ max (width_of a) (width_of b)) = unsigned_made (max (width_of a) (width_of b)) t (sym (both_unsigned a b g h p q) ∙ e) in
+    let is : (IsInteger t × (is_signed t ≡ false)) × (bit_width t ≡ max (bit_width a) (bit_width b)) = unsigned_made (max (bit_width a) (bit_width b)) t (sym (both_unsigned a b g h p q) ∙ e) in
     within_unsigned a t g p is.0.0 is.0.1 (omega arith) x r))
 
 bools : (t : Dtype) → promotion Bool Bool ≡ Some t → Bool ≡ t
@@ -337,7 +337,7 @@ pub IfSome-in_range : (a b : Dtype) (r : Option Dtype) → r ≡ promotion a b �
 IfSome-in_range a b (Some t) e = (first_in_range a b t (sym e), second_in_range a b t (sym e))
 IfSome-in_range a b None e = (tt, tt)
 
-pub IsNone-refused : (a b : Dtype) (r : Option Dtype) → r ≡ promotion a b → IsNone r ↔ IsRefused a b
+pub IsNone-refused : (a b : Dtype) (r : Option Dtype) → r ≡ promotion a b → IsNone r ↔ HasNoPromotion a b
 IsNone-refused a b r e = (λ none. none_refused a b (sym e ∙ none_is r none), λ h. is_none r (e ∙ refused_none a b h))
   where
     none_is : (r : Option Dtype) → IsNone r → r ≡ None

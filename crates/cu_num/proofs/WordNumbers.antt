@@ -4,7 +4,7 @@ use Rattle.std.proofs.lemmas.Int.{ints, to_z_pos, to_z-of_z}
 use Rattle.std.proofs.Math.Nat.{mod-eq_of_lt}
 use Rattle.std.specs.Int.{w128, cast_signed, cast_unsigned}
 use Rattle.std.specs.Prelude.{unsigned_abs, FitsSigned}
-use Rattle.cu_num.specs.Dtype.{width_of, InRange, IsInteger}
+use Rattle.cu_num.specs.Dtype.{bit_width, InRange, IsInteger}
 use Rattle.cu_num.specs.Wrap.{residue, wrapped, truth_of}
 use Rattle.cu_num.specs.Word.{word_of, number_of, IsWord}
 use Rattle.cu_num.proofs.Residue.{same_narrower, same-residue, Same, residue-lt}
@@ -14,9 +14,9 @@ use Rattle.cu_num.specs.declared.types.Dtype.TheVariants.{Bool, Int8, Int16, Int
 
 integer_wrapped : (t : Dtype) → IsInteger t → (x : ℤ) → wrapped t (pos (residue 64 x)) ≡ wrapped t x
 integer_wrapped t h x =
-    let sum : 64 ≡ width_of t + (64 - width_of t) = omega (arith, width_of-le t) in
+    let sum : 64 ≡ bit_width t + (64 - bit_width t) = omega (arith, width_of-le t) in
     let P : ℕ → Type 0 = λ w. Same w (pos (residue 64 x)) x in
-    wrapped_same t h (pos (residue 64 x)) x (same_narrower (width_of t) (64 - width_of t) (pos (residue 64 x)) x (subst P sum (same-residue 64 x)))
+    wrapped_same t h (pos (residue 64 x)) x (same_narrower (bit_width t) (64 - bit_width t) (pos (residue 64 x)) x (subst P sum (same-residue 64 x)))
 
 -- every type lies between the least signed and the greatest unsigned number of 64 bits
 within_64 : (d : Dtype) (x : ℤ) → InRange d x → (neg_ℤ (pos (2 ^ 63)) ≤ℤ x) × (x ≤ℤ pos (2 ^ 64 - 1))

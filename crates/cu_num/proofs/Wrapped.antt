@@ -3,7 +3,7 @@ use Rattle.std.proofs.Common.{◌≡◌, ℕ, ◌+◌, ◌-◌, ◌*◌, ◌^◌
 use Rattle.std.proofs.lemmas.Int.{ints}
 use lib.IntN.{zero-*ℤ, *ℤ-zero}
 use borrow.Author.Differences.{up, down, same_in, same_out, sum_is_lem, product_is}
-use Rattle.cu_num.specs.Dtype.{width_of, least, greatest, InRange, IsInteger}
+use Rattle.cu_num.specs.Dtype.{bit_width, least, greatest, InRange, IsInteger}
 use Rattle.cu_num.specs.Wrap.{residue, centred, truth_of, wrapped, DifferByMultiple, IsWrapOf}
 use Rattle.cu_num.proofs.Residue.{Same, same_refl, same_sym, same_trans, same_add, same_mul, same_unique, same-residue, same-centred, centred_bounds, residue-lt}
 use Rattle.cu_num.specs.declared.types.Dtype.{Dtype}
@@ -13,8 +13,8 @@ use Rattle.cu_num.specs.declared.types.Dtype.TheVariants.{Bool, Int8, Int16, Int
 pub record IsWrapping (t : Dtype) : Type 0 where
   pub low : (x : ℤ) → least t ≤ℤ wrapped t x
   pub high : (x : ℤ) → wrapped t x ≤ℤ greatest t
-  pub same : (x : ℤ) → Same (width_of t) (wrapped t x) x
-  pub span : greatest t +ℤ pos 1 ≡ least t +ℤ pos (2 ^ width_of t)
+  pub same : (x : ℤ) → Same (bit_width t) (wrapped t x) x
+  pub span : greatest t +ℤ pos 1 ≡ least t +ℤ pos (2 ^ bit_width t)
 
 signed_same : (w : ℕ) (x : ℤ) → Same w (centred w (residue w x)) x
 signed_same w x = same_trans w (centred w (residue w x)) (pos (residue w x)) x (same-centred w (residue w x)) (same-residue w x)
@@ -44,20 +44,20 @@ is_wrapping Uint32 h = record { low = unsigned_low 32; high = unsigned_high 32 _
 is_wrapping Uint64 h = record { low = unsigned_low 64; high = unsigned_high 64 _ refl; same = same-residue 64; span = refl }
 
 -- a number of the type that differs from x by a multiple of the modulus is x wrapped
-unique : (t : Dtype) → IsInteger t → (x r : ℤ) → InRange t r → Same (width_of t) r x → r ≡ wrapped t x
+unique : (t : Dtype) → IsInteger t → (x r : ℤ) → InRange t r → Same (bit_width t) r x → r ≡ wrapped t x
 unique t h x r (low, high) s =
     let is = is_wrapping t h in
     let span = is.span in
     let p = is.low x in
     let q = is.high x in
-    same_unique (width_of t) (least t) r (wrapped t x) low (omega (arith, ints)) p (omega (arith, ints))
-    (same_trans (width_of t) r x (wrapped t x) s (same_sym (width_of t) (wrapped t x) x (is.same x)))
+    same_unique (bit_width t) (least t) r (wrapped t x) low (omega (arith, ints)) p (omega (arith, ints))
+    (same_trans (bit_width t) r x (wrapped t x) s (same_sym (bit_width t) (wrapped t x) x (is.same x)))
 
 -- numbers that differ by a multiple of the modulus are wrapped to one number
-pub wrapped_same : (t : Dtype) → IsInteger t → (x y : ℤ) → Same (width_of t) x y → wrapped t x ≡ wrapped t y
+pub wrapped_same : (t : Dtype) → IsInteger t → (x y : ℤ) → Same (bit_width t) x y → wrapped t x ≡ wrapped t y
 wrapped_same t h x y s =
     let is = is_wrapping t h in
-    unique t h y (wrapped t x) (is.low x, is.high x) (same_trans (width_of t) (wrapped t x) x y (is.same x) s)
+    unique t h y (wrapped t x) (is.low x, is.high x) (same_trans (bit_width t) (wrapped t x) x y (is.same x) s)
 
 truth_in_range : (x : ℤ) → InRange Bool (truth_of x)
 truth_in_range (pos zero) = (omega (arith, ints), omega (arith, ints))
@@ -86,11 +86,11 @@ differ w x r s =
 same_from : (w : ℕ) (x r : ℤ) → DifferByMultiple (2 ^ w) x r → Same w r x
 same_from w x r (k, e) = record { j = up k; k = down k; sum = omega (arith, same_in, same_out, sum_is_lem, product_is) }
 
-integer_is_wrap : (t : Dtype) → IsInteger t → (x : ℤ) → InRange t (wrapped t x) × DifferByMultiple (2 ^ width_of t) x (wrapped t x)
-integer_is_wrap t h x = let is = is_wrapping t h in ((is.low x, is.high x), differ (width_of t) x (wrapped t x) (is.same x))
+integer_is_wrap : (t : Dtype) → IsInteger t → (x : ℤ) → InRange t (wrapped t x) × DifferByMultiple (2 ^ bit_width t) x (wrapped t x)
+integer_is_wrap t h x = let is = is_wrapping t h in ((is.low x, is.high x), differ (bit_width t) x (wrapped t x) (is.same x))
 
-integer_unique : (t : Dtype) → IsInteger t → (x r : ℤ) → InRange t r × DifferByMultiple (2 ^ width_of t) x r → r ≡ wrapped t x
-integer_unique t h x r (range, multiple) = unique t h x r range (same_from (width_of t) x r multiple)
+integer_unique : (t : Dtype) → IsInteger t → (x r : ℤ) → InRange t r × DifferByMultiple (2 ^ bit_width t) x r → r ≡ wrapped t x
+integer_unique t h x r (range, multiple) = unique t h x r range (same_from (bit_width t) x r multiple)
 
 truth_is_wrap : (x : ℤ) → IsWrapOf Bool x (truth_of x)
 truth_is_wrap (pos zero) = (truth_in_range (pos zero), (λ e. refl, λ e. refl))
@@ -146,7 +146,7 @@ bool_or_integer Uint16 = inr tt
 bool_or_integer Uint32 = inr tt
 bool_or_integer Uint64 = inr tt
 
-pub width_of-le : (t : Dtype) → width_of t ≤ 64
+pub width_of-le : (t : Dtype) → bit_width t ≤ 64
 width_of-le Bool = omega arith
 width_of-le Int8 = omega arith
 width_of-le Int16 = omega arith
@@ -166,7 +166,7 @@ pub wrapped_in_range : (t : Dtype) (x : ℤ) → InRange t x → wrapped t x ≡
 unfolding wrapped
 wrapped_in_range t x h = by_class (λ t. InRange t x → wrapped t x ≡ x)
     (λ range. sym (truth_unique x x range (λ e. e, λ e. e)))
-    (λ t i range. sym (unique t i x x range (same_refl (width_of t) x))) t h
+    (λ t i range. sym (unique t i x x range (same_refl (bit_width t) x))) t h
 
 -- wrapping twice is wrapping once
 pub wrapped-wrapped : (t : Dtype) (x : ℤ) → wrapped t (wrapped t x) ≡ wrapped t x
@@ -177,7 +177,7 @@ pub wrapped-add : (t : Dtype) (x y : ℤ) → IsInteger t → wrapped t (x +ℤ 
 wrapped-add t x y h =
     let is = is_wrapping t h in
     wrapped_same t h (x +ℤ y) (wrapped t x +ℤ wrapped t y)
-    (same_add (width_of t) x (wrapped t x) y (wrapped t y) (same_sym (width_of t) (wrapped t x) x (is.same x)) (same_sym (width_of t) (wrapped t y) y (is.same y)))
+    (same_add (bit_width t) x (wrapped t x) y (wrapped t y) (same_sym (bit_width t) (wrapped t x) x (is.same x)) (same_sym (bit_width t) (wrapped t y) y (is.same y)))
 
 positive : (n : ℕ) → 0 < n → truth_of (pos n) ≡ pos 1
 positive zero h = absurd (omega arith)
@@ -201,4 +201,4 @@ unfolding wrapped
 wrapped-mul t x y = by_class (λ t. wrapped t (x *ℤ y) ≡ wrapped t (wrapped t x *ℤ wrapped t y)) (truth-mul x y)
     (λ t h. let is = is_wrapping t h in
     wrapped_same t h (x *ℤ y) (wrapped t x *ℤ wrapped t y)
-    (same_mul (width_of t) x (wrapped t x) y (wrapped t y) (same_sym (width_of t) (wrapped t x) x (is.same x)) (same_sym (width_of t) (wrapped t y) y (is.same y)))) t
+    (same_mul (bit_width t) x (wrapped t x) y (wrapped t y) (same_sym (bit_width t) (wrapped t x) x (is.same x)) (same_sym (bit_width t) (wrapped t y) y (is.same y)))) t

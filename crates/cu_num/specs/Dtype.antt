@@ -17,16 +17,16 @@ size_of Uint32 = 4
 size_of Uint64 = 8
 
 -- the bits of an element's value: one for a bool, else eight a byte
-abbrev pub width_of : Dtype → ℕ
-width_of Bool = 1
-width_of Int8 = 8
-width_of Int16 = 16
-width_of Int32 = 32
-width_of Int64 = 64
-width_of Uint8 = 8
-width_of Uint16 = 16
-width_of Uint32 = 32
-width_of Uint64 = 64
+abbrev pub bit_width : Dtype → ℕ
+bit_width Bool = 1
+bit_width Int8 = 8
+bit_width Int16 = 16
+bit_width Int32 = 32
+bit_width Int64 = 64
+bit_width Uint8 = 8
+bit_width Uint16 = 16
+bit_width Uint32 = 32
+bit_width Uint64 = 64
 
 -- a signed integer type
 abbrev pub is_signed : Dtype → Test

@@ -48,5 +48,5 @@ unfoldable pub promotion : Dtype → Dtype → Option Dtype
 promotion a b = promotion_of_kinds (kind_of a) (kind_of b)
 
 -- the pairs with no promotion: a bool with an integer type, and uint64 with a signed type
-abbrev pub IsRefused : Dtype → Dtype → Type 0
-IsRefused a b = ((a ≡ Bool) × IsInteger b) ⊎ (IsInteger a × (b ≡ Bool)) ⊎ ((a ≡ Uint64) × IsTrue (is_signed b)) ⊎ (IsTrue (is_signed a) × (b ≡ Uint64))
+abbrev pub HasNoPromotion : Dtype → Dtype → Type 0
+HasNoPromotion a b = ((a ≡ Bool) × IsInteger b) ⊎ (IsInteger a × (b ≡ Bool)) ⊎ ((a ≡ Uint64) × IsTrue (is_signed b)) ⊎ (IsTrue (is_signed a) × (b ≡ Uint64))

@@ -4,7 +4,7 @@ use Rattle.std.specs.Prelude.{ℕ, ◌-◌, ◌^◌, true, false, not, ◌&&◌,
 use Rattle.std.specs.Prelude.{Bool as Test}
 use Rattle.std.specs.Int.{int_signum}
 use Rattle.std.specs.Ordering.{int_eq}
-use Rattle.cu_num.specs.Dtype.{width_of}
+use Rattle.cu_num.specs.Dtype.{bit_width}
 use Rattle.cu_num.specs.Wrap.{residue, wrapped}
 use Rattle.cu_num.specs.Division.{floor_quotient, floor_remainder}
 use Rattle.cu_num.specs.declared.types.Dtype.{Dtype}
@@ -29,7 +29,7 @@ exactly_one p q = (p && not q) || (not p && q)
 
 -- a function of the two's complement bits; a bool has one bit
 abbrev pub bitwise : (ℕ → ℕ → ℕ) → Dtype → ℤ → ℤ → ℤ
-bitwise f t x y = wrapped t (pos (f (residue (width_of t) x) (residue (width_of t) y)))
+bitwise f t x y = wrapped t (pos (f (residue (bit_width t) x) (residue (bit_width t) y)))
 
 -- x * 2 ^ y, and 0 where y is below 0 or not below the width (this project's rule)
 unfoldable pub shifted_left : ℕ → ℤ → ℤ → ℤ
@@ -69,7 +69,7 @@ op1 Positive t x = wrapped t x
 op1 Abs t x = wrapped t (pos (unsigned_abs x))
 op1 Square t x = wrapped t (x *ℤ x)
 op1 Sign t x = wrapped t (int_signum x)
-op1 BitwiseInvert t x = wrapped t (pos (2 ^ width_of t - 1 - residue (width_of t) x))
+op1 BitwiseInvert t x = wrapped t (pos (2 ^ bit_width t - 1 - residue (bit_width t) x))
 op1 LogicalNot t x = truth_number (not (is_nonzero x))
 op1 Astype t x = wrapped t x
 
@@ -82,8 +82,8 @@ op2 Remainder t x y = wrapped t (floor_remainder x y)
 op2 BitwiseAnd t x y = bitwise bit_and t x y
 op2 BitwiseOr t x y = bitwise bit_or t x y
 op2 BitwiseXor t x y = bitwise bit_xor t x y
-op2 LeftShift t x y = wrapped t (shifted_left (width_of t) x y)
-op2 RightShift t x y = wrapped t (shifted_right (width_of t) x y)
+op2 LeftShift t x y = wrapped t (shifted_left (bit_width t) x y)
+op2 RightShift t x y = wrapped t (shifted_right (bit_width t) x y)
 op2 Equal t x y = truth_number (int_eq x y)
 op2 NotEqual t x y = truth_number (not (int_eq x y))
 op2 Less t x y = truth_number (int_lt x y)

@@ -3,7 +3,7 @@ ghost use Rattle.cu_num.specs.Dtype.{size_of, InRange, IsInteger};
 ghost use Rattle.cu_num.specs.TypeName.{type_name, dtype_named};
 ghost use Rattle.cu_num.specs.Wrap.{wrapped, IsWrapOf};
 ghost use Rattle.cu_num.specs.Word.{word_of, number_of, IsWord};
-ghost use Rattle.cu_num.specs.Promotion.{promotion, IsRefused};
+ghost use Rattle.cu_num.specs.Promotion.{promotion, HasNoPromotion};
 ghost use Rattle.cu_num.specs.Division.{floor_quotient, floor_remainder, IsFloorOf};
 ghost use Rattle.cu_num.specs.Element.{element_at, element_bytes};
 ghost use Rattle.cu_num.specs.declared.types.Dtype.{Dtype};
@@ -58,7 +58,7 @@ pub fn element_write_law()
 /// Promotion has no answer exactly for the refused pairs, does not depend on the order, leaves equal types alone,
 /// its type has every number of the two types, and it keeps bools and integers apart.
 pub fn promotion_law()
-    ensures refused { (a b : Dtype) → (promotion a b ≡ None) ↔ IsRefused a b }
+    ensures refused { (a b : Dtype) → (promotion a b ≡ None) ↔ HasNoPromotion a b }
     ensures order { (a b : Dtype) → promotion a b ≡ promotion b a }
     ensures equal { (t : Dtype) → promotion t t ≡ Some t }
     ensures range { (a b t : Dtype) → promotion a b ≡ Some t → (x : ℤ) → InRange a x → InRange t x }

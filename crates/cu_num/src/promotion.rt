@@ -1,6 +1,6 @@
 ghost use Rattle.std.specs.Prelude.{◌≡◌, ◌<◌, ◌≤◌, ◌↔◌, IsNone, IfSome, IsTrue, ℤ};
-ghost use Rattle.cu_num.specs.Dtype.{InRange, IsInteger, IsUnsigned, is_signed, size_of, width_of};
-ghost use Rattle.cu_num.specs.Promotion.{promotion, mixed_type, IsRefused};
+ghost use Rattle.cu_num.specs.Dtype.{InRange, IsInteger, IsUnsigned, is_signed, size_of, bit_width};
+ghost use Rattle.cu_num.specs.Promotion.{promotion, mixed_type, HasNoPromotion};
 
 use crate::types::{Dtype, is_bool, is_signed, size};
 
@@ -16,7 +16,7 @@ fn wider(a: Dtype, b: Dtype) -> Dtype
 fn promote_mixed(signed: Dtype, unsigned: Dtype) -> Option<Dtype>
     requires first { IsTrue (is_signed signed) }
     requires second { IsUnsigned unsigned }
-    ensures { result ≡ mixed_type (width_of signed) (width_of unsigned) }
+    ensures { result ≡ mixed_type (bit_width signed) (bit_width unsigned) }
 {
     if size(unsigned) < size(signed) {
         return Some(signed);
@@ -58,7 +58,7 @@ fn promote_by_rule(a: Dtype, b: Dtype) -> Option<Dtype>
 /// The type that two types are promoted to, and `None` for a bool with an integer type and for uint64 with a signed type.
 pub fn promote(a: Dtype, b: Dtype) -> Option<Dtype>
     ensures value { result ≡ promotion a b }
-    ensures refused { IsNone result ↔ IsRefused a b }
+    ensures refused { IsNone result ↔ HasNoPromotion a b }
     ensures first { IfSome result (λ t. (x : ℤ) → InRange a x → InRange t x) }
     ensures second { IfSome result (λ t. (x : ℤ) → InRange b x → InRange t x) }
 {

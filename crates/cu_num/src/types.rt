@@ -1,5 +1,5 @@
 ghost use Rattle.std.specs.Prelude.{◌≡◌, ◌≤◌, ◌↔◌, IsTrue};
-ghost use Rattle.cu_num.specs.Dtype.{size_of, width_of, is_signed, least, greatest, InRange};
+ghost use Rattle.cu_num.specs.Dtype.{size_of, bit_width, is_signed, least, greatest, InRange};
 
 /// The type of an array's elements (Python array API, data types).
 #[derive(Clone, Copy, Debug, Default, PartialEq, Eq)]
@@ -57,7 +57,7 @@ pub fn is_bool(t: Dtype) -> bool
 /// The bits of an element's value: one for a bool, else eight a byte.
 #[inline]
 pub fn width(t: Dtype) -> u32
-    ensures value { result ≡ width_of t }
+    ensures value { result ≡ bit_width t }
     ensures least { 1 ≤ result }
     ensures greatest { result ≤ 64 }
 {

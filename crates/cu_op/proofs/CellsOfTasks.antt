@@ -7,7 +7,7 @@ use Rattle.std.proofs.lemmas.List.Sums.{get_or-le-sum_by}
 use Rattle.cu_shape.specs.Index.{product, IsInside}
 use Rattle.cu_shape.proofs.Places.{inside-positive}
 use Rattle.cu_op.specs.declared.cells.Cell.{Cell}
-use Rattle.cu_op.specs.Arrays.{array_at, grid_at, maker_at, grid_counts, chunk_count, no_array}
+use Rattle.cu_op.specs.Arrays.{array_at, grid_at, maker_at, grid_counts, array_chunk_count, no_array}
 use Rattle.cu_op.specs.PlanView.{PlanView}
 use Rattle.cu_op.specs.Sound.{Sound, made_chunks, cells_by}
 
@@ -40,13 +40,13 @@ counted : (m : Option ℕ) (chunks : ℕ) → m ≢ None → cells_by m chunks �
 counted None chunks h = absurd (h refl)
 counted (Some k) chunks h = refl
 
-pub chunks_few : (p : PlanView) (a : ℕ) → Sound p → a < length p.arrays → chunk_count (array_at p.arrays a) ≤ 262144
+pub chunks_few : (p : PlanView) (a : ℕ) → Sound p → a < length p.arrays → array_chunk_count (array_at p.arrays a) ≤ 262144
 chunks_few p a s h =
     elim (input_or_made (maker_at p.arrays a)) [
       | inl none ↦ let e = s.input_chunks a h none in omega (arith, e)
       | inr made ↦
           let one = get_or-le-sum_by made_chunks p.arrays a no_array h in
-          let e = counted (maker_at p.arrays a) (chunk_count (array_at p.arrays a)) made in
+          let e = counted (maker_at p.arrays a) (array_chunk_count (array_at p.arrays a)) made in
           let all = s.cells in
           omega (arith, one, e, all)
     ]

@@ -12,17 +12,13 @@ use Rattle.cu_reduce.specs.Regions.{region_indices}
 abbrev pub IsFilled : List ℕ → List ℕ → List ℕ → Type 0
 IsFilled [] [] [] = Unit {0}
 IsFilled (n ∷ ns) (l ∷ ls) (h ∷ hs) = (l < h) × (h ≤ n) × IsFilled ns ls hs
-IsFilled [] [] (h ∷ hs) = ⊥
-IsFilled [] (l ∷ ls) hs = ⊥
-IsFilled (n ∷ ns) [] hs = ⊥
-IsFilled (n ∷ ns) (l ∷ ls) [] = ⊥
+IsFilled ns ls hs = ⊥
 
 -- no number is above that of the other list
 abbrev pub AreAtMost : List ℕ → List ℕ → Type 0
 AreAtMost [] [] = Unit {0}
 AreAtMost (i ∷ is) (j ∷ js) = (i ≤ j) × AreAtMost is js
-AreAtMost [] (j ∷ js) = ⊥
-AreAtMost (i ∷ is) [] = ⊥
+AreAtMost is js = ⊥
 
 before : (l h : ℕ) → l < h → (l ≤ pred h) × (suc (pred h) ≡ h)
 before l zero b = absurd (omega arith)
@@ -85,9 +81,7 @@ within_take (suc k) ls hs is w = absurd w
 pub within_inside : (ns ls hs is : List ℕ) → IsRegion ns ls hs → IsWithin ls hs is → IsInside ns is
 within_inside [] [] [] [] r w = tt
 within_inside (n ∷ ns) (l ∷ ls) (h ∷ hs) (i ∷ is) r w = ((let a = r.1 in let b = w.1 in omega arith), within_inside ns ls hs is r.2 w.2)
-within_inside [] [] [] (i ∷ is) r w = absurd w
-within_inside (n ∷ ns) (l ∷ ls) (h ∷ hs) [] r w = absurd w
-within_inside ns ls hs is r w = absurd r
+within_inside ns ls hs is r w = absurd assumption
 
 -- the region of one index
 pub filled_one : (ns is : List ℕ) → IsInside ns is → IsFilled ns is (map suc is)
@@ -103,15 +97,12 @@ within_one (i ∷ is) = (omega arith, omega arith, within_one is)
 pub chunk_filled : (shape chunk coord : List ℕ) → All (λ c. 0 < c) chunk → length chunk ≡ length shape → IsInside (counts_of shape chunk) coord
     → IsFilled shape (chunk_lo chunk coord) (chunk_hi shape chunk coord)
 chunk_filled [] [] [] p e h = tt
-chunk_filled [] [] (i ∷ is) p e h = absurd h
-chunk_filled [] (c ∷ cs) is p e h = absurd (omega arith)
-chunk_filled (n ∷ ns) [] is p e h = absurd (omega arith)
-chunk_filled (n ∷ ns) (c ∷ cs) [] p e h = absurd h
 chunk_filled (n ∷ ns) (c ∷ cs) (i ∷ is) p e h =
     let c_positive : 0 < c = p 0 0 (omega arith) in
     let starts : i * c < n = before_end n c i c_positive h.0 in
     let next : (i + 1) * c ≡ i * c + c = omega arith in
     (omega arith, omega arith, chunk_filled ns cs is (λ k d l. p (suc k) d (omega arith)) (omega arith) h.1)
+chunk_filled ns cs is p e h = absurd (first_of (assumption, omega arith))
 
 -- ---- the indices of a region
 
@@ -131,10 +122,8 @@ below_range a n p (k, l, e) =
 
 sums_within : (ns ls hs js : List ℕ) → IsRegion ns ls hs → IsInside (differences hs ls) js → IsWithin ls hs (sums ls js)
 sums_within [] [] [] [] r h = tt
-sums_within [] [] [] (j ∷ js) r h = absurd h
-sums_within (n ∷ ns) (l ∷ ls) (h ∷ hs) [] r q = absurd q
 sums_within (n ∷ ns) (l ∷ ls) (h ∷ hs) (j ∷ js) r q = (omega arith, (let a = q.0 in omega arith), sums_within ns ls hs js r.2 q.1)
-sums_within ns ls hs js r h = absurd r
+sums_within ns ls hs js r h = absurd assumption
 
 pub region_within : (ns ls hs is : List ℕ) → IsRegion ns ls hs → Contains (region_indices ls hs) is → IsWithin ls hs is
 region_within ns ls hs is r c =

@@ -10,7 +10,7 @@ use Rattle.cu_shape.proofs.Rounded.{counts_below}
 use Rattle.cu_grid.specs.Grid.{RegularGrid, IsGrid}
 use Rattle.cu_grid.proofs.Regions.{inside-at}
 use Rattle.cu_reduce.specs.Groups.{Groups, groups_from, groups_of, group_counts, group_lo, group_hi}
-use Rattle.cu_op.specs.Matrix.{left_inner, inner_count}
+use Rattle.cu_op.specs.Matrix.{left_inner, inner_chunk_count}
 use Rattle.cu_op.specs.Partial.{AreGroupSizes, count_on, start_on, end_on}
 use Rattle.cu_op.proofs.Grouped.{begins_on}
 
@@ -54,12 +54,7 @@ module _ (f : ℕ → Bool) where
       let rest = counts_along (first + 1) r sizes shape (omega arith) (omega arith)
       (λ k l. h (suc k) (omega arith) ∙ ap (λ d. count_on (f d) (get_or sizes k 0) (get_or shape k 0)) (let z : first + suc k ≡ first + 1 + k = omega arith in z)) in
       cons_same x (count_on (f first) s n) r (group_counts (groups_from f (first + 1) sizes) shape) here rest ∙ sym (counts_step (f first) s n (groups_from f (first + 1) sizes) shape)
-  counts_along first [] [] (n ∷ shape) p q h = absurd (omega arith)
-  counts_along first [] (s ∷ sizes) [] p q h = absurd (omega arith)
-  counts_along first [] (s ∷ sizes) (n ∷ shape) p q h = absurd (omega arith)
-  counts_along first (x ∷ r) [] [] p q h = absurd (omega arith)
-  counts_along first (x ∷ r) [] (n ∷ shape) p q h = absurd (omega arith)
-  counts_along first (x ∷ r) (s ∷ sizes) [] p q h = absurd (omega arith)
+  counts_along first r sizes shape p q h = absurd (omega arith)
 
   pub counts_from : (r sizes shape : List ℕ) → length r ≡ length shape → length sizes ≡ length shape
       → ((k : ℕ) → k < length shape → get_or r k 0 ≡ count_on (f k) (get_or sizes k 0) (get_or shape k 0)) → r ≡ group_counts (groups_of f sizes) shape
@@ -74,12 +69,7 @@ module _ (f : ℕ → Bool) where
       let rest = starts_along (first + 1) r sizes is (omega arith) (omega arith)
       (λ k l. h (suc k) (omega arith) ∙ ap (λ d. start_on (f d) (get_or sizes k 0) (get_or is k 0)) (let z : first + suc k ≡ first + 1 + k = omega arith in z)) in
       cons_same x (start_on (f first) s i) r (group_lo (groups_from f (first + 1) sizes) is) here rest ∙ sym (starts_step (f first) s i (groups_from f (first + 1) sizes) is)
-  starts_along first [] [] (n ∷ is) p q h = absurd (omega arith)
-  starts_along first [] (s ∷ sizes) [] p q h = absurd (omega arith)
-  starts_along first [] (s ∷ sizes) (n ∷ is) p q h = absurd (omega arith)
-  starts_along first (x ∷ r) [] [] p q h = absurd (omega arith)
-  starts_along first (x ∷ r) [] (n ∷ is) p q h = absurd (omega arith)
-  starts_along first (x ∷ r) (s ∷ sizes) [] p q h = absurd (omega arith)
+  starts_along first r sizes is p q h = absurd (omega arith)
 
   pub starts_from : (r sizes is : List ℕ) → length r ≡ length is → length sizes ≡ length is
       → ((k : ℕ) → k < length is → get_or r k 0 ≡ start_on (f k) (get_or sizes k 0) (get_or is k 0)) → r ≡ group_lo (groups_of f sizes) is
@@ -94,12 +84,7 @@ module _ (f : ℕ → Bool) where
       let rest = ends_along (first + 1) r sizes shape is (omega arith) (omega arith) (omega arith)
       (λ k l. h (suc k) (omega arith) ∙ ap (λ d. end_on (f d) (get_or sizes k 0) (get_or shape k 0) (get_or is k 0 + 1)) (let z : first + suc k ≡ first + 1 + k = omega arith in z)) in
       cons_same x (end_on (f first) s n (suc i)) r (group_hi (groups_from f (first + 1) sizes) shape (map suc is)) here rest ∙ sym (ends_step (f first) s n (suc i) (groups_from f (first + 1) sizes) shape (map suc is))
-  ends_along first [] [] [] (i ∷ is) p q w h = absurd (omega arith)
-  ends_along first [] [] (n ∷ shape) is p q w h = absurd (omega arith)
-  ends_along first [] (s ∷ sizes) shape is p q w h = absurd (omega arith)
-  ends_along first (x ∷ r) sizes shape [] p q w h = absurd (omega arith)
-  ends_along first (x ∷ r) [] shape (i ∷ is) p q w h = absurd (omega arith)
-  ends_along first (x ∷ r) (s ∷ sizes) [] (i ∷ is) p q w h = absurd (omega arith)
+  ends_along first r sizes shape is p q w h = absurd (omega arith)
 
   pub ends_from : (r sizes shape is : List ℕ) → length r ≡ length is → length sizes ≡ length is → length shape ≡ length is
       → ((k : ℕ) → k < length is → get_or r k 0 ≡ end_on (f k) (get_or sizes k 0) (get_or shape k 0) (get_or is k 0 + 1)) → r ≡ group_hi (groups_of f sizes) shape (map suc is)
@@ -110,24 +95,21 @@ module _ (f : ℕ → Bool) where
 
   counts_length_along : (first : ℕ) (sizes shape : List ℕ) → length sizes ≡ length shape → length (group_counts (groups_from f first sizes) shape) ≡ length shape
   counts_length_along first [] [] e = refl
-  counts_length_along first [] (n ∷ shape) e = absurd (omega arith)
-  counts_length_along first (s ∷ sizes) [] e = absurd (omega arith)
   counts_length_along first (s ∷ sizes) (n ∷ shape) e =
       ap length (counts_step (f first) s n (groups_from f (first + 1) sizes) shape) ∙ ap suc (counts_length_along (first + 1) sizes shape (omega arith))
+  counts_length_along first sizes shape e = absurd (omega arith)
 
   pub length-counts : (sizes shape : List ℕ) → length sizes ≡ length shape → length (group_counts (groups_of f sizes) shape) ≡ length shape
   length-counts sizes shape e = counts_length_along 0 sizes shape e
 
   counts_at_along : (first : ℕ) (sizes shape : List ℕ) (k : ℕ) → length sizes ≡ length shape → k < length shape
       → get_or (group_counts (groups_from f first sizes) shape) k 0 ≡ count_on (f (first + k)) (get_or sizes k 0) (get_or shape k 0)
-  counts_at_along first [] [] k e l = absurd (omega arith)
-  counts_at_along first [] (n ∷ shape) k e l = absurd (omega arith)
-  counts_at_along first (s ∷ sizes) [] k e l = absurd (omega arith)
   counts_at_along first (s ∷ sizes) (n ∷ shape) zero e l =
       ap (λ (cs : List ℕ). get_or cs 0 0) (counts_step (f first) s n (groups_from f (first + 1) sizes) shape) ∙ ap (λ d. count_on (f d) s n) (let z : first ≡ first + 0 = omega arith in z)
   counts_at_along first (s ∷ sizes) (n ∷ shape) (suc k) e l =
       ap (λ (cs : List ℕ). get_or cs (suc k) 0) (counts_step (f first) s n (groups_from f (first + 1) sizes) shape) ∙ counts_at_along (first + 1) sizes shape k (omega arith) (omega arith)
       ∙ ap (λ d. count_on (f d) (get_or sizes k 0) (get_or shape k 0)) (let z : first + 1 + k ≡ first + suc k = omega arith in z)
+  counts_at_along first sizes shape k e l = absurd (omega arith)
 
   pub counts_at : (sizes shape : List ℕ) (k : ℕ) → length sizes ≡ length shape → k < length shape
       → get_or (group_counts (groups_of f sizes) shape) k 0 ≡ count_on (f k) (get_or sizes k 0) (get_or shape k 0)
@@ -205,7 +187,7 @@ pub record AreSmallParts (n c first end : ℕ) : Type 0 where
   pub starts : first * c < 2 ^ 64
   pub ends : end * c < 2 ^ 64
 
-pub small_parts : (g : RegularGrid) (first end : ℕ) → IsGrid g → 1 ≤ length g.shape → first < max 1 (inner_count g) → end ≤ max 1 (inner_count g) → AreSmallParts (left_inner g.shape) (left_inner g.chunk) first end
+pub small_parts : (g : RegularGrid) (first end : ℕ) → IsGrid g → 1 ≤ length g.shape → first < max 1 (inner_chunk_count g) → end ≤ max 1 (inner_chunk_count g) → AreSmallParts (left_inner g.shape) (left_inner g.chunk) first end
 small_parts g first end ok one p q =
     let n = left_inner g.shape in
     let c = left_inner g.chunk in

@@ -36,7 +36,6 @@ pub record IsWide (ns ms is ws : List ℕ) : Type 0 where
 
 pub widened_ok : (ns cs ms ds is : List ℕ) (q : IsSqueezedAlong ns cs ms ds) → IsInside ms is → IsWide ns ms is (widened ns cs ms ds is q)
 widened_ok [] [] [] [] [] q h = record { inside = tt; place = refl }
-widened_ok [] [] [] [] (i ∷ is) q h = absurd h
 widened_ok (n ∷ ns) (c ∷ cs) [] [] is q h =
     let rest = widened_ok ns cs [] [] is q.2 h in
     record { inside = ((let one = q.0 in omega arith), rest.inside); place = let e = rest.place in omega (arith, e) }
@@ -44,21 +43,18 @@ widened_ok (n ∷ ns) (c ∷ cs) (m ∷ ms) (d ∷ ds) (i ∷ is) (inl q) h =
     let rest = widened_ok ns cs ms ds is q.2 h.1 in
     let p = squeezed_product ns cs ms ds q.2 in
     record { inside = ((let same = q.0 in let b = h.0 in omega arith), rest.inside); place = rw (p, rest.place) refl }
-widened_ok (n ∷ ns) (c ∷ cs) (m ∷ ms) (d ∷ ds) [] (inl q) h = absurd h
 widened_ok (n ∷ ns) (c ∷ cs) (m ∷ ms) (d ∷ ds) is (inr q) h =
     let rest = widened_ok ns cs (m ∷ ms) (d ∷ ds) is q.2 h in
     record { inside = ((let one = q.0 in omega arith), rest.inside); place = let e = rest.place in omega (arith, e) }
-widened_ok ns cs ms ds is q h = absurd q
+widened_ok ns cs ms ds is q h = absurd assumption
 
 pub widened_order : (ns cs ms ds is js : List ℕ) (q : IsSqueezedAlong ns cs ms ds) → AreAtMost is js → AreAtMost (widened ns cs ms ds is q) (widened ns cs ms ds js q)
 widened_order [] [] [] [] is js q h = tt
 widened_order (n ∷ ns) (c ∷ cs) [] [] is js q h = (omega arith, widened_order ns cs [] [] is js q.2 h)
 widened_order (n ∷ ns) (c ∷ cs) (m ∷ ms) (d ∷ ds) (i ∷ is) (j ∷ js) (inl q) h = (h.0, widened_order ns cs ms ds is js q.2 h.1)
 widened_order (n ∷ ns) (c ∷ cs) (m ∷ ms) (d ∷ ds) [] [] (inl q) h = (omega arith, widened_order ns cs ms ds [] [] q.2 h)
-widened_order (n ∷ ns) (c ∷ cs) (m ∷ ms) (d ∷ ds) [] (j ∷ js) (inl q) h = absurd h
-widened_order (n ∷ ns) (c ∷ cs) (m ∷ ms) (d ∷ ds) (i ∷ is) [] (inl q) h = absurd h
 widened_order (n ∷ ns) (c ∷ cs) (m ∷ ms) (d ∷ ds) is js (inr q) h = (omega arith, widened_order ns cs (m ∷ ms) (d ∷ ds) is js q.2 h)
-widened_order ns cs ms ds is js q h = absurd q
+widened_order ns cs ms ds is js q h = absurd assumption
 
 -- ---- the region of groups
 
@@ -74,19 +70,12 @@ times_order u v s h = mul-le-mul_right s (let e : u ≤ suc v = omega arith in e
 pub groups_region : (gs : Groups) (ns us vs : List ℕ) → length gs ≡ length ns → IsInside (group_counts gs ns) us → IsInside (group_counts gs ns) vs → AreAtMost us vs
     → IsRegion ns (group_lo gs us) (group_hi gs ns (map suc vs))
 groups_region [] [] [] [] e p q h = tt
-groups_region [] [] [] (v ∷ vs) e p q h = absurd q
-groups_region [] [] (u ∷ us) vs e p q h = absurd p
-groups_region [] (n ∷ ns) us vs e p q h = absurd (omega arith)
-groups_region (g ∷ gs) [] us vs e p q h = absurd (omega arith)
 groups_region (None ∷ gs) (n ∷ ns) (u ∷ us) (v ∷ vs) e p q h = ((let a = h.0 in omega arith), (let a = q.0 in omega arith), groups_region gs ns us vs (omega arith) p.1 q.1 h.1)
 groups_region (Some s ∷ gs) (n ∷ ns) (u ∷ us) (v ∷ vs) e p q h =
     let a = begins_on n s u p.0 in
     let b = times_order u v s h.0 in
     (omega (arith, a, b), omega arith, groups_region gs ns us vs (omega arith) p.1 q.1 h.1)
-groups_region (None ∷ gs) (n ∷ ns) [] vs e p q h = absurd p
-groups_region (None ∷ gs) (n ∷ ns) (u ∷ us) [] e p q h = absurd q
-groups_region (Some s ∷ gs) (n ∷ ns) [] vs e p q h = absurd p
-groups_region (Some s ∷ gs) (n ∷ ns) (u ∷ us) [] e p q h = absurd q
+groups_region gs ns us vs e p q h = absurd (first_of (assumption, omega arith))
 
 -- and that of a group between them
 low_on : (u x s i : ℕ) → u ≤ x → x * s ≤ i → u * s ≤ i
@@ -112,12 +101,7 @@ groups_within (None ∷ gs) (n ∷ ns) (u ∷ us) (x ∷ xs) (v ∷ vs) (i ∷ i
     ((let p = a.0 in let q = w.0 in omega arith), (let p = b.0 in let q = w.1 in omega arith), groups_within gs ns us xs vs is a.1 b.1 w.2)
 groups_within (Some s ∷ gs) (n ∷ ns) (u ∷ us) (x ∷ xs) (v ∷ vs) (i ∷ is) a b w =
     (low_on u x s i a.0 w.0, high_on n x v s i b.0 w.1, groups_within gs ns us xs vs is a.1 b.1 w.2)
-groups_within (None ∷ gs) (n ∷ ns) (u ∷ us) (x ∷ xs) (v ∷ vs) [] a b w = absurd w
-groups_within (Some s ∷ gs) (n ∷ ns) (u ∷ us) (x ∷ xs) (v ∷ vs) [] a b w = absurd w
-groups_within (g ∷ gs) ns [] [] (v ∷ vs) is a b w = absurd b
-groups_within (g ∷ gs) ns [] (x ∷ xs) vs is a b w = absurd a
-groups_within (g ∷ gs) ns (u ∷ us) [] vs is a b w = absurd a
-groups_within (g ∷ gs) ns (u ∷ us) (x ∷ xs) [] is a b w = absurd b
+groups_within gs ns us xs vs is a b w = absurd assumption
 
 -- a list of groups has one for each axis
 pub length-groups : (f : ℕ → _) (sizes : List ℕ) → length (groups_of f sizes) ≡ length sizes

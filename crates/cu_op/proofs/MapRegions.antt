@@ -23,9 +23,7 @@ region_along : (ns cs ms ds ls hs : List ℕ) → IsAlignedAlong ns cs ms ds →
 region_along [] [] [] [] [] [] a r = tt
 region_along (n ∷ ns) (c ∷ cs) (m ∷ ms) (d ∷ ds) (l ∷ ls) (h ∷ hs) a r =
     let e = region_on n c m d l h a.0 r.0 r.1 in (e.0, e.1, region_along ns cs ms ds ls hs a.1 r.2)
-region_along [] [] [] [] ls hs a r = absurd r
-region_along (n ∷ ns) (c ∷ cs) (m ∷ ms) (d ∷ ds) ls hs a r = absurd r
-region_along ns cs ms ds ls hs a r = absurd a
+region_along ns cs ms ds ls hs a r = absurd assumption
 
 within_on : (n l h i : ℕ) → l ≤ i → i < h → ((if n == 1 then 0 else l) ≤ (if n == 1 then 0 else i)) × ((if n == 1 then 0 else i) < (if n == 1 then 1 else h))
 within_on n l h i p q = elim (eqb_tells n 1) [ inl one ↦ rw one.0 (omega arith, omega arith) | inr other ↦ rw other.0 (p, q) ]

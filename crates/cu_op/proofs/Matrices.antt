@@ -12,7 +12,7 @@ use Rattle.cu_grid.proofs.Regions.{inside-at}
 use Rattle.cu_reduce.specs.Products.{batch_of, outer_axes, left_index, right_index}
 use Rattle.cu_op.specs.declared.layout.ArrayInfo.{ArrayInfo}
 use Rattle.cu_op.specs.Arrays.{grid_at}
-use Rattle.cu_op.specs.Matrix.{batch_rank, product_rank, left_inner, right_inner, batch_grid, inner_count, product_index, part_number, end_number, inner_lo, inner_hi, inner_places, first_inner, end_inner, IsProductRegion}
+use Rattle.cu_op.specs.Matrix.{batch_rank, product_rank, left_inner, right_inner, batch_grid, inner_chunk_count, product_index, part_number, end_number, inner_lo, inner_hi, inner_places, first_inner, end_inner, IsProductRegion}
 use Rattle.cu_op.specs.Operation.{MulFits}
 use Rattle.cu_op.specs.Walks.{walk, left_walk, right_walk}
 use Rattle.cu_op.proofs.Filled.{IsFilled, filled_at, filled_take, filled_region, filled_lengths, within_take, within_at, past, other_default, below_range}
@@ -66,7 +66,7 @@ module _ (arrays : List ArrayInfo) (left right out : ℕ) (f : MulFits arrays le
 
   pub record PartBounds (lo hi : List ℕ) : Type 0 where
     pub some : part_number a b lo < end_number a b hi
-    pub most : end_number a b hi ≤ max 1 (inner_count (grid_at arrays left))
+    pub most : end_number a b hi ≤ max 1 (inner_chunk_count (grid_at arrays left))
 
   -- there is no axis that numbers parts
   none_at : f.parts ≡ [] → (xs : List ℕ) (d : ℕ) → length xs ≡ length o → get_or xs (product_rank a b) d ≡ d
@@ -84,7 +84,7 @@ module _ (arrays : List ArrayInfo) (left right out : ℕ) (f : MulFits arrays le
             let last : end_number a b hi ≡ 1 = none_at whole.1 hi 1 n.1 in
             record { some = omega (arith, first, last); most = omega (arith, last) }
         | inr many ↦
-            let size = one_at (max 1 (inner_count (grid_at arrays left))) many.0 in
+            let size = one_at (max 1 (inner_chunk_count (grid_at arrays left))) many.0 in
             let at = filled_at o lo hi (product_rank a b) filled size.1 in
             let last : end_number a b hi ≡ get_or hi (product_rank a b) 0 = other_default hi (product_rank a b) 1 0 (let e = n.1 in let l = size.1 in omega (arith, e, l)) in
             record { some = let l = at.0 in omega (arith, last, l); most = let l = at.1 in let e = size.0 in omega (arith, last, l, e) }
@@ -102,7 +102,7 @@ module _ (arrays : List ArrayInfo) (left right out : ℕ) (f : MulFits arrays le
             let last : end_number a b hi ≡ 1 = none_at whole.1 hi 1 n.1 in
             (omega (arith, first, own), omega (arith, own, last))
         | inr many ↦
-            let size = one_at (max 1 (inner_count (grid_at arrays left))) many.0 in
+            let size = one_at (max 1 (inner_chunk_count (grid_at arrays left))) many.0 in
             let at = within_at lo hi idx (product_rank a b) w (let l = size.1 in omega (arith, long, l)) in
             let last : end_number a b hi ≡ get_or hi (product_rank a b) 0 = other_default hi (product_rank a b) 1 0 (let e = n.1 in let l = size.1 in omega (arith, e, l)) in
             (at.0, (let l = at.1 in omega (arith, last, l)))
@@ -256,7 +256,7 @@ module _ (arrays : List ArrayInfo) (left right out : ℕ) (f : MulFits arrays le
               let last : end_number a b hi ≡ 1 = none_at whole.1 hi 1 n.1 in
               omega (arith, first, last)
           | inr many ↦
-              let size = one_at (max 1 (inner_count (grid_at arrays left))) many.0 in
+              let size = one_at (max 1 (inner_chunk_count (grid_at arrays left))) many.0 in
               let at = filled_at o lo hi (product_rank a b) filled size.1 in
               let unit : get_or co (product_rank a b) 0 ≡ 1 = part_chunk ∙ ap (λ (ns : List ℕ). get_or ns 0 0) many.1 in
               let last : end_number a b hi ≡ get_or hi (product_rank a b) 0 = other_default hi (product_rank a b) 1 0 (let e = n.1 in let l = size.1 in omega (arith, e, l)) in
@@ -334,7 +334,7 @@ module _ (arrays : List ArrayInfo) (left right out : ℕ) (f : MulFits arrays le
         first = elim f.numbered [
           | inl whole ↦ let z : part_number a b lo ≡ 0 = none_at whole.1 lo 0 lo_long in omega (arith, z)
           | inr many ↦
-              let size = one_at (max 1 (inner_count (grid_at arrays left))) many.0 in
+              let size = one_at (max 1 (inner_chunk_count (grid_at arrays left))) many.0 in
               let below = inside-at o lo (product_rank a b) first size.1 in
               let e = size.0 in
               omega (arith, below, e)
@@ -342,7 +342,7 @@ module _ (arrays : List ArrayInfo) (left right out : ℕ) (f : MulFits arrays le
         last = elim f.numbered [
           | inl whole ↦ let z : end_number a b hi ≡ 1 = none_at whole.1 hi 1 hi_long in omega (arith, z)
           | inr many ↦
-              let size = one_at (max 1 (inner_count (grid_at arrays left))) many.0 in
+              let size = one_at (max 1 (inner_chunk_count (grid_at arrays left))) many.0 in
               let l = size.1 in
               let e = size.0 in
               let is : end_number a b hi ≡ get_or hi (product_rank a b) 0 = other_default hi (product_rank a b) 1 0 (omega (arith, hi_long, l)) in

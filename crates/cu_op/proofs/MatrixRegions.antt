@@ -14,11 +14,8 @@ use Rattle.cu_op.specs.Matrix.{batch_rank, product_rank, rows_of, columns_of, le
 
 two_last : (k : ℕ) (ns : List ℕ) → length ns ≡ suc (suc k) → ns ≡ take k ns ++ get_or ns k 0 ∷ get_or ns (suc k) 0 ∷ []
 two_last zero (x ∷ y ∷ []) e = refl
-two_last zero [] e = absurd (omega arith)
-two_last zero (x ∷ []) e = absurd (omega arith)
-two_last zero (x ∷ y ∷ z ∷ ns) e = absurd (omega arith)
-two_last (suc k) [] e = absurd (omega arith)
 two_last (suc k) (x ∷ ns) e = ap (λ xs. x ∷ xs) (two_last k ns (omega arith))
+two_last k ns e = absurd (omega arith)
 
 -- a matrix or a stack of matrices, and a list of numbers
 pub matrix_axes : (ns : List ℕ) → 2 ≤ length ns → ns ≡ batch_of ns ++ get_or ns (length ns - 2) 0 ∷ get_or ns (length ns - 1) 0 ∷ []

@@ -26,28 +26,20 @@ begins_on n c r i positive (inr (m, e)) h =
 
 begins_along : (ns cs rs is : List ℕ) → All (λ c. 0 < c) cs → IsNestedAlong ns cs rs → IsInside ns is → quotients (products (quotients is cs) cs) rs ≡ quotients is rs
 begins_along [] [] [] [] positive a h = refl
-begins_along [] [] [] (i ∷ is) positive a h = absurd h
-begins_along (n ∷ ns) (c ∷ cs) (r ∷ rs) [] positive a h = absurd h
 begins_along (n ∷ ns) (c ∷ cs) (r ∷ rs) (i ∷ is) positive a h =
     rw (begins_on n c r i (All-head (λ x. 0 < x) c cs positive) a.0 h.0, begins_along ns cs rs is (All-tail (λ x. 0 < x) c cs positive) a.1 h.1) refl
-begins_along [] [] (r ∷ rs) is positive a h = absurd a
-begins_along [] (c ∷ cs) rs is positive a h = absurd a
-begins_along (n ∷ ns) [] rs is positive a h = absurd a
-begins_along (n ∷ ns) (c ∷ cs) [] is positive a h = absurd a
+begins_along ns cs rs is positive a h = absurd assumption
 
 -- the first index of a chunk lies in it
 lo_within : (shape chunk coord : List ℕ) → All (λ c. 0 < c) chunk → length chunk ≡ length shape → IsInside (counts_of shape chunk) coord
     → IsWithin (chunk_lo chunk coord) (chunk_hi shape chunk coord) (chunk_lo chunk coord)
 lo_within [] [] [] p e h = tt
-lo_within [] [] (i ∷ is) p e h = absurd h
-lo_within [] (c ∷ cs) is p e h = absurd (omega arith)
-lo_within (n ∷ ns) [] is p e h = absurd (omega arith)
-lo_within (n ∷ ns) (c ∷ cs) [] p e h = absurd h
 lo_within (n ∷ ns) (c ∷ cs) (i ∷ is) p e h =
     let c_positive : 0 < c = p 0 0 (omega arith) in
     let starts : i * c < n = before_end n c i c_positive h.0 in
     let next : (i + 1) * c ≡ i * c + c = omega arith in
     (omega arith, omega arith, lo_within ns cs is (λ k d l. p (suc k) d (omega arith)) (omega arith) h.1)
+lo_within ns cs is p e h = absurd (first_of (assumption, omega arith))
 
 pub begins_within : (g : RegularGrid) (coord : List ℕ) → IsGrid g → IsCoordinate g coord → IsInChunk g coord (chunk_lo g.chunk coord)
 begins_within g coord ok here = lo_within g.shape g.chunk coord ok.positive ok.ranks here

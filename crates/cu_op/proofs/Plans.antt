@@ -9,7 +9,7 @@ use Rattle.cu_op.specs.declared.operation.Planned.{Planned}
 use Rattle.cu_op.specs.Arrays.{grid_at, chunk_room, no_array}
 use Rattle.cu_op.specs.Operation.{reads_of, writes_of}
 use Rattle.cu_op.specs.Cells.{tasks_of}
-use Rattle.cu_op.specs.Projection.{greatest, scratch_room, input_room, output_room, instruction_count, projection}
+use Rattle.cu_op.specs.Projection.{largest, scratch_room, input_room, output_room, instruction_count, projection}
 use Rattle.cu_op.specs.PlanView.{PlanView, operation_at, no_operation}
 use Rattle.cu_op.specs.Sound.{Sound}
 use Rattle.cu_op.proofs.Lists.{greatest_append}
@@ -25,13 +25,13 @@ pub grid_ok : (p : PlanView) (a : ℕ) → Sound p → a < length p.arrays → I
 grid_ok p a s h = (s.arrays a no_array h).grid
 
 -- the scratch is the greatest of what is read and of what is written
-pub scratch_parts : (op : Op) (arrays : List ArrayInfo) → scratch_room arrays op ≡ max (greatest (map (chunk_room arrays) (reads_of op))) (greatest (map (chunk_room arrays) (writes_of op)))
+pub scratch_parts : (op : Op) (arrays : List ArrayInfo) → scratch_room arrays op ≡ max (largest (map (chunk_room arrays) (reads_of op))) (largest (map (chunk_room arrays) (writes_of op)))
 scratch_parts op arrays =
-    ap greatest (map-append (chunk_room arrays) (reads_of op) (writes_of op)) ∙ greatest_append (map (chunk_room arrays) (reads_of op)) (map (chunk_room arrays) (writes_of op))
+    ap largest (map-append (chunk_room arrays) (reads_of op) (writes_of op)) ∙ greatest_append (map (chunk_room arrays) (reads_of op)) (map (chunk_room arrays) (writes_of op))
 
 -- the whole projection from its parts
 pub projection_parts : (op : Op) (arrays : List ArrayInfo) (reserved scratch inputs outputs : ℕ)
-    → scratch ≡ max (greatest (map (chunk_room arrays) (reads_of op))) (greatest (map (chunk_room arrays) (writes_of op))) → inputs ≡ input_room arrays op
+    → scratch ≡ max (largest (map (chunk_room arrays) (reads_of op))) (largest (map (chunk_room arrays) (writes_of op))) → inputs ≡ input_room arrays op
     → outputs ≡ output_room arrays op → reserved + scratch + inputs + outputs + 512 * instruction_count op ≡ projection arrays reserved op
 projection_parts op arrays reserved scratch inputs outputs a b d =
     let x : scratch ≡ scratch_room arrays op = a ∙ sym (scratch_parts op arrays) in

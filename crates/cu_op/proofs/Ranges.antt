@@ -27,7 +27,7 @@ use Rattle.cu_pull.specs.declared.pull.Pull.{Pull as View}
 use Rattle.cu_pull.specs.declared.pull.Pull.TheVariants.{Concat, Stack}
 use Rattle.arrayvec.specs.ArrayVec.{ArrayVec}
 use Rattle.cu_zarr.specs.Key.{chunk_key_of}
-use Rattle.cu_zarr.specs.Layout.{ArrayLayout, chunk_bytes}
+use Rattle.cu_zarr.specs.Layout.{ArrayLayout, stored_chunk_bytes}
 use Rattle.cu_zarr.specs.Stored.{element_in}
 use Rattle.cu_op.specs.Layout.{IsArray}
 use Rattle.cu_op.specs.declared.kernel.Instr.{Instr}
@@ -39,7 +39,7 @@ use Rattle.cu_op.specs.declared.operation.Op.TheVariants.{Map, Pull, Copy, Fold,
 use Rattle.cu_op.specs.declared.operation.Planned.{Planned}
 use Rattle.cu_op.specs.Arrays.{array_at, layout_at, no_array, grid_at, type_at, maker_at}
 use Rattle.cu_op.specs.Kernel.{selected, last_of, instruction_value, results_from, kernel_value}
-use Rattle.cu_op.specs.KernelTypes.{Operand, Typed, Literal, HaveType, Gives, KernelFits, LoadsTypes}
+use Rattle.cu_op.specs.KernelTypes.{Operand, Typed, Literal, HaveType, GivesOperand, KernelFits, LoadsTypes}
 use Rattle.cu_reduce.specs.Folds.{all_some, fold_of, reduced_to}
 use Rattle.cu_reduce.specs.Places.{counted_place, found_at, best_in}
 use Rattle.cu_op.specs.Cells.{task_grid}
@@ -68,9 +68,8 @@ has_at (s ∷ rs) (y ∷ xs) (suc k) r x z er ex = has_at rs xs k r x z.1 er ex
 
 has_push : (rs : List Operand) (xs : List ℤ) (r : Operand) (x : ℤ) → AllZip Has rs xs → Has r x → AllZip Has (rs ++ r ∷ []) (xs ++ x ∷ [])
 has_push [] [] r x z h = (h, tt)
-has_push [] (y ∷ xs) r x z h = absurd z
-has_push (s ∷ rs) [] r x z h = absurd z
 has_push (s ∷ rs) (y ∷ xs) r x z h = (z.0, has_push rs xs r x z.1 h)
+has_push rs xs r x z h = absurd z
 
 -- of two arguments that have a type together, each number is one of the type
 joint_left : (a b : Operand) (t : Dtype) (x : ℤ) → HaveType a b t → Has a x → InRange t x
@@ -89,7 +88,7 @@ selected_range : (t : Dtype) (s x y : ℤ) → InRange t x → InRange t y → I
 selected_range t s x y hx hy = elim (int_eq s (pos 1)) as (λ b. InRange t (if b then x else y)) [ true ↦ hx | false ↦ hy ]
 
 instruction_range : (i : Instr) (types : List Dtype) (rs : List Operand) (r : Operand) (load : ℕ → Option ℤ) (xs : List ℤ) (v : ℤ)
-    → Gives i types rs r → LoadsTypes types load → AllZip Has rs xs → instruction_value i load xs ≡ Some v → Has r v
+    → GivesOperand i types rs r → LoadsTypes types load → AllZip Has rs xs → instruction_value i load xs ≡ Some v → Has r v
 instruction_range (Load k) types rs r load xs v (t, et, er) loads z e = subst (λ (o : Operand). Has o v) (sym er) (loads k t v et e)
 instruction_range (Const x) types rs r load xs v er loads z e = subst (λ (o : Operand). Has o v) (sym er) (sym (same_Some x v e))
 instruction_range (One f t a) types rs r load xs v (d, ea, arg, acc, er) loads z e =
@@ -116,9 +115,8 @@ results_range [] types rs t load xs ys v fits loads z e l =
   where
     length_has : (rs : List Operand) (xs : List ℤ) → AllZip Has rs xs → length rs ≡ length xs
     length_has [] [] z = refl
-    length_has [] (x ∷ xs) z = absurd z
-    length_has (r ∷ rs) [] z = absurd z
     length_has (r ∷ rs) (x ∷ xs) z = ap suc (length_has rs xs z.1)
+    length_has rs xs z = absurd z
 results_range (i ∷ is) types rs t load xs ys v (r, gives, fits) loads z e l =
     let m = some_then (λ x. results_from is load (xs ++ x ∷ [])) (instruction_value i load xs) ys e in
     let here = instruction_range i types rs r load xs m.0 gives loads z m.1 in
@@ -275,7 +273,7 @@ value_range p env s typed a idx x l inside v =
 element_range : (l : ArrayLayout) (held : Option (List ℕ)) (idx : List ℕ) (x : ℤ) → InRange l.dtype l.fill → element_in l held idx ≡ Some x → InRange l.dtype x
 element_range l None idx x fill e = subst (InRange l.dtype) (same_Some l.fill x e) fill
 element_range l (Some bytes) idx x fill e =
-    elim (eqb_tells (length bytes) (chunk_bytes l)) [
+    elim (eqb_tells (length bytes) (stored_chunk_bytes l)) [
       | inl p ↦
           let v : Some (element_at l.endian l.dtype bytes (place_of l.chunk (remainders idx l.chunk))) ≡ Some x = rw p.0 at e in
           subst (InRange l.dtype) (same_Some _ x v) (InRange-element_at l.endian l.dtype bytes (place_of l.chunk (remainders idx l.chunk)))

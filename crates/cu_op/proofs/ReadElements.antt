@@ -29,8 +29,6 @@ pub record ReadsInto (ns cs ds is : List ℕ) : Type 0 where
 
 reads_along : (ns cs ms ds is : List ℕ) → All (λ c. 0 < c) cs → IsAlignedAlong ns cs ms ds → IsInside ms is → ReadsInto ns cs ds is
 reads_along [] [] [] [] [] positive a h = record { inside = tt; chunk = refl }
-reads_along [] [] [] [] (i ∷ is) positive a h = absurd h
-reads_along (n ∷ ns) (c ∷ cs) (m ∷ ms) (d ∷ ds) [] positive a h = absurd h
 reads_along (n ∷ ns) (c ∷ cs) (m ∷ ms) (d ∷ ds) (i ∷ is) positive a h =
     let rest = reads_along ns cs ms ds is (All-tail (λ x. 0 < x) c cs positive) a.1 h.1 in
     let q = quotient_on n c m d i (All-head (λ x. 0 < x) c cs positive) a.0 in
@@ -38,12 +36,7 @@ reads_along (n ∷ ns) (c ∷ cs) (m ∷ ms) (d ∷ ds) (i ∷ is) positive a h 
   where
     cons_same : (x y : ℕ) (xs ys : List ℕ) → x ≡ y → xs ≡ ys → x ∷ xs ≡ y ∷ ys
     cons_same x y xs ys e f = cc
-reads_along [] [] [] (d ∷ ds) is positive a h = absurd a
-reads_along [] [] (m ∷ ms) ds is positive a h = absurd a
-reads_along [] (c ∷ cs) ms ds is positive a h = absurd a
-reads_along (n ∷ ns) [] ms ds is positive a h = absurd a
-reads_along (n ∷ ns) (c ∷ cs) [] ds is positive a h = absurd a
-reads_along (n ∷ ns) (c ∷ cs) (m ∷ ms) [] is positive a h = absurd a
+reads_along ns cs ms ds is positive a h = absurd assumption
 
 pub record ReadsFrom (g r : RegularGrid) (idx : List ℕ) : Type 0 where
   pub inside : IsInside g.shape (back g.shape idx)

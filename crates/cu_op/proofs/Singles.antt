@@ -20,14 +20,14 @@ use Rattle.cu_op.specs.declared.layout.ArrayInfo.{ArrayInfo}
 use Rattle.cu_op.specs.declared.operation.Op.{Op}
 use Rattle.cu_op.specs.declared.operation.Op.TheVariants.{Map, Pull, Copy, Fold, Merge, PairFold, PairMerge, Mul}
 use Rattle.cu_op.specs.declared.operation.Planned.{Planned}
-use Rattle.cu_op.specs.Arrays.{array_at, grid_counts, grid_at, type_at, maker_at, chunk_room, chunk_count, no_array}
+use Rattle.cu_op.specs.Arrays.{array_at, grid_counts, grid_at, type_at, maker_at, chunk_room, array_chunk_count, no_array}
 use Rattle.cu_op.specs.Cells.{tasks_of}
 use Rattle.cu_op.specs.KernelTypes.{KernelFits, Typed}
 use Rattle.cu_op.specs.Layout.{IsArray}
-use Rattle.cu_op.specs.OneMap.{OneMap, Makes, addition_of, IsAlike, AddsAlike}
+use Rattle.cu_op.specs.OneMap.{OneMap, Makes, addition_of, HasGridAndType, AddsAlike}
 use Rattle.cu_op.specs.Operation.{reads_of, writes_of, target_of, IsAlignedAlong, IsAligned, IsReadable, IsMadeBy, IsBefore, Fits}
 use Rattle.cu_op.specs.PlanView.{operation_at}
-use Rattle.cu_op.specs.Projection.{projection, greatest, input_room, output_room, instruction_count, HasSmallRegions}
+use Rattle.cu_op.specs.Projection.{projection, largest, input_room, output_room, instruction_count, HasSmallRegions}
 use Rattle.cu_op.specs.Sound.{Sound, IsOperation, made_chunks, cells_by}
 use Rattle.cu_op.proofs.KeyTexts.{keys_differ}
 use Rattle.cu_op.proofs.Plans.{scratch_parts}
@@ -54,20 +54,20 @@ only_made inputs made a makers h some =
 no_cells : (inputs : List ArrayInfo) → All (λ i. i.maker ≡ None) inputs → sum_by made_chunks inputs ≡ 0
 no_cells [] h = refl
 no_cells (i ∷ is) h =
-    let first : cells_by i.maker (chunk_count i) ≡ 0 = none_made i.maker (chunk_count i) (All-head (λ (x : ArrayInfo). x.maker ≡ None) i is h) in
+    let first : cells_by i.maker (array_chunk_count i) ≡ 0 = none_made i.maker (array_chunk_count i) (All-head (λ (x : ArrayInfo). x.maker ≡ None) i is h) in
     let rest = no_cells is (All-tail (λ (x : ArrayInfo). x.maker ≡ None) i is h) in
-    sum_by-cons made_chunks i is ∙ (let e : cells_by i.maker (chunk_count i) + sum_by made_chunks is ≡ 0 = omega (arith, first, rest) in e)
+    sum_by-cons made_chunks i is ∙ (let e : cells_by i.maker (array_chunk_count i) + sum_by made_chunks is ≡ 0 = omega (arith, first, rest) in e)
   where
     none_made : (m : Option ℕ) (chunks : ℕ) → m ≡ None → cells_by m chunks ≡ 0
     none_made None chunks e = refl
     none_made (Some k) chunks e = cc
 
-cells_few : (inputs : List ArrayInfo) (made : ArrayInfo) → All (λ i. i.maker ≡ None) inputs → chunk_count made ≤ 65536 → sum_by made_chunks (inputs ++ made ∷ []) ≤ 262144
+cells_few : (inputs : List ArrayInfo) (made : ArrayInfo) → All (λ i. i.maker ≡ None) inputs → array_chunk_count made ≤ 65536 → sum_by made_chunks (inputs ++ made ∷ []) ≤ 262144
 cells_few inputs made makers few =
     let whole = sum_by-append made_chunks inputs (made ∷ []) in
     let none = no_cells inputs makers in
-    let one = at_most made.maker (chunk_count made) in
-    let last : sum_by made_chunks (made ∷ []) ≡ cells_by made.maker (chunk_count made) = omega arith in
+    let one = at_most made.maker (array_chunk_count made) in
+    let last : sum_by made_chunks (made ∷ []) ≡ cells_by made.maker (array_chunk_count made) = omega arith in
     omega (arith, whole, none, one, last, few)
   where
     at_most : (m : Option ℕ) (chunks : ℕ) → cells_by m chunks ≤ chunks
@@ -79,8 +79,8 @@ writes_last : (op : Op) (array : ℕ) → Makes op array → writes_of op ≡ ar
 writes_last (Map kernel ins out) array h = ap (λ a. a ∷ []) h
 writes_last op array h = absurd h
 
-tasks_last : (op : Op) (arrays : List ArrayInfo) (array : ℕ) → Makes op array → tasks_of arrays op ≡ chunk_count (array_at arrays array)
-tasks_last (Map kernel ins out) arrays array h = ap (λ a. chunk_count (array_at arrays a)) h
+tasks_last : (op : Op) (arrays : List ArrayInfo) (array : ℕ) → Makes op array → tasks_of arrays op ≡ array_chunk_count (array_at arrays array)
+tasks_last (Map kernel ins out) arrays array h = ap (λ a. array_chunk_count (array_at arrays a)) h
 tasks_last op arrays array h = absurd h
 
 readable_input : (inputs : List ArrayInfo) (made : ArrayInfo) (a : ℕ) → All (λ i. i.maker ≡ None) inputs → a < length inputs → IsReadable (inputs ++ made ∷ []) 0 a
@@ -129,14 +129,14 @@ one_map_sound inputs made o allowed reserved m projected room =
       array_count = omega (arith, n, few);
       operation_count = omega arith;
       input_chunks = λ a h none. elim (cases_lt a (length inputs)) [
-        | inl l ↦ subst (λ (i : ArrayInfo). chunk_count i ≤ 65536) (sym (at_input inputs made a l)) (m.given_chunks a no_array l)
+        | inl l ↦ subst (λ (i : ArrayInfo). array_chunk_count i ≤ 65536) (sym (at_input inputs made a l)) (m.given_chunks a no_array l)
         | inr l ↦ let last : a ≡ length inputs = omega (arith, n, h, l) in
-            subst (λ (b : ℕ). chunk_count (array_at (inputs ++ made ∷ []) b) ≤ 65536) (sym last)
-            (subst (λ (i : ArrayInfo). chunk_count i ≤ 65536) (sym (at_made inputs made)) m.result_chunks)
+            subst (λ (b : ℕ). array_chunk_count (array_at (inputs ++ made ∷ []) b) ≤ 65536) (sym last)
+            (subst (λ (i : ArrayInfo). array_chunk_count i ≤ 65536) (sym (at_made inputs made)) m.result_chunks)
       ];
       tasks =
           let t = tasks_last o.op (inputs ++ made ∷ []) (length inputs) m.makes in
-          let e : chunk_count (array_at (inputs ++ made ∷ []) (length inputs)) ≡ chunk_count made = ap chunk_count (at_made inputs made) in
+          let e : array_chunk_count (array_at (inputs ++ made ∷ []) (length inputs)) ≡ array_chunk_count made = ap array_chunk_count (at_made inputs made) in
           let r = m.result_chunks in
           omega (arith, t, e, r);
       cells = cells_few inputs made m.makers m.result_chunks;
@@ -167,13 +167,13 @@ add_fits t h same =
     (Typed t, (t, refl, refl), (Typed t, (t, refl, refl), (Typed t, (Typed t, Typed t, refl, refl, same, is_integer-IsInteger t h, refl), refl)))
 
 -- an input of an addition, and its result
-alike_input : (inputs : List ArrayInfo) (made : ArrayInfo) (g : RegularGrid) (t : Dtype) (a : ℕ) → All (IsAlike g t) inputs → a < length inputs → IsAlike g t (array_at (inputs ++ made ∷ []) a)
-alike_input inputs made g t a given h = subst (IsAlike g t) (sym (at_input inputs made a h)) (given a no_array h)
+alike_input : (inputs : List ArrayInfo) (made : ArrayInfo) (g : RegularGrid) (t : Dtype) (a : ℕ) → All (HasGridAndType g t) inputs → a < length inputs → HasGridAndType g t (array_at (inputs ++ made ∷ []) a)
+alike_input inputs made g t a given h = subst (HasGridAndType g t) (sym (at_input inputs made a h)) (given a no_array h)
 
-alike_made : (inputs : List ArrayInfo) (made : ArrayInfo) (g : RegularGrid) (t : Dtype) → IsAlike g t made → IsAlike g t (array_at (inputs ++ made ∷ []) (length inputs))
-alike_made inputs made g t ok = subst (IsAlike g t) (sym (at_made inputs made)) ok
+alike_made : (inputs : List ArrayInfo) (made : ArrayInfo) (g : RegularGrid) (t : Dtype) → HasGridAndType g t made → HasGridAndType g t (array_at (inputs ++ made ∷ []) (length inputs))
+alike_made inputs made g t ok = subst (HasGridAndType g t) (sym (at_made inputs made)) ok
 
-aligned_alike : (arrays : List ArrayInfo) (g : RegularGrid) (t : Dtype) (a out : ℕ) → IsAlike g t (array_at arrays a) → IsAlike g t (array_at arrays out) → IsAligned (grid_at arrays a) (grid_at arrays out)
+aligned_alike : (arrays : List ArrayInfo) (g : RegularGrid) (t : Dtype) (a out : ℕ) → HasGridAndType g t (array_at arrays a) → HasGridAndType g t (array_at arrays out) → IsAligned (grid_at arrays a) (grid_at arrays out)
 aligned_alike arrays g t a out p q =
     subst (λ (r : RegularGrid). IsAligned (grid_at arrays a) r) (p.grid ∙ sym q.grid) (same_aligned (grid_at arrays a) p.array.grid)
 
@@ -229,7 +229,7 @@ chunk_few (x ∷ xs) (suc a) ok = chunk_few xs a (All-tail IsArray x xs ok)
 any_room_few : (arrays : List ArrayInfo) (a t : ℕ) → All IsArray arrays → product (grid_at arrays a).chunk * size_of (type_at arrays t) ≤ 2 ^ 43
 any_room_few arrays a t ok = times_few (product (grid_at arrays a).chunk) (size_of (type_at arrays t)) (chunk_few arrays a ok) (size_few (type_at arrays t))
 
-greatest_few : (f : ℕ → ℕ) (m : ℕ) (xs : List ℕ) → All (λ x. f x ≤ m) xs → greatest (map f xs) ≤ m
+greatest_few : (f : ℕ → ℕ) (m : ℕ) (xs : List ℕ) → All (λ x. f x ≤ m) xs → largest (map f xs) ≤ m
 greatest_few f m [] h = omega arith
 greatest_few f m (x ∷ xs) h =
     let first = All-head (λ y. f y ≤ m) x xs h in
@@ -238,7 +238,7 @@ greatest_few f m (x ∷ xs) h =
 
 -- ---- the projection of an operation fits 64 bits
 
-written_few : (ws : List ℕ) (arrays : List ArrayInfo) → All IsArray arrays → greatest (map (chunk_room arrays) ws) ≤ 2 ^ 43
+written_few : (ws : List ℕ) (arrays : List ArrayInfo) → All IsArray arrays → largest (map (chunk_room arrays) ws) ≤ 2 ^ 43
 written_few ws arrays ok = greatest_few (chunk_room arrays) (2 ^ 43) ws (λ k d h. any_room_few arrays (get_or ws k d) (get_or ws k d) ok)
 
 group_few : (group room : ℕ) → group ≤ 65536 → room ≤ 2 ^ 44 → group * room ≤ 2 ^ 60
@@ -285,11 +285,7 @@ projection_few op arrays reserved ok reads target ins code small few =
 
 -- an operation that fits its arrays has small regions
 pub fits_small : (op : Op) (arrays : List ArrayInfo) → Fits arrays op → HasSmallRegions op
-fits_small (Map kernel ins out) arrays fits = tt
-fits_small (Pull pull ins out) arrays fits = tt
 fits_small (Copy region source out) arrays fits = fits.regions.chunk_elements
-fits_small (Fold kind axes source out) arrays fits = tt
 fits_small (Merge kind axis group source out) arrays fits = fits.0.few
-fits_small (PairFold least axis source values out) arrays fits = tt
 fits_small (PairMerge least axis group value_source place_source values out) arrays fits = fits.0.few
-fits_small (Mul left right out) arrays fits = tt
+fits_small op arrays fits = tt

@@ -18,20 +18,12 @@ pub record IsSpanOn (n c l h : ℕ) : Type 0 where
 abbrev pub IsSpan : List ℕ → List ℕ → List ℕ → List ℕ → Type 0
 IsSpan [] [] [] [] = Unit {0}
 IsSpan (n ∷ ns) (c ∷ cs) (l ∷ ls) (h ∷ hs) = IsSpanOn n c l h × IsSpan ns cs ls hs
-IsSpan [] [] [] (h ∷ hs) = ⊥
-IsSpan [] [] (l ∷ ls) hs = ⊥
-IsSpan [] (c ∷ cs) ls hs = ⊥
-IsSpan (n ∷ ns) [] ls hs = ⊥
-IsSpan (n ∷ ns) (c ∷ cs) [] hs = ⊥
-IsSpan (n ∷ ns) (c ∷ cs) (l ∷ ls) [] = ⊥
+IsSpan ns cs ls hs = ⊥
 
 pub chunk_span : (ns cs is : List ℕ) → length cs ≡ length ns → length is ≡ length ns → IsSpan ns cs (chunk_lo cs is) (chunk_hi ns cs is)
 chunk_span [] [] [] e f = tt
 chunk_span (n ∷ ns) (c ∷ cs) (i ∷ is) e f = (record { number = i; starts = refl; ends = omega arith }, chunk_span ns cs is (omega arith) (omega arith))
-chunk_span [] [] (i ∷ is) e f = absurd (omega arith)
-chunk_span [] (c ∷ cs) is e f = absurd (omega arith)
-chunk_span (n ∷ ns) [] is e f = absurd (omega arith)
-chunk_span (n ∷ ns) (c ∷ cs) [] e f = absurd (omega arith)
+chunk_span ns cs is e f = absurd (omega arith)
 
 pub span_take : (k : ℕ) (ns cs ls hs : List ℕ) → IsSpan ns cs ls hs → IsSpan (take k ns) (take k cs) (take k ls) (take k hs)
 span_take zero ns cs ls hs s = tt
@@ -79,9 +71,7 @@ back_along_span : (ns cs ms ds ls hs : List ℕ) → All (λ c. 0 < c) cs → Is
 back_along_span [] [] [] [] [] [] p a s = tt
 back_along_span (n ∷ ns) (c ∷ cs) (m ∷ ms) (d ∷ ds) (l ∷ ls) (h ∷ hs) p a s =
     (back_on n c m d l h (All-head (λ x. 0 < x) c cs p) a.0 s.0, back_along_span ns cs ms ds ls hs (All-tail (λ x. 0 < x) c cs p) a.1 s.1)
-back_along_span [] [] [] [] ls hs p a s = absurd s
-back_along_span (n ∷ ns) (c ∷ cs) (m ∷ ms) (d ∷ ds) ls hs p a s = absurd s
-back_along_span ns cs ms ds ls hs p a s = absurd a
+back_along_span ns cs ms ds ls hs p a s = absurd assumption
 
 pub span_back : (g r : RegularGrid) (lo hi : List ℕ) → All (λ c. 0 < c) g.chunk → IsAligned g r → IsSpan r.shape r.chunk lo hi → IsSpan g.shape g.chunk (back_as 0 g.shape lo) (back_as 1 g.shape hi)
 span_back g r lo hi positive al s =
@@ -118,9 +108,7 @@ span_chunk (n ∷ ns) (c ∷ cs) (l ∷ ls) (h ∷ hs) (i ∷ is) p s w =
     let first = whole_on n c l h i (All-head (λ x. 0 < x) c cs p) s.0 w.0 w.1 in
     let rest = span_chunk ns cs ls hs is (All-tail (λ x. 0 < x) c cs p) s.1 w.2 in
     (cons_same _ _ _ _ first.0 rest.0, cons_same _ _ _ _ first.1 rest.1)
-span_chunk [] [] [] [] (i ∷ is) p s w = absurd w
-span_chunk (n ∷ ns) (c ∷ cs) (l ∷ ls) (h ∷ hs) [] p s w = absurd w
-span_chunk ns cs ls hs is p s w = absurd s
+span_chunk ns cs ls hs is p s w = absurd assumption
 
 -- it has at most as many elements as a chunk
 pub span_few : (ns cs ls hs : List ℕ) → IsSpan ns cs ls hs → product (differences hs ls) ≤ product cs

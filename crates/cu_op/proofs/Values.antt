@@ -9,7 +9,7 @@ use Rattle.cu_shape.specs.Index.{back}
 use Rattle.cu_pull.specs.declared.provenance.Provenance.{Provenance}
 use Rattle.cu_pull.specs.declared.provenance.Provenance.TheVariants.{From, Const as Number}
 use Rattle.cu_op.specs.declared.kernel.Instr.{Instr}
-use Rattle.cu_op.specs.declared.kernel.Instr.TheVariants.{Load, Const, One, Two, Select}
+use Rattle.cu_op.specs.declared.kernel.Instr.TheVariants.{Load}
 use Rattle.cu_op.specs.declared.layout.ArrayInfo.{ArrayInfo}
 use Rattle.cu_op.specs.declared.operation.Op.{Op}
 use Rattle.cu_op.specs.declared.operation.Op.TheVariants.{Map, Pull, Copy, Fold, Merge, PairFold, PairMerge, Mul}
@@ -30,10 +30,7 @@ use Rattle.cu_op.specs.Value.{Elements, loaded, pulled, counted_at, pair_part, r
 -- a kernel depends on what it loads alone
 same_instruction : (i : Instr) (load other : ℕ → Option ℤ) (results : List ℤ) → ((k : ℕ) → load k ≡ other k) → instruction_value i load results ≡ instruction_value i other results
 same_instruction (Load k) load other results h = h k
-same_instruction (Const x) load other results h = refl
-same_instruction (One f t a) load other results h = refl
-same_instruction (Two f t a b) load other results h = refl
-same_instruction (Select c a b) load other results h = refl
+same_instruction i load other results h = refl
 
 pub same_then : {A B : Type 0} (o q : Option A) (f g : A → Option B) → o ≡ q → ((x : A) → f x ≡ g x) → option_and_then f o ≡ option_and_then g q
 same_then None None f g e h = refl

@@ -8,7 +8,7 @@ use Rattle.cu_num.specs.declared.layout.Endian.TheVariants.{Little}
 use Rattle.cu_shape.specs.Index.{product}
 use Rattle.cu_grid.specs.Counts.{counts_of}
 use Rattle.cu_grid.specs.Grid.{RegularGrid}
-use Rattle.cu_zarr.specs.Layout.{ArrayLayout, chunk_bytes}
+use Rattle.cu_zarr.specs.Layout.{ArrayLayout, stored_chunk_bytes}
 use Rattle.cu_op.specs.declared.layout.ArrayInfo.{ArrayInfo}
 use Rattle.cu_op.specs.Layout.{layout_view}
 
@@ -36,11 +36,11 @@ maker_at arrays a = (array_at arrays a).maker
 
 -- the bytes of a chunk of an array, also at the edge
 abbrev pub chunk_room : List ArrayInfo → ℕ → ℕ
-chunk_room arrays a = chunk_bytes (layout_at arrays a)
+chunk_room arrays a = stored_chunk_bytes (layout_at arrays a)
 
 -- how many chunks an array has on each axis, and in all
 abbrev pub grid_counts : RegularGrid → List ℕ
 grid_counts g = counts_of g.shape g.chunk
 
-abbrev pub chunk_count : ArrayInfo → ℕ
-chunk_count a = product (grid_counts a.layout.grid)
+abbrev pub array_chunk_count : ArrayInfo → ℕ
+array_chunk_count a = product (grid_counts a.layout.grid)

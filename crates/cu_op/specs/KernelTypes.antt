@@ -32,20 +32,20 @@ HaveType (Literal x) (Typed b) t = (b ≡ t) × InRange t x
 HaveType (Literal x) (Literal y) t = ⊥
 
 -- the instruction names given inputs and earlier results, fits their types, and gives this
-abbrev pub Gives : Instr → List Dtype → List Operand → Operand → Type 0
-Gives (Load k) types results r = (t : Dtype) × (slice_get types k ≡ Some t) × (r ≡ Typed t)
-Gives (Const x) types results r = r ≡ Literal x
-Gives (One f t a) types results r =
+abbrev pub GivesOperand : Instr → List Dtype → List Operand → Operand → Type 0
+GivesOperand (Load k) types results r = (t : Dtype) × (slice_get types k ≡ Some t) × (r ≡ Typed t)
+GivesOperand (Const x) types results r = r ≡ Literal x
+GivesOperand (One f t a) types results r =
     (d : Dtype) × (slice_get results a ≡ Some (Typed d)) × IsArgument f d t × IsTrue (accepts1 f t) × (r ≡ Typed (result_type1 f t))
-Gives (Two f t a b) types results r =
+GivesOperand (Two f t a b) types results r =
     (x : Operand) × (y : Operand) × (slice_get results a ≡ Some x) × (slice_get results b ≡ Some y) × HaveType x y t × IsTrue (accepts2 f t) × (r ≡ Typed (result_type2 f t))
-Gives (Select c a b) types results r =
+GivesOperand (Select c a b) types results r =
     (x : Operand) × (y : Operand) × (t : Dtype) × (slice_get results c ≡ Some (Typed Bool)) × (slice_get results a ≡ Some x) × (slice_get results b ≡ Some y) × HaveType x y t × (r ≡ Typed t)
 
 -- each instruction fits what stands before it, and the last gives numbers of this type
 abbrev pub KernelFits : List Instr → List Dtype → List Operand → Dtype → Type 0
 KernelFits [] types results t = last_of results ≡ Some (Typed t)
-KernelFits (i ∷ is) types results t = (r : Operand) × Gives i types results r × KernelFits is types (results ++ r ∷ []) t
+KernelFits (i ∷ is) types results t = (r : Operand) × GivesOperand i types results r × KernelFits is types (results ++ r ∷ []) t
 
 -- the elements that are loaded are numbers of the inputs' types
 abbrev pub LoadsTypes : List Dtype → (ℕ → Option ℤ) → Type 0

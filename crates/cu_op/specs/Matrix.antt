@@ -34,8 +34,8 @@ abbrev pub batch_grid : RegularGrid → RegularGrid
 batch_grid g = record { shape = batch_of g.shape; chunk = batch_of g.chunk }
 
 -- how many chunks the inner axis has
-abbrev pub inner_count : RegularGrid → ℕ
-inner_count g = div_ceil (left_inner g.shape) (left_inner g.chunk)
+abbrev pub inner_chunk_count : RegularGrid → ℕ
+inner_chunk_count g = div_ceil (left_inner g.shape) (left_inner g.chunk)
 
 -- the sizes and chunk sizes of the axis that numbers the parts; there may be none where there is one part
 abbrev pub HasParts : ℕ → List ℕ → List ℕ → Type 0
@@ -89,5 +89,5 @@ pub record IsProductRegion (a b : RegularGrid) (lo hi : List ℕ) : Type 0 where
   pub inner : 1 ≤ length a.shape
   pub lo_axes : product_rank a.shape b.shape ≤ length lo
   pub hi_axes : product_rank a.shape b.shape ≤ length hi
-  pub first : part_number a.shape b.shape lo < max 1 (inner_count a)
-  pub last : end_number a.shape b.shape hi ≤ max 1 (inner_count a)
+  pub first : part_number a.shape b.shape lo < max 1 (inner_chunk_count a)
+  pub last : end_number a.shape b.shape hi ≤ max 1 (inner_chunk_count a)

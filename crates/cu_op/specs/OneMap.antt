@@ -10,7 +10,7 @@ use Rattle.cu_num.specs.declared.layout.Sep.TheVariants.{Slash}
 use Rattle.cu_op.specs.declared.layout.ArrayInfo.{ArrayInfo}
 use Rattle.cu_op.specs.declared.operation.Op.{Op}
 use Rattle.cu_op.specs.declared.operation.Op.TheVariants.{Map}
-use Rattle.cu_op.specs.Arrays.{grid_counts, chunk_count}
+use Rattle.cu_op.specs.Arrays.{grid_counts, array_chunk_count}
 use Rattle.cu_shape.specs.Index.{product}
 use Rattle.cu_op.specs.Layout.{IsArray}
 use Rattle.cu_op.specs.Operation.{reads_of, Fits}
@@ -27,8 +27,8 @@ pub record OneMap (inputs : List ArrayInfo) (made : ArrayInfo) (op : Op) : Type 
   pub makers : All (λ a. a.maker ≡ None) inputs
   pub maker : made.maker ≡ Some 0
   pub encoding : made.layout.encoding ≡ Plain Slash
-  pub given_chunks : All (λ a. chunk_count a ≤ 65536) inputs
-  pub result_chunks : chunk_count made ≤ 65536
+  pub given_chunks : All (λ a. array_chunk_count a ≤ 65536) inputs
+  pub result_chunks : array_chunk_count made ≤ 65536
   pub few : length inputs < 2 ^ 31
   pub makes : Makes op (length inputs)
   pub reads : All (λ a. a < length inputs) (reads_of op)
@@ -39,7 +39,7 @@ abbrev pub addition_of : Dtype → ℕ → ℕ → ℕ → Op
 addition_of t i j out = Map (record { code = record { items = Load 0 ∷ Load 1 ∷ Two Add t 0 1 ∷ [] } }) (record { items = i ∷ j ∷ [] }) out
 
 -- an array with this grid and type
-pub record IsAlike (g : RegularGrid) (t : Dtype) (a : ArrayInfo) : Type 0 where
+pub record HasGridAndType (g : RegularGrid) (t : Dtype) (a : ArrayInfo) : Type 0 where
   pub array : IsArray a
   pub grid : a.layout.grid ≡ g
   pub dtype : a.layout.dtype ≡ t
@@ -48,10 +48,10 @@ pub record IsAlike (g : RegularGrid) (t : Dtype) (a : ArrayInfo) : Type 0 where
 pub record AddsAlike (inputs : List ArrayInfo) (made : ArrayInfo) (g : RegularGrid) (t : Dtype) (i j : ℕ) : Type 0 where
   pub integer : IsInteger t
   pub few_chunks : product (grid_counts g) ≤ 65536
-  pub given : All (IsAlike g t) inputs
+  pub given : All (HasGridAndType g t) inputs
   pub makers : All (λ a. a.maker ≡ None) inputs
   pub few : length inputs < 2 ^ 31
-  pub result : IsAlike g t made
+  pub result : HasGridAndType g t made
   pub maker : made.maker ≡ Some 0
   pub encoding : made.layout.encoding ≡ Plain Slash
   pub first : i < length inputs

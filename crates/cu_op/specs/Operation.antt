@@ -17,7 +17,7 @@ use Rattle.cu_op.specs.declared.operation.Op.{Op}
 use Rattle.cu_op.specs.declared.operation.Op.TheVariants.{Map, Pull, Copy, Fold, Merge, PairFold, PairMerge, Mul}
 use Rattle.cu_op.specs.Arrays.{grid_at, type_at, maker_at}
 use Rattle.cu_op.specs.KernelTypes.{KernelFits}
-use Rattle.cu_op.specs.Matrix.{batch_rank, rows_of, columns_of, left_inner, right_inner, batch_grid, inner_count, HasParts}
+use Rattle.cu_op.specs.Matrix.{batch_rank, rows_of, columns_of, left_inner, right_inner, batch_grid, inner_chunk_count, HasParts}
 use Rattle.cu_op.specs.Nested.{IsNested}
 use Rattle.cu_op.specs.Partial.{chunk_groups, place_groups, merge_groups, partial_grid, IsSqueezed}
 use Rattle.cu_num.specs.Dtype.{IsInteger}
@@ -174,7 +174,7 @@ pub record MulFits (arrays : List ArrayInfo) (left right out : ℕ) : Type 0 whe
   pub rank : length sizes ≡ batch_rank (grid_at arrays left).shape (grid_at arrays right).shape
   pub left_batch : IsAligned (batch_grid (grid_at arrays left)) (record { shape = sizes; chunk = chunks })
   pub right_batch : IsAligned (batch_grid (grid_at arrays right)) (record { shape = sizes; chunk = chunks })
-  pub numbered : HasParts (inner_count (grid_at arrays left)) parts part_chunks
+  pub numbered : HasParts (inner_chunk_count (grid_at arrays left)) parts part_chunks
   pub shape : (grid_at arrays out).shape ≡ sizes ++ rows_of (grid_at arrays left).shape ++ columns_of (grid_at arrays right).shape ++ parts
   pub chunk : (grid_at arrays out).chunk ≡ chunks ++ rows_of (grid_at arrays left).chunk ++ columns_of (grid_at arrays right).chunk ++ part_chunks
 

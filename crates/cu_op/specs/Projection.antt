@@ -9,13 +9,13 @@ use Rattle.cu_shape.specs.Index.{product}
 use Rattle.cu_op.specs.Arrays.{grid_at, type_at, chunk_room}
 use Rattle.cu_op.specs.Operation.{reads_of, writes_of, target_of}
 
-abbrev pub greatest : List ℕ → ℕ
-greatest [] = 0
-greatest (n ∷ ns) = max n (greatest ns)
+abbrev pub largest : List ℕ → ℕ
+largest [] = 0
+largest (n ∷ ns) = max n (largest ns)
 
 -- the greatest chunk of an array that the operation reads or writes
 abbrev pub scratch_room : List ArrayInfo → Op → ℕ
-scratch_room arrays op = greatest (map (chunk_room arrays) (reads_of op ++ writes_of op))
+scratch_room arrays op = largest (map (chunk_room arrays) (reads_of op ++ writes_of op))
 
 -- A map and a product have one chunk of each input, an input that stands twice counted twice; a view takes elements out of the scratch
 -- chunk; a fold has one chunk of its source, and a merge a whole group of such chunks. A copy has its region, counted once.

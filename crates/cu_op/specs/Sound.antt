@@ -5,7 +5,7 @@ use Rattle.cu_zarr.specs.Key.{chunk_key_of}
 use Rattle.cu_op.specs.declared.layout.ArrayInfo.{ArrayInfo}
 use Rattle.cu_op.specs.declared.operation.Planned.{Planned}
 use Rattle.cu_op.specs.Layout.{IsArray}
-use Rattle.cu_op.specs.Arrays.{array_at, grid_at, maker_at, chunk_count}
+use Rattle.cu_op.specs.Arrays.{array_at, grid_at, maker_at, array_chunk_count}
 use Rattle.cu_op.specs.Operation.{reads_of, writes_of, IsReadable, IsMadeBy, Fits}
 use Rattle.cu_op.specs.Projection.{projection}
 use Rattle.cu_op.specs.Cells.{tasks_of}
@@ -39,7 +39,7 @@ cells_by None chunks = 0
 cells_by (Some maker) chunks = chunks
 
 abbrev pub made_chunks : ArrayInfo → ℕ
-made_chunks a = cells_by a.maker (chunk_count a)
+made_chunks a = cells_by a.maker (array_chunk_count a)
 
 pub record Sound (p : PlanView) : Type 0 where
   pub operations : (k : ℕ) → k < length p.ops → IsOperation p.arrays p.reserved k (operation_at p.ops k)
@@ -49,6 +49,6 @@ pub record Sound (p : PlanView) : Type 0 where
   pub out : p.out < length p.arrays
   pub array_count : length p.arrays < 2 ^ 32
   pub operation_count : length p.ops < 2 ^ 32
-  pub input_chunks : (a : ℕ) → a < length p.arrays → maker_at p.arrays a ≡ None → chunk_count (array_at p.arrays a) ≤ 65536
+  pub input_chunks : (a : ℕ) → a < length p.arrays → maker_at p.arrays a ≡ None → array_chunk_count (array_at p.arrays a) ≤ 65536
   pub tasks : sum_by (λ o. tasks_of p.arrays o.op) p.ops ≤ 65536
   pub cells : sum_by made_chunks p.arrays ≤ 262144

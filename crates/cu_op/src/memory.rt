@@ -3,7 +3,7 @@ ghost use Rattle.cu_num.specs.Dtype.{size_of};
 ghost use Rattle.cu_shape.specs.Index.{product};
 ghost use Rattle.cu_op.specs.Arrays.{type_at, chunk_room};
 ghost use Rattle.cu_op.specs.Operation.{reads_of, writes_of, target_of};
-ghost use Rattle.cu_op.specs.Projection.{greatest, projection, input_room, output_room, value_room};
+ghost use Rattle.cu_op.specs.Projection.{largest, projection, input_room, output_room, value_room};
 
 use crate::layout::ArrayInfo;
 use crate::operation::Op;
@@ -41,7 +41,7 @@ fn room_of(arrays: &[ArrayInfo], array: u32) -> u64
 /// The greatest of the chunks of the arrays that the operation reads, in bytes.
 fn greatest_read(arrays: &[ArrayInfo], op: &Op) -> u64
     requires { All (λ a. a < length arrays.now) (reads_of op.now) }
-    ensures { result ≡ greatest (map (chunk_room arrays.now) (reads_of op.now)) }
+    ensures { result ≡ largest (map (chunk_room arrays.now) (reads_of op.now)) }
 {
     let mut room = 0;
     for at in 0..op.read_count() {
@@ -55,7 +55,7 @@ fn greatest_read(arrays: &[ArrayInfo], op: &Op) -> u64
 /// The greatest of the chunks of those that it writes.
 fn greatest_written(arrays: &[ArrayInfo], op: &Op) -> u64
     requires { All (λ a. a < length arrays.now) (writes_of op.now) }
-    ensures { result ≡ greatest (map (chunk_room arrays.now) (writes_of op.now)) }
+    ensures { result ≡ largest (map (chunk_room arrays.now) (writes_of op.now)) }
 {
     let mut room = 0;
     for at in 0..2 {

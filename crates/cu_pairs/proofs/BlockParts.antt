@@ -10,8 +10,8 @@ use Rattle.cu_num.specs.Element.{element_at, bytes_at}
 use Rattle.cu_num.specs.declared.types.Dtype.{Dtype}
 use Rattle.cu_num.specs.declared.types.Dtype.TheVariants.{Int64}
 use Rattle.cu_num.specs.declared.layout.Endian.TheVariants.{Little}
-use Rattle.cu_pairs.specs.Columns.{table, place_in}
-use Rattle.cu_pairs.specs.Blocks.{IsPart}
+use Rattle.cu_pairs.specs.Columns.{table, sought_place}
+use Rattle.cu_pairs.specs.Blocks.{IsTablePart}
 use Rattle.cu_pairs.proofs.Parts.{part_inside, part_length, element_of_part, bytes_between}
 
 -- ---- a part of the elements
@@ -34,25 +34,25 @@ part_bytes t bytes from count size e room =
     let start : from * size ≡ from * size_of t = ap (λ s. from * s) e in
     part_length bytes (from * size) ((from + count) * size - from * size) (omega arith) ∙ is
 
-counted_same : (f : Option ℕ) (first : ℕ) (places : List ℕ) (i k other : ℕ) → f ≡ Some first → place_in f places i k ≡ place_in f places i other
-counted_same f first places i k other e = ap (λ g. place_in g places i k) e ∙ ap (λ g. place_in g places i other) (sym e)
+counted_same : (f : Option ℕ) (first : ℕ) (places : List ℕ) (i k other : ℕ) → f ≡ Some first → sought_place f places i k ≡ sought_place f places i other
+counted_same f first places i k other e = ap (λ g. sought_place g places i k) e ∙ ap (λ g. sought_place g places i other) (sym e)
 
 pub part_counted : (t : Dtype) (width : ℕ) (bytes : List ℕ) (whole_first : Option ℕ) (first : ℕ) (places : List ℕ) (from count size : ℕ) → whole_first ≡ Some first → size ≡ size_of t → (from + count) * size_of t ≤ length bytes
-    → IsPart (table t width bytes whole_first places) (table t width (take ((from + count) * size - from * size) (drop (from * size) bytes)) (Some first) places) from count
+    → IsTablePart (table t width bytes whole_first places) (table t width (take ((from + count) * size - from * size) (drop (from * size) bytes)) (Some first) places) from count
 part_counted t width bytes whole_first first places from count size is e room = record {
   bytes = let long = part_bytes t bytes from count size e room in omega arith;
   places = tt;
   elements = λ k b. element_in t bytes from count size k e room b;
-  beside = λ k i b. ap (λ f. place_in f places i k) (sym is) ∙ counted_same whole_first first places i k (from + k) is;
+  beside = λ k i b. ap (λ f. sought_place f places i k) (sym is) ∙ counted_same whole_first first places i k (from + k) is;
 }
 
 pub part_beside : (t : Dtype) (width : ℕ) (bytes : List ℕ) (whole_first : Option ℕ) (places : List ℕ) (from count size : ℕ) → whole_first ≡ None → size ≡ size_of t → (from + count) * size_of t ≤ length bytes → (from + count) * 8 ≤ length places
-    → IsPart (table t width bytes whole_first places) (table t width (take ((from + count) * size - from * size) (drop (from * size) bytes)) None (take ((from + count) * 8 - from * 8) (drop (from * 8) places))) from count
+    → IsTablePart (table t width bytes whole_first places) (table t width (take ((from + count) * size - from * size) (drop (from * size) bytes)) None (take ((from + count) * 8 - from * 8) (drop (from * 8) places))) from count
 part_beside t width bytes whole_first places from count size is e room beside = record {
   bytes = let long = part_bytes t bytes from count size e room in omega arith;
   places = let long = part_bytes Int64 places from count 8 refl beside in omega arith;
   elements = λ k b. element_in t bytes from count size k e room b;
-  beside = λ k i b. element_in Int64 places from count 8 k refl beside b ∙ ap (λ f. place_in f places i (from + k)) (sym is);
+  beside = λ k i b. element_in Int64 places from count 8 k refl beside b ∙ ap (λ f. sought_place f places i (from + k)) (sym is);
 }
 
 -- ---- sizes

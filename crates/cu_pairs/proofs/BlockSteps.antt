@@ -7,8 +7,8 @@ use Rattle.cu_num.specs.declared.types.Dtype.{Dtype}
 use Rattle.cu_num.specs.declared.layout.Endian.TheVariants.{Little}
 use Rattle.cu_reduce.specs.Places.{Found, is_better}
 use Rattle.cu_pairs.specs.Elements.{found, HasFound}
-use Rattle.cu_pairs.specs.Columns.{Table, table, found_in, place_in, IsBestOf, HasBests}
-use Rattle.cu_pairs.specs.Blocks.{found_along, sizes, HasBestsAlong, IsPart}
+use Rattle.cu_pairs.specs.Columns.{Table, table, found_in, sought_place, IsBestOf, HasBests}
+use Rattle.cu_pairs.specs.Blocks.{found_along, sizes, HasBestsAlong, IsTablePart}
 use Rattle.cu_num.specs.declared.types.Dtype.TheVariants.{Int64}
 use Rattle.std.proofs.lemmas.Bool.{cases_lt}
 use Rattle.cu_pairs.proofs.BlockParts.{BlockWritten}
@@ -23,7 +23,7 @@ best_same least f g count best e h = record {
 
 -- a column of a block that was taken out
 pub block_best : (least : Test) (t : Dtype) (width : ℕ) (bytes : List ℕ) (first : Option ℕ) (places : List ℕ) (own_width : ℕ) (own_bytes : List ℕ) (own_first : Option ℕ) (own_places : List ℕ) (block count k : ℕ) (best : Found)
-    → IsPart (table t width bytes first places) (table t own_width own_bytes own_first own_places) (block * count * width) (count * width) → own_width ≡ width → k < width
+    → IsTablePart (table t width bytes first places) (table t own_width own_bytes own_first own_places) (block * count * width) (count * width) → own_width ≡ width → k < width
     → IsBestOf least (found_in (table t own_width own_bytes own_first own_places) k) count best → IsBestOf least (found_along (table t width bytes first places) count block k) count best
 block_best least t width bytes first places own_width own_bytes own_first own_places block count k best part e below h =
     best_same least (found_in (table t own_width own_bytes own_first own_places) k) (found_along (table t width bytes first places) count block k) count best
@@ -33,8 +33,8 @@ block_best least t width bytes first places own_width own_bytes own_first own_pl
     let at : block * count * width + (j * width + k) ≡ (block * count + j) * width + k = omega arith in
     let value : element_at Little t own_bytes (j * own_width + k) ≡ element_at Little t bytes ((block * count + j) * width + k) =
     ap (element_at Little t own_bytes) row ∙ part.elements (j * width + k) (omega arith) ∙ ap (element_at Little t bytes) at in
-    let place : place_in own_first own_places j (j * own_width + k) ≡ place_in first places j ((block * count + j) * width + k) =
-    ap (place_in own_first own_places j) row ∙ part.beside (j * width + k) j (omega arith) ∙ ap (place_in first places j) at in
+    let place : sought_place own_first own_places j (j * own_width + k) ≡ sought_place first places j ((block * count + j) * width + k) =
+    ap (sought_place own_first own_places j) row ∙ part.beside (j * width + k) j (omega arith) ∙ ap (sought_place first places j) at in
     λ i. found (value i) (place i))
     h
 
@@ -44,7 +44,7 @@ HasBestAlong least r count b values places k =
     (best : Found) × IsBestOf least (found_along r count b k) count best × HasFound r.t values places (b * r.width + k) best
 
 pub blocks_more : (least : Test) (t : Dtype) (width : ℕ) (bytes : List ℕ) (first : Option ℕ) (places : List ℕ) (own_width : ℕ) (own_bytes : List ℕ) (own_first : Option ℕ) (own_places : List ℕ) (block count : ℕ)
-    → IsPart (table t width bytes first places) (table t own_width own_bytes own_first own_places) (block * count * width) (count * width) → own_width ≡ width → 0 < count
+    → IsTablePart (table t width bytes first places) (table t own_width own_bytes own_first own_places) (block * count * width) (count * width) → own_width ≡ width → 0 < count
     → (values found_places own_values found_own whole_values whole_places : List ℕ) → HasBests least (table t own_width own_bytes own_first own_places) count own_values found_own
     → BlockWritten t block width values own_values whole_values → BlockWritten Int64 block width found_places found_own whole_places
     → HasBestsAlong least (table t width bytes first places) (sizes block count) values found_places → HasBestsAlong least (table t width bytes first places) (sizes (block + 1) count) whole_values whole_places

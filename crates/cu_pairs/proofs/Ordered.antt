@@ -14,15 +14,12 @@ factor a (suc b) p h = omega arith
 -- the index lies inside the whole array
 pub inside_whole : (shape lo dims : List ℕ) (p : ℕ) → IsRegion shape lo (sums lo dims) → length dims ≡ length lo → p < product dims → IsInside shape (sums lo (index_at dims p))
 inside_whole [] [] [] p r e h = tt
-inside_whole [] [] (d ∷ ds) p r e h = absurd (omega arith)
-inside_whole [] (l ∷ ls) dims p r e h = absurd r
-inside_whole (s ∷ ss) [] dims p r e h = absurd r
-inside_whole (s ∷ ss) (l ∷ ls) [] p r e h = absurd (omega arith)
 inside_whole (s ∷ ss) (l ∷ ls) (d ∷ ds) p r e h =
     let some = factor d (product ds) p h in
     let below : p / product ds < d = div_below p (product ds) d some h in
     let within = r.1 in
     (omega arith, inside_whole ss ls ds (p % product ds) r.2 (omega arith) (mod_below p (product ds) some))
+inside_whole shape lo dims p r e h = absurd (first_of (assumption, omega arith))
 
 quotient_order : (p q m : ℕ) → 0 < m → p ≤ q → p / m ≤ q / m
 quotient_order p q m some h =
@@ -37,10 +34,6 @@ quotient_order p q m some h =
 pub places_rise : (shape lo dims : List ℕ) (p q : ℕ) → IsRegion shape lo (sums lo dims) → length dims ≡ length lo → p ≤ q → q < product dims
     → place_of shape (sums lo (index_at dims p)) ≤ place_of shape (sums lo (index_at dims q))
 places_rise [] [] [] p q r e o h = omega arith
-places_rise [] [] (d ∷ ds) p q r e o h = absurd (omega arith)
-places_rise [] (l ∷ ls) dims p q r e o h = absurd r
-places_rise (s ∷ ss) [] dims p q r e o h = absurd r
-places_rise (s ∷ ss) (l ∷ ls) [] p q r e o h = absurd (omega arith)
 places_rise (s ∷ ss) (l ∷ ls) (d ∷ ds) p q r e o h =
     let m = product ds in
     let some = factor d m q h in
@@ -63,3 +56,4 @@ places_rise (s ∷ ss) (l ∷ ls) (d ∷ ds) p q r e o h =
     let heads : (l + p / m) * product ss ≡ (l + q / m) * product ss = ap (λ k. (l + k) * product ss) equal in
     omega arith)
     (cases_lt (p / m) (q / m))
+places_rise shape lo dims p q r e o h = absurd (first_of (assumption, omega arith))

@@ -10,7 +10,7 @@ use Rattle.cu_num.specs.declared.types.Dtype.TheVariants.{Int64}
 use Rattle.cu_num.specs.declared.layout.Endian.TheVariants.{Little}
 use Rattle.cu_reduce.specs.Numbers.{HasNumber}
 use Rattle.cu_pairs.specs.Runs.{elements, IsFirstBest}
-use Rattle.cu_pairs.specs.Columns.{table, place_in, IsBestOf}
+use Rattle.cu_pairs.specs.Columns.{table, sought_place, IsBestOf}
 use Rattle.cu_pairs.specs.Blocks.{found_along, sizes, HasBestsAlong}
 use Rattle.cu_pairs.proofs.Parts.{element_count}
 use Rattle.cu_pairs.proofs.BlockSteps.{HasBestAlong}
@@ -29,10 +29,10 @@ run_first least t bytes from count size at e room h =
     same_first least (elements t (run_of bytes from count size)) (λ j. element_at Little t bytes (from + j)) count at (λ j b. element_in t bytes from count size j e room b)
     (subst (λ n. IsFirstBest least (elements t (run_of bytes from count size)) n at) long h)
 
-counted_order : (f : Option ℕ) (first : ℕ) (places : List ℕ) (at : ℕ → ℕ) (i j : ℕ) → f ≡ Some first → i ≤ j → int_lt (place_in f places j (at j)) (place_in f places i (at i)) ≡ false
+counted_order : (f : Option ℕ) (first : ℕ) (places : List ℕ) (at : ℕ → ℕ) (i j : ℕ) → f ≡ Some first → i ≤ j → int_lt (sought_place f places j (at j)) (sought_place f places i (at i)) ≡ false
 counted_order f first places at i j e h =
     let own : int_lt (pos (first + j)) (pos (first + i)) ≡ false = grind (arith, ints) in
-    subst (λ g. int_lt (place_in g places j (at j)) (place_in g places i (at i)) ≡ false) (sym e) own
+    subst (λ g. int_lt (sought_place g places j (at j)) (sought_place g places i (at i)) ≡ false) (sym e) own
 
 pub runs_more : (least : Test) (t : Dtype) (width : ℕ) (bytes : List ℕ) (f : Option ℕ) (places : List ℕ) (first block count size at : ℕ) (value place : ℤ) (values found_places new_values new_places : List ℕ)
     → width ≡ 1 → f ≡ Some first → size ≡ size_of t → (block * count + count) * size_of t ≤ length bytes
@@ -51,7 +51,7 @@ runs_more least t width bytes f places first block count size at value place val
     (same_first least (λ j. element_at Little t bytes (block * count + j)) (λ j. (found_along r count block 0 j).value) count at (λ j b. ap (element_at Little t bytes) (position j)) firsts)
     (λ i j o b. counted_order f first places (λ n. (block * count + n) * width + 0) i j counted o) in
     let read : value ≡ (found_along r count block 0 at).value = is ∙ element_in t bytes (block * count) count size at e room within ∙ ap (element_at Little t bytes) (position at) in
-    let counted_place : place ≡ (found_along r count block 0 at).place = there ∙ ap (λ g. place_in g places at ((block * count + at) * width + 0)) (sym counted) in
+    let counted_place : place ≡ (found_along r count block 0 at).place = there ∙ ap (λ g. sought_place g places at ((block * count + at) * width + 0)) (sym counted) in
     let own : block ≡ block * width + 0 = let all : block * 1 ≡ block * width = ap (λ w. block * w) (sym one) in omega arith in
     let here : HasBestAlong least r count block new_values new_places 0 = (
       found_along r count block 0 at,

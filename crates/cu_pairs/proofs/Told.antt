@@ -11,8 +11,8 @@ use Rattle.cu_reduce.specs.Groups.{group_counts, group_indices, groups_of, HasEl
 use Rattle.cu_reduce.specs.Places.{Found, is_better, is_sought, best_of}
 use Rattle.cu_reduce.proofs.Bests.{best_is}
 use Rattle.cu_reduce.proofs.Ranges.{map-map}
-use Rattle.cu_pairs.specs.Elements.{found, found_beside, found_in_area, whole_groups, Area, area, HasFound}
-use Rattle.cu_pairs.specs.Columns.{table, place_in, IsBestOf}
+use Rattle.cu_pairs.specs.Elements.{found, found_beside, found_in_area, sought_groups, Area, area, HasFound}
+use Rattle.cu_pairs.specs.Columns.{table, sought_place, IsBestOf}
 use Rattle.cu_pairs.specs.Blocks.{found_along, sizes, HasBestsAlong}
 use Rattle.cu_pairs.proofs.BestOf.{same_found, not_better_best}
 use Rattle.cu_pairs.proofs.BlockSteps.{best_same}
@@ -44,7 +44,7 @@ pub along_told : (least : Test) (t : Dtype) (bytes : List ℕ) (first : Option �
     → axis < length dims → 0 < get_or dims axis 0 → width ≡ product (drop (suc axis) dims) → blocks ≡ product (take axis dims) → count ≡ get_or dims axis 0
     → HasBestsAlong least (table t width bytes first beside) (sizes blocks count) values places
     → (idx : List ℕ) → IsInside (group_counts (groups_of (is_sought (Some axis)) dims) dims) idx
-    → ((j : ℕ) → j < count → g (set idx axis j) ≡ found (element_at Little t bytes (place_of dims (set idx axis j))) (place_in first beside j (place_of dims (set idx axis j))))
+    → ((j : ℕ) → j < count → g (set idx axis j) ≡ found (element_at Little t bytes (place_of dims (set idx axis j))) (sought_place first beside j (place_of dims (set idx axis j))))
     → (best : Found) → best_of least (map g (group_indices (groups_of (is_sought (Some axis)) dims) dims idx)) ≡ Some best
     → HasFound t values places (place_of (group_counts (groups_of (is_sought (Some axis)) dims) dims) idx) best
 along_told least t bytes first beside dims axis width blocks count values places g b some w n c done idx inside own best e =
@@ -58,7 +58,7 @@ along_told least t bytes first beside dims axis width blocks count values places
     let place : (j : ℕ) → j < count → place_of dims (set idx axis j) ≡ (block * count + j) * width + number =
     λ j l. at.element j (omega arith) ∙ (λ i. (block * sym c i + j) * sym w i + number) in
     let is : IsBestOf least f count stands.0 = best_same least (found_along (table t width bytes first beside) count block number) f count stands.0
-    (λ j l. sym (own j l ∙ (λ i. found (element_at Little t bytes (place j l i)) (place_in first beside j (place j l i))))) stands.1 in
+    (λ j l. sym (own j l ∙ (λ i. found (element_at Little t bytes (place j l i)) (sought_place first beside j (place j l i))))) stands.1 in
     let list : map g (group_indices (groups_of (is_sought (Some axis)) dims) dims idx) ≡ map f (range_with_len 0 count) =
     ap (map g) (indices_along axis dims idx b some inside) ∙ map-map g (λ j. set idx axis j) (range_with_len 0 (get_or dims axis 0)) ∙ ap (λ m. map f (range_with_len 0 m)) (sym c) in
     let same : stands.0 ≡ best = sym (best_told least f count stands.0 best is (sym (ap (best_of least) list) ∙ e)) in
@@ -112,6 +112,6 @@ whole_told least t input shape lo dims values places stands some is has idx best
 
 -- what a search of a region leaves, as its contract says it
 abbrev pub IsTold : Test → Dtype → List ℕ → Area → List ℕ → List ℕ → Type 0
-IsTold least t input r values places = (idx : List ℕ) (best : Found) → IsInside (group_counts (whole_groups r.axis r.dims) r.dims) idx
-    → best_of least (map (found_in_area t input r) (group_indices (whole_groups r.axis r.dims) r.dims idx)) ≡ Some best
-    → HasFound t values places (place_of (group_counts (whole_groups r.axis r.dims) r.dims) idx) best
+IsTold least t input r values places = (idx : List ℕ) (best : Found) → IsInside (group_counts (sought_groups r.axis r.dims) r.dims) idx
+    → best_of least (map (found_in_area t input r) (group_indices (sought_groups r.axis r.dims) r.dims idx)) ≡ Some best
+    → HasFound t values places (place_of (group_counts (sought_groups r.axis r.dims) r.dims) idx) best

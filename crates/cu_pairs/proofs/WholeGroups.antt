@@ -6,7 +6,7 @@ use Rattle.std.proofs.lemmas.Bool.Decides.{eqb_tells}
 use Rattle.std.proofs.lemmas.Bool.{cases_lt}
 use Rattle.std.proofs.lemmas.Nat.{mul-add-lt}
 use Rattle.cu_shape.specs.Index.{product, place_of, indices_of, IsInside}
-use Rattle.cu_shape.proofs.Places.{place-below}
+use Rattle.cu_shape.proofs.Places.{place-below, inside-length}
 use Rattle.cu_shape.proofs.Rounded.{before_end}
 use Rattle.cu_reduce.specs.Groups.{Groups, groups_from, groups_of, HasElements, group_counts, group_lo, group_hi, group_indices}
 use Rattle.cu_reduce.specs.Places.{is_sought}
@@ -74,13 +74,7 @@ singles f [] = refl
 singles f (x ∷ xs) = ap (λ ys. f x ∷ ys) (singles f xs)
 
 inside-length_front : (ms ns idx : List ℕ) → ms ≡ ns → IsInside ms idx → length idx ≡ length ns
-inside-length_front ms ns idx e h = same ms idx h ∙ ap length e
-  where
-    same : (ds is : List ℕ) → IsInside ds is → length is ≡ length ds
-    same [] [] h = refl
-    same [] (i ∷ is) h = absurd h
-    same (d ∷ ds) [] h = absurd h
-    same (d ∷ ds) (i ∷ is) h = ap suc (same ds is h.1)
+inside-length_front ms ns idx e h = inside-length ms idx h ∙ ap length e
 
 abbrev IndicesFrom : ℕ → ℕ → List ℕ → ℕ → List ℕ → Type 0
 IndicesFrom axis first ns a idx = IsInside (group_counts (groups_along_from axis first ns) ns) idx
@@ -225,8 +219,6 @@ pub record IsWhole (ns idx : List ℕ) (gs : Groups) : Type 0 where
 whole_from : (first : ℕ) (ns idx : List ℕ) → HasElements (groups_from (is_sought None) first ns) ns → IsInside (group_counts (groups_from (is_sought None) first ns) ns) idx
     → IsWhole ns idx (groups_from (is_sought None) first ns)
 whole_from first [] [] some h = record { lo = refl; hi = refl; result = refl }
-whole_from first [] (i ∷ is) some h = absurd h
-whole_from first (n ∷ ns) [] some h = absurd h
 whole_from first (n ∷ ns) (i ∷ is) some h =
     let rest = whole_from (first + 1) ns is some.1 h.1 in
     let none = only_group n i some.0 h.0 in
@@ -235,6 +227,7 @@ whole_from first (n ∷ ns) (i ∷ is) some h =
       hi = (λ k. ends_whole n i none k ∷ rest.hi k);
       result = (λ k. none k * product (group_counts (groups_from (is_sought None) (first + 1) ns) ns) + rest.result k) ∙ omega arith;
     }
+whole_from first ns idx some h = absurd h
 
 pub counts_all : (first : ℕ) (ns : List ℕ) → HasElements (groups_from (is_sought None) first ns) ns → product (group_counts (groups_from (is_sought None) first ns) ns) ≡ 1
 counts_all first [] some = refl

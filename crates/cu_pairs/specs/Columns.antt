@@ -20,13 +20,13 @@ abbrev pub table : Dtype → ℕ → List ℕ → Option ℕ → List ℕ → Ta
 table t width bytes first places = record { t = t; width = width; bytes = bytes; first = first; places = places }
 
 -- the place of element `at`, which stands in row i
-abbrev pub place_in : Option ℕ → List ℕ → ℕ → ℕ → ℤ
-place_in (Some first) places i at = pos (first + i)
-place_in None places i at = element_at Little Int64 places at
+abbrev pub sought_place : Option ℕ → List ℕ → ℕ → ℕ → ℤ
+sought_place (Some first) places i at = pos (first + i)
+sought_place None places i at = element_at Little Int64 places at
 
 -- what stands in row i of column k
 abbrev pub found_in : Table → ℕ → ℕ → Found
-found_in r k i = record { value = element_at Little r.t r.bytes (i * r.width + k); place = place_in r.first r.places i (i * r.width + k) }
+found_in r k i = record { value = element_at Little r.t r.bytes (i * r.width + k); place = sought_place r.first r.places i (i * r.width + k) }
 
 -- the bytes have so many rows, and where places aren't counted their bytes too
 abbrev pub HasPlacesBeside : Option ℕ → List ℕ → ℕ → Type 0

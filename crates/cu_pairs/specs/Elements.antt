@@ -10,8 +10,8 @@ use Rattle.cu_reduce.specs.Numbers.{HasNumber}
 use Rattle.cu_reduce.specs.Places.{Found, is_sought, counted_place}
 
 -- the groups of a region of which one axis is reduced whole, or all are
-abbrev pub whole_groups : Option ℕ → List ℕ → Groups
-whole_groups axis dims = groups_of (is_sought axis) dims
+abbrev pub sought_groups : Option ℕ → List ℕ → Groups
+sought_groups axis dims = groups_of (is_sought axis) dims
 
 -- the axis is one of the region's
 abbrev pub IsAxis : Option ℕ → List ℕ → Type 0

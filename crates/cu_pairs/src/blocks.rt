@@ -2,7 +2,7 @@
 ghost use Rattle.std.specs.Prelude.{◌≡◌, ◌+◌, ◌*◌, ◌<◌, ◌≤◌, length, Option, Some, None};
 ghost use Rattle.cu_num.specs.Dtype.{size_of};
 ghost use Rattle.cu_pairs.specs.Columns.{table, HasRows, HasPlacesBeside};
-ghost use Rattle.cu_pairs.specs.Blocks.{sizes, HasBestsAlong, IsPart};
+ghost use Rattle.cu_pairs.specs.Blocks.{sizes, HasBestsAlong, IsTablePart};
 
 use crate::column_types::columns_of_type;
 use crate::columns::Rows;
@@ -15,7 +15,7 @@ fn part_of<'a>(t: Dtype, rows: Rows<'a>, from: usize, count: usize) -> Rows<'a>
     requires places { HasPlacesBeside rows.first rows.places.now (from + count) }
     ensures width { result.width ≡ rows.entry.width }
     ensures first { result.first ≡ rows.entry.first }
-    ensures part { IsPart (table t rows.entry.width rows.entry.bytes.now rows.entry.first rows.entry.places.now) (table t result.width result.bytes.now result.first result.places.now) from count }
+    ensures part { IsTablePart (table t rows.entry.width rows.entry.bytes.now rows.entry.first rows.entry.places.now) (table t result.width result.bytes.now result.first result.places.now) from count }
 {
     let size = size(t) as usize;
     let bytes = &rows.bytes[from * size..(from + count) * size];
@@ -35,25 +35,32 @@ fn part_of<'a>(t: Dtype, rows: Rows<'a>, from: usize, count: usize) -> Rows<'a>
     }
 }
 
-/// The best of each column of each of so many blocks of `count` rows.
+/// How many blocks there are, and how many rows each has.
+#[derive(Clone, Copy)]
+pub(crate) struct Blocks {
+    pub number: usize,
+    pub rows: usize,
+}
+
+/// The best of each column of each block.
 pub(crate) fn best_of_blocks(
     least: bool,
     t: Dtype,
     rows: Rows<'_>,
-    blocks: usize,
-    count: usize,
+    blocks: Blocks,
     values: &mut [u8],
     places: &mut [u8],
 )
     requires width { 0 < rows.width }
-    requires count { 0 < count }
-    requires rows { HasRows (table t rows.width rows.bytes.now rows.first rows.places.now) (blocks * count) }
-    requires values { length values.old ≡ blocks * rows.width * size_of t }
-    requires places { length places.old ≡ blocks * rows.width * 8 }
-    ensures { HasBestsAlong least (table t rows.entry.width rows.entry.bytes.now rows.entry.first rows.entry.places.now) (sizes blocks count) values.new places.new }
+    requires count { 0 < blocks.rows }
+    requires rows { HasRows (table t rows.width rows.bytes.now rows.first rows.places.now) (blocks.number * blocks.rows) }
+    requires values { length values.old ≡ blocks.number * rows.width * size_of t }
+    requires places { length places.old ≡ blocks.number * rows.width * 8 }
+    ensures { HasBestsAlong least (table t rows.entry.width rows.entry.bytes.now rows.entry.first rows.entry.places.now) (sizes blocks.number blocks.rows) values.new places.new }
 {
     let size = size(t) as usize;
-    for block in 0..blocks {
+    let count = blocks.rows;
+    for block in 0..blocks.number {
         let part = part_of(t, rows, block * count * rows.width, count * rows.width);
         let from = block * rows.width;
         let end = from + rows.width;
@@ -69,21 +76,21 @@ pub(crate) fn best_of_runs(
     t: Dtype,
     first: u64,
     rows: Rows<'_>,
-    blocks: usize,
-    count: usize,
+    blocks: Blocks,
     values: &mut [u8],
     places: &mut [u8],
 )
     requires width { rows.width ≡ 1 }
     requires first { rows.first ≡ Some first }
-    requires count { 0 < count }
-    requires rows { HasRows (table t rows.width rows.bytes.now rows.first rows.places.now) (blocks * count) }
-    requires values { length values.old ≡ blocks * size_of t }
-    requires places { length places.old ≡ blocks * 8 }
-    ensures { HasBestsAlong least (table t rows.entry.width rows.entry.bytes.now rows.entry.first rows.entry.places.now) (sizes blocks count) values.new places.new }
+    requires count { 0 < blocks.rows }
+    requires rows { HasRows (table t rows.width rows.bytes.now rows.first rows.places.now) (blocks.number * blocks.rows) }
+    requires values { length values.old ≡ blocks.number * size_of t }
+    requires places { length places.old ≡ blocks.number * 8 }
+    ensures { HasBestsAlong least (table t rows.entry.width rows.entry.bytes.now rows.entry.first rows.entry.places.now) (sizes blocks.number blocks.rows) values.new places.new }
 {
     let size = size(t) as usize;
-    for block in 0..blocks {
+    let count = blocks.rows;
+    for block in 0..blocks.number {
         let from = block * count;
         let run = &rows.bytes[from * size..(from + count) * size];
         let at = first_best_of_type(least, t, run);

@@ -2,7 +2,7 @@
 ghost use Rattle.std.specs.Prelude.{◌≡◌, ◌+◌, ◌*◌, ◌<◌, ◌≤◌, ℕ, length, Option, Some, None};
 ghost use Rattle.cu_num.specs.Dtype.{size_of, InRange};
 ghost use Rattle.cu_pairs.specs.Elements.{found};
-ghost use Rattle.cu_pairs.specs.Columns.{table, place_in, is_taken, HasRows, HasBests, HasPlacesBeside};
+ghost use Rattle.cu_pairs.specs.Columns.{table, sought_place, is_taken, HasRows, HasBests, HasPlacesBeside};
 
 use crate::runs::{chosen, is_beyond};
 use cu_num::{Dtype, load, save, size};
@@ -28,7 +28,7 @@ struct Pair {
 #[inline(always)]
 fn place_of(first: Option<u64>, places: &[u8], row: usize, at: usize) -> i128
     requires { HasPlacesBeside first places.now (at + 1) }
-    ensures { result ≡ place_in first places.now row at }
+    ensures { result ≡ sought_place first places.now row at }
 {
     match first {
         Some(first) => i128::from(first) + row as i128,

@@ -4,11 +4,11 @@ ghost use Rattle.cu_shape.specs.Index.{product, place_of, index_at, sums, IsInsi
 ghost use Rattle.cu_grid.specs.Counts.{IsRegion};
 ghost use Rattle.cu_reduce.specs.Groups.{group_counts, group_indices, HasElements};
 ghost use Rattle.cu_reduce.specs.Places.{Found, best_of};
-ghost use Rattle.cu_pairs.specs.Elements.{whole_groups, area, found_in_area, found_beside, HasFound, IsAxis};
+ghost use Rattle.cu_pairs.specs.Elements.{sought_groups, area, found_in_area, found_beside, HasFound, IsAxis};
 ghost use Rattle.cu_pairs.specs.Columns.{table, HasRows, IsBestOf};
 ghost use Rattle.cu_pairs.specs.Blocks.{sizes, HasBestsAlong};
 
-use crate::blocks::{best_of_blocks, best_of_runs};
+use crate::blocks::{Blocks, best_of_blocks, best_of_runs};
 use crate::columns::Rows;
 use crate::run_types::first_best_of_type;
 use cu_num::{Dtype, load, save, size};
@@ -70,23 +70,22 @@ fn best_along(
     t: Dtype,
     first: u64,
     rows: Rows<'_>,
-    blocks: usize,
-    count: usize,
+    blocks: Blocks,
     values: &mut [u8],
     places: &mut [u8],
 )
     requires width { 0 < rows.width }
     requires first { rows.first ≡ Some first }
-    requires count { 0 < count }
-    requires rows { HasRows (table t rows.width rows.bytes.now rows.first rows.places.now) (blocks * count) }
-    requires values { length values.old ≡ blocks * rows.width * size_of t }
-    requires places { length places.old ≡ blocks * rows.width * 8 }
-    ensures { HasBestsAlong least (table t rows.entry.width rows.entry.bytes.now rows.entry.first rows.entry.places.now) (sizes blocks count) values.new places.new }
+    requires count { 0 < blocks.rows }
+    requires rows { HasRows (table t rows.width rows.bytes.now rows.first rows.places.now) (blocks.number * blocks.rows) }
+    requires values { length values.old ≡ blocks.number * rows.width * size_of t }
+    requires places { length places.old ≡ blocks.number * rows.width * 8 }
+    ensures { HasBestsAlong least (table t rows.entry.width rows.entry.bytes.now rows.entry.first rows.entry.places.now) (sizes blocks.number blocks.rows) values.new places.new }
 {
     if rows.width == 1 {
-        best_of_runs(least, t, first, rows, blocks, count, values, places);
+        best_of_runs(least, t, first, rows, blocks, values, places);
     } else {
-        best_of_blocks(least, t, rows, blocks, count, values, places);
+        best_of_blocks(least, t, rows, blocks, values, places);
     }
 }
 
@@ -140,13 +139,13 @@ pub fn pair_fold(
     requires ranks { length dims.now ≡ length lo.now }
     requires small { product shape.now ≤ 2 ^ 56 }
     requires axis { IsAxis axis dims.now }
-    requires elements { HasElements (whole_groups axis dims.now) dims.now }
+    requires elements { HasElements (sought_groups axis dims.now) dims.now }
     requires input { length input.now ≡ product dims.now * size_of t }
-    requires values { length values.old ≡ product (group_counts (whole_groups axis dims.now) dims.now) * size_of t }
-    requires places { length places.old ≡ product (group_counts (whole_groups axis dims.now) dims.now) * 8 }
-    ensures { (idx : List ℕ) (best : Found) → IsInside (group_counts (whole_groups axis dims.now) dims.now) idx
-        → best_of least (map (found_in_area t input.now (area shape.now lo.now dims.now axis)) (group_indices (whole_groups axis dims.now) dims.now idx)) ≡ Some best
-        → HasFound t values.new places.new (place_of (group_counts (whole_groups axis dims.now) dims.now) idx) best }
+    requires values { length values.old ≡ product (group_counts (sought_groups axis dims.now) dims.now) * size_of t }
+    requires places { length places.old ≡ product (group_counts (sought_groups axis dims.now) dims.now) * 8 }
+    ensures { (idx : List ℕ) (best : Found) → IsInside (group_counts (sought_groups axis dims.now) dims.now) idx
+        → best_of least (map (found_in_area t input.now (area shape.now lo.now dims.now axis)) (group_indices (sought_groups axis dims.now) dims.now idx)) ≡ Some best
+        → HasFound t values.new places.new (place_of (group_counts (sought_groups axis dims.now) dims.now) idx) best }
 {
     if values.is_empty() {
         return;
@@ -161,9 +160,12 @@ pub fn pair_fold(
                 first: Some(first),
                 places: input,
             };
-            let blocks = blocks_before(dims, axis);
-            let count = dims.at(axis) as usize;
-            best_along(least, t, first, rows, blocks, count, values, places);
+            let number = blocks_before(dims, axis);
+            let blocks = Blocks {
+                number,
+                rows: dims.at(axis) as usize,
+            };
+            best_along(least, t, first, rows, blocks, values, places);
         }
     }
 }
@@ -183,14 +185,14 @@ pub fn pair_merge(
     places: &mut [u8],
 )
     requires axis { axis < length dims.now }
-    requires elements { HasElements (whole_groups (Some axis) dims.now) dims.now }
+    requires elements { HasElements (sought_groups (Some axis) dims.now) dims.now }
     requires values_from { length values_from.now ≡ product dims.now * size_of t }
     requires places_from { length places_from.now ≡ product dims.now * 8 }
-    requires values { length values.old ≡ product (group_counts (whole_groups (Some axis) dims.now) dims.now) * size_of t }
-    requires places { length places.old ≡ product (group_counts (whole_groups (Some axis) dims.now) dims.now) * 8 }
-    ensures { (idx : List ℕ) (best : Found) → IsInside (group_counts (whole_groups (Some axis) dims.now) dims.now) idx
-        → best_of least (map (found_beside t values_from.now places_from.now dims.now) (group_indices (whole_groups (Some axis) dims.now) dims.now idx)) ≡ Some best
-        → HasFound t values.new places.new (place_of (group_counts (whole_groups (Some axis) dims.now) dims.now) idx) best }
+    requires values { length values.old ≡ product (group_counts (sought_groups (Some axis) dims.now) dims.now) * size_of t }
+    requires places { length places.old ≡ product (group_counts (sought_groups (Some axis) dims.now) dims.now) * 8 }
+    ensures { (idx : List ℕ) (best : Found) → IsInside (group_counts (sought_groups (Some axis) dims.now) dims.now) idx
+        → best_of least (map (found_beside t values_from.now places_from.now dims.now) (group_indices (sought_groups (Some axis) dims.now) dims.now idx)) ≡ Some best
+        → HasFound t values.new places.new (place_of (group_counts (sought_groups (Some axis) dims.now) dims.now) idx) best }
 {
     if values.is_empty() {
         return;
@@ -201,7 +203,10 @@ pub fn pair_merge(
         first: None,
         places: places_from,
     };
-    let blocks = blocks_before(dims, axis);
-    let count = dims.at(axis) as usize;
-    best_of_blocks(least, t, rows, blocks, count, values, places);
+    let number = blocks_before(dims, axis);
+    let blocks = Blocks {
+        number,
+        rows: dims.at(axis) as usize,
+    };
+    best_of_blocks(least, t, rows, blocks, values, places);
 }

@@ -19,8 +19,8 @@ use Rattle.cu_plan.specs.declared.fault.PlanFault.TheVariants.{OverMemory, OverL
 abbrev with_memory : ℕ → Options
 with_memory allowed = record { allowed = allowed; reserved = 0; split_every = 4; retries = 2 }
 
-abbrev in_chunks : List ℕ → ℕ → ℕ → Node
-in_chunks name source size = record { name = name; form = Form.Rechunk (Arg.Node source ∷ []) (size ∷ []) }
+abbrev rechunk : List ℕ → ℕ → ℕ → Node
+rechunk name source size = record { name = name; form = Form.Rechunk (Arg.Node source ∷ []) (size ∷ []) }
 
 -- ---- 6 numbers in chunks of 4
 
@@ -38,7 +38,7 @@ abbrev fives : NodeInfo
 fives = info_of Int16 (7 ∷ []) (5 ∷ [])
 
 abbrev tight : Expression
-tight = record { nodes = record { name = codes "x"; form = Form.Input (codes "x") } ∷ in_chunks (codes "t") 0 3 ∷ []; out = 1; store_as = codes "y" }
+tight = record { nodes = record { name = codes "x"; form = Form.Input (codes "x") } ∷ rechunk (codes "t") 0 3 ∷ []; out = 1; store_as = codes "y" }
 
 abbrev tight_infos : List NodeInfo
 tight_infos = fives ∷ info_of Int16 (7 ∷ []) (3 ∷ []) ∷ []
@@ -64,8 +64,8 @@ ones = info_of Int32 (65536 ∷ []) (1 ∷ [])
 
 abbrev chain : Expression
 chain = record {
-  nodes = record { name = codes "a"; form = Form.Arange (pos 0) (pos 65536) (pos 1) Int32 (65536 ∷ []) } ∷ in_chunks (codes "b") 0 1 ∷ in_chunks (codes "c") 1 1 ∷ in_chunks (codes "d") 2 1
-      ∷ in_chunks (codes "e") 3 1 ∷ [];
+  nodes = record { name = codes "a"; form = Form.Arange (pos 0) (pos 65536) (pos 1) Int32 (65536 ∷ []) } ∷ rechunk (codes "b") 0 1 ∷ rechunk (codes "c") 1 1 ∷ rechunk (codes "d") 2 1
+      ∷ rechunk (codes "e") 3 1 ∷ [];
   out = 4;
   store_as = codes "y";
 }

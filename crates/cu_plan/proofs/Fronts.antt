@@ -3,16 +3,16 @@ use Rattle.std.proofs.Common.{◌≡◌, ℕ, ◌+◌, ◌<◌, List, [], ◌∷
 use Rattle.std.proofs.lemmas.List.{map_more}
 use Rattle.cu_op.specs.declared.operation.Planned.{Planned}
 use Rattle.cu_op.specs.PlanView.{operation_at, no_operation}
-use Rattle.cu_op.specs.Projection.{greatest}
+use Rattle.cu_op.specs.Projection.{largest}
 
 -- the greatest of one more
-pub peak_more : (f : Planned → ℕ) (ops : List Planned) (k peak one before : ℕ) → k < length ops → peak ≡ max one before → one ≡ f (operation_at ops k) → before ≡ greatest (map f (take k ops))
-    → peak ≡ greatest (map f (take (k + 1) ops))
+pub peak_more : (f : Planned → ℕ) (ops : List Planned) (k peak one before : ℕ) → k < length ops → peak ≡ max one before → one ≡ f (operation_at ops k) → before ≡ largest (map f (take k ops))
+    → peak ≡ largest (map f (take (k + 1) ops))
 peak_more f ops k peak one before h e a b = e ∙ ap (λ x. max x before) a ∙ ap (λ x. max (f (operation_at ops k)) x) b ∙ sym most_more
   where
-    most_push : (ns : List ℕ) (n : ℕ) → greatest (ns ++ n ∷ []) ≡ max n (greatest ns)
+    most_push : (ns : List ℕ) (n : ℕ) → largest (ns ++ n ∷ []) ≡ max n (largest ns)
     most_push [] n = refl
     most_push (m ∷ ms) n = let e = most_push ms n in rw e (omega arith)
 
-    most_more : greatest (map f (take (k + 1) ops)) ≡ max (f (operation_at ops k)) (greatest (map f (take k ops)))
-    most_more = ap greatest (map_more f ops k no_operation h) ∙ most_push (map f (take k ops)) (f (operation_at ops k))
+    most_more : largest (map f (take (k + 1) ops)) ≡ max (f (operation_at ops k)) (largest (map f (take k ops)))
+    most_more = ap largest (map_more f ops k no_operation h) ∙ most_push (map f (take k ops)) (f (operation_at ops k))

@@ -22,14 +22,14 @@ abbrev pub limit_fault : Exceeded → PlanFault
 limit_fault o = OverLimit o.which o.count
 
 -- the tasks and the stored chunks of the plan in which nothing is merged, whose copies are made within what is allowed
-abbrev pub counts_of : Options → Expression → List NodeInfo → PlanCounts
-counts_of options e infos = plan_counts (max_mem options.allowed options.reserved) options.split_every e infos
+abbrev pub planned_counts : Options → Expression → List NodeInfo → PlanCounts
+planned_counts options e infos = plan_counts (max_mem options.allowed options.reserved) options.split_every e infos
 
 -- the first live node that needs more than is allowed; where none does, the first limit that is exceeded; else there is none
 abbrev pub refusal_of : Options → Expression → List NodeInfo → Option PlanFault
 refusal_of options e infos =
     option_or (option_map (memory_fault options.allowed) (first_over options.allowed options.reserved options.split_every e infos))
-    (option_map limit_fault (over_limit (counts_of options e infos)))
+    (option_map limit_fault (over_limit (planned_counts options e infos)))
 
 -- ---- the same in other words
 

@@ -1,12 +1,12 @@
 -- The text that says what a plan does, operation by operation. This project's own lines; numbers are decimal.
 use Rattle.std.specs.Prelude.{ℕ, ◌+◌, List, [], ◌∷◌, ◌++◌, codes, length, map, sum_by}
 use Rattle.std.specs.Fmt.{decimal}
-use Rattle.cu_op.specs.Arrays.{array_at, chunk_count}
+use Rattle.cu_op.specs.Arrays.{array_at, array_chunk_count}
 use Rattle.cu_op.specs.Cells.{tasks_of}
 use Rattle.cu_op.specs.KindText.{kind_text}
 use Rattle.cu_op.specs.Operation.{writes_of}
 use Rattle.cu_op.specs.PlanView.{PlanView}
-use Rattle.cu_op.specs.Projection.{greatest}
+use Rattle.cu_op.specs.Projection.{largest}
 use Rattle.cu_op.specs.Sound.{made_chunks}
 use Rattle.cu_op.specs.declared.layout.ArrayInfo.{ArrayInfo}
 use Rattle.cu_op.specs.declared.operation.Op.{Op}
@@ -14,11 +14,11 @@ use Rattle.cu_op.specs.declared.operation.Planned.{Planned}
 
 -- the chunks of the arrays that an operation writes
 abbrev pub cells_of : List ArrayInfo → Op → ℕ
-cells_of arrays op = sum_by (λ a. chunk_count (array_at arrays a)) (writes_of op)
+cells_of arrays op = sum_by (λ a. array_chunk_count (array_at arrays a)) (writes_of op)
 
 -- the most bytes that a task of the plan needs
 abbrev pub peak_of : PlanView → ℕ
-peak_of p = greatest (map (λ o. o.projected) p.ops)
+peak_of p = largest (map (λ o. o.projected) p.ops)
 
 -- `op K KIND node=N tasks=T cells=C projected=P`, with a line feed
 unfoldable pub operation_line : List ArrayInfo → ℕ → Planned → List ℕ

@@ -4,7 +4,7 @@ ghost use Rattle.std.specs.Prelude.{◌≡◌, ◌≤◌, ◌↔◌, ℕ, List, 
 ghost use Rattle.cu_form.specs.Expression.{Expression};
 ghost use Rattle.cu_lower.specs.declared.options.Options.{Options};
 ghost use Rattle.cu_node.specs.declared.info.NodeInfo.{NodeInfo};
-ghost use Rattle.cu_plan.specs.Refusal.{counts_of, refusal_of, AreWithin, IsFirstLimit, IsFirstNode};
+ghost use Rattle.cu_plan.specs.Refusal.{planned_counts, refusal_of, AreWithin, IsFirstLimit, IsFirstNode};
 
 use crate::fault::PlanFault;
 use cu_need::{counts_law, over_law};
@@ -16,9 +16,9 @@ pub fn refusal_law()
     ensures over_memory { (options : Options) (e : Expression) (infos : List NodeInfo) (node need allowed : ℕ)
         → (refusal_of options e infos ≡ Some (PlanFault.OverMemory node need allowed)) ↔ ((allowed ≡ options.allowed) × IsFirstNode options e infos node need) }
     ensures over_limit { (options : Options) (e : Expression) (infos : List NodeInfo) (which count : ℕ)
-        → (refusal_of options e infos ≡ Some (PlanFault.OverLimit which count)) ↔ (AreWithin options e infos × IsFirstLimit (counts_of options e infos) which count) }
+        → (refusal_of options e infos ≡ Some (PlanFault.OverLimit which count)) ↔ (AreWithin options e infos × IsFirstLimit (planned_counts options e infos) which count) }
     ensures none { (options : Options) (e : Expression) (infos : List NodeInfo) → (refusal_of options e infos ≡ None)
-        ↔ (AreWithin options e infos × ((counts_of options e infos).tasks ≤ 65536) × ((counts_of options e infos).cells ≤ 262144)) }
+        ↔ (AreWithin options e infos × ((planned_counts options e infos).tasks ≤ 65536) × ((planned_counts options e infos).cells ≤ 262144)) }
 {
     over_law();
     counts_law();

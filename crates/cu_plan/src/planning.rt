@@ -1,11 +1,11 @@
 //! The plan of an expression.
 
-ghost use Rattle.std.specs.Prelude.{◌≡◌, ◌≤◌, All, IfErr, IfOk, OnOk, None, Ok, Some};
+ghost use Rattle.std.specs.Prelude.{◌≡◌, All, IfErr, IfOk, OnOk, None, Ok, Some};
 ghost use Rattle.cu_expr.specs.Typing.{typed};
 ghost use Rattle.cu_form.specs.Expression.{IsExpression};
 ghost use Rattle.cu_lower.specs.Parts.{AreOptions};
 ghost use Rattle.cu_lower.specs.Plan.{plan_of};
-ghost use Rattle.cu_lower.specs.Premises.{IsLowerable};
+ghost use Rattle.cu_lower.specs.Premises.{IsLowerable, IsOfNode};
 ghost use Rattle.cu_need.specs.Need.{AreWithinLimits};
 ghost use Rattle.cu_node.specs.Info.{IsInfo};
 ghost use Rattle.cu_op.specs.Layout.{IsLayout};
@@ -76,7 +76,7 @@ fn check(options: &Options, expr: &Expr, infos: &[NodeInfo]) -> Result<(), PlanF
 
 /// The plan of an expression whose nodes have these types over these inputs. It is refused where a live node needs more than is allowed,
 /// by the first that does, and else where its tasks or its stored chunks are too many. Nothing is merged in it, and each of its operations
-/// needs at most what is allowed.
+/// belongs to a live node and needs at most what is allowed.
 pub fn plan(
     alloc: Global,
     expr: &Expr,
@@ -89,7 +89,7 @@ pub fn plan(
     requires options { AreOptions options.now }
     ensures plan { IfOk result (λ plan. plan ≡ plan_of expr.now types.now inputs.now options.now) }
     ensures sound { IfOk result Sound }
-    ensures within { IfOk result (λ plan. All (λ o. o.projected ≤ options.now.allowed) plan.ops) }
+    ensures needs { IfOk result (λ plan. All (IsOfNode expr.now types.now options.now) plan.ops) }
     ensures lowerable { OnOk result (IsLowerable expr.now types.now inputs.now options.now) }
     ensures accepted { OnOk result (refusal_of options.now expr.now types.now ≡ None) }
     ensures refused { IfErr result (IsRefusal options.now expr.now types.now) }

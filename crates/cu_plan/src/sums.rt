@@ -1,7 +1,7 @@
 //! Sums and greatest numbers over the operations and the arrays of a plan.
 
 ghost use Rattle.std.specs.Prelude.{◌≡◌, ◌<◌, ◌≤◌, ◌^◌, ◌*◌, All, length, sum_by};
-ghost use Rattle.cu_op.specs.Arrays.{array_at, chunk_count};
+ghost use Rattle.cu_op.specs.Arrays.{array_at, array_chunk_count};
 ghost use Rattle.cu_op.specs.Cells.{tasks_of};
 ghost use Rattle.cu_op.specs.Operation.{writes_of};
 ghost use Rattle.cu_op.specs.Sound.{made_chunks};
@@ -48,7 +48,7 @@ pub(crate) fn cells_of(arrays: &[ArrayInfo], op: &Op) -> u64
 
 /// How many chunks an array has.
 fn chunk_count(array: &ArrayInfo) -> u64
-    ensures count { result ≡ chunk_count array.now }
+    ensures count { result ≡ array_chunk_count array.now }
     ensures few { result ≤ 2 ^ 60 }
 {
     array.layout.grid.count()

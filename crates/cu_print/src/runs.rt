@@ -8,7 +8,7 @@ ghost use Rattle.cu_region.specs.Steady.{IsSteady};
 ghost use Rattle.cu_store.specs.Steps.{Shown, NoChange};
 ghost use Rattle.cu_command.specs.Seen.{Stepped};
 ghost use Rattle.cu_command.specs.Stored.{IsArrayChunk};
-ghost use Rattle.cu_print.specs.Runs.{end_on, IsChunkRun, IsShown, IsTried, IsReadEnd, read_end};
+ghost use Rattle.cu_print.specs.Runs.{run_end_on, IsChunkRun, IsPrintable, IsTried, IsReadEnd, read_end};
 
 use cu_codec::chunk_key;
 use cu_command::Status;
@@ -43,7 +43,7 @@ fn end_on(are_whole: bool, size: u64, chunk: u64, first: u64) -> u64
     requires small { chunk ≤ 2 ^ 40 }
     requires size { size ≤ 2 ^ 56 }
     requires inside { first < size }
-    ensures { result ≡ end_on are_whole size chunk first }
+    ensures { result ≡ run_end_on are_whole size chunk first }
 {
     if are_whole {
         (first - first % chunk + chunk).min(size)
@@ -79,7 +79,7 @@ fn read_once<D: Depot>(
     out: &mut [u8],
     scratch: &mut [u8],
 ) -> Result<(), TaskFault>
-    requires shown { IsShown info.now }
+    requires shown { IsPrintable info.now }
     requires run { IsChunkRun info.now.layout.grid region.now.lo region.now.hi }
     requires out_length { length out.old ≡ product (differences region.now.hi region.now.lo) * size_of info.now.layout.dtype }
     requires scratch_length { bytes_of info.now.layout ≤ length scratch.old }
@@ -102,7 +102,7 @@ fn read_tries<D: Depot>(
     out: &mut [u8],
     scratch: &mut [u8],
 ) -> Result<(), TaskFault>
-    requires shown { IsShown info.now }
+    requires shown { IsPrintable info.now }
     requires run { IsChunkRun info.now.layout.grid region.now.lo region.now.hi }
     requires out_length { length out.old ≡ product (differences region.now.hi region.now.lo) * size_of info.now.layout.dtype }
     requires scratch_length { bytes_of info.now.layout ≤ length scratch.old }
@@ -158,7 +158,7 @@ pub(crate) fn read_run<D: Depot>(
     out: &mut [u8],
     scratch: &mut [u8],
 ) -> Result<(), Status>
-    requires shown { IsShown info.now }
+    requires shown { IsPrintable info.now }
     requires inside { IsInside info.now.layout.grid.shape region.now.lo }
     requires run { IsChunkRun info.now.layout.grid region.now.lo region.now.hi }
     requires out_length { length out.old ≡ product (differences region.now.hi region.now.lo) * size_of info.now.layout.dtype }

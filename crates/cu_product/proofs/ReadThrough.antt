@@ -24,13 +24,8 @@ inside_on n l h i b = elim (eqb_tells n 1) [
 inside_along : (shape lo hi idx : List ℕ) → length lo ≡ length shape → length hi ≡ length shape → IsInside (differences hi lo) idx
     → IsInside (region_along shape lo hi) (back_along (region_along shape lo hi) idx)
 inside_along [] [] [] [] p q h = tt
-inside_along [] [] [] (i ∷ is) p q h = absurd h
-inside_along (n ∷ ns) (l ∷ ls) (t ∷ ts) [] p q h = absurd h
 inside_along (n ∷ ns) (l ∷ ls) (t ∷ ts) (i ∷ is) p q h = (inside_on n l t i h.0, inside_along ns ls ts is (omega arith) (omega arith) h.1)
-inside_along [] [] (t ∷ ts) idx p q h = absurd (omega arith)
-inside_along [] (l ∷ ls) hi idx p q h = absurd (omega arith)
-inside_along (n ∷ ns) [] hi idx p q h = absurd (omega arith)
-inside_along (n ∷ ns) (l ∷ ls) [] idx p q h = absurd (omega arith)
+inside_along shape lo hi idx p q h = absurd (first_of (assumption, omega arith))
 
 drop_differences : (k : ℕ) (xs ys : List ℕ) → length xs ≡ length ys → drop k (differences xs ys) ≡ differences (drop k xs) (drop k ys)
 drop_differences zero xs ys h = refl

@@ -6,7 +6,7 @@ use Rattle.std.proofs.lemmas.Str.{IsUtf8-from_is_utf8, is_utf8-from_IsUtf8}
 use Rattle.serde_json.specs.Data.{Data}
 use Rattle.serde_json.specs.Read.{read}
 use Rattle.cu_form.specs.Expression.{Expression}
-use Rattle.cu_read.specs.Faults.{IfFault, GivesAs}
+use Rattle.cu_read.specs.Faults.{IfReadFault, GivesAs}
 use Rattle.cu_read.specs.Read.{whole_fault, expression_in, expression_of}
 use Rattle.cu_read.specs.declared.faults.ReadFault.{ReadFault}
 use Rattle.cu_read.specs.declared.faults.ReadRefused.{ReadRefused}
@@ -37,13 +37,13 @@ unfolding expression_of
 value_of text d short utf8 value = rw (le-leb _ _ short, is_utf8-from_IsUtf8 text utf8, value) refl
 
 pub refused_for_no_value : (text same : List ℕ) (e : ReadRefused) → length text ≤ 1048576 → IsUtf8 text → same ≡ text
-    → IfFault e (λ f. (f ≡ whole_fault 1) × (read same ≡ None)) → IfFault e (λ f. expression_of text ≡ Err f)
+    → IfReadFault e (λ f. (f ≡ whole_fault 1) × (read same ≡ None)) → IfReadFault e (λ f. expression_of text ≡ Err f)
 refused_for_no_value text same (ReadRefused.Fault fault) short utf8 is h = no_value text short utf8 (ap read (sym is) ∙ h.1) ∙ ap (λ (f : ReadFault). Err f) (sym h.0)
 refused_for_no_value text same ReadRefused.NoMemory short utf8 is h = tt
 
 -- ---- the answer
 
 pub refused_with : (text : List ℕ) (d : Data) (e : ReadRefused) → expression_of text ≡ expression_in d
-    → GivesAs {A = Expression} {B = Expression} (λ x. x) (Err e) (expression_in d) → IfFault e (λ f. expression_of text ≡ Err f)
+    → GivesAs {A = Expression} {B = Expression} (λ x. x) (Err e) (expression_in d) → IfReadFault e (λ f. expression_of text ≡ Err f)
 refused_with text d (ReadRefused.Fault fault) is h = is ∙ h
 refused_with text d ReadRefused.NoMemory is h = tt

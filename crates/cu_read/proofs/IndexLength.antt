@@ -37,12 +37,8 @@ member_within k no_members = tt
 member_within k (member l e ms) = member_by (slice_cmp nat_cmp k l) e (members_count ms) (get_member k ms) (member_within k ms)
 
 get_within : (k : List ℕ) (d : Data) → AtMost (item_count d) (get k d)
-get_within k Data.null = tt
-get_within k (Data.boolean b) = tt
-get_within k (Data.number n) = tt
-get_within k (Data.string s) = tt
-get_within k (Data.array ds) = tt
 get_within k (Data.object ms) = member_within k ms
+get_within k d = tt
 
 found_within : (k : List ℕ) (d e : Data) → get k d ≡ Some e → item_count e ≤ item_count d
 found_within k d e h = let P : Option Data → Type 0 = AtMost (item_count d) in subst P h (get_within k d)
@@ -50,12 +46,8 @@ found_within k d e h = let P : Option Data → Type 0 = AtMost (item_count d) in
 -- ---- a list
 
 array_within : (d : Data) (ds : Items) → as_array d ≡ Some ds → items_count ds ≤ item_count d
-array_within Data.null ds h = cc
-array_within (Data.boolean b) ds h = cc
-array_within (Data.number n) ds h = cc
-array_within (Data.string s) ds h = cc
 array_within (Data.array xs) ds h = let e : xs ≡ ds = cc in rw (← e) (omega arith)
-array_within (Data.object ms) ds h = cc
+array_within d ds h = cc
 
 pub list_within : (name : List ℕ) (d : Data) (ds : Items) → member_of as_array name d ≡ Some ds → items_count ds ≤ item_count d
 list_within name d ds h =

@@ -69,9 +69,7 @@ record IsNamed (ids : List (List ℕ)) (id : List ℕ) (form : Form) (name : Lis
 three_checks : {A : Type 0} (a b c : Bool) (e f g : NodeCode) (x : A) (P : A → Type 0) → (a ≡ true → b ≡ true → c ≡ true → P x)
     → IfOk (check a e >>= λ _. check b f >>= λ _. check c g >>= λ _. Ok x) P
 three_checks true true true e f g x P h = h refl refl refl
-three_checks true true false e f g x P h = tt
-three_checks true false c e f g x P h = tt
-three_checks false b c e f g x P h = tt
+three_checks a b c e f g x P h = tt
 
 name_says : (ids : List (List ℕ)) (id : List ℕ) (form : Form) → IfOk (name_for ids id form) (IsNamed ids id form)
 name_says ids id form =
@@ -294,10 +292,7 @@ top_steps : (b : Bool) (items : Option Items) (out store_as : Option (List ℕ))
     → (b ≡ true → (i : Items) → items ≡ Some i → (o : List ℕ) → out ≡ Some o → (s : List ℕ) → store_as ≡ Some s → IfOk (rest i o s) P)
     → IfOk (check b (whole_fault 2) >>= λ _. need items (whole_fault 2) >>= λ i. need out (whole_fault 2) >>= λ o. need store_as (whole_fault 2) >>= λ s. rest i o s) P
 top_steps true (Some i) (Some o) (Some s) rest P h = h refl i refl o refl s refl
-top_steps true (Some i) (Some o) None rest P h = tt
-top_steps true (Some i) None store_as rest P h = tt
-top_steps true None out store_as rest P h = tt
-top_steps false items out store_as rest P h = tt
+top_steps b items out store_as rest P h = tt
 
 pub expression_says : (d : Data) → item_count d < 2 ^ 32 → IfOk (expression_in d) (Said d)
 expression_says d few_items =
@@ -324,9 +319,7 @@ text_steps : (a b : Bool) (value : Option Data) (rest : Data → Result Expressi
     → (a ≡ true → b ≡ true → (d : Data) → value ≡ Some d → IfOk (rest d) P)
     → IfOk (check a (whole_fault 7) >>= λ _. check b (whole_fault 1) >>= λ _. need value (whole_fault 1) >>= λ d. rest d) P
 text_steps true true (Some d) rest P h = h refl refl d refl
-text_steps true true None rest P h = tt
-text_steps true false value rest P h = tt
-text_steps false b value rest P h = tt
+text_steps a b value rest P h = tt
 
 text_says : (text : List ℕ) → IfOk (expression_of text) (HasForm text)
 unfolding expression_of

@@ -54,45 +54,30 @@ pub one_member : {A : Type 0} (b : Bool) (o : Option A) (args : Result (List Arg
     → (b ≡ true → (x : A) → o ≡ Some x → (xs : List Arg) → args ≡ Ok xs → P (make x xs))
     → IfOk (check b NodeCode.Form >>= λ _. need o NodeCode.Form >>= λ x. args >>= λ xs. Ok (make x xs)) P
 one_member true (Some x) (Ok xs) make P h = h refl x refl xs refl
-one_member true (Some x) (Err code) make P h = tt
-one_member true None args make P h = tt
-one_member false o args make P h = tt
+one_member b o args make P h = tt
 
 pub two_members : {A B : Type 0} (b : Bool) (o : Option A) (p : Option B) (args : Result (List Arg) NodeCode) (make : A → B → List Arg → Form) (P : Form → Type 0)
     → (b ≡ true → (x : A) → o ≡ Some x → (y : B) → p ≡ Some y → (xs : List Arg) → args ≡ Ok xs → P (make x y xs))
     → IfOk (check b NodeCode.Form >>= λ _. need o NodeCode.Form >>= λ x. need p NodeCode.Form >>= λ y. args >>= λ xs. Ok (make x y xs)) P
 two_members true (Some x) (Some y) (Ok xs) make P h = h refl x refl y refl xs refl
-two_members true (Some x) (Some y) (Err code) make P h = tt
-two_members true (Some x) None args make P h = tt
-two_members true None p args make P h = tt
-two_members false o p args make P h = tt
+two_members b o p args make P h = tt
 
 pub member_alone : {A B : Type 0} (b : Bool) (o : Option A) (make : A → B) (P : B → Type 0) → (b ≡ true → (x : A) → o ≡ Some x → P (make x))
     → IfOk (check b NodeCode.Form >>= λ _. need o NodeCode.Form >>= λ x. Ok (make x)) P
 member_alone true (Some x) make P h = h refl x refl
-member_alone true None make P h = tt
-member_alone false o make P h = tt
+member_alone b o make P h = tt
 
 pub four_members : {A B C D : Type 0} (b : Bool) (o : Option A) (p : Option B) (q : Option C) (r : Option D) (make : A → B → C → D → Form) (P : Form → Type 0)
     → (b ≡ true → (x : A) → o ≡ Some x → (y : B) → p ≡ Some y → (z : C) → q ≡ Some z → (w : D) → r ≡ Some w → P (make x y z w))
     → IfOk (check b NodeCode.Form >>= λ _. need o NodeCode.Form >>= λ x. need p NodeCode.Form >>= λ y. need q NodeCode.Form >>= λ z. need r NodeCode.Form >>= λ w. Ok (make x y z w)) P
 four_members true (Some x) (Some y) (Some z) (Some w) make P h = h refl x refl y refl z refl w refl
-four_members true (Some x) (Some y) (Some z) None make P h = tt
-four_members true (Some x) (Some y) None r make P h = tt
-four_members true (Some x) None q r make P h = tt
-four_members true None p q r make P h = tt
-four_members false o p q r make P h = tt
+four_members b o p q r make P h = tt
 
 pub five_members : {A B C D E : Type 0} (b : Bool) (o : Option A) (p : Option B) (q : Option C) (r : Option D) (s : Option E) (make : A → B → C → D → E → Form) (P : Form → Type 0)
     → (b ≡ true → (x : A) → o ≡ Some x → (y : B) → p ≡ Some y → (z : C) → q ≡ Some z → (w : D) → r ≡ Some w → (v : E) → s ≡ Some v → P (make x y z w v))
     → IfOk (check b NodeCode.Form >>= λ _. need o NodeCode.Form >>= λ x. need p NodeCode.Form >>= λ y. need q NodeCode.Form >>= λ z. need r NodeCode.Form >>= λ w. need s NodeCode.Form >>= λ v. Ok (make x y z w v)) P
 five_members true (Some x) (Some y) (Some z) (Some w) (Some v) make P h = h refl x refl y refl z refl w refl v refl
-five_members true (Some x) (Some y) (Some z) (Some w) None make P h = tt
-five_members true (Some x) (Some y) (Some z) None s make P h = tt
-five_members true (Some x) (Some y) None r s make P h = tt
-five_members true (Some x) None q r s make P h = tt
-five_members true None p q r s make P h = tt
-five_members false o p q r s make P h = tt
+five_members b o p q r s make P h = tt
 
 pub alone_read : {A B : Type 0} (b : Bool) (o : Option A) (make : A → B) (x : A) → b ≡ true → o ≡ Some x
     → (check b NodeCode.Form >>= λ _. need o NodeCode.Form >>= λ y. Ok (make y)) ≡ Ok (make x)

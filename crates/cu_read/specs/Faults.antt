@@ -6,11 +6,11 @@ use Rattle.cu_read.specs.declared.faults.ReadFault.{ReadFault}
 use Rattle.cu_read.specs.declared.faults.ReadRefused.{ReadRefused}
 
 -- the numbers of what a node is refused for
-abbrev pub code_number : NodeCode → ℕ
-code_number NodeCode.Form = 3
-code_number NodeCode.Unknown = 4
-code_number NodeCode.Args = 5
-code_number NodeCode.Id = 6
+abbrev pub node_code_number : NodeCode → ℕ
+node_code_number NodeCode.Form = 3
+node_code_number NodeCode.Unknown = 4
+node_code_number NodeCode.Args = 5
+node_code_number NodeCode.Id = 6
 
 -- the answer is the one that is said, or memory was wanted and not had
 abbrev pub Gives : {A : Type 0} → Result A NodeRefused → Result A NodeCode → Type 0
@@ -25,6 +25,6 @@ GivesAs seen (Err (ReadRefused.Fault fault)) said = said ≡ Err fault
 GivesAs seen (Err ReadRefused.NoMemory) said = Unit {0}
 
 -- where the refusal has a fault, the fault has the property; want of memory says nothing
-abbrev pub IfFault : ReadRefused → (ReadFault → Type 0) → Type 0
-IfFault (ReadRefused.Fault fault) P = P fault
-IfFault ReadRefused.NoMemory P = Unit {0}
+abbrev pub IfReadFault : ReadRefused → (ReadFault → Type 0) → Type 0
+IfReadFault (ReadRefused.Fault fault) P = P fault
+IfReadFault ReadRefused.NoMemory P = Unit {0}

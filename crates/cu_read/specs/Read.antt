@@ -11,7 +11,7 @@ use Rattle.cu_name.specs.Name.{is_name}
 use Rattle.cu_form.specs.Expression.{Expression, IsNode, IdsDiffer}
 use Rattle.cu_form.specs.declared.expr.Node.{Node}
 use Rattle.cu_result.specs.Results.{◌>>=◌, check, need}
-use Rattle.cu_read.specs.Faults.{code_number}
+use Rattle.cu_read.specs.Faults.{node_code_number}
 use Rattle.cu_read.specs.Members.{passing, member_of}
 use Rattle.cu_read.specs.Node.{node_in}
 use Rattle.cu_read.specs.declared.faults.NodeCode.{NodeCode}
@@ -22,7 +22,7 @@ abbrev pub whole_fault : ℕ → ReadFault
 whole_fault code = record { code = code; node = 0 }
 
 abbrev pub fault_of_node : ℕ → NodeCode → ReadFault
-fault_of_node number code = record { code = code_number code; node = number }
+fault_of_node number code = record { code = node_code_number code; node = number }
 
 abbrev pub answer_at : ℕ → Result Node NodeCode → Result Node ReadFault
 answer_at number (Ok node) = Ok node

@@ -1,5 +1,5 @@
 ghost use Rattle.std.specs.Prelude.{◌≡◌};
-ghost use Rattle.cu_read.specs.Faults.{code_number};
+ghost use Rattle.cu_read.specs.Faults.{node_code_number};
 
 /// Why a text gives no expression.
 #[derive(Clone, Copy, Debug, PartialEq, Eq)]
@@ -63,7 +63,7 @@ impl From<ReadFault> for ReadRefused {
 impl NodeCode {
     /// The number of the code.
     pub(crate) fn number(self) -> u8
-        ensures { result ≡ code_number self }
+        ensures { result ≡ node_code_number self }
     {
         match self {
             NodeCode::Form => 3,

@@ -5,7 +5,7 @@ ghost use Rattle.serde_json.specs.Find.{as_array, as_str};
 ghost use Rattle.serde_json.specs.Read.{read};
 ghost use Rattle.serde_json.specs.View.{view, items_view};
 ghost use Rattle.cu_form.specs.Expression.{HaveShortIndices};
-ghost use Rattle.cu_read.specs.Faults.{IfFault, GivesAs};
+ghost use Rattle.cu_read.specs.Faults.{IfReadFault, GivesAs};
 ghost use Rattle.cu_read.specs.Form.{HasForm};
 ghost use Rattle.cu_read.specs.Read.{whole_fault, ids_of, top_member, expression_with, listed_in, AreNodes, expression_in, expression_of};
 ghost use Rattle.cu_read.specs.Size.{item_count, items_count};
@@ -45,7 +45,7 @@ const TOO_LONG: u8 = 7;
 /// isn't a name.
 pub fn read_expr(alloc: Global, bytes: &[u8]) -> Result<Expr, ReadRefused>
     ensures ok { IfOk result (λ e. expression_of bytes.now ≡ Ok e) }
-    ensures fault { IfErr result (λ e. IfFault e (λ f. expression_of bytes.now ≡ Err f)) }
+    ensures fault { IfErr result (λ e. IfReadFault e (λ f. expression_of bytes.now ≡ Err f)) }
     ensures form { IfOk result (λ e. HasForm bytes.now e) }
 {
     match read_with_value(alloc, bytes) {
@@ -75,7 +75,7 @@ impl ExprText {
 pub fn read_with_value(alloc: Global, bytes: &[u8]) -> Result<ExprText, ReadRefused>
     ensures ok { IfOk result (λ r. expression_of bytes.now ≡ Ok r.expr) }
     ensures value { IfOk result (λ r. read bytes.now ≡ Some (view r.value)) }
-    ensures fault { IfErr result (λ e. IfFault e (λ f. expression_of bytes.now ≡ Err f)) }
+    ensures fault { IfErr result (λ e. IfReadFault e (λ f. expression_of bytes.now ≡ Err f)) }
     ensures form { IfOk result (λ r. HasForm bytes.now r.expr) }
 {
     if bytes.len() > TEXT_BYTES {
@@ -100,7 +100,7 @@ fn whole_fault(code: u8) -> ReadFault
 
 fn value_in(alloc: Global, text: &str) -> Result<Value, ReadRefused>
     ensures ok { IfOk result (λ v. read text.now ≡ Some (view v)) }
-    ensures fault { IfErr result (λ e. IfFault e (λ f. (f ≡ whole_fault 1) × (read text.now ≡ None))) }
+    ensures fault { IfErr result (λ e. IfReadFault e (λ f. (f ≡ whole_fault 1) × (read text.now ≡ None))) }
 {
     match Value::from_str(alloc, text) {
         Ok(value) => Ok(value),

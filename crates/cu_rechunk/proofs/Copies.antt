@@ -66,7 +66,7 @@ tile_of shape sizes item most e p w fits =
     record { ranks = e; positive = p; elements = product_of_within sizes (at_least_one shape) w; bytes = bytes_of (product sizes) item most fits }
 
 pub tiles_of : (shape source target : List ℕ) (item most : ℕ) → length target ≡ length shape → IsPlanned shape source target (most / item)
-    → Tiles shape target item most (read_sizes shape source target (most / item)) (middle_sizes shape source target (most / item)) (write_sizes shape target (most / item))
+    → Tiles shape target item most (record { read = read_sizes shape source target (most / item); middle = middle_sizes shape source target (most / item); write = write_sizes shape target (most / item) })
 tiles_of shape source target item most et h =
     let room = most / item in
     let read = read_sizes shape source target (most / item) in

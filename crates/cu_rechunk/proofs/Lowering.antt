@@ -6,7 +6,7 @@ use Rattle.std.proofs.lemmas.List.{ext_get_or}
 use Rattle.std.proofs.lemmas.List.Elements.{All-head, All-tail, All-cons}
 use Rattle.cu_shape.specs.Index.{axis_by_axis}
 use Rattle.cu_rechunk.specs.Nested.{IsNestedAlong}
-use Rattle.cu_rechunk.specs.Stages.{cut, multiple_within, lowered, lowered_along}
+use Rattle.cu_rechunk.specs.Stages.{cut, multiple_within, lowered_size, lowered_along}
 use Rattle.cu_rechunk.proofs.Sizes.{AreWithin}
 use Rattle.cu_rechunk.proofs.Grown.{multiple_kept}
 
@@ -32,7 +32,7 @@ lowered_by n r w false d e f hr hw =
     let whole = ltb-false r n e in
     record { positive = hr; within = omega arith; nested = inl (omega arith) }
 
-pub lowered_kept : (n r w : ℕ) → 0 < r → 0 < w → IsLowered n r w (lowered n r w)
+pub lowered_kept : (n r w : ℕ) → 0 < r → 0 < w → IsLowered n r w (lowered_size n r w)
 lowered_kept n r w = lowered_by n r w (nat_lt r n) (nat_lt w r) refl refl
 
 -- ---- on all axes
@@ -54,7 +54,7 @@ lowered_along_kept (n ∷ ns) (r ∷ rs) (w ∷ ws) e f p q =
     let h = lowered_along_kept ns rs ws (omega arith) (omega arith) (All-tail (λ c. 0 < c) r rs p) (All-tail (λ c. 0 < c) w ws q) in
     record {
       ranks = ap suc h.ranks;
-      positive = All-cons (λ c. 0 < c) (lowered n r w) (lowered_along ns rs ws) x.positive h.positive;
+      positive = All-cons (λ c. 0 < c) (lowered_size n r w) (lowered_along ns rs ws) x.positive h.positive;
       within = (x.within, h.within);
       nested = (x.nested, h.nested);
     }
@@ -68,7 +68,7 @@ length_of_lowered (n ∷ ns) [] ws e f = absurd (omega arith)
 length_of_lowered (n ∷ ns) (r ∷ rs) [] e f = absurd (omega arith)
 length_of_lowered (n ∷ ns) (r ∷ rs) (w ∷ ws) e f = ap suc (length_of_lowered ns rs ws (omega arith) (omega arith))
 
-lowered_at : (ns rs ws : List ℕ) (k : ℕ) → length ns ≡ length rs → length ws ≡ length rs → k < length rs → get_or (lowered_along ns rs ws) k 0 ≡ lowered (get_or ns k 0) (get_or rs k 0) (get_or ws k 0)
+lowered_at : (ns rs ws : List ℕ) (k : ℕ) → length ns ≡ length rs → length ws ≡ length rs → k < length rs → get_or (lowered_along ns rs ws) k 0 ≡ lowered_size (get_or ns k 0) (get_or rs k 0) (get_or ws k 0)
 lowered_at [] [] ws k e f h = absurd (omega arith)
 lowered_at [] (r ∷ rs) ws k e f h = absurd (omega arith)
 lowered_at (n ∷ ns) [] ws k e f h = absurd (omega arith)
@@ -77,7 +77,7 @@ lowered_at (n ∷ ns) (r ∷ rs) (w ∷ ws) zero e f h = refl
 lowered_at (n ∷ ns) (r ∷ rs) (w ∷ ws) (suc k) e f h = lowered_at ns rs ws k (omega arith) (omega arith) (omega arith)
 
 pub lowered_along_from : (xs ns rs ws : List ℕ) → length xs ≡ length rs → length ns ≡ length rs → length ws ≡ length rs
-    → ((k : ℕ) → k < length rs → get_or xs k 0 ≡ lowered (get_or ns k 0) (get_or rs k 0) (get_or ws k 0)) → xs ≡ lowered_along ns rs ws
+    → ((k : ℕ) → k < length rs → get_or xs k 0 ≡ lowered_size (get_or ns k 0) (get_or rs k 0) (get_or ws k 0)) → xs ≡ lowered_along ns rs ws
 lowered_along_from xs ns rs ws p e f h =
     ext_get_or 0 xs (lowered_along ns rs ws) (p ∙ sym (length_of_lowered ns rs ws e f)) (λ k b. h k (omega arith) ∙ sym (lowered_at ns rs ws k e f (omega arith)))
 

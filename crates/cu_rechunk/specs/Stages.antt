@@ -30,11 +30,11 @@ consolidated room lead ns cs ls = []
 -- ---- the stages
 
 -- a region's size r, less than the array's size n and greater than w, becomes its greatest multiple of w
-abbrev pub lowered : ℕ → ℕ → ℕ → ℕ
-lowered n r w = if nat_lt r n && nat_lt w r then multiple_within w r else r
+abbrev pub lowered_size : ℕ → ℕ → ℕ → ℕ
+lowered_size n r w = if nat_lt r n && nat_lt w r then multiple_within w r else r
 
 abbrev pub lowered_along : List ℕ → List ℕ → List ℕ → List ℕ
-lowered_along (n ∷ ns) (r ∷ rs) (w ∷ ws) = lowered n r w ∷ lowered_along ns rs ws
+lowered_along (n ∷ ns) (r ∷ rs) (w ∷ ws) = lowered_size n r w ∷ lowered_along ns rs ws
 lowered_along ns rs ws = []
 
 abbrev pub write_sizes : List ℕ → List ℕ → ℕ → List ℕ

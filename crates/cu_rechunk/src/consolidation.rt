@@ -2,7 +2,7 @@
 
 ghost use Rattle.std.specs.Prelude.{◌≡◌, ◌<◌, ◌≤◌, ◌^◌, All, length};
 ghost use Rattle.cu_shape.specs.Index.{product};
-ghost use Rattle.cu_rechunk.specs.Stages.{consolidated, grown, lowered, lowered_along};
+ghost use Rattle.cu_rechunk.specs.Stages.{consolidated, grown, lowered_size, lowered_along};
 
 use crate::axes::elements_of;
 use cu_shape::Dims;
@@ -65,7 +65,7 @@ pub(crate) fn lower_to(shape: &Dims, read: &Dims, write: &Dims) -> Dims
 /// The size of a region on an axis, cut down to a multiple of `part` where it is greater than that and less than the array.
 fn lowered(all: u64, size: u64, part: u64) -> u64
     requires { 0 < part }
-    ensures { result ≡ lowered all size part }
+    ensures { result ≡ lowered_size all size part }
 {
     if size < all && part < size {
         size / part * part

@@ -44,7 +44,7 @@ pub fn stages(
     ensures write { IfOk result (λ s. s.write ≡ write_sizes shape.now target.now (max_mem / item)) }
     ensures read { IfOk result (λ s. s.read ≡ read_sizes shape.now source.now target.now (max_mem / item)) }
     ensures middle { IfOk result (λ s. s.middle ≡ middle_sizes shape.now source.now target.now (max_mem / item)) }
-    ensures tiles { IfOk result (λ s. Tiles shape.now target.now item max_mem s.read s.middle s.write) }
+    ensures tiles { IfOk result (λ s. Tiles shape.now target.now item max_mem s) }
 {
     let bytes = greater_bytes(source, target, item);
     if bytes > max_mem {

@@ -89,20 +89,14 @@ greatest_in_range : (acc : Dtype) (x y : ℤ) → InRange acc x → InRange acc 
 greatest_in_range acc x y h g = (omega (arith, ints, int_max_is x y, h.0, h.1, g.0, g.1), omega (arith, ints, int_max_is x y, h.0, h.1, g.0, g.1))
 
 pub taken_combined : (kind : FoldKind) (acc : Dtype) (x y : ℤ) → IsTaken kind acc x → IsTaken kind acc y → IsTaken kind acc (combined kind x y)
-taken_combined Sum acc x y h g = tt
-taken_combined Prod acc x y h g = tt
 taken_combined Min acc x y h g = least_in_range acc x y h g
 taken_combined Max acc x y h g = greatest_in_range acc x y h g
-taken_combined Any acc x y h g = tt
-taken_combined All acc x y h g = tt
+taken_combined kind acc x y h g = tt
 
 pub taken_in_range : (kind : FoldKind) (acc : Dtype) (x : ℤ) → InRange acc x → IsTaken kind acc x
-taken_in_range Sum acc x h = tt
-taken_in_range Prod acc x h = tt
 taken_in_range Min acc x h = h
 taken_in_range Max acc x h = h
-taken_in_range Any acc x h = tt
-taken_in_range All acc x h = tt
+taken_in_range kind acc x h = tt
 
 -- ---- wrapped on the way
 

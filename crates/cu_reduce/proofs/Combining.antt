@@ -4,7 +4,7 @@ use Rattle.std.proofs.Common.{◌≡◌, ℕ, ◌+◌, ◌-◌, ◌≤◌, zero,
 use Rattle.std.specs.List.{range_with_len, flat_map}
 use Rattle.std.proofs.lemmas.Bool.{cases_lt}
 use Rattle.cu_reduce.specs.Regions.{region_indices}
-use Rattle.cu_reduce.specs.Parts.{cut, Rises, part_indices}
+use Rattle.cu_reduce.specs.Parts.{part_start, Rises, part_indices}
 use Rattle.cu_reduce.proofs.Ranges.{range_append, risen}
 use Rattle.cu_reduce.proofs.Regions.{region_front}
 
@@ -110,18 +110,15 @@ module _ {A : Type 0} (m : Combining A) where
   -- ---- all axes
 
   pub telescope : (cuts : List (ℕ → ℕ)) (lo hi : List ℕ) (f : List ℕ → A) → Rises cuts → length lo ≡ length cuts → length hi ≡ length cuts
-      → total (map (λ p. total (map f (part_indices cuts p))) (region_indices lo hi)) ≡ total (map f (region_indices (cut cuts lo) (cut cuts hi)))
+      → total (map (λ p. total (map f (part_indices cuts p))) (region_indices lo hi)) ≡ total (map f (region_indices (part_start cuts lo) (part_start cuts hi)))
   telescope [] [] [] f r e g = m.comm (m.op (f []) m.unit) m.unit ∙ m.absorbs (f []) m.unit
-  telescope [] (l ∷ ls) hi f r e g = absurd (omega arith)
-  telescope [] [] (h ∷ hs) f r e g = absurd (omega arith)
-  telescope (c ∷ cs) [] hi f r e g = absurd (omega arith)
-  telescope (c ∷ cs) (l ∷ ls) [] f r e g = absurd (omega arith)
   telescope (c ∷ cs) (l ∷ ls) (h ∷ hs) f r e g =
       let of : ℕ → List ℕ → A = λ j ps. total (map (λ is. f (j ∷ is)) (part_indices cs ps)) in
-      let whole : ℕ → A = λ j. total (map (λ is. f (j ∷ is)) (region_indices (cut cs ls) (cut cs hs))) in
+      let whole : ℕ → A = λ j. total (map (λ is. f (j ∷ is)) (region_indices (part_start cs ls) (part_start cs hs))) in
       total_front (λ p. total (map f (part_indices (c ∷ cs) p))) l h ls hs
-      ∙ (λ k. total (map (λ i. total (map (λ ps. total_front f (c i) (c (suc i)) (cut cs ps) (cut cs (map suc ps)) k) (region_indices ls hs))) (range_with_len l (h - l))))
+      ∙ (λ k. total (map (λ i. total (map (λ ps. total_front f (c i) (c (suc i)) (part_start cs ps) (part_start cs (map suc ps)) k) (region_indices ls hs))) (range_with_len l (h - l))))
       ∙ (λ k. total (map (λ i. exchange (λ ps j. of j ps) (region_indices ls hs) (range_with_len (c i) (c (suc i) - c i)) k) (range_with_len l (h - l))))
       ∙ (λ k. total (map (λ i. total (map (λ j. telescope cs ls hs (λ is. f (j ∷ is)) r.1 (omega arith) (omega arith) k) (range_with_len (c i) (c (suc i) - c i)))) (range_with_len l (h - l))))
       ∙ axis c r.0 whole l h
-      ∙ sym (total_front f (c l) (c h) (cut cs ls) (cut cs hs))
+      ∙ sym (total_front f (c l) (c h) (part_start cs ls) (part_start cs hs))
+  telescope cuts lo hi f r e g = absurd (omega arith)

@@ -74,29 +74,20 @@ combined_unit_last kind t acc x a h = ap (wrapped acc) (combined_comm kind x (un
 -- ---- one element more in front
 
 pub enough_more : (kind : FoldKind) (n : ℕ) → IsEnough kind (suc n)
-enough_more Sum n = tt
-enough_more Prod n = tt
 enough_more Min n = omega arith
 enough_more Max n = omega arith
-enough_more Any n = tt
-enough_more Every n = tt
+enough_more kind n = tt
 
 -- what is made of nothing is the unit
 pub fold_none : (kind : FoldKind) (acc : Dtype) → IsEnough kind 0 → fold_of kind [] ≡ unit_of kind acc
-fold_none Sum acc e = refl
-fold_none Prod acc e = refl
 fold_none Min acc e = absurd (omega arith)
 fold_none Max acc e = absurd (omega arith)
-fold_none Any acc e = refl
-fold_none Every acc e = refl
+fold_none kind acc e = refl
 
 pub fold_more : (kind : FoldKind) (x y : ℤ) (ys : List ℤ) → fold_of kind (x ∷ y ∷ ys) ≡ combined kind x (fold_of kind (y ∷ ys))
-fold_more Sum x y ys = refl
-fold_more Prod x y ys = refl
-fold_more Min x y ys = refl
-fold_more Max x y ys = refl
 fold_more Any x y ys = ap (λ p. truth_number (is_nonzero x || p)) (sym (test_of (list_any is_nonzero (y ∷ ys))))
 fold_more Every x y ys = ap (λ p. truth_number (is_nonzero x && p)) (sym (test_of (list_all is_nonzero (y ∷ ys))))
+fold_more kind x y ys = refl
 
 or_none : (p : Test) → (p || false) ≡ p
 or_none true = refl
@@ -162,20 +153,14 @@ fold_turned kind (x ∷ xs) (y ∷ ys) =
 -- ---- numbers that the kind takes
 
 taken_single : (kind : FoldKind) (acc : Dtype) (x : ℤ) → IsTaken kind acc x → IsTaken kind acc (fold_of kind (x ∷ []))
-taken_single Sum acc x h = tt
-taken_single Prod acc x h = tt
 taken_single Min acc x h = h
 taken_single Max acc x h = h
-taken_single Any acc x h = tt
-taken_single Every acc x h = tt
+taken_single kind acc x h = tt
 
 taken_same : (kind : FoldKind) (acc : Dtype) (x y : ℤ) → x ≡ y → IsTaken kind acc y → IsTaken kind acc x
-taken_same Sum acc x y e h = tt
-taken_same Prod acc x y e h = tt
 taken_same Min acc x y e h = rw e h
 taken_same Max acc x y e h = rw e h
-taken_same Any acc x y e h = tt
-taken_same Every acc x y e h = tt
+taken_same kind acc x y e h = tt
 
 pub taken_fold : (kind : FoldKind) (acc : Dtype) (xs : List ℤ) → IsEnough kind (length xs) → All (IsTaken kind acc) xs → IsTaken kind acc (fold_of kind xs)
 taken_fold kind acc [] e h = taken_same kind acc (fold_of kind []) (unit_of kind acc) (fold_none kind acc e) (taken_unit kind acc)

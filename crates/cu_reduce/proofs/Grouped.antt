@@ -5,13 +5,13 @@ use Rattle.std.proofs.Math.Nat.{zero-div, zero-mod}
 use Rattle.std.proofs.lemmas.Nat.{mul-le}
 use Rattle.std.proofs.lemmas.Grind.{div_ceil_times}
 use Rattle.cu_num.specs.declared.folds.FoldKind.{FoldKind}
-use Rattle.cu_num.specs.declared.folds.FoldKind.TheVariants.{Sum, Prod, Min, Max, Any, All as Every}
+use Rattle.cu_num.specs.declared.folds.FoldKind.TheVariants.{Min, Max}
 use Rattle.cu_shape.specs.Index.{product, IsInside, differences}
 use Rattle.cu_shape.proofs.Places.{mul_positive}
 use Rattle.cu_shape.proofs.Rounded.{before_end}
 use Rattle.cu_reduce.specs.Groups.{Groups, groups_from, groups_of, HasElements, group_counts, group_lo, group_hi, group_indices}
 use Rattle.cu_reduce.specs.Kinds.{HasEnough}
-use Rattle.cu_reduce.specs.Parts.{cut, Rises, part_indices, IsBetween, group_cuts, HaveMembers}
+use Rattle.cu_reduce.specs.Parts.{part_start, Rises, part_indices, IsBetween, group_cuts, HaveMembers}
 use Rattle.cu_reduce.specs.Regions.{region_indices}
 use Rattle.cu_reduce.specs.Running.{IsEnough}
 use Rattle.cu_reduce.proofs.Regions.{length-region_indices}
@@ -96,19 +96,17 @@ begins (suc n) s (suc i) h b =
     let e : suc i * s < suc n = before_end (suc n) s (suc i) (h (omega arith)) (omega arith) in
     (omega arith, λ p. e)
 
-lo_cut : (gs : Groups) (ns is : List ℕ) → HaveMembers gs ns → IsInside (group_counts gs ns) is → group_lo gs is ≡ cut (group_cuts gs ns) is
+lo_cut : (gs : Groups) (ns is : List ℕ) → HaveMembers gs ns → IsInside (group_counts gs ns) is → group_lo gs is ≡ part_start (group_cuts gs ns) is
 lo_cut [] ns is h b = refl
 lo_cut (g ∷ gs) [] [] h b = refl
-lo_cut (g ∷ gs) [] (i ∷ is) h b = absurd b
-lo_cut (None ∷ gs) (n ∷ ns) [] h b = absurd b
-lo_cut (Some s ∷ gs) (n ∷ ns) [] h b = absurd b
 lo_cut (None ∷ gs) (n ∷ ns) (i ∷ is) h b = ap (λ js. i ∷ js) (lo_cut gs ns is h b.1)
 lo_cut (Some s ∷ gs) (n ∷ ns) (i ∷ is) h b =
     let w = (begins n s i h.0 b.0).0 in
     let e : i * s ≡ min n (i * s) = omega arith in
     (λ j. e j ∷ lo_cut gs ns is h.1 b.1 j)
+lo_cut gs ns is h b = absurd b
 
-hi_cut : (gs : Groups) (ns is : List ℕ) → group_hi gs ns is ≡ cut (group_cuts gs ns) is
+hi_cut : (gs : Groups) (ns is : List ℕ) → group_hi gs ns is ≡ part_start (group_cuts gs ns) is
 hi_cut [] ns is = refl
 hi_cut (g ∷ gs) [] is = refl
 hi_cut (None ∷ gs) (n ∷ ns) [] = refl
@@ -118,7 +116,7 @@ hi_cut (Some s ∷ gs) (n ∷ ns) (i ∷ is) = ap (λ js. min n (i * s) ∷ js) 
 
 -- a group is a part of the array that is cut where its groups begin
 pub group_bounds : (gs : Groups) (shape idx : List ℕ) → HaveMembers gs shape → IsInside (group_counts gs shape) idx
-    → (group_lo gs idx ≡ cut (group_cuts gs shape) idx) × (group_hi gs shape (map suc idx) ≡ cut (group_cuts gs shape) (map suc idx))
+    → (group_lo gs idx ≡ part_start (group_cuts gs shape) idx) × (group_hi gs shape (map suc idx) ≡ part_start (group_cuts gs shape) (map suc idx))
 group_bounds gs shape idx h b = (lo_cut gs shape idx h b, hi_cut gs shape (map suc idx))
 
 pub group_part : (gs : Groups) (shape idx : List ℕ) → HaveMembers gs shape → IsInside (group_counts gs shape) idx
@@ -143,17 +141,11 @@ group_within [] [] [] i e b w = empty i w
     empty : (i : List ℕ) → IsBetween [] [] i → IsInside [] i
     empty [] w = tt
     empty (i ∷ is) w = absurd w
-group_within [] [] (j ∷ js) i e b w = absurd b
-group_within [] (n ∷ ns) js i e b w = absurd (omega arith)
-group_within (g ∷ gs) [] js i e b w = absurd (omega arith)
-group_within (None ∷ gs) (n ∷ ns) [] i e b w = absurd b
-group_within (Some s ∷ gs) (n ∷ ns) [] i e b w = absurd b
-group_within (None ∷ gs) (n ∷ ns) (j ∷ js) [] e b w = absurd w
-group_within (Some s ∷ gs) (n ∷ ns) (j ∷ js) [] e b w = absurd w
 group_within (None ∷ gs) (n ∷ ns) (j ∷ js) (i ∷ is) e b w =
     let p = b.0 in let q = w.1 in (omega arith, group_within gs ns js is (omega arith) b.1 w.2)
 group_within (Some s ∷ gs) (n ∷ ns) (j ∷ js) (i ∷ is) e b w =
     let q = w.1 in (omega arith, group_within gs ns js is (omega arith) b.1 w.2)
+group_within gs shape idx i e b w = absurd (first_of (assumption, omega arith))
 
 spans : (gs : Groups) (ns is : List ℕ) → HaveMembers gs ns → HasElements gs ns → IsInside (group_counts gs ns) is
     → 0 < product (differences (group_hi gs ns (map suc is)) (group_lo gs is))
@@ -179,16 +171,13 @@ group_not_empty gs shape idx h k b =
 
 pub group_enough : (kind : FoldKind) (gs : Groups) (shape idx : List ℕ) → HaveMembers gs shape → HasEnough kind gs shape → IsInside (group_counts gs shape) idx
     → IsEnough kind (length (group_indices gs shape idx))
-group_enough Sum gs shape idx h k b = tt
-group_enough Prod gs shape idx h k b = tt
 group_enough Min gs shape idx h k b = group_not_empty gs shape idx h k b
 group_enough Max gs shape idx h k b = group_not_empty gs shape idx h k b
-group_enough Any gs shape idx h k b = tt
-group_enough Every gs shape idx h k b = tt
+group_enough kind gs shape idx h k b = tt
 
 -- ---- all groups are the whole array
 
-pub groups_begin : (gs : Groups) (ns : List ℕ) → length gs ≡ length ns → cut (group_cuts gs ns) (map (λ n. 0) ns) ≡ map (λ n. 0) ns
+pub groups_begin : (gs : Groups) (ns : List ℕ) → length gs ≡ length ns → part_start (group_cuts gs ns) (map (λ n. 0) ns) ≡ map (λ n. 0) ns
 groups_begin [] [] e = refl
 groups_begin [] (n ∷ ns) e = absurd (omega arith)
 groups_begin (g ∷ gs) [] e = refl
@@ -204,7 +193,7 @@ covers (suc n) s h =
     let m : div_ceil (suc n) s * s ≤ max 1 (div_ceil (suc n) s) * s = mul-le (div_ceil (suc n) s) s (max 1 (div_ceil (suc n) s)) s (omega arith) (omega arith) in
     omega arith
 
-pub groups_end : (gs : Groups) (ns : List ℕ) → length gs ≡ length ns → HaveMembers gs ns → cut (group_cuts gs ns) (group_counts gs ns) ≡ ns
+pub groups_end : (gs : Groups) (ns : List ℕ) → length gs ≡ length ns → HaveMembers gs ns → part_start (group_cuts gs ns) (group_counts gs ns) ≡ ns
 groups_end [] [] e h = refl
 groups_end [] (n ∷ ns) e h = absurd (omega arith)
 groups_end (g ∷ gs) [] e h = refl

@@ -71,30 +71,21 @@ length-region_indices lo hi =
 
 between_step : (lo hi i : List ℕ) → IsBetween lo hi i → IsInside (differences hi lo) (differences i lo)
 between_step [] [] [] b = tt
-between_step [] [] (i ∷ is) b = absurd b
-between_step [] (h ∷ hs) is b = absurd b
-between_step (l ∷ ls) [] is b = absurd b
-between_step (l ∷ ls) (h ∷ hs) [] b = absurd b
 between_step (l ∷ ls) (h ∷ hs) (i ∷ is) b = let p = b.0 in let q = b.1 in (omega arith, between_step ls hs is b.2)
+between_step lo hi i b = absurd b
 
 step_back : (lo hi i : List ℕ) → IsBetween lo hi i → sums lo (differences i lo) ≡ i
 step_back [] [] [] b = refl
-step_back [] [] (i ∷ is) b = absurd b
-step_back [] (h ∷ hs) is b = absurd b
-step_back (l ∷ ls) [] is b = absurd b
-step_back (l ∷ ls) (h ∷ hs) [] b = absurd b
 step_back (l ∷ ls) (h ∷ hs) (i ∷ is) b =
     let p = b.0 in
     let e : l + (i - l) ≡ i = omega arith in
     (λ j. e j ∷ step_back ls hs is b.2 j)
+step_back lo hi i b = absurd b
 
 step_between : (lo hi d : List ℕ) → length lo ≡ length hi → IsInside (differences hi lo) d → IsBetween lo hi (sums lo d)
 step_between [] [] [] e b = tt
-step_between [] [] (i ∷ is) e b = absurd b
-step_between [] (h ∷ hs) d e b = absurd (omega arith)
-step_between (l ∷ ls) [] d e b = absurd (omega arith)
-step_between (l ∷ ls) (h ∷ hs) [] e b = absurd b
 step_between (l ∷ ls) (h ∷ hs) (i ∷ is) e b = let p = b.0 in (omega arith, omega arith, step_between ls hs is (omega arith) b.1)
+step_between lo hi d e b = absurd (first_of (assumption, omega arith))
 
 pub region_at : (lo hi d : List ℕ) (k : ℕ) → k < product (differences hi lo) → get_or (region_indices lo hi) k d ≡ sums lo (index_at (differences hi lo) k)
 region_at lo hi d k b =
@@ -123,23 +114,17 @@ region_between lo hi i e c = subst (IsBetween lo hi) c.2 (region_all lo hi (IsBe
 
 pub length-between : (lo hi i : List ℕ) → IsBetween lo hi i → (length i ≡ length lo) × (length hi ≡ length lo)
 length-between [] [] [] b = (refl, refl)
-length-between [] [] (i ∷ is) b = absurd b
-length-between [] (h ∷ hs) is b = absurd b
-length-between (l ∷ ls) [] is b = absurd b
-length-between (l ∷ ls) (h ∷ hs) [] b = absurd b
 length-between (l ∷ ls) (h ∷ hs) (i ∷ is) b = let e = length-between ls hs is b.2 in (ap suc e.0, ap suc e.1)
+length-between lo hi i b = absurd b
 
 -- ---- where it begins
 
 differences_shift : (o lo hi : List ℕ) → length lo ≡ length o → length hi ≡ length o → differences (sums o hi) (sums o lo) ≡ differences hi lo
 differences_shift [] [] [] e f = refl
-differences_shift [] (l ∷ ls) hi e f = absurd (omega arith)
-differences_shift [] [] (h ∷ hs) e f = absurd (omega arith)
-differences_shift (o ∷ os) [] hi e f = absurd (omega arith)
-differences_shift (o ∷ os) (l ∷ ls) [] e f = absurd (omega arith)
 differences_shift (o ∷ os) (l ∷ ls) (h ∷ hs) e f =
     let s : o + h - (o + l) ≡ h - l = omega arith in
     (λ j. s j ∷ differences_shift os ls hs (omega arith) (omega arith) j)
+differences_shift o lo hi e f = absurd (omega arith)
 
 sums_assoc : (a b c : List ℕ) → sums (sums a b) c ≡ sums a (sums b c)
 sums_assoc [] b c = refl
@@ -159,9 +144,8 @@ zeros_from (n ∷ ns) = let e : n - 0 ≡ n = omega arith in (λ j. e j ∷ zero
 
 zeros_to : (ns is : List ℕ) → IsInside ns is → sums (map (λ n. 0) ns) is ≡ is
 zeros_to [] [] b = refl
-zeros_to [] (i ∷ is) b = absurd b
-zeros_to (n ∷ ns) [] b = absurd b
 zeros_to (n ∷ ns) (i ∷ is) b = let e : 0 + i ≡ i = omega arith in (λ j. e j ∷ zeros_to ns is b.1 j)
+zeros_to ns is b = absurd b
 
 -- the region is the whole array
 pub region_whole : (shape : List ℕ) → region_indices (map (λ n. 0) shape) shape ≡ indices_of shape

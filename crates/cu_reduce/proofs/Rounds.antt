@@ -17,7 +17,7 @@ use Rattle.cu_num.specs.declared.folds.FoldKind.{FoldKind}
 use Rattle.cu_num.specs.declared.folds.FoldKind.TheVariants.{Sum, Prod, Min, Max, Any, All as Every}
 use Rattle.cu_reduce.specs.Folds.{fold_of, all_some, reduced_to}
 use Rattle.cu_reduce.specs.Kinds.{unit_of, combined, Accumulates, IsTaken}
-use Rattle.cu_reduce.specs.Parts.{cut, Rises, part_indices, IsBetween}
+use Rattle.cu_reduce.specs.Parts.{part_start, Rises, part_indices, IsBetween}
 use Rattle.cu_reduce.specs.Places.{Found, better_of_some, best_of, best_in}
 use Rattle.cu_reduce.specs.Regions.{region_indices}
 use Rattle.cu_reduce.specs.Running.{IsEnough}
@@ -249,9 +249,9 @@ counted (x ∷ xs) = let e = counted xs in omega arith
 
 -- the indices of all parts are those of the whole region
 length-parts : (cuts : List (ℕ → ℕ)) (lo hi : List ℕ) → Rises cuts → length lo ≡ length cuts → length hi ≡ length cuts
-    → length (region_indices (cut cuts lo) (cut cuts hi)) ≡ total counting (map (λ p. length (part_indices cuts p)) (region_indices lo hi))
+    → length (region_indices (part_start cuts lo) (part_start cuts hi)) ≡ total counting (map (λ p. length (part_indices cuts p)) (region_indices lo hi))
 length-parts cuts lo hi r e g =
-    sym (counted (region_indices (cut cuts lo) (cut cuts hi)))
+    sym (counted (region_indices (part_start cuts lo) (part_start cuts hi)))
     ∙ sym (telescope counting cuts lo hi (λ i. 1) r e g)
     ∙ (λ j. total counting (map (λ p. counted (part_indices cuts p) j) (region_indices lo hi)))
 
@@ -261,15 +261,8 @@ pub risen_to : (c : ℕ → ℕ) → ((p : ℕ) → c p ≤ c (suc p)) → (l h 
 risen_to c r l h b = let e : l + (h - l) ≡ h = omega arith in let s : c (l + (h - l)) ≡ c h = ap c e in omega (arith, risen c r l (h - l))
 
 pub part_within : (cuts : List (ℕ → ℕ)) (lo hi p i : List ℕ) → Rises cuts → length lo ≡ length cuts → IsBetween lo hi p
-    → IsBetween (cut cuts p) (cut cuts (map suc p)) i → IsBetween (cut cuts lo) (cut cuts hi) i
+    → IsBetween (part_start cuts p) (part_start cuts (map suc p)) i → IsBetween (part_start cuts lo) (part_start cuts hi) i
 part_within [] [] [] [] i r e b w = w
-part_within [] [] [] (p ∷ ps) i r e b w = absurd b
-part_within [] [] (h ∷ hs) p i r e b w = absurd b
-part_within [] (l ∷ ls) hi p i r e b w = absurd (omega arith)
-part_within (c ∷ cs) [] hi p i r e b w = absurd (omega arith)
-part_within (c ∷ cs) (l ∷ ls) [] p i r e b w = absurd b
-part_within (c ∷ cs) (l ∷ ls) (h ∷ hs) [] i r e b w = absurd b
-part_within (c ∷ cs) (l ∷ ls) (h ∷ hs) (p ∷ ps) [] r e b w = absurd w
 part_within (c ∷ cs) (l ∷ ls) (h ∷ hs) (p ∷ ps) (i ∷ is) r e b w =
     let x = b.0 in
     let y = b.1 in
@@ -278,8 +271,9 @@ part_within (c ∷ cs) (l ∷ ls) (h ∷ hs) (p ∷ ps) (i ∷ is) r e b w =
     let u = w.0 in
     let v = w.1 in
     (omega arith, omega arith, part_within cs ls hs ps is r.1 (omega arith) b.2 w.2)
+part_within cuts lo hi p i r e b w = absurd (first_of (assumption, omega arith))
 
-pub length-cut : (cuts : List (ℕ → ℕ)) (ps : List ℕ) → length ps ≡ length cuts → length (cut cuts ps) ≡ length cuts
+pub length-cut : (cuts : List (ℕ → ℕ)) (ps : List ℕ) → length ps ≡ length cuts → length (part_start cuts ps) ≡ length cuts
 length-cut [] ps e = refl
 length-cut (c ∷ cs) [] e = absurd (omega arith)
 length-cut (c ∷ cs) (p ∷ ps) e = ap suc (length-cut cs ps (omega arith))
@@ -293,12 +287,9 @@ positive_total f [] e h = absurd (omega arith)
 positive_total f (x ∷ xs) e h = let b : 0 < f x = All-head (λ y. 0 < f y) x xs h in omega arith
 
 of_enough : (kind : FoldKind) {X : Type 0} (f : X → ℕ) (xs : List X) (n : ℕ) → 0 < length xs → All (λ x. IsEnough kind (f x)) xs → n ≡ total counting (map f xs) → IsEnough kind n
-of_enough Sum f xs n e h g = tt
-of_enough Prod f xs n e h g = tt
 of_enough Min f xs n e h g = rw g (positive_total f xs e h)
 of_enough Max f xs n e h g = rw g (positive_total f xs e h)
-of_enough Any f xs n e h g = tt
-of_enough Every f xs n e h g = tt
+of_enough kind f xs n e h g = tt
 
 enough_some : (kind : FoldKind) (n : ℕ) → 0 < n → IsEnough kind n
 enough_some kind zero h = absurd (omega arith)
@@ -307,9 +298,9 @@ enough_some kind (suc n) h = enough_more kind n
 -- the whole region has enough elements where its parts have
 pub parts_enough : (kind : FoldKind) (cuts : List (ℕ → ℕ)) (lo hi : List ℕ) → Rises cuts → length lo ≡ length cuts → length hi ≡ length cuts
     → ((p : List ℕ) → IsBetween lo hi p → IsEnough kind (length (part_indices cuts p))) → 0 < length (region_indices lo hi)
-    → IsEnough kind (length (region_indices (cut cuts lo) (cut cuts hi)))
+    → IsEnough kind (length (region_indices (part_start cuts lo) (part_start cuts hi)))
 parts_enough kind cuts lo hi r e g parts some =
-    of_enough kind (λ p. length (part_indices cuts p)) (region_indices lo hi) (length (region_indices (cut cuts lo) (cut cuts hi))) some
+    of_enough kind (λ p. length (part_indices cuts p)) (region_indices lo hi) (length (region_indices (part_start cuts lo) (part_start cuts hi))) some
     (region_all lo hi (λ p. IsEnough kind (length (part_indices cuts p))) (e ∙ sym g) parts) (length-parts cuts lo hi r e g)
 
 reduced_range : (kind : FoldKind) (acc : Dtype) (r : Option (List ℤ)) (x : ℤ) → option_map (λ ys. wrapped acc (fold_of kind ys)) r ≡ Some x → InRange acc x
@@ -323,22 +314,22 @@ module _ (kind : FoldKind) (t acc : Dtype) (cuts : List (ℕ → ℕ)) (lo hi : 
   parts_of p = reduced_to kind acc (map f (part_indices cuts p))
 
   abbrev Reduces : Type 0
-  Reduces = reduced_to kind acc (map parts_of (region_indices lo hi)) ≡ reduced_to kind acc (map f (region_indices (cut cuts lo) (cut cuts hi)))
+  Reduces = reduced_to kind acc (map parts_of (region_indices lo hi)) ≡ reduced_to kind acc (map f (region_indices (part_start cuts lo) (part_start cuts hi)))
 
   nothing : Rises cuts → length lo ≡ length cuts → length hi ≡ length cuts → region_indices lo hi ≡ [] → Reduces
   nothing r e g none =
-      let many : length (region_indices (cut cuts lo) (cut cuts hi)) ≡ 0 =
+      let many : length (region_indices (part_start cuts lo) (part_start cuts hi)) ≡ 0 =
       length-parts cuts lo hi r e g ∙ ap (λ xs. total counting (map (λ p. length (part_indices cuts p)) xs)) none in
-      ap (λ xs. reduced_to kind acc (map parts_of xs)) none ∙ ap (λ xs. reduced_to kind acc (map f xs)) (sym (empty (region_indices (cut cuts lo) (cut cuts hi)) many))
+      ap (λ xs. reduced_to kind acc (map parts_of xs)) none ∙ ap (λ xs. reduced_to kind acc (map f xs)) (sym (empty (region_indices (part_start cuts lo) (part_start cuts hi)) many))
 
   something : Accumulates kind t acc → Rises cuts → length lo ≡ length cuts → length hi ≡ length cuts
       → ((p : List ℕ) → IsBetween lo hi p → IsEnough kind (length (part_indices cuts p)))
-      → ((i : List ℕ) (x : ℤ) → IsBetween (cut cuts lo) (cut cuts hi) i → f i ≡ Some x → IsTaken kind acc x)
+      → ((i : List ℕ) (x : ℤ) → IsBetween (part_start cuts lo) (part_start cuts hi) i → f i ≡ Some x → IsTaken kind acc x)
       → 0 < length (region_indices lo hi) → Reduces
   something a r e g parts taken some =
       let m = lifted (kept kind t acc a) in
       let region = region_indices lo hi in
-      let all = region_indices (cut cuts lo) (cut cuts hi) in
+      let all = region_indices (part_start cuts lo) (part_start cuts hi) in
       let outer : IsEnough kind (length (map parts_of region)) = subst (IsEnough kind) (sym (length-map region parts_of)) (enough_some kind (length region) some) in
       let whole : IsEnough kind (length (map f all)) =
       subst (IsEnough kind) (sym (length-map all f)) (parts_enough kind cuts lo hi r e g parts some) in
@@ -354,21 +345,21 @@ module _ (kind : FoldKind) (t acc : Dtype) (cuts : List (ℕ → ℕ)) (lo hi : 
       let next : length (map suc p) ≡ length cuts = length-map p suc ∙ same in
       reduced_total kind t acc a (map f (part_indices cuts p)) (subst (IsEnough kind) (sym (length-map (part_indices cuts p) f)) (parts p b))
       (All-map (IfThere (IsTaken kind acc)) f (part_indices cuts p)
-      (region_all (cut cuts p) (cut cuts (map suc p)) (λ i. IfThere (IsTaken kind acc) (f i))
+      (region_all (part_start cuts p) (part_start cuts (map suc p)) (λ i. IfThere (IsTaken kind acc) (f i))
       (length-cut cuts p same ∙ sym (length-cut cuts (map suc p) next))
       (λ i w x s. taken i x (part_within cuts lo hi p i r e b w) s)))))
       ∙ telescope m cuts lo hi f r e g
       ∙ sym (reduced_total kind t acc a (map f all) whole
       (All-map (IfThere (IsTaken kind acc)) f all
-      (region_all (cut cuts lo) (cut cuts hi) (λ i. IfThere (IsTaken kind acc) (f i)) (length-cut cuts lo e ∙ sym (length-cut cuts hi g))
+      (region_all (part_start cuts lo) (part_start cuts hi) (λ i. IfThere (IsTaken kind acc) (f i)) (length-cut cuts lo e ∙ sym (length-cut cuts hi g))
       (λ i w x s. taken i x w s))))
 
 pub rounds_of_kinds : (kind : FoldKind) (t acc : Dtype) (cuts : List (ℕ → ℕ)) (lo hi : List ℕ) (f : List ℕ → Option ℤ) → Accumulates kind t acc
     → Rises cuts → length lo ≡ length cuts → length hi ≡ length cuts
     → ((p : List ℕ) → IsBetween lo hi p → IsEnough kind (length (part_indices cuts p)))
-    → ((i : List ℕ) (x : ℤ) → IsBetween (cut cuts lo) (cut cuts hi) i → f i ≡ Some x → IsTaken kind acc x)
+    → ((i : List ℕ) (x : ℤ) → IsBetween (part_start cuts lo) (part_start cuts hi) i → f i ≡ Some x → IsTaken kind acc x)
     → reduced_to kind acc (map (λ p. reduced_to kind acc (map f (part_indices cuts p))) (region_indices lo hi))
-    ≡ reduced_to kind acc (map f (region_indices (cut cuts lo) (cut cuts hi)))
+    ≡ reduced_to kind acc (map f (region_indices (part_start cuts lo) (part_start cuts hi)))
 rounds_of_kinds kind t acc cuts lo hi f a r e g parts taken =
     ⊎_elim
     (λ some. something kind t acc cuts lo hi f a r e g parts taken some)
@@ -430,13 +421,13 @@ pub rounds_of_places : (least : Test) (cuts : List (ℕ → ℕ)) (lo hi : List 
     → Rises cuts → length lo ≡ length cuts → length hi ≡ length cuts
     → ((p : List ℕ) → IsBetween lo hi p → 0 < length (part_indices cuts p))
     → best_in least (map (λ p. best_in least (map f (part_indices cuts p))) (region_indices lo hi))
-    ≡ best_in least (map f (region_indices (cut cuts lo) (cut cuts hi)))
+    ≡ best_in least (map f (region_indices (part_start cuts lo) (part_start cuts hi)))
 rounds_of_places least cuts lo hi f r e g parts =
     let m = lifted (finding least) in
     let to : List ℕ → Option (Option Found) = λ i. given least (f i) in
     let of : List ℕ → Option Found = λ p. best_in least (map f (part_indices cuts p)) in
     let region = region_indices lo hi in
-    let all = region_indices (cut cuts lo) (cut cuts hi) in
+    let all = region_indices (part_start cuts lo) (part_start cuts hi) in
     best_total least (map of region)
     ∙ ap (λ xs. taken_out least (total m xs)) (map-map (given least) of region)
     ∙ ap (taken_out least)

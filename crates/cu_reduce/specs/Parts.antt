@@ -4,10 +4,10 @@ use Rattle.cu_reduce.specs.Groups.{Groups}
 use Rattle.cu_reduce.specs.Regions.{region_indices}
 
 -- where the part begins that has these numbers
-abbrev pub cut : List (ℕ → ℕ) → List ℕ → List ℕ
-cut [] ps = []
-cut (c ∷ cs) [] = []
-cut (c ∷ cs) (p ∷ ps) = c p ∷ cut cs ps
+abbrev pub part_start : List (ℕ → ℕ) → List ℕ → List ℕ
+part_start [] ps = []
+part_start (c ∷ cs) [] = []
+part_start (c ∷ cs) (p ∷ ps) = c p ∷ part_start cs ps
 
 -- no part begins before the one in front of it
 abbrev pub Rises : List (ℕ → ℕ) → Type 0
@@ -16,7 +16,7 @@ Rises (c ∷ cs) = ((p : ℕ) → c p ≤ c (suc p)) × Rises cs
 
 -- the indices of a part
 abbrev pub part_indices : List (ℕ → ℕ) → List ℕ → List (List ℕ)
-part_indices cuts part = region_indices (cut cuts part) (cut cuts (map suc part))
+part_indices cuts part = region_indices (part_start cuts part) (part_start cuts (map suc part))
 
 -- an index lies in a region: from `lo` to below `hi` on each axis
 abbrev pub IsBetween : List ℕ → List ℕ → List ℕ → Type 0

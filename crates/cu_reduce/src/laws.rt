@@ -6,7 +6,7 @@ ghost use Rattle.cu_num.specs.declared.folds.FoldKind.{FoldKind};
 ghost use Rattle.cu_num.specs.declared.types.Dtype.{Dtype};
 ghost use Rattle.cu_reduce.specs.Folds.{fold_of, least_of, greatest_of, reduced_to};
 ghost use Rattle.cu_reduce.specs.Kinds.{unit_of, combined, Accumulates, IsTaken};
-ghost use Rattle.cu_reduce.specs.Parts.{cut, Rises, part_indices, IsBetween};
+ghost use Rattle.cu_reduce.specs.Parts.{part_start, Rises, part_indices, IsBetween};
 ghost use Rattle.cu_reduce.specs.Places.{Found, better_of_some, best_of, IsBest, best_place, numbered, best_in};
 ghost use Rattle.cu_reduce.specs.Regions.{region_indices};
 ghost use Rattle.cu_reduce.specs.Running.{running, IsEnough};
@@ -56,12 +56,12 @@ pub fn rounds_law()
     ensures kinds { (kind : FoldKind) (t acc : Dtype) (cuts : List (ℕ → ℕ)) (lo hi : List ℕ) (f : List ℕ → Option ℤ) → Accumulates kind t acc
         → Rises cuts → length lo ≡ length cuts → length hi ≡ length cuts
         → ((p : List ℕ) → IsBetween lo hi p → IsEnough kind (length (part_indices cuts p)))
-        → ((i : List ℕ) (x : ℤ) → IsBetween (cut cuts lo) (cut cuts hi) i → f i ≡ Some x → IsTaken kind acc x)
+        → ((i : List ℕ) (x : ℤ) → IsBetween (part_start cuts lo) (part_start cuts hi) i → f i ≡ Some x → IsTaken kind acc x)
         → reduced_to kind acc (map (λ p. reduced_to kind acc (map f (part_indices cuts p))) (region_indices lo hi))
-        ≡ reduced_to kind acc (map f (region_indices (cut cuts lo) (cut cuts hi))) }
+        ≡ reduced_to kind acc (map f (region_indices (part_start cuts lo) (part_start cuts hi))) }
     ensures places { (least : Bool) (cuts : List (ℕ → ℕ)) (lo hi : List ℕ) (f : List ℕ → Option Found)
         → Rises cuts → length lo ≡ length cuts → length hi ≡ length cuts
         → ((p : List ℕ) → IsBetween lo hi p → 0 < length (part_indices cuts p))
         → best_in least (map (λ p. best_in least (map f (part_indices cuts p))) (region_indices lo hi))
-        ≡ best_in least (map f (region_indices (cut cuts lo) (cut cuts hi))) }
+        ≡ best_in least (map f (region_indices (part_start cuts lo) (part_start cuts hi))) }
 {}

@@ -3,7 +3,7 @@ use Rattle.std.proofs.Common.{sym, ◌∙◌, ◌≡◌, ◌<◌, ◌≤◌, ℕ
 use Rattle.std.specs.Option.{option_or}
 use Rattle.std.proofs.lemmas.Bool.Decides.{eqb_tells}
 use Rattle.std.proofs.lemmas.List.{drop_more, length-append, length-replicate, drop-set}
-use Rattle.cu_shape.specs.Broadcast.{aligned, rank_of, size_of, are_apart, sizes_of, last_apart, mismatch_of, IsApart, IsLastMismatch}
+use Rattle.cu_shape.specs.Broadcast.{aligned, rank_of, broadcast_size, are_apart, broadcast_sizes, last_apart, mismatch_of, IsApart, IsLastMismatch}
 
 pub length-aligned : (rank : ℕ) (shape : List ℕ) → length shape ≤ rank → length (aligned rank shape) ≡ rank
 length-aligned rank shape h =
@@ -55,7 +55,7 @@ agree_step A B k p q f e = rw (drop_more A k 0 p, drop_more B k 0 q) (rw (e, f) 
 pub apart_step : (A B : List ℕ) (k : ℕ) → k < length A → k < length B → are_apart (get_or A k 0) (get_or B k 0) ≡ true → last_apart (drop (k + 1) A) (drop (k + 1) B) (k + 1) ≡ None → last_apart (drop k A) (drop k B) k ≡ Some k
 apart_step A B k p q f e = rw (drop_more A k 0 p, drop_more B k 0 q) (rw (e, f) refl)
 
-pub sizes_step : (A B r : List ℕ) (k v : ℕ) → k < length A → k < length B → k < length r → drop (k + 1) r ≡ sizes_of (drop (k + 1) A) (drop (k + 1) B) → v ≡ size_of (get_or A k 0) (get_or B k 0) → drop k (set r k v) ≡ sizes_of (drop k A) (drop k B)
+pub sizes_step : (A B r : List ℕ) (k v : ℕ) → k < length A → k < length B → k < length r → drop (k + 1) r ≡ broadcast_sizes (drop (k + 1) A) (drop (k + 1) B) → v ≡ broadcast_size (get_or A k 0) (get_or B k 0) → drop k (set r k v) ≡ broadcast_sizes (drop k A) (drop k B)
 sizes_step A B r k v p q h e f = rw (drop_more A k 0 p, drop_more B k 0 q) (drop-set r k v h ∙ rw (e, f) refl)
 
 last_apart-nil : (A : List ℕ) (first : ℕ) → last_apart A [] first ≡ None

@@ -2,18 +2,18 @@
 use Rattle.std.proofs.Common.{◌≡◌, ◌<◌, ◌≤◌, ◌==◌, if◌then◌else◌, ℕ, zero, suc, ◌+◌, ◌-◌, false, None, List, [], ◌∷◌, ◌++◌, length, replicate, drop, refl, ap, subst, ◌∙◌, sym, arith, inl, inr}
 use Rattle.std.proofs.lemmas.Bool.Decides.{eqb_tells}
 use Rattle.cu_shape.specs.Index.{IsInside, back_along, back}
-use Rattle.cu_shape.specs.Broadcast.{aligned, rank_of, size_of, sizes_of, are_apart, last_apart, broadcast_of, mismatch_of}
+use Rattle.cu_shape.specs.Broadcast.{aligned, rank_of, broadcast_size, broadcast_sizes, are_apart, last_apart, broadcast_of, mismatch_of}
 use Rattle.cu_shape.proofs.Places.{inside-length}
 use Rattle.cu_shape.proofs.Broadcasts.{length-aligned, none_step}
 
-left_axis : (n m i : ℕ) → i < size_of n m → (if n == 1 then 0 else i) < n
+left_axis : (n m i : ℕ) → i < broadcast_size n m → (if n == 1 then 0 else i) < n
 left_axis n m i h =
     elim (eqb_tells n 1) [
       | inl p ↦ let e = p.1 in rw p.0 (omega arith)
       | inr p ↦ let w = rw p.0 at h in rw p.0 w
     ]
 
-right_axis : (n m i : ℕ) → are_apart n m ≡ false → i < size_of n m → (if m == 1 then 0 else i) < m
+right_axis : (n m i : ℕ) → are_apart n m ≡ false → i < broadcast_size n m → (if m == 1 then 0 else i) < m
 right_axis n m i a h =
     elim (eqb_tells m 1) [
       | inl p ↦ let e = p.1 in rw p.0 (omega arith)
@@ -26,7 +26,7 @@ right_axis n m i a h =
       ]
     ]
 
-left_inside : (A B is : List ℕ) → length A ≡ length B → IsInside (sizes_of A B) is → IsInside A (back_along A is)
+left_inside : (A B is : List ℕ) → length A ≡ length B → IsInside (broadcast_sizes A B) is → IsInside A (back_along A is)
 left_inside [] [] [] e h = tt
 left_inside [] [] (i ∷ is) e h = absurd h
 left_inside [] (m ∷ ms) is e h = absurd (omega arith)
@@ -34,7 +34,7 @@ left_inside (n ∷ ns) [] is e h = absurd (omega arith)
 left_inside (n ∷ ns) (m ∷ ms) [] e h = absurd h
 left_inside (n ∷ ns) (m ∷ ms) (i ∷ is) e h = (left_axis n m i h.0, left_inside ns ms is (omega arith) h.1)
 
-right_inside : (A B is : List ℕ) (first : ℕ) → length A ≡ length B → last_apart A B first ≡ None → IsInside (sizes_of A B) is → IsInside B (back_along B is)
+right_inside : (A B is : List ℕ) (first : ℕ) → length A ≡ length B → last_apart A B first ≡ None → IsInside (broadcast_sizes A B) is → IsInside B (back_along B is)
 right_inside [] [] [] first e a h = tt
 right_inside [] [] (i ∷ is) first e a h = absurd h
 right_inside [] (m ∷ ms) is first e a h = absurd (omega arith)
@@ -55,7 +55,7 @@ back_of shape is rank e l h =
     let w = without_lead (rank - length shape) shape is h in
     subst (λ (r : ℕ). IsInside shape (back_along shape (drop (r - length shape) is))) (sym e) w
 
-length-sizes_of : (A B : List ℕ) → length A ≡ length B → length (sizes_of A B) ≡ length A
+length-sizes_of : (A B : List ℕ) → length A ≡ length B → length (broadcast_sizes A B) ≡ length A
 length-sizes_of [] B e = refl
 length-sizes_of (n ∷ ns) [] e = absurd (omega arith)
 length-sizes_of (n ∷ ns) (m ∷ ms) e = ap suc (length-sizes_of ns ms (omega arith))

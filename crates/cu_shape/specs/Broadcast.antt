@@ -13,21 +13,21 @@ abbrev pub rank_of : List ℕ → List ℕ → ℕ
 rank_of a b = max (length a) (length b)
 
 -- the result's size on an axis: the one that is not 1
-abbrev pub size_of : ℕ → ℕ → ℕ
-size_of n m = if n == 1 then m else n
+abbrev pub broadcast_size : ℕ → ℕ → ℕ
+broadcast_size n m = if n == 1 then m else n
 
 -- the sizes on an axis differ and neither is 1
 abbrev pub are_apart : ℕ → ℕ → Bool
 are_apart n m = not (n == m) && (not (n == 1) && not (m == 1))
 
-abbrev pub sizes_of : List ℕ → List ℕ → List ℕ
-sizes_of (n ∷ ns) (m ∷ ms) = size_of n m ∷ sizes_of ns ms
-sizes_of [] ms = []
-sizes_of (n ∷ ns) [] = []
+abbrev pub broadcast_sizes : List ℕ → List ℕ → List ℕ
+broadcast_sizes (n ∷ ns) (m ∷ ms) = broadcast_size n m ∷ broadcast_sizes ns ms
+broadcast_sizes [] ms = []
+broadcast_sizes (n ∷ ns) [] = []
 
 -- the result's shape, of shapes that broadcast
 abbrev pub broadcast_of : List ℕ → List ℕ → List ℕ
-broadcast_of a b = sizes_of (aligned (rank_of a b) a) (aligned (rank_of a b) b)
+broadcast_of a b = broadcast_sizes (aligned (rank_of a b) a) (aligned (rank_of a b) b)
 
 -- the last axis on which two aligned shapes are apart, counted from the axis `first`
 abbrev pub last_apart : List ℕ → List ℕ → ℕ → Option ℕ

@@ -1,5 +1,5 @@
 ghost use Rattle.std.specs.Prelude.{◌≡◌, ◌<◌, ◌≤◌, ◌↔◌, IsOk, IfOk, IfErr, length, slice_index};
-ghost use Rattle.cu_shape.specs.Broadcast.{aligned, broadcast_of, mismatch_of, IsMismatch, are_apart, size_of};
+ghost use Rattle.cu_shape.specs.Broadcast.{aligned, broadcast_of, mismatch_of, IsMismatch, are_apart, broadcast_size};
 
 use crate::dims::Dims;
 use crate::fault::ShapeFault;
@@ -48,7 +48,7 @@ fn apart(n: u64, m: u64) -> bool
 
 /// The size of the result on an axis.
 fn joined(n: u64, m: u64) -> u64
-    ensures { result ≡ size_of n m }
+    ensures { result ≡ broadcast_size n m }
 {
     if n == 1 { m } else { n }
 }

@@ -36,7 +36,7 @@ use Rattle.cu_op.specs.Value.{Elements, rule, pulled, stored_inputs}
 use Rattle.cu_op.specs.Walks.{whole_walk, input_walks, cells_of_walks}
 use Rattle.cu_op.specs.declared.operation.Op.{Op}
 use Rattle.cu_op.specs.declared.walks.Walk.{Walk}
-use Rattle.cu_op.specs.declared.operation.Op.TheVariants.{Map, Pull, Copy, Fold, Merge, PairFold, PairMerge, Mul}
+use Rattle.cu_op.specs.declared.operation.Op.TheVariants.{Pull}
 use Rattle.cu_op.proofs.CellsOfTasks.{map_contains}
 use Rattle.cu_op.proofs.Nested.{begins_within}
 use Rattle.cu_op.proofs.Operations.{Fit}
@@ -67,13 +67,6 @@ pub record OfPull (p : PlanView) (op : Op) (task : ℕ) (pull : View) (ins : Lis
   pub words : instruction_count op ≡ 0
 
 pub of_pull : (p : PlanView) (k : ℕ) (op : Op) (task : ℕ) (pull : View) (ins : List ℕ) → Fit p.arrays k op → IsPullOf op pull ins → OfPull p op task pull ins
-of_pull p k (Map kernel sources out) task pull ins fit is = absurd is
-of_pull p k (Copy region source out) task pull ins fit is = absurd is
-of_pull p k (Fold kind axes source out) task pull ins fit is = absurd is
-of_pull p k (Merge kind axis group source out) task pull ins fit is = absurd is
-of_pull p k (PairFold least axis source values out) task pull ins fit is = absurd is
-of_pull p k (PairMerge least axis group value_source place_source values out) task pull ins fit is = absurd is
-of_pull p k (Mul left right out) task pull ins fit is = absurd is
 of_pull p k (Pull own sources out) task pull ins fit is =
     subst (λ (x : View). OfPull p (Pull own sources out) task x ins) (sym is.0)
     (subst (λ (x : List ℕ). OfPull p (Pull own sources out) task own x) (sym is.1) (record {
@@ -88,22 +81,18 @@ of_pull p k (Pull own sources out) task pull ins fit is =
       inputs = refl;
       words = refl;
     }))
+of_pull p k op task pull ins fit is = absurd is
 
 -- ---- what has come
 
 -- an index of a region, from its index among the region's sizes, and back
 pub box_back : (shape lo hi r : List ℕ) → IsRegion shape lo hi → IsInside (differences hi lo) r → differences (sums lo r) lo ≡ r
 box_back [] [] [] [] region inside = refl
-box_back [] [] [] (i ∷ is) region inside = absurd inside
-box_back [] [] (h ∷ hs) r region inside = absurd region
-box_back [] (l ∷ ls) hi r region inside = absurd region
-box_back (n ∷ ns) [] hi r region inside = absurd region
-box_back (n ∷ ns) (l ∷ ls) [] r region inside = absurd region
-box_back (n ∷ ns) (l ∷ ls) (h ∷ hs) [] region inside = absurd inside
 box_back (n ∷ ns) (l ∷ ls) (h ∷ hs) (i ∷ is) region inside =
     let rest = box_back ns ls hs is region.2 inside.1 in
     let first : l + i - l ≡ i = omega arith in
     cc
+box_back shape lo hi r region inside = absurd assumption
 
 -- an element that fits is below the count
 pub place_low : (p n size long : ℕ) → 0 < size → n * size ≡ long → p * size + size ≤ long → p < n

@@ -7,14 +7,12 @@ ghost use Rattle.cu_op.specs.Cells.{tasks_of};
 ghost use Rattle.cu_op.specs.Operation.{target_of};
 ghost use Rattle.cu_op.specs.Projection.{scratch_room};
 ghost use Rattle.cu_op.specs.Schedule.{op_of};
-ghost use Rattle.cu_op.specs.declared.operation.Op.TheVariants.{Copy};
 ghost use Rattle.cu_region.specs.Calls.{Made};
 ghost use Rattle.cu_region.specs.Writing.{AreElements};
-ghost use Rattle.cu_task.specs.Task.{read_calls, result_room, HasResult, AreSteadyInputs, IsTaskFault};
+ghost use Rattle.cu_task.specs.Task.{read_calls, IsCopy, result_room, HasResult, AreSteadyInputs, IsTaskFault};
 
 use crate::inputs::{input_walk, read_walk};
 use cu_op::Plan;
-use cu_shape::Dims;
 use cu_store::{Depot, TaskFault};
 
 /// The elements of the region that a task copies, row-major and little-endian, each chunk of the source read through `scratch`.
@@ -23,15 +21,12 @@ pub(crate) fn copy_region<D: Depot>(
     plan: &Plan,
     op: u32,
     task: u32,
-    region: &Dims,
-    source: u32,
-    out: u32,
     output: &mut [u8],
     scratch: &mut [u8],
 ) -> Result<(), TaskFault>
     requires operation { op < length plan.now.ops }
     requires task { task < tasks_of plan.now.arrays (op_of plan.now op) }
-    requires copy { op_of plan.now op ≡ Copy region.now source out }
+    requires copy { IsCopy (op_of plan.now op) }
     requires output { length output.old ≡ result_room plan.now op task (target_of (op_of plan.now op)) }
     requires scratch { scratch_room plan.now.arrays (op_of plan.now op) ≤ length scratch.old }
     ensures values { (held : Contents) → AreSteadyInputs plan.now op task (D.shown depot.old) held → OnOk result (HasResult plan.now op task (target_of (op_of plan.now op)) held output.new) }

@@ -12,13 +12,22 @@ ghost use Rattle.cu_op.specs.Sound.{Sound};
 ghost use Rattle.cu_region.specs.Calls.{Made};
 ghost use Rattle.cu_region.specs.Writing.{AreElements};
 ghost use Rattle.cu_task.specs.Inputs.{IsPullOf};
-ghost use Rattle.cu_task.specs.ViewJobs.{IsViewJob, view_of};
+ghost use Rattle.cu_task.specs.ViewJobs.{IsViewJob, view_task_of};
 ghost use Rattle.cu_task.specs.Task.{view_task, read_calls, HasSureCalls, result_room, HasResult, AreSteadyInputs, IsTaskFault};
 
 use crate::views::{ViewJob, lay_numbers, read_sources, shapes_of};
 use cu_op::{Plan, Pull, task_region};
 use cu_shape::Dims;
 use cu_store::{Depot, TaskFault};
+
+/// A view of arrays of a plan.
+#[derive(Clone, Copy)]
+pub(crate) struct View<'a> {
+    /// From where each element comes.
+    pub(crate) pull: &'a Pull,
+    /// The sources, in the order in which the view numbers them.
+    pub(crate) ins: &'a [u32],
+}
 
 /// The elements of a view's result in the region of a task, row-major and little-endian, each chunk of a source read through
 /// `scratch`.
@@ -27,15 +36,14 @@ pub(crate) fn pull_result<D: Depot>(
     plan: &Plan,
     op: u32,
     task: u32,
-    pull: &Pull,
-    ins: &[u32],
+    view: View<'_>,
     output: &mut [u8],
     scratch: &mut [u8],
 ) -> Result<(), TaskFault>
     requires operation { op < length plan.now.ops }
     requires task { task < tasks_of plan.now.arrays (op_of plan.now op) }
-    requires pull { IsPullOf (op_of plan.now op) pull.now ins.now }
-    requires few { length ins.now ≤ 8 }
+    requires pull { IsPullOf (op_of plan.now op) view.pull.now view.ins.now }
+    requires few { length view.ins.now ≤ 8 }
     requires output { length output.old ≡ result_room plan.now op task (target_of (op_of plan.now op)) }
     requires scratch { scratch_room plan.now.arrays (op_of plan.now op) ≤ length scratch.old }
     ensures values { (held : Contents) → AreSteadyInputs plan.now op task (D.shown depot.old) held → OnOk result (HasResult plan.now op task (target_of (op_of plan.now op)) held output.new) }
@@ -45,8 +53,8 @@ pub(crate) fn pull_result<D: Depot>(
     ensures cause { IfErr result (IsTaskFault (D.shown depot.old) (D.shown depot.new) plan.now op task) }
 {
     let _planned = plan.operation(op);
-    let shapes = shapes_of(plan, ins);
-    let job = view_job(plan, op, task, pull, ins, shapes.as_slice());
+    let shapes = shapes_of(plan, view.ins);
+    let job = view_job(plan, op, task, view.pull, view.ins, shapes.as_slice());
     pull_region(depot, plan, op, task, &job, output, scratch)
 }
 
@@ -65,7 +73,7 @@ fn pull_region<D: Depot>(
     requires task { task < tasks_of plan.now.arrays (op_of plan.now op) }
     requires pull { IsPullOf (op_of plan.now op) job.now.pull.now job.now.ins.now }
     requires job { IsViewJob job.now }
-    requires view { view_of job.now ≡ view_task plan.now.arrays job.now.pull.now job.now.ins.now (target_of (op_of plan.now op)) (task_lo plan.now.arrays (op_of plan.now op) task) (task_hi plan.now.arrays (op_of plan.now op) task) }
+    requires view { view_task_of job.now ≡ view_task plan.now.arrays job.now.pull.now job.now.ins.now (target_of (op_of plan.now op)) (task_lo plan.now.arrays (op_of plan.now op) task) (task_hi plan.now.arrays (op_of plan.now op) task) }
     requires output { length output.old ≡ result_room plan.now op task (target_of (op_of plan.now op)) }
     requires scratch { scratch_room plan.now.arrays (op_of plan.now op) ≤ length scratch.old }
     ensures values { (held : Contents) → AreSteadyInputs plan.now op task (D.shown depot.old) held → OnOk result (HasResult plan.now op task (target_of (op_of plan.now op)) held output.new) }
@@ -94,7 +102,7 @@ fn view_job<'a>(
     requires shapes { shapes.now ≡ shapes_at plan.now.arrays ins.now }
     ensures job { IsViewJob result }
     ensures pull { IsPullOf (op_of plan.now op) result.pull.now result.ins.now }
-    ensures view { view_of result ≡ view_task plan.now.arrays result.pull.now result.ins.now (target_of (op_of plan.now op)) (task_lo plan.now.arrays (op_of plan.now op) task) (task_hi plan.now.arrays (op_of plan.now op) task) }
+    ensures view { view_task_of result ≡ view_task plan.now.arrays result.pull.now result.ins.now (target_of (op_of plan.now op)) (task_lo plan.now.arrays (op_of plan.now op) task) (task_hi plan.now.arrays (op_of plan.now op) task) }
     ensures sound { Sound plan.now }
 {
     ViewJob {

@@ -87,6 +87,15 @@ pub(crate) fn write_only<D: Depot>(
     write_array(depot, plan, op, task, array, output, scratch)
 }
 
+/// What a task of a search has found in its region.
+#[derive(Clone, Copy)]
+pub(crate) struct Found<'a> {
+    /// The values.
+    pub(crate) values: &'a [u8],
+    /// Their places.
+    pub(crate) places: &'a [u8],
+}
+
 /// Stores the chunks of both arrays that a search writes: the values before the places.
 pub(crate) fn write_both<D: Depot>(
     depot: &mut D,
@@ -94,27 +103,26 @@ pub(crate) fn write_both<D: Depot>(
     op: u32,
     task: u32,
     array: u32,
-    values: &[u8],
-    places: &[u8],
+    found: Found<'_>,
     scratch: &mut [u8],
 ) -> Result<(), TaskFault>
     requires operation { op < length plan.now.ops }
     requires task { task < tasks_of plan.now.arrays (op_of plan.now op) }
     requires both { writes_of (op_of plan.now op) ≡ array ∷ target_of (op_of plan.now op) ∷ [] }
-    requires values { length values.now ≡ result_room plan.now op task array }
-    requires places { length places.now ≡ result_room plan.now op task (target_of (op_of plan.now op)) }
-    requires value_elements { AreElements (type_at plan.now.arrays array) values.now }
-    requires place_elements { AreElements (type_at plan.now.arrays (target_of (op_of plan.now op))) places.now }
+    requires values { length found.values.now ≡ result_room plan.now op task array }
+    requires places { length found.places.now ≡ result_room plan.now op task (target_of (op_of plan.now op)) }
+    requires value_elements { AreElements (type_at plan.now.arrays array) found.values.now }
+    requires place_elements { AreElements (type_at plan.now.arrays (target_of (op_of plan.now op))) found.places.now }
     requires scratch { scratch_room plan.now.arrays (op_of plan.now op) ≤ length scratch.old }
-    ensures step { (start : Shown) → IsResultOver plan.now op task array start values.now → IsResultOver plan.now op task (target_of (op_of plan.now op)) start places.now
+    ensures step { (start : Shown) → IsResultOver plan.now op task array start found.entry.values.now → IsResultOver plan.now op task (target_of (op_of plan.now op)) start found.entry.places.now
         → Steps (TaskChange plan.now op task start) 0 (length (written_chunks plan.now.arrays (op_of plan.now op) task)) (D.shown depot.old) (D.shown depot.new) }
-    ensures stored { (env : Elements) (start : Shown) (calls : ℕ) → IsResultOver plan.now op task array start values.now → IsResultOver plan.now op task (target_of (op_of plan.now op)) start places.now
+    ensures stored { (env : Elements) (start : Shown) (calls : ℕ) → IsResultOver plan.now op task array start found.entry.values.now → IsResultOver plan.now op task (target_of (op_of plan.now op)) start found.entry.places.now
         → IsTaskReady plan.now op task env start → Steps (TaskChange plan.now op task start) 0 calls start (D.shown depot.old) → OnOk result (HoldsCells plan.now op task env (D.shown depot.new)) }
     ensures all { OnOk result (Made (length (written_chunks plan.now.arrays (op_of plan.now op) task)) (D.shown depot.old).calls (D.shown depot.new).calls) }
     ensures cause { IfErr result (IsWriteFault (D.shown depot.old).faults (D.shown depot.new).faults (D.shown depot.new).lacks) }
 {
     let _planned = plan.operation(op);
-    write_array(depot, plan, op, task, array, values, scratch)?;
+    write_array(depot, plan, op, task, array, found.values, scratch)?;
     let target = plan.operation(op).op.target();
-    write_array(depot, plan, op, task, target, places, scratch)
+    write_array(depot, plan, op, task, target, found.places, scratch)
 }

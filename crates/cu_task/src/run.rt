@@ -12,14 +12,14 @@ ghost use Rattle.cu_op.specs.Walks.{input_walks};
 ghost use Rattle.cu_region.specs.Calls.{Made};
 ghost use Rattle.cu_region.specs.Writing.{AreElements};
 ghost use Rattle.cu_task.specs.Inputs.{room_of_walks};
-ghost use Rattle.cu_task.specs.Task.{IsTaskReady, TaskChange, HoldsCells, read_calls, calls_of, HasSureCalls, IsSingle, IsComputing, kept_room, result_room, HasResult, IsComputed, AreSteadyInputs, IsTaskFault};
+ghost use Rattle.cu_task.specs.Task.{IsTaskReady, TaskChange, HoldsCells, read_calls, calls_of, HasSureCalls, HasOneOutput, IsComputing, kept_room, result_room, HasResult, IsComputed, AreSteadyInputs, IsTaskFault};
 
 use crate::copies::copy_region;
 use crate::inputs::{input_bytes, read_regions};
 use crate::maps::run_map;
-use crate::products::multiply;
-use crate::pulls::pull_result;
-use crate::reductions::{fold, merge};
+use crate::products::{Product, multiply};
+use crate::pulls::{View, pull_result};
+use crate::reductions::{Folding, Merging, fold, merge};
 use crate::results::{result_bytes, write_array};
 use crate::searches::run_search;
 use cu_op::{Op, Plan};
@@ -73,7 +73,7 @@ fn run_single<D: Depot>(
 ) -> Result<(), TaskFault>
     requires operation { op < length plan.now.ops }
     requires task { task < tasks_of plan.now.arrays (op_of plan.now op) }
-    requires single { IsSingle (op_of plan.now op) }
+    requires single { HasOneOutput (op_of plan.now op) }
     requires words { length words.old ≡ 64 * instruction_count (op_of plan.now op) }
     requires room { plan.now.reserved + length bytes.old + 8 * length words.old ≡ projection plan.now.arrays plan.now.reserved (op_of plan.now op) }
     ensures stored { (env : Elements) → IsTaskReady plan.now op task env (D.shown depot.old) → OnOk result (HoldsCells plan.now op task env (D.shown depot.new)) }
@@ -101,7 +101,7 @@ fn make_result<D: Depot>(
 ) -> Result<(), TaskFault>
     requires operation { op < length plan.now.ops }
     requires task { task < tasks_of plan.now.arrays (op_of plan.now op) }
-    requires single { IsSingle (op_of plan.now op) }
+    requires single { HasOneOutput (op_of plan.now op) }
     requires room { scratch_room plan.now.arrays (op_of plan.now op) + kept_room plan.now.arrays (op_of plan.now op) task ≤ length room.old }
     requires output { length output.old ≡ result_room plan.now op task (target_of (op_of plan.now op)) }
     requires words { length words.old ≡ 64 * instruction_count (op_of plan.now op) }
@@ -112,21 +112,14 @@ fn make_result<D: Depot>(
     ensures cause { IfErr result (IsTaskFault (D.shown depot.old) (D.shown depot.new) plan.now op task) }
 {
     match &plan.operation(op).op {
-        Op::Pull { pull, ins, .. } => pull_result(
-            depot,
-            plan,
-            op,
-            task,
-            pull,
-            ins.as_slice(),
-            output,
-            room,
-        ),
-        Op::Copy {
-            region,
-            source,
-            out,
-        } => copy_region(depot, plan, op, task, region, *source, *out, output, room),
+        Op::Pull { pull, ins, .. } => {
+            let view = View {
+                pull,
+                ins: ins.as_slice(),
+            };
+            pull_result(depot, plan, op, task, view, output, room)
+        }
+        Op::Copy { .. } => copy_region(depot, plan, op, task, output, room),
         _ => compute_result(depot, plan, op, task, room, output, words),
     }
 }
@@ -179,19 +172,36 @@ fn compute(plan: &Plan, op: u32, task: u32, inputs: &[u8], output: &mut [u8], wo
             axes,
             source,
             out,
-        } => fold(plan, op, task, *kind, *axes, *source, *out, inputs, output),
+        } => {
+            let folding = Folding {
+                kind: *kind,
+                axes: *axes,
+                source: *source,
+                out: *out,
+            };
+            fold(plan, op, task, folding, inputs, output)
+        }
         Op::Merge {
             kind,
             axis,
             group,
             source,
             out,
-        } => merge(
-            plan, op, task, *kind, *axis, *group, *source, *out, inputs, output,
-        ),
-        Op::Mul { left, right, out } => multiply(
-            plan, op, task, *left, *right, *out, inputs, output,
-        ),
+        } => {
+            let merging = Merging {
+                kind: *kind,
+                axis: *axis,
+                group: *group,
+                source: *source,
+                out: *out,
+            };
+            merge(plan, op, task, merging, inputs, output)
+        }
+        Op::Mul { left, right, out } => {
+            let (left, right, out) = (*left, *right, *out);
+            let arrays = Product { left, right, out };
+            multiply(plan, op, task, arrays, inputs, output)
+        }
         _ => unreachable!(),
     }
 }

@@ -14,11 +14,11 @@ ghost use Rattle.cu_op.specs.declared.operation.Op.TheVariants.{PairFold, PairMe
 ghost use Rattle.cu_region.specs.Calls.{Made};
 ghost use Rattle.cu_region.specs.Writing.{AreElements, IsWriteFault};
 ghost use Rattle.cu_task.specs.Inputs.{room_of_walks};
-ghost use Rattle.cu_task.specs.Task.{IsTaskReady, TaskChange, HoldsCells, read_calls, calls_of, IsSearch, compared_by, value_array, result_room, value_room, HasResult, IsComputed, AreSteadyInputs, IsResultOver, IsTaskFault};
+ghost use Rattle.cu_task.specs.Task.{IsTaskReady, TaskChange, HoldsCells, read_calls, calls_of, IsPlaceSearch, compared_by, value_array, result_room, found_value_room, HasResult, IsComputed, AreSteadyInputs, IsResultOver, IsTaskFault};
 
 use crate::inputs::{input_bytes, input_walk, read_regions, region_bytes, walk_bytes};
 use crate::reductions::dtype_of;
-use crate::results::{result_bytes, write_both, write_only};
+use crate::results::{Found, result_bytes, write_both, write_only};
 use cu_fold::{pair_fold, pair_merge};
 use cu_op::{Op, Plan, task_region};
 use cu_shape::difference;
@@ -34,7 +34,7 @@ pub(crate) fn run_search<D: Depot>(
 ) -> Result<(), TaskFault>
     requires operation { op < length plan.now.ops }
     requires task { task < tasks_of plan.now.arrays (op_of plan.now op) }
-    requires search { IsSearch (op_of plan.now op) }
+    requires search { IsPlaceSearch (op_of plan.now op) }
     requires room { plan.now.reserved + length bytes.old ≡ projection plan.now.arrays plan.now.reserved (op_of plan.now op) }
     ensures stored { (env : Elements) → IsTaskReady plan.now op task env (D.shown depot.old) → OnOk result (HoldsCells plan.now op task env (D.shown depot.new)) }
     ensures step { Steps (TaskChange plan.now op task (D.shown depot.old)) 0 (calls_of plan.now op task) (D.shown depot.old) (D.shown depot.new) }
@@ -62,9 +62,9 @@ fn search_region<D: Depot>(
 ) -> Result<(), TaskFault>
     requires operation { op < length plan.now.ops }
     requires task { task < tasks_of plan.now.arrays (op_of plan.now op) }
-    requires search { IsSearch (op_of plan.now op) }
+    requires search { IsPlaceSearch (op_of plan.now op) }
     requires room { scratch_room plan.now.arrays (op_of plan.now op) + room_of_walks plan.now.arrays (input_walks plan.now.arrays (op_of plan.now op) task) ≤ length room.old }
-    requires values { length values.old ≡ value_room plan.now op task }
+    requires values { length values.old ≡ found_value_room plan.now op task }
     requires places { length places.old ≡ result_room plan.now op task (target_of (op_of plan.now op)) }
     ensures places { (held : Contents) → AreSteadyInputs plan.now op task (D.shown depot.old) held → OnOk result (HasResult plan.now op task (target_of (op_of plan.now op)) held places.new) }
     ensures values { (array : ℕ) (held : Contents) → value_array (op_of plan.now op) ≡ Some array → AreSteadyInputs plan.now op task (D.shown depot.old) held → OnOk result (HasResult plan.now op task array held values.new) }
@@ -85,9 +85,9 @@ fn search_region<D: Depot>(
 fn find(plan: &Plan, op: u32, task: u32, inputs: &[u8], values: &mut [u8], places: &mut [u8])
     requires operation { op < length plan.now.ops }
     requires task { task < tasks_of plan.now.arrays (op_of plan.now op) }
-    requires search { IsSearch (op_of plan.now op) }
+    requires search { IsPlaceSearch (op_of plan.now op) }
     requires inputs { length inputs.now ≡ room_of_walks plan.now.arrays (input_walks plan.now.arrays (op_of plan.now op) task) }
-    requires values { length values.old ≡ value_room plan.now op task }
+    requires values { length values.old ≡ found_value_room plan.now op task }
     requires places { length places.old ≡ result_room plan.now op task (target_of (op_of plan.now op)) }
     ensures places { IsComputed plan.now op task (target_of (op_of plan.now op)) inputs.now places.new }
     ensures values { (array : ℕ) → value_array (op_of plan.now op) ≡ Some array → IsComputed plan.now op task array inputs.now values.new }
@@ -101,9 +101,16 @@ fn find(plan: &Plan, op: u32, task: u32, inputs: &[u8], values: &mut [u8], place
             source,
             values: stored,
             out,
-        } => find_first(
-            plan, op, task, *least, *axis, *source, *stored, *out, inputs, values, places,
-        ),
+        } => {
+            let sought = FirstSearch {
+                least: *least,
+                axis: *axis,
+                source: *source,
+                stored: *stored,
+                out: *out,
+            };
+            find_first(plan, op, task, sought, inputs, values, places)
+        }
         Op::PairMerge {
             least,
             axis,
@@ -112,23 +119,54 @@ fn find(plan: &Plan, op: u32, task: u32, inputs: &[u8], values: &mut [u8], place
             place_source,
             values: stored,
             out,
-        } => find_again(
-            plan,
-            op,
-            task,
-            *least,
-            *axis,
-            *group,
-            *value_source,
-            *place_source,
-            *stored,
-            *out,
-            inputs,
-            values,
-            places,
-        ),
+        } => {
+            let sought = MergedSearch {
+                least: *least,
+                axis: *axis,
+                group: *group,
+                value_source: *value_source,
+                place_source: *place_source,
+                stored: *stored,
+                out: *out,
+            };
+            find_again(plan, op, task, sought, inputs, values, places)
+        }
         _ => unreachable!(),
     }
+}
+
+/// What is sought in the chunks of an array.
+#[derive(Clone, Copy)]
+struct FirstSearch {
+    /// The least elements are sought, else the greatest.
+    least: bool,
+    /// The axis along which places are counted; none where they are counted in the whole array.
+    axis: Option<u32>,
+    /// The array that is searched.
+    source: u32,
+    /// The array of the values, where they are stored.
+    stored: Option<u32>,
+    /// The array of the places.
+    out: u32,
+}
+
+/// What is sought among partial results.
+#[derive(Clone, Copy)]
+struct MergedSearch {
+    /// The least values are sought, else the greatest.
+    least: bool,
+    /// The axis.
+    axis: u32,
+    /// How many are in a group; the last may be shorter.
+    group: u32,
+    /// The array of the partial results' values.
+    value_source: u32,
+    /// The array of their places.
+    place_source: u32,
+    /// The array of the values, where they are stored.
+    stored: Option<u32>,
+    /// The array of the places.
+    out: u32,
 }
 
 /// The least or the greatest elements of the region of the source in a chunk, and their first places.
@@ -136,20 +174,16 @@ fn find_first(
     plan: &Plan,
     op: u32,
     task: u32,
-    least: bool,
-    axis: Option<u32>,
-    source: u32,
-    stored: Option<u32>,
-    out: u32,
+    sought: FirstSearch,
     inputs: &[u8],
     values: &mut [u8],
     places: &mut [u8],
 )
     requires operation { op < length plan.now.ops }
     requires task { task < tasks_of plan.now.arrays (op_of plan.now op) }
-    requires search { op_of plan.now op ≡ PairFold least axis source stored out }
+    requires search { op_of plan.now op ≡ PairFold sought.least sought.axis sought.source sought.stored sought.out }
     requires inputs { length inputs.now ≡ room_of_walks plan.now.arrays (input_walks plan.now.arrays (op_of plan.now op) task) }
-    requires values { length values.old ≡ value_room plan.now op task }
+    requires values { length values.old ≡ found_value_room plan.now op task }
     requires places { length places.old ≡ result_room plan.now op task (target_of (op_of plan.now op)) }
     ensures places { IsComputed plan.now op task (target_of (op_of plan.now op)) inputs.now places.new }
     ensures values { (array : ℕ) → value_array (op_of plan.now op) ≡ Some array → IsComputed plan.now op task array inputs.now values.new }
@@ -158,14 +192,14 @@ fn find_first(
 {
     let _planned = plan.operation(op);
     let walk = input_walk(plan, op, task, 0);
-    let layout = &plan.array(source).layout;
+    let layout = &plan.array(sought.source).layout;
     pair_fold(
-        least,
+        sought.least,
         layout.dtype,
         layout.grid.shape(),
         &walk.region.lo,
         &difference(&walk.region.hi, &walk.region.lo),
-        axis,
+        sought.axis,
         inputs,
         values,
         places,
@@ -177,22 +211,16 @@ fn find_again(
     plan: &Plan,
     op: u32,
     task: u32,
-    least: bool,
-    axis: u32,
-    group: u32,
-    value_source: u32,
-    place_source: u32,
-    stored: Option<u32>,
-    out: u32,
+    sought: MergedSearch,
     inputs: &[u8],
     values: &mut [u8],
     places: &mut [u8],
 )
     requires operation { op < length plan.now.ops }
     requires task { task < tasks_of plan.now.arrays (op_of plan.now op) }
-    requires search { op_of plan.now op ≡ PairMerge least axis group value_source place_source stored out }
+    requires search { op_of plan.now op ≡ PairMerge sought.least sought.axis sought.group sought.value_source sought.place_source sought.stored sought.out }
     requires inputs { length inputs.now ≡ room_of_walks plan.now.arrays (input_walks plan.now.arrays (op_of plan.now op) task) }
-    requires values { length values.old ≡ value_room plan.now op task }
+    requires values { length values.old ≡ found_value_room plan.now op task }
     requires places { length places.old ≡ result_room plan.now op task (target_of (op_of plan.now op)) }
     ensures places { IsComputed plan.now op task (target_of (op_of plan.now op)) inputs.now places.new }
     ensures values { (array : ℕ) → value_array (op_of plan.now op) ≡ Some array → IsComputed plan.now op task array inputs.now values.new }
@@ -203,10 +231,10 @@ fn find_again(
     let walk = input_walk(plan, op, task, 0);
     let (values_from, places_from) = inputs.split_at(walk_bytes(plan, &walk));
     pair_merge(
-        least,
-        dtype_of(plan, value_source),
+        sought.least,
+        dtype_of(plan, sought.value_source),
         &difference(&walk.region.hi, &walk.region.lo),
-        axis,
+        sought.axis,
         values_from,
         places_from,
         values,
@@ -226,8 +254,8 @@ fn write_found<D: Depot>(
 ) -> Result<(), TaskFault>
     requires operation { op < length plan.now.ops }
     requires task { task < tasks_of plan.now.arrays (op_of plan.now op) }
-    requires search { IsSearch (op_of plan.now op) }
-    requires values { length values.now ≡ value_room plan.now op task }
+    requires search { IsPlaceSearch (op_of plan.now op) }
+    requires values { length values.now ≡ found_value_room plan.now op task }
     requires places { length places.now ≡ result_room plan.now op task (target_of (op_of plan.now op)) }
     requires value_elements { AreElements (type_at plan.now.arrays (compared_by (op_of plan.now op))) values.now }
     requires place_elements { AreElements (type_at plan.now.arrays (target_of (op_of plan.now op))) places.now }
@@ -241,7 +269,10 @@ fn write_found<D: Depot>(
     ensures cause { IfErr result (IsWriteFault (D.shown depot.old).faults (D.shown depot.new).faults (D.shown depot.new).lacks) }
 {
     match stored_values(plan, op) {
-        Some(array) => write_both(depot, plan, op, task, array, values, places, scratch),
+        Some(array) => {
+            let found = Found { values, places };
+            write_both(depot, plan, op, task, array, found, scratch)
+        }
         None => write_only(depot, plan, op, task, places, scratch),
     }
 }
@@ -261,7 +292,7 @@ fn stored_values(plan: &Plan, op: u32) -> Option<u32>
 /// The array whose elements a search compares.
 fn compared(plan: &Plan, op: u32) -> u32
     requires operation { op < length plan.now.ops }
-    requires search { IsSearch (op_of plan.now op) }
+    requires search { IsPlaceSearch (op_of plan.now op) }
     ensures { result ≡ compared_by (op_of plan.now op) }
 {
     match &plan.operation(op).op {
@@ -275,8 +306,8 @@ fn compared(plan: &Plan, op: u32) -> u32
 fn value_bytes(plan: &Plan, op: u32, task: u32) -> usize
     requires operation { op < length plan.now.ops }
     requires task { task < tasks_of plan.now.arrays (op_of plan.now op) }
-    requires search { IsSearch (op_of plan.now op) }
-    ensures { result ≡ value_room plan.now op task }
+    requires search { IsPlaceSearch (op_of plan.now op) }
+    ensures { result ≡ found_value_room plan.now op task }
 {
     let _planned = plan.operation(op);
     let region = task_region(plan, op, task);

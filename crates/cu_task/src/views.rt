@@ -10,8 +10,8 @@ ghost use Rattle.cu_op.specs.Arrays.{type_at, chunk_room};
 ghost use Rattle.cu_op.specs.Operation.{shapes_at};
 ghost use Rattle.cu_region.specs.Reading.{IsChunkReadFault};
 ghost use Rattle.cu_region.specs.Writing.{AreElements};
-ghost use Rattle.cu_task.specs.Views.{source_in, needs_chunk, is_exact, calls_for, source_calls, sure_calls, view_calls, IsSourceKey, IsKnown, Takes, IsAny, IsInPart, HasPulled};
-ghost use Rattle.cu_task.specs.ViewJobs.{IsViewJob, view_of, buffer_room, IsMovedFrom, HasHull, IsViewFault};
+ghost use Rattle.cu_task.specs.Views.{source_in, needs_chunk, is_exact, calls_for, source_calls, sure_calls, view_calls, IsSourceKey, IsKnown, HaveCome, IsAny, IsInPart, HasPulled};
+ghost use Rattle.cu_task.specs.ViewJobs.{IsViewJob, view_task_of, buffer_room, IsMovedFrom, HasHull, IsViewFault};
 
 use arrayvec::ArrayVec;
 use cu_codec::chunk_bytes;
@@ -57,8 +57,8 @@ pub(crate) fn shapes_of(plan: &Plan, numbers: &[u32]) -> ArrayVec<Dims, 8>
 /// Writes the elements of the region that come from no source. The others may be anything afterwards.
 pub(crate) fn lay_numbers(job: &ViewJob<'_>, output: &mut [u8])
     requires job { IsViewJob job.now }
-    requires output { length output.old ≡ buffer_room (view_of job.now) }
-    ensures { (told : Option Contents) → HasPulled (view_of job.now) 0 told output.new }
+    requires output { length output.old ≡ buffer_room (view_task_of job.now) }
+    ensures { (told : Option Contents) → HasPulled (view_task_of job.now) 0 told output.new }
 {
     let made = job.plan.array(job.out);
     lay_constants(
@@ -93,13 +93,13 @@ pub(crate) fn read_sources<D: Depot>(
     scratch: &mut [u8],
 ) -> Result<(), TaskFault>
     requires job { IsViewJob job.now }
-    requires output { length output.old ≡ buffer_room (view_of job.now) }
-    requires scratch { (source : ℕ) → source < length (view_of job.now).ins → chunk_room (view_of job.now).arrays (slice_index (view_of job.now).ins source) ≤ length scratch.old }
-    ensures pulled { (told : Option Contents) → ((source : ℕ) → source < length (view_of job.now).ins → IsKnown (IsSourceKey (view_of job.now) source) told (D.shown depot.old)) → HasPulled (view_of job.now) 0 told output.old
-        → OnOk result (HasPulled (view_of job.now) (length (view_of job.now).ins) told output.new) }
-    ensures step { Steps NoChange 0 (view_calls (view_of job.now) (length (view_of job.now).ins)) (D.shown depot.old) (D.shown depot.new) }
-    ensures all { OnOk result (Rose (sure_calls (view_of job.now).pull (view_calls (view_of job.now) (length (view_of job.now).ins))) (D.shown depot.old).calls (D.shown depot.new).calls) }
-    ensures cause { IfErr result (IsViewFault (D.shown depot.old) (D.shown depot.new) (view_of job.now)) }
+    requires output { length output.old ≡ buffer_room (view_task_of job.now) }
+    requires scratch { (source : ℕ) → source < length (view_task_of job.now).ins → chunk_room (view_task_of job.now).arrays (slice_index (view_task_of job.now).ins source) ≤ length scratch.old }
+    ensures pulled { (told : Option Contents) → ((source : ℕ) → source < length (view_task_of job.now).ins → IsKnown (IsSourceKey (view_task_of job.now) source) told (D.shown depot.old)) → HasPulled (view_task_of job.now) 0 told output.old
+        → OnOk result (HasPulled (view_task_of job.now) (length (view_task_of job.now).ins) told output.new) }
+    ensures step { Steps NoChange 0 (view_calls (view_task_of job.now) (length (view_task_of job.now).ins)) (D.shown depot.old) (D.shown depot.new) }
+    ensures all { OnOk result (Rose (sure_calls (view_task_of job.now).pull (view_calls (view_task_of job.now) (length (view_task_of job.now).ins))) (D.shown depot.old).calls (D.shown depot.new).calls) }
+    ensures cause { IfErr result (IsViewFault (D.shown depot.old) (D.shown depot.new) (view_task_of job.now)) }
 {
     for source in 0..job.ins.len() as u32 {
         read_source(depot, job, source, output, scratch)?;
@@ -117,12 +117,12 @@ fn read_source<D: Depot>(
 ) -> Result<(), TaskFault>
     requires job { IsViewJob job.now }
     requires source { source < length job.now.ins.now }
-    requires output { length output.old ≡ buffer_room (view_of job.now) }
+    requires output { length output.old ≡ buffer_room (view_task_of job.now) }
     requires scratch { chunk_room job.now.plan.now.arrays (slice_index job.now.ins.now source) ≤ length scratch.old }
-    ensures takes { (told : Option Contents) → IsKnown (IsSourceKey (view_of job.now) source) told (D.shown depot.old) → OnOk result (Takes (view_of job.now) source IsAny told output.old output.new) }
-    ensures step { Steps NoChange 0 (source_calls (view_of job.now) source) (D.shown depot.old) (D.shown depot.new) }
-    ensures all { OnOk result (Rose (sure_calls job.now.pull.now (source_calls (view_of job.now) source)) (D.shown depot.old).calls (D.shown depot.new).calls) }
-    ensures cause { IfErr result (IsChunkReadFault (D.shown depot.old) (D.shown depot.new) (IsSourceKey (view_of job.now) source) (chunk_room job.now.plan.now.arrays (slice_index job.now.ins.now source))) }
+    ensures takes { (told : Option Contents) → IsKnown (IsSourceKey (view_task_of job.now) source) told (D.shown depot.old) → OnOk result (HaveCome (view_task_of job.now) source IsAny told output.old output.new) }
+    ensures step { Steps NoChange 0 (source_calls (view_task_of job.now) source) (D.shown depot.old) (D.shown depot.new) }
+    ensures all { OnOk result (Rose (sure_calls job.now.pull.now (source_calls (view_task_of job.now) source)) (D.shown depot.old).calls (D.shown depot.new).calls) }
+    ensures cause { IfErr result (IsChunkReadFault (D.shown depot.old) (D.shown depot.new) (IsSourceKey (view_task_of job.now) source) (chunk_room job.now.plan.now.arrays (slice_index job.now.ins.now source))) }
 {
     match needed_hull(job, source) {
         None => Ok(()),
@@ -134,7 +134,7 @@ fn read_source<D: Depot>(
 fn needed_hull(job: &ViewJob<'_>, source: u32) -> Option<Region>
     requires job { IsViewJob job.now }
     requires source { source < length job.now.ins.now }
-    ensures { HasHull (view_of job.now) source result }
+    ensures { HasHull (view_task_of job.now) source result }
 {
     let made = job.plan.array(job.out);
     hull_of(
@@ -157,13 +157,13 @@ fn read_within<D: Depot>(
 ) -> Result<(), TaskFault>
     requires job { IsViewJob job.now }
     requires source { source < length job.now.ins.now }
-    requires hull { HasHull (view_of job.now) source (Option.Some hull.now) }
-    requires output { length output.old ≡ buffer_room (view_of job.now) }
+    requires hull { HasHull (view_task_of job.now) source (Option.Some hull.now) }
+    requires output { length output.old ≡ buffer_room (view_task_of job.now) }
     requires scratch { chunk_room job.now.plan.now.arrays (slice_index job.now.ins.now source) ≤ length scratch.old }
-    ensures takes { (told : Option Contents) → IsKnown (IsSourceKey (view_of job.now) source) told (D.shown depot.old) → OnOk result (Takes (view_of job.now) source IsAny told output.old output.new) }
-    ensures step { Steps NoChange 0 (source_calls (view_of job.now) source) (D.shown depot.old) (D.shown depot.new) }
-    ensures all { OnOk result (Rose (sure_calls job.now.pull.now (source_calls (view_of job.now) source)) (D.shown depot.old).calls (D.shown depot.new).calls) }
-    ensures cause { IfErr result (IsChunkReadFault (D.shown depot.old) (D.shown depot.new) (IsSourceKey (view_of job.now) source) (chunk_room job.now.plan.now.arrays (slice_index job.now.ins.now source))) }
+    ensures takes { (told : Option Contents) → IsKnown (IsSourceKey (view_task_of job.now) source) told (D.shown depot.old) → OnOk result (HaveCome (view_task_of job.now) source IsAny told output.old output.new) }
+    ensures step { Steps NoChange 0 (source_calls (view_task_of job.now) source) (D.shown depot.old) (D.shown depot.new) }
+    ensures all { OnOk result (Rose (sure_calls job.now.pull.now (source_calls (view_task_of job.now) source)) (D.shown depot.old).calls (D.shown depot.new).calls) }
+    ensures cause { IfErr result (IsChunkReadFault (D.shown depot.old) (D.shown depot.new) (IsSourceKey (view_task_of job.now) source) (chunk_room job.now.plan.now.arrays (slice_index job.now.ins.now source))) }
 {
     let from = source_array(job, source);
     for coord in from.layout.grid.cover(hull) {
@@ -176,7 +176,7 @@ fn read_within<D: Depot>(
 fn source_array<'a>(job: &ViewJob<'a>, source: u32) -> &'a ArrayInfo
     requires job { IsViewJob job.now }
     requires source { source < length job.now.ins.now }
-    ensures { result.now ≡ source_in (view_of job.now) source }
+    ensures { result.now ≡ source_in (view_task_of job.now) source }
 {
     job.plan.array(job.ins[source as usize])
 }
@@ -192,12 +192,12 @@ fn read_piece<D: Depot>(
 ) -> Result<(), TaskFault>
     requires job { IsViewJob job.now }
     requires source { source < length job.now.ins.now }
-    requires coordinate { IsCoordinate (source_in (view_of job.now) source).layout.grid coord.now }
-    requires output { length output.old ≡ buffer_room (view_of job.now) }
+    requires coordinate { IsCoordinate (source_in (view_task_of job.now) source).layout.grid coord.now }
+    requires output { length output.old ≡ buffer_room (view_task_of job.now) }
     requires scratch { chunk_room job.now.plan.now.arrays (slice_index job.now.ins.now source) ≤ length scratch.old }
-    ensures takes { (told : Option Contents) → IsKnown (IsSourceKey (view_of job.now) source) told (D.shown depot.old) → OnOk result (Takes (view_of job.now) source (IsInPart (view_of job.now) source coord.now) told output.old output.new) }
-    ensures step { Steps NoChange (sure_calls job.now.pull.now (calls_for (view_of job.now) source coord.now)) (calls_for (view_of job.now) source coord.now) (D.shown depot.old) (D.shown depot.new) }
-    ensures cause { IfErr result (IsChunkReadFault (D.shown depot.old) (D.shown depot.new) (IsSourceKey (view_of job.now) source) (chunk_room job.now.plan.now.arrays (slice_index job.now.ins.now source))) }
+    ensures takes { (told : Option Contents) → IsKnown (IsSourceKey (view_task_of job.now) source) told (D.shown depot.old) → OnOk result (HaveCome (view_task_of job.now) source (IsInPart (view_task_of job.now) source coord.now) told output.old output.new) }
+    ensures step { Steps NoChange (sure_calls job.now.pull.now (calls_for (view_task_of job.now) source coord.now)) (calls_for (view_task_of job.now) source coord.now) (D.shown depot.old) (D.shown depot.new) }
+    ensures cause { IfErr result (IsChunkReadFault (D.shown depot.old) (D.shown depot.new) (IsSourceKey (view_task_of job.now) source) (chunk_room job.now.plan.now.arrays (slice_index job.now.ins.now source))) }
 {
     if !is_needed(job, source, coord) {
         return Ok(());
@@ -209,9 +209,9 @@ fn read_piece<D: Depot>(
 fn is_needed(job: &ViewJob<'_>, source: u32, coord: &Dims) -> bool
     requires job { IsViewJob job.now }
     requires source { source < length job.now.ins.now }
-    requires coordinate { IsCoordinate (source_in (view_of job.now) source).layout.grid coord.now }
-    ensures needed { needs_chunk (view_of job.now) source coord.now ≡ true → IsTrue result }
-    ensures only { is_exact job.now.pull.now ≡ true → IsTrue result → needs_chunk (view_of job.now) source coord.now ≡ true }
+    requires coordinate { IsCoordinate (source_in (view_task_of job.now) source).layout.grid coord.now }
+    ensures needed { needs_chunk (view_task_of job.now) source coord.now ≡ true → IsTrue result }
+    ensures only { is_exact job.now.pull.now ≡ true → IsTrue result → needs_chunk (view_task_of job.now) source coord.now ≡ true }
 {
     let made = job.plan.array(job.out);
     let part = chunk_part(job, source, coord);
@@ -229,10 +229,10 @@ fn is_needed(job: &ViewJob<'_>, source: u32, coord: &Dims) -> bool
 fn chunk_part(job: &ViewJob<'_>, source: u32, coord: &Dims) -> Region
     requires job { IsViewJob job.now }
     requires source { source < length job.now.ins.now }
-    requires coordinate { IsCoordinate (source_in (view_of job.now) source).layout.grid coord.now }
-    ensures lo { result.lo ≡ chunk_lo (source_in (view_of job.now) source).layout.grid.chunk coord.now }
-    ensures hi { result.hi ≡ chunk_hi (source_in (view_of job.now) source).layout.grid.shape (source_in (view_of job.now) source).layout.grid.chunk coord.now }
-    ensures inside { IsRegion (source_in (view_of job.now) source).layout.grid.shape result.lo result.hi }
+    requires coordinate { IsCoordinate (source_in (view_task_of job.now) source).layout.grid coord.now }
+    ensures lo { result.lo ≡ chunk_lo (source_in (view_task_of job.now) source).layout.grid.chunk coord.now }
+    ensures hi { result.hi ≡ chunk_hi (source_in (view_task_of job.now) source).layout.grid.shape (source_in (view_task_of job.now) source).layout.grid.chunk coord.now }
+    ensures inside { IsRegion (source_in (view_task_of job.now) source).layout.grid.shape result.lo result.hi }
 {
     source_array(job, source).layout.grid.chunk_region(coord)
 }
@@ -241,12 +241,12 @@ fn chunk_part(job: &ViewJob<'_>, source: u32, coord: &Dims) -> Region
 fn chunk_block(job: &ViewJob<'_>, source: u32, coord: &Dims) -> Block
     requires job { IsViewJob job.now }
     requires source { source < length job.now.ins.now }
-    requires coordinate { IsCoordinate (source_in (view_of job.now) source).layout.grid coord.now }
-    ensures lo { result.region.lo ≡ chunk_lo (source_in (view_of job.now) source).layout.grid.chunk coord.now }
-    ensures hi { result.region.hi ≡ chunk_hi (source_in (view_of job.now) source).layout.grid.shape (source_in (view_of job.now) source).layout.grid.chunk coord.now }
-    ensures inside { IsRegion (source_in (view_of job.now) source).layout.grid.shape result.region.lo result.region.hi }
-    ensures dims { result.dims ≡ (source_in (view_of job.now) source).layout.grid.chunk }
-    ensures dtype { result.dtype ≡ (source_in (view_of job.now) source).layout.dtype }
+    requires coordinate { IsCoordinate (source_in (view_task_of job.now) source).layout.grid coord.now }
+    ensures lo { result.region.lo ≡ chunk_lo (source_in (view_task_of job.now) source).layout.grid.chunk coord.now }
+    ensures hi { result.region.hi ≡ chunk_hi (source_in (view_task_of job.now) source).layout.grid.shape (source_in (view_task_of job.now) source).layout.grid.chunk coord.now }
+    ensures inside { IsRegion (source_in (view_task_of job.now) source).layout.grid.shape result.region.lo result.region.hi }
+    ensures dims { result.dims ≡ (source_in (view_task_of job.now) source).layout.grid.chunk }
+    ensures dtype { result.dtype ≡ (source_in (view_task_of job.now) source).layout.dtype }
 {
     let from = source_array(job, source);
     Block {
@@ -267,12 +267,12 @@ fn take_chunk<D: Depot>(
 ) -> Result<(), TaskFault>
     requires job { IsViewJob job.now }
     requires source { source < length job.now.ins.now }
-    requires coordinate { IsCoordinate (source_in (view_of job.now) source).layout.grid coord.now }
-    requires output { length output.old ≡ buffer_room (view_of job.now) }
+    requires coordinate { IsCoordinate (source_in (view_task_of job.now) source).layout.grid coord.now }
+    requires output { length output.old ≡ buffer_room (view_task_of job.now) }
     requires scratch { chunk_room job.now.plan.now.arrays (slice_index job.now.ins.now source) ≤ length scratch.old }
-    ensures takes { (told : Option Contents) → IsKnown (IsSourceKey (view_of job.now) source) told (D.shown depot.old) → OnOk result (Takes (view_of job.now) source (IsInPart (view_of job.now) source coord.now) told output.old output.new) }
+    ensures takes { (told : Option Contents) → IsKnown (IsSourceKey (view_task_of job.now) source) told (D.shown depot.old) → OnOk result (HaveCome (view_task_of job.now) source (IsInPart (view_task_of job.now) source coord.now) told output.old output.new) }
     ensures step { Steps NoChange 1 1 (D.shown depot.old) (D.shown depot.new) }
-    ensures cause { IfErr result (IsChunkReadFault (D.shown depot.old) (D.shown depot.new) (IsSourceKey (view_of job.now) source) (chunk_room job.now.plan.now.arrays (slice_index job.now.ins.now source))) }
+    ensures cause { IfErr result (IsChunkReadFault (D.shown depot.old) (D.shown depot.new) (IsSourceKey (view_task_of job.now) source) (chunk_room job.now.plan.now.arrays (slice_index job.now.ins.now source))) }
 {
     let from = source_array(job, source);
     let chunk = &mut scratch[..chunk_bytes(&from.layout.grid, from.layout.dtype)];
@@ -285,11 +285,11 @@ fn take_chunk<D: Depot>(
 fn move_chunk(job: &ViewJob<'_>, source: u32, coord: &Dims, chunk: &[u8], output: &mut [u8])
     requires job { IsViewJob job.now }
     requires source { source < length job.now.ins.now }
-    requires coordinate { IsCoordinate (source_in (view_of job.now) source).layout.grid coord.now }
+    requires coordinate { IsCoordinate (source_in (view_task_of job.now) source).layout.grid coord.now }
     requires chunk { length chunk.now ≡ chunk_room job.now.plan.now.arrays (slice_index job.now.ins.now source) }
     requires elements { AreElements (type_at job.now.plan.now.arrays (slice_index job.now.ins.now source)) chunk.now }
-    requires output { length output.old ≡ buffer_room (view_of job.now) }
-    ensures { IsMovedFrom (view_of job.now) source coord.now chunk.now output.old output.new }
+    requires output { length output.old ≡ buffer_room (view_task_of job.now) }
+    ensures { IsMovedFrom (view_task_of job.now) source coord.now chunk.now output.old output.new }
 {
     let made = job.plan.array(job.out);
     let part = chunk_block(job, source, coord);

@@ -17,7 +17,7 @@ use Rattle.cu_command.proofs.SeenLemmas.{gone_before}
 use Rattle.cu_form.specs.Expression.{Expression}
 use Rattle.cu_command.specs.declared.job.Job.{Job}
 use Rattle.cu_top.specs.Ask.{IsFirstOf, IsAskEnd}
-use Rattle.cu_top.specs.Prepare.{is_own_input, IsApart, keys_of}
+use Rattle.cu_top.specs.Prepare.{is_own_input, HasNoOwnInput, keys_of}
 use Rattle.cu_lower.specs.declared.options.Options.{Options}
 
 some_bytes : (o : Option (List ℕ)) → IsSome o → (bytes : List ℕ) × (o ≡ Some bytes)
@@ -71,12 +71,12 @@ module _ (tries : ℕ) (job : Job) (options : Options) (old new : Shown) (record
 true_false : (b : Bool) → b ≡ true → b ≡ false → ⊥
 true_false b holds fails = cc
 
-asked_end : (tries : ℕ) (e : Expression) (keys : List (List ℕ)) (old new : Shown) (f : WayFault) → IsAsked tries old new keys (Err f) → IsApart e → IsAskEnd tries e keys old new f
+asked_end : (tries : ℕ) (e : Expression) (keys : List (List ℕ)) (old new : Shown) (f : WayFault) → IsAsked tries old new keys (Err f) → HasNoOwnInput e → IsAskEnd tries e keys old new f
 asked_end tries e keys old new (Held key) asked apart = ((asked.listed, asked.first), inl asked.cause, λ own. absurd (true_false (is_own_input e) own apart))
 asked_end tries e keys old new (Failed key) asked apart = ((asked.listed, asked.first), asked.cause)
 asked_end tries e keys old new NoMemory asked apart = tt
 
-pub plan_asked : (tries : ℕ) (e : Expression) (keys all : List (List ℕ)) (old new : Shown) (result : Result (Unit {0}) WayFault) → keys ≡ all → IsAsked tries old new keys result → IsApart e
+pub plan_asked : (tries : ℕ) (e : Expression) (keys all : List (List ℕ)) (old new : Shown) (result : Result (Unit {0}) WayFault) → keys ≡ all → IsAsked tries old new keys result → HasNoOwnInput e
     → IfErr result (IsAskEnd tries e all old new)
 plan_asked tries e keys all old new (Ok x) same asked apart = tt
 plan_asked tries e keys all old new (Err f) same asked apart = asked_end tries e all old new f (subst (λ (ks : List (List ℕ)). IsAsked tries old new ks (Err f)) same asked) apart

@@ -2,7 +2,7 @@
 use Rattle.std.proofs.Common.{◌≡◌, ℕ, ◌≤◌, ◌^◌, ◌&&◌, nat_le, Bool, true, false, List, [], ◌∷◌, Option, Some, None, Result, Ok, Err, ap, option_map, option_and_then, unwrap_or, refl, subst, inl, inr, ◌⊎◌, arith, leb-true, lit≤, if◌then◌else◌, bytes_eq, codes}
 use Rattle.std.specs.Str.Parse.{without_leading_plus, digits_value}
 use Rattle.cu_name.specs.Name.{is_name}
-use Rattle.cu_top.specs.Words.{Command, run, plan, load, check, print, is_number, memory_of, retries_of, split_of, once, given_with, options_from, or_code, with_retries, retries_in, is_plain, print_of, print_in, command_of, IsInRange}
+use Rattle.cu_top.specs.Words.{Command, run, plan, load, check, print, is_decimal_number, memory_of, retries_of, split_of, once, given_with, options_from, or_code, with_retries, retries_in, is_plain, print_of, print_in, command_of, IsInRange}
 use Rattle.cu_top.specs.declared.words.Given.{Given}
 use Rattle.cu_lower.specs.declared.options.Options.{Options}
 
@@ -23,10 +23,10 @@ and_right true b e = e
 and_right false b e = cc
 
 number_bound : (most : ℕ) (text : List ℕ) (n : ℕ)
-    → (if is_number text && nat_le (digits_value 10 (without_leading_plus text)) most then Some (digits_value 10 (without_leading_plus text)) else None) ≡ Some n → n ≤ most
+    → (if is_decimal_number text && nat_le (digits_value 10 (without_leading_plus text)) most then Some (digits_value 10 (without_leading_plus text)) else None) ≡ Some n → n ≤ most
 number_bound most text n e =
-    let (test, value) = if_some (is_number text && nat_le (digits_value 10 (without_leading_plus text)) most) (digits_value 10 (without_leading_plus text)) n e in
-    let small : digits_value 10 (without_leading_plus text) ≤ most = leb-true _ _ (and_right (is_number text) _ test) in
+    let (test, value) = if_some (is_decimal_number text && nat_le (digits_value 10 (without_leading_plus text)) most) (digits_value 10 (without_leading_plus text)) n e in
+    let small : digits_value 10 (without_leading_plus text) ≤ most = leb-true _ _ (and_right (is_decimal_number text) _ test) in
     omega (arith, small, value)
 
 once_is : (given value : Option ℕ) (n : ℕ) → once given value ≡ Some n → value ≡ Some n
@@ -48,9 +48,9 @@ Merges (Some n) = (2 ≤ n) × (n ≤ 64)
 
 split_bound : (text : List ℕ) (n : ℕ) → split_of text ≡ Some n → (2 ≤ n) × (n ≤ 64)
 split_bound text n e =
-    let (test, value) = if_some (is_number text && nat_le (digits_value 10 (without_leading_plus text)) 64 && nat_le 2 (digits_value 10 (without_leading_plus text))) (digits_value 10 (without_leading_plus text)) n e in
-    let within = is_number text && nat_le (digits_value 10 (without_leading_plus text)) 64 in
-    let small : digits_value 10 (without_leading_plus text) ≤ 64 = leb-true _ _ (and_right (is_number text) _ (and_left within _ test)) in
+    let (test, value) = if_some (is_decimal_number text && nat_le (digits_value 10 (without_leading_plus text)) 64 && nat_le 2 (digits_value 10 (without_leading_plus text))) (digits_value 10 (without_leading_plus text)) n e in
+    let within = is_decimal_number text && nat_le (digits_value 10 (without_leading_plus text)) 64 in
+    let small : digits_value 10 (without_leading_plus text) ≤ 64 = leb-true _ _ (and_right (is_decimal_number text) _ (and_left within _ test)) in
     let some : 2 ≤ digits_value 10 (without_leading_plus text) = leb-true _ _ (and_right within _ test) in
     (omega (arith, some, value), omega (arith, small, value))
 
@@ -101,10 +101,12 @@ from_bounded given [] o bounded e =
     let is : record { allowed = unwrap_or given.allowed 200000000; reserved = unwrap_or given.reserved 0; split_every = unwrap_or given.split_every 4; retries = unwrap_or given.retries 2 } ≡ o = cc in
     let split = or_four given.split_every bounded.split_every in
     subst IsInRange is (record {
-      allowed = or_default (2 ^ 40) given.allowed 200000000 bounded.allowed (lit≤ tt);
-      reserved = or_default (2 ^ 40) given.reserved 0 bounded.reserved (lit≤ tt);
-      several = split.0;
-      few = split.1;
+      of_plans = record {
+        allowed = or_default (2 ^ 40) given.allowed 200000000 bounded.allowed (lit≤ tt);
+        reserved = or_default (2 ^ 40) given.reserved 0 bounded.reserved (lit≤ tt);
+        several = split.0;
+        few = split.1;
+      };
       retries = or_default 8 given.retries 2 bounded.retries (lit≤ tt);
     })
 from_bounded given (name ∷ []) o bounded e = cc

@@ -11,12 +11,12 @@ use Rattle.cu_expr.specs.declared.inputs.InputInfo.{InputInfo}
 use Rattle.cu_form.specs.Expression.{Expression}
 use Rattle.cu_form.specs.declared.expr.Node.{Node}
 use Rattle.cu_form.specs.declared.form.Form.{Form}
-use Rattle.cu_meaning.specs.Argument.{NodeElements, shape_at}
+use Rattle.cu_meaning.specs.Argument.{NodeElements, shape_of_node}
 use Rattle.cu_meaning.specs.Meaning.{meaning_of}
 use Rattle.cu_node.specs.declared.info.NodeInfo.{NodeInfo}
 use Rattle.cu_need.specs.Live.{is_live}
 use Rattle.cu_lower.specs.Inputs.{input_array, input_place}
-use Rattle.cu_lower.specs.Plan.{lowered, place_in, plan_of}
+use Rattle.cu_lower.specs.Plan.{lowered, array_of_node, plan_of}
 use Rattle.cu_lower.specs.Premises.{IsLowerable, IsLiveInput, IsOutput, OutputDiffers, HaveElements}
 use Rattle.cu_lower.specs.declared.options.Options.{Options}
 use Rattle.cu_op.specs.declared.layout.ArrayInfo.{ArrayInfo}
@@ -37,7 +37,7 @@ use Rattle.cu_store.specs.Held.{Contents}
 use Rattle.cu_store.specs.Steps.{Shown}
 use Rattle.cu_zarr.specs.Stored.{stored_element}
 use Rattle.cu_command.specs.declared.job.Job.{Job}
-use Rattle.cu_top.specs.Prepare.{reads_array, IsApart, IsLentWithin, HasPlan, out_layout}
+use Rattle.cu_top.specs.Prepare.{reads_array, HasNoOwnInput, IsLentWithin, HasPlan, out_layout}
 use Rattle.cu_top.specs.Run.{RunCase, plan_in, job_run, env_of, used_element, elements_of, IsMeant}
 
 -- ---- what tasks are lent
@@ -59,7 +59,7 @@ within nodes k node at = elim ((slice_get_cases nodes k).1) [
 ]
 
 -- where no node reads the array with the output's name, no live one does
-pub differs : (e : Expression) → IsApart e → OutputDiffers e
+pub differs : (e : Expression) → HasNoOwnInput e → OutputDiffers e
 differs e apart k name i same =
     let below : k < length e.nodes = within e.nodes k i.node i.at in
     let here : get_or e.nodes k i.node ≡ i.node = get_or_from_slice_get e.nodes k i.node i.node i.at in
@@ -89,8 +89,8 @@ InputLaw = (e : Expression) (infos : List NodeInfo) (inputs : List InputInfo) (o
 
 abbrev pub ValueLaw : Type 0
 ValueLaw = (e : Expression) (infos : List NodeInfo) (inputs : List InputInfo) (options : Options) (env : Elements) (elements : NodeElements) (k : ℕ) (idx : List ℕ) (x : ℤ)
-    → HaveElements e infos inputs options env elements → is_live e k ≡ true → IsInside (shape_at infos k) idx
-    → plan_value (plan_of e infos inputs options) env (place_in (lowered e infos inputs options) k) idx ≡ Some x → x ≡ meaning_of e infos elements k idx
+    → HaveElements e infos inputs options env elements → is_live e k ≡ true → IsInside (shape_of_node infos k) idx
+    → plan_value (plan_of e infos inputs options) env (array_of_node (lowered e infos inputs options) k) idx ≡ Some x → x ≡ meaning_of e infos elements k idx
 
 abbrev pub ElementsLaw : Type 0
 ElementsLaw = (r : PlanRun) (env : Elements) (shown : Shown) (a : ℕ) (idx : List ℕ) (left : IsLeft r env shown) → IsComplete r env shown

@@ -4,7 +4,7 @@ use Rattle.std.specs.Str.{all_ascii_digits}
 use Rattle.std.specs.Str.Parse.{IsNumeral, without_leading_plus, digits_value}
 use Rattle.std.proofs.lemmas.Bool.{and_from, and_parts, le-leb, leb-true, lt-ltb, ltb-true}
 use Rattle.std.proofs.lemmas.Str.Parse.{IsNumeralModel, numerals_by_value, tells_all_ascii_digits}
-use Rattle.cu_top.specs.Words.{split_of, is_number, given_with, options_from, print_in}
+use Rattle.cu_top.specs.Words.{split_of, is_decimal_number, given_with, options_from, print_in}
 use Rattle.cu_top.specs.declared.words.Given.{Given}
 use Rattle.cu_lower.specs.declared.options.Options.{Options}
 
@@ -27,16 +27,16 @@ none_where false v refuted = refl
 
 -- a number up to a bound that a `u64` can be
 pub number_read : (most : ℕ) (text : List ℕ) (n : ℕ) → IsNumeral 10 (without_leading_plus text) → n ≡ digits_value 10 (without_leading_plus text) → n ≤ most
-    → Some n ≡ (if is_number text && nat_le (digits_value 10 (without_leading_plus text)) most then Some (digits_value 10 (without_leading_plus text)) else None)
+    → Some n ≡ (if is_decimal_number text && nat_le (digits_value 10 (without_leading_plus text)) most then Some (digits_value 10 (without_leading_plus text)) else None)
 number_read most text n h e within =
     let inside : digits_value 10 (without_leading_plus text) ≤ most = omega (arith, e, within) in
     some_where _ n _ (and_from _ _ (test_from_numeral _ h) (le-leb _ _ inside)) e
 
 -- no number, or one past every `u64`
 pub number_refused : (most : ℕ) (text : List ℕ) → most < 2 ^ 64 → ¬ (IsNumeral 10 (without_leading_plus text) × (digits_value 10 (without_leading_plus text) < 2 ^ 64))
-    → None ≡ (if is_number text && nat_le (digits_value 10 (without_leading_plus text)) most then Some (digits_value 10 (without_leading_plus text)) else None)
+    → None ≡ (if is_decimal_number text && nat_le (digits_value 10 (without_leading_plus text)) most then Some (digits_value 10 (without_leading_plus text)) else None)
 number_refused most text small refuted = none_where _ _ (λ e.
-    let parts = and_parts (is_number text) (nat_le (digits_value 10 (without_leading_plus text)) most) e in
+    let parts = and_parts (is_decimal_number text) (nat_le (digits_value 10 (without_leading_plus text)) most) e in
     let within : digits_value 10 (without_leading_plus text) ≤ most = leb-true _ _ parts.1 in
     refuted (numeral_from_test _ parts.0, omega (arith, within, small)))
 
@@ -49,9 +49,9 @@ split_read text n h e several few =
 
 pub split_refused : (text : List ℕ) → ¬ (IsNumeral 10 (without_leading_plus text) × (2 ≤ digits_value 10 (without_leading_plus text)) × (digits_value 10 (without_leading_plus text) ≤ 64)) → None ≡ split_of text
 split_refused text refuted = none_where _ _ (λ e.
-    let within = is_number text && nat_le (digits_value 10 (without_leading_plus text)) 64 in
+    let within = is_decimal_number text && nat_le (digits_value 10 (without_leading_plus text)) 64 in
     let parts = and_parts within _ e in
-    let both = and_parts (is_number text) _ parts.0 in
+    let both = and_parts (is_decimal_number text) _ parts.0 in
     refuted (numeral_from_test _ both.0, leb-true _ _ parts.1, leb-true _ _ both.1))
 
 -- the words behind `print` are one or three

@@ -15,7 +15,7 @@ use Rattle.cu_command.specs.declared.status.Status.{Status}
 use Rattle.cu_command.specs.declared.status.Status.TheVariants.{Done, NoMemory}
 use Rattle.cu_lower.specs.declared.options.Options.{Options}
 use Rattle.cu_plan.specs.Refusal.{refusal_of}
-use Rattle.cu_top.specs.Prepare.{job_plan, keys_of, IsApart}
+use Rattle.cu_top.specs.Prepare.{job_plan, keys_of, HasNoOwnInput}
 use Rattle.cu_top.specs.Words.{command_of, plan, run}
 
 -- each chunk of an input is absent or whole
@@ -27,7 +27,7 @@ AreWhole p entry = (k : Cell) (bytes : List ℕ) → IsInputChunk p.arrays k →
 -- absent or whole.
 pub record IsAtRest (options : Options) (job : Job) (entry : Contents) (old : Shown) : Type 0 where
   pub planned : refusal_of options job.expr job.types ≡ None
-  pub own : IsApart job.expr
+  pub own : HasNoOwnInput job.expr
   pub free : All (IsFree entry) (keys_of options job)
   pub settled : All (λ key. (bytes : List ℕ) → IsAmong old.late key bytes → ⊥) (keys_of options job)
   pub calm : (key bytes : List ℕ) → IsAmong old.late key bytes → IsInputKey (job_plan options job) key → entry key ≡ Some bytes

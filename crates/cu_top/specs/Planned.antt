@@ -3,23 +3,18 @@ use Rattle.std.specs.Prelude.{ℕ, ◌≤◌, List, length}
 use Rattle.cu_store.specs.Faults.{Rose}
 use Rattle.cu_command.specs.declared.job.JobFault.TheVariants as fault
 use Rattle.cu_command.specs.declared.status.Status.{Status}
-use Rattle.cu_command.specs.declared.status.Status.TheVariants.{Done, BadExpr, BadType, OverMemory, OverLimit, BadMeta, NoArray, ReadFault, WriteFault, DepotFailed, NoMemory}
+use Rattle.cu_command.specs.declared.status.Status.TheVariants.{Done, ReadFault, WriteFault, DepotFailed, NoMemory}
 use Rattle.cu_lower.specs.declared.options.Options.{Options}
 use Rattle.cu_plan.specs.Text.{plan_text}
 use Rattle.cu_top.specs.Call.{AreSpared, CameToRun, IsReadFault}
-use Rattle.cu_top.specs.Run.{Scene, RunCase, plan_in, HasNoJob, HasNoPlan, IsBadExpr, IsBadType, IsMissing, IsRefused, IsSpared, OfPlanned, WroteTo}
+use Rattle.cu_top.specs.Run.{Scene, RunCase, plan_in, HasNoJob, IsSpared, WasRefused, OfPlanned, WroteTo}
 
--- why a text has no plan: the text, the metadata of an input in its turn, the types or the plan was refused, and nothing was stored
+-- why a text has no plan, and nothing was stored: all calls for the metadata of an input in its turn failed, memory was wanted, or the text,
+-- the metadata, the types or the plan was refused
 abbrev pub IsPlanRefused : RunCase → Status → Type 0
-IsPlanRefused c (BadExpr code node) = IsBadExpr c code node
 IsPlanRefused c (DepotFailed key) = HasNoJob c (fault.DepotFailed key)
-IsPlanRefused c (NoArray name) = IsMissing c name
-IsPlanRefused c (BadMeta name code) = IsRefused c name code
-IsPlanRefused c (BadType code node) = IsBadType c code node
-IsPlanRefused c (OverMemory node need allowed) = HasNoPlan c (OverMemory node need allowed)
-IsPlanRefused c (OverLimit which count) = HasNoPlan c (OverLimit which count)
 IsPlanRefused c NoMemory = IsSpared c
-IsPlanRefused c status = ⊥
+IsPlanRefused c status = WasRefused c status
 
 -- nothing was stored, and the job of the text has a plan, with a fact of what is written of it
 abbrev pub OfPlanText : RunCase → (List ℕ → Type 0) → Type 0

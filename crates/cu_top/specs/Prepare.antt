@@ -71,8 +71,8 @@ abbrev pub is_own_input : Expression → Bool
 is_own_input e = list_any (λ node. reads_array e.store_as node.form) e.nodes
 
 -- none does
-abbrev pub IsApart : Expression → Type 0
-IsApart e = is_own_input e ≡ false
+abbrev pub HasNoOwnInput : Expression → Type 0
+HasNoOwnInput e = is_own_input e ≡ false
 
 -- ---- what tasks are lent
 

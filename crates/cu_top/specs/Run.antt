@@ -17,10 +17,10 @@ use Rattle.cu_op.specs.Value.{Elements, stored_inputs}
 use Rattle.cu_op.specs.Walks.{written_chunks}
 use Rattle.cu_form.specs.declared.expr.Node.{Node}
 use Rattle.cu_form.specs.declared.form.Form.{Form}
-use Rattle.cu_meaning.specs.Argument.{NodeElements, shape_at}
+use Rattle.cu_meaning.specs.Argument.{NodeElements, shape_of_node}
 use Rattle.cu_meaning.specs.Meaning.{meaning_of}
 use Rattle.cu_lower.specs.Inputs.{layout_named}
-use Rattle.cu_lower.specs.Premises.{run_of as plan_run}
+use Rattle.cu_lower.specs.Premises.{expression_run as plan_run}
 use Rattle.cu_lower.specs.declared.options.Options.{Options}
 use Rattle.cu_state.specs.Pieces.{PlanRun, Text, chunks_alone, KeysApart, HoldsPiece, IsComplete}
 use Rattle.cu_state.specs.Left.{IsQuiet, IsLeft, RunChange, AreDone}
@@ -41,7 +41,7 @@ use Rattle.cu_command.specs.declared.job.JobFault.TheVariants as fault
 use Rattle.cu_command.specs.declared.status.Status.{Status}
 use Rattle.cu_command.specs.declared.status.Status.TheVariants.{Done, BadExpr, BadType, OverMemory, OverLimit, BadMeta, NoArray, Exists, TaskFailed, WriteFault, BadChunk, DepotFailed, NoMemory}
 use Rattle.cu_top.specs.Ask.{IsFirstOf, IsInWay, IsOwnFirst}
-use Rattle.cu_top.specs.Prepare.{job_plan, keys_of, out_layout, out_metadata, HasPlan, IsUnplanned, IsApart, IsLentWithin}
+use Rattle.cu_top.specs.Prepare.{job_plan, keys_of, out_layout, out_metadata, HasPlan, IsUnplanned, HasNoOwnInput, IsLentWithin}
 use Rattle.cu_top.specs.Record.{record_text}
 use Rattle.cu_top.specs.Report.{report_line}
 
@@ -110,8 +110,8 @@ abbrev pub RecordPut : RunCase → Job → Changes
 RecordPut c job = PutOf (record_key_of job.expr.store_as) (record_text c.options job)
 
 -- The record is held, or nothing else of the plan was put.
-abbrev pub IsRecordFirst : RunCase → Job → Elements → Type 0
-IsRecordFirst c job env = HoldsPiece (job_run c job) env (Text 0) c.new.depot ⊎ Stepped (RecordPut c job) c.old.depot c.new.depot
+abbrev pub IsRecordHeldFirst : RunCase → Job → Elements → Type 0
+IsRecordHeldFirst c job env = HoldsPiece (job_run c job) env (Text 0) c.new.depot ⊎ Stepped (RecordPut c job) c.old.depot c.new.depot
 
 -- It was accepted and has a plan, and its output is no input. No key of the plan was held, nothing but values was put
 -- under these keys, and each of them is absent or holds its one value.
@@ -120,12 +120,12 @@ pub record IsStarted (c : RunCase) (job : Job) : Type 0 where
   pub planned : HasPlan c.options job
   pub sound : Sound (plan_in c job)
   pub room : IsLentWithin (plan_in c job)
-  pub own : IsApart job.expr
+  pub own : HasNoOwnInput job.expr
   pub apart : KeysApart (job_run c job)
   pub free : (entry : Contents) → c.old.depot.held ≡ Some entry → All (IsFree entry) (keys_of c.options job)
   pub step : Stepped (RunChange (job_run c job) c.old.depot) c.old.depot c.new.depot
   pub left : WhereQuiet c job (λ env. IsLeft (job_run c job) env c.new.depot)
-  pub first : WhereQuiet c job (IsRecordFirst c job)
+  pub first : WhereQuiet c job (IsRecordHeldFirst c job)
 
 -- such a run, with a fact of its job
 abbrev pub Started : RunCase → (Job → Type 0) → Type 0
@@ -152,7 +152,7 @@ elements_of job entry k idx = used_element job entry idx (slice_get job.expr.nod
 
 -- Each stored element of the output is what the expression means there, over the elements that the inputs had.
 abbrev pub IsMeant : Job → Contents → Contents → Type 0
-IsMeant job entry now = (idx : List ℕ) → IsInside (shape_at job.types job.expr.out) idx
+IsMeant job entry now = (idx : List ℕ) → IsInside (shape_of_node job.types job.expr.out) idx
     → stored_element (layout_view (out_layout job)) job.expr.store_as now idx ≡ Some (meaning_of job.expr job.types (elements_of job entry) job.expr.out idx)
 
 -- each key of the plan holds its one value, and the output is what the expression means
@@ -205,8 +205,8 @@ IsBadInput c key got want = Started c (λ job. IsBadChunk (plan_in c job) c.new.
 
 -- The calls for the record failed, and nothing but it was put; or those for the output's metadata, the record is held, and nothing but both
 -- was put.
-abbrev pub IsUnstored : RunCase → Job → List ℕ → Type 0
-IsUnstored c job key = ((key ≡ record_key_of job.expr.store_as) ⊎ (key ≡ metadata_key_of job.expr.store_as)) × Stepped (TextPut c job) c.old.depot c.new.depot
+abbrev pub IsTextFailed : RunCase → Job → List ℕ → Type 0
+IsTextFailed c job key = ((key ≡ record_key_of job.expr.store_as) ⊎ (key ≡ metadata_key_of job.expr.store_as)) × Stepped (TextPut c job) c.old.depot c.new.depot
     × WhereQuiet c job (λ env. ((key ≡ record_key_of job.expr.store_as) × Stepped (RecordPut c job) c.old.depot c.new.depot)
     ⊎ ((key ≡ metadata_key_of job.expr.store_as) × HoldsPiece (job_run c job) env (Text 0) c.new.depot))
 
@@ -232,7 +232,7 @@ IsRefused c name code = HasNoJob c (fault.BadMeta name code)
 -- the others were found absent; or the run was started, and the key is that of one of its texts.
 abbrev pub IsDepotFailed : RunCase → List ℕ → Type 0
 IsDepotFailed c key = Rose (c.options.retries + 1) c.old.depot.faults c.new.depot.faults
-    × (HasNoJob c (fault.DepotFailed key) ⊎ ((IsSpared c × OfPlanned c (λ job. IsFirstOf c.old.depot (keys_of c.options job) key)) ⊎ Started c (λ job. IsUnstored c job key)))
+    × (HasNoJob c (fault.DepotFailed key) ⊎ ((IsSpared c × OfPlanned c (λ job. IsFirstOf c.old.depot (keys_of c.options job) key)) ⊎ Started c (λ job. IsTextFailed c job key)))
 
 -- 5 and 6: the job has no plan
 abbrev pub HasNoPlan : RunCase → Status → Type 0
@@ -246,6 +246,16 @@ IsBlocked c key = IsSpared c × OfPlanned c (λ job. IsFirstOf c.old.depot (keys
 abbrev pub IsWanting : RunCase → Type 0
 IsWanting c = IsSpared c ⊎ Started c (λ job. Unit {0})
 
+-- 3 to 8: the text, the metadata of an input, the types or the plan was refused, and nothing was stored
+abbrev pub WasRefused : RunCase → Status → Type 0
+WasRefused c (BadExpr code node) = IsBadExpr c code node
+WasRefused c (BadType code node) = IsBadType c code node
+WasRefused c (OverMemory node need allowed) = HasNoPlan c (OverMemory node need allowed)
+WasRefused c (OverLimit which count) = HasNoPlan c (OverLimit which count)
+WasRefused c (BadMeta name code) = IsRefused c name code
+WasRefused c (NoArray name) = IsMissing c name
+WasRefused c status = ⊥
+
 -- what a run answers
 abbrev pub Ran : RunCase → Status → Type 0
 Ran c Done = IsDone c
@@ -253,15 +263,9 @@ Ran c WriteFault = IsUnreported c
 Ran c (TaskFailed op task) = IsTaskFailed c op task
 Ran c (BadChunk key got want) = IsBadInput c key got want
 Ran c (DepotFailed key) = IsDepotFailed c key
-Ran c (OverMemory node need allowed) = HasNoPlan c (OverMemory node need allowed)
-Ran c (OverLimit which count) = HasNoPlan c (OverLimit which count)
 Ran c (Exists key) = IsBlocked c key
-Ran c (NoArray name) = IsMissing c name
-Ran c (BadMeta name code) = IsRefused c name code
-Ran c (BadExpr code node) = IsBadExpr c code node
-Ran c (BadType code node) = IsBadType c code node
 Ran c NoMemory = IsWanting c
-Ran c status = ⊥
+Ran c status = WasRefused c status
 
 -- nothing was printed but by the report
 abbrev pub PrintsOnly : Status → Option (List ℕ) → Option (List ℕ) → Type 0
@@ -276,7 +280,7 @@ PrintsOnly status old new = new ≡ old
 pub record IsCleared (options : Options) (text : List ℕ) (old start : Shown) (job : Job) : Type 0 where
   pub accepted : IsJob old text job
   pub planned : HasPlan options job
-  pub own : IsApart job.expr
+  pub own : HasNoOwnInput job.expr
   pub free : (entry : Contents) → old.held ≡ Some entry → All (IsFree entry) (keys_of options job)
   pub spared : Stepped NoChange old start
 

@@ -4,24 +4,25 @@ use Rattle.std.specs.Str.{all_ascii_digits}
 use Rattle.std.specs.Str.Parse.{without_leading_plus, digits_value}
 use Rattle.cu_name.specs.Name.{is_name}
 use Rattle.cu_top.specs.declared.words.Given.{Given}
+use Rattle.cu_lower.specs.Parts.{AreOptions}
 use Rattle.cu_lower.specs.declared.options.Options.{Options}
 
 -- a decimal number as Rust's `u64::from_str` reads it: one digit or more, which a plus may lead
-abbrev pub is_number : List ℕ → Bool
-is_number text = nat_lt 0 (length (without_leading_plus text)) && all_ascii_digits (without_leading_plus text)
+abbrev pub is_decimal_number : List ℕ → Bool
+is_decimal_number text = nat_lt 0 (length (without_leading_plus text)) && all_ascii_digits (without_leading_plus text)
 
 -- a count of bytes: a number up to 2^40
 abbrev pub memory_of : List ℕ → Option ℕ
-memory_of text = if is_number text && nat_le (digits_value 10 (without_leading_plus text)) (2 ^ 40) then Some (digits_value 10 (without_leading_plus text)) else None
+memory_of text = if is_decimal_number text && nat_le (digits_value 10 (without_leading_plus text)) (2 ^ 40) then Some (digits_value 10 (without_leading_plus text)) else None
 
 -- how often a call or a task is tried again: a number up to 8
 abbrev pub retries_of : List ℕ → Option ℕ
-retries_of text = if is_number text && nat_le (digits_value 10 (without_leading_plus text)) 8 then Some (digits_value 10 (without_leading_plus text)) else None
+retries_of text = if is_decimal_number text && nat_le (digits_value 10 (without_leading_plus text)) 8 then Some (digits_value 10 (without_leading_plus text)) else None
 
 -- how many partial results a task of a reduction merges: a number from 2 to 64
 abbrev pub split_of : List ℕ → Option ℕ
 split_of text =
-    if is_number text && nat_le (digits_value 10 (without_leading_plus text)) 64 && nat_le 2 (digits_value 10 (without_leading_plus text))
+    if is_decimal_number text && nat_le (digits_value 10 (without_leading_plus text)) 64 && nat_le 2 (digits_value 10 (without_leading_plus text))
     then Some (digits_value 10 (without_leading_plus text)) else None
 
 -- before the first option: nothing is given, or how often to try again alone, which then no option gives
@@ -53,12 +54,9 @@ options_from given [] = Some (record { allowed = unwrap_or given.allowed 2000000
 options_from given (name ∷ []) = None
 options_from given (name ∷ value ∷ more) = option_and_then (λ g. options_from g more) (given_with given name value)
 
--- each option is in its range
+-- each option is in its range, those that plans go by too
 pub record IsInRange (o : Options) : Type 0 where
-  pub allowed : o.allowed ≤ 2 ^ 40
-  pub reserved : o.reserved ≤ 2 ^ 40
-  pub several : 2 ≤ o.split_every
-  pub few : o.split_every ≤ 64
+  pub of_plans : AreOptions o
   pub retries : o.retries ≤ 8
 
 -- ---- the commands

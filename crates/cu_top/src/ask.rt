@@ -8,7 +8,7 @@ ghost use Rattle.cu_name.specs.Keys.{record_key_of};
 ghost use Rattle.cu_work.specs.Order.{IsFree};
 ghost use Rattle.cu_zarr.specs.Key.{metadata_key_of};
 ghost use Rattle.cu_top.specs.Ask.{IsAskEnd, answer_of};
-ghost use Rattle.cu_top.specs.Prepare.{reads_array, is_own_input, IsApart, keys_of, job_plan};
+ghost use Rattle.cu_top.specs.Prepare.{reads_array, is_own_input, HasNoOwnInput, keys_of, job_plan};
 
 use cu_codec::metadata_key;
 use cu_command::{Job, Status};
@@ -88,7 +88,7 @@ pub fn ask_plan<D: Depot>(
 ) -> Result<(), WayFault>
     ensures free { (options : Options) (entry : Contents) → plan.now ≡ job_plan options job.now → (D.shown depot.old).held ≡ Some entry
         → OnOk result (All (IsFree entry) (keys_of options job.now)) }
-    ensures apart { OnOk result (IsApart job.now.expr) }
+    ensures apart { OnOk result (HasNoOwnInput job.now.expr) }
     ensures step { Stepped NoChange (D.shown depot.old) (D.shown depot.new) }
     ensures refused { (options : Options) → plan.now ≡ job_plan options job.now
         → IfErr result (IsAskEnd (retries + 1) job.now.expr (keys_of options job.now) (D.shown depot.old) (D.shown depot.new)) }

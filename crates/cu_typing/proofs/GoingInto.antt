@@ -4,7 +4,7 @@ use Rattle.std.proofs.lemmas.Bool.Decides.{eqb_tells}
 use Rattle.std.proofs.lemmas.List.{length-replicate, get_or-append_right}
 use Rattle.std.proofs.lemmas.List.Elements.{All-cons, All-nil}
 use Rattle.cu_result.proofs.ResultSteps.{step_ok}
-use Rattle.cu_shape.specs.Broadcast.{aligned, rank_of, size_of, sizes_of, mismatch_of, broadcast_of, IsApart}
+use Rattle.cu_shape.specs.Broadcast.{aligned, rank_of, broadcast_size, broadcast_sizes, mismatch_of, broadcast_of, IsApart}
 use Rattle.cu_shape.proofs.InsideBoth.{length-broadcast_of}
 use Rattle.cu_shape.proofs.Broadcasts.{length-aligned, none_apart}
 use Rattle.cu_node.specs.declared.info.NodeInfo.{NodeInfo}
@@ -12,7 +12,7 @@ use Rattle.cu_typing.specs.Accepted.{GoesInto}
 use Rattle.cu_typing.specs.Joined.{joined_rank, joined_with, joined_after, joined_shape}
 use Rattle.cu_typing.proofs.Together.{joined_two}
 
-get_or-sizes_of : (A B : List ℕ) (k : ℕ) → k < length A → k < length B → get_or (sizes_of A B) k 0 ≡ size_of (get_or A k 0) (get_or B k 0)
+get_or-sizes_of : (A B : List ℕ) (k : ℕ) → k < length A → k < length B → get_or (broadcast_sizes A B) k 0 ≡ broadcast_size (get_or A k 0) (get_or B k 0)
 get_or-sizes_of [] B k p q = absurd (omega arith)
 get_or-sizes_of (n ∷ ns) [] k p q = absurd (omega arith)
 get_or-sizes_of (n ∷ ns) (m ∷ ms) zero p q = refl
@@ -25,14 +25,14 @@ get_or-aligned rank shape k h =
     let e : k + lead - lead ≡ k = omega arith in
     get_or-append_right (replicate lead 1) shape lead (k + lead) 0 (length-replicate lead 1) (omega arith) ∙ ap (λ j. get_or shape j 0) e
 
-left_size : (n m : ℕ) → (n ≡ size_of n m) ⊎ (n ≡ 1)
+left_size : (n m : ℕ) → (n ≡ broadcast_size n m) ⊎ (n ≡ 1)
 left_size n m =
     elim (eqb_tells n 1) [
       | inl p ↦ inr p.1
       | inr p ↦ inl (rw p.0 refl)
     ]
 
-right_size : (n m : ℕ) → ¬ IsApart n m → (m ≡ size_of n m) ⊎ (m ≡ 1)
+right_size : (n m : ℕ) → ¬ IsApart n m → (m ≡ broadcast_size n m) ⊎ (m ≡ 1)
 right_size n m h =
     elim (eqb_tells n 1) [
       | inl p ↦ inl (rw p.0 refl)
@@ -61,7 +61,7 @@ left_goes_into a b = record {
         let lb : length B ≡ rank = length-aligned rank b (omega arith) in
         let below : j < rank = omega arith in
         let own : get_or A j 0 ≡ get_or a k 0 = get_or-aligned rank a k (omega arith) in
-        let whole : get_or (broadcast_of a b) j 0 ≡ size_of (get_or A j 0) (get_or B j 0) = get_or-sizes_of A B j (omega arith) (omega arith) in
+        let whole : get_or (broadcast_of a b) j 0 ≡ broadcast_size (get_or A j 0) (get_or B j 0) = get_or-sizes_of A B j (omega arith) (omega arith) in
         rw (length-broadcast_of a b) (rw whole (rw (← own) (left_size (get_or A j 0) (get_or B j 0))))
 
 pub right_goes_into : (a b : List ℕ) → mismatch_of a b ≡ None → GoesInto b (broadcast_of a b)
@@ -80,7 +80,7 @@ right_goes_into a b h = record {
         let lb : length B ≡ rank = length-aligned rank b (omega arith) in
         let below : j < rank = omega arith in
         let own : get_or B j 0 ≡ get_or b k 0 = get_or-aligned rank b k (omega arith) in
-        let whole : get_or (broadcast_of a b) j 0 ≡ size_of (get_or A j 0) (get_or B j 0) = get_or-sizes_of A B j (omega arith) (omega arith) in
+        let whole : get_or (broadcast_of a b) j 0 ≡ broadcast_size (get_or A j 0) (get_or B j 0) = get_or-sizes_of A B j (omega arith) (omega arith) in
         rw (length-broadcast_of a b) (rw whole (rw (← own) (right_size (get_or A j 0) (get_or B j 0) (none_apart A B 0 h j (omega arith) (omega arith)))))
 
 pub goes_further : (a b c : List ℕ) → GoesInto a b → GoesInto b c → GoesInto a c

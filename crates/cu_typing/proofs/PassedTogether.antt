@@ -14,13 +14,13 @@ use Rattle.cu_node.proofs.KeptLimits.{given, beside_kept}
 use Rattle.cu_node.specs.declared.faults.FaultCode.TheVariants.{Kind, Promote, Axis, Shape, EmptyReduce}
 use Rattle.cu_node.specs.declared.faults.NodeFault.{NodeFault}
 use Rattle.cu_node.specs.declared.info.NodeInfo.{NodeInfo}
-use Rattle.cu_typing.specs.Accepted.{IsReduction, IsProduct}
+use Rattle.cu_typing.specs.Accepted.{IsAcceptedReduction, IsAcceptedProduct}
 use Rattle.cu_typing.specs.Joined.{joined_shape}
 use Rattle.cu_typing.specs.Matmul.{left_inner, right_inner, leading_arrays, are_within, product_shape, product_chunk, product_type, product_lead, product_array, typed_matmul}
 use Rattle.cu_typing.specs.Reduction.{Rule, marks_of, reduced_sizes, kept_sizes, reduced}
 use Rattle.cu_typing.proofs.GoingInto.{joined_go_into}
 
-pub reduction_passed : (rule : Rule) (axes : Option (List ℤ)) (keepdims : Bool) (i r : NodeInfo) → reduced rule axes keepdims i ≡ Ok r → (marks : List Bool) × IsReduction rule axes keepdims i marks r
+pub reduction_passed : (rule : Rule) (axes : Option (List ℤ)) (keepdims : Bool) (i r : NodeInfo) → reduced rule axes keepdims i ≡ Ok r → (marks : List Bool) × IsAcceptedReduction rule axes keepdims i marks r
 reduction_passed rule axes keepdims i r h =
     let made : List Bool → Result NodeInfo NodeFault = λ marks. limited rule.dtype (kept_sizes keepdims i.dims marks) (kept_sizes keepdims i.chunk marks) in
     let filled : List Bool → Bool = λ marks. not (rule.needs_element && product (reduced_sizes i.dims marks) == 0) in
@@ -60,7 +60,7 @@ lead_passed l r lead h =
     let both = and_parts _ _ a.0 in
     (above_zero _ both.0, above_zero _ both.1, rw same at b.1, eqb-true _ _ c.0)
 
-pub product_passed : (l r i : NodeInfo) → typed_matmul l r ≡ Ok i → (t : Dtype) × ((lead : List ℕ) × IsProduct l r t lead i)
+pub product_passed : (l r i : NodeInfo) → typed_matmul l r ≡ Ok i → (t : Dtype) × ((lead : List ℕ) × IsAcceptedProduct l r t lead i)
 product_passed l r i h =
     let a = step_ok (product_type l r) (λ t. product_lead l r >>= λ lead. product_array t lead l r) i h in
     let b = step_ok (product_lead l r) (λ lead. product_array a.0 lead l r) i a.2 in

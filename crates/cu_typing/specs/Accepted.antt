@@ -30,14 +30,14 @@ pub record IsElementwise (op : ElementOp) (args : List Argument) (t : Dtype) (re
   pub within : All (λ i. is_chunk_within i.dtype (aligned_chunk result.dims result.chunk i) ≡ true) (arrays_of args)
 
 -- what a reduction's argument has passed, whose reduced axes are these
-pub record IsReduction (rule : Rule) (axes : Option (List ℤ)) (keepdims : Bool) (i : NodeInfo) (marks : List Bool) (result : NodeInfo) : Type 0 where
+pub record IsAcceptedReduction (rule : Rule) (axes : Option (List ℤ)) (keepdims : Bool) (i : NodeInfo) (marks : List Bool) (result : NodeInfo) : Type 0 where
   pub accepted : rule.accepts ≡ true
   pub named : marks_of (length i.dims) axes ≡ Some marks
   pub elements : (rule.needs_element && product (reduced_sizes i.dims marks) == 0) ≡ false
   pub array : result ≡ info_of rule.dtype (kept_sizes keepdims i.dims marks) (kept_sizes keepdims i.chunk marks)
 
 -- what the operands of a matrix product have passed, whose leading axes have these sizes together
-pub record IsProduct (l r : NodeInfo) (t : Dtype) (lead : List ℕ) (result : NodeInfo) : Type 0 where
+pub record IsAcceptedProduct (l r : NodeInfo) (t : Dtype) (lead : List ℕ) (result : NodeInfo) : Type 0 where
   pub left_type : is_integer l.dtype ≡ true
   pub right_type : is_integer r.dtype ≡ true
   pub promoted : promotion l.dtype r.dtype ≡ Some t

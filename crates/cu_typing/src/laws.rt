@@ -4,7 +4,7 @@ ghost use Rattle.std.specs.Prelude.{◌≡◌, ℕ, ℤ, Bool, List, Option, Ok}
 ghost use Rattle.cu_node.specs.declared.element_op.ElementOp.{ElementOp};
 ghost use Rattle.cu_num.specs.declared.types.Dtype.{Dtype};
 ghost use Rattle.cu_node.specs.declared.info.NodeInfo.{NodeInfo};
-ghost use Rattle.cu_typing.specs.Accepted.{IsElementwise, IsReduction, IsProduct};
+ghost use Rattle.cu_typing.specs.Accepted.{IsElementwise, IsAcceptedReduction, IsAcceptedProduct};
 ghost use Rattle.cu_typing.specs.Elementwise.{typed_elementwise};
 ghost use Rattle.cu_typing.specs.Matmul.{typed_matmul};
 ghost use Rattle.cu_typing.specs.Reduction.{Rule, reduced};
@@ -18,10 +18,10 @@ pub fn elementwise_law()
 
 /// What an accepted reduction's argument has passed; that of `sum` to `all` and of `argmin` and `argmax` is this by their rules.
 pub fn reduction_law()
-    ensures { (rule : Rule) (axes : Option (List ℤ)) (keepdims : Bool) (i r : NodeInfo) → reduced rule axes keepdims i ≡ Ok r → (marks : List Bool) × IsReduction rule axes keepdims i marks r }
+    ensures { (rule : Rule) (axes : Option (List ℤ)) (keepdims : Bool) (i r : NodeInfo) → reduced rule axes keepdims i ≡ Ok r → (marks : List Bool) × IsAcceptedReduction rule axes keepdims i marks r }
 {}
 
 /// What the operands of an accepted matrix product have passed.
 pub fn matmul_law()
-    ensures { (l r i : NodeInfo) → typed_matmul l r ≡ Ok i → (t : Dtype) × ((lead : List ℕ) × IsProduct l r t lead i) }
+    ensures { (l r i : NodeInfo) → typed_matmul l r ≡ Ok i → (t : Dtype) × ((lead : List ℕ) × IsAcceptedProduct l r t lead i) }
 {}

@@ -5,7 +5,7 @@ use Rattle.std.specs.Ordering.{int_eq}
 use Rattle.std.proofs.lemmas.Int.{ints}
 use Rattle.std.proofs.lemmas.Bool.Decides.{Decides-int_eq}
 use Rattle.cu_shape.specs.Slice.{at_least_zero, count_of, start_of, stop_of}
-use Rattle.cu_typing_view.specs.Creation.{arange_count, arange_at}
+use Rattle.cu_typing_view.specs.Creation.{arange_count, arange_element}
 use Rattle.cu_typing_view.proofs.Steps.{up_before, up_below, down_before, down_below}
 
 refused : (b : Bool) → (b ≡ true → ⊥) → b ≡ false
@@ -20,12 +20,12 @@ unfolding arange_count
 count_up start stop zero h = absurd (omega arith)
 count_up start stop (suc s) h = rw (not_zero s) refl
 
-pub range_up : (start stop : ℤ) (s k : ℕ) → 0 < s → (k < arange_count start stop (pos s)) ↔ (arange_at start (pos s) k <ℤ stop)
+pub range_up : (start stop : ℤ) (s k : ℕ) → 0 < s → (k < arange_count start stop (pos s)) ↔ (arange_element start (pos s) k <ℤ stop)
 range_up start stop s k h =
     let e = count_up start stop s h in
     (λ below. up_before start stop s k h (rw e at below), λ before. rw e (up_below start stop s k h before))
 
-pub range_down : (start stop : ℤ) (s k : ℕ) → (k < arange_count start stop (negsuc s)) ↔ (stop <ℤ arange_at start (negsuc s) k)
+pub range_down : (start stop : ℤ) (s k : ℕ) → (k < arange_count start stop (negsuc s)) ↔ (stop <ℤ arange_element start (negsuc s) k)
 unfolding arange_count
 range_down start stop s k = (down_before start stop s k, down_below start stop s k)
 

@@ -7,7 +7,7 @@ use Rattle.cu_shape.specs.Index.{product}
 use Rattle.cu_shape.proofs.Products.{size_within, product_within}
 use Rattle.cu_node.specs.Info.{IsInfo}
 use Rattle.cu_node.specs.Limited.{limit, limited}
-use Rattle.cu_typing_view.specs.Reshaped.{can_hold, reshaped, chunk_of, typed_reshape}
+use Rattle.cu_typing_view.specs.Reshaped.{can_hold, reshaped_sizes, chunk_of, typed_reshape}
 use Rattle.cu_typing_view.proofs.PositiveSizes.{length-filled}
 use Rattle.cu_node.specs.declared.info.NodeInfo.{NodeInfo}
 
@@ -30,6 +30,6 @@ elements_small i h = let w = product_within i.dims in let e = h.elements in omeg
 -- a shape of more axes than an array has, that holds the elements
 pub reshape_limit : (a : NodeInfo) (shape : List ℤ) → can_hold (product a.dims) shape ≡ true → 6 < length shape → typed_reshape a shape ≡ Err (limit 1)
 reshape_limit a shape holds more =
-    let sizes = reshaped (product a.dims) shape in
+    let sizes = reshaped_sizes (product a.dims) shape in
     let long : length sizes ≡ length shape = length-filled _ shape in
     rw holds (rank_limit a.dtype sizes (chunk_of (product a.chunk) sizes) (omega arith))

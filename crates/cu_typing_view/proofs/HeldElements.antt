@@ -8,7 +8,7 @@ use Rattle.std.proofs.lemmas.Nat.{div-add-mod'}
 use Rattle.std.proofs.Math.Nat.{mul_assoc, mul_comm}
 use Rattle.std.proofs.lemmas.Int.{ints}
 use Rattle.cu_shape.specs.Index.{product}
-use Rattle.cu_typing_view.specs.Reshaped.{given, leaves_one, filled, can_hold, reshaped}
+use Rattle.cu_typing_view.specs.Reshaped.{given, leaves_one, filled, can_hold, reshaped_sizes}
 
 abbrev is_left : ℤ → Bool
 is_left n = int_lt n (pos 0)
@@ -50,7 +50,7 @@ none_or_one zero h = inl refl
 none_or_one (suc zero) h = inr refl
 none_or_one (suc (suc n)) h = absurd (omega arith)
 
-pub holds_all : (count : ℕ) (shape : List ℤ) → count_left shape ≤ 1 → can_hold count shape ≡ true → product (reshaped count shape) ≡ count
+pub holds_all : (count : ℕ) (shape : List ℤ) → count_left shape ≤ 1 → can_hold count shape ≡ true → product (reshaped_sizes count shape) ≡ count
 holds_all count shape most h =
     let p = product (given shape) in
     elim (none_or_one (count_left shape) most) [

@@ -8,7 +8,7 @@ use Rattle.cu_shape.specs.Index.{axis_by_axis}
 use Rattle.cu_shape.proofs.Axes.{length-axis_by_axis}
 use Rattle.cu_node.specs.declared.index_item.IndexItem.{IndexItem}
 use Rattle.cu_node.specs.declared.index_item.IndexItem.TheVariants.{At, Slice, New, Ellipsis}
-use Rattle.cu_typing_view.specs.Entries.{width_of, is_ellipsis, count_taken, cut, is_wrong, first_wrong, sizes_left, index_shape, chunk_left, index_chunk}
+use Rattle.cu_typing_view.specs.Entries.{width_of, is_ellipsis, count_taken, clipped_chunk_size, is_wrong, first_wrong, sizes_left, index_shape, chunk_left, index_chunk}
 use Rattle.cu_typing_view.proofs.PositiveSizes.{Positive, none_positive}
 
 -- axes past the end are none
@@ -29,10 +29,10 @@ length-chunk_left : (more : ℕ) (item : IndexItem) (ns cs : List ℕ) → lengt
 length-chunk_left more (At i) ns cs e = refl
 length-chunk_left more (Slice start stop step) ns cs e = refl
 length-chunk_left more New ns cs e = refl
-length-chunk_left more Ellipsis ns cs e = length-axis_by_axis cut (take more ns) (take more cs) (same_take more ns cs e)
+length-chunk_left more Ellipsis ns cs e = length-axis_by_axis clipped_chunk_size (take more ns) (take more cs) (same_take more ns cs e)
 
 pub length-index_chunk : (more : ℕ) (items : List IndexItem) (ns cs : List ℕ) → length ns ≡ length cs → length (index_chunk more items ns cs) ≡ length (index_shape more items ns)
-length-index_chunk more [] ns cs e = length-axis_by_axis cut ns cs e
+length-index_chunk more [] ns cs e = length-axis_by_axis clipped_chunk_size ns cs e
 length-index_chunk more (item ∷ items) ns cs e =
     let w = width_of more item in
     let here = length-chunk_left more item ns cs e in
@@ -41,12 +41,12 @@ length-index_chunk more (item ∷ items) ns cs e =
     let b = length-append (sizes_left more item ns) (index_shape more items (drop w ns)) in
     omega arith
 
-pub positive-cut : (ns cs : List ℕ) → Positive cs → Positive (axis_by_axis cut ns cs)
+pub positive-cut : (ns cs : List ℕ) → Positive cs → Positive (axis_by_axis clipped_chunk_size ns cs)
 positive-cut [] cs h = none_positive
 positive-cut (n ∷ ns) [] h = none_positive
 positive-cut (n ∷ ns) (c ∷ cs) h =
     let c0 : 0 < c = All-head (λ n. 0 < n) c cs h in
-    All-cons (λ n. 0 < n) (cut n c) (axis_by_axis cut ns cs) (omega arith) (positive-cut ns cs (All-tail (λ n. 0 < n) c cs h))
+    All-cons (λ n. 0 < n) (clipped_chunk_size n c) (axis_by_axis clipped_chunk_size ns cs) (omega arith) (positive-cut ns cs (All-tail (λ n. 0 < n) c cs h))
 
 one_size : (n : ℕ) → 0 < n → Positive (n ∷ [])
 one_size n h = All-cons (λ n. 0 < n) n [] h none_positive
@@ -57,7 +57,7 @@ positive-chunk_left more seen (At i) ns cs e h right = none_positive
 positive-chunk_left more seen (Slice start stop step) [] cs e h right = cc
 positive-chunk_left more seen (Slice start stop step) (n ∷ ns) [] e h right = absurd (omega arith)
 positive-chunk_left more seen (Slice start stop step) (n ∷ ns) (c ∷ cs) e h right =
-    let c0 : 0 < c = All-head (λ n. 0 < n) c cs h in one_size (cut (count_taken start stop step n) c) (omega arith)
+    let c0 : 0 < c = All-head (λ n. 0 < n) c cs h in one_size (clipped_chunk_size (count_taken start stop step n) c) (omega arith)
 positive-chunk_left more seen New ns cs e h right = one_size 1 (omega arith)
 positive-chunk_left more seen Ellipsis ns cs e h right = positive-cut (take more ns) (take more cs) (All-take (λ n. 0 < n) more cs h)
 

@@ -17,7 +17,7 @@ use Rattle.cu_node.specs.declared.info.NodeInfo.{NodeInfo}
 use Rattle.cu_node.specs.declared.new_shape.NewShape.{NewShape}
 use Rattle.cu_node.proofs.KeptLimits.{given}
 use Rattle.cu_typing_view.specs.NewShapes.{typed_expand, unless_marked, unmarked, are_single, typed_squeeze, typed_new_shape}
-use Rattle.cu_typing_view.specs.Reshaped.{can_hold, reshaped, chunk_of, typed_reshape}
+use Rattle.cu_typing_view.specs.Reshaped.{can_hold, reshaped_sizes, chunk_of, typed_reshape}
 use Rattle.cu_typing_view.proofs.HeldElements.{holds_all}
 
 -- the array has this type and so many elements
@@ -35,13 +35,13 @@ with_count t shape chunk count i same h = let e = limited_elements t shape chunk
 
 reshaped_elements : (a : NodeInfo) (sizes : List ℤ) (i : NodeInfo) → count_by (λ n. int_lt n (pos 0)) sizes ≤ 1 → typed_reshape a sizes ≡ Ok i → HasElements a.dtype (product a.dims) i
 reshaped_elements a sizes i one h =
-    let shape = reshaped (product a.dims) sizes in
+    let shape = reshaped_sizes (product a.dims) sizes in
     let p = check_step_ok (can_hold (product a.dims) sizes) (fault ReshapeSize) (λ _. limited a.dtype shape (chunk_of (product a.chunk) shape)) i h in
     with_count a.dtype shape (chunk_of (product a.chunk) shape) (product a.dims) i (holds_all (product a.dims) sizes one p.0) p.1
 
 reshaped_type : (a : NodeInfo) (sizes : List ℤ) (i : NodeInfo) → typed_reshape a sizes ≡ Ok i → i.dtype ≡ a.dtype
 reshaped_type a sizes i h =
-    let shape = reshaped (product a.dims) sizes in
+    let shape = reshaped_sizes (product a.dims) sizes in
     let p = check_step_ok (can_hold (product a.dims) sizes) (fault ReshapeSize) (λ _. limited a.dtype shape (chunk_of (product a.chunk) shape)) i h in
     (limited_elements a.dtype shape (chunk_of (product a.chunk) shape) i p.1).1
 

@@ -2,13 +2,13 @@
 use Rattle.std.proofs.Common.{◌≡◌, ◌↔◌, ◌∙◌, ℕ, zero, suc, ◌+◌, ◌-◌, ◌≤◌, ◌==◌, ◌||◌, true, false, None, List, [], ◌∷◌, ◌++◌, length, replicate, drop, refl, ap, sym, inl, inr, arith}
 use Rattle.std.proofs.lemmas.Bool.{le-leb, leb-true, and_parts}
 use Rattle.std.proofs.lemmas.Bool.Decides.{eqb_tells}
-use Rattle.cu_shape.specs.Broadcast.{aligned, rank_of, size_of, are_apart, sizes_of, last_apart, broadcast_of, mismatch_of}
+use Rattle.cu_shape.specs.Broadcast.{aligned, rank_of, broadcast_size, are_apart, broadcast_sizes, last_apart, broadcast_of, mismatch_of}
 use Rattle.cu_shape.proofs.Broadcasts.{length-aligned}
 use Rattle.cu_shape.proofs.InsideBoth.{length-broadcast_of}
 use Rattle.cu_typing_view.specs.Reshaped.{are_stretched, stretches_to}
 
 -- on an axis
-agrees : (n m : ℕ) → (n == 1 || n == m) ≡ true → (are_apart n m ≡ false) × (size_of n m ≡ m)
+agrees : (n m : ℕ) → (n == 1 || n == m) ≡ true → (are_apart n m ≡ false) × (broadcast_size n m ≡ m)
 agrees n m h =
     elim (eqb_tells n 1) [
       | inl p ↦ elim (eqb_tells n m) [
@@ -21,7 +21,7 @@ agrees n m h =
       ]
     ]
 
-meets : (n m : ℕ) → size_of n m ≡ m → (n == 1 || n == m) ≡ true
+meets : (n m : ℕ) → broadcast_size n m ≡ m → (n == 1 || n == m) ≡ true
 meets n m h =
     elim (eqb_tells n 1) [
       | inl p ↦ rw (p.0) refl
@@ -31,7 +31,7 @@ meets n m h =
       ]
     ]
 
-agree_all : (A B : List ℕ) (first : ℕ) → are_stretched A B ≡ true → (last_apart A B first ≡ None) × (sizes_of A B ≡ B)
+agree_all : (A B : List ℕ) (first : ℕ) → are_stretched A B ≡ true → (last_apart A B first ≡ None) × (broadcast_sizes A B ≡ B)
 agree_all [] [] first h = (refl, refl)
 agree_all [] (m ∷ ms) first h = cc
 agree_all (n ∷ ns) [] first h = cc
@@ -41,13 +41,13 @@ agree_all (n ∷ ns) (m ∷ ms) first h =
     let rest = agree_all ns ms (first + 1) both.1 in
     (rw (here.0, rest.0) refl, rw (here.1, rest.1) refl)
 
-meet_all : (A B : List ℕ) → length A ≡ length B → sizes_of A B ≡ B → are_stretched A B ≡ true
+meet_all : (A B : List ℕ) → length A ≡ length B → broadcast_sizes A B ≡ B → are_stretched A B ≡ true
 meet_all [] [] e h = refl
 meet_all [] (m ∷ ms) e h = absurd (omega arith)
 meet_all (n ∷ ns) [] e h = absurd (omega arith)
 meet_all (n ∷ ns) (m ∷ ms) e h =
-    let here : size_of n m ≡ m = cc in
-    let rest : sizes_of ns ms ≡ ms = cc in
+    let here : broadcast_size n m ≡ m = cc in
+    let rest : broadcast_sizes ns ms ≡ ms = cc in
     rw (meets n m here, meet_all ns ms (omega arith) rest) refl
 
 -- the axes that a shape lacks are stretched
@@ -62,9 +62,9 @@ whole b = let e : length b - length b ≡ 0 = omega arith in rw e refl
 second_rank : (a b : List ℕ) → length a ≤ length b → rank_of a b ≡ length b
 second_rank a b h = omega arith
 
-result_is : (a b : List ℕ) → length a ≤ length b → broadcast_of a b ≡ sizes_of (aligned (length b) a) b
+result_is : (a b : List ℕ) → length a ≤ length b → broadcast_of a b ≡ broadcast_sizes (aligned (length b) a) b
 result_is a b h =
-    ap (λ r. sizes_of (aligned r a) (aligned r b)) (second_rank a b h) ∙ ap (λ xs. sizes_of (aligned (length b) a) xs) (whole b)
+    ap (λ r. broadcast_sizes (aligned r a) (aligned r b)) (second_rank a b h) ∙ ap (λ xs. broadcast_sizes (aligned (length b) a) xs) (whole b)
 
 pub stretched_gives : (a b : List ℕ) → stretches_to a b ≡ true → (mismatch_of a b ≡ None) × (broadcast_of a b ≡ b)
 stretched_gives a b h =

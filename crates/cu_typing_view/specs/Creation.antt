@@ -29,12 +29,12 @@ unfoldable pub arange_count : ℤ → ℤ → ℤ → ℕ
 arange_count start stop step = if int_eq step (pos 0) then 0 else div_ceil (at_least_zero (gap_between start stop step)) (unsigned_abs step)
 
 -- number k of them
-abbrev pub arange_at : ℤ → ℤ → ℕ → ℤ
-arange_at start step k = start +ℤ pos k *ℤ step
+abbrev pub arange_element : ℤ → ℤ → ℕ → ℤ
+arange_element start step k = start +ℤ pos k *ℤ step
 
 -- the first and the last of n are numbers of the type
 unfoldable pub holds_ends : Dtype → ℤ → ℤ → ℕ → Test
-holds_ends t start step n = if n == 0 then true else in_range t (arange_at start step 0) && in_range t (arange_at start step (n - 1))
+holds_ends t start step n = if n == 0 then true else in_range t (arange_element start step 0) && in_range t (arange_element start step (n - 1))
 
 -- n numbers from start on
 abbrev pub typed_numbers : ℤ → ℤ → ℕ → Dtype → List ℕ → Result NodeInfo NodeFault

@@ -50,8 +50,8 @@ unfoldable pub count_taken : Option ℤ → Option ℤ → Option ℤ → ℕ �
 count_taken start stop step n = if int_eq (step_of step) (pos 0) then 0 else count_of start stop (step_of step) n
 
 -- the chunk size of an axis on which n indices are taken
-abbrev pub cut : ℕ → ℕ → ℕ
-cut n c = min c (max 1 n)
+abbrev pub clipped_chunk_size : ℕ → ℕ → ℕ
+clipped_chunk_size n c = min c (max 1 n)
 
 -- ---- the entries, each with the sizes and chunk sizes of the axes that are left for it and those behind it
 
@@ -85,13 +85,13 @@ index_shape more (item ∷ items) ns = sizes_left more item ns ++ index_shape mo
 
 abbrev pub chunk_left : ℕ → IndexItem → List ℕ → List ℕ → List ℕ
 chunk_left more (At i) ns cs = []
-chunk_left more (Slice start stop step) ns cs = cut (count_taken start stop step (slice_index ns 0)) (slice_index cs 0) ∷ []
+chunk_left more (Slice start stop step) ns cs = clipped_chunk_size (count_taken start stop step (slice_index ns 0)) (slice_index cs 0) ∷ []
 chunk_left more New ns cs = 1 ∷ []
-chunk_left more Ellipsis ns cs = axis_by_axis cut (take more ns) (take more cs)
+chunk_left more Ellipsis ns cs = axis_by_axis clipped_chunk_size (take more ns) (take more cs)
 
 -- the chunk shape of the result
 abbrev pub index_chunk : ℕ → List IndexItem → List ℕ → List ℕ → List ℕ
-index_chunk more [] ns cs = axis_by_axis cut ns cs
+index_chunk more [] ns cs = axis_by_axis clipped_chunk_size ns cs
 index_chunk more (item ∷ items) ns cs = chunk_left more item ns cs ++ index_chunk more items (drop (width_of more item) ns) (drop (width_of more item) cs)
 
 -- an index has no wrong entry

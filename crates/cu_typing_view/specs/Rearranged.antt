@@ -26,13 +26,13 @@ abbrev pub is_permutation : ℕ → List ℤ → Bool
 is_permutation rank axes = length axes == rank && (list_all (λ d. int_le (pos 0) d) axes && is_some (marked_of rank axes))
 
 -- the numbers of these axes, in their order
-abbrev pub permuted : List ℤ → List ℕ → List ℕ
-permuted axes xs = map (λ d. slice_index xs (at_least_zero d)) axes
+abbrev pub permuted_sizes : List ℤ → List ℕ → List ℕ
+permuted_sizes axes xs = map (λ d. slice_index xs (at_least_zero d)) axes
 
 abbrev pub typed_permute : NodeInfo → List ℤ → Result NodeInfo NodeFault
 typed_permute a axes = do
   _ ← check (is_permutation (length a.dims) axes) (fault Axis)
-  limited a.dtype (permuted axes a.dims) (permuted axes a.chunk)
+  limited a.dtype (permuted_sizes axes a.dims) (permuted_sizes axes a.chunk)
 
 -- distinct axes, or all of them where there is no list
 abbrev pub are_axes : ℕ → Option (List ℤ) → Bool

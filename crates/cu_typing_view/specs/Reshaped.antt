@@ -31,8 +31,8 @@ filled left [] = []
 filled left (pos n ∷ ns) = n ∷ filled left ns
 filled left (negsuc d ∷ ns) = left ∷ filled left ns
 
-abbrev pub reshaped : ℕ → List ℤ → List ℕ
-reshaped count shape = filled (count / product (given shape)) shape
+abbrev pub reshaped_sizes : ℕ → List ℤ → List ℕ
+reshaped_sizes count shape = filled (count / product (given shape)) shape
 
 -- How many of so many elements of a chunk are left for the axes before these, which take them from the last axis on: on an
 -- axis the chunk has as many as are left, up to the axis' size.
@@ -48,7 +48,7 @@ chunk_of count [] = []
 chunk_of count (n ∷ ns) = chunk_size (left_before count ns) n ∷ chunk_of count ns
 
 abbrev pub typed_reshape : NodeInfo → List ℤ → Result NodeInfo NodeFault
-typed_reshape a shape = let sizes = reshaped (product a.dims) shape in do
+typed_reshape a shape = let sizes = reshaped_sizes (product a.dims) shape in do
   _ ← check (can_hold (product a.dims) shape) (fault ReshapeSize)
   limited a.dtype sizes (chunk_of (product a.chunk) sizes)
 

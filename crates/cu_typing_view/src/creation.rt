@@ -2,7 +2,7 @@
 ghost use Rattle.std.specs.Prelude.{◌≡◌, ◌-◌, ◌^◌, ◌<◌, ◌≤ℤ◌, pos, All, IfOk};
 ghost use Rattle.cu_node.specs.Info.{IsInfo};
 ghost use Rattle.cu_shape.specs.Slice.{gap_between, at_least_zero};
-ghost use Rattle.cu_typing_view.specs.Creation.{holds_ends, arange_at, arange_count, typed_full, typed_numbers, typed_arange, typed_eye};
+ghost use Rattle.cu_typing_view.specs.Creation.{holds_ends, arange_element, arange_count, typed_full, typed_numbers, typed_arange, typed_eye};
 
 use cu_node::{
     FaultCode, Literal, NodeFault, NodeInfo, fault, in_range, is_integer, within_limits_list,
@@ -123,7 +123,7 @@ fn natural(x: i128) -> u64
 
 /// Number `k` of those that begin at start.
 fn number_at(start: i64, step: i64, k: u64) -> i128
-    ensures { result ≡ arange_at start step k }
+    ensures { result ≡ arange_element start step k }
 {
     start as i128 + k as i128 * step as i128
 }

@@ -3,7 +3,7 @@ ghost use Rattle.std.specs.Prelude.{◌≡◌, ◌+◌, ◌<◌, ◌≤◌, ◌^
 ghost use Rattle.cu_shape.specs.Index.{axis_by_axis};
 ghost use Rattle.cu_node.specs.Info.{IsInfo};
 ghost use Rattle.cu_node.specs.Limited.{limited};
-ghost use Rattle.cu_typing_view.specs.Entries.{takes_axis, is_ellipsis, width_of, is_index, suits_axis, count_taken, cut, untaken, is_wrong, first_wrong, sizes_left, chunk_left, index_shape, index_chunk, typed_index};
+ghost use Rattle.cu_typing_view.specs.Entries.{takes_axis, is_ellipsis, width_of, is_index, suits_axis, count_taken, clipped_chunk_size, untaken, is_wrong, first_wrong, sizes_left, chunk_left, index_shape, index_chunk, typed_index};
 
 use cu_node::{FaultCode, IndexItem, NodeFault, NodeInfo, fault_at, size_at, within_limits};
 use cu_shape::{Dims, slice_of};
@@ -151,7 +151,7 @@ fn count_taken(start: Option<i64>, stop: Option<i64>, step: Option<i64>, size: u
 
 /// The chunk size of an axis on which so many indices are taken.
 fn cut(count: u64, size: u64) -> u64
-    ensures { result ≡ cut count size }
+    ensures { result ≡ clipped_chunk_size count size }
 {
     size.min(count.max(1))
 }
@@ -159,7 +159,7 @@ fn cut(count: u64, size: u64) -> u64
 /// The chunk sizes cut to the sizes of the array.
 fn cut_whole(array: &NodeInfo) -> Dims
     requires { IsInfo array.now }
-    ensures { result ≡ axis_by_axis cut array.now.dims array.now.chunk }
+    ensures { result ≡ axis_by_axis clipped_chunk_size array.now.dims array.now.chunk }
 {
     let mut whole = array.chunk;
     for axis in 0..array.dims.rank() {
@@ -229,7 +229,7 @@ fn with_chunk(
     axis: u32,
 ) -> Option<Dims>
     requires kept { IsInfo array.now }
-    requires whole { whole.now ≡ axis_by_axis cut array.now.dims array.now.chunk }
+    requires whole { whole.now ≡ axis_by_axis clipped_chunk_size array.now.dims array.now.chunk }
     requires more { more ≤ 6 }
     requires within { axis ≤ length array.now.dims }
     ensures left { IfSome result (λ r. r ≡ left.now ++ chunk_left more item.now (drop axis array.now.dims) (drop axis array.now.chunk)) }

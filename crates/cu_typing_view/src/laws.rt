@@ -6,15 +6,15 @@ ghost use Rattle.cu_shape.specs.Slice.{count_of, start_of, stop_of};
 ghost use Rattle.cu_node.specs.NewShape.{is_new_shape};
 ghost use Rattle.cu_node.specs.declared.info.NodeInfo.{NodeInfo};
 ghost use Rattle.cu_node.specs.declared.new_shape.NewShape.{NewShape};
-ghost use Rattle.cu_typing_view.specs.Creation.{arange_count, arange_at};
+ghost use Rattle.cu_typing_view.specs.Creation.{arange_count, arange_element};
 ghost use Rattle.cu_typing_view.specs.NewShapes.{typed_new_shape};
-ghost use Rattle.cu_typing_view.specs.Reshaped.{can_hold, reshaped, stretches_to};
+ghost use Rattle.cu_typing_view.specs.Reshaped.{can_hold, reshaped_sizes, stretches_to};
 
 /// The numbers of a range are exactly those that come before its stop, and the indices of a slice exactly those that come
 /// before its clipped stop, in the direction of the step (Python array API, `arange`; `slice.indices` of Python's reference).
 pub fn counts_law()
-    ensures range_up { (start stop : ℤ) (s k : ℕ) → 0 < s → (k < arange_count start stop (pos s)) ↔ (arange_at start (pos s) k <ℤ stop) }
-    ensures range_down { (start stop : ℤ) (s k : ℕ) → (k < arange_count start stop (negsuc s)) ↔ (stop <ℤ arange_at start (negsuc s) k) }
+    ensures range_up { (start stop : ℤ) (s k : ℕ) → 0 < s → (k < arange_count start stop (pos s)) ↔ (arange_element start (pos s) k <ℤ stop) }
+    ensures range_down { (start stop : ℤ) (s k : ℕ) → (k < arange_count start stop (negsuc s)) ↔ (stop <ℤ arange_element start (negsuc s) k) }
     ensures slice_up { (start stop : Option ℤ) (s n k : ℕ) → 0 < s → (k < count_of start stop (pos s) n) ↔ ((start_of start (pos s) n +ℤ pos k *ℤ pos s) <ℤ stop_of stop (pos s) n) }
     ensures slice_down { (start stop : Option ℤ) (s n k : ℕ) → (k < count_of start stop (negsuc s) n) ↔ (stop_of stop (negsuc s) n <ℤ (start_of start (negsuc s) n +ℤ pos k *ℤ negsuc s)) }
 {}
@@ -26,7 +26,7 @@ pub fn broadcast_law()
 
 /// A shape that `reshape` accepts has as many elements as the array.
 pub fn reshape_law()
-    ensures { (count : ℕ) (shape : List ℤ) → count_by (λ n. int_lt n (pos 0)) shape ≤ 1 → can_hold count shape ≡ true → product (reshaped count shape) ≡ count }
+    ensures { (count : ℕ) (shape : List ℤ) → count_by (λ n. int_lt n (pos 0)) shape ≤ 1 → can_hold count shape ≡ true → product (reshaped_sizes count shape) ≡ count }
 {}
 
 /// An array in a new shape has the type and as many elements.

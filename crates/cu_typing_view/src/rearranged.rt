@@ -3,7 +3,7 @@ ghost use Rattle.std.specs.List.{list_all};
 ghost use Rattle.std.specs.Prelude.{◌≡◌, int_le, pos, ◌≤◌, IfOk, length, slice_index, option_map};
 ghost use Rattle.cu_shape.specs.Slice.{at_least_zero};
 ghost use Rattle.cu_node.specs.Info.{IsInfo};
-ghost use Rattle.cu_typing_view.specs.Rearranged.{are_axes, is_permutation, permuted, typed_same, typed_triangle, typed_permute, typed_flip, typed_roll};
+ghost use Rattle.cu_typing_view.specs.Rearranged.{are_axes, is_permutation, permuted_sizes, typed_same, typed_triangle, typed_permute, typed_flip, typed_roll};
 
 use cu_node::{FaultCode, NodeFault, NodeInfo, fault, named_axes, within_limits};
 use cu_shape::Dims;
@@ -123,7 +123,7 @@ fn number_on(axis: i64, numbers: &Dims) -> u64
 /// The numbers on these axes, in their order.
 fn permuted(axes: &[i64], numbers: &Dims) -> Dims
     requires { length axes.now ≤ 6 }
-    ensures { result ≡ permuted axes.now numbers.now }
+    ensures { result ≡ permuted_sizes axes.now numbers.now }
 {
     let mut moved = Dims::default();
     for axis in axes {

@@ -8,7 +8,7 @@ use Rattle.cu_pull.specs.Pull.{concat_from}
 use Rattle.cu_pull.specs.declared.provenance.Provenance.TheVariants.{From}
 use Rattle.cu_view.proofs.Fitting.{ltb_tells}
 use Rattle.cu_view.specs.Boxes.{offset_of}
-use Rattle.cu_view.specs.Pieces.{source_in}
+use Rattle.cu_view.specs.Pieces.{source_number}
 
 set_same : (xs : List ℕ) (axis v : ℕ) → axis < length xs → v ≡ get_or xs axis 0 → set xs axis v ≡ xs
 set_same xs axis v l e =
@@ -94,12 +94,12 @@ offset_within axis (suc n) (s ∷ ss) =
 
 -- the source that an index comes from is the one that holds it
 pub concat_exactly : (axis n : ℕ) (sources : List (List ℕ)) (idx : List ℕ) → axis < length idx → n < length sources → get_or idx axis 0 < sum_by (λ source. get_or source axis 0) sources
-    → ((offset_of axis sources n ≤ get_or idx axis 0) × (get_or idx axis 0 < offset_of axis sources n + get_or (get_or sources n []) axis 0)) ↔ (source_in (concat_from axis 0 sources idx) ≡ n)
-concat_exactly axis n sources idx a l h = (λ w. ap source_in (concat_at axis 0 n sources idx a l w.0 w.1) ∙ omega arith, back)
+    → ((offset_of axis sources n ≤ get_or idx axis 0) × (get_or idx axis 0 < offset_of axis sources n + get_or (get_or sources n []) axis 0)) ↔ (source_number (concat_from axis 0 sources idx) ≡ n)
+concat_exactly axis n sources idx a l h = (λ w. ap source_number (concat_at axis 0 n sources idx a l w.0 w.1) ∙ omega arith, back)
   where
-    back : source_in (concat_from axis 0 sources idx) ≡ n → (offset_of axis sources n ≤ get_or idx axis 0) × (get_or idx axis 0 < offset_of axis sources n + get_or (get_or sources n []) axis 0)
+    back : source_number (concat_from axis 0 sources idx) ≡ n → (offset_of axis sources n ≤ get_or idx axis 0) × (get_or idx axis 0 < offset_of axis sources n + get_or (get_or sources n []) axis 0)
     back e =
         let w = concat_has axis (get_or idx axis 0) sources h in
-        let s : source_in (concat_from axis 0 sources idx) ≡ 0 + w.0 = ap source_in (concat_at axis 0 w.0 sources idx a w.1 w.2 w.3) in
+        let s : source_number (concat_from axis 0 sources idx) ≡ 0 + w.0 = ap source_number (concat_at axis 0 w.0 sources idx a w.1 w.2 w.3) in
         let m : w.0 ≡ n = omega arith in
         subst (λ (k : ℕ). (offset_of axis sources k ≤ get_or idx axis 0) × (get_or idx axis 0 < offset_of axis sources k + get_or (get_or sources k []) axis 0)) m (w.2, w.3)

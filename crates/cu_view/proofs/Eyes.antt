@@ -9,7 +9,7 @@ use Rattle.cu_num.specs.Element.{bytes_at, element_bytes}
 use Rattle.cu_num.specs.declared.layout.Endian.TheVariants.{Little}
 use Rattle.cu_grid.specs.Counts.{IsWithin}
 use Rattle.cu_pull.specs.Pull.{diagonal_of}
-use Rattle.cu_view_box.specs.Block.{place_in}
+use Rattle.cu_view_box.specs.Block.{buffer_place}
 use Rattle.cu_view_box.specs.declared.block.Block.{Block}
 
 -- the index of this row and column
@@ -19,12 +19,7 @@ at_cell lo row column = set (set lo 0 row) 1 column
 pub cell_within : (lo hi : List ℕ) (row column : ℕ) → length lo ≡ 2 → length hi ≡ 2 → get_or lo 0 0 ≤ row → row < get_or hi 0 0 → get_or lo 1 0 ≤ column → column < get_or hi 1 0
     → IsWithin lo hi (at_cell lo row column)
 cell_within (a ∷ b ∷ []) (c ∷ d ∷ []) row column n m p q r s = (p, q, (r, s, tt))
-cell_within [] hi row column n m p q r s = absurd (omega (arith, n))
-cell_within (a ∷ []) hi row column n m p q r s = absurd (omega (arith, n))
-cell_within (a ∷ b ∷ e ∷ lo) hi row column n m p q r s = absurd (omega (arith, n))
-cell_within (a ∷ b ∷ []) [] row column n m p q r s = absurd (omega (arith, m))
-cell_within (a ∷ b ∷ []) (c ∷ []) row column n m p q r s = absurd (omega (arith, m))
-cell_within (a ∷ b ∷ []) (c ∷ d ∷ e ∷ hi) row column n m p q r s = absurd (omega (arith, m))
+cell_within lo hi row column n m p q r s = absurd (omega arith)
 
 -- an index of two numbers, of this row and on this diagonal
 pub record IsCell (idx lo hi : List ℕ) : Type 0 where
@@ -37,31 +32,20 @@ pub record IsCell (idx lo hi : List ℕ) : Type 0 where
 
 pub cell_of : (lo hi idx : List ℕ) → length lo ≡ 2 → IsWithin lo hi idx → IsCell idx lo hi
 cell_of (a ∷ b ∷ []) (c ∷ d ∷ []) (i ∷ j ∷ []) n w = record { diagonal = refl; low = w.2.0; high = w.2.1; first_low = w.0; first_high = w.1; is = refl }
-cell_of [] hi idx n w = absurd (omega (arith, n))
-cell_of (a ∷ []) hi idx n w = absurd (omega (arith, n))
-cell_of (a ∷ b ∷ e ∷ lo) hi idx n w = absurd (omega (arith, n))
-cell_of (a ∷ b ∷ []) [] idx n w = absurd w
-cell_of (a ∷ b ∷ []) (c ∷ []) [] n w = absurd w
 cell_of (a ∷ b ∷ []) (c ∷ []) (i ∷ idx) n w = absurd w.2
-cell_of (a ∷ b ∷ []) (c ∷ d ∷ hi) [] n w = absurd w
-cell_of (a ∷ b ∷ []) (c ∷ d ∷ hi) (i ∷ []) n w = absurd w.2
-cell_of (a ∷ b ∷ []) (c ∷ d ∷ []) (i ∷ j ∷ e ∷ idx) n w = absurd w.2.2
 cell_of (a ∷ b ∷ []) (c ∷ d ∷ e ∷ hi) (i ∷ j ∷ idx) n w = absurd w.2.2
+cell_of lo hi idx n w = absurd (first_of (assumption, omega arith))
 
 pub cell_row : (lo : List ℕ) (row column : ℕ) → length lo ≡ 2 → get_or (at_cell lo row column) 0 0 ≡ row
 cell_row (a ∷ b ∷ []) row column n = refl
-cell_row [] row column n = absurd (omega (arith, n))
-cell_row (a ∷ []) row column n = absurd (omega (arith, n))
-cell_row (a ∷ b ∷ e ∷ lo) row column n = absurd (omega (arith, n))
+cell_row lo row column n = absurd (omega arith)
 
 column_less : (row column : ℕ) (k : ℤ) → pos column ≡ pos row +ℤ k → pos column -ℤ pos row ≡ k
 column_less row column k e = ap (λ (z : ℤ). z -ℤ pos row) (e ∙ +ℤ_comm (pos row) k) ∙ +ℤ-neg_ℤ_cancel k (pos row)
 
 pub cell_diagonal : (lo : List ℕ) (row column : ℕ) (k : ℤ) → length lo ≡ 2 → pos column ≡ pos row +ℤ k → diagonal_of (at_cell lo row column) ≡ k
 cell_diagonal (a ∷ b ∷ []) row column k n e = column_less row column k e
-cell_diagonal [] row column k n e = absurd (omega (arith, n))
-cell_diagonal (a ∷ []) row column k n e = absurd (omega (arith, n))
-cell_diagonal (a ∷ b ∷ c ∷ lo) row column k n e = absurd (omega (arith, n))
+cell_diagonal lo row column k n e = absurd (omega arith)
 
 column_is : (i j row : ℕ) (k : ℤ) → i ≡ row → pos j -ℤ pos i ≡ k → pos j ≡ pos row +ℤ k
 column_is i j row k f g = sym (-ℤ-+ℤ_cancel (pos j) (pos i)) ∙ ap (λ (z : ℤ). z +ℤ pos i) g ∙ +ℤ_comm k (pos i) ∙ ap (λ (n : ℕ). pos n +ℤ k) f
@@ -88,10 +72,10 @@ none_on_diagonal lo hi idx row k n none w f d =
 
 -- an element of a block is this number
 abbrev pub HasNumber : Block → List ℕ → List ℕ → ℤ → Type 0
-HasNumber to new idx x = bytes_at to.dtype new (place_in to idx) ≡ element_bytes Little to.dtype x
+HasNumber to new idx x = bytes_at to.dtype new (buffer_place to idx) ≡ element_bytes Little to.dtype x
 
 abbrev pub KeepsElement : Block → List ℕ → List ℕ → List ℕ → Type 0
-KeepsElement to old new idx = bytes_at to.dtype new (place_in to idx) ≡ bytes_at to.dtype old (place_in to idx)
+KeepsElement to old new idx = bytes_at to.dtype new (buffer_place to idx) ≡ bytes_at to.dtype old (buffer_place to idx)
 
 int_eq_tells : (x y : ℤ) → ((int_eq x y ≡ true) × (x ≡ y)) ⊎ ((int_eq x y ≡ false) × (x ≢ y))
 int_eq_tells x y =

@@ -2,7 +2,7 @@
 use Rattle.std.proofs.Common.{◌≡◌, ℕ, zero, suc, ◌<◌, ◌≤◌, ◌^◌, nat_lt, true, false, ◌⊎◌, inl, inr, List, [], ◌∷◌, length, get_or, refl, ap, ◌∙◌, sym, subst, arith}
 use Rattle.std.proofs.lemmas.List.{length-map, length-append, length-replicate}
 use Rattle.std.proofs.lemmas.Bool.{ltb-true, ltb-false}
-use Rattle.cu_shape.specs.Broadcast.{broadcast_of, aligned, rank_of, sizes_of}
+use Rattle.cu_shape.specs.Broadcast.{broadcast_of, aligned, rank_of, broadcast_sizes}
 use Rattle.cu_shape.specs.Index.{product, IsInside}
 use Rattle.cu_shape.specs.declared.slice.Run.{Run}
 use Rattle.cu_shape.proofs.Places.{inside-length}
@@ -56,7 +56,7 @@ permuted_shape axes shape source f = ap length f.sizes ∙ length-map axes (λ (
 pub permuted_rank : (axes shape source idx : List ℕ) → FitsPermute axes shape source → IsInside shape idx → length idx ≡ length axes
 permuted_rank axes shape source idx f h = inside-length shape idx h ∙ ap length f.sizes ∙ length-map axes (λ (axis : ℕ). get_or source axis 0)
 
-length-sizes_of : (a b : List ℕ) → length a ≡ length b → length (sizes_of a b) ≡ length a
+length-sizes_of : (a b : List ℕ) → length a ≡ length b → length (broadcast_sizes a b) ≡ length a
 length-sizes_of [] b e = refl
 length-sizes_of (n ∷ ns) [] e = absurd (omega arith)
 length-sizes_of (n ∷ ns) (m ∷ ms) e = ap suc (length-sizes_of ns ms (omega arith))

@@ -5,7 +5,7 @@ use Rattle.cu_grid.specs.Counts.{IsRegion, IsWithin}
 use Rattle.cu_grid.specs.declared.region.Region.{Region}
 use Rattle.cu_grid.proofs.Regions.{written_more}
 use Rattle.cu_grid.proofs.Meeting.{within_from, within_of}
-use Rattle.cu_view.specs.Hull.{Covers}
+use Rattle.cu_view.specs.Hull.{HoldsIndex}
 use Rattle.cu_view.proofs.Ranges.{ends_of, region_from}
 
 pub hull_region : (ns al ah bl bh lo hi : List ℕ) → IsRegion ns al ah → IsRegion ns bl bh → length lo ≡ length al → length hi ≡ length ah
@@ -46,11 +46,11 @@ pub put_more : (xs ys : List ℕ) (f : ℕ → ℕ) (n v : ℕ) → n < length x
 put_more xs ys f n v l e w h k b = written_more xs ys f n v l e w h k b
 
 -- a region that isn't there, or holds each index that is read
-pub holds_of : (o : Option Region) (P : List ℕ → Type 0) (R : List ℕ → List ℕ → Type 0) → ((idx i : List ℕ) → P idx → R idx i → Covers o i) → IfSome o (λ r. (idx i : List ℕ) → P idx → R idx i → IsWithin r.lo r.hi i)
+pub holds_of : (o : Option Region) (P : List ℕ → Type 0) (R : List ℕ → List ℕ → Type 0) → ((idx i : List ℕ) → P idx → R idx i → HoldsIndex o i) → IfSome o (λ r. (idx i : List ℕ) → P idx → R idx i → IsWithin r.lo r.hi i)
 holds_of (Some r) P R h = h
 holds_of None P R h = tt
 
-pub none_of : (o : Option Region) (P : List ℕ → Type 0) (R : List ℕ → List ℕ → Type 0) → ((idx i : List ℕ) → P idx → R idx i → Covers o i) → IfNone o ((idx i : List ℕ) → P idx → ¬ R idx i)
+pub none_of : (o : Option Region) (P : List ℕ → Type 0) (R : List ℕ → List ℕ → Type 0) → ((idx i : List ℕ) → P idx → R idx i → HoldsIndex o i) → IfNone o ((idx i : List ℕ) → P idx → ¬ R idx i)
 none_of (Some r) P R h = tt
 none_of None P R h = h
 

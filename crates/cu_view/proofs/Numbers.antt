@@ -41,13 +41,8 @@ concat_no_number join sources shape idx x f h e =
 
 -- in a line of numbers the place tells the index
 pub line_index : (dims lo hi idx : List ℕ) → length lo ≡ 1 → IsWithin lo hi idx → IsInside dims (differences idx lo) → get_or lo 0 0 + place_of dims (differences idx lo) ≡ get_or idx 0 0
-line_index [] [] hi idx n w h = absurd (omega (arith, n))
-line_index (d ∷ ds) [] hi idx n w h = absurd (omega (arith, n))
-line_index dims (l ∷ k ∷ ls) hi idx n w h = absurd (omega (arith, n))
-line_index dims (l ∷ []) [] idx n w h = absurd w
-line_index dims (l ∷ []) (u ∷ us) [] n w h = absurd w
+line_index (d ∷ []) (l ∷ []) (u ∷ []) (i ∷ []) n w h = let low = w.0 in omega (arith, low)
 line_index [] (l ∷ []) (u ∷ us) (i ∷ is) n w h = absurd h
-line_index (d ∷ ds) (l ∷ []) (u ∷ []) (i ∷ j ∷ is) n w h = absurd w.2
 line_index (d ∷ ds) (l ∷ []) (u ∷ v ∷ us) (i ∷ is) n w h = absurd w.2
 line_index (d ∷ e ∷ ds) (l ∷ []) (u ∷ []) (i ∷ []) n w h = absurd h.1
-line_index (d ∷ []) (l ∷ []) (u ∷ []) (i ∷ []) n w h = let low = w.0 in omega (arith, low)
+line_index dims lo hi idx n w h = absurd (first_of (assumption, omega arith))

@@ -6,18 +6,12 @@ use Rattle.cu_shape.specs.Index.{product, index_at, differences}
 use Rattle.cu_shape.proofs.Places.{place-below, index-place}
 use Rattle.cu_grid.specs.Counts.{IsWithin}
 use Rattle.cu_grid.proofs.Meeting.{within_of}
-use Rattle.cu_view_box.specs.Block.{place_in, IsBlock}
+use Rattle.cu_view_box.specs.Block.{buffer_place, IsBlock}
 use Rattle.cu_view_box.specs.declared.block.Block.{Block}
 
 -- how far an index lies from the region's first tells it
 same_from : (lo hi idx other : List ℕ) → IsWithin lo hi idx → IsWithin lo hi other → differences idx lo ≡ differences other lo → idx ≡ other
 same_from [] [] [] [] w v e = refl
-same_from [] [] [] (j ∷ js) w v e = absurd v
-same_from [] [] (i ∷ is) other w v e = absurd w
-same_from [] (h ∷ hs) idx other w v e = absurd w
-same_from (l ∷ ls) [] idx other w v e = absurd w
-same_from (l ∷ ls) (h ∷ hs) [] other w v e = absurd w
-same_from (l ∷ ls) (h ∷ hs) (i ∷ is) [] w v e = absurd v
 same_from (l ∷ ls) (h ∷ hs) (i ∷ is) (j ∷ js) w v e =
     let first : i - l ≡ j - l = ap (λ (x : List ℕ). get_or x 0 0) e in
     let rest = same_from ls hs is js w.2 v.2 (ap (λ (x : List ℕ). drop 1 x) e) in
@@ -25,17 +19,18 @@ same_from (l ∷ ls) (h ∷ hs) (i ∷ is) (j ∷ js) w v e =
     let b = v.0 in
     let same : i ≡ j = omega (arith, first, a, b) in
     cc
+same_from lo hi idx other w v e = absurd assumption
 
 pub place_apart : (block : Block) (bytes idx other : List ℕ) → IsBlock block bytes → IsWithin block.region.lo block.region.hi idx → IsWithin block.region.lo block.region.hi other → other ≢ idx
-    → place_in block other ≢ place_in block idx
+    → buffer_place block other ≢ buffer_place block idx
 place_apart block bytes idx other ok w v apart same =
     apart (same_from block.region.lo block.region.hi other idx v w
     (sym (index-place block.dims (differences other block.region.lo) (ok.inside other v)) ∙ ap (index_at block.dims) same ∙ index-place block.dims (differences idx block.region.lo) (ok.inside idx w)))
 
-pub place_fits : (block : Block) (bytes idx : List ℕ) → IsBlock block bytes → IsWithin block.region.lo block.region.hi idx → place_in block idx * size_of block.dtype + size_of block.dtype ≤ length bytes
+pub place_fits : (block : Block) (bytes idx : List ℕ) → IsBlock block bytes → IsWithin block.region.lo block.region.hi idx → buffer_place block idx * size_of block.dtype + size_of block.dtype ≤ length bytes
 place_fits block bytes idx ok w =
     let below = place-below block.dims (differences idx block.region.lo) (ok.inside idx w) in
-    let far : suc (place_in block idx) * size_of block.dtype ≤ product block.dims * size_of block.dtype = mul-le _ (size_of block.dtype) (product block.dims) (size_of block.dtype) below (omega arith) in
+    let far : suc (buffer_place block idx) * size_of block.dtype ≤ product block.dims * size_of block.dtype = mul-le _ (size_of block.dtype) (product block.dims) (size_of block.dtype) below (omega arith) in
     let long = ok.long in
     omega (arith, far, long)
 

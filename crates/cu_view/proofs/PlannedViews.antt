@@ -7,7 +7,7 @@ use Rattle.cu_pull.specs.Pull.{IsInSources}
 use Rattle.cu_pull.proofs.OriginsInside.{inside_sources}
 use Rattle.cu_op.specs.declared.layout.ArrayInfo.{ArrayInfo}
 use Rattle.cu_op.specs.declared.operation.Op.{Op}
-use Rattle.cu_op.specs.declared.operation.Op.TheVariants.{Map, Pull, Copy, Fold, Merge, PairFold, PairMerge, Mul}
+use Rattle.cu_op.specs.declared.operation.Op.TheVariants.{Pull}
 use Rattle.cu_op.specs.Arrays.{grid_at}
 use Rattle.cu_op.specs.Operation.{reads_of, writes_of, target_of, shapes_at}
 use Rattle.cu_op.specs.PlanView.{PlanView}
@@ -17,7 +17,7 @@ use Rattle.cu_op.specs.Value.{Elements, rule, plan_value, pulled}
 use Rattle.cu_op.proofs.Operations.{Fit}
 use Rattle.cu_op.proofs.Plans.{grid_ok}
 use Rattle.cu_op.proofs.Values.{value_solves}
-use Rattle.cu_view.specs.Planned.{IsPull, pull_origin, shape_at}
+use Rattle.cu_view.specs.Planned.{IsViewOperation, pull_origin, shape_at}
 use Rattle.cu_view.specs.View.{IsView, IsCounted}
 
 -- a pull is a view over the shapes of its arrays
@@ -35,43 +35,25 @@ view_over p k (Pull pull ins out) s fit few = record {
   source_sizes = All-map IsCounted (λ a. (grid_at p.arrays a).shape) ins.items (λ i d b. (grid_ok p (get_or ins.items i d) s (fit.0 i d b).0).elements);
   result_size = (grid_ok p out s (fit.1 0 0 (omega arith)).0).elements;
 }
-view_over p k (Map kernel ins out) s fit few = tt
-view_over p k (Copy region source out) s fit few = tt
-view_over p k (Fold kind axes source out) s fit few = tt
-view_over p k (Merge kind axis group source out) s fit few = tt
-view_over p k (PairFold least axis source values out) s fit few = tt
-view_over p k (PairMerge least axis group value_source place_source values out) s fit few = tt
-view_over p k (Mul left right out) s fit few = tt
+view_over p k op s fit few = tt
 
 -- what comes from a source comes from an index inside it
-pub pull_inside : (p : PlanView) (k : ℕ) (op : Op) (idx : List ℕ) → Fit p.arrays k op → IsPull op → IsInside (shape_at p.arrays (target_of op)) idx
+pub pull_inside : (p : PlanView) (k : ℕ) (op : Op) (idx : List ℕ) → Fit p.arrays k op → IsViewOperation op → IsInside (shape_at p.arrays (target_of op)) idx
     → IsInSources (shapes_at p.arrays (reads_of op)) (pull_origin p.arrays op idx)
 pull_inside p k (Pull pull ins out) idx fit is h = inside_sources pull (shapes_at p.arrays ins.items) (shape_at p.arrays out) idx fit.2.shapes h
-pull_inside p k (Map kernel ins out) idx fit is h = absurd is
-pull_inside p k (Copy region source out) idx fit is h = absurd is
-pull_inside p k (Fold kind axes source out) idx fit is h = absurd is
-pull_inside p k (Merge kind axis group source out) idx fit is h = absurd is
-pull_inside p k (PairFold least axis source values out) idx fit is h = absurd is
-pull_inside p k (PairMerge least axis group value_source place_source values out) idx fit is h = absurd is
-pull_inside p k (Mul left right out) idx fit is h = absurd is
+pull_inside p k op idx fit is h = absurd is
 
 -- its rule is the element at its origin
 record IsByOrigin (op : Op) (arrays : List ArrayInfo) : Type 0 where
   pub writes : Contains (writes_of op) (target_of op)
   pub rule_is : (at : Elements) (idx : List ℕ) → rule op arrays at (target_of op) idx ≡ pulled (reads_of op) at (pull_origin arrays op idx)
 
-by_origin : (op : Op) (arrays : List ArrayInfo) → IsPull op → IsByOrigin op arrays
+by_origin : (op : Op) (arrays : List ArrayInfo) → IsViewOperation op → IsByOrigin op arrays
 by_origin (Pull pull ins out) arrays is = record { writes = (0, omega arith, refl); rule_is = λ at idx. refl }
-by_origin (Map kernel ins out) arrays is = absurd is
-by_origin (Copy region source out) arrays is = absurd is
-by_origin (Fold kind axes source out) arrays is = absurd is
-by_origin (Merge kind axis group source out) arrays is = absurd is
-by_origin (PairFold least axis source values out) arrays is = absurd is
-by_origin (PairMerge least axis group value_source place_source values out) arrays is = absurd is
-by_origin (Mul left right out) arrays is = absurd is
+by_origin op arrays is = absurd is
 
 -- so is its result's value
-pub value_at_origin : (p : PlanView) (k : ℕ) (env : Elements) (idx : List ℕ) → Sound p → k < length p.ops → IsPull (op_of p k)
+pub value_at_origin : (p : PlanView) (k : ℕ) (env : Elements) (idx : List ℕ) → Sound p → k < length p.ops → IsViewOperation (op_of p k)
     → plan_value p env (target_of (op_of p k)) idx ≡ pulled (reads_of (op_of p k)) (plan_value p env) (pull_origin p.arrays (op_of p k) idx)
 value_at_origin p k env idx s h is =
     let o = by_origin (op_of p k) p.arrays is in

@@ -10,13 +10,10 @@ use Rattle.cu_pull.proofs.AxesInside.{inside_at, inside_from}
 
 pub region_from : (ns lo hi : List ℕ) → length lo ≡ length ns → length hi ≡ length ns → ((k : ℕ) → k < length ns → (get_or lo k 0 ≤ get_or hi k 0) × (get_or hi k 0 ≤ get_or ns k 0)) → IsRegion ns lo hi
 region_from [] [] [] p q h = tt
-region_from [] [] (h ∷ hs) p q f = absurd (omega arith)
-region_from [] (l ∷ ls) hs p q f = absurd (omega arith)
-region_from (n ∷ ns) [] hs p q f = absurd (omega arith)
-region_from (n ∷ ns) (l ∷ ls) [] p q f = absurd (omega arith)
 region_from (n ∷ ns) (l ∷ ls) (h ∷ hs) p q f =
     let a = f 0 (omega arith) in
     (a.0, a.1, region_from ns ls hs (omega arith) (omega arith) (λ k b. f (suc k) (omega arith)))
+region_from ns lo hi p q f = absurd (omega arith)
 
 -- a region's ends, read at an axis
 pub record Ends (ns lo hi : List ℕ) : Type 0 where
@@ -33,11 +30,8 @@ ends_more ns ls hs n l h p q e = record { lo_rank = ap suc e.lo_rank; hi_rank = 
 
 pub ends_of : (ns lo hi : List ℕ) → IsRegion ns lo hi → Ends ns lo hi
 ends_of [] [] [] r = record { lo_rank = refl; hi_rank = refl; at = λ k b. absurd (omega arith) }
-ends_of [] [] (h ∷ hs) r = absurd r
-ends_of [] (l ∷ ls) hs r = absurd r
-ends_of (n ∷ ns) [] hs r = absurd r
-ends_of (n ∷ ns) (l ∷ ls) [] r = absurd r
 ends_of (n ∷ ns) (l ∷ ls) (h ∷ hs) r = ends_more ns ls hs n l h r.0 r.1 (ends_of ns ls hs r.2)
+ends_of ns lo hi r = absurd r
 
 -- what lies in a region lies in the array
 pub inside_of : (ns lo hi idx : List ℕ) → IsRegion ns lo hi → IsWithin lo hi idx → IsInside ns idx

@@ -16,14 +16,14 @@ use Rattle.cu_pull.proofs.OriginsInside.{inside_sources}
 use Rattle.cu_view_box.specs.Piece.{read_at, HaveRanks}
 use Rattle.cu_view_box.specs.Reshape.{IsReshape}
 use Rattle.cu_view_box.specs.declared.piece.Piece.{Piece}
-use Rattle.cu_view.specs.Pieces.{ranges_of, range_at, source_in, pieces_of, number_at, HasAxes, IsShown, IsNumbered}
+use Rattle.cu_view.specs.Pieces.{ranges_of, range_at, source_number, pieces_of, number_at, HasAxes, IsShown, IsNumbered}
 use Rattle.cu_view.specs.View.{IsView}
 use Rattle.cu_view.proofs.Fitting.{one_source, counted}
 use Rattle.cu_view.proofs.Ranges.{ends_of}
 use Rattle.cu_view.proofs.Rolls.{ranges_inside}
 
 pub same_from : (p : Provenance) (a b : ℕ) (x y : List ℕ) → p ≡ From a x → p ≡ From b y → (a ≡ b) × (x ≡ y)
-same_from p a b x y e f = (ap source_in (sym e ∙ f), ap index_of (sym e ∙ f))
+same_from p a b x y e f = (ap source_number (sym e ∙ f), ap index_of (sym e ∙ f))
   where
     index_of : Provenance → List ℕ
     index_of (From s i) = i
@@ -38,10 +38,10 @@ shown_from (Triangle lower k) sources shape idx s i e =
     ]
 shown_from pull sources shape idx s i e = tt
 
-from_below : (pull : Pull) (sources : List (List ℕ)) (shape idx : List ℕ) (s : ℕ) (i : List ℕ) → FitsPull pull sources shape → IsInside shape idx → origin_of pull sources shape idx ≡ From s i → source_in (origin_of pull sources shape idx) < length sources
+from_below : (pull : Pull) (sources : List (List ℕ)) (shape idx : List ℕ) (s : ℕ) (i : List ℕ) → FitsPull pull sources shape → IsInside shape idx → origin_of pull sources shape idx ≡ From s i → source_number (origin_of pull sources shape idx) < length sources
 from_below pull sources shape idx s i f h e =
     let w = subst (λ (p : Provenance). IsInSources sources p) e (inside_sources pull sources shape idx f h) in
-    subst (λ (p : Provenance). source_in p < length sources) (sym e) w.0
+    subst (λ (p : Provenance). source_number p < length sources) (sym e) w.0
 
 -- an element that comes from a source lies in one of the pieces
 pub number_below : (pull : Pull) (sources : List (List ℕ)) (shape idx : List ℕ) (s : ℕ) (i : List ℕ) → FitsPull pull sources shape → IsInside shape idx → pull ≢ Reshape → origin_of pull sources shape idx ≡ From s i → number_at pull sources shape idx < pieces_of pull sources shape

@@ -4,6 +4,6 @@ use Rattle.cu_grid.specs.Counts.{IsWithin}
 use Rattle.cu_grid.specs.declared.region.Region.{Region}
 
 -- there is a region, and it holds the index
-abbrev pub Covers : Option Region → List ℕ → Type 0
-Covers None idx = ⊥
-Covers (Some r) idx = IsWithin r.lo r.hi idx
+abbrev pub HoldsIndex : Option Region → List ℕ → Type 0
+HoldsIndex None idx = ⊥
+HoldsIndex (Some r) idx = IsWithin r.lo r.hi idx

@@ -9,7 +9,7 @@ use Rattle.cu_pull.specs.declared.provenance.Provenance.{Provenance}
 use Rattle.cu_pull.specs.declared.provenance.Provenance.TheVariants.{From, Const}
 use Rattle.cu_pull.specs.declared.pull.Pull.{Pull}
 use Rattle.cu_pull.specs.declared.pull.Pull.TheVariants.{Reshape, Concat, Stack, Roll, Triangle, Full, Arange, Eye}
-use Rattle.cu_view_box.specs.Piece.{read_at, IsPiece}
+use Rattle.cu_view_box.specs.Piece.{read_at, IsPieceOfResult}
 use Rattle.cu_view_box.specs.declared.piece.Piece.{Piece}
 
 -- how far an axis is rolled towards its end, below its size
@@ -34,9 +34,9 @@ abbrev pub range_at : List ℤ → List ℕ → List ℕ → List ℕ
 range_at shifts shape idx = for_each_axis (length shape) (range_on shifts shape idx)
 
 -- the number of a source that an element comes from, 0 for a number
-abbrev pub source_in : Provenance → ℕ
-source_in (From s i) = s
-source_in (Const x) = 0
+abbrev pub source_number : Provenance → ℕ
+source_number (From s i) = s
+source_number (Const x) = 0
 
 -- how many pieces a result has: views of one array have one, concat and stack one a source, a roll one for each way to choose a
 -- range on each axis; a reshape and what is made from nothing aren't parted so
@@ -53,8 +53,8 @@ pieces_of pull sources shape = 1
 -- the number of the piece in which an index of the result lies
 abbrev pub number_at : Pull → List (List ℕ) → List ℕ → List ℕ → ℕ
 number_at (Roll shifts) sources shape idx = place_of (ranges_of shifts.items shape) (range_at shifts.items shape idx)
-number_at (Concat axis) sources shape idx = source_in (origin_of (Concat axis) sources shape idx)
-number_at (Stack axis) sources shape idx = source_in (origin_of (Stack axis) sources shape idx)
+number_at (Concat axis) sources shape idx = source_number (origin_of (Concat axis) sources shape idx)
+number_at (Stack axis) sources shape idx = source_number (origin_of (Stack axis) sources shape idx)
 number_at pull sources shape idx = 0
 
 -- the result has its source's element here, and not the 0 outside a triangle
@@ -70,7 +70,7 @@ HasAxes pull rank = Unit {0}
 -- a piece by its number: its box has exactly the indices with this number, and what it reads there is where the element comes from,
 -- but for those outside a triangle
 pub record IsNumbered (pull : Pull) (sources : List (List ℕ)) (shape : List ℕ) (number : ℕ) (piece : Piece) : Type 0 where
-  pub is_piece : IsPiece shape sources piece
+  pub is_piece : IsPieceOfResult shape sources piece
   pub rank : length piece.ways.items ≡ length (slice_index_or sources piece.source [])
   pub exactly : (idx : List ℕ) → IsInside shape idx → IsWithin piece.region.lo piece.region.hi idx ↔ (number_at pull sources shape idx ≡ number)
   pub comes : (idx : List ℕ) → IsWithin piece.region.lo piece.region.hi idx → IsShown pull idx → origin_of pull sources shape idx ≡ From piece.source (read_at piece idx)

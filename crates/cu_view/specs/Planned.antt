@@ -10,9 +10,9 @@ use Rattle.cu_op.specs.Arrays.{grid_at}
 use Rattle.cu_op.specs.Operation.{origin_at}
 
 -- the operation is a view
-abbrev pub IsPull : Op → Type 0
-IsPull (Pull pull ins out) = Unit {0}
-IsPull op = ⊥
+abbrev pub IsViewOperation : Op → Type 0
+IsViewOperation (Pull pull ins out) = Unit {0}
+IsViewOperation op = ⊥
 
 -- from where the element of its result at this index comes; of an operation that isn't a view it means nothing
 abbrev pub pull_origin : List ArrayInfo → Op → List ℕ → Provenance

@@ -5,7 +5,7 @@ ghost use Rattle.cu_grid.specs.Counts.{IsRegion, IsWithin};
 ghost use Rattle.cu_pull.specs.Fits.{FitsConcat};
 ghost use Rattle.cu_pull.specs.Pull.{concat_from};
 ghost use Rattle.cu_view.specs.Boxes.{first_on, offset_of, range_begin, source_of};
-ghost use Rattle.cu_view.specs.Pieces.{turn_of, ranges_of, range_at, source_in, pieces_of, number_at};
+ghost use Rattle.cu_view.specs.Pieces.{turn_of, ranges_of, range_at, source_number, pieces_of, number_at};
 ghost use Rattle.cu_view.specs.View.{IsView};
 
 use cu_grid::Region;
@@ -77,7 +77,7 @@ fn concat_box(axis: u32, sources: &[Dims], shape: &Dims, number: u64) -> Region
     requires number { number < length sources.now }
     ensures first { (d : ℕ) → slice_index result.lo d ≡ (if d == axis then offset_of axis sources.now number else 0) }
     ensures region { IsRegion shape.now result.lo result.hi }
-    ensures exactly { (idx : List ℕ) → IsInside shape.now idx → IsWithin result.lo result.hi idx ↔ (source_in (concat_from axis 0 sources.now idx) ≡ number) }
+    ensures exactly { (idx : List ℕ) → IsInside shape.now idx → IsWithin result.lo result.hi idx ↔ (source_number (concat_from axis 0 sources.now idx) ≡ number) }
 {
     let from = offset(axis, sources, number as usize, shape.at(axis));
     range(shape, axis, from, from + sources[number as usize].at(axis))

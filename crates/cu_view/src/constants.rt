@@ -4,7 +4,7 @@ ghost use Rattle.cu_num.specs.Element.{bytes_at, element_bytes};
 ghost use Rattle.cu_grid.specs.Counts.{IsRegion, IsWithin};
 ghost use Rattle.cu_pull.specs.Pull.{origin_of};
 ghost use Rattle.cu_pull.specs.declared.provenance.Provenance.TheVariants.{Const};
-ghost use Rattle.cu_view_box.specs.Block.{place_in, IsBlock};
+ghost use Rattle.cu_view_box.specs.Block.{buffer_place, IsBlock};
 ghost use Rattle.cu_view.specs.View.{IsView};
 
 use crate::fills::{fill, fill_with_terms};
@@ -21,7 +21,7 @@ pub fn lay_constants(pull: &Pull, sources: &[Dims], shape: &Dims, to: &Block, ou
     requires to_region { IsRegion shape.now to.now.region.lo to.now.region.hi }
     requires to_block { IsBlock to.now output.old }
     ensures laid { (idx : List ℕ) (x : ℤ) → IsWithin to.now.region.lo to.now.region.hi idx → origin_of pull.now sources.now shape.now idx ≡ Const x
-        → bytes_at to.now.dtype output.new (place_in to.now idx) ≡ element_bytes Endian.Little to.now.dtype x }
+        → bytes_at to.now.dtype output.new (buffer_place to.now idx) ≡ element_bytes Endian.Little to.now.dtype x }
     ensures same_length { length output.new ≡ length output.old }
 {
     match pull {

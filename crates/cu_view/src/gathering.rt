@@ -1,18 +1,17 @@
 //! The elements of a result that come from a block of a source.
-ghost use Rattle.std.specs.Prelude.{◌≡◌, ◌≢◌, ◌<◌, [], ℕ, List, All, length, slice_index_or};
+ghost use Rattle.std.specs.Prelude.{◌≡◌, ◌<◌, [], ℕ, List, All, length, slice_index_or};
 ghost use Rattle.cu_num.specs.Element.{bytes_at, element_at, element_bytes};
 ghost use Rattle.cu_grid.specs.Counts.{IsRegion, IsWithin};
 ghost use Rattle.cu_pull.specs.Pull.{origin_of};
-ghost use Rattle.cu_pull.specs.declared.pull.Pull.TheVariants.{Reshape};
 ghost use Rattle.cu_pull.specs.declared.provenance.Provenance.TheVariants.{From};
-ghost use Rattle.cu_view_box.specs.Block.{place_in, IsBlock, IsMove, AreSpelled};
-ghost use Rattle.cu_view_box.specs.Piece.{HaveRanks, IsShared, IsWayOver};
-ghost use Rattle.cu_view.specs.Gathered.{HasMoved, IsSame};
+ghost use Rattle.cu_view_box.specs.Block.{buffer_place, IsBlock, IsMove, AreSpelled};
+ghost use Rattle.cu_view_box.specs.Piece.{HaveRanks, IsSharedIndex, IsWayOver};
+ghost use Rattle.cu_view.specs.Gathered.{HasMoved, IsElementKept};
 ghost use Rattle.cu_view.specs.Pieces.{HasAxes, IsShown};
 ghost use Rattle.cu_view.specs.View.{IsView};
 
 use crate::pieces::{piece_at, piece_count};
-use crate::triangles::copy_triangle;
+use crate::triangles::{Copying, copy_triangle};
 use cu_grid::Region;
 use cu_num::Endian;
 use cu_pull::Pull;
@@ -40,62 +39,24 @@ pub fn gather(
     requires spelled { from.now.dtype ≡ to.now.dtype → AreSpelled from.now.dtype bytes.now }
     ensures moved { (idx i : List ℕ) → IsWithin to.now.region.lo to.now.region.hi idx → origin_of pull.now sources.now shape.now idx ≡ From source i
         → IsWithin from.now.region.lo from.now.region.hi i
-        → bytes_at to.now.dtype output.new (place_in to.now idx) ≡ element_bytes Endian.Little to.now.dtype (element_at Endian.Little from.now.dtype bytes.now (place_in from.now i)) }
+        → bytes_at to.now.dtype output.new (buffer_place to.now idx) ≡ element_bytes Endian.Little to.now.dtype (element_at Endian.Little from.now.dtype bytes.now (buffer_place from.now i)) }
     ensures others { (idx : List ℕ) → IsWithin to.now.region.lo to.now.region.hi idx
         → ((i : List ℕ) → origin_of pull.now sources.now shape.now idx ≡ From source i → ¬ IsWithin from.now.region.lo from.now.region.hi i)
-        → bytes_at to.now.dtype output.new (place_in to.now idx) ≡ bytes_at to.now.dtype output.old (place_in to.now idx) }
+        → bytes_at to.now.dtype output.new (buffer_place to.now idx) ≡ bytes_at to.now.dtype output.old (buffer_place to.now idx) }
     ensures same_length { length output.new ≡ length output.old }
 {
     match pull {
         Pull::Reshape => reshape_gather(&sources[0], shape, from, bytes, to, output),
-        Pull::Full { .. } | Pull::Arange { .. } | Pull::Eye { .. } => {}
-        Pull::Slice { .. }
-        | Pull::Permute { .. }
-        | Pull::Concat { .. }
-        | Pull::Stack { .. }
-        | Pull::Flip { .. }
-        | Pull::Roll { .. }
-        | Pull::Broadcast
-        | Pull::Triangle { .. } => gather_pieces(
-            pull, sources, shape, source, from, bytes, to, output,
-        ),
+        _ => {
+            for number in 0..piece_count(pull, sources, shape) {
+                let piece = piece_at(pull, sources, shape, number);
+                gather_piece(pull, &piece, source, from, bytes, to, output);
+            }
+        }
     }
 }
 
-/// The same of a view that is parted into pieces, one piece after another.
-fn gather_pieces(
-    pull: &Pull,
-    sources: &[Dims],
-    shape: &Dims,
-    source: u32,
-    from: &Block,
-    bytes: &[u8],
-    to: &Block,
-    output: &mut [u8],
-)
-    requires parted { pull.now ≢ Reshape }
-    requires view { IsView pull.now sources.now shape.now }
-    requires source { source < length sources.now }
-    requires from_region { IsRegion (slice_index_or sources.now source []) from.now.region.lo from.now.region.hi }
-    requires to_region { IsRegion shape.now to.now.region.lo to.now.region.hi }
-    requires from_block { IsBlock from.now bytes.now }
-    requires to_block { IsBlock to.now output.old }
-    requires spelled { from.now.dtype ≡ to.now.dtype → AreSpelled from.now.dtype bytes.now }
-    ensures moved { (idx i : List ℕ) → IsWithin to.now.region.lo to.now.region.hi idx → origin_of pull.now sources.now shape.now idx ≡ From source i
-        → IsWithin from.now.region.lo from.now.region.hi i
-        → bytes_at to.now.dtype output.new (place_in to.now idx) ≡ element_bytes Endian.Little to.now.dtype (element_at Endian.Little from.now.dtype bytes.now (place_in from.now i)) }
-    ensures others { (idx : List ℕ) → IsWithin to.now.region.lo to.now.region.hi idx
-        → ((i : List ℕ) → origin_of pull.now sources.now shape.now idx ≡ From source i → ¬ IsWithin from.now.region.lo from.now.region.hi i)
-        → bytes_at to.now.dtype output.new (place_in to.now idx) ≡ bytes_at to.now.dtype output.old (place_in to.now idx) }
-    ensures same_length { length output.new ≡ length output.old }
-{
-    for number in 0..piece_count(pull, sources, shape) {
-        let piece = piece_at(pull, sources, shape, number);
-        gather_piece(pull, &piece, source, from, bytes, to, output);
-    }
-}
-
-/// The same of one piece.
+/// The same of one piece of a view that is parted into pieces.
 fn gather_piece(
     pull: &Pull,
     piece: &Piece,
@@ -111,11 +72,11 @@ fn gather_piece(
     requires from_block { IsBlock from.now bytes.now }
     requires to_block { IsBlock to.now output.old }
     requires spelled { from.now.dtype ≡ to.now.dtype → AreSpelled from.now.dtype bytes.now }
-    ensures moved { (idx : List ℕ) → piece.now.source ≡ source → IsShared piece.now to.now.region.lo to.now.region.hi from.now.region.lo from.now.region.hi idx → IsShown pull.now idx
+    ensures moved { (idx : List ℕ) → piece.now.source ≡ source → IsSharedIndex piece.now to.now.region.lo to.now.region.hi from.now.region.lo from.now.region.hi idx → IsShown pull.now idx
         → HasMoved piece.now from.now bytes.now to.now output.new idx }
     ensures others { (idx : List ℕ) → IsWithin to.now.region.lo to.now.region.hi idx
-        → (piece.now.source ≡ source → IsShared piece.now to.now.region.lo to.now.region.hi from.now.region.lo from.now.region.hi idx → ¬ IsShown pull.now idx)
-        → IsSame to.now output.old output.new idx }
+        → (piece.now.source ≡ source → IsSharedIndex piece.now to.now.region.lo to.now.region.hi from.now.region.lo from.now.region.hi idx → ¬ IsShown pull.now idx)
+        → IsElementKept to.now output.old output.new idx }
 {
     if piece.source != source {
         return;
@@ -143,11 +104,17 @@ fn copy_shown(
     requires spelled { from.now.dtype ≡ to.now.dtype → AreSpelled from.now.dtype bytes.now }
     ensures moved { (idx : List ℕ) → IsWithin shared.now.lo shared.now.hi idx → IsShown pull.now idx → HasMoved piece.now from.now bytes.now to.now output.new idx }
     ensures others { (idx : List ℕ) → IsWithin to.now.region.lo to.now.region.hi idx → (IsWithin shared.now.lo shared.now.hi idx → ¬ IsShown pull.now idx)
-        → IsSame to.now output.old output.new idx }
+        → IsElementKept to.now output.old output.new idx }
 {
     match pull {
         Pull::Triangle { lower, k } => {
-            copy_triangle(*lower, *k, piece, shared, from, bytes, to, output)
+            let copying = Copying {
+                piece,
+                from,
+                bytes,
+                to,
+            };
+            copy_triangle(*lower, *k, &copying, shared, output)
         }
         _ => copy_box(piece, shared, from, bytes, to, output),
     }

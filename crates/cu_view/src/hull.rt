@@ -6,7 +6,7 @@ ghost use Rattle.cu_pull.specs.Pull.{origin_of};
 ghost use Rattle.cu_pull.specs.declared.provenance.Provenance.TheVariants.{From};
 ghost use Rattle.cu_shape.specs.Index.{IsInside};
 ghost use Rattle.cu_view_box.specs.Piece.{read_at, HaveRanks, IsWayOver};
-ghost use Rattle.cu_view.specs.Hull.{Covers};
+ghost use Rattle.cu_view.specs.Hull.{HoldsIndex};
 ghost use Rattle.cu_view.specs.View.{IsView};
 
 use crate::boxes::whole;
@@ -54,7 +54,7 @@ fn piece_hull(piece: &Piece, source: u32, out: &Region, shape: &Dims) -> Option<
     requires ways { All (IsWayOver piece.now.region.lo piece.now.region.hi) piece.now.ways.items }
     requires inside { (idx : List ℕ) → piece.now.source ≡ source → IsWithin piece.now.region.lo piece.now.region.hi idx → IsInside shape.now (read_at piece.now idx) }
     ensures region { IfSome result (λ r. IsRegion shape.now r.lo r.hi) }
-    ensures covers { (idx : List ℕ) → piece.now.source ≡ source → IsWithin piece.now.region.lo piece.now.region.hi idx → IsWithin out.now.lo out.now.hi idx → Covers result (read_at piece.now idx) }
+    ensures covers { (idx : List ℕ) → piece.now.source ≡ source → IsWithin piece.now.region.lo piece.now.region.hi idx → IsWithin out.now.lo out.now.hi idx → HoldsIndex result (read_at piece.now idx) }
 {
     if piece.source != source {
         return None;
@@ -70,8 +70,8 @@ fn joined(a: Option<Region>, b: Option<Region>, shape: &Dims) -> Option<Region>
     requires a { IfSome a (λ r. IsRegion shape.now r.lo r.hi) }
     requires b { IfSome b (λ r. IsRegion shape.now r.lo r.hi) }
     ensures region { IfSome result (λ r. IsRegion shape.now r.lo r.hi) }
-    ensures first { (idx : List ℕ) → Covers a idx → Covers result idx }
-    ensures second { (idx : List ℕ) → Covers b idx → Covers result idx }
+    ensures first { (idx : List ℕ) → HoldsIndex a idx → HoldsIndex result idx }
+    ensures second { (idx : List ℕ) → HoldsIndex b idx → HoldsIndex result idx }
 {
     match a {
         None => b,

@@ -5,7 +5,7 @@ ghost use Rattle.std.specs.Ordering.{int_eq};
 ghost use Rattle.cu_num.specs.Element.{bytes_at, element_bytes};
 ghost use Rattle.cu_grid.specs.Counts.{IsWithin};
 ghost use Rattle.cu_pull.specs.Pull.{diagonal_of};
-ghost use Rattle.cu_view_box.specs.Block.{place_in, IsBlock};
+ghost use Rattle.cu_view_box.specs.Block.{buffer_place, IsBlock};
 
 use crate::elements::put;
 use crate::fills::fill;
@@ -18,7 +18,7 @@ pub(crate) fn lay_eye(k: i64, to: &Block, output: &mut [u8])
     requires same_rank { length to.now.region.hi ≡ 2 }
     requires to_block { IsBlock to.now output.old }
     ensures laid { (idx : List ℕ) → IsWithin to.now.region.lo to.now.region.hi idx
-        → bytes_at to.now.dtype output.new (place_in to.now idx) ≡ element_bytes Endian.Little to.now.dtype (if int_eq (diagonal_of idx) k then pos 1 else pos 0) }
+        → bytes_at to.now.dtype output.new (buffer_place to.now idx) ≡ element_bytes Endian.Little to.now.dtype (if int_eq (diagonal_of idx) k then pos 1 else pos 0) }
     ensures same_length { length output.new ≡ length output.old }
 {
     fill(to.dtype, 0, output);
@@ -35,9 +35,9 @@ fn lay_one(k: i64, row: u64, to: &Block, output: &mut [u8])
     requires end { row < slice_index to.now.region.hi 0 }
     requires to_block { IsBlock to.now output.old }
     ensures here { (idx : List ℕ) → IsWithin to.now.region.lo to.now.region.hi idx → slice_index idx 0 ≡ row → diagonal_of idx ≡ k
-        → bytes_at to.now.dtype output.new (place_in to.now idx) ≡ element_bytes Endian.Little to.now.dtype (pos 1) }
+        → bytes_at to.now.dtype output.new (buffer_place to.now idx) ≡ element_bytes Endian.Little to.now.dtype (pos 1) }
     ensures others { (idx : List ℕ) → IsWithin to.now.region.lo to.now.region.hi idx → (slice_index idx 0 ≡ row → diagonal_of idx ≢ k)
-        → bytes_at to.now.dtype output.new (place_in to.now idx) ≡ bytes_at to.now.dtype output.old (place_in to.now idx) }
+        → bytes_at to.now.dtype output.new (buffer_place to.now idx) ≡ bytes_at to.now.dtype output.old (buffer_place to.now idx) }
     ensures same_length { length output.new ≡ length output.old }
 {
     match column_of(k, row, to.region.lo.at(1), to.region.hi.at(1)) {
@@ -63,9 +63,9 @@ fn put_one(row: u64, column: u64, to: &Block, output: &mut [u8])
     requires axes { length to.now.region.lo ≡ 2 }
     requires within { IsWithin to.now.region.lo to.now.region.hi (slice_set (slice_set to.now.region.lo 0 row) 1 column) }
     requires to_block { IsBlock to.now output.old }
-    ensures here { bytes_at to.now.dtype output.new (place_in to.now (slice_set (slice_set to.now.region.lo 0 row) 1 column)) ≡ element_bytes Endian.Little to.now.dtype (pos 1) }
+    ensures here { bytes_at to.now.dtype output.new (buffer_place to.now (slice_set (slice_set to.now.region.lo 0 row) 1 column)) ≡ element_bytes Endian.Little to.now.dtype (pos 1) }
     ensures others { (other : List ℕ) → IsWithin to.now.region.lo to.now.region.hi other → other ≢ slice_set (slice_set to.now.region.lo 0 row) 1 column
-        → bytes_at to.now.dtype output.new (place_in to.now other) ≡ bytes_at to.now.dtype output.old (place_in to.now other) }
+        → bytes_at to.now.dtype output.new (buffer_place to.now other) ≡ bytes_at to.now.dtype output.old (buffer_place to.now other) }
     ensures same_length { length output.new ≡ length output.old }
 {
     let first = to.region.lo.changed(0, row);

@@ -8,7 +8,7 @@ ghost use Rattle.cu_op.specs.Operation.{reads_of, target_of, shapes_at};
 ghost use Rattle.cu_op.specs.Schedule.{op_of};
 ghost use Rattle.cu_op.specs.Value.{Elements, plan_value, pulled};
 ghost use Rattle.cu_view_box.specs.Reshape.{MeetsRun};
-ghost use Rattle.cu_view.specs.Planned.{IsPull, Reshapes, pull_origin, shape_at};
+ghost use Rattle.cu_view.specs.Planned.{IsViewOperation, Reshapes, pull_origin, shape_at};
 
 use crate::origins::origin_of;
 use crate::touching::touches_of;
@@ -22,7 +22,7 @@ use cu_shape::Dims;
 /// the result's value at the index is that element's, or the number.
 pub fn origin(plan: &Plan, op: u32, idx: &Dims) -> Provenance
     requires operation { op < length plan.now.ops }
-    requires pull { IsPull (op_of plan.now op) }
+    requires pull { IsViewOperation (op_of plan.now op) }
     requires inside { IsInside (shape_at plan.now.arrays (target_of (op_of plan.now op))) idx.now }
     ensures origin { result ≡ pull_origin plan.now.arrays (op_of plan.now op) idx.now }
     ensures inside { IsInSources (shapes_at plan.now.arrays (reads_of (op_of plan.now op))) result }
@@ -43,7 +43,7 @@ pub fn origin(plan: &Plan, op: u32, idx: &Dims) -> Provenance
 /// elements stand together in row-major order.
 pub fn touches(plan: &Plan, op: u32, source: u32, out: &Region, part: &Region) -> bool
     requires operation { op < length plan.now.ops }
-    requires pull { IsPull (op_of plan.now op) }
+    requires pull { IsViewOperation (op_of plan.now op) }
     requires source { source < length (reads_of (op_of plan.now op)) }
     requires out { IsRegion (shape_at plan.now.arrays (target_of (op_of plan.now op))) out.now.lo out.now.hi }
     requires part { IsRegion (shape_at plan.now.arrays (slice_index (reads_of (op_of plan.now op)) source)) part.now.lo part.now.hi }

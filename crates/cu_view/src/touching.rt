@@ -5,7 +5,7 @@ ghost use Rattle.cu_pull.specs.Pull.{origin_of};
 ghost use Rattle.cu_pull.specs.declared.provenance.Provenance.TheVariants.{From};
 ghost use Rattle.cu_pull.specs.declared.pull.Pull.TheVariants.{Reshape};
 ghost use Rattle.cu_view_box.specs.Reshape.{MeetsRun};
-ghost use Rattle.cu_view_box.specs.Piece.{HaveRanks, IsShared, IsWayOver};
+ghost use Rattle.cu_view_box.specs.Piece.{HaveRanks, IsSharedIndex, IsWayOver};
 ghost use Rattle.cu_view.specs.Pieces.{HasAxes, IsShown};
 ghost use Rattle.cu_view.specs.View.{IsView};
 
@@ -54,8 +54,8 @@ fn piece_touches(pull: &Pull, piece: &Piece, source: u32, out: &Region, part: &R
     requires ranks { piece.now.source ≡ source → HaveRanks piece.now out.now part.now }
     requires ways { All (IsWayOver piece.now.region.lo piece.now.region.hi) piece.now.ways.items }
     requires axes { HasAxes pull.now (length piece.now.region.lo) }
-    ensures some { (idx : List ℕ) → piece.now.source ≡ source → IsShared piece.now out.now.lo out.now.hi part.now.lo part.now.hi idx → IsShown pull.now idx → IsTrue result }
-    ensures only { IsTrue result → (piece.now.source ≡ source) × ((idx : List ℕ) × IsShared piece.now out.now.lo out.now.hi part.now.lo part.now.hi idx × IsShown pull.now idx) }
+    ensures some { (idx : List ℕ) → piece.now.source ≡ source → IsSharedIndex piece.now out.now.lo out.now.hi part.now.lo part.now.hi idx → IsShown pull.now idx → IsTrue result }
+    ensures only { IsTrue result → (piece.now.source ≡ source) × ((idx : List ℕ) × IsSharedIndex piece.now out.now.lo out.now.hi part.now.lo part.now.hi idx × IsShown pull.now idx) }
 {
     if piece.source != source {
         return false;

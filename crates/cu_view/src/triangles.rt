@@ -3,64 +3,68 @@ ghost use Rattle.std.specs.Prelude.{◌≡◌, ◌<◌, ◌≤◌, ◌↔◌, �
 ghost use Rattle.cu_grid.specs.Counts.{IsWithin};
 ghost use Rattle.cu_pull.specs.Pull.{is_in_triangle};
 ghost use Rattle.cu_view_box.specs.Block.{IsBlock, IsMove, AreSpelled};
-ghost use Rattle.cu_view.specs.Gathered.{HasMoved, IsSame, is_cell};
+ghost use Rattle.cu_view.specs.Gathered.{HasMoved, IsElementKept, is_cell};
 
 use cu_grid::Region;
 use cu_view_box::{Block, Piece, copy_box};
+
+/// What is copied: a piece's elements, out of the bytes of a block of its source, into a block of the result.
+#[derive(Clone, Copy)]
+pub(crate) struct Copying<'a> {
+    pub piece: &'a Piece,
+    pub from: &'a Block,
+    pub bytes: &'a [u8],
+    pub to: &'a Block,
+}
 
 /// Copies the elements of a part of a piece that lie in a triangle of the last two axes, one row of it after another.
 pub(crate) fn copy_triangle(
     lower: bool,
     k: i64,
-    piece: &Piece,
+    copying: &Copying<'_>,
     part: &Region,
-    from: &Block,
-    bytes: &[u8],
-    to: &Block,
     output: &mut [u8],
 )
-    requires moves { IsMove piece.now part.now from.now to.now }
+    requires moves { IsMove copying.now.piece.now part.now copying.now.from.now copying.now.to.now }
     requires axes { 2 ≤ length part.now.lo }
-    requires from_block { IsBlock from.now bytes.now }
-    requires to_block { IsBlock to.now output.old }
-    requires spelled { from.now.dtype ≡ to.now.dtype → AreSpelled from.now.dtype bytes.now }
-    ensures moved { (idx : List ℕ) → IsWithin part.now.lo part.now.hi idx → IsTrue (is_in_triangle lower k idx) → HasMoved piece.now from.now bytes.now to.now output.new idx }
-    ensures others { (idx : List ℕ) → IsWithin to.now.region.lo to.now.region.hi idx → (IsWithin part.now.lo part.now.hi idx → ¬ IsTrue (is_in_triangle lower k idx))
-        → IsSame to.now output.old output.new idx }
+    requires from_block { IsBlock copying.now.from.now copying.now.bytes.now }
+    requires to_block { IsBlock copying.now.to.now output.old }
+    requires spelled { copying.now.from.now.dtype ≡ copying.now.to.now.dtype → AreSpelled copying.now.from.now.dtype copying.now.bytes.now }
+    ensures moved { (idx : List ℕ) → IsWithin part.now.lo part.now.hi idx → IsTrue (is_in_triangle lower k idx) → HasMoved copying.now.piece.now copying.now.from.now copying.now.bytes.now copying.now.to.now output.new idx }
+    ensures others { (idx : List ℕ) → IsWithin copying.now.to.now.region.lo copying.now.to.now.region.hi idx → (IsWithin part.now.lo part.now.hi idx → ¬ IsTrue (is_in_triangle lower k idx))
+        → IsElementKept copying.now.to.now output.old output.new idx }
 {
     let axis = part.lo.rank() - 2;
     for row in part.lo.at(axis)..part.hi.at(axis) {
         let one = cut(part, axis, row, row + 1);
-        copy_row(lower, k, row, piece, &one, from, bytes, to, output);
+        copy_row(lower, k, row, copying, &one, output);
     }
 }
 
 /// The same of a part that has one row.
-fn copy_row(
-    lower: bool,
-    k: i64,
-    row: u64,
-    piece: &Piece,
-    part: &Region,
-    from: &Block,
-    bytes: &[u8],
-    to: &Block,
-    output: &mut [u8],
-)
-    requires moves { IsMove piece.now part.now from.now to.now }
+fn copy_row(lower: bool, k: i64, row: u64, copying: &Copying<'_>, part: &Region, output: &mut [u8])
+    requires moves { IsMove copying.now.piece.now part.now copying.now.from.now copying.now.to.now }
     requires axes { 2 ≤ length part.now.lo }
     requires row { (idx : List ℕ) → IsWithin part.now.lo part.now.hi idx → slice_index idx (length part.now.lo - 2) ≡ row }
-    requires from_block { IsBlock from.now bytes.now }
-    requires to_block { IsBlock to.now output.old }
-    requires spelled { from.now.dtype ≡ to.now.dtype → AreSpelled from.now.dtype bytes.now }
-    ensures moved { (idx : List ℕ) → IsWithin part.now.lo part.now.hi idx → IsTrue (is_in_triangle lower k idx) → HasMoved piece.now from.now bytes.now to.now output.new idx }
-    ensures others { (idx : List ℕ) → IsWithin to.now.region.lo to.now.region.hi idx → (IsWithin part.now.lo part.now.hi idx → ¬ IsTrue (is_in_triangle lower k idx))
-        → IsSame to.now output.old output.new idx }
+    requires from_block { IsBlock copying.now.from.now copying.now.bytes.now }
+    requires to_block { IsBlock copying.now.to.now output.old }
+    requires spelled { copying.now.from.now.dtype ≡ copying.now.to.now.dtype → AreSpelled copying.now.from.now.dtype copying.now.bytes.now }
+    ensures moved { (idx : List ℕ) → IsWithin part.now.lo part.now.hi idx → IsTrue (is_in_triangle lower k idx) → HasMoved copying.now.piece.now copying.now.from.now copying.now.bytes.now copying.now.to.now output.new idx }
+    ensures others { (idx : List ℕ) → IsWithin copying.now.to.now.region.lo copying.now.to.now.region.hi idx → (IsWithin part.now.lo part.now.hi idx → ¬ IsTrue (is_in_triangle lower k idx))
+        → IsElementKept copying.now.to.now output.old output.new idx }
 {
     let last = part.lo.rank() - 1;
     let (lo, hi) = columns(lower, k, row, part.lo.at(last), part.hi.at(last));
     if lo < hi {
-        copy_box(piece, &cut(part, last, lo, hi), from, bytes, to, output);
+        let shown = cut(part, last, lo, hi);
+        copy_box(
+            copying.piece,
+            &shown,
+            copying.from,
+            copying.bytes,
+            copying.to,
+            output,
+        );
     }
 }
 

@@ -10,20 +10,16 @@ pub at_axis : (lo hi idx : List ℕ) (k : ℕ) → IsWithin lo hi idx → k < le
 at_axis lo hi idx k w b = let v = within_of lo hi idx w in let r = v.lo_rank in v.at k (omega arith)
 
 cut_in : (lo hi idx : List ℕ) (k l h : ℕ) → length hi ≡ length lo → k < length lo → IsWithin lo hi idx → l ≤ get_or idx k 0 → get_or idx k 0 < h → IsWithin (set lo k l) (set hi k h) idx
-cut_in [] hi idx k l h e b w p q = absurd (omega arith)
-cut_in (x ∷ lo) [] idx k l h e b w p q = absurd (omega arith)
-cut_in (x ∷ lo) (y ∷ hi) [] k l h e b w p q = absurd w
 cut_in (x ∷ lo) (y ∷ hi) (i ∷ idx) zero l h e b w p q = (p, q, w.2)
 cut_in (x ∷ lo) (y ∷ hi) (i ∷ idx) (suc k) l h e b w p q = (w.0, w.1, cut_in lo hi idx k l h (omega arith) (omega arith) w.2 p q)
+cut_in lo hi idx k l h e b w p q = absurd (first_of (assumption, omega arith))
 
 cut_out : (lo hi idx : List ℕ) (k l h : ℕ) → length hi ≡ length lo → k < length lo → get_or lo k 0 ≤ l → h ≤ get_or hi k 0 → IsWithin (set lo k l) (set hi k h) idx
     → IsWithin lo hi idx × (l ≤ get_or idx k 0) × (get_or idx k 0 < h)
-cut_out [] hi idx k l h e b p q w = absurd (omega arith)
-cut_out (x ∷ lo) [] idx k l h e b p q w = absurd (omega arith)
-cut_out (x ∷ lo) (y ∷ hi) [] zero l h e b p q w = absurd w
-cut_out (x ∷ lo) (y ∷ hi) [] (suc k) l h e b p q w = absurd w
 cut_out (x ∷ lo) (y ∷ hi) (i ∷ idx) zero l h e b p q w = let a = w.0 in let z = w.1 in ((omega arith, omega arith, w.2), a, z)
 cut_out (x ∷ lo) (y ∷ hi) (i ∷ idx) (suc k) l h e b p q w = let r = cut_out lo hi idx k l h (omega arith) (omega arith) p q w.2 in ((w.0, w.1, r.0), r.1, r.2)
+cut_out (x ∷ lo) (y ∷ hi) [] zero l h e b p q w = absurd w
+cut_out lo hi idx k l h e b p q w = absurd (first_of (assumption, omega arith))
 
 -- a region whose ends on an axis are moved in
 pub within_set : (lo hi idx : List ℕ) (k l h : ℕ) → length hi ≡ length lo → k < length lo → get_or lo k 0 ≤ l → h ≤ get_or hi k 0
@@ -108,18 +104,13 @@ last_within lo hi last w e h =
 -- a region by its axes
 pub region_from : (shape lo hi : List ℕ) → length lo ≡ length shape → length hi ≡ length shape → ((k : ℕ) → k < length shape → (get_or lo k 0 ≤ get_or hi k 0) × (get_or hi k 0 ≤ get_or shape k 0)) → IsRegion shape lo hi
 region_from [] [] [] el eh h = tt
-region_from [] [] (y ∷ hi) el eh h = absurd (omega arith)
-region_from [] (x ∷ lo) hi el eh h = absurd (omega arith)
-region_from (n ∷ ns) [] hi el eh h = absurd (omega arith)
-region_from (n ∷ ns) (x ∷ lo) [] el eh h = absurd (omega arith)
 region_from (n ∷ ns) (x ∷ lo) (y ∷ hi) el eh h =
     let p = h 0 (omega arith) in
     (p.0, p.1, region_from ns lo hi (omega arith) (omega arith) (λ k b. h (suc k) (omega arith)))
+region_from shape lo hi el eh h = absurd (omega arith)
 
 -- an index of a region, moved on an axis
 pub moved_within : (lo hi idx : List ℕ) (k v : ℕ) → IsWithin lo hi idx → k < length lo → get_or lo k 0 ≤ v → v < get_or hi k 0 → IsWithin lo hi (set idx k v)
-moved_within [] hi idx k v w b p q = absurd (omega arith)
-moved_within (x ∷ lo) [] idx k v w b p q = absurd w
-moved_within (x ∷ lo) (y ∷ hi) [] k v w b p q = absurd w
 moved_within (x ∷ lo) (y ∷ hi) (i ∷ idx) zero v w b p q = (p, q, w.2)
 moved_within (x ∷ lo) (y ∷ hi) (i ∷ idx) (suc k) v w b p q = (w.0, w.1, moved_within lo hi idx k v w.2 (omega arith) p q)
+moved_within lo hi idx k v w b p q = absurd (first_of (assumption, omega arith))

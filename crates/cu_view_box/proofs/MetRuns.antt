@@ -6,12 +6,12 @@ use Rattle.std.proofs.lemmas.List.{get_or-set_same, get_or-set_other}
 use Rattle.cu_grid.specs.Counts.{IsWithin}
 use Rattle.cu_grid.specs.declared.region.Region.{Region}
 use Rattle.cu_grid.proofs.Meeting.{within_of}
-use Rattle.cu_view_box.specs.Reshape.{IsBetween, MeetsRun}
+use Rattle.cu_view_box.specs.Reshape.{IsBetweenUpToDifference, MeetsRun}
 use Rattle.cu_view_box.proofs.Reshapes.{IsHull}
 
 -- an index of a hull lies between its ends
 pub between_of : (source first last lo hi i : List ℕ) (apart end : ℕ) → length first ≡ length source → end ≡ length source
-    → (apart < length first → get_or first apart 0 ≢ get_or last apart 0) → IsHull source first last lo hi apart end → IsWithin lo hi i → IsBetween first last i
+    → (apart < length first → get_or first apart 0 ≢ get_or last apart 0) → IsHull source first last lo hi apart end → IsWithin lo hi i → IsBetweenUpToDifference first last i
 between_of source first last lo hi i apart end rank ee differ hull w = λ d b agree.
     let v = within_of lo hi i w in
     let long = v.lo_rank in

@@ -11,10 +11,10 @@ use Rattle.cu_shape.proofs.Places.{place-below, index-place}
 use Rattle.cu_grid.specs.Counts.{IsWithin}
 use Rattle.cu_grid.specs.declared.region.Region.{Region}
 use Rattle.cu_grid.proofs.Meeting.{within_of}
-use Rattle.cu_view_box.specs.Block.{place_in, IsBlock, IsMove, IsMoved, IsKept}
+use Rattle.cu_view_box.specs.Block.{buffer_place, IsBlock, IsMove, IsMoved, IsKept}
 use Rattle.cu_view_box.specs.Line.{FitsLine, IsOneEach, AreConverted, AreOthersKept}
 use Rattle.cu_view_box.specs.Piece.{read_at}
-use Rattle.cu_view_box.specs.Row.{IsRow, row_index, row_count}
+use Rattle.cu_view_box.specs.Row.{IsRowAlong, row_index, row_count}
 use Rattle.cu_view_box.specs.declared.block.Block.{Block}
 use Rattle.cu_view_box.specs.declared.lines.Line.{Line}
 use Rattle.cu_view_box.specs.declared.piece.Piece.{Piece}
@@ -34,7 +34,7 @@ count_cases part axis count e = by_test (nat_lt axis (length part.lo)) refl
 pub first_index : (lo : List ℕ) (axis : ℕ) → row_index lo axis 0 ≡ lo
 first_index lo axis = let e : get_or lo axis 0 + 0 ≡ get_or lo axis 0 = omega arith in rw e (set-get_or lo axis 0)
 
-module _ (part : Region) (axis count : ℕ) (some : IsWithin part.lo part.hi part.lo) (row : IsRow part axis) (counted : count ≡ row_count part axis) where
+module _ (part : Region) (axis count : ℕ) (some : IsWithin part.lo part.hi part.lo) (row : IsRowAlong part axis) (counted : count ≡ row_count part axis) where
   pub row_some : 0 < count
   row_some =
       elim (count_cases part axis count counted) [
@@ -100,15 +100,15 @@ module _ (part : Region) (axis count : ℕ) (some : IsWithin part.lo part.hi par
 
 -- ---- places in a block
 pub place_fits : (block : Block) (bytes idx : List ℕ) → IsBlock block bytes → IsWithin block.region.lo block.region.hi idx
-    → place_in block idx * size_of block.dtype + size_of block.dtype ≤ length bytes
+    → buffer_place block idx * size_of block.dtype + size_of block.dtype ≤ length bytes
 place_fits block bytes idx ok w =
     let below = place-below block.dims (differences idx block.region.lo) (ok.inside idx w) in
-    let far : suc (place_in block idx) * size_of block.dtype ≤ product block.dims * size_of block.dtype = mul-le-mul_right (size_of block.dtype) below in
+    let far : suc (buffer_place block idx) * size_of block.dtype ≤ product block.dims * size_of block.dtype = mul-le-mul_right (size_of block.dtype) below in
     let long = ok.long in
     omega arith
 
 pub place_one : (block : Block) (bytes idx other : List ℕ) → IsBlock block bytes → IsWithin block.region.lo block.region.hi idx → IsWithin block.region.lo block.region.hi other
-    → place_in block idx ≡ place_in block other → idx ≡ other
+    → buffer_place block idx ≡ buffer_place block other → idx ≡ other
 place_one block bytes idx other ok w v e =
     let same : differences idx block.region.lo ≡ differences other block.region.lo =
     sym (index-place block.dims (differences idx block.region.lo) (ok.inside idx w)) ∙ ap (λ p. index_at block.dims p) e ∙ index-place block.dims (differences other block.region.lo) (ok.inside other v) in
@@ -128,11 +128,11 @@ line_from t first next = record { dtype = t; first = first; next = next }
 
 -- ---- the two lines of a row
 module _ (piece : Piece) (part : Region) (axis count : ℕ) (from to : Block) (bytes old : List ℕ) (source_first source_next target_first target_next : ℕ) (second : List ℕ)
-    (row : IsRow part axis) (counted : count ≡ row_count part axis)
+    (row : IsRowAlong part axis) (counted : count ≡ row_count part axis)
     (moves : IsMove piece part from to) (source_ok : IsBlock from bytes) (target_ok : IsBlock to old)
     (is_second : second ≡ row_index part.lo axis (min 1 (count - 1)))
-    (sf : source_first ≡ place_in from (read_at piece part.lo)) (sn : source_next ≡ place_in from (read_at piece second))
-    (tf : target_first ≡ place_in to part.lo) (tn : target_next ≡ place_in to second) where
+    (sf : source_first ≡ buffer_place from (read_at piece part.lo)) (sn : source_next ≡ buffer_place from (read_at piece second))
+    (tf : target_first ≡ buffer_place to part.lo) (tn : target_next ≡ buffer_place to second) where
   abbrev source : Line
   source = line_from from.dtype source_first source_next
 
@@ -145,20 +145,20 @@ module _ (piece : Piece) (part : Region) (axis count : ℕ) (from to : Block) (b
   within : (j : ℕ) → j < count → IsWithin part.lo part.hi (index j)
   within = row_within part axis count moves.some row counted
 
-  source_on : (j : ℕ) → j < count → (j * source_first ≤ source_first + j * source_next) × (source_first + j * source_next - j * source_first ≡ place_in from (read_at piece (index j)))
+  source_on : (j : ℕ) → j < count → (j * source_first ≤ source_first + j * source_next) × (source_first + j * source_next - j * source_first ≡ buffer_place from (read_at piece (index j)))
   source_on j b =
-      on_even (λ n. place_in from (read_at piece (index n))) source_first source_next count j
-      (sf ∙ ap (λ is. place_in from (read_at piece is)) (sym (first_index part.lo axis))) (sn ∙ ap (λ is. place_in from (read_at piece is)) is_second) b
+      on_even (λ n. buffer_place from (read_at piece (index n))) source_first source_next count j
+      (sf ∙ ap (λ is. buffer_place from (read_at piece is)) (sym (first_index part.lo axis))) (sn ∙ ap (λ is. buffer_place from (read_at piece is)) is_second) b
       (λ more. rw first_index
       (even_place from.dims (differences (read_at piece part.lo) from.region.lo) (differences (read_at piece (index 1)) from.region.lo) (differences (read_at piece (index j)) from.region.lo) j
       (even_read piece part.lo from.region.lo from.region.hi axis j moves.ways (moves.of_piece part.lo moves.some) (moves.of_piece (index 1) (within 1 more)) (moves.of_piece (index j) (within j b))
       (moves.of_source part.lo moves.some) (moves.of_source (index 1) (within 1 more)) (moves.of_source (index j) (within j b)))))
 
-  target_on : (j : ℕ) → j < count → (j * target_first ≤ target_first + j * target_next) × (target_first + j * target_next - j * target_first ≡ place_in to (index j))
+  target_on : (j : ℕ) → j < count → (j * target_first ≤ target_first + j * target_next) × (target_first + j * target_next - j * target_first ≡ buffer_place to (index j))
   target_on j b =
       let v = within_of to.region.lo to.region.hi part.lo (moves.of_result part.lo moves.some) in
-      on_even (λ n. place_in to (index n)) target_first target_next count j
-      (tf ∙ ap (place_in to) (sym (first_index part.lo axis))) (tn ∙ ap (place_in to) is_second) b
+      on_even (λ n. buffer_place to (index n)) target_first target_next count j
+      (tf ∙ ap (buffer_place to) (sym (first_index part.lo axis))) (tn ∙ ap (buffer_place to) is_second) b
       (λ more. rw first_index
       (even_place to.dims (differences part.lo to.region.lo) (differences (index 1) to.region.lo) (differences (index j) to.region.lo) j
       (even_on_axis part.lo to.region.lo axis j (sym v.lo_rank) (λ k c. (v.at k c).0))))
@@ -186,6 +186,6 @@ module _ (piece : Piece) (part : Region) (axis count : ℕ) (from to : Block) (b
 
   pub row_kept : (new : List ℕ) → AreOthersKept target count old new → IsKept part to old new
   row_kept new h idx w off =
-      h (place_in to idx)
+      h (buffer_place to idx)
       (λ j b e. off (subst (λ (is : List ℕ). IsWithin part.lo part.hi is)
       (place_one to old (index j) idx target_ok (moves.of_result (index j) (within j b)) w (sym (target_on j b).1 ∙ e)) (within j b)))

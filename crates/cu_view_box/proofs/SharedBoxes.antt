@@ -4,7 +4,7 @@ use Rattle.std.proofs.lemmas.List.{get_or-map, length-map}
 use Rattle.cu_grid.specs.Counts.{IsWithin}
 use Rattle.cu_grid.specs.declared.region.Region.{Region}
 use Rattle.cu_view_box.specs.Way.{read_by}
-use Rattle.cu_view_box.specs.Piece.{count_along, read_by_ways, read_at, IsShared, HaveRanks}
+use Rattle.cu_view_box.specs.Piece.{count_along, read_by_ways, read_at, IsSharedIndex, HaveRanks}
 use Rattle.cu_view_box.specs.declared.piece.Piece.{Piece}
 use Rattle.cu_view_box.specs.declared.way.Way.{Way}
 use Rattle.cu_view_box.specs.declared.way.Way.TheVariants.{Fixed}
@@ -33,7 +33,7 @@ reads_more piece ws plo phi idx lo hi new_lo new_hi k low high e b el eh was now
 
 pub shared_exactly : (piece : Piece) (out part : Region) (idx lo hi : List ℕ) (end : ℕ) → HaveRanks piece out part → end ≡ length piece.ways.items
     → (IsWithin lo hi idx ↔ ((IsWithin piece.region.lo piece.region.hi idx × IsWithin out.lo out.hi idx) × ((k : ℕ) → k < end → ReadsOn piece part.lo part.hi idx k)))
-    → IsWithin lo hi idx ↔ IsShared piece out.lo out.hi part.lo part.hi idx
+    → IsWithin lo hi idx ↔ IsSharedIndex piece out.lo out.hi part.lo part.hi idx
 shared_exactly piece out part idx lo hi end ranks ee exact = (
   λ w. (let p = exact.0 w in record {
     of_piece = p.0.0;
@@ -50,7 +50,7 @@ pub not_read : (piece : Piece) (ws : List Way) (out part : Region) (idx : List �
     → HaveRanks piece out part → ws ≡ piece.ways.items → k < length piece.ways.items → low ≡ get_or part.lo k 0 → high ≡ get_or part.hi k 0
     → (low ≤ read_by (get_or ws k (Fixed 0)) (count_along piece.region.lo idx (get_or ws k (Fixed 0)))
     → ¬ (read_by (get_or ws k (Fixed 0)) (count_along piece.region.lo idx (get_or ws k (Fixed 0))) < high))
-    → ¬ IsShared piece out.lo out.hi part.lo part.hi idx
+    → ¬ IsSharedIndex piece out.lo out.hi part.lo part.hi idx
 not_read piece ws out part idx k low high ranks e b el eh off s =
     let r = read_axis piece.region.lo idx piece.ways.items ws k e b in
     let l = ranks.part_lo in

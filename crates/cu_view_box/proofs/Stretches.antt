@@ -6,7 +6,7 @@ use Rattle.cu_grid.specs.Counts.{IsWithin}
 use Rattle.cu_grid.specs.declared.region.Region.{Region}
 use Rattle.cu_grid.proofs.Meeting.{within_of}
 use Rattle.cu_view_box.specs.Reshape.{reshaped, IsDrawn, AreOthersLeft, IsPart, IsRunOfBoth}
-use Rattle.cu_view_box.specs.Row.{IsRow, row_count}
+use Rattle.cu_view_box.specs.Row.{IsRowAlong, row_count}
 use Rattle.cu_view_box.specs.declared.block.Block.{Block}
 use Rattle.cu_view_box.proofs.Boxes.{within_set, at_axis, moved_within}
 use Rattle.cu_view_box.proofs.Slices.{Holds, up_to}
@@ -67,12 +67,12 @@ module _ (part : Region) (axis start stop : ℕ) (some : Holds part part.lo) (be
       left idx w (λ s. (let p = in_stretch idx s.0 in let p2 = p.2 in off (to_front stop high idx p.0 (omega arith), s.1)))
       ∙ was idx w (λ s. (let p = in_front start (omega arith) idx s.0 in let p1 = p.1 in off (to_front stop high idx p.0 (omega arith), s.1)))
 
-  pub stretch_run : (source shape : List ℕ) → axis ≡ length part.lo - 1 → IsRow part axis
+  pub stretch_run : (source shape : List ℕ) → axis ≡ length part.lo - 1 → IsRowAlong part axis
       → (1 < stop - start → (0 < length source)
       × (get_or (reshaped source shape (set part.lo axis start)) (length source - 1) 0 + (stop - start) ≤ get_or source (length source - 1) 0))
       → IsRunOfBoth source shape (stretch part axis start stop)
   stretch_run source shape last row stays = record {
-    row = subst (λ (a : ℕ). IsRow (stretch part axis start stop) a) is_last
+    row = subst (λ (a : ℕ). IsRowAlong (stretch part axis start stop) a) is_last
         (λ k b off. (let l = length-set part.lo axis start in
         rw (get_or-set_other part.hi axis k stop 0 off, get_or-set_other part.lo axis k start 0 off) (row k (omega arith) off)));
     stays = λ h. (let e = counted in let s = stays (omega arith) in let s1 = s.1 in (s.0, rw counted s1));

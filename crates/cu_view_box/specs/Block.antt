@@ -13,8 +13,8 @@ use Rattle.cu_view_box.specs.declared.block.Block.{Block}
 use Rattle.cu_view_box.specs.declared.piece.Piece.{Piece}
 
 -- the place in the buffer of an index of the array
-abbrev pub place_in : Block → List ℕ → ℕ
-place_in block idx = place_of block.dims (differences idx block.region.lo)
+abbrev pub buffer_place : Block → List ℕ → ℕ
+buffer_place block idx = place_of block.dims (differences idx block.region.lo)
 
 -- the buffer has a place for each index of the region
 pub record IsBlock (block : Block) (bytes : List ℕ) : Type 0 where
@@ -36,9 +36,9 @@ pub record IsMove (piece : Piece) (part : Region) (from to : Block) : Type 0 whe
 -- each element of the part is the number that the piece reads, as bytes of the result's type
 abbrev pub IsMoved : Piece → Region → Block → List ℕ → Block → List ℕ → Type 0
 IsMoved piece part from bytes to new = (idx : List ℕ) → IsWithin part.lo part.hi idx
-    → bytes_at to.dtype new (place_in to idx) ≡ element_bytes Little to.dtype (element_at Little from.dtype bytes (place_in from (read_at piece idx)))
+    → bytes_at to.dtype new (buffer_place to idx) ≡ element_bytes Little to.dtype (element_at Little from.dtype bytes (buffer_place from (read_at piece idx)))
 
 -- each other element of the block is as before
 abbrev pub IsKept : Region → Block → List ℕ → List ℕ → Type 0
 IsKept part to old new = (idx : List ℕ) → IsWithin to.region.lo to.region.hi idx → ¬ IsWithin part.lo part.hi idx
-    → bytes_at to.dtype new (place_in to idx) ≡ bytes_at to.dtype old (place_in to idx)
+    → bytes_at to.dtype new (buffer_place to idx) ≡ bytes_at to.dtype old (buffer_place to idx)

@@ -28,14 +28,14 @@ IsWayOver lo hi (Up axis first step) = (axis < length lo) × IsWay (slice_index 
 IsWayOver lo hi (Down axis first step) = (axis < length lo) × IsWay (slice_index hi axis - slice_index lo axis) (Down axis first step)
 
 -- a piece of a result of this shape: its box lies in the result, its ways go along axes of it, and what is read lies in its source
-pub record IsPiece (shape : List ℕ) (sources : List (List ℕ)) (piece : Piece) : Type 0 where
+pub record IsPieceOfResult (shape : List ℕ) (sources : List (List ℕ)) (piece : Piece) : Type 0 where
   pub region : IsRegion shape piece.region.lo piece.region.hi
   pub source : piece.source < length sources
   pub ways : All (IsWayOver piece.region.lo piece.region.hi) piece.ways.items
   pub inside : (idx : List ℕ) → IsWithin piece.region.lo piece.region.hi idx → IsInside (slice_index_or sources piece.source []) (read_at piece idx)
 
 -- an index of the piece's box that lies in the region `lo` to `hi` of the result, and reads the region `plo` to `phi` of the source
-pub record IsShared (piece : Piece) (lo hi plo phi idx : List ℕ) : Type 0 where
+pub record IsSharedIndex (piece : Piece) (lo hi plo phi idx : List ℕ) : Type 0 where
   pub of_piece : IsWithin piece.region.lo piece.region.hi idx
   pub of_out : IsWithin lo hi idx
   pub of_part : IsWithin plo phi (read_at piece idx)

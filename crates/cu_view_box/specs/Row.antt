@@ -7,8 +7,8 @@ abbrev pub IsSingle : Region → ℕ → ℕ → Type 0
 IsSingle part axis level = (k : ℕ) → k < level → k ≢ axis → slice_index part.hi k ≡ slice_index part.lo k + 1
 
 -- a row along an axis
-abbrev pub IsRow : Region → ℕ → Type 0
-IsRow part axis = IsSingle part axis (length part.lo)
+abbrev pub IsRowAlong : Region → ℕ → Type 0
+IsRowAlong part axis = IsSingle part axis (length part.lo)
 
 -- index number j of a row that begins at `lo`
 abbrev pub row_index : List ℕ → ℕ → ℕ → List ℕ

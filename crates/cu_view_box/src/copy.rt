@@ -2,9 +2,9 @@
 ghost use Rattle.std.specs.Prelude.{◌≡◌, ◌≢◌, ◌<◌, ◌≤◌, ◌+◌, ◌-◌, ◌*◌, ◌^◌, ℕ, List, All, length, slice_index, slice_set, min};
 ghost use Rattle.cu_shape.specs.Index.{differences, product};
 ghost use Rattle.cu_grid.specs.Counts.{IsWithin};
-ghost use Rattle.cu_view_box.specs.Block.{IsBlock, IsMove, IsMoved, IsKept, AreSpelled, place_in};
+ghost use Rattle.cu_view_box.specs.Block.{IsBlock, IsMove, IsMoved, IsKept, AreSpelled, buffer_place};
 ghost use Rattle.cu_view_box.specs.Piece.{read_at, IsWayOver};
-ghost use Rattle.cu_view_box.specs.Row.{IsRow, IsSingle, row_index, row_count};
+ghost use Rattle.cu_view_box.specs.Row.{IsRowAlong, IsSingle, row_index, row_count};
 
 use crate::block::Block;
 use crate::lines::{Line, move_line};
@@ -33,7 +33,13 @@ pub fn copy_box(
     ensures moved { IsMoved piece.now part.now from.now bytes.now to.now output.new }
     ensures others { IsKept part.now to.now output.old output.new }
 {
-    copy_rows(piece, part, 0, row_axis(part), from, bytes, to, output);
+    let copying = Copying {
+        piece,
+        from,
+        bytes,
+        to,
+    };
+    copy_rows(&copying, part, 0, row_axis(part), output);
 }
 
 /// The axis along which a part is copied in rows: the last one on which it has many indices, else the one on which it has most;
@@ -57,34 +63,42 @@ fn row_axis(part: &Region) -> u32
     longest
 }
 
+/// What is copied: a piece's elements, out of the bytes of a block of its source, into a block of the result.
+#[derive(Clone, Copy)]
+struct Copying<'a> {
+    piece: &'a Piece,
+    from: &'a Block,
+    bytes: &'a [u8],
+    to: &'a Block,
+}
+
 /// The same for a part that has one index on each axis below `level` but the rows' axis.
-fn copy_rows(
-    piece: &Piece,
-    part: &Region,
-    level: u32,
-    axis: u32,
-    from: &Block,
-    bytes: &[u8],
-    to: &Block,
-    output: &mut [u8],
-)
+fn copy_rows(copying: &Copying<'_>, part: &Region, level: u32, axis: u32, output: &mut [u8])
     requires level { level ≤ length part.now.lo }
     requires single { IsSingle part.now axis level }
-    requires moves { IsMove piece.now part.now from.now to.now }
-    requires from_block { IsBlock from.now bytes.now }
-    requires to_block { IsBlock to.now output.old }
-    requires spelled { from.now.dtype ≡ to.now.dtype → AreSpelled from.now.dtype bytes.now }
-    ensures moved { IsMoved piece.now part.now from.now bytes.now to.now output.new }
-    ensures others { IsKept part.now to.now output.old output.new }
+    requires moves { IsMove copying.now.piece.now part.now copying.now.from.now copying.now.to.now }
+    requires from_block { IsBlock copying.now.from.now copying.now.bytes.now }
+    requires to_block { IsBlock copying.now.to.now output.old }
+    requires spelled { copying.now.from.now.dtype ≡ copying.now.to.now.dtype → AreSpelled copying.now.from.now.dtype copying.now.bytes.now }
+    ensures moved { IsMoved copying.now.piece.now part.now copying.now.from.now copying.now.bytes.now copying.now.to.now output.new }
+    ensures others { IsKept part.now copying.now.to.now output.old output.new }
 {
     if level == part.lo.rank() {
-        copy_row(piece, part, axis, from, bytes, to, output);
+        copy_row(
+            copying.piece,
+            part,
+            axis,
+            copying.from,
+            copying.bytes,
+            copying.to,
+            output,
+        );
     } else if level == axis {
-        copy_rows(piece, part, level + 1, axis, from, bytes, to, output);
+        copy_rows(copying, part, level + 1, axis, output);
     } else {
         for index in part.lo.at(level)..part.hi.at(level) {
             let slice = slice_at(part, level, index);
-            copy_rows(piece, &slice, level + 1, axis, from, bytes, to, output);
+            copy_rows(copying, &slice, level + 1, axis, output);
         }
     }
 }
@@ -114,7 +128,7 @@ fn copy_row(
     to: &Block,
     output: &mut [u8],
 )
-    requires row { IsRow part.now axis }
+    requires row { IsRowAlong part.now axis }
     requires moves { IsMove piece.now part.now from.now to.now }
     requires from_block { IsBlock from.now bytes.now }
     requires to_block { IsBlock to.now output.old }
@@ -168,7 +182,7 @@ fn source_place(piece: &Piece, from: &Block, bytes: &[u8], idx: &Dims) -> u64
     requires of_piece { IsWithin piece.now.region.lo piece.now.region.hi idx.now }
     requires of_source { IsWithin from.now.region.lo from.now.region.hi (read_at piece.now idx.now) }
     requires block { IsBlock from.now bytes.now }
-    ensures { result ≡ place_in from.now (read_at piece.now idx.now) }
+    ensures { result ≡ buffer_place from.now (read_at piece.now idx.now) }
 {
     place(&from.dims, &read_from(piece, &from.region, idx))
 }
@@ -177,7 +191,7 @@ fn source_place(piece: &Piece, from: &Block, bytes: &[u8], idx: &Dims) -> u64
 fn result_place(to: &Block, output: &[u8], idx: &Dims) -> u64
     requires of_result { IsWithin to.now.region.lo to.now.region.hi idx.now }
     requires block { IsBlock to.now output.now }
-    ensures { result ≡ place_in to.now idx.now }
+    ensures { result ≡ buffer_place to.now idx.now }
 {
     place(&to.dims, &difference(idx, &to.region.lo))
 }

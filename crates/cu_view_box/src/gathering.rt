@@ -4,10 +4,10 @@ ghost use Rattle.cu_num.specs.Element.{bytes_at, element_at, element_bytes};
 ghost use Rattle.cu_num.specs.declared.layout.Endian.TheVariants.{Little};
 ghost use Rattle.cu_shape.specs.Index.{IsInside};
 ghost use Rattle.cu_grid.specs.Counts.{IsRegion, IsWithin};
-ghost use Rattle.cu_view_box.specs.Block.{IsBlock, AreSpelled, place_in};
+ghost use Rattle.cu_view_box.specs.Block.{IsBlock, AreSpelled, buffer_place};
 ghost use Rattle.cu_view_box.specs.Piece.{read_at, IsWayOver};
 ghost use Rattle.cu_view_box.specs.Reshape.{reshaped, IsReshape, IsDrawn, AreOthersLeft, IsPart, IsRunOfBoth};
-ghost use Rattle.cu_view_box.specs.Row.{IsRow, IsSingle, row_count};
+ghost use Rattle.cu_view_box.specs.Row.{IsRowAlong, IsSingle, row_count};
 ghost use Rattle.cu_view_box.specs.declared.way.Way.TheVariants.{Fixed, Up};
 
 use crate::block::Block;
@@ -37,20 +37,27 @@ pub fn reshape_gather(
     requires to_block { IsBlock to.now output.old }
     requires spelled { from.now.dtype ≡ to.now.dtype → AreSpelled from.now.dtype bytes.now }
     ensures moved { (idx : List ℕ) → IsWithin to.now.region.lo to.now.region.hi idx → IsWithin from.now.region.lo from.now.region.hi (reshaped source.now shape.now idx)
-        → bytes_at to.now.dtype output.new (place_in to.now idx)
-        ≡ element_bytes Little to.now.dtype (element_at Little from.now.dtype bytes.now (place_in from.now (reshaped source.now shape.now idx))) }
+        → bytes_at to.now.dtype output.new (buffer_place to.now idx)
+        ≡ element_bytes Little to.now.dtype (element_at Little from.now.dtype bytes.now (buffer_place from.now (reshaped source.now shape.now idx))) }
     ensures others { (idx : List ℕ) → IsWithin to.now.region.lo to.now.region.hi idx → ¬ IsWithin from.now.region.lo from.now.region.hi (reshaped source.now shape.now idx)
-        → bytes_at to.now.dtype output.new (place_in to.now idx) ≡ bytes_at to.now.dtype output.old (place_in to.now idx) }
+        → bytes_at to.now.dtype output.new (buffer_place to.now idx) ≡ bytes_at to.now.dtype output.old (buffer_place to.now idx) }
 {
     if !is_empty(&to.region) {
-        gather_part(source, shape, &to.region, 0, from, bytes, to, output);
+        let sizes = Sizes { source, shape };
+        gather_part(sizes, &to.region, 0, from, bytes, to, output);
     }
+}
+
+/// The sizes of a reshape's source and of its result.
+#[derive(Clone, Copy)]
+struct Sizes<'a> {
+    source: &'a Dims,
+    shape: &'a Dims,
 }
 
 /// The same for a part that has one index on each axis below `level` but the last.
 fn gather_part(
-    source: &Dims,
-    shape: &Dims,
+    sizes: Sizes<'_>,
     part: &Region,
     level: u32,
     from: &Block,
@@ -58,28 +65,28 @@ fn gather_part(
     to: &Block,
     output: &mut [u8],
 )
-    requires reshape { IsReshape source.now shape.now }
-    requires from_region { IsRegion source.now from.now.region.lo from.now.region.hi }
+    requires reshape { IsReshape sizes.source.now sizes.shape.now }
+    requires from_region { IsRegion sizes.source.now from.now.region.lo from.now.region.hi }
     requires level { level ≤ length part.now.lo }
-    requires part { IsPart shape.now part.now to.now }
+    requires part { IsPart sizes.shape.now part.now to.now }
     requires single { IsSingle part.now (length part.now.lo - 1) level }
     requires from_block { IsBlock from.now bytes.now }
     requires to_block { IsBlock to.now output.old }
     requires spelled { from.now.dtype ≡ to.now.dtype → AreSpelled from.now.dtype bytes.now }
-    ensures drawn { IsDrawn (reshaped source.now shape.now) part.now from.now bytes.now to.now output.new }
-    ensures others { AreOthersLeft (reshaped source.now shape.now) part.now from.now to.now output.old output.new }
+    ensures drawn { IsDrawn (reshaped sizes.entry.source.now sizes.entry.shape.now) part.now from.now bytes.now to.now output.new }
+    ensures others { AreOthersLeft (reshaped sizes.entry.source.now sizes.entry.shape.now) part.now from.now to.now output.old output.new }
 {
-    if !meets_hull(source, shape, part, &from.region) {
+    if !meets_hull(sizes.source, sizes.shape, part, &from.region) {
         return;
     }
     let rank = part.lo.rank();
     if level + 1 >= rank {
-        gather_row(source, shape, part, from, bytes, to, output);
+        gather_row(sizes.source, sizes.shape, part, from, bytes, to, output);
         return;
     }
     for index in part.lo.at(level)..part.hi.at(level) {
         let slice = slice_at(part, level, index);
-        gather_part(source, shape, &slice, level + 1, from, bytes, to, output);
+        gather_part(sizes, &slice, level + 1, from, bytes, to, output);
     }
 }
 
@@ -96,7 +103,7 @@ fn gather_row(
     requires reshape { IsReshape source.now shape.now }
     requires from_region { IsRegion source.now from.now.region.lo from.now.region.hi }
     requires part { IsPart shape.now row.now to.now }
-    requires row { IsRow row.now (length row.now.lo - 1) }
+    requires row { IsRowAlong row.now (length row.now.lo - 1) }
     requires from_block { IsBlock from.now bytes.now }
     requires to_block { IsBlock to.now output.old }
     requires spelled { from.now.dtype ≡ to.now.dtype → AreSpelled from.now.dtype bytes.now }

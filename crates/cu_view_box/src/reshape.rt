@@ -4,7 +4,7 @@ ghost use Rattle.std.specs.Bool.{OnTrue, OnFalse};
 ghost use Rattle.std.specs.Option.{IfNone};
 ghost use Rattle.cu_shape.specs.Index.{product, place_of, index_at, IsInside};
 ghost use Rattle.cu_grid.specs.Counts.{IsRegion, IsWithin};
-ghost use Rattle.cu_view_box.specs.Reshape.{reshaped, IsReshape, IsBetween, IsMet, MeetsRun};
+ghost use Rattle.cu_view_box.specs.Reshape.{reshaped, IsReshape, IsBetweenUpToDifference, IsMet, MeetsRun};
 
 use crate::copy::slice_at;
 use crate::reads::last_index;
@@ -37,7 +37,7 @@ fn hull_of_some(source: &Dims, shape: &Dims, out: &Region) -> Region
     ensures region { IsRegion source.now result.lo result.hi }
     ensures holds { (idx : List ℕ) → IsWithin out.now.lo out.now.hi idx → IsWithin result.lo result.hi (reshaped source.now shape.now idx) }
     ensures between { (i : List ℕ) → IsWithin result.lo result.hi i
-        → (last : List ℕ) × IsWithin out.now.lo out.now.hi last × IsBetween (reshaped source.now shape.now out.now.lo) (reshaped source.now shape.now last) i }
+        → (last : List ℕ) × IsWithin out.now.lo out.now.hi last × IsBetweenUpToDifference (reshaped source.now shape.now out.now.lo) (reshaped source.now shape.now last) i }
 {
     let first = index_of(source, place(shape, &out.lo));
     let last = index_of(source, place(shape, &last_index(out)));

@@ -3,7 +3,7 @@ ghost use Rattle.std.specs.Prelude.{◌≡◌, ◌<◌, ◌≤◌, ◌↔◌, �
 ghost use Rattle.std.specs.Bool.{OnTrue, OnFalse};
 ghost use Rattle.std.specs.Option.{IfNone};
 ghost use Rattle.cu_grid.specs.Counts.{IsWithin};
-ghost use Rattle.cu_view_box.specs.Piece.{IsShared, IsWayOver, HaveRanks, count_along};
+ghost use Rattle.cu_view_box.specs.Piece.{IsSharedIndex, IsWayOver, HaveRanks, count_along};
 ghost use Rattle.cu_view_box.specs.Way.{IsWay, read_by};
 
 use crate::piece::Piece;
@@ -15,9 +15,9 @@ use cu_grid::Region;
 pub fn shared_box(piece: &Piece, out: &Region, part: &Region) -> Option<Region>
     requires ranks { HaveRanks piece.now out.now part.now }
     requires ways { All (IsWayOver piece.now.region.lo piece.now.region.hi) piece.now.ways.items }
-    ensures exact { IfSome result (λ b. (idx : List ℕ) → IsWithin b.lo b.hi idx ↔ IsShared piece.now out.now.lo out.now.hi part.now.lo part.now.hi idx) }
+    ensures exact { IfSome result (λ b. (idx : List ℕ) → IsWithin b.lo b.hi idx ↔ IsSharedIndex piece.now out.now.lo out.now.hi part.now.lo part.now.hi idx) }
     ensures some { IfSome result (λ b. IsWithin b.lo b.hi b.lo) }
-    ensures none { IfNone result ((idx : List ℕ) → ¬ IsShared piece.now out.now.lo out.now.hi part.now.lo part.now.hi idx) }
+    ensures none { IfNone result ((idx : List ℕ) → ¬ IsSharedIndex piece.now out.now.lo out.now.hi part.now.lo part.now.hi idx) }
 {
     let mut shared = common(&piece.region, out);
     for axis in 0..part.lo.rank() {

@@ -3,11 +3,11 @@ use Rattle.std.proofs.Common.{◌≡◌, ℕ, zero, suc, ◌+◌, ◌<◌, ◌�
 use Rattle.cu_op.specs.declared.operation.Planned.{Planned}
 use Rattle.std.proofs.lemmas.List.{map_more}
 use Rattle.cu_op.specs.PlanView.{PlanView, operation_at, no_operation}
-use Rattle.cu_op.specs.Projection.{greatest}
+use Rattle.cu_op.specs.Projection.{largest}
 use Rattle.cu_op.specs.Schedule.{op_of}
 use Rattle.cu_work.specs.Rooms.{task_bytes, task_words, rooms_of}
 
-most_at : (f : Planned → ℕ) (ops : List Planned) (k : ℕ) → k < length ops → f (operation_at ops k) ≤ greatest (map f ops)
+most_at : (f : Planned → ℕ) (ops : List Planned) (k : ℕ) → k < length ops → f (operation_at ops k) ≤ largest (map f ops)
 most_at f [] k h = absurd (omega arith)
 most_at f (o ∷ os) zero h = omega arith
 most_at f (o ∷ os) (suc k) h = let rest = most_at f os k (omega arith) in omega (arith, rest)
@@ -19,9 +19,9 @@ pub words_lent : (p : PlanView) (k n : ℕ) (xs : List ℕ) → k < length p.ops
 words_lent p k n xs h e long = let most = most_at (λ o. task_words o.op) p.ops k h in omega (arith, most, e, long)
 
 -- the most of the operations below k + 1
-pub most_more : (f : Planned → ℕ) (ops : List Planned) (k : ℕ) → k < length ops → greatest (map f (take (k + 1) ops)) ≡ max (f (operation_at ops k)) (greatest (map f (take k ops)))
-most_more f ops k h = ap greatest (map_more f ops k no_operation h) ∙ most_push (map f (take k ops)) (f (operation_at ops k))
+pub most_more : (f : Planned → ℕ) (ops : List Planned) (k : ℕ) → k < length ops → largest (map f (take (k + 1) ops)) ≡ max (f (operation_at ops k)) (largest (map f (take k ops)))
+most_more f ops k h = ap largest (map_more f ops k no_operation h) ∙ most_push (map f (take k ops)) (f (operation_at ops k))
   where
-    most_push : (ns : List ℕ) (n : ℕ) → greatest (ns ++ n ∷ []) ≡ max n (greatest ns)
+    most_push : (ns : List ℕ) (n : ℕ) → largest (ns ++ n ∷ []) ≡ max n (largest ns)
     most_push [] n = refl
     most_push (m ∷ ms) n = let e = most_push ms n in rw e (omega arith)

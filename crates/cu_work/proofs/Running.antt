@@ -16,7 +16,7 @@ use Rattle.cu_work.specs.declared.run.Texts.{Texts}
 use Rattle.cu_work.specs.declared.run.TextFault.{TextFault}
 use Rattle.cu_work.specs.declared.run.TextFault.TheVariants.{Failed, NoMemory}
 use Rattle.cu_work.specs.Drive.{IfComplete, IfTried}
-use Rattle.cu_work.specs.Run.{run_of, TextPut, IsRecordFirst, HoldsTexts, IsTextPutFault, IsUnstored}
+use Rattle.cu_work.specs.Run.{run_of, PutOfText, IsRecordFirst, HoldsTexts, IsTextPutFault, IsUnstored}
 
 -- a put of a text is a put of a piece
 record_within : (p : PlanView) (t : Texts) (first : Shown) → Within (PutOf t.record_key t.record.now) (RunChange (run_of p t) first)
@@ -53,10 +53,10 @@ module _ (p : PlanView) (t : Texts) (tries : ℕ) (first after : Shown) (put : S
         let own : Steps (RunChange (run_of p t) first) 0 tries after last = steps_wider (metadata_within p t first) (omega arith) (omega arith) second in
         steps_then record_step own
 
-    pub texts_refused : Steps (TextPut t) 0 (2 * tries) first last
+    pub texts_refused : Steps (PutOfText t) 0 (2 * tries) first last
     texts_refused =
-        let one : Steps (TextPut t) 0 tries first after = steps_wider (λ key value change. inl change) (omega arith) (omega arith) put in
-        let two : Steps (TextPut t) 0 tries after last = steps_wider (λ key value change. inr change) (omega arith) (omega arith) second in
+        let one : Steps (PutOfText t) 0 tries first after = steps_wider (λ key value change. inl change) (omega arith) (omega arith) put in
+        let two : Steps (PutOfText t) 0 tries after last = steps_wider (λ key value change. inr change) (omega arith) (omega arith) second in
         steps_wider (λ key value change. change) (omega arith) (omega arith) (steps_then one two)
 
     -- calls of both, where the tasks aren't run

@@ -14,7 +14,7 @@ use Rattle.cu_work.specs.declared.run.Texts.{Texts}
 use Rattle.cu_work.specs.declared.tasks.TaskEnd.{TaskEnd}
 use Rattle.cu_work.specs.declared.tasks.TaskEnd.TheVariants as ended
 use Rattle.cu_work.specs.Drive.{operation_calls, plan_calls, IsTaskEnd, IsTaskMost, IfBroken, outcome_of}
-use Rattle.cu_work.specs.Run.{TextPut}
+use Rattle.cu_work.specs.Run.{PutOfText}
 use Rattle.cu_work.specs.Tasks.{TaskPut, EarlierPut, AreRun, IsUsedUp}
 use Rattle.cu_work.proofs.Driving.{operation_calls_more, plan_calls_more}
 
@@ -93,8 +93,8 @@ outcome_used p tries start now new (ended.BadChunk key got want) k task run step
 outcome_used p tries start now new ended.Lacked k task run step cause = tt
 
 -- the round began after the texts were put
-pub used_since : (p : PlanView) (t : Texts) (tries : ℕ) (old start new : Shown) (o : Outcome) → Steps (TextPut t) 0 (2 * tries) old start → IfBroken o (IsUsedUp p tries start new)
-    → IfBroken o (λ k task. (begun : Shown) × Steps (TextPut t) 0 (2 * tries) old begun × IsUsedUp p tries begun new k task)
+pub used_since : (p : PlanView) (t : Texts) (tries : ℕ) (old start new : Shown) (o : Outcome) → Steps (PutOfText t) 0 (2 * tries) old start → IfBroken o (IsUsedUp p tries start new)
+    → IfBroken o (λ k task. (begun : Shown) × Steps (PutOfText t) 0 (2 * tries) old begun × IsUsedUp p tries begun new k task)
 used_since p t tries old start new (Broken op task) texts used = (start, texts, used)
 used_since p t tries old start new (Complete failed) texts used = tt
 used_since p t tries old start new (BadChunk key got want) texts used = tt

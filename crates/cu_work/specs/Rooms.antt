@@ -4,7 +4,7 @@ use Rattle.std.specs.Prelude.{ℕ, ◌+◌, ◌*◌, List, map}
 use Rattle.cu_op.specs.declared.layout.ArrayInfo.{ArrayInfo}
 use Rattle.cu_op.specs.declared.operation.Op.{Op}
 use Rattle.cu_op.specs.PlanView.{PlanView}
-use Rattle.cu_op.specs.Projection.{greatest, scratch_room, input_room, output_room, instruction_count}
+use Rattle.cu_op.specs.Projection.{largest, scratch_room, input_room, output_room, instruction_count}
 
 -- a task's scratch, the regions that it reads, and those that it writes
 abbrev pub task_bytes : List ArrayInfo → Op → ℕ
@@ -21,4 +21,4 @@ pub record RoomSizes : Type 0 where
 
 -- the most that any task of the plan is lent of each
 abbrev pub rooms_of : PlanView → RoomSizes
-rooms_of p = record { bytes = greatest (map (λ o. task_bytes p.arrays o.op) p.ops); words = greatest (map (λ o. task_words o.op) p.ops) }
+rooms_of p = record { bytes = largest (map (λ o. task_bytes p.arrays o.op) p.ops); words = largest (map (λ o. task_words o.op) p.ops) }

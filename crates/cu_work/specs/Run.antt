@@ -14,8 +14,8 @@ abbrev pub run_of : PlanView → Texts → PlanRun
 run_of p t = record { plan = p; texts = (t.record_key, t.record.now) ∷ (t.metadata_key, t.metadata.now) ∷ [] }
 
 -- a put of one of the texts
-abbrev pub TextPut : Texts → Changes
-TextPut t key value = PutOf t.record_key t.record.now key value ⊎ PutOf t.metadata_key t.metadata.now key value
+abbrev pub PutOfText : Texts → Changes
+PutOfText t key value = PutOf t.record_key t.record.now key value ⊎ PutOf t.metadata_key t.metadata.now key value
 
 -- Of the plan nothing but the record was put, or the record is held.
 abbrev pub IsRecordFirst : PlanRun → Elements → ℕ → Shown → Shown → Type 0

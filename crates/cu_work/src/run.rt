@@ -8,7 +8,7 @@ ghost use Rattle.cu_state.specs.Pieces.{chunks_alone, IsComplete};
 ghost use Rattle.cu_work.specs.Tasks.{IsUsedUp};
 ghost use Rattle.cu_work.specs.Drive.{plan_calls, IsInputKey, IsOutcome, IsTaskMost, IfComplete, IfTried, IfBroken, IfBad};
 ghost use Rattle.cu_work.specs.Rooms.{rooms_of};
-ghost use Rattle.cu_work.specs.Run.{run_of, TextPut, IsRecordFirst, HoldsTexts, IsTextFault, IsTextPutFault, IsUnstored};
+ghost use Rattle.cu_work.specs.Run.{run_of, PutOfText, IsRecordFirst, HoldsTexts, IsTextFault, IsTextPutFault, IsUnstored};
 
 use crate::outcome::Outcome;
 use crate::rooms::Rooms;
@@ -74,12 +74,12 @@ pub fn run_plan<D: Depot>(
         → IsRecordFirst (run_of plan.now texts.now) env (retries + 1) (D.shown depot.old) (D.shown depot.new) }
     ensures unstored { (env : Elements) → IsLeft (run_of plan.now texts.now) env (D.shown depot.old)
         → IfErr result (IsUnstored (run_of plan.now texts.now) env (retries + 1) (D.shown depot.old) (D.shown depot.new)) }
-    ensures refused { IfErr result (λ fault. Steps (TextPut texts.now) 0 (2 * (retries + 1)) (D.shown depot.old) (D.shown depot.new)) }
+    ensures refused { IfErr result (λ fault. Steps (PutOfText texts.now) 0 (2 * (retries + 1)) (D.shown depot.old) (D.shown depot.new)) }
     ensures complete { (env : Elements) → IsLeft (run_of plan.now texts.now) env (D.shown depot.old)
         → IfOk result (λ outcome. IfComplete outcome (IsComplete (run_of plan.now texts.now) env (D.shown depot.new))) }
     ensures broken { (env : Elements) → IsLeft (run_of plan.now texts.now) env (D.shown depot.old)
         → IfOk result (λ outcome. IfBroken outcome (λ k task. AreDone (chunks_alone plan.now) env k task (D.shown depot.new))) }
-    ensures used_up { IfOk result (λ outcome. IfBroken outcome (λ k task. (start : Shown) × Steps (TextPut texts.now) 0 (2 * (retries + 1)) (D.shown depot.old) start
+    ensures used_up { IfOk result (λ outcome. IfBroken outcome (λ k task. (start : Shown) × Steps (PutOfText texts.now) 0 (2 * (retries + 1)) (D.shown depot.old) start
         × IsUsedUp plan.now (retries + 1) start (D.shown depot.new) k task)) }
     ensures input { (env : Elements) → IsLeft (run_of plan.now texts.now) env (D.shown depot.old) → IfOk result (λ outcome. IfBad outcome (IsInputKey plan.now)) }
     ensures cause { IfErr result (IsTextFault (retries + 1) texts.now (D.shown depot.old) (D.shown depot.new)) }

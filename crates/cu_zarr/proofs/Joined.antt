@@ -3,12 +3,12 @@ use Rattle.std.proofs.Common.{◌≡◌, ◌⊎◌, ℕ, zero, suc, ◌+◌, ◌
 use Rattle.std.proofs.Math.Nat.{zero-mul, suc-mul, eq-or-lt_of_le}
 use Rattle.std.proofs.Math.Seq.{take-add, take-length, drop-append_seam}
 use Rattle.std.proofs.lemmas.List.{take-append-le, drop-append-le, length-drop}
-use Rattle.cu_zarr.specs.Spelling.{joined}
+use Rattle.cu_zarr.specs.Spelling.{parts_in_order}
 
 -- the bytes of the first n parts of this size, where part p stands at p * size
 pub joined_by_place : (size n : ℕ) (part : ℕ → Option (List ℕ)) (bytes : List ℕ)
     → ((p : ℕ) → p < n → part p ≡ Some (take size (drop (p * size) bytes)))
-    → joined part n ≡ Some (take (n * size) bytes)
+    → parts_in_order part n ≡ Some (take (n * size) bytes)
 joined_by_place size zero part bytes parts = rw zero-mul refl
 joined_by_place size (suc n) part bytes parts =
     let front = joined_by_place size n part bytes (λ p below. parts p (omega arith)) in
@@ -50,13 +50,13 @@ le_of_lt_suc p n below = omega arith
 -- Joined parts of one size: how long they are, and that each stands at its place.
 pub joined_parts : (size n : ℕ) (part : ℕ → Option (List ℕ)) (bytes : List ℕ)
     → ((p : ℕ) (b : List ℕ) → part p ≡ Some b → length b ≡ size)
-    → joined part n ≡ Some bytes
+    → parts_in_order part n ≡ Some bytes
     → (length bytes ≡ n * size) × ((p : ℕ) → p < n → part p ≡ Some (take size (drop (p * size) bytes)))
 joined_parts size zero part bytes long all =
     let empty : bytes ≡ [] = cc in
     (rw (empty, zero-mul) refl, λ p below. absurd (omega arith))
 joined_parts size (suc n) part bytes long all =
-    let (a, b, front, last, whole) = joined_last (joined part n) (part n) bytes all in
+    let (a, b, front, last, whole) = joined_last (parts_in_order part n) (part n) bytes all in
     let (here, before) = joined_parts size n part a long front in
     let now : length b ≡ size = long n b last in (
       rw (whole, length-append, suc-mul) (omega arith),

@@ -15,8 +15,8 @@ pub record ArrayLayout : Type 0 where
   pub fill : ℤ
 
 -- the bytes of a chunk, also at the edge
-abbrev pub chunk_bytes : ArrayLayout → ℕ
-chunk_bytes l = product l.chunk * size_of l.dtype
+abbrev pub stored_chunk_bytes : ArrayLayout → ℕ
+stored_chunk_bytes l = product l.chunk * size_of l.dtype
 
 -- the array's index at row-major place p of the chunk at this coordinate
 abbrev pub index_in_chunk : ArrayLayout → List ℕ → ℕ → List ℕ

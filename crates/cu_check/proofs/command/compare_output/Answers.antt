@@ -5,7 +5,7 @@ use Rattle.cu_meaning.specs.Argument.{NodeElements}
 use Rattle.cu_shape.specs.Index.{product}
 use Rattle.cu_store.specs.Steps.{NoChange}
 use Rattle.cu_command.proofs.SeenLemmas.{stepped_same, stepped_then}
-use Rattle.cu_check.specs.Arrays.{arrays_of}
+use Rattle.cu_check.specs.Arrays.{arrays_of_nodes}
 use Rattle.cu_check.specs.Check.{IsCompareFault}
 use Rattle.cu_check.specs.Plains.{AreReadArrays, IsListFault}
 use Rattle.cu_check.proofs.Compared.{whole_inputs, enough, count_of, found_equal, found_unequal, list_fault, output_fault}
@@ -17,21 +17,21 @@ whole-requires-clause-types g c = record { inputs = c.args.compared.now.job.inpu
 pub whole-requires-clause-inputs : goal.whole-requires-clause-inputs
 whole-requires-clause-inputs g c =
     whole_inputs c.args.compared.now.job (g.D.Depot.shown c.args.depot.now) c.in-Ok.inputs.items c.make.result c.read_nodes.ensures.form c.requires.types
-    (subst (λ (inputs : List InputInfo). AreReadArrays (g.D.Depot.shown c.args.depot.now) (arrays_of inputs c.args.compared.now.job.expr.nodes) c.in-Ok.inputs.items) c.deref.ensures.value
+    (subst (λ (inputs : List InputInfo). AreReadArrays (g.D.Depot.shown c.args.depot.now) (arrays_of_nodes inputs c.args.compared.now.job.expr.nodes) c.in-Ok.inputs.items) c.deref.ensures.value
     (c.in-Ok.ensures.read (g.D.Depot.shown c.args.depot.now) (stepped_same NoChange (g.D.Depot.shown c.args.depot.now))))
     c.make.ensures
 
 pub returns-in-Err-clause-cause : goal.returns-in-Err-clause-cause
 returns-in-Err-clause-cause g c entry before =
     list_fault (c.args.retries + 1) entry (g.D.Depot.shown c.args.depot.now) (g.D.Depot.shown c.read_nodes.new.depot) c.args.compared.now.job c.args.compared.now.output c.in-Err.status
-    (subst (λ (inputs : List InputInfo). IsListFault (c.args.retries + 1) entry (g.D.Depot.shown c.args.depot.now) (g.D.Depot.shown c.read_nodes.new.depot) (arrays_of inputs c.args.compared.now.job.expr.nodes) c.in-Err.status)
+    (subst (λ (inputs : List InputInfo). IsListFault (c.args.retries + 1) entry (g.D.Depot.shown c.args.depot.now) (g.D.Depot.shown c.read_nodes.new.depot) (arrays_of_nodes inputs c.args.compared.now.job.expr.nodes) c.in-Err.status)
     c.deref.ensures.value (c.in-Err.ensures.cause entry before))
 
 pub returns-in-Err-read_array-clause-cause : goal.returns-in-Err-read_array-clause-cause
 returns-in-Err-read_array-clause-cause g c entry before =
     output_fault (c.args.retries + 1) entry (g.D.Depot.shown c.args.depot.now) (g.D.Depot.shown c.read_array.new.depot) c.args.compared.now.job c.args.compared.now.output (g.D.Depot.shown c.read_nodes.new.depot)
     c.in-Ok.inputs.items c.in-Err-read_array.status c.read_nodes.ensures.step.step.count
-    (subst (λ (inputs : List InputInfo). AreReadArrays entry (arrays_of inputs c.args.compared.now.job.expr.nodes) c.in-Ok.inputs.items) c.deref.ensures.value (c.in-Ok.ensures.read entry before))
+    (subst (λ (inputs : List InputInfo). AreReadArrays entry (arrays_of_nodes inputs c.args.compared.now.job.expr.nodes) c.in-Ok.inputs.items) c.deref.ensures.value (c.in-Ok.ensures.read entry before))
     (c.in-Err-read_array.ensures.cause entry (stepped_then before c.read_nodes.ensures.step))
 
 pub returns-in-Err-read_array-clause-step : goal.returns-in-Err-read_array-clause-step
@@ -49,7 +49,7 @@ returns-clause-step g c = stepped_then c.read_nodes.ensures.step c.read_array.en
 pub at-plain-requires : goal.at-plain-requires
 at-plain-requires g c =
     let job = c.args.compared.now.job in
-    let read = subst (λ (inputs : List InputInfo). AreReadArrays (g.D.Depot.shown c.args.depot.now) (arrays_of inputs job.expr.nodes) c.in-Ok.inputs.items) c.deref.ensures.value
+    let read = subst (λ (inputs : List InputInfo). AreReadArrays (g.D.Depot.shown c.args.depot.now) (arrays_of_nodes inputs job.expr.nodes) c.in-Ok.inputs.items) c.deref.ensures.value
     (c.in-Ok.ensures.read (g.D.Depot.shown c.args.depot.now) (stepped_same NoChange (g.D.Depot.shown c.args.depot.now))) in
     rw c.out.ensures.out (enough job c.out.ensures.form c.requires.types c.in-Ok.inputs.items c.in-Ok-whole.plains
     (λ (env : NodeElements) (h : HoldInputs job.expr job.types env c.in-Ok.inputs.items). c.in-Ok-whole.ensures env (subst (HoldInputs job.expr job.types env) (sym c.make.ensures) h))
@@ -58,7 +58,7 @@ at-plain-requires g c =
 pub compare-requires-clause-count : goal.compare-requires-clause-count
 compare-requires-clause-count g c =
     let job = c.args.compared.now.job in
-    let read = subst (λ (inputs : List InputInfo). AreReadArrays (g.D.Depot.shown c.args.depot.now) (arrays_of inputs job.expr.nodes) c.in-Ok.inputs.items) c.deref.ensures.value
+    let read = subst (λ (inputs : List InputInfo). AreReadArrays (g.D.Depot.shown c.args.depot.now) (arrays_of_nodes inputs job.expr.nodes) c.in-Ok.inputs.items) c.deref.ensures.value
     (c.in-Ok.ensures.read (g.D.Depot.shown c.args.depot.now) (stepped_same NoChange (g.D.Depot.shown c.args.depot.now))) in
     let long = count_of job c.args.compared.now.output c.out.ensures.form c.requires.types c.in-Ok.inputs.items c.in-Ok-whole.plains c.at-plain.result.now
     (λ (env : NodeElements) (h : HoldInputs job.expr job.types env c.in-Ok.inputs.items). c.in-Ok-whole.ensures env (subst (HoldInputs job.expr job.types env) (sym c.make.ensures) h))
@@ -69,7 +69,7 @@ pub returns-in-Ok-compare-clause-equal : goal.returns-in-Ok-compare-clause-equal
 returns-in-Ok-compare-clause-equal g c entry before =
     let job = c.args.compared.now.job in
     let output = c.args.compared.now.output in
-    let read = subst (λ (inputs : List InputInfo). AreReadArrays entry (arrays_of inputs job.expr.nodes) c.in-Ok.inputs.items) c.deref.ensures.value (c.in-Ok.ensures.read entry before) in
+    let read = subst (λ (inputs : List InputInfo). AreReadArrays entry (arrays_of_nodes inputs job.expr.nodes) c.in-Ok.inputs.items) c.deref.ensures.value (c.in-Ok.ensures.read entry before) in
     found_equal job output c.out.ensures.form c.requires.types c.in-Ok.inputs.items c.in-Ok-whole.plains c.at-plain.result.now
     (λ (env : NodeElements) (h : HoldInputs job.expr job.types env c.in-Ok.inputs.items). c.in-Ok-whole.ensures env (subst (HoldInputs job.expr job.types env) (sym c.make.ensures) h))
     entry c.in-Ok-read_array.stored.items c.requires.node read (rw c.out.ensures.out at c.at-plain.ensures)
@@ -80,8 +80,8 @@ pub returns-clause-cause : goal.returns-clause-cause
 returns-clause-cause g c entry before =
     let job = c.args.compared.now.job in
     let output = c.args.compared.now.output in
-    let read = subst (λ (inputs : List InputInfo). AreReadArrays entry (arrays_of inputs job.expr.nodes) c.in-Ok.inputs.items) c.deref.ensures.value (c.in-Ok.ensures.read entry before) in
-    subst (IsCompareFault (c.args.retries + 1) entry (g.D.Depot.shown c.args.depot.now) (g.D.Depot.shown c.read_array.new.depot) job output) (sym c.unequal.ensures)
+    let read = subst (λ (inputs : List InputInfo). AreReadArrays entry (arrays_of_nodes inputs job.expr.nodes) c.in-Ok.inputs.items) c.deref.ensures.value (c.in-Ok.ensures.read entry before) in
+    subst (IsCompareFault (c.args.retries + 1) entry (g.D.Depot.shown c.args.depot.now) (g.D.Depot.shown c.read_array.new.depot) c.args.compared.now) (sym c.unequal.ensures)
     (found_unequal job output c.out.ensures.form c.requires.types c.in-Ok.inputs.items c.in-Ok-whole.plains c.at-plain.result.now
     (λ (env : NodeElements) (h : HoldInputs job.expr job.types env c.in-Ok.inputs.items). c.in-Ok-whole.ensures env (subst (HoldInputs job.expr job.types env) (sym c.make.ensures) h))
     (c.args.retries + 1) entry (g.D.Depot.shown c.args.depot.now) (g.D.Depot.shown c.read_array.new.depot) c.in-Ok-read_array.stored.items c.in-Err-compare.difference c.requires.node read

@@ -4,7 +4,7 @@ use Rattle.std.proofs.lemmas.List.{take_all}
 use Rattle.std.proofs.lemmas.Option.{slice_get_read}
 use Rattle.cu_expr.specs.declared.inputs.InputInfo.{InputInfo}
 use Rattle.cu_command.proofs.SeenLemmas.{stepped_then}
-use Rattle.cu_check.specs.Arrays.{arrays_of}
+use Rattle.cu_check.specs.Arrays.{arrays_of_nodes}
 use Rattle.cu_check.specs.Plains.{AreReadArrays}
 use Rattle.cu_check.proofs.InputNodes.{arrays_more, node_fault}
 use Rattle.cu_check.proofs.inputs.read_nodes.Goals as goal
@@ -25,7 +25,7 @@ loop-node-preserved g c =
       step = stepped_then c.loop-node.invariant.step c.read_node.ensures.step;
       read = λ entry before.
           subst (λ (xs : List InputInfo). AreReadArrays entry xs c.read_node.new.arrays.items) (sym more)
-          (c.in-Ok.ensures.read entry (arrays_of c.args.inputs.now (take c.loop-node.node-index c.args.expr.now.nodes)) (stepped_then before c.loop-node.invariant.step) (c.loop-node.invariant.read entry before));
+          (c.in-Ok.ensures.read entry (arrays_of_nodes c.args.inputs.now (take c.loop-node.node-index c.args.expr.now.nodes)) (stepped_then before c.loop-node.invariant.step) (c.loop-node.invariant.read entry before));
     }
 
 pub returns-in-Err-clause-step : goal.returns-in-Err-clause-step

@@ -2,12 +2,12 @@
 use Rattle.std.proofs.Common.{take}
 use Rattle.cu_store.specs.Steps.{Shown, NoChange}
 use Rattle.cu_command.specs.Seen.{Stepped}
-use Rattle.cu_check.specs.Arrays.{arrays_of}
+use Rattle.cu_check.specs.Arrays.{arrays_of_nodes}
 use Rattle.cu_check.specs.Plains.{AreReadArrays}
 use Rattle.cu_check.proofs.inputs.read_nodes.Given as goal
 
 abbrev pub invariant-loop-node : goal.invariant-loop-node
 invariant-loop-node g l = record {
   step : Stepped NoChange (g.D.Depot.shown l.initial.depot) (g.D.Depot.shown l.depot);
-  read : (entry : Shown) → Stepped NoChange entry (g.D.Depot.shown l.initial.depot) → AreReadArrays entry (arrays_of l.inputs (take l.node-index l.expr.nodes)) l.arrays.items;
+  read : (entry : Shown) → Stepped NoChange entry (g.D.Depot.shown l.initial.depot) → AreReadArrays entry (arrays_of_nodes l.inputs (take l.node-index l.expr.nodes)) l.arrays.items;
 }

@@ -6,7 +6,7 @@ use Rattle.cu_shape.proofs.Places.{place-below}
 use Rattle.cu_reduce.specs.Groups.{groups_of, group_counts}
 use Rattle.cu_fold.specs.Levels.{results, levels_from}
 use Rattle.cu_fold.specs.Reduced.{is_reduced}
-use Rattle.cu_fold.specs.Taken.{Takes, elements}
+use Rattle.cu_fold.specs.Taken.{HasTaken, elements_at_places}
 use Rattle.cu_fold.proofs.Buffers.{size_positive}
 use Rattle.cu_fold.proofs.Groups.{extent_is, results_is}
 use Rattle.cu_fold.proofs.Totals.{group_total}
@@ -40,4 +40,4 @@ returns c idx inside =
     let same = alike.same_results in
     group_total fold.kind fold.from fold.acc p dims idx c.args.input.now c.fill.new.out c.take_in.new.out c.requires.types c.requires.enough inside
     (c.fill.ensures q (omega (arith, last, c.requires.out)))
-    (subst (λ ps. Takes fold.kind fold.acc c.fill.new.out c.take_in.new.out q (elements fold.from c.args.input.now ps)) (alike.same_sources q own) (c.take_in.ensures q (omega (arith, own, same))))
+    (subst (λ ps. HasTaken fold.kind fold.acc c.fill.new.out c.take_in.new.out q (elements_at_places fold.from c.args.input.now ps)) (alike.same_sources q own) (c.take_in.ensures q (omega (arith, own, same))))

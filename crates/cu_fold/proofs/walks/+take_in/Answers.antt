@@ -4,7 +4,7 @@ use borrow.Rule.Slice.PartMut.{put_mid}
 use Rattle.cu_num.specs.Dtype.{size_of}
 use Rattle.cu_fold.specs.declared.levels.Level.{Level}
 use Rattle.cu_fold.specs.Levels.{extent, results, chained, moved, sources}
-use Rattle.cu_fold.specs.Taken.{Takes, TakesAll, elements}
+use Rattle.cu_fold.specs.Taken.{HasTaken, TakesAll, elements_at_places}
 use Rattle.cu_fold.proofs.Buffers.{bytes_below, bytes_inside, bytes_above, length-put_mid}
 use Rattle.cu_fold.proofs.OneLevel.{last_level, extent_split, results_reduced, results_kept, sources_reduced, sources_kept, divided, reaches, next_reduced, at_kept, part_bytes, room_of, room_whole, part_ends}
 use Rattle.std.proofs.lemmas.List.Edits.{length-between}
@@ -170,7 +170,7 @@ returns-after-loop-i t c q b =
     let all : c.loop-i.i ≡ n = omega arith in
     let rest = drop (c.args.at + 1) levels in
     let took = c.loop-i.invariant.done q (let same = results_reduced levels c.args.at none below c.if-level.true in omega (arith, same, b)) in
-    subst (λ ps. Takes c.args.fold.kind c.args.fold.acc c.args.out.now c.loop-i.out q (elements c.args.fold.from c.args.input.now ps))
+    subst (λ ps. HasTaken c.args.fold.kind c.args.fold.acc c.args.out.now c.loop-i.out q (elements_at_places c.args.fold.from c.args.input.now ps))
     (ap (λ m. chained m (λ i. moved (i * extent rest) (sources rest q))) all ∙ sym (sources_reduced levels c.args.at none q below c.if-level.true)) took
 
 pub returns-after-loop-i-else-level : goal.returns-after-loop-i-else-level
@@ -183,7 +183,7 @@ returns-after-loop-i-else-level t c q b =
     let same = results_kept levels c.args.at none below c.if-level.false in
     let last = ap (λ m. m * results rest) all in
     let took = c.loop-i-else-level.invariant.done q (omega (arith, same, b, last)) in
-    subst (λ ps. Takes c.args.fold.kind c.args.fold.acc c.args.out.now c.loop-i-else-level.out q (elements c.args.fold.from c.args.input.now ps))
+    subst (λ ps. HasTaken c.args.fold.kind c.args.fold.acc c.args.out.now c.loop-i-else-level.out q (elements_at_places c.args.fold.from c.args.input.now ps))
     (sym (sources_kept levels c.args.at none q below c.if-level.false)) took
 
 pub returns-then-at-levels-2 : goal.returns-then-at-levels-2

@@ -7,7 +7,7 @@ use Rattle.cu_num.specs.Element.{element_at}
 use Rattle.cu_num.specs.declared.types.Dtype.TheVariants.{Bool}
 use Rattle.cu_num.specs.declared.layout.Endian.TheVariants.{Little}
 use Rattle.cu_op.specs.declared.kernel.Instr.TheVariants.{Const}
-use Rattle.cu_kern.specs.Rows.{rows}
+use Rattle.cu_kern.specs.Rows.{step_rows}
 use Rattle.cu_kern.proofs.RowResults.{literal_read, row_read, row_places}
 use Rattle.cu_kern.proofs.rows.argument.Goals as goal
 
@@ -15,7 +15,7 @@ pub returns-else-not-literal_fits-clause-elements : goal.returns-else-not-litera
 returns-else-not-literal_fits-clause-elements c k results h stand =
     let code = c.args.earlier.code.now in
     let kinds = c.args.earlier.kinds.now in
-    let r = rows code kinds c.args.earlier.bytes.now c.args.earlier.number in
+    let r = step_rows code kinds c.args.earlier.bytes.now c.args.earlier.number in
     let y = c.in-Const.field-0 in
     let is : slice_get code c.args.a ≡ Some (Const y) = slice_get-get_or code c.args.a _ (omega arith) ∙ ap Some c.in-Const.is in
     let range : InRange c.args.t y = c.if-not-literal_fits.ensures (search rules) y c.in-Const.is in
@@ -29,7 +29,7 @@ returns-else-not-fits_row c =
     let kinds = c.args.earlier.kinds.now in
     let bytes = c.args.earlier.bytes.now in
     let a = c.args.a in
-    let r = rows code kinds bytes c.args.earlier.number in
+    let r = step_rows code kinds bytes c.args.earlier.number in
     let room : a < length bytes / 1024 = omega arith in
     let kind = c.if-not-fits_row.ensures.kind (search rules) in
     let fits = c.if-not-fits_row.ensures.fits (search rules) in

@@ -1,6 +1,6 @@
-use Rattle.std.proofs.Common.{◌≡◌, List, ℕ, ap, sym, subst, ◌∙◌}
+use Rattle.std.proofs.Common.{◌≡◌, All, List, ℕ, ap, sym, subst, ◌∙◌}
 use Rattle.std.specs.Prelude.{IfOk}
-use Rattle.cu_copy.specs.Copies.{in_chunks}
+use Rattle.cu_copy.specs.Copies.{in_chunks, IsRechunk}
 use Rattle.cu_form.specs.declared.args.Arg.{Arg}
 use Rattle.cu_form.specs.declared.form.Form.{Form}
 use Rattle.cu_node.specs.Info.{info_at}
@@ -35,8 +35,7 @@ align_operands-requires-clause-operands c =
 pub own_need-need-requires-clause-operands : goal.own_need-need-requires-clause-operands
 own_need-need-requires-clause-operands c =
     let grow : CanGrow c.args.infos.now c.args.options.now c.args.node (Form.Elementwise c.in-Elementwise.op c.in-Elementwise.args) = subst (CanGrow c.args.infos.now c.args.options.now c.args.node) c.in-Elementwise.is c.requires.form in
-    (can_align c.args.infos.now c.args.options.now c.args.node c.args.form.now (Form.Elementwise c.in-Elementwise.op c.in-Elementwise.args) c.args.first c.copying-copies.result
-    c.copying-copies.ensures.setting c.in-Elementwise.is (grow.fitting.1 c.args.first)).rechunks
+    subst (λ (f : Form). All IsRechunk (operands_of c.args.infos.now c.args.node f)) (sym c.in-Elementwise.is) (grow.fitting.1 c.args.first).rechunks
 
 pub align_operands-requires-in-Matmul-clause-operands : goal.align_operands-requires-in-Matmul-clause-operands
 align_operands-requires-in-Matmul-clause-operands c =

@@ -29,15 +29,15 @@ copied-requires-clause-region c = (small c.args.s.now c.args.rechunk.now c.stagi
 
 pub copied-requires-then-at-eq0-clause-made : goal.copied-requires-then-at-eq0-clause-made
 copied-requires-then-at-eq0-clause-made c =
-    rw c.in_chunks-between.ensures (small c.args.s.now c.args.rechunk.now c.staging_of-staging.result c.staging_of-staging.ensures c.requires.setting c.requires.rechunk).middle
+    rw c.array_between-between.ensures (small c.args.s.now c.args.rechunk.now c.staging_of-staging.result c.staging_of-staging.ensures c.requires.setting c.requires.rechunk).middle
 
 pub copied-requires-then-at-eq0-clause-region : goal.copied-requires-then-at-eq0-clause-region
 copied-requires-then-at-eq0-clause-region c = (small c.args.s.now c.args.rechunk.now c.staging_of-staging.result c.staging_of-staging.ensures c.requires.setting c.requires.rechunk).read
 
 pub copied-requires-else-at-eq0-clause-from : goal.copied-requires-else-at-eq0-clause-from
 copied-requires-else-at-eq0-clause-from c =
-    rw c.in_chunks-between.ensures (small c.args.s.now c.args.rechunk.now c.staging_of-staging.result c.staging_of-staging.ensures c.requires.setting c.requires.rechunk).middle
+    rw c.array_between-between.ensures (small c.args.s.now c.args.rechunk.now c.staging_of-staging.result c.staging_of-staging.ensures c.requires.setting c.requires.rechunk).middle
 
 pub copied-requires-else-at-eq0-clause-region : goal.copied-requires-else-at-eq0-clause-region
 copied-requires-else-at-eq0-clause-region c =
-    rw c.in_chunks-between.ensures (small c.args.s.now c.args.rechunk.now c.staging_of-staging.result c.staging_of-staging.ensures c.requires.setting c.requires.rechunk).write
+    rw c.array_between-between.ensures (small c.args.s.now c.args.rechunk.now c.staging_of-staging.result c.staging_of-staging.ensures c.requires.setting c.requires.rechunk).write

@@ -4,7 +4,7 @@ use Rattle.cu_lower_reduce.proofs.Operands.{operands_come, operands_given, opera
 use Rattle.cu_lower_reduce.proofs.laws.operands_law.Goals as goal
 
 pub returns-clause-steps : goal.returns-clause-steps
-returns-clause-steps c = λ arrays s sources rs k few h i o. operands_hold arrays s sources s.first sources rs h.staged (omega arith) (All-contains_itself sources) i o
+returns-clause-steps c = λ arrays s sources rs h i o. operands_hold arrays s sources s.first sources rs h.staged (omega arith) (All-contains_itself sources) i o
 
 pub returns-clause-places : goal.returns-clause-places
 returns-clause-places c = operands_placed
@@ -13,7 +13,7 @@ pub returns-clause-given : goal.returns-clause-given
 returns-clause-given c = λ s sources rs e. operands_given s sources s.first _ sources rs (omega arith) (All-contains_itself sources) (omega arith)
 
 pub returns-clause-sizes : goal.returns-clause-sizes
-returns-clause-sizes c = λ s sources rs k few h e. operands_come s sources rs h.staged e
+returns-clause-sizes c = λ s sources rs h e. operands_come s sources rs h.staged e
 
 pub returns-clause-value : goal.returns-clause-value
 returns-clause-value c = operands_value

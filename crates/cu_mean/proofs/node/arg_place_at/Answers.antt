@@ -11,7 +11,7 @@ use Rattle.cu_mean.proofs.node.arg_place_at.Goals as goal
 
 pub returns-in-Some : goal.returns-in-Some
 returns-in-Some c env k e =
-    let s = c.as_slice.ensures in
+    let s = c.as_slice-args.ensures in
     let fits : SFits w64 c.in-Some.number = search rules in
     let x = ap (λ (n : ℤ). Some (n ∷ [])) (to_z-of_z w64 c.in-Some.number fits) ∙ sym (ap place_axes c.in-Some.is) in
     to_z-of_z w128 c.place_at.result (record { sfits = c.place_at.type_inv })

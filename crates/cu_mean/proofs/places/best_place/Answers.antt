@@ -2,7 +2,7 @@ use Rattle.std.proofs.Common.{◌≡◌, ◌+◌, ◌-◌, ◌∷◌, ℕ, ℤ, 
 use Rattle.std.specs.Int.{w128}
 use Rattle.std.proofs.lemmas.Int.{to_z-of_z}
 use Rattle.cu_meaning.specs.Argument.{source_at}
-use Rattle.cu_mean.specs.Places.{IsBest}
+use Rattle.cu_mean.specs.Places.{IsBestFrom}
 use Rattle.cu_mean.specs.Reading.{elements_in}
 use Rattle.cu_mean.proofs.Along.{along_from, along_front, none_along}
 use Rattle.cu_mean.proofs.places.best_place.Goals as goal
@@ -16,8 +16,8 @@ loop-place-preserved c =
     let n = c.unwrap-count.result in
     let rest = along_from element start sizes p n in
     let back : p ≡ p - 1 + 1 = omega arith in
-    let before = subst (λ (k : ℕ). IsBest c.args.least k rest c.loop-place.best) back c.loop-place.invariant in
+    let before = subst (λ (k : ℕ). IsBestFrom c.args.least k rest c.loop-place.best) back c.loop-place.invariant in
     let step = c.best_with-best.ensures rest before (none_along element start sizes p n c.loop-place-test.true c.loop-place.auto.place) in
     let x = to_z-of_z w128 c.element_along-x.result (record { sfits = c.element_along-x.type_inv }) ∙ c.element_along-x.ensures in
     let front = ap (λ (e : ℤ). e ∷ rest) x ∙ sym (along_front element start sizes p n c.loop-place-test.true c.loop-place.auto.place) in
-    subst (λ xs. IsBest c.args.least (p - 1) xs c.best_with-best.result) front step
+    subst (λ xs. IsBestFrom c.args.least (p - 1) xs c.best_with-best.result) front step

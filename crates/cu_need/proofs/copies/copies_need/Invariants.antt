@@ -1,8 +1,8 @@
 use Rattle.std.proofs.Common.{◌≡◌, max, map, drop}
-use Rattle.cu_need.specs.Chunks.{greatest}
+use Rattle.cu_need.specs.Chunks.{largest}
 use Rattle.cu_copy.specs.Copies.{rechunk_need}
 use Rattle.cu_need.proofs.copies.copies_need.Given as goal
 
 -- what is left adds its own
 abbrev pub invariant-loop-rechunk : goal.invariant-loop-rechunk
-invariant-loop-rechunk l = max l.most (greatest (map (rechunk_need l.reserved) (drop l.rechunk-index l.copies))) ≡ greatest (map (rechunk_need l.reserved) l.copies)
+invariant-loop-rechunk l = max l.most (largest (map (rechunk_need l.reserved) (drop l.rechunk-index l.copies))) ≡ largest (map (rechunk_need l.reserved) l.copies)

@@ -1,7 +1,7 @@
 use Rattle.std.proofs.Common.{◌≡◌, ◌≤◌, ◌+◌, ◌*◌, ◌^◌, true, max, map, drop}
 use Rattle.std.specs.Prelude.{sum_by}
 use Rattle.cu_typing.specs.Joined.{aligned_within}
-use Rattle.cu_need.specs.Chunks.{arrays_in, chunk_bytes, aligned_bytes, greatest}
+use Rattle.cu_need.specs.Chunks.{arrays_in, chunk_bytes, aligned_bytes, largest}
 use Rattle.cu_need.proofs.elementwise.function_need.Given as goal
 
 -- the arrays that are left add theirs
@@ -10,6 +10,6 @@ invariant-loop-arg l = record {
   small : l.scratch ≤ 2 ^ 28;
   few : l.regions ≤ l.arg-index * 2 ^ 28;
   within : aligned_within l.made.dims l.made.chunk (arrays_in l.infos (drop l.arg-index l.args)) ≡ true;
-  scratch : max l.scratch (greatest (map (aligned_bytes l.made) (arrays_in l.infos (drop l.arg-index l.args)))) ≡ max (chunk_bytes l.made) (greatest (map (aligned_bytes l.made) (arrays_in l.infos l.args)));
+  scratch : max l.scratch (largest (map (aligned_bytes l.made) (arrays_in l.infos (drop l.arg-index l.args)))) ≡ max (chunk_bytes l.made) (largest (map (aligned_bytes l.made) (arrays_in l.infos l.args)));
   regions : l.regions + sum_by (aligned_bytes l.made) (arrays_in l.infos (drop l.arg-index l.args)) ≡ sum_by (aligned_bytes l.made) (arrays_in l.infos l.args);
 }

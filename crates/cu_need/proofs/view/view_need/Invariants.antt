@@ -1,10 +1,10 @@
 use Rattle.std.proofs.Common.{◌≡◌, ◌≤◌, ◌^◌, max, map, drop}
-use Rattle.cu_need.specs.Chunks.{arrays_in, chunk_bytes, greatest}
+use Rattle.cu_need.specs.Chunks.{arrays_in, chunk_bytes, largest}
 use Rattle.cu_need.proofs.view.view_need.Given as goal
 
 -- the arrays that are left add theirs
 abbrev pub invariant-loop-arg : goal.invariant-loop-arg
 invariant-loop-arg l = record {
   small : l.scratch ≤ 2 ^ 28;
-  scratch : max l.scratch (greatest (map chunk_bytes (arrays_in l.infos (drop l.arg-index l.args)))) ≡ max (chunk_bytes l.made) (greatest (map chunk_bytes (arrays_in l.infos l.args)));
+  scratch : max l.scratch (largest (map chunk_bytes (arrays_in l.infos (drop l.arg-index l.args)))) ≡ max (chunk_bytes l.made) (largest (map chunk_bytes (arrays_in l.infos l.args)));
 }

@@ -1,14 +1,14 @@
 use Rattle.std.proofs.Common.{◌≡◌, ◌+◌, ◌*◌, max, map, refl, arith}
 use Rattle.cu_op.specs.Arrays.{chunk_room}
 use Rattle.cu_op.specs.Operation.{reads_of, writes_of}
-use Rattle.cu_op.specs.Projection.{greatest, projection, instruction_count}
+use Rattle.cu_op.specs.Projection.{largest, projection, instruction_count}
 use Rattle.cu_op.proofs.Plans.{projection_parts}
 use Rattle.cu_op.proofs.memory.projection_of.Goals as goal
 
 -- what has been computed before the sum
 whole : (c : goal.After-output_room-outputs) → c.args.reserved + c.max-scratch.result + c.input_room-inputs.result + c.output_room-outputs.result + 512 * instruction_count c.args.op.now ≡ projection c.args.arrays.now c.args.reserved c.args.op.now
 whole c =
-    let a : c.max-scratch.result ≡ max (greatest (map (chunk_room c.args.arrays.now) (reads_of c.args.op.now))) (greatest (map (chunk_room c.args.arrays.now) (writes_of c.args.op.now))) =
+    let a : c.max-scratch.result ≡ max (largest (map (chunk_room c.args.arrays.now) (reads_of c.args.op.now))) (largest (map (chunk_room c.args.arrays.now) (writes_of c.args.op.now))) =
     rw (c.max-scratch.ensures, c.greatest_read.ensures, c.greatest_written.ensures) refl in
     projection_parts c.args.op.now c.args.arrays.now c.args.reserved c.max-scratch.result c.input_room-inputs.result c.output_room-outputs.result a c.input_room-inputs.ensures c.output_room-outputs.ensures
 

@@ -1,4 +1,4 @@
-use Rattle.std.proofs.Common.{◌≡◌, ◌≢◌, ◌+◌, ◌*◌, ◌≤◌, length, sym, ap, ◌∙◌, arith}
+use Rattle.std.proofs.Common.{◌≡◌, ◌≢◌, ◌+◌, ◌*◌, ◌≤◌, ℕ, length, sym, ap, ◌∙◌, subst, arith}
 use Rattle.std.proofs.lemmas.Int.{ints}
 use Rattle.std.proofs.Math.Nat.{mul-le-mul_right}
 use Rattle.cu_num.specs.Dtype.{size_of}
@@ -9,6 +9,8 @@ use Rattle.cu_num.proofs.ElementBytes.{bytes_at-written_at_same, bytes_at-writte
 use Rattle.cu_pairs.proofs.Parts.{kept}
 use Rattle.cu_pairs.proofs.BlockParts.{block_reaches}
 use Rattle.cu_pairs.proofs.RunSteps.{runs_more}
+use Rattle.cu_pairs.specs.Columns.{table}
+use Rattle.cu_pairs.specs.Blocks.{sizes, HasBestsAlong}
 use Rattle.cu_pairs.proofs.blocks.best_of_runs.Goals as goal
 
 pub loop-block-preserved : goal.loop-block-preserved
@@ -16,17 +18,17 @@ loop-block-preserved c =
     let t = c.args.t in
     let rows = c.args.rows in
     let block = c.loop-block.block in
-    let count = c.args.count in
+    let count = c.args.blocks.rows in
     let values = c.loop-block.values in
     let places = c.loop-block.places in
-    let below : block + 1 ≤ c.args.blocks = omega (arith, c.loop-block-test.true) in
-    let far : (block + 1) * size_of t ≤ c.args.blocks * size_of t = mul-le-mul_right (size_of t) below in
+    let below : block + 1 ≤ c.args.blocks.number = omega (arith, c.loop-block-test.true) in
+    let far : (block + 1) * size_of t ≤ c.args.blocks.number * size_of t = mul-le-mul_right (size_of t) below in
     let room : block * size_of t + size_of t ≤ length values = omega (arith, c.loop-block.invariant.values_length, c.requires.values) in
     let places_room : block * 8 + 8 ≤ length places = omega (arith, c.loop-block.invariant.places_length, c.requires.places) in
     let written = c.save.ensures in
     let places_written = c.save-in-loop-block.ensures in
     let read = kept c.load.result (record { sfits = c.load.type_inv }) ∙ c.load.ensures.value in
-    let end = block_reaches block c.args.blocks count rows.width (size_of t) (length rows.bytes.now) c.loop-block-test.true c.requires.rows.bytes in
+    let end = block_reaches block c.args.blocks.number count rows.width (size_of t) (length rows.bytes.now) c.loop-block-test.true c.requires.rows.bytes in
     let one : (block * count + count) * size_of t ≡ (block * count * rows.width + count * rows.width) * size_of t =
     (let each : (block * count + count) * size_of t ≡ (block * count * 1 + count * 1) * size_of t = omega arith in each) ∙ ap (λ w. (block * count * w + count * w) * size_of t) (sym c.requires.width) in
     let v = ap (λ all. bytes_at t all block) written ∙ bytes_at-written_at_same t values _ block (length-element_bytes Little t _) room in
@@ -42,3 +44,10 @@ loop-block-preserved c =
           ))
           c.loop-block.invariant.done;
     }
+
+pub returns : goal.returns
+returns c =
+    let rows = c.args.rows in
+    let all : c.loop-block.block ≡ c.args.blocks.number = omega (arith, c.loop-block-test.false, c.loop-block.auto.block-end) in
+    subst (λ (n : ℕ). HasBestsAlong c.args.least (table c.args.t rows.width rows.bytes.now rows.first rows.places.now) (sizes n c.args.blocks.rows) c.loop-block.values c.loop-block.places) all
+    c.loop-block.invariant.done

@@ -1,13 +1,13 @@
 use Rattle.cu_need.specs.Counts.{over_limit}
 use Rattle.cu_need.specs.Need.{first_over}
 use Rattle.cu_plan.proofs.Refused.{none_refused, memory_refused, limit_refused, refused_node, refused_limit, refused_none, first_limit, limit_found, node_found}
-use Rattle.cu_plan.specs.Refusal.{counts_of}
+use Rattle.cu_plan.specs.Refusal.{planned_counts}
 use Rattle.cu_plan.proofs.laws.refusal_law.Goals as goal
 
 pub returns-clause-over_memory : goal.returns-clause-over_memory
 returns-clause-over_memory c = λ options e infos node need allowed.
     let o = first_over options.allowed options.reserved options.split_every e infos in
-    let l = over_limit (counts_of options e infos) in (
+    let l = over_limit (planned_counts options e infos) in (
       λ refused.
           let found = refused_node options.allowed o l node need allowed refused in
           (found.0, c.over_law.ensures.found options.allowed options.reserved options.split_every e infos (record { node = node; need = need }) found.1),
@@ -20,18 +20,18 @@ returns-clause-over_memory c = λ options e infos node need allowed.
 pub returns-clause-over_limit : goal.returns-clause-over_limit
 returns-clause-over_limit c = λ options e infos which count.
     let o = first_over options.allowed options.reserved options.split_every e infos in
-    let l = over_limit (counts_of options e infos) in
+    let l = over_limit (planned_counts options e infos) in
     let none = c.over_law.ensures.none options.allowed options.reserved options.split_every e infos in (
-      λ refused. let found = refused_limit options.allowed o l which count refused in (none.0 found.0, first_limit (counts_of options e infos) which count found.1),
-      λ both. limit_refused options.allowed o l (record { which = which; count = count }) (none.1 both.0) (limit_found (counts_of options e infos) which count both.1),
+      λ refused. let found = refused_limit options.allowed o l which count refused in (none.0 found.0, first_limit (planned_counts options e infos) which count found.1),
+      λ both. limit_refused options.allowed o l (record { which = which; count = count }) (none.1 both.0) (limit_found (planned_counts options e infos) which count both.1),
     )
 
 pub returns-clause-none : goal.returns-clause-none
 returns-clause-none c = λ options e infos.
     let o = first_over options.allowed options.reserved options.split_every e infos in
-    let l = over_limit (counts_of options e infos) in
+    let l = over_limit (planned_counts options e infos) in
     let none = c.over_law.ensures.none options.allowed options.reserved options.split_every e infos in
-    let kept = c.counts_law.ensures (counts_of options e infos) in (
+    let kept = c.counts_law.ensures (planned_counts options e infos) in (
       λ refused.
           let found = refused_none options.allowed o l refused in
           let few = kept.0 found.1 in

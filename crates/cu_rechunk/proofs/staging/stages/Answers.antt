@@ -1,5 +1,6 @@
-use Rattle.std.proofs.Common.{◌/◌}
+use Rattle.std.proofs.Common.{◌/◌, sym, subst}
 use Rattle.cu_shape.specs.Index.{product}
+use Rattle.cu_rechunk.specs.Tiles.{Tiles}
 use Rattle.cu_rechunk.proofs.Copies.{fits_of, planned, tiles_of}
 use Rattle.cu_rechunk.proofs.staging.stages.Goals as goal
 
@@ -14,6 +15,7 @@ stages_in-requires-clause-target_fits c =
 pub returns-clause-tiles : goal.returns-clause-tiles
 returns-clause-tiles c =
     let f = fits_of (product c.args.source.now) (product c.args.target.now) c.args.item c.args.max_mem c.greater_bytes-bytes.result c.requires.some c.greater_bytes-bytes.ensures c.if-bytes-max_mem.false in
-    rw (c.stages_in.ensures.read, c.stages_in.ensures.middle, c.stages_in.ensures.write)
+    subst (Tiles c.args.shape.now c.args.target.now c.args.item c.args.max_mem)
+    (λ i. record { read = sym c.stages_in.ensures.read i; middle = sym c.stages_in.ensures.middle i; write = sym c.stages_in.ensures.write i })
     (tiles_of c.args.shape.now c.args.source.now c.args.target.now c.args.item c.args.max_mem c.requires.target_rank
     (planned c.args.shape.now c.args.source.now c.args.target.now (c.args.max_mem / c.args.item) c.requires.source_rank c.requires.target_rank c.requires.source_positive c.requires.target_positive f.0 f.1))

@@ -22,9 +22,9 @@ write_array-requires-clause-array g c =
 
 pub returns-in_err-write_array-clause-step : goal.returns-in_err-write_array-clause-step
 returns-in_err-write_array-clause-step g c start over_values over_places =
-    let same_values = carries c.args.plan.now c.operation-planned.ensures.sound c.args.op c.args.task c.requires.operation c.requires.task c.args.array (subst (λ (xs : List ℕ). Contains xs c.args.array) (sym c.requires.both) (0, omega arith, refl)) start c.args.values.now over_values in
+    let same_values = carries c.args.plan.now c.operation-planned.ensures.sound c.args.op c.args.task c.requires.operation c.requires.task c.args.array (subst (λ (xs : List ℕ). Contains xs c.args.array) (sym c.requires.both) (0, omega arith, refl)) start c.args.found.values.now over_values in
     let calls_both = both_calls c.args.plan.now.arrays (op_of c.args.plan.now c.args.op) c.args.task c.args.array c.requires.both in
-    let first : Steps (TaskChange c.args.plan.now c.args.op c.args.task start) 0 (length (walk_cells c.args.plan.now.arrays (walk c.args.array (task_lo c.args.plan.now.arrays (op_of c.args.plan.now c.args.op) c.args.task) (task_hi c.args.plan.now.arrays (op_of c.args.plan.now c.args.op) c.args.task)))) (g.D.Depot.shown c.args.depot.now) (g.D.Depot.shown c.write_array.new.depot) = steps_wider (puts_cells c.args.plan.now c.operation-planned.ensures.sound c.args.op c.args.task c.requires.operation c.requires.task c.args.array (subst (λ (xs : List ℕ). Contains xs c.args.array) (sym c.requires.both) (0, omega arith, refl)) start c.args.values.now same_values) (omega arith) (omega arith) c.write_array.ensures.step in
+    let first : Steps (TaskChange c.args.plan.now c.args.op c.args.task start) 0 (length (walk_cells c.args.plan.now.arrays (walk c.args.array (task_lo c.args.plan.now.arrays (op_of c.args.plan.now c.args.op) c.args.task) (task_hi c.args.plan.now.arrays (op_of c.args.plan.now c.args.op) c.args.task)))) (g.D.Depot.shown c.args.depot.now) (g.D.Depot.shown c.write_array.new.depot) = steps_wider (puts_cells c.args.plan.now c.operation-planned.ensures.sound c.args.op c.args.task c.requires.operation c.requires.task c.args.array (subst (λ (xs : List ℕ). Contains xs c.args.array) (sym c.requires.both) (0, omega arith, refl)) start c.args.found.values.now same_values) (omega arith) (omega arith) c.write_array.ensures.step in
     steps_wider (λ key value change. change) (omega arith) (omega (arith, calls_both)) first
 
 pub write_array-requires-2-clause-array : goal.write_array-requires-2-clause-array
@@ -35,38 +35,38 @@ write_array-requires-2-clause-array g c =
 pub write_array-requires-2-clause-output : goal.write_array-requires-2-clause-output
 write_array-requires-2-clause-output g c =
     let target : c.target-target.result ≡ (target_of (op_of c.args.plan.now c.args.op)) = c.target-target.ensures ∙ ap (λ (o : Planned). target_of o.op) c.operation.ensures.operation in
-    subst (λ (a : ℕ). length c.args.places.now ≡ result_room c.args.plan.now c.args.op c.args.task a) (sym target) c.requires.places
+    subst (λ (a : ℕ). length c.args.found.places.now ≡ result_room c.args.plan.now c.args.op c.args.task a) (sym target) c.requires.places
 
 pub write_array-requires-2-clause-elements : goal.write_array-requires-2-clause-elements
 write_array-requires-2-clause-elements g c =
     let target : c.target-target.result ≡ (target_of (op_of c.args.plan.now c.args.op)) = c.target-target.ensures ∙ ap (λ (o : Planned). target_of o.op) c.operation.ensures.operation in
-    subst (λ (a : ℕ). AreElements (type_at c.args.plan.now.arrays a) c.args.places.now) (sym target) c.requires.place_elements
+    subst (λ (a : ℕ). AreElements (type_at c.args.plan.now.arrays a) c.args.found.places.now) (sym target) c.requires.place_elements
 
 pub returns-clause-step : goal.returns-clause-step
 returns-clause-step g c start over_values over_places =
     let target : c.target-target.result ≡ (target_of (op_of c.args.plan.now c.args.op)) = c.target-target.ensures ∙ ap (λ (o : Planned). target_of o.op) c.operation.ensures.operation in
-    let same_values = carries c.args.plan.now c.operation-planned.ensures.sound c.args.op c.args.task c.requires.operation c.requires.task c.args.array (subst (λ (xs : List ℕ). Contains xs c.args.array) (sym c.requires.both) (0, omega arith, refl)) start c.args.values.now over_values in
-    let same_places = carries c.args.plan.now c.operation-planned.ensures.sound c.args.op c.args.task c.requires.operation c.requires.task (target_of (op_of c.args.plan.now c.args.op)) (target_written (op_of c.args.plan.now c.args.op)) start c.args.places.now over_places in
+    let same_values = carries c.args.plan.now c.operation-planned.ensures.sound c.args.op c.args.task c.requires.operation c.requires.task c.args.array (subst (λ (xs : List ℕ). Contains xs c.args.array) (sym c.requires.both) (0, omega arith, refl)) start c.args.found.values.now over_values in
+    let same_places = carries c.args.plan.now c.operation-planned.ensures.sound c.args.op c.args.task c.requires.operation c.requires.task (target_of (op_of c.args.plan.now c.args.op)) (target_written (op_of c.args.plan.now c.args.op)) start c.args.found.places.now over_places in
     let calls_both = both_calls c.args.plan.now.arrays (op_of c.args.plan.now c.args.op) c.args.task c.args.array c.requires.both in
-    let first : Steps (TaskChange c.args.plan.now c.args.op c.args.task start) 0 (length (walk_cells c.args.plan.now.arrays (walk c.args.array (task_lo c.args.plan.now.arrays (op_of c.args.plan.now c.args.op) c.args.task) (task_hi c.args.plan.now.arrays (op_of c.args.plan.now c.args.op) c.args.task)))) (g.D.Depot.shown c.args.depot.now) (g.D.Depot.shown c.write_array.new.depot) = steps_wider (puts_cells c.args.plan.now c.operation-planned.ensures.sound c.args.op c.args.task c.requires.operation c.requires.task c.args.array (subst (λ (xs : List ℕ). Contains xs c.args.array) (sym c.requires.both) (0, omega arith, refl)) start c.args.values.now same_values) (omega arith) (omega arith) c.write_array.ensures.step in
-    let second : Steps (TaskChange c.args.plan.now c.args.op c.args.task start) 0 (length (walk_cells c.args.plan.now.arrays (walk (target_of (op_of c.args.plan.now c.args.op)) (task_lo c.args.plan.now.arrays (op_of c.args.plan.now c.args.op) c.args.task) (task_hi c.args.plan.now.arrays (op_of c.args.plan.now c.args.op) c.args.task)))) (g.D.Depot.shown c.write_array.new.depot) (g.D.Depot.shown c.write_array-2.new.depot) = steps_wider (puts_cells c.args.plan.now c.operation-planned.ensures.sound c.args.op c.args.task c.requires.operation c.requires.task (target_of (op_of c.args.plan.now c.args.op)) (target_written (op_of c.args.plan.now c.args.op)) start c.args.places.now same_places) (omega arith) (omega arith) (subst (λ (a : ℕ). Steps (RegionPut (array_at c.args.plan.now.arrays a) (task_lo c.args.plan.now.arrays (op_of c.args.plan.now c.args.op) c.args.task) (task_hi c.args.plan.now.arrays (op_of c.args.plan.now c.args.op) c.args.task) c.args.places.now) 0 (length (walk_cells c.args.plan.now.arrays (walk a (task_lo c.args.plan.now.arrays (op_of c.args.plan.now c.args.op) c.args.task) (task_hi c.args.plan.now.arrays (op_of c.args.plan.now c.args.op) c.args.task)))) (g.D.Depot.shown c.write_array.new.depot) (g.D.Depot.shown c.write_array-2.new.depot)) target c.write_array-2.ensures.step) in
+    let first : Steps (TaskChange c.args.plan.now c.args.op c.args.task start) 0 (length (walk_cells c.args.plan.now.arrays (walk c.args.array (task_lo c.args.plan.now.arrays (op_of c.args.plan.now c.args.op) c.args.task) (task_hi c.args.plan.now.arrays (op_of c.args.plan.now c.args.op) c.args.task)))) (g.D.Depot.shown c.args.depot.now) (g.D.Depot.shown c.write_array.new.depot) = steps_wider (puts_cells c.args.plan.now c.operation-planned.ensures.sound c.args.op c.args.task c.requires.operation c.requires.task c.args.array (subst (λ (xs : List ℕ). Contains xs c.args.array) (sym c.requires.both) (0, omega arith, refl)) start c.args.found.values.now same_values) (omega arith) (omega arith) c.write_array.ensures.step in
+    let second : Steps (TaskChange c.args.plan.now c.args.op c.args.task start) 0 (length (walk_cells c.args.plan.now.arrays (walk (target_of (op_of c.args.plan.now c.args.op)) (task_lo c.args.plan.now.arrays (op_of c.args.plan.now c.args.op) c.args.task) (task_hi c.args.plan.now.arrays (op_of c.args.plan.now c.args.op) c.args.task)))) (g.D.Depot.shown c.write_array.new.depot) (g.D.Depot.shown c.write_array-2.new.depot) = steps_wider (puts_cells c.args.plan.now c.operation-planned.ensures.sound c.args.op c.args.task c.requires.operation c.requires.task (target_of (op_of c.args.plan.now c.args.op)) (target_written (op_of c.args.plan.now c.args.op)) start c.args.found.places.now same_places) (omega arith) (omega arith) (subst (λ (a : ℕ). Steps (RegionPut (array_at c.args.plan.now.arrays a) (task_lo c.args.plan.now.arrays (op_of c.args.plan.now c.args.op) c.args.task) (task_hi c.args.plan.now.arrays (op_of c.args.plan.now c.args.op) c.args.task) c.args.found.places.now) 0 (length (walk_cells c.args.plan.now.arrays (walk a (task_lo c.args.plan.now.arrays (op_of c.args.plan.now c.args.op) c.args.task) (task_hi c.args.plan.now.arrays (op_of c.args.plan.now c.args.op) c.args.task)))) (g.D.Depot.shown c.write_array.new.depot) (g.D.Depot.shown c.write_array-2.new.depot)) target c.write_array-2.ensures.step) in
     steps_wider (λ key value change. change) (omega arith) (omega (arith, calls_both)) (steps_then first second)
 
 pub returns-clause-stored : goal.returns-clause-stored
 returns-clause-stored g c env start calls over_values over_places ready before =
     let target : c.target-target.result ≡ (target_of (op_of c.args.plan.now c.args.op)) = c.target-target.ensures ∙ ap (λ (o : Planned). target_of o.op) c.operation.ensures.operation in
-    let same_values = carries c.args.plan.now c.operation-planned.ensures.sound c.args.op c.args.task c.requires.operation c.requires.task c.args.array (subst (λ (xs : List ℕ). Contains xs c.args.array) (sym c.requires.both) (0, omega arith, refl)) start c.args.values.now over_values in
-    let same_places = carries c.args.plan.now c.operation-planned.ensures.sound c.args.op c.args.task c.requires.operation c.requires.task (target_of (op_of c.args.plan.now c.args.op)) (target_written (op_of c.args.plan.now c.args.op)) start c.args.places.now over_places in
-    let first : Steps (TaskChange c.args.plan.now c.args.op c.args.task start) 0 (length (walk_cells c.args.plan.now.arrays (walk c.args.array (task_lo c.args.plan.now.arrays (op_of c.args.plan.now c.args.op) c.args.task) (task_hi c.args.plan.now.arrays (op_of c.args.plan.now c.args.op) c.args.task)))) (g.D.Depot.shown c.args.depot.now) (g.D.Depot.shown c.write_array.new.depot) = steps_wider (puts_cells c.args.plan.now c.operation-planned.ensures.sound c.args.op c.args.task c.requires.operation c.requires.task c.args.array (subst (λ (xs : List ℕ). Contains xs c.args.array) (sym c.requires.both) (0, omega arith, refl)) start c.args.values.now same_values) (omega arith) (omega arith) c.write_array.ensures.step in
-    let second : Steps (TaskChange c.args.plan.now c.args.op c.args.task start) 0 (length (walk_cells c.args.plan.now.arrays (walk (target_of (op_of c.args.plan.now c.args.op)) (task_lo c.args.plan.now.arrays (op_of c.args.plan.now c.args.op) c.args.task) (task_hi c.args.plan.now.arrays (op_of c.args.plan.now c.args.op) c.args.task)))) (g.D.Depot.shown c.write_array.new.depot) (g.D.Depot.shown c.write_array-2.new.depot) = steps_wider (puts_cells c.args.plan.now c.operation-planned.ensures.sound c.args.op c.args.task c.requires.operation c.requires.task (target_of (op_of c.args.plan.now c.args.op)) (target_written (op_of c.args.plan.now c.args.op)) start c.args.places.now same_places) (omega arith) (omega arith) (subst (λ (a : ℕ). Steps (RegionPut (array_at c.args.plan.now.arrays a) (task_lo c.args.plan.now.arrays (op_of c.args.plan.now c.args.op) c.args.task) (task_hi c.args.plan.now.arrays (op_of c.args.plan.now c.args.op) c.args.task) c.args.places.now) 0 (length (walk_cells c.args.plan.now.arrays (walk a (task_lo c.args.plan.now.arrays (op_of c.args.plan.now c.args.op) c.args.task) (task_hi c.args.plan.now.arrays (op_of c.args.plan.now c.args.op) c.args.task)))) (g.D.Depot.shown c.write_array.new.depot) (g.D.Depot.shown c.write_array-2.new.depot)) target c.write_array-2.ensures.step) in
-    let values = c.in_ok-write_array.ensures.stored (late_own c.args.plan.now c.operation-planned.ensures.sound c.args.op c.args.task c.requires.operation c.requires.task c.args.array (subst (λ (xs : List ℕ). Contains xs c.args.array) (sym c.requires.both) (0, omega arith, refl)) env start (g.D.Depot.shown c.args.depot.now) 0 calls c.args.values.now same_values ready before) in
+    let same_values = carries c.args.plan.now c.operation-planned.ensures.sound c.args.op c.args.task c.requires.operation c.requires.task c.args.array (subst (λ (xs : List ℕ). Contains xs c.args.array) (sym c.requires.both) (0, omega arith, refl)) start c.args.found.values.now over_values in
+    let same_places = carries c.args.plan.now c.operation-planned.ensures.sound c.args.op c.args.task c.requires.operation c.requires.task (target_of (op_of c.args.plan.now c.args.op)) (target_written (op_of c.args.plan.now c.args.op)) start c.args.found.places.now over_places in
+    let first : Steps (TaskChange c.args.plan.now c.args.op c.args.task start) 0 (length (walk_cells c.args.plan.now.arrays (walk c.args.array (task_lo c.args.plan.now.arrays (op_of c.args.plan.now c.args.op) c.args.task) (task_hi c.args.plan.now.arrays (op_of c.args.plan.now c.args.op) c.args.task)))) (g.D.Depot.shown c.args.depot.now) (g.D.Depot.shown c.write_array.new.depot) = steps_wider (puts_cells c.args.plan.now c.operation-planned.ensures.sound c.args.op c.args.task c.requires.operation c.requires.task c.args.array (subst (λ (xs : List ℕ). Contains xs c.args.array) (sym c.requires.both) (0, omega arith, refl)) start c.args.found.values.now same_values) (omega arith) (omega arith) c.write_array.ensures.step in
+    let second : Steps (TaskChange c.args.plan.now c.args.op c.args.task start) 0 (length (walk_cells c.args.plan.now.arrays (walk (target_of (op_of c.args.plan.now c.args.op)) (task_lo c.args.plan.now.arrays (op_of c.args.plan.now c.args.op) c.args.task) (task_hi c.args.plan.now.arrays (op_of c.args.plan.now c.args.op) c.args.task)))) (g.D.Depot.shown c.write_array.new.depot) (g.D.Depot.shown c.write_array-2.new.depot) = steps_wider (puts_cells c.args.plan.now c.operation-planned.ensures.sound c.args.op c.args.task c.requires.operation c.requires.task (target_of (op_of c.args.plan.now c.args.op)) (target_written (op_of c.args.plan.now c.args.op)) start c.args.found.places.now same_places) (omega arith) (omega arith) (subst (λ (a : ℕ). Steps (RegionPut (array_at c.args.plan.now.arrays a) (task_lo c.args.plan.now.arrays (op_of c.args.plan.now c.args.op) c.args.task) (task_hi c.args.plan.now.arrays (op_of c.args.plan.now c.args.op) c.args.task) c.args.found.places.now) 0 (length (walk_cells c.args.plan.now.arrays (walk a (task_lo c.args.plan.now.arrays (op_of c.args.plan.now c.args.op) c.args.task) (task_hi c.args.plan.now.arrays (op_of c.args.plan.now c.args.op) c.args.task)))) (g.D.Depot.shown c.write_array.new.depot) (g.D.Depot.shown c.write_array-2.new.depot)) target c.write_array-2.ensures.step) in
+    let values = c.in_ok-write_array.ensures.stored (late_own c.args.plan.now c.operation-planned.ensures.sound c.args.op c.args.task c.requires.operation c.requires.task c.args.array (subst (λ (xs : List ℕ). Contains xs c.args.array) (sym c.requires.both) (0, omega arith, refl)) env start (g.D.Depot.shown c.args.depot.now) 0 calls c.args.found.values.now same_values ready before) in
     let between : Steps (TaskChange c.args.plan.now c.args.op c.args.task start) 0 (calls + (length (walk_cells c.args.plan.now.arrays (walk c.args.array (task_lo c.args.plan.now.arrays (op_of c.args.plan.now c.args.op) c.args.task) (task_hi c.args.plan.now.arrays (op_of c.args.plan.now c.args.op) c.args.task))))) start (g.D.Depot.shown c.write_array.new.depot) = steps_then before first in
-    let stored = subst (λ (a : ℕ). LateIsOwn (array_at c.args.plan.now.arrays a) (task_lo c.args.plan.now.arrays (op_of c.args.plan.now c.args.op) c.args.task) (task_hi c.args.plan.now.arrays (op_of c.args.plan.now c.args.op) c.args.task) c.args.places.now (g.D.Depot.shown c.write_array.new.depot).late → OnOk c.write_array-2.result (StoresRegion (array_at c.args.plan.now.arrays a) (task_lo c.args.plan.now.arrays (op_of c.args.plan.now c.args.op) c.args.task) (task_hi c.args.plan.now.arrays (op_of c.args.plan.now c.args.op) c.args.task) c.args.places.now (g.D.Depot.shown c.write_array-2.new.depot).held)) target c.write_array-2.ensures.stored in
+    let stored = subst (λ (a : ℕ). LateIsOwn (array_at c.args.plan.now.arrays a) (task_lo c.args.plan.now.arrays (op_of c.args.plan.now c.args.op) c.args.task) (task_hi c.args.plan.now.arrays (op_of c.args.plan.now c.args.op) c.args.task) c.args.found.places.now (g.D.Depot.shown c.write_array.new.depot).late → OnOk c.write_array-2.result (StoresRegion (array_at c.args.plan.now.arrays a) (task_lo c.args.plan.now.arrays (op_of c.args.plan.now c.args.op) c.args.task) (task_hi c.args.plan.now.arrays (op_of c.args.plan.now c.args.op) c.args.task) c.args.found.places.now (g.D.Depot.shown c.write_array-2.new.depot).held)) target c.write_array-2.ensures.stored in
     on_ok_then c.write_array-2.result (λ places cell there. elim (either_array c.args.plan.now c.operation-planned.ensures.sound c.args.op c.args.task c.requires.operation c.requires.task c.args.array (target_of (op_of c.args.plan.now c.args.op)) c.requires.both cell there) [
-      | inl here ↦ let (bytes, value, held) = holds_chunk c.args.plan.now c.operation-planned.ensures.sound c.args.op c.args.task c.requires.operation c.requires.task c.args.array (subst (λ (xs : List ℕ). Contains xs c.args.array) (sym c.requires.both) (0, omega arith, refl)) env start (g.D.Depot.shown c.write_array.new.depot) c.args.values.now same_values ready values cell here there in
+      | inl here ↦ let (bytes, value, held) = holds_chunk c.args.plan.now c.operation-planned.ensures.sound c.args.op c.args.task c.requires.operation c.requires.task c.args.array (subst (λ (xs : List ℕ). Contains xs c.args.array) (sym c.requires.both) (0, omega arith, refl)) env start (g.D.Depot.shown c.write_array.new.depot) c.args.found.values.now same_values ready values cell here there in
           (bytes, value, still_holds c.args.plan.now c.operation-planned.ensures.sound c.args.op c.args.task c.requires.operation c.requires.task env start (g.D.Depot.shown c.write_array.new.depot) (g.D.Depot.shown c.write_array-2.new.depot) 0 (calls + (length (walk_cells c.args.plan.now.arrays (walk c.args.array (task_lo c.args.plan.now.arrays (op_of c.args.plan.now c.args.op) c.args.task) (task_hi c.args.plan.now.arrays (op_of c.args.plan.now c.args.op) c.args.task))))) (length (walk_cells c.args.plan.now.arrays (walk (target_of (op_of c.args.plan.now c.args.op)) (task_lo c.args.plan.now.arrays (op_of c.args.plan.now c.args.op) c.args.task) (task_hi c.args.plan.now.arrays (op_of c.args.plan.now c.args.op) c.args.task)))) cell bytes ready between second there value held)
-      | inr here ↦ holds_chunk c.args.plan.now c.operation-planned.ensures.sound c.args.op c.args.task c.requires.operation c.requires.task (target_of (op_of c.args.plan.now c.args.op)) (target_written (op_of c.args.plan.now c.args.op)) env start (g.D.Depot.shown c.write_array-2.new.depot) c.args.places.now same_places ready places cell here there
-    ]) (stored (late_own c.args.plan.now c.operation-planned.ensures.sound c.args.op c.args.task c.requires.operation c.requires.task (target_of (op_of c.args.plan.now c.args.op)) (target_written (op_of c.args.plan.now c.args.op)) env start (g.D.Depot.shown c.write_array.new.depot) 0 (calls + (length (walk_cells c.args.plan.now.arrays (walk c.args.array (task_lo c.args.plan.now.arrays (op_of c.args.plan.now c.args.op) c.args.task) (task_hi c.args.plan.now.arrays (op_of c.args.plan.now c.args.op) c.args.task))))) c.args.places.now same_places ready between))
+      | inr here ↦ holds_chunk c.args.plan.now c.operation-planned.ensures.sound c.args.op c.args.task c.requires.operation c.requires.task (target_of (op_of c.args.plan.now c.args.op)) (target_written (op_of c.args.plan.now c.args.op)) env start (g.D.Depot.shown c.write_array-2.new.depot) c.args.found.places.now same_places ready places cell here there
+    ]) (stored (late_own c.args.plan.now c.operation-planned.ensures.sound c.args.op c.args.task c.requires.operation c.requires.task (target_of (op_of c.args.plan.now c.args.op)) (target_written (op_of c.args.plan.now c.args.op)) env start (g.D.Depot.shown c.write_array.new.depot) 0 (calls + (length (walk_cells c.args.plan.now.arrays (walk c.args.array (task_lo c.args.plan.now.arrays (op_of c.args.plan.now c.args.op) c.args.task) (task_hi c.args.plan.now.arrays (op_of c.args.plan.now c.args.op) c.args.task))))) c.args.found.places.now same_places ready between))
 
 pub returns-clause-all : goal.returns-clause-all
 returns-clause-all g c =

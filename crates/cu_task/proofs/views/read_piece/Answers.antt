@@ -1,6 +1,6 @@
 use Rattle.std.proofs.Common.{sym, ◌∙◌}
 use Rattle.std.proofs.lemmas.Bool.{true≢false}
-use Rattle.cu_task.specs.ViewJobs.{view_of}
+use Rattle.cu_task.specs.ViewJobs.{view_task_of}
 use Rattle.cu_task.specs.Views.{IsInPart}
 use Rattle.cu_task.proofs.ViewChunks.{needed, calls_unneeded, calls_needed}
 use Rattle.cu_task.proofs.ViewElements.{takes_nothing}
@@ -8,14 +8,14 @@ use Rattle.cu_task.proofs.views.read_piece.Goals as goal
 
 pub returns-then-not-is_needed-clause-takes : goal.returns-then-not-is_needed-clause-takes
 returns-then-not-is_needed-clause-takes g c told known =
-    takes_nothing (view_of c.args.job.now) c.args.source (IsInPart (view_of c.args.job.now) c.args.source c.args.coord.now) told c.args.output.now
-    (λ idx i w o part. true≢false (sym (c.is_needed.ensures.needed (needed (view_of c.args.job.now) c.args.source c.args.coord.now (record { idx = idx; i = i; within = w; origin = o; part = part }))) ∙ c.if-not-is_needed.true))
+    takes_nothing (view_task_of c.args.job.now) c.args.source (IsInPart (view_task_of c.args.job.now) c.args.source c.args.coord.now) told c.args.output.now
+    (λ idx i w o part. true≢false (sym (c.is_needed.ensures.needed (needed (view_task_of c.args.job.now) c.args.source c.args.coord.now (record { idx = idx; i = i; within = w; origin = o; part = part }))) ∙ c.if-not-is_needed.true))
 
 pub returns-then-not-is_needed-clause-step : goal.returns-then-not-is_needed-clause-step
 returns-then-not-is_needed-clause-step g c =
-    calls_unneeded (view_of c.args.job.now) c.args.source c.args.coord.now (g.D.Depot.shown c.args.depot.now) (λ needs. true≢false (sym (c.is_needed.ensures.needed needs) ∙ c.if-not-is_needed.true))
+    calls_unneeded (view_task_of c.args.job.now) c.args.source c.args.coord.now (g.D.Depot.shown c.args.depot.now) (λ needs. true≢false (sym (c.is_needed.ensures.needed needs) ∙ c.if-not-is_needed.true))
 
 pub returns-clause-step : goal.returns-clause-step
 returns-clause-step g c =
-    calls_needed (view_of c.args.job.now) c.args.source c.args.coord.now (g.D.Depot.shown c.args.depot.now) (g.D.Depot.shown c.take_chunk.new.depot)
+    calls_needed (view_task_of c.args.job.now) c.args.source c.args.coord.now (g.D.Depot.shown c.args.depot.now) (g.D.Depot.shown c.take_chunk.new.depot)
     (λ exact. c.is_needed.ensures.only exact c.if-not-is_needed.false) c.take_chunk.ensures.step

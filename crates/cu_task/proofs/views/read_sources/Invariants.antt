@@ -2,14 +2,14 @@ use Rattle.std.proofs.Common.{ℕ, ◌<◌, Option, length}
 use Rattle.cu_store.specs.Faults.{Rose}
 use Rattle.cu_store.specs.Held.{Contents}
 use Rattle.cu_store.specs.Steps.{NoChange, Steps}
-use Rattle.cu_task.specs.ViewJobs.{view_of}
+use Rattle.cu_task.specs.ViewJobs.{view_task_of}
 use Rattle.cu_task.specs.Views.{view_calls, sure_calls, IsSourceKey, IsKnown, HasPulled}
 use Rattle.cu_task.proofs.views.read_sources.Given as goal
 
 abbrev pub invariant-loop-source : goal.invariant-loop-source
 invariant-loop-source g l = record {
-  step : Steps NoChange 0 (view_calls (view_of l.job) l.source) (g.D.Depot.shown l.initial.depot) (g.D.Depot.shown l.depot);
-  all : Rose (sure_calls l.job.pull.now (view_calls (view_of l.job) l.source)) (g.D.Depot.shown l.initial.depot).calls (g.D.Depot.shown l.depot).calls;
-  pulled : (told : Option Contents) → ((source : ℕ) → source < length l.job.ins.now → IsKnown (IsSourceKey (view_of l.job) source) told (g.D.Depot.shown l.initial.depot)) → HasPulled (view_of l.job) 0 told l.initial.output
-      → HasPulled (view_of l.job) l.source told l.output;
+  step : Steps NoChange 0 (view_calls (view_task_of l.job) l.source) (g.D.Depot.shown l.initial.depot) (g.D.Depot.shown l.depot);
+  all : Rose (sure_calls l.job.pull.now (view_calls (view_task_of l.job) l.source)) (g.D.Depot.shown l.initial.depot).calls (g.D.Depot.shown l.depot).calls;
+  pulled : (told : Option Contents) → ((source : ℕ) → source < length l.job.ins.now → IsKnown (IsSourceKey (view_task_of l.job) source) told (g.D.Depot.shown l.initial.depot)) → HasPulled (view_task_of l.job) 0 told l.initial.output
+      → HasPulled (view_task_of l.job) l.source told l.output;
 }

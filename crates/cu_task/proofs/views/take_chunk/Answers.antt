@@ -5,7 +5,7 @@ use Rattle.cu_op.proofs.CellsOfTasks.{coordinates_small}
 use Rattle.cu_region.specs.Reading.{bytes_of, HasChunk, IsChunkReadFault, key_at}
 use Rattle.cu_region.specs.Writing.{AreElements}
 use Rattle.cu_region.proofs.StoredReads.{fault_more}
-use Rattle.cu_task.specs.ViewJobs.{view_of}
+use Rattle.cu_task.specs.ViewJobs.{view_task_of}
 use Rattle.cu_task.specs.Views.{source_in, IsSourceKey}
 use Rattle.cu_task.proofs.JobViews.{fitting, source_below, source_array_ok}
 use Rattle.cu_task.proofs.ViewElements.{takes_chunk}
@@ -26,7 +26,7 @@ move_chunk-requires-clause-elements g c = subst (λ (a : ArrayInfo). AreElements
 
 pub returns-clause-takes : goal.returns-clause-takes
 returns-clause-takes g c told known =
-    takes_chunk (view_of c.args.job.now) (fitting c.args.job.now c.requires.job) c.args.source c.args.coord.now c.read_chunk.new.buf c.args.output.now c.move_chunk.new.output told 1 1
+    takes_chunk (view_task_of c.args.job.now) (fitting c.args.job.now c.requires.job) c.args.source c.args.coord.now c.read_chunk.new.buf c.args.output.now c.move_chunk.new.output told 1 1
     (g.D.Depot.shown c.args.depot.now) (g.D.Depot.shown c.read_chunk.new.depot) c.requires.source known c.read_chunk.ensures.step
     (subst (λ (a : ArrayInfo). HasChunk a c.args.coord.now (g.D.Depot.shown c.read_chunk.new.depot).held c.read_chunk.new.buf) c.source_array-from.ensures c.in_ok-read_chunk.ensures.read)
     c.move_chunk.ensures
@@ -36,5 +36,5 @@ returns-in_err-read_chunk-clause-cause g c =
     let p = err_from_is_err_and c.from_residual.result c.from_residual.ensures.1 in
     let cause = subst (λ (a : ArrayInfo). IsChunkReadFault (g.D.Depot.shown c.args.depot.now) (g.D.Depot.shown c.read_chunk.new.depot) (λ key. key ≡ key_at a c.args.coord.now) (bytes_of a.layout) c.in_err-read_chunk.field-0.0)
     c.source_array-from.ensures c.in_err-read_chunk.ensures.cause in
-    rw (p.1, p.2) (fault_more (g.D.Depot.shown c.args.depot.now) (g.D.Depot.shown c.args.depot.now) (g.D.Depot.shown c.read_chunk.new.depot) (λ key. key ≡ key_at (source_in (view_of c.args.job.now) c.args.source) c.args.coord.now)
-    (IsSourceKey (view_of c.args.job.now) c.args.source) (bytes_of (source_in (view_of c.args.job.now) c.args.source).layout) c.in_err-read_chunk.field-0.0 (omega arith) (λ key is. (c.args.coord.now, c.requires.coordinate, is)) cause)
+    rw (p.1, p.2) (fault_more (g.D.Depot.shown c.args.depot.now) (g.D.Depot.shown c.args.depot.now) (g.D.Depot.shown c.read_chunk.new.depot) (λ key. key ≡ key_at (source_in (view_task_of c.args.job.now) c.args.source) c.args.coord.now)
+    (IsSourceKey (view_task_of c.args.job.now) c.args.source) (bytes_of (source_in (view_task_of c.args.job.now) c.args.source).layout) c.in_err-read_chunk.field-0.0 (omega arith) (λ key is. (c.args.coord.now, c.requires.coordinate, is)) cause)

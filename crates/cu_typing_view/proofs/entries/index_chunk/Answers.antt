@@ -3,14 +3,14 @@ use Rattle.std.proofs.Math.ListN.{drop_of_length-le}
 use Rattle.std.proofs.lemmas.List.{length-append}
 use Rattle.cu_shape.proofs.Axes.{length-axis_by_axis}
 use Rattle.cu_node.specs.declared.index_item.IndexItem.{IndexItem}
-use Rattle.cu_typing_view.specs.Entries.{cut, index_chunk}
+use Rattle.cu_typing_view.specs.Entries.{clipped_chunk_size, index_chunk}
 use Rattle.cu_typing_view.proofs.AxisRanges.{axes_rest}
 use Rattle.cu_typing_view.proofs.entries.index_chunk.Goals as goal
 
 pub with_range-requires-clause-within : goal.with_range-requires-clause-within
 with_range-requires-clause-within c =
     let r = c.requires.kept.ranks in
-    let long = ap length c.cut_whole-whole.ensures ∙ length-axis_by_axis cut c.args.array.now.dims c.args.array.now.chunk (sym r) in
+    let long = ap length c.cut_whole-whole.ensures ∙ length-axis_by_axis clipped_chunk_size c.args.array.now.dims c.args.array.now.chunk (sym r) in
     let w = c.loop-item.invariant.within in
     omega arith
 
@@ -21,7 +21,7 @@ all_left c =
     let cs = c.args.array.now.chunk in
     let none : drop c.loop-item.item-index c.args.items.now ≡ [] = drop_of_length-le c.args.items.now (omega arith) in
     let rest = ap (λ xs. take c.rank-rank.result (drop c.loop-item.axis xs)) c.cut_whole-whole.ensures
-    ∙ axes_rest cut c.rank-rank.result c.loop-item.axis ns cs (sym c.requires.kept.ranks) (let r = c.rank-rank.ensures.rank in omega arith) in
+    ∙ axes_rest clipped_chunk_size c.rank-rank.result c.loop-item.axis ns cs (sym c.requires.kept.ranks) (let r = c.rank-rank.ensures.rank in omega arith) in
     ap (λ xs. c.loop-item.left ++ xs) (rest ∙ ap (λ (items : List IndexItem). index_chunk c.args.more items (drop c.loop-item.axis ns) (drop c.loop-item.axis cs)) (sym none))
     ∙ sym c.loop-item.invariant.whole
 

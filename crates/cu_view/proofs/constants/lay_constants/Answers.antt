@@ -8,7 +8,7 @@ use Rattle.cu_num.specs.declared.layout.Endian.TheVariants.{Little}
 use Rattle.cu_pull.specs.Pull.{diagonal_of, is_in_triangle}
 use Rattle.cu_pull.specs.Fits.{FitsConcat}
 use Rattle.cu_pull.specs.declared.pull.Pull.TheVariants.{Concat, Triangle, Full, Arange, Eye}
-use Rattle.cu_view_box.specs.Block.{place_in}
+use Rattle.cu_view_box.specs.Block.{buffer_place}
 use Rattle.cu_view.proofs.Asked.{lo_length, size_small}
 use Rattle.cu_view.proofs.Fitting.{fits_as}
 use Rattle.cu_view.proofs.Numbers.{same_number, origin_as, outside_triangle, one_or_zero, concat_no_number, line_index}
@@ -49,12 +49,12 @@ pub returns-in-Full-clause-laid : goal.returns-in-Full-clause-laid
 returns-in-Full-clause-laid c = λ idx x w o.
     let fits : SFits w128 c.in-Full.value = search rules in
     let e = same_number _ x (origin_as c.args.pull.now (Full c.in-Full.value) c.args.sources.now c.args.shape.now idx _ c.in-Full.is o) in
-    c.fill.ensures.filled (place_in c.args.to.now idx) (place_fits c.args.to.now c.args.output.now idx c.requires.to_block w) ∙ ap (element_bytes Little c.args.to.now.dtype) (to_z-of_z w128 c.in-Full.value fits ∙ e)
+    c.fill.ensures.filled (buffer_place c.args.to.now idx) (place_fits c.args.to.now c.args.output.now idx c.requires.to_block w) ∙ ap (element_bytes Little c.args.to.now.dtype) (to_z-of_z w128 c.in-Full.value fits ∙ e)
 
 pub returns-in-Triangle-clause-laid : goal.returns-in-Triangle-clause-laid
 returns-in-Triangle-clause-laid c = λ idx x w o.
     let e = outside_triangle (is_in_triangle c.in-Triangle.lower c.in-Triangle.k idx) idx x (origin_as c.args.pull.now (Triangle c.in-Triangle.lower c.in-Triangle.k) c.args.sources.now c.args.shape.now idx _ c.in-Triangle.is o) in
-    c.fill-in-Triangle.ensures.filled (place_in c.args.to.now idx) (place_fits c.args.to.now c.args.output.now idx c.requires.to_block w) ∙ ap (element_bytes Little c.args.to.now.dtype) e
+    c.fill-in-Triangle.ensures.filled (buffer_place c.args.to.now idx) (place_fits c.args.to.now c.args.output.now idx c.requires.to_block w) ∙ ap (element_bytes Little c.args.to.now.dtype) e
 
 pub returns-in-Eye-clause-laid : goal.returns-in-Eye-clause-laid
 returns-in-Eye-clause-laid c = λ idx x w o.
@@ -69,11 +69,11 @@ returns-in-Arange-clause-laid c = λ idx x w o.
     let e = same_number _ x (origin_as c.args.pull.now (Arange c.in-Arange.start c.in-Arange.step) c.args.sources.now c.args.shape.now idx _ c.in-Arange.is o) in
     let start_fits : SFits w64 c.in-Arange.start = search rules in
     let step_fits : SFits w64 c.in-Arange.step = search rules in
-    let at : get_or c.args.to.now.region.lo 0 0 + place_in c.args.to.now idx ≡ get_or idx 0 0 = line_index c.args.to.now.dims c.args.to.now.region.lo c.args.to.now.region.hi idx n w (c.requires.to_block.inside idx w) in
-    c.fill_with_terms.ensures.filled (place_in c.args.to.now idx) (place_fits c.args.to.now c.args.output.now idx c.requires.to_block w)
-    ∙ ap (λ (z : ℤ). element_bytes Little c.args.to.now.dtype (z +ℤ pos (c.at.result + place_in c.args.to.now idx) *ℤ to_z w64 (of_z w64 c.in-Arange.step))) (to_z-of_z w64 c.in-Arange.start start_fits)
-    ∙ ap (λ (z : ℤ). element_bytes Little c.args.to.now.dtype (c.in-Arange.start +ℤ pos (c.at.result + place_in c.args.to.now idx) *ℤ z)) (to_z-of_z w64 c.in-Arange.step step_fits)
-    ∙ ap (λ (i : ℕ). element_bytes Little c.args.to.now.dtype (c.in-Arange.start +ℤ pos (i + place_in c.args.to.now idx) *ℤ c.in-Arange.step)) c.at.ensures
+    let at : get_or c.args.to.now.region.lo 0 0 + buffer_place c.args.to.now idx ≡ get_or idx 0 0 = line_index c.args.to.now.dims c.args.to.now.region.lo c.args.to.now.region.hi idx n w (c.requires.to_block.inside idx w) in
+    c.fill_with_terms.ensures.filled (buffer_place c.args.to.now idx) (place_fits c.args.to.now c.args.output.now idx c.requires.to_block w)
+    ∙ ap (λ (z : ℤ). element_bytes Little c.args.to.now.dtype (z +ℤ pos (c.at.result + buffer_place c.args.to.now idx) *ℤ to_z w64 (of_z w64 c.in-Arange.step))) (to_z-of_z w64 c.in-Arange.start start_fits)
+    ∙ ap (λ (z : ℤ). element_bytes Little c.args.to.now.dtype (c.in-Arange.start +ℤ pos (c.at.result + buffer_place c.args.to.now idx) *ℤ z)) (to_z-of_z w64 c.in-Arange.step step_fits)
+    ∙ ap (λ (i : ℕ). element_bytes Little c.args.to.now.dtype (c.in-Arange.start +ℤ pos (i + buffer_place c.args.to.now idx) *ℤ c.in-Arange.step)) c.at.ensures
     ∙ ap (λ (i : ℕ). element_bytes Little c.args.to.now.dtype (c.in-Arange.start +ℤ pos i *ℤ c.in-Arange.step)) at
     ∙ ap (element_bytes Little c.args.to.now.dtype) e
 

@@ -7,7 +7,7 @@ use Rattle.cu_pull.specs.Pull.{origin_of}
 use Rattle.cu_pull.specs.declared.provenance.Provenance.TheVariants.{From}
 use Rattle.cu_view_box.specs.Piece.{read_at}
 use Rattle.cu_view_box.specs.Reshape.{IsReshape}
-use Rattle.cu_view.specs.Hull.{Covers}
+use Rattle.cu_view.specs.Hull.{HoldsIndex}
 use Rattle.cu_view.specs.Pieces.{number_at}
 use Rattle.cu_view.proofs.Fitting.{first_is, source_is}
 use Rattle.cu_view.proofs.Hulls.{holds_of, none_of, self_region}
@@ -41,7 +41,7 @@ loop-number-preserved c =
           elim (eqb_tells (number_at c.args.pull.now c.args.sources.now c.args.shape.now idx) c.loop-number.number) [
             | inl q ↦
                 let m = in_piece c.args.pull.now c.args.sources.now c.args.shape.now idx c.loop-number.number c.args.source i c.piece_at-piece.result c.piece_at-piece.ensures (inside_of c.args.shape.now c.args.out.now.lo c.args.out.now.hi idx c.requires.out w) q.1 e in
-                c.joined-hull.ensures.second i (subst (λ (x : List ℕ). Covers c.piece_hull.result x) m.index (c.piece_hull.ensures.covers idx m.source m.within w))
+                c.joined-hull.ensures.second i (subst (λ (x : List ℕ). HoldsIndex c.piece_hull.result x) m.index (c.piece_hull.ensures.covers idx m.source m.within w))
             | inr q ↦ let n = q.1 in c.joined-hull.ensures.first i (c.loop-number.invariant.covers idx i w (omega arith) e)
           ];
     }

@@ -4,7 +4,7 @@ use Rattle.std.proofs.lemmas.Int.{to_z-of_z}
 use Rattle.cu_num.specs.Element.{element_bytes}
 use Rattle.cu_num.specs.declared.layout.Endian.TheVariants.{Little}
 use Rattle.cu_pull.specs.Pull.{diagonal_of}
-use Rattle.cu_view_box.specs.Block.{place_in}
+use Rattle.cu_view_box.specs.Block.{buffer_place}
 use Rattle.cu_view.proofs.Eyes.{cell_of, eye_done, eye_left}
 use Rattle.cu_view.proofs.OneByOne.{place_fits, block_same}
 use Rattle.cu_view.proofs.ones.lay_eye.Goals as goal
@@ -13,7 +13,7 @@ pub loop-row-init : goal.loop-row-init
 loop-row-init c = record {
   long = c.fill.ensures.same_length;
   done = λ idx w l. (let p = (cell_of c.args.to.now.region.lo c.args.to.now.region.hi idx c.requires.axes w).first_low in let e = c.at-row.ensures in absurd (omega arith));
-  left = λ idx w l. c.fill.ensures.filled (place_in c.args.to.now idx) (place_fits c.args.to.now c.args.output.now idx c.requires.to_block w);
+  left = λ idx w l. c.fill.ensures.filled (buffer_place c.args.to.now idx) (place_fits c.args.to.now c.args.output.now idx c.requires.to_block w);
 }
 
 pub lay_one-requires-clause-to_block : goal.lay_one-requires-clause-to_block

@@ -27,13 +27,13 @@ columns-lo-requires c =
 pub returns-then-lo-hi-clause-moved : goal.returns-then-lo-hi-clause-moved
 returns-then-lo-hi-clause-moved c = λ idx w t.
     let p = (row_columns c.args.lower c.args.k _ c.args.part.now.lo c.args.part.now.hi idx c.rank-last.result c.args.row c.at.result c.at-2.result c.columns-lo.result.0 c.columns-lo.result.1 (to_z-of_z w64 c.args.k c.ranges.k) c.rank-last.ensures.rank c.requires.axes c.at.ensures c.at-2.ensures c.columns-lo.ensures.exactly w (c.requires.row idx w)).1 t in
-    c.copy_box.ensures.moved idx ((c.cut.ensures.exactly idx).1 (w, p.0, p.1))
+    c.copy_box.ensures.moved idx ((c.cut-shown.ensures.exactly idx).1 (w, p.0, p.1))
 
 pub returns-then-lo-hi-clause-others : goal.returns-then-lo-hi-clause-others
 returns-then-lo-hi-clause-others c = λ idx o none.
     c.copy_box.ensures.others idx o
     (λ r.
-    let q = (c.cut.ensures.exactly idx).0 r in
+    let q = (c.cut-shown.ensures.exactly idx).0 r in
     let w = q.0 in
     none w ((row_columns c.args.lower c.args.k _ c.args.part.now.lo c.args.part.now.hi idx c.rank-last.result c.args.row c.at.result c.at-2.result c.columns-lo.result.0 c.columns-lo.result.1 (to_z-of_z w64 c.args.k c.ranges.k) c.rank-last.ensures.rank c.requires.axes c.at.ensures c.at-2.ensures c.columns-lo.ensures.exactly w (c.requires.row idx w)).0 (q.1, q.2)))
 

@@ -32,8 +32,8 @@ copy_rows-requires-in-loop-index t c =
           subst (λ (r : Region). IsSingle r c.args.axis (c.args.level + 1)) (sym made)
               (slice_single c.args.part.now c.args.level c.loop-index.index c.requires.moves.some below low high c.args.axis c.args.level refl c.requires.single),
           (
-            subst (λ (r : Region). IsMove c.args.piece.now r c.args.from.now c.args.to.now) (sym made)
-                (slice_move c.args.part.now c.args.level c.loop-index.index c.requires.moves.some below low high c.args.piece.now c.args.from.now c.args.to.now c.requires.moves),
+            subst (λ (r : Region). IsMove c.args.copying.now.piece.now r c.args.copying.now.from.now c.args.copying.now.to.now) (sym made)
+                (slice_move c.args.part.now c.args.level c.loop-index.index c.requires.moves.some below low high c.args.copying.now.piece.now c.args.copying.now.from.now c.args.copying.now.to.now c.requires.moves),
             (
               c.requires.from_block,
               (record { inside = c.requires.to_block.inside; long = c.loop-index.invariant.same_length ∙ c.requires.to_block.long }, c.requires.spelled),
@@ -49,13 +49,13 @@ loop-index-preserved t c =
     let below : c.args.level < length c.args.part.now.lo = omega arith in
     let low : get_or c.args.part.now.lo c.args.level 0 ≤ c.loop-index.index = (let e = c.at-index.ensures in omega arith) in
     let high : c.loop-index.index < get_or c.args.part.now.hi c.args.level 0 = (let e = c.at-index-end.ensures in omega arith) in
-    let moved = subst (λ (r : Region). IsMoved c.args.piece.now r c.args.from.now c.args.bytes.now c.args.to.now c.copy_rows-in-loop-index.new.output) made c.copy_rows-in-loop-index.ensures.moved in
-    let kept = subst (λ (r : Region). IsKept r c.args.to.now c.loop-index.output c.copy_rows-in-loop-index.new.output) made c.copy_rows-in-loop-index.ensures.others in
+    let moved = subst (λ (r : Region). IsMoved c.args.copying.now.piece.now r c.args.copying.now.from.now c.args.copying.now.bytes.now c.args.copying.now.to.now c.copy_rows-in-loop-index.new.output) made c.copy_rows-in-loop-index.ensures.moved in
+    let kept = subst (λ (r : Region). IsKept r c.args.copying.now.to.now c.loop-index.output c.copy_rows-in-loop-index.new.output) made c.copy_rows-in-loop-index.ensures.others in
     record {
       same_length = search rules;
-      moved = moved_more c.args.part.now c.args.level c.loop-index.index c.requires.moves.some below low high c.args.piece.now c.args.from.now c.args.to.now c.args.bytes.now
+      moved = moved_more c.args.part.now c.args.level c.loop-index.index c.requires.moves.some below low high c.args.copying.now.piece.now c.args.copying.now.from.now c.args.copying.now.to.now c.args.copying.now.bytes.now
           c.loop-index.output c.copy_rows-in-loop-index.new.output c.requires.moves c.loop-index.invariant.moved moved kept;
-      others = kept_more c.args.part.now c.args.level c.loop-index.index c.requires.moves.some below low high c.args.to.now c.args.output.now c.loop-index.output
+      others = kept_more c.args.part.now c.args.level c.loop-index.index c.requires.moves.some below low high c.args.copying.now.to.now c.args.output.now c.loop-index.output
           c.copy_rows-in-loop-index.new.output c.loop-index.invariant.others kept;
     }
 
@@ -67,7 +67,7 @@ returns-after-loop-index-clause-moved t c =
     let e = c.at-index.ensures in
     let f = c.at-index-end.ensures in
     let all = up_to_all c.args.part.now c.args.level c.loop-index.index (omega arith) in
-    subst (λ (r : Region). IsMoved c.args.piece.now r c.args.from.now c.args.bytes.now c.args.to.now c.loop-index.output) all c.loop-index.invariant.moved
+    subst (λ (r : Region). IsMoved c.args.copying.now.piece.now r c.args.copying.now.from.now c.args.copying.now.bytes.now c.args.copying.now.to.now c.loop-index.output) all c.loop-index.invariant.moved
 
 pub returns-after-loop-index-clause-others : goal.returns-after-loop-index-clause-others
 returns-after-loop-index-clause-others t c =
@@ -77,4 +77,4 @@ returns-after-loop-index-clause-others t c =
     let e = c.at-index.ensures in
     let f = c.at-index-end.ensures in
     let all = up_to_all c.args.part.now c.args.level c.loop-index.index (omega arith) in
-    subst (λ (r : Region). IsKept r c.args.to.now c.args.output.now c.loop-index.output) all c.loop-index.invariant.others
+    subst (λ (r : Region). IsKept r c.args.copying.now.to.now c.args.output.now c.loop-index.output) all c.loop-index.invariant.others

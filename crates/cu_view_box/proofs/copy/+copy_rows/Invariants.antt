@@ -9,6 +9,6 @@ decreases-copy_rows l = length l.part.now.lo - l.level
 abbrev pub invariant-loop-index : goal.invariant-loop-index
 invariant-loop-index l = record {
   same_length : length l.output ≡ length l.fn.output;
-  moved : IsMoved l.piece (up_to l.part l.level l.index) l.from l.bytes l.to l.output;
-  others : IsKept (up_to l.part l.level l.index) l.to l.fn.output l.output;
+  moved : IsMoved l.copying.piece.now (up_to l.part l.level l.index) l.copying.from.now l.copying.bytes.now l.copying.to.now l.output;
+  others : IsKept (up_to l.part l.level l.index) l.copying.to.now l.fn.output l.output;
 }

@@ -33,8 +33,8 @@ gather_part-requires t c =
           (
             omega arith,
             (
-              subst (λ (r : Region). IsPart c.args.shape.now r c.args.to.now) (sym made)
-                  (stretch_part c.args.part.now c.args.level c.loop-index.index (c.loop-index.index + 1) c.requires.part.some below low order high c.args.shape.now c.args.to.now c.requires.part),
+              subst (λ (r : Region). IsPart c.args.sizes.shape.now r c.args.to.now) (sym made)
+                  (stretch_part c.args.part.now c.args.level c.loop-index.index (c.loop-index.index + 1) c.requires.part.some below low order high c.args.sizes.shape.now c.args.to.now c.requires.part),
               (
                 subst (λ (n : ℕ). IsSingle c.slice_at-slice.result (n - 1) (c.args.level + 1)) (sym long)
                     (subst (λ (r : Region). IsSingle r (length c.args.part.now.lo - 1) (c.args.level + 1)) (sym made)
@@ -57,13 +57,13 @@ loop-index-preserved t c =
     let low : get_or c.args.part.now.lo c.args.level 0 ≤ c.loop-index.index = (let e = c.at-index.ensures in omega arith) in
     let order : c.loop-index.index < c.loop-index.index + 1 = omega arith in
     let high : c.loop-index.index + 1 ≤ get_or c.args.part.now.hi c.args.level 0 = (let e = c.at-index-end.ensures in omega arith) in
-    let drawn = subst (λ (r : Region). IsDrawn (reshaped c.args.source.now c.args.shape.now) r c.args.from.now c.args.bytes.now c.args.to.now c.gather_part.new.output) made c.gather_part.ensures.drawn in
-    let left = subst (λ (r : Region). AreOthersLeft (reshaped c.args.source.now c.args.shape.now) r c.args.from.now c.args.to.now c.loop-index.output c.gather_part.new.output) made c.gather_part.ensures.others in
+    let drawn = subst (λ (r : Region). IsDrawn (reshaped c.args.sizes.source.now c.args.sizes.shape.now) r c.args.from.now c.args.bytes.now c.args.to.now c.gather_part.new.output) made c.gather_part.ensures.drawn in
+    let left = subst (λ (r : Region). AreOthersLeft (reshaped c.args.sizes.source.now c.args.sizes.shape.now) r c.args.from.now c.args.to.now c.loop-index.output c.gather_part.new.output) made c.gather_part.ensures.others in
     record {
       same_length = search rules;
-      drawn = drawn_more c.args.part.now c.args.level c.loop-index.index (c.loop-index.index + 1) c.requires.part.some below low order high (reshaped c.args.source.now c.args.shape.now) c.args.from.now c.args.to.now c.args.bytes.now
+      drawn = drawn_more c.args.part.now c.args.level c.loop-index.index (c.loop-index.index + 1) c.requires.part.some below low order high (reshaped c.args.sizes.source.now c.args.sizes.shape.now) c.args.from.now c.args.to.now c.args.bytes.now
           c.loop-index.output c.gather_part.new.output c.requires.part.of_result c.loop-index.invariant.drawn drawn left;
-      others = left_more c.args.part.now c.args.level c.loop-index.index (c.loop-index.index + 1) c.requires.part.some below low order high (reshaped c.args.source.now c.args.shape.now) c.args.from.now c.args.to.now c.args.output.now
+      others = left_more c.args.part.now c.args.level c.loop-index.index (c.loop-index.index + 1) c.requires.part.some below low order high (reshaped c.args.sizes.source.now c.args.sizes.shape.now) c.args.from.now c.args.to.now c.args.output.now
           c.loop-index.output c.gather_part.new.output c.loop-index.invariant.others left;
     }
 
@@ -74,7 +74,7 @@ returns-clause-drawn t c =
     let e = c.at-index.ensures in
     let f = c.at-index-end.ensures in
     let all = up_to_all c.args.part.now c.args.level c.loop-index.index (omega arith) in
-    subst (λ (r : Region). IsDrawn (reshaped c.args.source.now c.args.shape.now) r c.args.from.now c.args.bytes.now c.args.to.now c.loop-index.output) all c.loop-index.invariant.drawn
+    subst (λ (r : Region). IsDrawn (reshaped c.args.sizes.source.now c.args.sizes.shape.now) r c.args.from.now c.args.bytes.now c.args.to.now c.loop-index.output) all c.loop-index.invariant.drawn
 
 pub returns-clause-others : goal.returns-clause-others
 returns-clause-others t c =
@@ -83,4 +83,4 @@ returns-clause-others t c =
     let e = c.at-index.ensures in
     let f = c.at-index-end.ensures in
     let all = up_to_all c.args.part.now c.args.level c.loop-index.index (omega arith) in
-    subst (λ (r : Region). AreOthersLeft (reshaped c.args.source.now c.args.shape.now) r c.args.from.now c.args.to.now c.args.output.now c.loop-index.output) all c.loop-index.invariant.others
+    subst (λ (r : Region). AreOthersLeft (reshaped c.args.sizes.source.now c.args.sizes.shape.now) r c.args.from.now c.args.to.now c.args.output.now c.loop-index.output) all c.loop-index.invariant.others

@@ -2,7 +2,7 @@ use Rattle.std.proofs.Common.{◌≡◌, ◌<◌, ◌-◌, ℕ, length, refl, sy
 use Rattle.cu_grid.proofs.Meeting.{within_of}
 use Rattle.cu_grid.specs.declared.region.Region.{Region}
 use Rattle.cu_view_box.specs.Reshape.{reshaped, IsDrawn, AreOthersLeft, IsPart, IsRunOfBoth}
-use Rattle.cu_view_box.specs.Row.{IsRow}
+use Rattle.cu_view_box.specs.Row.{IsRowAlong}
 use Rattle.cu_view_box.proofs.Boxes.{at_axis}
 use Rattle.cu_view_box.proofs.Slices.{up_to_none, up_to_all}
 use Rattle.cu_view_box.proofs.Stretches.{stretch_is, stretch_part, stretch_run, drawn_more, left_more}
@@ -44,7 +44,7 @@ gather_run-requires-in-loop-start-clause-run c =
     let last : c.rank-rank.result - 1 ≡ length c.args.row.now.lo - 1 = omega arith in
     subst (λ (r : Region). IsRunOfBoth c.args.source.now c.args.shape.now r) (sym made)
     (stretch_run c.args.row.now (c.rank-rank.result - 1) c.loop-start.start c.run_end-stop.result c.requires.part.some below low order high c.args.source.now c.args.shape.now last
-    (subst (λ (a : ℕ). IsRow c.args.row.now a) (sym last) c.requires.row) c.run_end-stop.ensures.stays)
+    (subst (λ (a : ℕ). IsRowAlong c.args.row.now a) (sym last) c.requires.row) c.run_end-stop.ensures.stays)
 
 pub loop-start-preserved : goal.loop-start-preserved
 loop-start-preserved c =

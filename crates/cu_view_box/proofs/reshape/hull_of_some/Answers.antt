@@ -2,7 +2,7 @@ use Rattle.std.proofs.Common.{◌≡◌, ℕ, List, sym, ap, ◌∙◌, subst, a
 use Rattle.cu_shape.proofs.Places.{inside-length}
 use Rattle.cu_shape.specs.Index.{index_at}
 use Rattle.cu_grid.proofs.Regions.{inside-at}
-use Rattle.cu_view_box.specs.Reshape.{reshaped, IsBetween}
+use Rattle.cu_view_box.specs.Reshape.{reshaped, IsBetweenUpToDifference}
 use Rattle.cu_view_box.proofs.MetRuns.{between_of}
 use Rattle.cu_view_box.proofs.Reshapes.{hull_none, hull_more, hull_of_ends, hull_region_of_ends}
 use Rattle.cu_view_box.proofs.reshape.hull_of_some.Goals as goal
@@ -58,6 +58,6 @@ returns-clause-between c = λ i w.
     (inside-length c.args.source.now c.index_of-first.result c.index_of-first.ensures.inside) (omega arith) c.first_apart-apart.ensures.differ c.loop-axis.invariant w in (
       c.last_index.result,
       c.last_index.ensures.within,
-      subst (λ (x : List ℕ). IsBetween (reshaped c.args.source.now c.args.shape.now c.args.out.now.lo) x i) last
-          (subst (λ (x : List ℕ). IsBetween x c.index_of-last.result i) first own),
+      subst (λ (x : List ℕ). IsBetweenUpToDifference (reshaped c.args.source.now c.args.shape.now c.args.out.now.lo) x i) last
+          (subst (λ (x : List ℕ). IsBetweenUpToDifference x c.index_of-last.result i) first own),
     )

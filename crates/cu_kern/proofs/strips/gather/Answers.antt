@@ -8,7 +8,7 @@ use Rattle.cu_num.proofs.ElementBytes.{bytes_at-written_at_same, bytes_at-writte
 use Rattle.cu_kern.specs.Strips.{strip, strip_element, call_type}
 use Rattle.cu_kern.specs.declared.calls.Call.TheVariants.{Two}
 use Rattle.cu_kern.proofs.LaneWords.{kept}
-use Rattle.cu_kern.proofs.strips.sixteen.Goals as goal
+use Rattle.cu_kern.proofs.strips.gather.Goals as goal
 
 pub loop-k-preserved : goal.loop-k-preserved
 loop-k-preserved c =
@@ -17,7 +17,7 @@ loop-k-preserved c =
     let r = call_type (Two c.args.f c.args.t) in
     let at = c.loop-k.k in
     let out = c.loop-k.part in
-    let long = c.loop-k.invariant.sixteen in
+    let long = c.loop-k.invariant.len in
     let below = c.loop-k-test.true in
     let one : size_of r ≡ 1 = ap size_of c.requires.truth in
     let whole : at * size_of r ≡ at = ap (λ s. at * s) one ∙ omega arith in
@@ -29,7 +29,7 @@ loop-k-preserved c =
     let value : cast_signed w128 (cast_unsigned w128 c.value2-value.result) ≡ op2 f t (strip_element t (strip c.args.x.now 1) (c.args.from + at)) (strip_element t (strip c.args.y.now c.args.y_step) (c.args.from + at)) =
     kept c.value2-value.result (record { sfits = c.value2-value.type_inv }) ∙ c.value2-value.ensures ∙ (λ i. op2 f t (first i) (second i)) in
     record {
-      sixteen = ap length written ∙ (length-written_at _ r out at _ fits ∙ long);
+      len = ap length written ∙ (length-written_at _ r out at _ fits ∙ long);
       done = below_more _ _
           (λ k b. let apart : k ≢ at = omega arith in
           ap (λ all. bytes_at r all k) written
