@@ -6,7 +6,9 @@ ghost use Rattle.cu_num.specs.declared.types.Dtype.TheVariants.{Bool};
 ghost use Rattle.cu_kern.specs.Strips.{strip, IsCall, HasArguments, HasResults};
 
 use crate::calls::Call;
-use crate::strips::{Strip, compare_long, compare_short, one_from, pair_each, select_from};
+use crate::strips::{
+    Strip, compare_long, compare_short, compare_wide, one_from, pair_each, select_from,
+};
 use cu_num::{Dtype, Fn1, Fn2};
 
 /// A function of one argument other than `Astype`, with loops for each type.
@@ -141,11 +143,11 @@ pub(crate) fn compare_long_by_type(
         Dtype::Int8 => compare_long(f, Dtype::Int8, x, y, y_step, out),
         Dtype::Int16 => compare_long(f, Dtype::Int16, x, y, y_step, out),
         Dtype::Int32 => compare_long(f, Dtype::Int32, x, y, y_step, out),
-        Dtype::Int64 => compare_long(f, Dtype::Int64, x, y, y_step, out),
+        Dtype::Int64 => compare_wide(f, Dtype::Int64, x, y, y_step, out),
         Dtype::Uint8 => compare_long(f, Dtype::Uint8, x, y, y_step, out),
         Dtype::Uint16 => compare_long(f, Dtype::Uint16, x, y, y_step, out),
         Dtype::Uint32 => compare_long(f, Dtype::Uint32, x, y, y_step, out),
-        Dtype::Uint64 => compare_long(f, Dtype::Uint64, x, y, y_step, out),
+        Dtype::Uint64 => compare_wide(f, Dtype::Uint64, x, y, y_step, out),
     }
 }
 
