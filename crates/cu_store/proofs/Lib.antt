@@ -1,2 +1,5 @@
 mod Keys
 pub mod Steps
+pub mod Sharing
+pub mod Specs
+pub mod StaysOpen
