@@ -4,6 +4,7 @@ pub mod Grouped
 pub mod GroupLists
 pub mod Spans
 pub mod MatrixRegions
+pub mod MatrixBoxes
 pub mod Lists
 pub mod Plans
 pub mod Values
@@ -20,6 +21,11 @@ pub mod Wholes
 pub mod Matrices
 pub mod Operations
 pub mod TaskCells
+pub mod ReducedBoxes
+pub mod InputBoxes
+pub mod TaskInputs
+pub mod Makers
 pub mod Spellings
 mod Examples
 mod ReductionExamples
+mod InputExamples

@@ -3,20 +3,23 @@ use Rattle.std.proofs.Common.{◌≡◌, ◌≢◌, inl, inr, ℕ, zero, suc, pr
 use Rattle.std.proofs.Math.Nat.{mul-le-mul_right}
 use Rattle.std.proofs.lemmas.List.{length-take-le, length-map, get_or-map}
 use Rattle.std.proofs.lemmas.List.Elements.{All-take}
-use Rattle.cu_shape.specs.Index.{IsInside, quotients}
+use Rattle.cu_shape.specs.Index.{IsInside, back, quotients, products}
+use Rattle.cu_shape.proofs.Axes.{length-axis_by_axis, get_or-axis_by_axis}
 use Rattle.cu_grid.specs.Counts.{IsRegion, IsWithin, chunk_lo, chunk_hi}
-use Rattle.cu_grid.specs.Grid.{IsGrid}
+use Rattle.cu_grid.specs.Grid.{IsGrid, IsCoordinate}
 use Rattle.cu_shape.proofs.Places.{inside-length}
 use Rattle.cu_grid.proofs.Parting.{only_chunk}
-use Rattle.cu_grid.proofs.Regions.{inside-at}
+use Rattle.cu_grid.proofs.Regions.{inside-at, coordinate-length}
 use Rattle.cu_reduce.specs.Products.{batch_of, outer_axes, left_index, right_index}
 use Rattle.cu_op.specs.declared.layout.ArrayInfo.{ArrayInfo}
 use Rattle.cu_op.specs.Arrays.{grid_at}
 use Rattle.cu_op.specs.Matrix.{batch_rank, product_rank, left_inner, right_inner, batch_grid, inner_chunk_count, product_index, part_number, end_number, inner_lo, inner_hi, inner_places, first_inner, end_inner, IsProductRegion}
-use Rattle.cu_op.specs.Operation.{MulFits}
+use Rattle.cu_op.specs.Broadcast.{back_as}
+use Rattle.cu_op.specs.Operation.{MulFits, IsAligned}
 use Rattle.cu_op.specs.Walks.{walk, left_walk, right_walk}
 use Rattle.cu_op.proofs.Filled.{IsFilled, filled_at, filled_take, filled_region, filled_lengths, within_take, within_at, past, other_default, below_range}
 use Rattle.cu_op.proofs.Grouped.{begins_on}
+use Rattle.cu_op.proofs.MatrixBoxes.{BatchBegins, aligned_begins, take_products, long_back, left_begins, right_begins, left_index_long, right_index_long}
 use Rattle.cu_op.proofs.MapRegions.{region_back, read_within, within_lengths}
 use Rattle.cu_op.proofs.MatrixRegions.{length-batch_of, outer_one, laid, laid_as, length-laid, laid_first, laid_row, laid_column, laid_part, BatchWithin, RegionOn, left_region, right_region, left_within, right_within, left_spans, right_spans}
 use Rattle.cu_op.proofs.Spans.{IsSpanOn, IsSpan, span_take, span_at, span_back, span_chunk}
@@ -298,6 +301,75 @@ module _ (arrays : List ArrayInfo) (left right out : ℕ) (f : MulFits arrays le
         (λ h. span_back (batch_grid (grid_at arrays right)) (record { shape = f.sizes; chunk = f.chunks }) (take br lo) (take br hi) (All-take (λ z. 0 < z) (length cb - 2) cb okb.positive) f.right_batch (sizes_span lo hi s))
         (λ h. subst (λ (m : ℕ). IsSpanOn (get_or b (length b - 1) 0) (get_or cb (m - 1) 0) (get_or lo k 0) (get_or hi k 0)) (sym okb.ranks)
         (axis_span lo hi k (get_or b (length b - 1) 0) (get_or cb (length b - 1) 0) s (column_axis h) (column_size h) (column_chunk h))) (right_inner_span lo hi filled s)
+
+    -- ---- the chunks of the operands for a chunk of the result
+
+    module _ (d : List ℕ) (here : IsCoordinate (grid_at arrays out) d) where
+      abbrev first : List ℕ
+      first = chunk_lo co d
+
+      coord_long : length d ≡ length o
+      coord_long = coordinate-length (grid_at arrays out) d oko here
+
+      coord_axes : product_rank a b ≤ length d
+      coord_axes = let e = axes_out in let l = coord_long in omega (arith, e, l)
+
+      first_at : (k : ℕ) → k < length o → get_or first k 0 ≡ get_or d k 0 * get_or co k 0
+      first_at k h = let l = coord_long in let r = oko.ranks in get_or-axis_by_axis (λ i c. i * c) d co k (omega (arith, l, h)) (omega (arith, r, h))
+
+      first_long : length first ≡ length o
+      first_long = length-axis_by_axis (λ i c. i * c) d co (coord_long ∙ sym oko.ranks) ∙ coord_long
+
+      same_part : part_number a b first ≡ part_number a b d
+      same_part = elim f.numbered [
+        | inl whole ↦ none_at whole.1 first 0 first_long ∙ sym (none_at whole.1 d 0 coord_long)
+        | inr many ↦
+            let size = one_at (max 1 (inner_chunk_count (grid_at arrays left))) many.0 in
+            let unit : get_or co (product_rank a b) 0 ≡ 1 = part_chunk ∙ ap (λ (ns : List ℕ). get_or ns 0 0) many.1 in
+            first_at (product_rank a b) size.1 ∙ ap (λ m. part_number a b d * m) unit ∙ (let e : part_number a b d * 1 ≡ part_number a b d = omega arith in e)
+      ]
+
+      batch_first : take br first ≡ products (take br d) f.chunks
+      batch_first = take_products br d co ∙ ap (products (take br d)) first_chunks
+
+      coord_batch : length (take br d) ≡ br
+      coord_batch = length-take-le br d (let e = coord_axes in omega (arith, e))
+
+      inner_first : first_inner (grid_at arrays left) (grid_at arrays right) first ≡ part_number a b d * c
+      inner_first = ap (λ m. m * c) same_part
+
+      batch_long : (ns cs : List ℕ) → IsAligned (record { shape = batch_of ns; chunk = batch_of cs }) (record { shape = f.sizes; chunk = f.chunks }) → length (back (batch_of ns) (take br d)) ≡ length ns - 2
+      batch_long ns cs al =
+          let p = length-batch_of ns in
+          let r = al.rank in
+          let n = coord_batch in
+          let m = f.rank in
+          long_back (batch_of ns) (take br d) (omega (arith, r, n, m)) ∙ p
+
+      batch_begins : (ns cs : List ℕ) → IsAligned (record { shape = batch_of ns; chunk = batch_of cs }) (record { shape = f.sizes; chunk = f.chunks }) → length cs ≡ length ns → BatchBegins ns cs br first d
+      batch_begins ns cs al e =
+          let q = length-batch_of cs in (
+            ap (back_as 0 (batch_of ns)) batch_first
+                ∙ aligned_begins (record { shape = batch_of ns; chunk = batch_of cs }) (record { shape = f.sizes; chunk = f.chunks }) (take br d) al (length-chunks ∙ sym f.rank) (coord_batch ∙ sym f.rank),
+            batch_long ns cs al ∙ (let n : length ns - 2 ≡ length cs - 2 = omega (arith, e) in n) ∙ sym q,
+          )
+
+      pub left_box : (left_walk arrays left right (chunk_lo co d) (chunk_hi o co d)).region.lo ≡ chunk_lo ca (left_index a b (product_index a b d) (part_number a b d))
+      left_box =
+          left_begins a b ca first d (first_inner (grid_at arrays left) (grid_at arrays right) first) (part_number a b d) coord_axes f.left_rank oka.ranks (λ h. batch_begins a ca f.left_batch oka.ranks)
+          (λ h. first_at br (row_axis h) ∙ ap (λ m. get_or d br 0 * m) (row_chunk h ∙ ap (λ m. get_or ca (m - 2) 0) (sym oka.ranks))) inner_first
+
+      pub right_box : (right_walk arrays left right (chunk_lo co d) (chunk_hi o co d)).region.lo ≡ chunk_lo cb (right_index a b (product_index a b d) (part_number a b d))
+      right_box =
+          right_begins a b cb first d (first_inner (grid_at arrays left) (grid_at arrays right) first) (part_number a b d) coord_axes f.right_rank okb.ranks (λ h. batch_begins b cb f.right_batch okb.ranks)
+          (λ h. first_at (br + outer_axes a) (column_axis h) ∙ ap (λ m. get_or d (br + outer_axes a) 0 * m) (column_chunk h ∙ ap (λ m. get_or cb (m - 1) 0) (sym okb.ranks)))
+          (inner_first ∙ ap (λ m. part_number a b d * m) f.inner_chunk)
+
+      pub left_long : length (left_index a b (product_index a b d) (part_number a b d)) ≡ length a
+      left_long = left_index_long a b d (part_number a b d) coord_axes f.left_rank (λ h. batch_long a ca f.left_batch)
+
+      pub right_long : length (right_index a b (product_index a b d) (part_number a b d)) ≡ length b
+      right_long = right_index_long a b d (part_number a b d) coord_axes f.right_rank (λ h. batch_long b cb f.right_batch)
 
     -- so two different regions of one array have no chunk in common
     pub operands_apart : (lo hi : List ℕ) → left < length arrays → right < length arrays → IsFilled o lo hi → IsSpan o co lo hi → left_walk arrays left right lo hi ≢ right_walk arrays left right lo hi

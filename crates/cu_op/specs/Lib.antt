@@ -1,9 +1,11 @@
 pub mod Arrays
 pub mod Broadcast
 pub mod Cells
+pub mod InputCells
 pub mod Kernel
 pub mod KernelTypes
 pub mod KindText
+pub mod Kinds
 pub mod Layout
 pub mod Matrix
 pub mod Names

@@ -1,6 +1,6 @@
 //! Laws of plans: calls that do nothing and whose clauses are the laws.
 
-ghost use Rattle.std.specs.Prelude.{◌≡◌, ◌<◌, ◌≤◌, ◌^◌, ◌∷◌, ◌++◌, [], ℕ, ℤ, List, All, Contains, Option, Some, length};
+ghost use Rattle.std.specs.Prelude.{◌≡◌, ◌↔◌, ◌<◌, ◌≤◌, ◌^◌, ◌∷◌, ◌++◌, [], ℕ, ℤ, List, All, Contains, Option, Some, length};
 ghost use Rattle.cu_num.specs.Dtype.{InRange};
 ghost use Rattle.cu_num.specs.declared.types.Dtype.{Dtype};
 ghost use Rattle.cu_shape.specs.Index.{IsInside, quotients};
@@ -12,6 +12,7 @@ ghost use Rattle.cu_op.specs.declared.operation.Planned.{Planned};
 ghost use Rattle.cu_op.specs.declared.cells.Cell.{Cell};
 ghost use Rattle.cu_op.specs.Arrays.{grid_at, type_at, maker_at};
 ghost use Rattle.cu_op.specs.Cells.{cell, tasks_of, IsChunk};
+ghost use Rattle.cu_op.specs.InputCells.{input_cells};
 ghost use Rattle.cu_op.specs.Kernel.{kernel_value};
 ghost use Rattle.cu_op.specs.KernelTypes.{KernelFits, LoadsTypes};
 ghost use Rattle.cu_op.specs.Layout.{IsArray, layout_view};
@@ -71,6 +72,15 @@ pub fn input_law()
         → IsInside (grid_at p.arrays a).shape i × Contains (read_chunks p.arrays (op_of p k) task) (cell a (quotients i (grid_at p.arrays a).chunk)) }
     ensures arrays { (p : PlanView) (k task : ℕ) (c : Cell) → Sound p → k < length p.ops → task < tasks_of p.arrays (op_of p k)
         → Contains (read_chunks p.arrays (op_of p k) task) c → Contains (reads_of (op_of p k)) c.array × IsChunk p.arrays c }
+{}
+
+/// A task reads exactly its input cells, each once, and the elements that its rule reads lie in these.
+pub fn input_cells_law()
+    ensures cells { (p : PlanView) (k task : ℕ) (c : Cell) → Sound p → k < length p.ops → task < tasks_of p.arrays (op_of p k)
+        → (Contains (read_chunks p.arrays (op_of p k) task) c) ↔ (Contains (input_cells p.arrays (op_of p k) task) c) }
+    ensures reads { (p : PlanView) (k task array a : ℕ) (coord idx i : List ℕ) → Sound p → WritesCell p k task array coord
+        → IsInChunk (grid_at p.arrays array) coord idx → ReadsAt (op_of p k) p.arrays idx a i
+        → Contains (input_cells p.arrays (op_of p k) task) (cell a (quotients i (grid_at p.arrays a).chunk)) }
 {}
 
 /// A chunk that has a spelling has an element at each of its indices, and arrays that agree at these spell it alike.

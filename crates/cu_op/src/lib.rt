@@ -2,6 +2,7 @@
 #![tactic(auto)]
 
 mod cells;
+mod copies;
 mod groups;
 mod kernel;
 mod kind_text;
@@ -20,11 +21,12 @@ pub use cu_pull::{Axes, Pull};
 pub use kernel::{Instr, Kernel};
 pub use kind_text::{KindText, kind_name};
 pub use laws::{
-    chunk_law, input_law, key_law, one_map_law, range_law, ready_law, task_law, value_law,
+    chunk_law, input_cells_law, input_law, key_law, one_map_law, range_law, ready_law, task_law,
+    value_law,
 };
 pub use layout::{ArrayInfo, Layout};
 pub use memory::projection_of;
 pub use operation::{Op, Planned};
 pub use plan::Plan;
-pub use schedule::{input_walks, inputs, outputs, projected, task_grid, task_region, tasks};
+pub use schedule::{input_walks, inputs, maker, outputs, projected, task_grid, task_region, tasks};
 pub use walks::{Cells1, Cells2, Walk};

@@ -1,10 +1,13 @@
-ghost use Rattle.std.specs.Prelude.{◌≡◌, ◌<◌, length};
+ghost use Rattle.std.specs.Prelude.{◌≡◌, ◌<◌, length, IfOk};
 ghost use Rattle.cu_op.specs.Arrays.{array_at};
 ghost use Rattle.cu_op.specs.PlanView.{PlanView, operation_at};
 ghost use Rattle.cu_op.specs.Sound.{Sound, IsOperation};
 
+use crate::copies::same_operations;
 use crate::layout::ArrayInfo;
 use crate::operation::Planned;
+use cu_store::NoMemory;
+use std::alloc::{AllocError, Global};
 use std::marker::Model;
 
 /// A plan: the arrays and the operations that make them, in the order in which they can run.
@@ -68,6 +71,25 @@ impl Plan {
         (arrays, ops)
     }
 
+    /// An equal plan.
+    pub fn copy(&self, alloc: Global) -> Result<Plan, NoMemory>
+        ensures { IfOk result (λ p. p ≡ self.now) }
+    {
+        match (
+            same_arrays(alloc, &self.arrays),
+            same_operations(alloc, &self.ops),
+        ) {
+            (Ok(arrays), Ok(ops)) => Ok(Plan {
+                arrays,
+                ops,
+                out: self.out,
+                allowed: self.allowed,
+                reserved: self.reserved,
+            }),
+            _ => Err(NoMemory),
+        }
+    }
+
     /// The arrays, by their numbers.
     pub fn arrays(&self) -> &[ArrayInfo]
         ensures arrays { result.now ≡ self.now.arrays }
@@ -125,4 +147,13 @@ impl Plan {
     {
         &self.ops[number as usize]
     }
+}
+
+/// The same arrays.
+fn same_arrays(alloc: Global, arrays: &[ArrayInfo]) -> Result<Vec<ArrayInfo>, AllocError>
+    ensures { IfOk result (λ v. v.items ≡ arrays.now) }
+{
+    let mut same = Vec::new(alloc);
+    same.extend_from_slice(arrays)?;
+    Ok(same)
 }

@@ -1,17 +1,21 @@
-ghost use Rattle.std.specs.Prelude.{◌≡◌, ◌<◌, ◌≤◌, All, length};
+ghost use Rattle.std.specs.Prelude.{◌≡◌, ◌↔◌, ◌<◌, ◌≤◌, All, Contains, IfSome, None, length};
+ghost use Rattle.cu_shape.specs.Index.{quotients};
 ghost use Rattle.cu_grid.specs.Counts.{IsRegion};
+ghost use Rattle.cu_op.specs.Arrays.{maker_at};
 ghost use Rattle.cu_op.specs.Cells.{tasks_of, task_grid, task_lo, task_hi, IsChunk};
+ghost use Rattle.cu_op.specs.InputCells.{input_cells};
 ghost use Rattle.cu_op.specs.Projection.{projection};
-ghost use Rattle.cu_op.specs.Schedule.{op_of};
+ghost use Rattle.cu_op.specs.Schedule.{op_of, WritesCell};
 ghost use Rattle.cu_op.specs.Sound.{Sound};
-ghost use Rattle.cu_op.specs.Walks.{written_chunks, read_chunks, input_walks, IsWalkOver};
+ghost use Rattle.cu_op.specs.Walks.{written_chunks, read_chunks, input_walks, IsWalkOver, EachOnce};
 
+use crate::cells::Cell;
 use crate::plan::Plan;
 use crate::regions::{grid_of_tasks, output_walks, read_walks};
 use crate::walks::{Cells1, Cells2, Walk, each_once};
 use arrayvec::ArrayVec;
 use cu_grid::{Grid, Region};
-use cu_shape::index_of;
+use cu_shape::{Dims, index_of, place};
 
 /// What the tasks of an operation go over: a grid each of whose chunks is the region of a task.
 pub fn task_grid(plan: &Plan, op: u32) -> Grid
@@ -54,12 +58,14 @@ pub fn outputs(plan: &Plan, op: u32, task: u32) -> Cells1<'_>
     Cells1::make(plan.arrays(), walks)
 }
 
-/// The chunks that a task reads, each once.
+/// The chunks that a task reads, each once: its input cells.
 pub fn inputs(plan: &Plan, op: u32, task: u32) -> Cells2<'_>
     requires operation { op < length plan.now.ops }
     requires task { task < tasks_of plan.now.arrays (op_of plan.now op) }
     ensures cells { result ≡ read_chunks plan.now.arrays (op_of plan.now op) task }
     ensures chunks { All (IsChunk plan.now.arrays) result }
+    ensures exact { (c : Cell) → (Contains result c) ↔ (Contains (input_cells plan.now.arrays (op_of plan.now op) task) c) }
+    ensures once { EachOnce result }
 {
     let walks = input_walks(plan, op, task);
     Cells1::make(plan.arrays(), each_once(&walks))
@@ -75,6 +81,33 @@ pub fn input_walks(plan: &Plan, op: u32, task: u32) -> ArrayVec<Walk, 8>
 {
     let region = task_region(plan, op, task);
     read_walks(plan.arrays(), &plan.operation(op).op, &region)
+}
+
+/// The operation and the task that write a chunk; none where its array is an input.
+pub fn maker(plan: &Plan, cell: &Cell) -> Option<(u32, u32)>
+    requires { IsChunk plan.now.arrays cell.now }
+    ensures writes { IfSome result (λ by. WritesCell plan.now by.0 by.1 cell.now.array cell.now.coord) }
+    ensures input { (result ≡ None) ↔ (maker_at plan.now.arrays cell.now.array ≡ None) }
+{
+    let info = plan.array(cell.array);
+    let operation = info.maker?;
+    let regions = task_grid(plan, operation);
+    let first = info.layout.grid.chunk_region(&cell.coord).lo;
+    let region = box_of(&first, regions.chunk());
+    Some((operation, place(&regions.counts(), &region) as u32))
+}
+
+/// The box that has an index, where boxes of these sizes stand side by side.
+fn box_of(index: &Dims, sizes: &Dims) -> Dims
+    requires ranks { length sizes.now ≡ length index.now }
+    requires positive { All (λ s. 0 < s) sizes.now }
+    ensures { result ≡ quotients index.now sizes.now }
+{
+    let mut coord = *index;
+    for axis in 0..index.rank() {
+        coord.put(axis, index.at(axis) / sizes.at(axis));
+    }
+    coord
 }
 
 /// The bytes of memory that a worker needs for a task of the operation, those that are reserved counted.

@@ -168,3 +168,7 @@ module _ (r : PlanRun) (name recorded metadata : List ℕ) (sound : Sound r.plan
   metadata_of_inputs q a piece within given e =
       let (named, differ) = names.inputs a within given in
       apart_names name (array_at r.plan.arrays a).prefix (piece_key r q) names.named named differ (owner q piece) (codes "zarr.json", e)
+
+  -- no key of a piece is one of an array with another name
+  pub other_names : (q : Piece) (other rest : List ℕ) → IsPiece r q → IsArrayName other → other ≢ name → piece_key r q ≢ other ++ 47 ∷ rest
+  other_names q other rest piece named differ e = apart_names name other (piece_key r q) names.named named differ (owner q piece) (rest, e)

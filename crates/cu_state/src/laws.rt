@@ -1,4 +1,5 @@
-ghost use Rattle.std.specs.Prelude.{◌≡◌, ◌≢◌, ◌+◌, ◌<◌, ℕ, List, All, Contains, Option, Some, None, length};
+ghost use Rattle.cu_name.specs.Name.{IsArrayName};
+ghost use Rattle.std.specs.Prelude.{◌≡◌, ◌≢◌, ◌+◌, ◌++◌, ◌∷◌, ◌<◌, ℕ, List, All, Contains, Option, Some, None, length};
 ghost use Rattle.cu_shape.specs.Index.{IsInside};
 ghost use Rattle.cu_store.specs.Held.{Contents};
 ghost use Rattle.cu_store.specs.Steps.{Shown, Steps};
@@ -71,4 +72,6 @@ pub fn names_law()
     ensures apart { (r : PlanRun) (name recorded metadata : List ℕ) → Sound r.plan → HasPlanNames r name recorded metadata → KeysApart r }
     ensures metadata { (r : PlanRun) (name recorded metadata : List ℕ) (q : Piece) (a : ℕ) → Sound r.plan → HasPlanNames r name recorded metadata → IsPiece r q
         → a < length r.plan.arrays → maker_at r.plan.arrays a ≡ None → piece_key r q ≢ metadata_key_of (array_at r.plan.arrays a).prefix }
+    ensures others { (r : PlanRun) (name recorded metadata : List ℕ) (q : Piece) (other rest : List ℕ) → Sound r.plan → HasPlanNames r name recorded metadata → IsPiece r q
+        → IsArrayName other → other ≢ name → piece_key r q ≢ other ++ 47 ∷ rest }
 {}
