@@ -33,7 +33,7 @@ still_calm a late now_late stay calm key bytes among of_array =
     rw same (calm key other was of_array)
 
 fault_since : (a : GivenArray) (old mid new : Shown) (key : List ℕ) → Stepped NoChange old mid → IsPutFault a mid new key → IsPutFault a old new key
-fault_since a old mid new key quiet (inl (k, below, same, step)) = inl (k, below, same, stepped_then (stepped_none quiet) step)
+fault_since a old mid new key quiet (inl (k, below, same, step, before)) = inl (k, below, same, stepped_then (stepped_none quiet) step, λ calm. before (still_calm a old.late mid.late quiet.step.late calm))
 fault_since a old mid new key quiet (inr (same, step, stores)) = inr (same, stepped_then (stepped_none quiet) step, λ calm. stores (still_calm a old.late mid.late quiet.step.late calm))
 
 -- storing ended it

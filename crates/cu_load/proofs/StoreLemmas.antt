@@ -104,6 +104,9 @@ pub more_stored : (a : GivenArray) (held next : Option Contents) (n : ℕ) → n
 more_stored a held next n below stays so_far here =
     below_more _ _ (λ k earlier. stored_stays a held next k (omega (arith, below, earlier)) stays (so_far k earlier)) here
 
+pub some_stay : (a : GivenArray) (held next : Option Contents) (n : ℕ) → n ≤ chunks_in a → ValuesStay a held next → HoldsChunks a held n → HoldsChunks a next n
+some_stay a held next n few stays stored k below = stored_stays a held next k (omega (arith, few, below)) stays (stored k below)
+
 pub all_stay : (a : GivenArray) (held next : Option Contents) → ValuesStay a held next → HoldsChunks a held (chunks_in a) → HoldsChunks a next (chunks_in a)
 all_stay a held next stays stored k below = stored_stays a held next k below stays (stored k below)
 
@@ -137,11 +140,11 @@ stores_given a (Some held) ok grid metadata stored = (metadata, stored, elements
 
 -- the calls for a chunk failed
 pub chunk_fault : (tries : ℕ) (a : GivenArray) (k : ℕ) (old mid new : Shown) (status : Status)
-    → k < chunks_in a → old.faults ≤ mid.faults → Stepped (ChunksPut a (k + 1)) old new → IsKeyFault tries mid.faults new.faults new.lacks (key_of_chunk a k) status
+    → k < chunks_in a → old.faults ≤ mid.faults → Stepped (ChunksPut a (k + 1)) old new → (IsArrayCalm a old.late → HoldsChunks a new.held k) → IsKeyFault tries mid.faults new.faults new.lacks (key_of_chunk a k) status
     → IsStoreFault tries a old new status
-chunk_fault tries a k old mid new (DepotFailed key) below earlier step fault = (rose_earlier tries old.faults mid.faults new.faults earlier fault.1, inl (k, below, fault.0, step))
-chunk_fault tries a k old mid new NoMemory below earlier step fault = (key_of_chunk a k, inl (k, below, refl, step))
-chunk_fault tries a k old mid new status below earlier step fault = fault
+chunk_fault tries a k old mid new (DepotFailed key) below earlier step before fault = (rose_earlier tries old.faults mid.faults new.faults earlier fault.1, inl (k, below, fault.0, step, before))
+chunk_fault tries a k old mid new NoMemory below earlier step before fault = (key_of_chunk a k, inl (k, below, refl, step, before))
+chunk_fault tries a k old mid new status below earlier step before fault = fault
 
 -- those for the metadata failed
 pub metadata_fault : (tries : ℕ) (a : GivenArray) (key : List ℕ) (old mid new : Shown) (status : Status)

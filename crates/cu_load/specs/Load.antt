@@ -100,7 +100,7 @@ pub record IsArrayStored (a : GivenArray) (old new : Shown) : Type 0 where
 -- where all chunks are held.
 abbrev pub IsPutFault : GivenArray → Shown → Shown → List ℕ → Type 0
 IsPutFault a old new key =
-    ((k : ℕ) × (k < chunks_in a) × (key ≡ key_of_chunk a k) × Stepped (ChunksPut a (k + 1)) old new)
+    ((k : ℕ) × (k < chunks_in a) × (key ≡ key_of_chunk a k) × Stepped (ChunksPut a (k + 1)) old new × (IsArrayCalm a old.late → HoldsChunks a new.held k))
     ⊎ ((key ≡ metadata_key_of a.name) × Stepped (ArrayPut a) old new × (IsArrayCalm a old.late → HoldsChunks a new.held (chunks_in a)))
 
 -- the same while storing, with the count of the depot's faults; want of memory ends the calls for some key so

@@ -3,11 +3,10 @@ ghost use Rattle.std.specs.Prelude.{◌≡◌, ℕ, ◌+◌, ◌-◌, ◌*◌, �
 ghost use Rattle.cu_num.specs.Dtype.{size_of, InRange};
 ghost use Rattle.cu_shape.specs.Index.{product, IsInside, quotients, differences};
 ghost use Rattle.cu_grid.specs.Grid.{IsGrid};
-ghost use Rattle.cu_region.specs.Reading.{bytes_of, ReadsRegion, key_at};
+ghost use Rattle.cu_region.specs.Reading.{bytes_of, ReadsRegion, IsChunkKey, key_at};
 ghost use Rattle.cu_region.specs.Steady.{IsSteady};
 ghost use Rattle.cu_store.specs.Steps.{Shown, NoChange};
 ghost use Rattle.cu_command.specs.Seen.{Stepped};
-ghost use Rattle.cu_command.specs.Stored.{IsArrayChunk};
 ghost use Rattle.cu_print.specs.Runs.{run_end_on, IsChunkRun, IsPrintable, IsTried, IsReadEnd, read_end};
 
 use cu_codec::chunk_key;
@@ -84,7 +83,7 @@ fn read_once<D: Depot>(
     requires out_length { length out.old ≡ product (differences region.now.hi region.now.lo) * size_of info.now.layout.dtype }
     requires scratch_length { bytes_of info.now.layout ≤ length scratch.old }
     ensures read { (entry : Shown) → Stepped NoChange entry (D.shown depot.old)
-        → IsSteady (IsArrayChunk info.now.prefix info.now.layout) entry.held entry.late → OnOk result (ReadsRegion info.now region.now.lo region.now.hi entry.held out.new) }
+        → IsSteady (IsChunkKey info.now region.now.lo region.now.hi) entry.held entry.late → OnOk result (ReadsRegion info.now region.now.lo region.now.hi entry.held out.new) }
     ensures step { Stepped NoChange (D.shown depot.old) (D.shown depot.new) }
     ensures cause { IfErr result (IsTried 1 (D.shown depot.old) (D.shown depot.new) info.now.layout
         (key_at info.now (quotients region.now.lo info.now.layout.grid.chunk))) }
@@ -107,7 +106,7 @@ fn read_tries<D: Depot>(
     requires out_length { length out.old ≡ product (differences region.now.hi region.now.lo) * size_of info.now.layout.dtype }
     requires scratch_length { bytes_of info.now.layout ≤ length scratch.old }
     ensures read { (entry : Shown) → Stepped NoChange entry (D.shown depot.old)
-        → IsSteady (IsArrayChunk info.now.prefix info.now.layout) entry.held entry.late → OnOk result (ReadsRegion info.now region.now.lo region.now.hi entry.held out.new) }
+        → IsSteady (IsChunkKey info.now region.now.lo region.now.hi) entry.held entry.late → OnOk result (ReadsRegion info.now region.now.lo region.now.hi entry.held out.new) }
     ensures step { Stepped NoChange (D.shown depot.old) (D.shown depot.new) }
     ensures cause { IfErr result (IsTried (retries + 1) (D.shown depot.old) (D.shown depot.new) info.now.layout
         (key_at info.now (quotients region.now.lo info.now.layout.grid.chunk))) }
@@ -164,7 +163,7 @@ pub(crate) fn read_run<D: Depot>(
     requires out_length { length out.old ≡ product (differences region.now.hi region.now.lo) * size_of info.now.layout.dtype }
     requires scratch_length { bytes_of info.now.layout ≤ length scratch.old }
     ensures read { (entry : Shown) → Stepped NoChange entry (D.shown depot.old)
-        → IsSteady (IsArrayChunk info.now.prefix info.now.layout) entry.held entry.late → OnOk result (ReadsRegion info.now region.now.lo region.now.hi entry.held out.new) }
+        → IsSteady (IsChunkKey info.now region.now.lo region.now.hi) entry.held entry.late → OnOk result (ReadsRegion info.now region.now.lo region.now.hi entry.held out.new) }
     ensures step { Stepped NoChange (D.shown depot.old) (D.shown depot.new) }
     ensures cause { IfErr result (IsReadEnd (retries + 1) (D.shown depot.old) (D.shown depot.new) info.now.layout
         (key_at info.now (quotients region.now.lo info.now.layout.grid.chunk))) }

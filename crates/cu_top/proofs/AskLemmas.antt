@@ -53,7 +53,7 @@ module _ (tries : ℕ) (job : Job) (options : Options) (old new : Shown) (record
   own_held answer = (at_record, inl (held_in new.held record_key answer), λ own. inl is)
 
   pub own_failed : Rose tries old.faults new.faults → IsAskEnd tries job.expr (keys_of options job) old new (Failed record_key)
-  own_failed rose = (at_record, rose)
+  own_failed rose = (at_record, rose, λ own. inl is)
 
   pub own_metadata : (key : List ℕ) → key ≡ metadata_key_of job.expr.store_as → is_own_input job.expr ≡ true → Stepped NoChange old new → Answers new.held record_key (Ok false)
       → IsAskEnd tries job.expr (keys_of options job) old new (Held key)
@@ -73,7 +73,7 @@ true_false b holds fails = cc
 
 asked_end : (tries : ℕ) (e : Expression) (keys : List (List ℕ)) (old new : Shown) (f : WayFault) → IsAsked tries old new keys (Err f) → HasNoOwnInput e → IsAskEnd tries e keys old new f
 asked_end tries e keys old new (Held key) asked apart = ((asked.listed, asked.first), inl asked.cause, λ own. absurd (true_false (is_own_input e) own apart))
-asked_end tries e keys old new (Failed key) asked apart = ((asked.listed, asked.first), asked.cause)
+asked_end tries e keys old new (Failed key) asked apart = ((asked.listed, asked.first), asked.cause, λ own. absurd (true_false (is_own_input e) own apart))
 asked_end tries e keys old new NoMemory asked apart = tt
 
 pub plan_asked : (tries : ℕ) (e : Expression) (keys all : List (List ℕ)) (old new : Shown) (result : Result (Unit {0}) WayFault) → keys ≡ all → IsAsked tries old new keys result → HasNoOwnInput e

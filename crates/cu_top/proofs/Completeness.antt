@@ -143,7 +143,7 @@ module _ (c : RunCase) (entry : Contents) (told : c.old.depot.held ≡ Some entr
     served_run (Exists key) (spared, (job, accepted, (planned, (first, way, own)))) = not_in_way job (rest job accepted) key spared first.0 way
     served_run (BadChunk key got want) (job, started, (bad, texts, input)) =
         let at_rest = rest job started.accepted in
-        not_bad job at_rest started key got want bad (input entry told (calm job at_rest started))
+        not_bad job at_rest started key got want bad (input entry told (started.opens entry told (calm job at_rest started)))
     served_run status ran = absurd ran
 
 -- ---- the call

@@ -39,7 +39,7 @@ use Rattle.cu_command.specs.declared.status.Status.TheVariants.{Done, WriteFault
 use Rattle.cu_top.specs.Ask.{IsFirstOf, IsAskEnd, answer_of}
 use Rattle.cu_top.specs.Prepare.{HasPlan, keys_of, out_metadata}
 use Rattle.cu_top.specs.Record.{record_text}
-use Rattle.cu_top.specs.Run.{RunCase, job_run, plan_in, env_of, IsAccepted, IsStarted, IsCleared, IsMeant, HoldsAll, WhereQuiet, WroteTo, Ran, Ended, PrintsOnly, failed_of}
+use Rattle.cu_top.specs.Run.{RunCase, job_run, plan_in, env_of, IsAccepted, IsStarted, IsCleared, IsMeant, HoldsAll, WhereQuiet, WhereLeft, WroteTo, Ran, Ended, PrintsOnly, failed_of}
 use Rattle.cu_command.specs.declared.job.Job.{Job}
 use Rattle.cu_top.proofs.PlanLemmas.{lent_within, differs}
 use Rattle.cu_top.specs.Report.{report_line}
@@ -83,7 +83,7 @@ ask_refused c job between (way.Held key) accepted planned first second fault =
     (stepped_then first second, (job, accepted, (planned, (first_of c.old.depot between (keys_of c.options job) key first fault.0, fault.1, fault.2))))
 ask_refused c job between (way.Failed key) accepted planned first second fault = (
   (let earlier = first.step.count in let rose = fault.1 in omega (arith, rose, earlier)),
-  inr (inl (stepped_then first second, (job, accepted, (planned, first_of c.old.depot between (keys_of c.options job) key first fault.0)))),
+  inr (inl (stepped_then first second, (job, accepted, (planned, (first_of c.old.depot between (keys_of c.options job) key first fault.0, fault.2))))),
 )
 ask_refused c job between way.NoMemory accepted planned first second fault = inl (stepped_then first second)
 
@@ -186,8 +186,8 @@ module _ (c : RunCase) (job : Job) (laws : PlanLaws c job) (start : Shown) (clea
   kept : (env : Elements) → IsLeft (job_run c job) env c.old.depot → IsLeft (job_run c job) env start
   kept env left = left_kept (job_run c job) env c.old.depot left 0 cleared.spared.calls start (steps_none cleared.spared.step)
 
-  left_start : WhereQuiet c job (λ env. IsLeft (job_run c job) env start)
-  left_start entry told calm = kept (env_of c job entry) (left_old entry told calm)
+  left_start : WhereLeft c job (λ env. IsLeft (job_run c job) env start)
+  left_start entry told left = kept (env_of c job entry) left
 
   change_since : (key : List ℕ) (value : Option (List ℕ)) → RunChange (job_run c job) start key value → RunChange (job_run c job) c.old.depot key value
   change_since key value (q, bytes, piece, at, is, valued) = (q, bytes, piece, at, is, λ env left. valued env (kept env left))
@@ -205,6 +205,7 @@ module _ (c : RunCase) (job : Job) (laws : PlanLaws c job) (start : Shown) (clea
     apart = keys;
     free = cleared.free;
     step = stepped_then (stepped_none cleared.spared) (stepped_wider change_since (stepped told.step));
+    opens = left_old;
     left = λ entry is calm.
         let at = left_start entry is calm in
         left_kept (job_run c job) (env_of c job entry) start at 0 told.calls c.new.depot (begun_since (job_run c job) (env_of c job entry) start at 0 told.calls c.new.depot told.step);
@@ -216,7 +217,7 @@ module _ (c : RunCase) (job : Job) (laws : PlanLaws c job) (start : Shown) (clea
   }
 
   -- the output of a run whose pieces are all held
-  stored : (result : Result Outcome TextFault) → RunTold c.options.retries (job_run c job) start c.new.depot result → WhereQuiet c job (λ env. IsComplete (job_run c job) env c.new.depot) → HoldsAll c job
+  stored : (result : Result Outcome TextFault) → RunTold c.options.retries (job_run c job) start c.new.depot result → WhereLeft c job (λ env. IsComplete (job_run c job) env c.new.depot) → HoldsAll c job
   stored result told complete = (
     complete,
     λ entry now is calm there.

@@ -28,7 +28,7 @@ IsOwnFirst e key = is_own_input e ≡ true → (key ≡ record_key_of e.store_as
 -- why asking for the keys of the plan ended
 abbrev pub IsAskEnd : ℕ → Expression → List (List ℕ) → Shown → Shown → WayFault → Type 0
 IsAskEnd tries e keys old new (Held key) = IsFirstOf old keys key × IsInWay e new key × IsOwnFirst e key
-IsAskEnd tries e keys old new (Failed key) = IsFirstOf old keys key × Rose tries old.faults new.faults
+IsAskEnd tries e keys old new (Failed key) = IsFirstOf old keys key × Rose tries old.faults new.faults × IsOwnFirst e key
 IsAskEnd tries e keys old new NoMemory = Unit {0}
 
 -- what a run answers where asking ended so

@@ -85,6 +85,10 @@ IsQuietEntry c job entry = IsQuiet (job_run c job) (env_of c job entry) entry c.
 abbrev pub WhereQuiet : RunCase → Job → (Elements → Type 0) → Type 0
 WhereQuiet c job fact = (entry : Contents) → c.old.depot.held ≡ Some entry → IsQuietEntry c job entry → fact (env_of c job entry)
 
+-- the same where it was left by the plan: each key of it absent or with its one value, and what is late changes neither these nor an input
+abbrev pub WhereLeft : RunCase → Job → (Elements → Type 0) → Type 0
+WhereLeft c job fact = (entry : Contents) → c.old.depot.held ≡ Some entry → IsLeft (job_run c job) (env_of c job entry) c.old.depot → fact (env_of c job entry)
+
 -- ---- before a run is started
 
 -- nothing but puts that were late has landed
@@ -124,8 +128,9 @@ pub record IsStarted (c : RunCase) (job : Job) : Type 0 where
   pub apart : KeysApart (job_run c job)
   pub free : (entry : Contents) → c.old.depot.held ≡ Some entry → All (IsFree entry) (keys_of c.options job)
   pub step : Stepped (RunChange (job_run c job) c.old.depot) c.old.depot c.new.depot
-  pub left : WhereQuiet c job (λ env. IsLeft (job_run c job) env c.new.depot)
-  pub first : WhereQuiet c job (IsRecordHeldFirst c job)
+  pub opens : WhereQuiet c job (λ env. IsLeft (job_run c job) env c.old.depot)
+  pub left : WhereLeft c job (λ env. IsLeft (job_run c job) env c.new.depot)
+  pub first : WhereLeft c job (IsRecordHeldFirst c job)
 
 -- such a run, with a fact of its job
 abbrev pub Started : RunCase → (Job → Type 0) → Type 0
@@ -133,7 +138,7 @@ Started c fact = (job : Job) × IsStarted c job × fact job
 
 -- both texts are held
 abbrev pub HoldsBoth : RunCase → Job → Type 0
-HoldsBoth c job = WhereQuiet c job (λ env. HoldsTexts (job_run c job) env c.new.depot)
+HoldsBoth c job = WhereLeft c job (λ env. HoldsTexts (job_run c job) env c.new.depot)
 
 -- ---- the output
 
@@ -157,8 +162,8 @@ IsMeant job entry now = (idx : List ℕ) → IsInside (shape_of_node job.types j
 
 -- each key of the plan holds its one value, and the output is what the expression means
 abbrev pub HoldsAll : RunCase → Job → Type 0
-HoldsAll c job = WhereQuiet c job (λ env. IsComplete (job_run c job) env c.new.depot)
-    × ((entry now : Contents) → c.old.depot.held ≡ Some entry → IsQuietEntry c job entry → c.new.depot.held ≡ Some now → IsMeant job entry now)
+HoldsAll c job = WhereLeft c job (λ env. IsComplete (job_run c job) env c.new.depot)
+    × ((entry now : Contents) → c.old.depot.held ≡ Some entry → IsLeft (job_run c job) (env_of c job entry) c.old.depot → c.new.depot.held ≡ Some now → IsMeant job entry now)
 
 -- So many tries of tasks failed, each of which raised the count of the depot's faults; a task that was finished had at most as many of them as
 -- it is tried again. With a fact of the line that reports them.
@@ -196,18 +201,18 @@ IsTaskFailed c op task = Rose (c.options.retries + 1) c.old.depot.faults c.new.d
     × Started c (λ job. (op < length (plan_in c job).ops) × (task < tasks_of (plan_in c job).arrays (op_of (plan_in c job) op))
     × ((entry : Contents) (k : Cell) → c.old.depot.held ≡ Some entry → Contains (written_chunks (plan_in c job).arrays (op_of (plan_in c job) op) task) k
     → entry (key_of (plan_in c job).arrays k) ≡ None)
-    × HoldsBoth c job × WhereQuiet c job (λ env. AreDone (chunks_alone (plan_in c job)) env op task c.new.depot) × HasNoTriesLeft c job op task)
+    × HoldsBoth c job × WhereLeft c job (λ env. AreDone (chunks_alone (plan_in c job)) env op task c.new.depot) × HasNoTriesLeft c job op task)
 
 -- 13: this chunk, which a task reads, holds `got` bytes and not the `want` bytes of a chunk. Where the contents were told and the premise
 -- holds, it is an input's, and the texts are held.
 abbrev pub IsBadInput : RunCase → List ℕ → ℕ → ℕ → Type 0
-IsBadInput c key got want = Started c (λ job. IsBadChunk (plan_in c job) c.new.depot key got want × HoldsBoth c job × WhereQuiet c job (λ env. IsInputKey (plan_in c job) key))
+IsBadInput c key got want = Started c (λ job. IsBadChunk (plan_in c job) c.new.depot key got want × HoldsBoth c job × WhereLeft c job (λ env. IsInputKey (plan_in c job) key))
 
 -- The calls for the record failed, and nothing but it was put; or those for the output's metadata, the record is held, and nothing but both
 -- was put.
 abbrev pub IsTextFailed : RunCase → Job → List ℕ → Type 0
 IsTextFailed c job key = ((key ≡ record_key_of job.expr.store_as) ⊎ (key ≡ metadata_key_of job.expr.store_as)) × Stepped (TextPut c job) c.old.depot c.new.depot
-    × WhereQuiet c job (λ env. ((key ≡ record_key_of job.expr.store_as) × Stepped (RecordPut c job) c.old.depot c.new.depot)
+    × WhereLeft c job (λ env. ((key ≡ record_key_of job.expr.store_as) × Stepped (RecordPut c job) c.old.depot c.new.depot)
     ⊎ ((key ≡ metadata_key_of job.expr.store_as) × HoldsPiece (job_run c job) env (Text 0) c.new.depot))
 
 -- reading the text, the inputs and the types ended so, and nothing was stored
@@ -232,7 +237,7 @@ IsRefused c name code = HasNoJob c (fault.BadMeta name code)
 -- the others were found absent; or the run was started, and the key is that of one of its texts.
 abbrev pub IsDepotFailed : RunCase → List ℕ → Type 0
 IsDepotFailed c key = Rose (c.options.retries + 1) c.old.depot.faults c.new.depot.faults
-    × (HasNoJob c (fault.DepotFailed key) ⊎ ((IsSpared c × OfPlanned c (λ job. IsFirstOf c.old.depot (keys_of c.options job) key)) ⊎ Started c (λ job. IsTextFailed c job key)))
+    × (HasNoJob c (fault.DepotFailed key) ⊎ ((IsSpared c × OfPlanned c (λ job. IsFirstOf c.old.depot (keys_of c.options job) key × IsOwnFirst job.expr key)) ⊎ Started c (λ job. IsTextFailed c job key)))
 
 -- 5 and 6: the job has no plan
 abbrev pub HasNoPlan : RunCase → Status → Type 0

@@ -3,7 +3,7 @@ use Rattle.cu_command.proofs.SeenLemmas.{stepped, stepped_then, stepped_wider}
 use Rattle.cu_command.specs.Seen.{Stepped}
 use Rattle.cu_load.specs.Load.{ChunksPut, HoldsChunks, chunks_in}
 use Rattle.cu_load.specs.LoadForm.{given_by}
-use Rattle.cu_load.proofs.StoreLemmas.{next_put, more_put, chunk_put, chunks_put, values_stay, more_stored, chunk_fault}
+use Rattle.cu_load.proofs.StoreLemmas.{next_put, more_put, chunk_put, chunks_put, values_stay, more_stored, chunk_fault, some_stay}
 use Rattle.cu_load.proofs.store.store_chunks.Goals as goal
 
 pub returns-in-Err-clause-failed : goal.returns-in-Err-clause-failed
@@ -12,6 +12,11 @@ returns-in-Err-clause-failed g c =
     let so_far = c.loop-number.invariant.step in
     chunk_fault _ (given_by c.args.form.now) c.loop-number.number (g.D.Depot.shown c.args.depot.now) (g.D.Depot.shown c.loop-number.depot) (g.D.Depot.shown c.store_chunk.new.depot) c.in-Err.status below so_far.step.count
     (stepped_then (stepped_wider (more_put (given_by c.args.form.now) c.loop-number.number) so_far) (stepped_wider (next_put (given_by c.args.form.now) c.loop-number.number) (stepped c.store_chunk.ensures.step)))
+    (λ calm. some_stay (given_by c.args.form.now) (g.D.Depot.shown c.loop-number.depot).held (g.D.Depot.shown c.store_chunk.new.depot).held c.loop-number.number (omega (arith, below))
+    (values_stay (given_by c.args.form.now) (g.D.Depot.shown c.args.depot.now).late (g.D.Depot.shown c.loop-number.depot).late (g.D.Depot.shown c.loop-number.depot).held (g.D.Depot.shown c.store_chunk.new.depot).held
+    c.requires.given calm (stepped_wider (chunks_put (given_by c.args.form.now) c.loop-number.number (omega (arith, below))) so_far).step.late
+    (stepped_wider (chunk_put (given_by c.args.form.now) c.loop-number.number below) (stepped c.store_chunk.ensures.step)).step.lands)
+    (c.loop-number.invariant.stored calm))
     c.in-Err.ensures.cause
 
 pub loop-number-preserved : goal.loop-number-preserved
