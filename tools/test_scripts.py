@@ -1,0 +1,280 @@
+#!/usr/bin/env python3
+"""Tests the scripts beside the program: tools/zarr, and `status`, `remove` and `explain` of cubed. It needs no program.
+
+usage: tools/test_scripts.py
+
+The files of NumPy are read and written by NumPy too where it can be imported.
+"""
+import array
+import contextlib
+import io
+import itertools
+import json
+import math
+import os
+import random
+import re
+import subprocess
+import sys
+import tempfile
+import unittest
+
+TOP = os.path.dirname(os.path.dirname(os.path.realpath(__file__)))
+sys.dont_write_bytecode = True
+sys.path.insert(0, f"{TOP}/tools")
+import folder as folder_commands  # noqa: E402
+from zarr_store import TYPES, Layout, Stored, item_bytes  # noqa: E402
+
+try:
+    import numpy
+except ImportError:
+    numpy = None
+RECORD = '{"allowed":200000000}'
+
+
+def run(*words, text=b""):
+    return subprocess.run(words, input=text, stdout=subprocess.PIPE, stderr=subprocess.PIPE, check=False)
+
+
+def put(path, data=b""):
+    os.makedirs(os.path.dirname(path), exist_ok=True)
+    with open(path, "wb") as file:
+        file.write(data)
+
+
+def files_in(top):
+    return sorted(os.path.relpath(os.path.join(at, name), top) for at, _, names in os.walk(top) for name in names)
+
+
+class InFolder(unittest.TestCase):
+    def setUp(self):
+        room = tempfile.TemporaryDirectory()
+        self.addCleanup(room.cleanup)
+        self.top = room.name
+
+    def zarr(self, *words, status=0, text=b""):
+        ended = run(f"{TOP}/tools/zarr", self.top, *words, text=text)
+        self.assertEqual(ended.returncode, status, ended.stderr.decode())
+        return ended.stdout
+
+    def cubed(self, *words, status=0):
+        ended = run(f"{TOP}/cubed", self.top, *words)
+        self.assertEqual(ended.returncode, status, ended.stderr.decode())
+        return ended.stdout.decode()
+
+
+class Zarr(InFolder):
+    def chunk(self, name, *coordinate):
+        with open(os.path.join(self.top, name, "c", *map(str, coordinate)), "rb") as file:
+            return file.read()
+
+    def test_chunks_are_whole_and_padded_with_the_fill_value(self):
+        self.zarr("write", "a", "--dtype", "int8", "--shape", "2,3", "--chunk", "2,2", "--fill", "9", "1", "2", "3", "4", "5", "6")
+        self.assertEqual(self.chunk("a", 0, 0), bytes([1, 2, 4, 5]))
+        self.assertEqual(self.chunk("a", 0, 1), bytes([3, 9, 6, 9]))
+        with open(f"{self.top}/a/zarr.json", encoding="ascii") as file:
+            self.assertEqual(file.read(), Layout("int8", [2, 3], [2, 2], 9).text())
+
+    def test_bytes_come_back_in_every_type_shape_and_chunk(self):
+        pick = random.Random(1)
+        for count, dtype in enumerate(TYPES):
+            shape = [pick.randrange(6) for _ in range(pick.randrange(4))]
+            chunk = [pick.randrange(1, 5) for _ in shape]
+            data = pick.randbytes(item_bytes(dtype) * math.prod(shape))
+            data = bytes(byte & 1 for byte in data) if dtype == "bool" else data
+            put(f"{self.top}/in.raw", data)
+            sizes = ["--shape", ",".join(map(str, shape)), "--chunk", ",".join(map(str, chunk))]
+            self.zarr("write", f"a{count}", "--raw", f"{self.top}/in.raw", "--dtype", dtype, *sizes)
+            self.assertEqual(self.zarr("read", f"a{count}", "--raw", "-"), data)
+            self.zarr("write", f"b{count}", "--raw", f"{self.top}/in.raw", "--dtype", dtype, "--big", *sizes)
+            swapped = array.array(TYPES[dtype], data)
+            swapped.byteswap()
+            self.assertEqual(self.zarr("read", f"b{count}", "--raw", "-"), swapped.tobytes())
+
+    def test_text_comes_from_standard_input(self):
+        self.zarr("write", "a", "--dtype", "bool", text=b"true false\ntrue")
+        self.assertEqual(self.chunk("a", 0), bytes([1, 0, 1]))
+        for text in (b"128", b"1.0", b"1_0", b"x", "\u0661".encode(), b"1 2-3"):
+            self.zarr("write", "b", "--dtype", "int8", status=1, text=text)
+            self.assertEqual(os.listdir(self.top), ["a"])
+
+    def test_what_is_there_or_is_wrong_is_refused_and_leaves_nothing(self):
+        self.zarr("write", "a", "1")
+        self.zarr("write", "a", "1", status=1)
+        put(f"{self.top}/_cubed/b/plan.json")
+        self.zarr("write", "b", "1", status=1)
+        for words in (["--shape", "2"], ["--chunk", "0"], ["--chunk", "1,1"], ["--dtype", "float64"], ["--fill", "x"], ["--x", "1"], ["--chunk"]):
+            ended = run(f"{TOP}/tools/zarr", self.top, "write", "c", "1", *words)
+            self.assertIn(ended.returncode, (1, 2), words)
+            self.assertEqual(ended.stdout, b"")
+        self.assertEqual(sorted(os.listdir(self.top)), ["_cubed", "a"])
+
+    def test_an_absent_chunk_is_the_fill_value_and_a_short_one_is_refused(self):
+        self.zarr("write", "a", "--dtype", "int8", "--chunk", "2", "--fill", "7", "1", "2", "3", "4")
+        os.remove(f"{self.top}/a/c/0")
+        self.assertEqual(self.zarr("read", "a", "--raw", "-"), bytes([7, 7, 3, 4]))
+        put(f"{self.top}/a/c/1", b"\0")
+        self.zarr("read", "a", "--raw", f"{self.top}/out", status=1)
+        self.assertFalse([name for name in os.listdir(self.top) if name.startswith("out")])
+
+    def test_an_unfinished_result_is_refused(self):
+        self.zarr("write", "a", "--dtype", "int8", "--chunk", "2", "1", "2", "3", "4")
+        put(f"{self.top}/_cubed/a/plan.json", RECORD.encode())
+        self.zarr("read", "a", "--raw", "-")
+        os.remove(f"{self.top}/a/c/1")
+        self.zarr("read", "a", "--raw", "-", status=1)
+        self.assertEqual(self.zarr("read", "a", "--raw", "-", "--unfinished"), bytes([1, 2, 0, 0]))
+
+    def test_version_2_is_read_where_it_lies(self):
+        told = {"zarr_format": 2, "shape": [3], "chunks": [2], "dtype": ">i2", "compressor": None, "filters": None, "order": "C", "fill_value": None}
+        put(f"{self.top}/a/.zarray", json.dumps(told).encode())
+        put(f"{self.top}/a/.zattrs", b'{"_ARRAY_DIMENSIONS":["x"],"units":"K","scale_factor":0.1}')
+        put(f"{self.top}/a/0", b"\0\1\0\2")
+        self.zarr("adopt", "a")
+        self.assertEqual(self.zarr("read", "a", "--raw", "-"), b"\1\0\2\0\0\0")
+        with open(f"{self.top}/a/zarr.json", encoding="ascii") as file:
+            members = json.load(file)
+        self.assertEqual((members["dimension_names"], members["attributes"]), (["x"], {"units": "K", "scale_factor": 0.1}))
+        self.zarr("adopt", "a", status=1)
+        for name, value in (("compressor", {"id": "zstd"}), ("filters", [{"id": "delta"}]), ("dtype", "<f4"), ("zarr_format", 3)):
+            put(f"{self.top}/b/.zarray", json.dumps({**told, name: value}).encode())
+            self.zarr("adopt", "b", status=1)
+
+    @unittest.skipIf(numpy is None, "NumPy can't be imported")
+    def test_files_of_numpy(self):
+        pick = numpy.random.default_rng(1)
+        for count, (dtype, is_fortran, order) in enumerate(zip(TYPES, itertools.cycle((False, True)), itertools.cycle("<<>>"))):
+            given = pick.integers(0, 2, size=(5, 4, 3)).astype(numpy.dtype(dtype).newbyteorder(order))
+            given = numpy.asfortranarray(given) if is_fortran else given
+            numpy.save(f"{self.top}/in.npy", given)
+            self.zarr("write", f"a{count}", "--npy", f"{self.top}/in.npy", "--chunk", "2,3,2")
+            self.zarr("read", f"a{count}", "--npy", f"{self.top}/out.npy")
+            found = numpy.load(f"{self.top}/out.npy")
+            self.assertEqual(found.dtype, numpy.dtype(dtype))
+            self.assertTrue((found == given).all())
+        numpy.save(f"{self.top}/in.npy", numpy.zeros(3))
+        self.zarr("write", "f", "--npy", f"{self.top}/in.npy", status=1)
+
+
+class Folder(InFolder):
+    def make_result(self, chunks=2):
+        """A result of three chunks of which so many are stored, with two chunks in between and a write that was stopped."""
+        layout = Layout("int8", [6], [2])
+        put(f"{self.top}/y/zarr.json", layout.text().encode())
+        for at in range(chunks):
+            put(f"{self.top}/y/c/{at}", b"\1\2")
+        put(f"{self.top}/y/c/{chunks}.new17", b"\1")
+        put(f"{self.top}/_cubed/y/plan.json", RECORD.encode())
+        for at in range(2):
+            put(f"{self.top}/_cubed/y/0/c/{at}", b"\1\2")
+
+    def test_status_tells_what_is_unfinished(self):
+        self.make_result()
+        self.assertIn("2 of 3", self.cubed("status"))
+        self.assertIn("unfinished", self.cubed("status", "y", status=1))
+        put(f"{self.top}/y/c/2", b"\1\2")
+        self.assertIn("result of a run", self.cubed("status", "y"))
+        self.cubed("status", "z", status=1)
+        self.cubed("status", "-x", status=2)
+
+    def test_remove_takes_the_whole_result_and_nothing_else(self):
+        self.make_result()
+        put(f"{self.top}/a/zarr.json", Layout("int8", [1], [1]).text().encode())
+        put(f"{self.top}/y/note.txt")
+        before = files_in(self.top)
+        self.cubed("remove", "y", "--dry-run")
+        self.assertEqual(files_in(self.top), before)
+        self.assertIn("note.txt", self.cubed("remove", "y"))
+        self.assertEqual(files_in(self.top), ["a/zarr.json", "y/note.txt"])
+        self.cubed("remove", "a", status=1)
+        self.cubed("remove", "a", "--input")
+        self.assertEqual(files_in(self.top), ["y/note.txt"])
+
+    def test_a_removal_that_is_stopped_goes_on_and_leaves_no_array(self):
+        for stop in range(9):
+            self.make_result(3)
+            with contextlib.redirect_stdout(io.StringIO()), stopped_after(stop):
+                folder_commands.main([self.top, "remove", "y"])
+            if stop:
+                self.assertNotIn("y/zarr.json", files_in(self.top))
+            if files_in(self.top):
+                self.assertIn("_cubed/y/plan.json", files_in(self.top))
+                self.assertIn("unfinished" if stop else "result of a run", self.cubed("status"))
+                self.cubed("remove", "y")
+            self.assertEqual(files_in(self.top), [])
+
+    def test_a_link_goes_and_what_it_leads_to_stays(self):
+        put(f"{self.top}/far/x/zarr.json", Layout("int8", [1], [1]).text().encode())
+        os.symlink("far/x", f"{self.top}/x")
+        self.cubed("remove", "x", status=1)
+        self.cubed("remove", "x", "--input")
+        self.assertEqual(files_in(self.top), ["far/x/zarr.json"])
+
+    def test_what_a_killed_write_left_is_shown_and_goes(self):
+        name = "a" * 32 + ".new12345"
+        put(f"{self.top}/{name}/c/0", b"\1")
+        self.assertIn("left by a write that was stopped", self.cubed("status"))
+        self.cubed("remove", name)
+        self.assertEqual(files_in(self.top), [])
+
+    def test_a_group_and_a_wrong_name_are_refused(self):
+        put(f"{self.top}/g/zarr.json", b'{"zarr_format":3,"node_type":"group"}')
+        put(f"{self.top}/h/.zgroup", b"{}")
+        for name, status in (("g", 1), ("h", 1), ("..", 2), (".", 2), ("_cubed", 2), ("", 2), ("a/b", 2)):
+            self.cubed("remove", name, "--input", status=status)
+        self.assertEqual(files_in(self.top), ["g/zarr.json", "h/.zgroup"])
+
+
+@contextlib.contextmanager
+def stopped_after(count):
+    """Lets so many files be removed, and breaks off then."""
+    remove, left = os.remove, [count]
+
+    def counted(path):
+        if not left[0]:
+            raise KeyboardInterrupt
+        left[0] -= 1
+        remove(path)
+
+    os.remove = counted
+    try:
+        with contextlib.redirect_stderr(io.StringIO()):
+            yield
+    finally:
+        os.remove = remove
+
+
+class Explain(unittest.TestCase):
+    def explain(self, *words, status=0):
+        ended = run(f"{TOP}/cubed", "explain", *words)
+        self.assertEqual(ended.returncode, status, words)
+        return ended.stdout.decode()
+
+    def test_one_row_for_a_code_and_all_without(self):
+        self.assertEqual(self.explain("3", "code=3"), self.explain("error 3 code=3 node=2"))
+        self.assertEqual(len(re.findall(r"^error", self.explain("3", "code=3"), re.M)), 1)
+        self.assertEqual(len(re.findall(r"^error", self.explain("3"), re.M)), 7)
+        self.assertEqual(len(re.findall(r"^error", self.explain("error 6 which=2 count=300000"), re.M)), 1)
+
+    def test_each_answer_has_a_row_and_points_nowhere(self):
+        for number in (0, 1, 2, 3, 4, 5, 6, 7, 8, 9, 10, 11, 12, 13, 16, 17, 18, 70, 130, 137, 143):
+            text = self.explain(str(number))
+            self.assertNotRegex(re.sub("above the k-th|above, or", "", text), r"\b(above|below)\b")
+        self.assertRegex(self.explain("9"), r"cause: perhaps a run that was stopped")
+
+    def test_each_operator_has_an_example_of_itself(self):
+        with open(f"{TOP}/docs/GUIDE.md", encoding="utf-8") as guide:
+            table = guide.read().partition("### Operators")[2].partition("\n\nThe elementwise")[0]
+        names = [name for row in re.findall(r"^\| (`.*?) \|", table, re.M) for name in re.findall(r"`(\w+)`", row)]
+        self.assertGreater(len(names), 50)
+        for name in names:
+            example = re.search(r"example: (.*)", self.explain(name))[1]
+            self.assertEqual(json.loads(example)["op"], name)
+
+    def test_what_is_unknown_is_told(self):
+        for words in ([], ["99"], ["3", "code=99"], ["nope"], ["code=3"]):
+            self.explain(*words, status=2)
+
+
+if __name__ == "__main__":
+    unittest.main()

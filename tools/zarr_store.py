@@ -1,0 +1,325 @@
+"""What the scripts beside the program know of a folder of arrays: names, metadata, chunk files, plans, and how chunks are copied.
+
+It follows the forms of docs/GUIDE.md ("The files") and needs the standard library of Python 3.9 alone.
+"""
+import array
+import contextlib
+import itertools
+import json
+import math
+import mmap
+import os
+import re
+import sys
+
+# Each type with its letter in the module array. Truth values are bytes.
+TYPES = {"bool": "B", "int8": "b", "int16": "h", "int32": "i", "int64": "q",
+         "uint8": "B", "uint16": "H", "uint32": "I", "uint64": "Q"}
+NAME = re.compile(r"[A-Za-z0-9][A-Za-z0-9_.-]{0,31}\Z")
+# The files of an array beside its metadata: chunks of any key encoding, and what a write that was stopped left.
+CHUNK = re.compile(r"(c|(c[/.])?[0-9]+([/.][0-9]+)*)\Z")
+STOPPED = re.compile(r".*\.new[0-9]*\Z")
+GROUP = "it is a group, whose folder can be given as DIR"
+METADATA = ("zarr.json", ".zarray", ".zattrs")
+MEMBERS = {"zarr_format", "node_type", "shape", "data_type", "chunk_grid", "chunk_key_encoding", "fill_value", "codecs",
+           "attributes", "dimension_names", "storage_transformers"}
+# The limits of the program: axes, elements, chunks of an array, and bytes of a chunk.
+RANK, ELEMENTS, CHUNKS, CHUNK_BYTES = 6, 2**40, 65536, 2**28
+# How much of a mapped file may stay in memory while it is copied.
+MAPPED = 64 << 20
+
+
+class Failed(Exception):
+    """The array can't be written or read, and why."""
+
+
+class Unread(Failed):
+    """The metadata isn't one that the program reads."""
+
+
+def is_name(name):
+    """Whether this is the name of an array, or of what a write of one left when it was stopped."""
+    return NAME.match(re.sub(r"\.new[0-9]+\Z", "", name)) is not None
+
+
+def item_bytes(dtype):
+    return array.array(TYPES[dtype]).itemsize
+
+
+def chunk_counts(shape, chunk):
+    return [-(-size // side) for size, side in zip(shape, chunk)]
+
+
+def sizes_text(sizes):
+    return f"[{','.join(map(str, sizes))}]"
+
+
+class Layout:
+    """The layout of a stored array: its type, shape, chunk shape, fill value, byte order and key encoding."""
+
+    def __init__(self, dtype, shape, chunk, fill=0, order="little", encoding="default", separator="/"):
+        self.dtype, self.shape, self.chunk, self.fill = dtype, list(shape), list(chunk), int(fill)
+        self.order, self.encoding, self.separator = order, encoding, separator
+        if len(self.shape) != len(self.chunk) or 0 in self.chunk:
+            raise Unread("the chunk shape wants one size above 0 for each axis")
+        if len(self.shape) > RANK:
+            raise Unread(f"the array has {len(self.shape)} axes, and {RANK} are the most")
+        if math.prod(max(size, 1) for size in self.shape) > ELEMENTS:
+            raise Unread(f"the array has more than {ELEMENTS} elements")
+        if self.chunk_bytes > CHUNK_BYTES:
+            raise Unread(f"a chunk has {self.chunk_bytes} bytes, and {CHUNK_BYTES} are the most")
+        if math.prod(max(count, 1) for count in chunk_counts(self.shape, self.chunk)) > CHUNKS:
+            raise Unread(f"the array has more than {CHUNKS} chunks: choose larger ones")
+
+    @property
+    def chunk_bytes(self):
+        return math.prod(self.chunk) * item_bytes(self.dtype)
+
+    @property
+    def chunk_count(self):
+        return math.prod(chunk_counts(self.shape, self.chunk))
+
+    def is_swapped(self):
+        """Whether its elements have another byte order than this machine."""
+        return item_bytes(self.dtype) > 1 and self.order != sys.byteorder
+
+    def coordinates(self):
+        """The coordinates of all chunks, in row-major order."""
+        return itertools.product(*map(range, chunk_counts(self.shape, self.chunk)))
+
+    def key(self, coordinate):
+        """The file of a chunk, below the array's folder."""
+        parts = [str(at) for at in coordinate]
+        parts = ["c", *parts] if self.encoding == "default" else parts or ["0"]
+        return self.separator.join(parts)
+
+    def text(self):
+        """The one text in which metadata is written: compact JSON, members in byte order."""
+        codec = {"name": "bytes"}
+        if item_bytes(self.dtype) > 1:
+            codec["configuration"] = {"endian": self.order}
+        return compact({
+            "zarr_format": 3, "node_type": "array", "data_type": self.dtype, "shape": self.shape,
+            "chunk_grid": {"name": "regular", "configuration": {"chunk_shape": self.chunk}},
+            "chunk_key_encoding": {"name": self.encoding, "configuration": {"separator": self.separator}},
+            "codecs": [codec], "fill_value": bool(self.fill) if self.dtype == "bool" else self.fill})
+
+
+def compact(value):
+    return json.dumps(value, sort_keys=True, separators=(",", ":"))
+
+
+def part(value, *allowed):
+    """The name and the configuration of a part of the metadata."""
+    if isinstance(value, str):
+        return value, {}
+    if not isinstance(value, dict) or not isinstance(value.get("name"), str):
+        raise Unread("a part of its metadata has no name")
+    told = value.get("configuration", {})
+    if not isinstance(told, dict) or not set(told) <= set(allowed):
+        raise Unread(f"the configuration of {value['name']!r} isn't read")
+    return value["name"], told
+
+
+def is_sizes(value):
+    return isinstance(value, list) and all(isinstance(size, int) and not isinstance(size, bool) and size >= 0 for size in value)
+
+
+def is_of(dtype, value):
+    """Whether a fill value is one of the type's."""
+    if dtype == "bool" or isinstance(value, bool):
+        return dtype == "bool" and isinstance(value, bool)
+    bits = 8 * item_bytes(dtype)
+    low, high = (0, 2**bits) if dtype.startswith("u") else (-(2 ** (bits - 1)), 2 ** (bits - 1))
+    return isinstance(value, int) and low <= value < high
+
+
+def layout_of(told):
+    """The layout that metadata of version 3 says, where the program reads it."""
+    if not isinstance(told, dict):
+        raise Unread("its metadata isn't a JSON object")
+    if told.get("node_type") == "group":
+        raise Unread(GROUP)
+    if told.get("zarr_format") != 3 or told.get("node_type") != "array":
+        raise Unread("its metadata isn't that of an array of version 3")
+    dtype, _ = part(told.get("data_type"))
+    if dtype not in TYPES:
+        raise Unread(f"its type is {dtype}, and integers and bool are read")
+    grid, sides = part(told.get("chunk_grid"), "chunk_shape")
+    if grid != "regular" or not is_sizes(told.get("shape")) or not is_sizes(sides.get("chunk_shape")):
+        raise Unread("its shape or its chunk grid isn't read")
+    encoding, said = part(told.get("chunk_key_encoding"), "separator")
+    separator = said.get("separator", "." if encoding == "v2" else "/")
+    if encoding not in ("default", "v2") or separator not in ("/", "."):
+        raise Unread("its key encoding isn't read")
+    if not is_of(dtype, told.get("fill_value")):
+        raise Unread(f"its fill value isn't one of {dtype}")
+    codecs = told.get("codecs")
+    if not isinstance(codecs, list) or len(codecs) != 1 or part(codecs[0], "endian")[0] != "bytes":
+        names = [it if isinstance(it, str) else it.get("name") for it in codecs] if isinstance(codecs, list) else []
+        raise Unread(f"it has the codecs {', '.join(map(str, names)) or 'none'}, and only bytes alone is read")
+    order = part(codecs[0], "endian")[1].get("endian", "little" if item_bytes(dtype) == 1 else None)
+    if order not in ("little", "big"):
+        raise Unread("its byte order isn't told")
+    for name, value in told.items():
+        if name not in MEMBERS and not (isinstance(value, dict) and value.get("must_understand") is False):
+            raise Unread(f"its metadata has the unknown member {name}")
+    return Layout(dtype, told["shape"], sides["chunk_shape"], told["fill_value"], order, encoding, separator)
+
+
+def layout_of_v2(told):
+    """The layout that metadata of version 2 says, where the array's bytes can be read as they lie."""
+    if not isinstance(told, dict) or told.get("zarr_format") != 2:
+        raise Unread("its .zarray isn't that of version 2")
+    if told.get("compressor") is not None or told.get("filters"):
+        raise Unread("it is compressed or filtered: write it with compressor=None")
+    kinds = {"b1": "bool", **{f"{sign}{item_bytes(name)}": name for name in TYPES if name != "bool"
+                              for sign in ("u" if name.startswith("u") else "i",)}}
+    dtype = told.get("dtype")
+    if not isinstance(dtype, str) or dtype[1:] not in kinds or dtype[:1] not in "<>|":
+        raise Unread(f"its type is {dtype}, and integers and bool are read")
+    shape, chunk = told.get("shape"), told.get("chunks")
+    if not is_sizes(shape) or not is_sizes(chunk):
+        raise Unread("its shape or its chunks aren't read")
+    if told.get("order", "C") != "C" and sum(side > 1 for side in chunk) > 1:
+        raise Unread("its chunks are in column-major order: write it with order='C'")
+    name, fill = kinds[dtype[1:]], told.get("fill_value")
+    fill = (False if name == "bool" else 0) if fill is None else fill
+    if not is_of(name, fill):
+        raise Unread(f"its fill value isn't one of {name}")
+    return Layout(name, shape, chunk, fill, "big" if dtype[0] == ">" else "little", "v2", told.get("dimension_separator", "."))
+
+
+def json_of(path):
+    with open(path, "rb") as file:
+        try:
+            return json.loads(file.read())
+        except (ValueError, RecursionError):
+            raise Unread("its metadata isn't JSON") from None
+
+
+class Stored:
+    """An array's name in a folder, and what lies under it."""
+
+    def __init__(self, folder, name):
+        self.folder, self.name = folder, name
+        self.path = os.path.join(folder, name)
+        self.plan = os.path.join(folder, "_cubed", name)
+        self.record = os.path.join(self.plan, "plan.json")
+
+    def exists(self):
+        return os.path.lexists(self.path) or os.path.lexists(self.plan)
+
+    def has_record(self):
+        return os.path.lexists(self.record)
+
+    def layout(self):
+        """Its layout, or why the program doesn't read it."""
+        text = os.path.join(self.path, "zarr.json")
+        if not os.path.exists(text):
+            if os.path.exists(os.path.join(self.path, ".zarray")):
+                raise Unread("it is of version 2: tools/zarr DIR adopt NAME makes it readable")
+            raise Unread("it has no zarr.json")
+        return layout_of(json_of(text))
+
+    def chunk_path(self, layout, coordinate):
+        return os.path.join(self.path, layout.key(coordinate))
+
+    def stored_chunks(self, layout):
+        """How many of its chunks are stored."""
+        return sum(os.path.exists(self.chunk_path(layout, at)) for at in layout.coordinates())
+
+    def is_unfinished(self, layout):
+        """Whether a run began to store it and hasn't stored all of it."""
+        return self.has_record() and self.stored_chunks(layout) < layout.chunk_count
+
+
+def files_under(path):
+    """The files below a folder and the links to folders, which aren't followed; the paths are relative to it."""
+    files, links = [], []
+    for at, folders, names in os.walk(path):
+        links += [os.path.relpath(os.path.join(at, name), path) for name in folders if os.path.islink(os.path.join(at, name))]
+        start = os.path.relpath(at, path)
+        files += names if start == "." else [f"{start}/{name}" for name in names]
+    return sorted(files), sorted(links)
+
+
+def names_in(folder):
+    """The names of arrays, of plans, and of what else could be an array, in their order."""
+    found = set()
+    for at in (folder, os.path.join(folder, "_cubed")):
+        with contextlib.suppress(FileNotFoundError, NotADirectoryError):
+            found.update(entry.name for entry in os.scandir(at) if is_name(entry.name) and entry.is_dir())
+    return sorted(found)
+
+
+class Box:
+    """A box of a larger array in row-major or column-major order, copied to and from a chunk by its longest runs."""
+
+    def __init__(self, shape, chunk, is_fortran=False):
+        self.shape, self.chunk = shape, chunk
+        self.steps = strides(shape[::-1])[::-1] if is_fortran else strides(shape)
+        self.sides = strides(chunk)
+
+    def runs(self, coordinate):
+        """The slices of the array and of the chunk that hold the same elements."""
+        low = [at * side for at, side in zip(coordinate, self.chunk)]
+        ends = [min(side, size - start) for side, size, start in zip(self.chunk, self.shape, low)]
+        if 0 in ends:
+            return
+        start = sum(at * step for at, step in zip(low, self.steps))
+        along = max(range(len(ends)), key=lambda axis: ends[axis] if self.steps[axis] != 1 else 4 * ends[axis], default=None)
+        if along is None:
+            yield slice(0, 1), slice(0, 1)
+            return
+        length, step, side = ends[along], self.steps[along], self.sides[along]
+        for index in itertools.product(*(range(1 if axis == along else end) for axis, end in enumerate(ends))):
+            outer = start + sum(at * stride for at, stride in zip(index, self.steps))
+            inner = sum(at * stride for at, stride in zip(index, self.sides))
+            yield slice(outer, outer + (length - 1) * step + 1, step), slice(inner, inner + (length - 1) * side + 1, side)
+
+
+def strides(sizes):
+    """By how many elements two neighbours along each axis lie apart in row-major order."""
+    found, step = [], 1
+    for size in reversed(sizes):
+        found.append(step)
+        step *= max(size, 1)
+    return found[::-1]
+
+
+class Mapped:
+    """A file as a list of elements from a place on, of which little stays in memory."""
+
+    def __init__(self, file, dtype, start, count, writable=False):
+        self.bytes = item_bytes(dtype)
+        access = mmap.ACCESS_WRITE if writable else mmap.ACCESS_READ
+        self.map = mmap.mmap(file.fileno(), start + count * self.bytes, access=access) if count else None
+        self.whole = memoryview(self.map or b"")
+        self.elements = self.whole[start:].cast(TYPES[dtype]) if count else None
+
+    def forget(self):
+        """Gives the memory of the file's pages back where they are many; the system keeps them as long as it likes."""
+        if self.map is not None and len(self.map) > MAPPED and file_pages() * mmap.PAGESIZE > MAPPED:
+            self.map.madvise(mmap.MADV_DONTNEED)
+
+    def close(self):
+        if self.map is not None:
+            self.elements.release()
+            self.whole.release()
+            self.map.close()
+
+
+def file_pages():
+    """How many pages of files are in this process's memory; 0 where the system doesn't tell."""
+    with contextlib.suppress(OSError, ValueError, IndexError), open("/proc/self/statm", encoding="ascii") as file:
+        return int(file.read().split()[2])
+    return 0
+
+
+def swapped(data, dtype):
+    """The bytes of elements, each in the other byte order."""
+    cells = array.array(TYPES[dtype])
+    cells.frombytes(data)
+    cells.byteswap()
+    return cells.tobytes()
