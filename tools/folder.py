@@ -15,6 +15,9 @@ import sys
 from zarr_store import CHUNK, GROUP, METADATA, STOPPED, Failed, Stored, Unread, files_under, is_name, names_in, sizes_text
 
 
+NO_ARRAY = "no array"
+
+
 class Wrong(Exception):
     """The words are wrong."""
 
@@ -36,7 +39,7 @@ class Found:
                 self.layout = stored.layout()
             except (Unread, OSError) as unread:
                 self.unread = str(unread)
-        files, self.links = ([], []) if self.is_link else files_under(stored.path)
+        files, self.links = files_under(stored.path) if self.has_files() else ([], [])
         self.metadata = [name for name in METADATA if name in files]
         self.chunks = [name for name in files if CHUNK.match(name)]
         self.stopped = [name for name in files if STOPPED.match(name)]
@@ -48,6 +51,13 @@ class Found:
             is_chunk = CHUNK.match(name.partition("/")[2]) and name.partition("/")[0].isdigit()
             if name != "plan.json":
                 (self.between if is_chunk else self.between_stopped if STOPPED.match(name) else self.plan_others).append(name)
+
+    def has_files(self):
+        """Whether files of an array lie here, and no others' arrays: neither in what a link leads to nor in a group."""
+        if self.is_link or not self.has_array or self.unread == GROUP:
+            return False
+        names = os.listdir(self.stored.path)
+        return ".zgroup" not in names and any(CHUNK.match(name) or STOPPED.match(name) or name in METADATA for name in names)
 
     @functools.cached_property
     def stored_count(self):
@@ -76,11 +86,18 @@ class Found:
         """Whether it is what a write of tools/zarr left when it was stopped, whose metadata would have come last."""
         return STOPPED.match(self.stored.name) and not self.metadata
 
+    @property
+    def is_nothing(self):
+        """Whether nothing of an array or of a plan lies here."""
+        return self.state() == NO_ARRAY and not self.rest()
+
     def state_unread(self):
         if self.is_left:
             return "left by a write that was stopped"
-        if self.unread == "it has no zarr.json":
-            return "no zarr.json; a load that was stopped leaves this" if self.chunks or self.stopped else "no array"
+        if self.is_link and not self.has_array:
+            return "a link that leads to no folder"
+        if self.unread in (None, "it has no zarr.json"):
+            return "no zarr.json; a load that was stopped leaves this" if self.chunks or self.stopped else NO_ARRAY
         return f"not read: {self.unread}"
 
     def rest(self):
@@ -118,10 +135,11 @@ def status(folder, words):
     if not os.path.isdir(folder):
         raise Failed(f"{folder} is no folder")
     if not words:
-        show_table([Found(Stored(folder, name)).row() for name in names_in(folder)])
+        found = [Found(Stored(folder, name)) for name in names_in(folder)]
+        show_table([it.row() for it in found if not it.is_nothing])
         return 0
-    stored = named(folder, words[0])
-    found = Found(stored)
+    found = named(folder, words[0])
+    stored = found.stored
     show_table([found.row()])
     print(f"the array: {bytes_of(stored.path, found.metadata + found.chunks + found.stopped)}")
     if stored.has_record() or found.between:
@@ -151,9 +169,10 @@ def named(folder, name):
     if not is_name(name):
         raise Wrong(f"{name!r} isn't a name: 1 to 32 letters, digits, _, - and ., the first a letter or a digit")
     stored = Stored(folder, name)
-    if not stored.exists():
+    found = Found(Stored(folder, name))
+    if found.is_nothing:
         raise Failed(f"{folder} has no array {name}, and no plan of one")
-    return stored
+    return found
 
 
 def remove(folder, words):
@@ -162,9 +181,9 @@ def remove(folder, words):
     names = [word for word in words if not word.startswith("-")]
     if len(names) != 1 or not flags <= {"--input", "--dry-run"}:
         raise Wrong("usage: cubed DIR remove NAME [--input] [--dry-run]")
-    stored = named(folder, names[0])
-    found = Found(stored)
-    if ".zgroup" in found.others or found.unread == GROUP:
+    found = named(folder, names[0])
+    stored = found.stored
+    if found.unread == GROUP or os.path.exists(os.path.join(stored.path, ".zgroup")):
         raise Failed(f"{stored.name} is a group; it isn't removed here")
     if found.has_array and not stored.has_record() and not found.is_left and "--input" not in flags:
         raise Failed(f"{stored.name} has no record of a plan, so no run made it; say --input to remove it all the same")

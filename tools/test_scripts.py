@@ -220,6 +220,10 @@ class Folder(InFolder):
     def test_a_group_and_a_wrong_name_are_refused(self):
         put(f"{self.top}/g/zarr.json", b'{"zarr_format":3,"node_type":"group"}')
         put(f"{self.top}/h/.zgroup", b"{}")
+        os.makedirs(f"{self.top}/plain/c")
+        self.cubed("remove", "plain", "--input", status=1)
+        self.assertTrue(os.path.isdir(f"{self.top}/plain/c"))
+        self.assertNotIn("plain", self.cubed("status"))
         for name, status in (("g", 1), ("h", 1), ("..", 2), (".", 2), ("_cubed", 2), ("", 2), ("a/b", 2)):
             self.cubed("remove", name, "--input", status=status)
         self.assertEqual(files_in(self.top), ["g/zarr.json", "h/.zgroup"])

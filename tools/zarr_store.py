@@ -207,9 +207,6 @@ class Stored:
         self.plan = os.path.join(folder, "_cubed", name)
         self.record = os.path.join(self.plan, "plan.json")
 
-    def exists(self):
-        return os.path.lexists(self.path) or os.path.lexists(self.plan)
-
     def has_record(self):
         return os.path.lexists(self.record)
 
