@@ -17,7 +17,7 @@ use cu_num::{Endian, size};
 use cu_op::{ArrayInfo, Layout};
 use cu_region::read_chunk;
 use cu_shape::{Dims, difference};
-use cu_store::{Depot, Key, TaskFault};
+use cu_store::{Depot, InDepot, Key, TaskFault};
 
 /// Reads a chunk once.
 fn read_once<D: Depot>(
@@ -34,7 +34,7 @@ fn read_once<D: Depot>(
     ensures cause { IfErr result (IsPartFault 1 (D.shown depot.old) (D.shown depot.new) info.now.layout (key_at info.now coord.now)) }
 {
     let _grid = info.layout.grid.shape();
-    read_chunk(depot, info, coord, chunk)
+    read_chunk::<InDepot<D>>(&(), depot, info, coord, chunk)
 }
 
 /// Reads a chunk, again where the store failed.

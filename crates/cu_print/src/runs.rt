@@ -13,9 +13,9 @@ use cu_codec::chunk_key;
 use cu_command::Status;
 use cu_grid::{Grid, Region};
 use cu_op::ArrayInfo;
-use cu_region::read_region;
+use cu_region::read_region_of;
 use cu_shape::Dims;
-use cu_store::{Depot, Key, TaskFault};
+use cu_store::{Depot, InDepot, Key, TaskFault};
 
 /// The longest run that begins at this index: along the last axis to the chunk's edge, and along an axis before it where the
 /// run takes all of each later axis.
@@ -89,7 +89,7 @@ fn read_once<D: Depot>(
         (key_at info.now (quotients region.now.lo info.now.layout.grid.chunk))) }
 {
     let _shape = info.layout.grid.shape();
-    read_region(depot, info, region, out, scratch)
+    read_region_of::<InDepot<D>>(&(), depot, info, region, out, scratch)
 }
 
 /// Reads a run, again where the store failed.

@@ -1,5 +1,7 @@
 pub mod ByteElements
 pub mod Calls
+pub mod Opened
+pub mod Passes
 pub mod SteadyKeys
 pub mod StoredReads
 pub mod StoredWrites

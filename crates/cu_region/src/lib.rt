@@ -5,7 +5,9 @@ mod laws;
 mod read;
 mod settle;
 mod write;
+mod yards;
 
 pub use laws::{chunks_make_regions, integers_are_elements, stored_regions_read_back};
-pub use read::{read_chunk, read_region};
-pub use write::write_region;
+pub use read::{read_chunk, read_region_of};
+pub use write::write_region_of;
+pub use yards::{read_region, write_region};

@@ -5,6 +5,7 @@ ghost use Rattle.cu_shape.specs.Index.{product, differences};
 ghost use Rattle.cu_grid.specs.Counts.{IsRegion};
 ghost use Rattle.cu_grid.specs.Cover.{Meets};
 ghost use Rattle.cu_grid.specs.Grid.{IsGrid};
+ghost use Rattle.cu_store.specs.Chunks.{Keeps, StaysOpen};
 ghost use Rattle.cu_store.specs.Steps.{NoChange, Steps};
 ghost use Rattle.cu_region.specs.Reading.{key_at, IsChunkKey, bytes_of, Fetches, ReadsChunk, HasChunk, ReadsRegion, ReadsPart, IsChunkReadFault};
 ghost use Rattle.cu_region.specs.Calls.{chunks_met, Made};
@@ -17,19 +18,22 @@ use cu_grid::Region;
 use cu_num::{Endian, size};
 use cu_op::{ArrayInfo, Layout};
 use cu_shape::Dims;
-use cu_store::{Depot, DepotFault, Got, Key, TaskFault};
+use cu_store::{Chunks, DepotFault, Got, Key, TaskFault};
 
 /// Reads a region of a stored array, in either byte order, into a buffer, row-major and little-endian. Each chunk that
 /// shares an element with the region is read once, through `scratch`, which has at least the bytes of a chunk, but a region
 /// that is one whole chunk is read straight into its buffer. An absent chunk reads as the fill value, and a stored truth byte
 /// other than 0 and 1 as 1: what was read are elements, which can be written again.
-pub fn read_region<D: Depot>(
-    depot: &mut D,
+pub fn read_region_of<C: Chunks>(
+    store: &C::Store,
+    access: &mut C::Access,
     info: &ArrayInfo,
     region: &Region,
     out: &mut [u8],
     scratch: &mut [u8],
 ) -> Result<(), TaskFault>
+    requires belongs { C.belongs store.now access.old }
+    requires may { Keeps (IsChunkKey info.now region.now.lo region.now.hi) (C.may_get store.now access.old) }
     requires short { length info.now.prefix ≤ 45 }
     requires fill { InRange info.now.layout.dtype info.now.layout.fill }
     requires region { IsRegion info.now.layout.grid.shape region.now.lo region.now.hi }
@@ -37,58 +41,66 @@ pub fn read_region<D: Depot>(
     requires out_length { length out.old ≡ product (differences region.now.hi region.now.lo) * size_of info.now.layout.dtype }
     requires scratch_length { bytes_of info.now.layout ≤ length scratch.old }
     ensures elements { OnOk result (AreElements info.now.layout.dtype out.new) }
-    ensures read { IsSteady (IsChunkKey info.now region.now.lo region.now.hi) (D.shown depot.old).held (D.shown depot.old).late
-        → OnOk result (ReadsRegion info.now region.now.lo region.now.hi (D.shown depot.new).held out.new) }
-    ensures same { IsSteady (IsChunkKey info.now region.now.lo region.now.hi) (D.shown depot.old).held (D.shown depot.old).late
-        → HoldSame (IsChunkKey info.now region.now.lo region.now.hi) (D.shown depot.old).held (D.shown depot.new).held }
-    ensures steady { IsSteady (IsChunkKey info.now region.now.lo region.now.hi) (D.shown depot.old).held (D.shown depot.old).late
-        → IsSteady (IsChunkKey info.now region.now.lo region.now.hi) (D.shown depot.new).held (D.shown depot.new).late }
-    ensures step { Steps NoChange 0 (chunks_met info.now.layout.grid region.now.lo region.now.hi) (D.shown depot.old) (D.shown depot.new) }
-    ensures cause { IfErr result (IsChunkReadFault (D.shown depot.old) (D.shown depot.new)
+    ensures read { IsSteady (IsChunkKey info.now region.now.lo region.now.hi) (C.shown access.old).held (C.shown access.old).late
+        → OnOk result (ReadsRegion info.now region.now.lo region.now.hi (C.shown access.new).held out.new) }
+    ensures same { IsSteady (IsChunkKey info.now region.now.lo region.now.hi) (C.shown access.old).held (C.shown access.old).late
+        → HoldSame (IsChunkKey info.now region.now.lo region.now.hi) (C.shown access.old).held (C.shown access.new).held }
+    ensures steady { IsSteady (IsChunkKey info.now region.now.lo region.now.hi) (C.shown access.old).held (C.shown access.old).late
+        → IsSteady (IsChunkKey info.now region.now.lo region.now.hi) (C.shown access.new).held (C.shown access.new).late }
+    ensures open { StaysOpen (C.belongs store.now access.new) (C.may_get store.now access.old) (C.may_get store.now access.new) }
+    ensures step { Steps NoChange 0 (chunks_met info.now.layout.grid region.now.lo region.now.hi) (C.shown access.old) (C.shown access.new) }
+    ensures cause { IfErr result (IsChunkReadFault (C.shown access.old) (C.shown access.new)
         (IsChunkKey info.now region.now.lo region.now.hi) (bytes_of info.now.layout)) }
-    ensures calls_all { OnOk result (Made (chunks_met info.now.layout.grid region.now.lo region.now.hi) (D.shown depot.old).calls (D.shown depot.new).calls) }
+    ensures calls_all { OnOk result (Made (chunks_met info.now.layout.grid region.now.lo region.now.hi) (C.shown access.old).calls (C.shown access.new).calls) }
 {
     for coord in info.layout.grid.cover(region) {
-        read_part(depot, info, &coord, region, out, scratch)?;
+        read_part::<C>(store, access, info, &coord, region, out, scratch)?;
     }
     settle(info.layout.dtype, out);
     Ok(())
 }
 
 /// Reads the chunk at this coordinate of a stored array, in either byte order, into a buffer of a chunk's bytes, row-major and
-/// little-endian. An absent chunk reads as the fill value. It makes one call of the depot.
-pub fn read_chunk<D: Depot>(
-    depot: &mut D,
+/// little-endian. An absent chunk reads as the fill value. It makes one call of the store.
+pub fn read_chunk<C: Chunks>(
+    store: &C::Store,
+    access: &mut C::Access,
     info: &ArrayInfo,
     coord: &Dims,
     buf: &mut [u8],
 ) -> Result<(), TaskFault>
+    requires belongs { C.belongs store.now access.old }
+    requires may { C.may_get store.now access.old (key_at info.now coord.now) }
     requires short { length info.now.prefix ≤ 45 }
     requires fill { InRange info.now.layout.dtype info.now.layout.fill }
     requires small { All (λ i. i < 1048576) coord.now }
     requires length { length buf.old ≡ bytes_of info.now.layout }
-    ensures read { OnOk result (HasChunk info.now coord.now (D.shown depot.new).held buf.new) }
+    ensures read { OnOk result (HasChunk info.now coord.now (C.shown access.new).held buf.new) }
     ensures elements { OnOk result (AreElements info.now.layout.dtype buf.new) }
-    ensures step { Steps NoChange 1 1 (D.shown depot.old) (D.shown depot.new) }
-    ensures cause { IfErr result (IsChunkReadFault (D.shown depot.old) (D.shown depot.new)
+    ensures open { StaysOpen (C.belongs store.now access.new) (C.may_get store.now access.old) (C.may_get store.now access.new) }
+    ensures step { Steps NoChange 1 1 (C.shown access.old) (C.shown access.new) }
+    ensures cause { IfErr result (IsChunkReadFault (C.shown access.old) (C.shown access.new)
         (λ key. key ≡ key_at info.now coord.now) (bytes_of info.now.layout)) }
 {
     let _grid = info.layout.grid.shape();
     let key = chunk_key(&info.prefix, info.layout.encoding, coord);
-    read_bytes(depot, &key, &info.layout, buf)?;
+    read_bytes::<C>(store, access, &key, &info.layout, buf)?;
     settle(info.layout.dtype, buf);
     Ok(())
 }
 
 /// Reads the elements of one chunk that lie in the region.
-fn read_part<D: Depot>(
-    depot: &mut D,
+fn read_part<C: Chunks>(
+    store: &C::Store,
+    access: &mut C::Access,
     info: &ArrayInfo,
     coord: &Dims,
     region: &Region,
     out: &mut [u8],
     scratch: &mut [u8],
 ) -> Result<(), TaskFault>
+    requires belongs { C.belongs store.now access.old }
+    requires may { C.may_get store.now access.old (key_at info.now coord.now) }
     requires short { length info.now.prefix ≤ 45 }
     requires fill { InRange info.now.layout.dtype info.now.layout.fill }
     requires region { IsRegion info.now.layout.grid.shape region.now.lo region.now.hi }
@@ -97,18 +109,19 @@ fn read_part<D: Depot>(
     requires coordinate { All (λ i. i < 1048576) coord.now }
     requires out_length { length out.old ≡ product (differences region.now.hi region.now.lo) * size_of info.now.layout.dtype }
     requires scratch_length { bytes_of info.now.layout ≤ length scratch.old }
-    ensures part { OnOk result (ReadsPart info.now coord.now region.now (D.shown depot.new).held out.old out.new) }
-    ensures step { Steps NoChange 1 1 (D.shown depot.old) (D.shown depot.new) }
-    ensures cause { IfErr result (IsChunkReadFault (D.shown depot.old) (D.shown depot.new)
+    ensures part { OnOk result (ReadsPart info.now coord.now region.now (C.shown access.new).held out.old out.new) }
+    ensures open { StaysOpen (C.belongs store.now access.new) (C.may_get store.now access.old) (C.may_get store.now access.new) }
+    ensures step { Steps NoChange 1 1 (C.shown access.old) (C.shown access.new) }
+    ensures cause { IfErr result (IsChunkReadFault (C.shown access.old) (C.shown access.new)
         (λ key. key ≡ key_at info.now coord.now) (bytes_of info.now.layout)) }
 {
     let layout = &info.layout;
     let key = chunk_key(&info.prefix, layout.encoding, coord);
     if is_one_chunk(&layout.grid, coord, region) {
-        return read_bytes(depot, &key, layout, out);
+        return read_bytes::<C>(store, access, &key, layout, out);
     }
     let chunk = &mut scratch[..chunk_bytes(&layout.grid, layout.dtype)];
-    let order = fetch(depot, &key, layout, chunk)?;
+    let order = fetch::<C>(store, access, &key, layout, chunk)?;
     take_part(
         &layout.grid,
         u64::from(size(layout.dtype)),
@@ -123,38 +136,46 @@ fn read_part<D: Depot>(
 
 /// Reads the chunk under this key into `buf`, which has the bytes of a chunk, little-endian. An absent chunk reads as
 /// the fill value.
-fn read_bytes<D: Depot>(
-    depot: &mut D,
+fn read_bytes<C: Chunks>(
+    store: &C::Store,
+    access: &mut C::Access,
     key: &Key,
     layout: &Layout,
     buf: &mut [u8],
 ) -> Result<(), TaskFault>
-    requires { length buf.old ≡ bytes_of layout.now }
-    ensures read { OnOk result (ReadsChunk layout.now (D.shown depot.new).held key.now buf.new) }
-    ensures step { Steps NoChange 1 1 (D.shown depot.old) (D.shown depot.new) }
-    ensures cause { IfErr result (IsChunkReadFault (D.shown depot.old) (D.shown depot.new)
+    requires length { length buf.old ≡ bytes_of layout.now }
+    requires belongs { C.belongs store.now access.old }
+    requires may { C.may_get store.now access.old key.now }
+    ensures read { OnOk result (ReadsChunk layout.now (C.shown access.new).held key.now buf.new) }
+    ensures open { StaysOpen (C.belongs store.now access.new) (C.may_get store.now access.old) (C.may_get store.now access.new) }
+    ensures step { Steps NoChange 1 1 (C.shown access.old) (C.shown access.new) }
+    ensures cause { IfErr result (IsChunkReadFault (C.shown access.old) (C.shown access.new)
         (λ bad. bad ≡ key.now) (bytes_of layout.now)) }
 {
-    let order = fetch(depot, key, layout, buf)?;
+    let order = fetch::<C>(store, access, key, layout, buf)?;
     reorder(order, u64::from(size(layout.dtype)), buf);
     Ok(())
 }
 
 /// Reads the chunk under this key into `buf`, which has the bytes of a chunk, and says in which order the bytes of its elements
 /// are: as it is stored, or the fill value in little-endian order where the chunk is absent.
-fn fetch<D: Depot>(
-    depot: &mut D,
+fn fetch<C: Chunks>(
+    store: &C::Store,
+    access: &mut C::Access,
     key: &Key,
     layout: &Layout,
     buf: &mut [u8],
 ) -> Result<Endian, TaskFault>
-    requires { length buf.old ≡ bytes_of layout.now }
-    ensures fetched { IfOk result (λ e. Fetches layout.now (D.shown depot.new).held key.now e buf.new) }
-    ensures step { Steps NoChange 1 1 (D.shown depot.old) (D.shown depot.new) }
-    ensures cause { IfErr result (IsChunkReadFault (D.shown depot.old) (D.shown depot.new)
+    requires length { length buf.old ≡ bytes_of layout.now }
+    requires belongs { C.belongs store.now access.old }
+    requires may { C.may_get store.now access.old key.now }
+    ensures fetched { IfOk result (λ e. Fetches layout.now (C.shown access.new).held key.now e buf.new) }
+    ensures open { StaysOpen (C.belongs store.now access.new) (C.may_get store.now access.old) (C.may_get store.now access.new) }
+    ensures step { Steps NoChange 1 1 (C.shown access.old) (C.shown access.new) }
+    ensures cause { IfErr result (IsChunkReadFault (C.shown access.old) (C.shown access.new)
         (λ bad. bad ≡ key.now) (bytes_of layout.now)) }
 {
-    match depot.get(key, buf) {
+    match C::get(store, access, key, buf) {
         Ok(Got::Absent) => {
             fill_with(layout.dtype, layout.fill, buf);
             Ok(Endian::Little)

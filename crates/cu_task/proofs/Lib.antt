@@ -1,3 +1,4 @@
+pub mod Allowed
 pub mod ChunkRegions
 pub mod Counting
 pub mod InputReads
@@ -13,6 +14,7 @@ pub mod PullTask
 pub mod ReadRegions
 pub mod ReductionTask
 pub mod SearchTask
+pub mod Serving
 pub mod TaskRegions
 pub mod TaskRooms
 pub mod TaskSteps

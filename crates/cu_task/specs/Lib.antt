@@ -1,5 +1,7 @@
+pub mod Asks
 pub mod Blocks
 pub mod Inputs
+pub mod Serving
 pub mod Task
 pub mod ViewJobs
 pub mod Views

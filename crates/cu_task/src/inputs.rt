@@ -3,6 +3,8 @@ ghost use Rattle.std.specs.Prelude.{◌≡◌, ℕ, ◌+◌, ◌*◌, ◌<◌, �
 ghost use Rattle.cu_num.specs.Dtype.{size_of};
 ghost use Rattle.cu_shape.specs.Index.{product, differences};
 ghost use Rattle.cu_store.specs.Held.{Contents};
+ghost use Rattle.cu_store.specs.Chunks.{StaysOpen};
+ghost use Rattle.cu_task.specs.Asks.{MayReadWalks, MayReadTask};
 ghost use Rattle.cu_store.specs.Steps.{NoChange, Steps};
 ghost use Rattle.cu_op.specs.Arrays.{array_at, type_at, chunk_room};
 ghost use Rattle.cu_op.specs.Cells.{tasks_of};
@@ -22,82 +24,94 @@ use cu_grid::Region;
 use cu_kern::Lay;
 use cu_num::{Dtype, size};
 use cu_op::{Plan, Walk, input_walks};
-use cu_region::read_region;
+use cu_region::read_region_of;
 use cu_shape::difference;
-use cu_store::{Depot, TaskFault};
+use cu_store::{Chunks, TaskFault};
 
 /// Reads the regions of the arrays that a task reads into a buffer, one behind another, through `scratch`, which has the bytes of a chunk
-/// of each. It makes one call of the depot for each chunk that meets a region.
-pub(crate) fn read_regions<D: Depot>(
-    depot: &mut D,
+/// of each. It makes one call of the store for each chunk that meets a region.
+pub(crate) fn read_regions<C: Chunks>(
+    store: &C::Store,
+    access: &mut C::Access,
     plan: &Plan,
     op: u32,
     task: u32,
     inputs: &mut [u8],
     scratch: &mut [u8],
 ) -> Result<(), TaskFault>
+    requires belongs { C.belongs store.now access.old }
+    requires may { MayReadTask plan.now op task (C.may_get store.now access.old) }
     requires operation { op < length plan.now.ops }
     requires task { task < tasks_of plan.now.arrays (op_of plan.now op) }
     requires regions { ReadsRegions (op_of plan.now op) }
     requires room { room_of_walks plan.now.arrays (input_walks plan.now.arrays (op_of plan.now op) task) ≤ length inputs.old }
     requires scratch { scratch_room plan.now.arrays (op_of plan.now op) ≤ length scratch.old }
-    ensures read { (held : Contents) → AreSteadyInputs plan.now op task (D.shown depot.old) held
+    ensures open { StaysOpen (C.belongs store.now access.new) (C.may_get store.now access.old) (C.may_get store.now access.new) }
+    ensures read { (held : Contents) → AreSteadyInputs plan.now op task (C.shown access.old) held
         → OnOk result (HasRegions plan.now.arrays held (input_walks plan.now.arrays (op_of plan.now op) task) inputs.new) }
-    ensures step { Steps NoChange 0 (read_calls plan.now.arrays (op_of plan.now op) task) (D.shown depot.old) (D.shown depot.new) }
-    ensures all { OnOk result (Made (read_calls plan.now.arrays (op_of plan.now op) task) (D.shown depot.old).calls (D.shown depot.new).calls) }
-    ensures cause { IfErr result (IsTaskFault (D.shown depot.old) (D.shown depot.new) plan.now op task) }
+    ensures step { Steps NoChange 0 (read_calls plan.now.arrays (op_of plan.now op) task) (C.shown access.old) (C.shown access.new) }
+    ensures all { OnOk result (Made (read_calls plan.now.arrays (op_of plan.now op) task) (C.shown access.old).calls (C.shown access.new).calls) }
+    ensures cause { IfErr result (IsTaskFault (C.shown access.old) (C.shown access.new) plan.now op task) }
 {
     let _planned = plan.operation(op);
     let walks = input_walks(plan, op, task);
-    read_inputs(depot, plan, &walks, inputs, scratch)
+    read_inputs::<C>(store, access, plan, &walks, inputs, scratch)
 }
 
 /// Reads the region of each walk, one behind another, through `scratch`.
-fn read_inputs<D: Depot>(
-    depot: &mut D,
+fn read_inputs<C: Chunks>(
+    store: &C::Store,
+    access: &mut C::Access,
     plan: &Plan,
     walks: &[Walk],
     inputs: &mut [u8],
     scratch: &mut [u8],
 ) -> Result<(), TaskFault>
+    requires belongs { C.belongs store.now access.old }
+    requires may { MayReadWalks plan.now.arrays walks.now (C.may_get store.now access.old) }
     requires walks { All (IsWalkOver plan.now.arrays) walks.now }
     requires room { room_of_walks plan.now.arrays walks.now ≤ length inputs.old }
     requires scratch { All (λ w. chunk_room plan.now.arrays w.array ≤ length scratch.old) walks.now }
-    ensures read { (held : Contents) → (D.shown depot.old).held ≡ Some held → IsSteady (IsWalkKey plan.now.arrays walks.now) (Some held) (D.shown depot.old).late
+    ensures open { StaysOpen (C.belongs store.now access.new) (C.may_get store.now access.old) (C.may_get store.now access.new) }
+    ensures read { (held : Contents) → (C.shown access.old).held ≡ Some held → IsSteady (IsWalkKey plan.now.arrays walks.now) (Some held) (C.shown access.old).late
         → OnOk result (HasRegions plan.now.arrays held walks.now inputs.new) }
-    ensures step { Steps NoChange 0 (length (cells_of_walks plan.now.arrays walks.now)) (D.shown depot.old) (D.shown depot.new) }
-    ensures all { OnOk result (Made (length (cells_of_walks plan.now.arrays walks.now)) (D.shown depot.old).calls (D.shown depot.new).calls) }
-    ensures cause { IfErr result (IsTaskInputFault (D.shown depot.old) (D.shown depot.new) plan.now.arrays walks.now) }
+    ensures step { Steps NoChange 0 (length (cells_of_walks plan.now.arrays walks.now)) (C.shown access.old) (C.shown access.new) }
+    ensures all { OnOk result (Made (length (cells_of_walks plan.now.arrays walks.now)) (C.shown access.old).calls (C.shown access.new).calls) }
+    ensures cause { IfErr result (IsTaskInputFault (C.shown access.old) (C.shown access.new) plan.now.arrays walks.now) }
 {
     match walks {
         [] => Ok(()),
         [walk, rest @ ..] => {
             let (own, others) = inputs.split_at_mut(walk_bytes(plan, walk));
-            read_walk(depot, plan, walk, own, scratch)?;
-            read_inputs(depot, plan, rest, others, scratch)
+            read_walk::<C>(store, access, plan, walk, own, scratch)?;
+            read_inputs::<C>(store, access, plan, rest, others, scratch)
         }
     }
 }
 
 /// Reads the region of a walk.
-pub(crate) fn read_walk<D: Depot>(
-    depot: &mut D,
+pub(crate) fn read_walk<C: Chunks>(
+    store: &C::Store,
+    access: &mut C::Access,
     plan: &Plan,
     walk: &Walk,
     out: &mut [u8],
     scratch: &mut [u8],
 ) -> Result<(), TaskFault>
+    requires belongs { C.belongs store.now access.old }
+    requires may { MayReadWalks plan.now.arrays (walk.now ∷ []) (C.may_get store.now access.old) }
     requires walk { IsWalkOver plan.now.arrays walk.now }
     requires room { length out.old ≡ walk_room plan.now.arrays walk.now }
     requires scratch { chunk_room plan.now.arrays walk.now.array ≤ length scratch.old }
-    ensures read { (held : Contents) → (D.shown depot.old).held ≡ Some held → IsSteady (IsWalkKey plan.now.arrays (walk.now ∷ [])) (Some held) (D.shown depot.old).late
+    ensures open { StaysOpen (C.belongs store.now access.new) (C.may_get store.now access.old) (C.may_get store.now access.new) }
+    ensures read { (held : Contents) → (C.shown access.old).held ≡ Some held → IsSteady (IsWalkKey plan.now.arrays (walk.now ∷ [])) (Some held) (C.shown access.old).late
         → OnOk result (ReadsRegion (array_at plan.now.arrays walk.now.array) walk.now.region.lo walk.now.region.hi (Some held) out.new) }
     ensures elements { OnOk result (AreElements (type_at plan.now.arrays walk.now.array) out.new) }
-    ensures step { Steps NoChange 0 (length (walk_cells plan.now.arrays walk.now)) (D.shown depot.old) (D.shown depot.new) }
-    ensures all { OnOk result (Made (length (walk_cells plan.now.arrays walk.now)) (D.shown depot.old).calls (D.shown depot.new).calls) }
-    ensures cause { IfErr result (IsTaskInputFault (D.shown depot.old) (D.shown depot.new) plan.now.arrays (walk.now ∷ [])) }
+    ensures step { Steps NoChange 0 (length (walk_cells plan.now.arrays walk.now)) (C.shown access.old) (C.shown access.new) }
+    ensures all { OnOk result (Made (length (walk_cells plan.now.arrays walk.now)) (C.shown access.old).calls (C.shown access.new).calls) }
+    ensures cause { IfErr result (IsTaskInputFault (C.shown access.old) (C.shown access.new) plan.now.arrays (walk.now ∷ [])) }
 {
-    read_region(depot, plan.array(walk.array), &walk.region, out, scratch)
+    read_region_of::<C>(store, access, plan.array(walk.array), &walk.region, out, scratch)
 }
 
 /// The bytes of the elements of a walk's region.

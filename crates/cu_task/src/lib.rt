@@ -12,6 +12,8 @@ mod results;
 mod run;
 mod searches;
 mod views;
+mod yards;
 
 pub use laws::{needed_chunks_law, region_law};
-pub use run::run_task;
+pub use run::run_task_of;
+pub use yards::run_task;

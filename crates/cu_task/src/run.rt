@@ -1,6 +1,8 @@
 //! Tasks that are run.
 ghost use Rattle.std.specs.Prelude.{◌≡◌, ℕ, ◌+◌, ◌*◌, ◌<◌, ◌≤◌, length, IfErr, OnOk};
 ghost use Rattle.cu_store.specs.Held.{Contents};
+ghost use Rattle.cu_store.specs.Chunks.{Allows, StaysOpen};
+ghost use Rattle.cu_task.specs.Asks.{MayReadTask, MayReadWritten};
 ghost use Rattle.cu_store.specs.Steps.{NoChange, Steps};
 ghost use Rattle.cu_op.specs.Arrays.{type_at};
 ghost use Rattle.cu_op.specs.Cells.{tasks_of};
@@ -23,7 +25,7 @@ use crate::reductions::{Folding, Merging, fold, merge};
 use crate::results::{result_bytes, write_array};
 use crate::searches::run_search;
 use cu_op::{Op, Plan};
-use cu_store::{Depot, TaskFault};
+use cu_store::{Chunks, TaskFault};
 
 /// Runs a task of a plan: reads what it needs of its inputs, computes the region of its result, and stores the chunks that lie in it.
 ///
@@ -32,66 +34,79 @@ use cu_store::{Depot, TaskFault};
 ///
 /// It puts no key but those of the chunks that it writes. Where it is ready when it begins (its inputs are in place, no late put
 /// changes one, and each on a chunk that it writes carries that chunk's value), each of these puts is the chunk's value, and after
-/// `Ok` each chunk that it writes holds its value. It makes at most one call of the depot for each chunk of each of its inputs
+/// `Ok` each chunk that it writes holds its value. It makes at most one call of the store for each chunk of each of its inputs
 /// that it reads and one for each chunk that it writes, and after `Ok` exactly so many, as far as the count of calls goes. Of a view
 /// the chunks of its sources are counted from which an element of the task's region comes; of a reshape all of its source, and there it
 /// may make fewer calls.
 ///
-/// `Store`: a call of the depot failed. `BadChunk`: a chunk that the task reads is held with another number of bytes than a
-/// chunk has. `NoMemory`: the depot lacked memory.
-pub fn run_task<D: Depot>(
-    depot: &mut D,
+/// `Store`: a call of the store failed. `BadChunk`: a chunk that the task reads is held with another number of bytes than a
+/// chunk has. `NoMemory`: the store lacked memory.
+pub fn run_task_of<C: Chunks>(
+    store: &C::Store,
+    access: &mut C::Access,
     plan: &Plan,
     op: u32,
     task: u32,
     bytes: &mut [u8],
     words: &mut [u64],
 ) -> Result<(), TaskFault>
+    requires belongs { C.belongs store.now access.old }
+    requires may { MayReadTask plan.now op task (C.may_get store.now access.old) }
+    requires puts { Allows (TaskChange plan.now op task (C.shown access.old)) (C.may_put store.now) }
     requires operation { op < length plan.now.ops }
     requires task { task < tasks_of plan.now.arrays (op_of plan.now op) }
     requires words { length words.old ≡ 64 * instruction_count (op_of plan.now op) }
     requires room { plan.now.reserved + length bytes.old + 8 * length words.old ≡ projection plan.now.arrays plan.now.reserved (op_of plan.now op) }
-    ensures stored { (env : Elements) → IsTaskReady plan.now op task env (D.shown depot.old) → OnOk result (HoldsCells plan.now op task env (D.shown depot.new)) }
-    ensures step { Steps (TaskChange plan.now op task (D.shown depot.old)) 0 (calls_of plan.now op task) (D.shown depot.old) (D.shown depot.new) }
-    ensures all { HasSureCalls (op_of plan.now op) → OnOk result (Made (calls_of plan.now op task) (D.shown depot.old).calls (D.shown depot.new).calls) }
-    ensures cause { IfErr result (IsTaskFault (D.shown depot.old) (D.shown depot.new) plan.now op task) }
+    ensures open { StaysOpen (C.belongs store.now access.new) (C.may_get store.now access.old) (C.may_get store.now access.new) }
+    ensures got { OnOk result (MayReadWritten plan.now op task (C.may_get store.now access.new)) }
+    ensures stored { (env : Elements) → IsTaskReady plan.now op task env (C.shown access.old) → OnOk result (HoldsCells plan.now op task env (C.shown access.new)) }
+    ensures step { Steps (TaskChange plan.now op task (C.shown access.old)) 0 (calls_of plan.now op task) (C.shown access.old) (C.shown access.new) }
+    ensures all { HasSureCalls (op_of plan.now op) → OnOk result (Made (calls_of plan.now op task) (C.shown access.old).calls (C.shown access.new).calls) }
+    ensures cause { IfErr result (IsTaskFault (C.shown access.old) (C.shown access.new) plan.now op task) }
 {
     match &plan.operation(op).op {
-        Op::PairFold { .. } | Op::PairMerge { .. } => run_search(depot, plan, op, task, bytes),
-        _ => run_single(depot, plan, op, task, bytes, words),
+        Op::PairFold { .. } | Op::PairMerge { .. } => run_search::<C>(store, access, plan, op, task, bytes),
+        _ => run_single::<C>(store, access, plan, op, task, bytes, words),
     }
 }
 
-/// `run_task` for an operation that writes one array: the result's region stands behind the other rooms.
-fn run_single<D: Depot>(
-    depot: &mut D,
+/// `run_task_of` for an operation that writes one array: the result's region stands behind the other rooms.
+fn run_single<C: Chunks>(
+    store: &C::Store,
+    access: &mut C::Access,
     plan: &Plan,
     op: u32,
     task: u32,
     bytes: &mut [u8],
     words: &mut [u64],
 ) -> Result<(), TaskFault>
+    requires belongs { C.belongs store.now access.old }
+    requires may { MayReadTask plan.now op task (C.may_get store.now access.old) }
+    requires puts { Allows (TaskChange plan.now op task (C.shown access.old)) (C.may_put store.now) }
     requires operation { op < length plan.now.ops }
     requires task { task < tasks_of plan.now.arrays (op_of plan.now op) }
     requires single { HasOneOutput (op_of plan.now op) }
     requires words { length words.old ≡ 64 * instruction_count (op_of plan.now op) }
     requires room { plan.now.reserved + length bytes.old + 8 * length words.old ≡ projection plan.now.arrays plan.now.reserved (op_of plan.now op) }
-    ensures stored { (env : Elements) → IsTaskReady plan.now op task env (D.shown depot.old) → OnOk result (HoldsCells plan.now op task env (D.shown depot.new)) }
-    ensures step { Steps (TaskChange plan.now op task (D.shown depot.old)) 0 (calls_of plan.now op task) (D.shown depot.old) (D.shown depot.new) }
-    ensures all { HasSureCalls (op_of plan.now op) → OnOk result (Made (calls_of plan.now op task) (D.shown depot.old).calls (D.shown depot.new).calls) }
-    ensures cause { IfErr result (IsTaskFault (D.shown depot.old) (D.shown depot.new) plan.now op task) }
+    ensures open { StaysOpen (C.belongs store.now access.new) (C.may_get store.now access.old) (C.may_get store.now access.new) }
+    ensures got { OnOk result (MayReadWritten plan.now op task (C.may_get store.now access.new)) }
+    ensures stored { (env : Elements) → IsTaskReady plan.now op task env (C.shown access.old) → OnOk result (HoldsCells plan.now op task env (C.shown access.new)) }
+    ensures step { Steps (TaskChange plan.now op task (C.shown access.old)) 0 (calls_of plan.now op task) (C.shown access.old) (C.shown access.new) }
+    ensures all { HasSureCalls (op_of plan.now op) → OnOk result (Made (calls_of plan.now op task) (C.shown access.old).calls (C.shown access.new).calls) }
+    ensures cause { IfErr result (IsTaskFault (C.shown access.old) (C.shown access.new) plan.now op task) }
 {
     let result = result_bytes(plan, op, task);
     let (room, output) = bytes.split_at_mut(bytes.len() - result);
-    make_result(depot, plan, op, task, room, output, words)?;
+    make_result::<C>(store, access, plan, op, task, room, output, words)?;
     let array = plan.operation(op).op.target();
-    write_array(depot, plan, op, task, array, output, room)
+    write_array::<C>(store, access, plan, op, task, array, output, room)
 }
 
 /// The elements of the result in the region of a task, row-major and little-endian. `room` has the scratch and, in front of them, the
 /// regions that are read.
-fn make_result<D: Depot>(
-    depot: &mut D,
+fn make_result<C: Chunks>(
+    store: &C::Store,
+    access: &mut C::Access,
     plan: &Plan,
     op: u32,
     task: u32,
@@ -99,17 +114,20 @@ fn make_result<D: Depot>(
     output: &mut [u8],
     words: &mut [u64],
 ) -> Result<(), TaskFault>
+    requires belongs { C.belongs store.now access.old }
+    requires may { MayReadTask plan.now op task (C.may_get store.now access.old) }
     requires operation { op < length plan.now.ops }
     requires task { task < tasks_of plan.now.arrays (op_of plan.now op) }
     requires single { HasOneOutput (op_of plan.now op) }
     requires room { scratch_room plan.now.arrays (op_of plan.now op) + kept_room plan.now.arrays (op_of plan.now op) task ≤ length room.old }
     requires output { length output.old ≡ result_room plan.now op task (target_of (op_of plan.now op)) }
     requires words { length words.old ≡ 64 * instruction_count (op_of plan.now op) }
-    ensures values { (held : Contents) → AreSteadyInputs plan.now op task (D.shown depot.old) held → OnOk result (HasResult plan.now op task (target_of (op_of plan.now op)) held output.new) }
+    ensures open { StaysOpen (C.belongs store.now access.new) (C.may_get store.now access.old) (C.may_get store.now access.new) }
+    ensures values { (held : Contents) → AreSteadyInputs plan.now op task (C.shown access.old) held → OnOk result (HasResult plan.now op task (target_of (op_of plan.now op)) held output.new) }
     ensures elements { OnOk result (AreElements (type_at plan.now.arrays (target_of (op_of plan.now op))) output.new) }
-    ensures step { Steps NoChange 0 (read_calls plan.now.arrays (op_of plan.now op) task) (D.shown depot.old) (D.shown depot.new) }
-    ensures all { HasSureCalls (op_of plan.now op) → OnOk result (Made (read_calls plan.now.arrays (op_of plan.now op) task) (D.shown depot.old).calls (D.shown depot.new).calls) }
-    ensures cause { IfErr result (IsTaskFault (D.shown depot.old) (D.shown depot.new) plan.now op task) }
+    ensures step { Steps NoChange 0 (read_calls plan.now.arrays (op_of plan.now op) task) (C.shown access.old) (C.shown access.new) }
+    ensures all { HasSureCalls (op_of plan.now op) → OnOk result (Made (read_calls plan.now.arrays (op_of plan.now op) task) (C.shown access.old).calls (C.shown access.new).calls) }
+    ensures cause { IfErr result (IsTaskFault (C.shown access.old) (C.shown access.new) plan.now op task) }
 {
     match &plan.operation(op).op {
         Op::Pull { pull, ins, .. } => {
@@ -117,16 +135,17 @@ fn make_result<D: Depot>(
                 pull,
                 ins: ins.as_slice(),
             };
-            pull_result(depot, plan, op, task, view, output, room)
+            pull_result::<C>(store, access, plan, op, task, view, output, room)
         }
-        Op::Copy { .. } => copy_region(depot, plan, op, task, output, room),
-        _ => compute_result(depot, plan, op, task, room, output, words),
+        Op::Copy { .. } => copy_region::<C>(store, access, plan, op, task, output, room),
+        _ => compute_result::<C>(store, access, plan, op, task, room, output, words),
     }
 }
 
 /// The same of an operation that computes from whole regions.
-fn compute_result<D: Depot>(
-    depot: &mut D,
+fn compute_result<C: Chunks>(
+    store: &C::Store,
+    access: &mut C::Access,
     plan: &Plan,
     op: u32,
     task: u32,
@@ -134,21 +153,24 @@ fn compute_result<D: Depot>(
     output: &mut [u8],
     words: &mut [u64],
 ) -> Result<(), TaskFault>
+    requires belongs { C.belongs store.now access.old }
+    requires may { MayReadTask plan.now op task (C.may_get store.now access.old) }
     requires operation { op < length plan.now.ops }
     requires task { task < tasks_of plan.now.arrays (op_of plan.now op) }
     requires computing { IsComputing (op_of plan.now op) }
     requires room { scratch_room plan.now.arrays (op_of plan.now op) + room_of_walks plan.now.arrays (input_walks plan.now.arrays (op_of plan.now op) task) ≤ length room.old }
     requires output { length output.old ≡ result_room plan.now op task (target_of (op_of plan.now op)) }
     requires words { length words.old ≡ 64 * instruction_count (op_of plan.now op) }
-    ensures values { (held : Contents) → AreSteadyInputs plan.now op task (D.shown depot.old) held → OnOk result (HasResult plan.now op task (target_of (op_of plan.now op)) held output.new) }
+    ensures open { StaysOpen (C.belongs store.now access.new) (C.may_get store.now access.old) (C.may_get store.now access.new) }
+    ensures values { (held : Contents) → AreSteadyInputs plan.now op task (C.shown access.old) held → OnOk result (HasResult plan.now op task (target_of (op_of plan.now op)) held output.new) }
     ensures elements { OnOk result (AreElements (type_at plan.now.arrays (target_of (op_of plan.now op))) output.new) }
-    ensures step { Steps NoChange 0 (read_calls plan.now.arrays (op_of plan.now op) task) (D.shown depot.old) (D.shown depot.new) }
-    ensures all { OnOk result (Made (read_calls plan.now.arrays (op_of plan.now op) task) (D.shown depot.old).calls (D.shown depot.new).calls) }
-    ensures cause { IfErr result (IsTaskFault (D.shown depot.old) (D.shown depot.new) plan.now op task) }
+    ensures step { Steps NoChange 0 (read_calls plan.now.arrays (op_of plan.now op) task) (C.shown access.old) (C.shown access.new) }
+    ensures all { OnOk result (Made (read_calls plan.now.arrays (op_of plan.now op) task) (C.shown access.old).calls (C.shown access.new).calls) }
+    ensures cause { IfErr result (IsTaskFault (C.shown access.old) (C.shown access.new) plan.now op task) }
 {
     let kept = input_bytes(plan, op, task);
     let (scratch, inputs) = room.split_at_mut(room.len() - kept);
-    read_regions(depot, plan, op, task, inputs, scratch)?;
+    read_regions::<C>(store, access, plan, op, task, inputs, scratch)?;
     compute(plan, op, task, inputs, output, words);
     Ok(())
 }

@@ -1,6 +1,8 @@
 //! Tasks of searches for least or greatest elements and their places.
 ghost use Rattle.std.specs.Prelude.{◌≡◌, ℕ, ◌+◌, ◌<◌, ◌≤◌, Some, length, IfErr, OnOk};
 ghost use Rattle.cu_store.specs.Held.{Contents};
+ghost use Rattle.cu_store.specs.Chunks.{Allows, StaysOpen};
+ghost use Rattle.cu_task.specs.Asks.{MayReadTask, MayReadWritten, AllowsFound};
 ghost use Rattle.cu_store.specs.Steps.{Shown, NoChange, Steps};
 ghost use Rattle.cu_op.specs.Arrays.{type_at};
 ghost use Rattle.cu_op.specs.Cells.{tasks_of};
@@ -22,37 +24,44 @@ use crate::results::{Found, result_bytes, write_both, write_only};
 use cu_fold::{pair_fold, pair_merge};
 use cu_op::{Op, Plan, task_region};
 use cu_shape::difference;
-use cu_store::{Depot, TaskFault};
+use cu_store::{Chunks, TaskFault};
 
 /// `run_task` for a search: the places stand last, the values before them, both behind the other rooms.
-pub(crate) fn run_search<D: Depot>(
-    depot: &mut D,
+pub(crate) fn run_search<C: Chunks>(
+    store: &C::Store,
+    access: &mut C::Access,
     plan: &Plan,
     op: u32,
     task: u32,
     bytes: &mut [u8],
 ) -> Result<(), TaskFault>
+    requires belongs { C.belongs store.now access.old }
+    requires may { MayReadTask plan.now op task (C.may_get store.now access.old) }
+    requires puts { Allows (TaskChange plan.now op task (C.shown access.old)) (C.may_put store.now) }
     requires operation { op < length plan.now.ops }
     requires task { task < tasks_of plan.now.arrays (op_of plan.now op) }
     requires search { IsPlaceSearch (op_of plan.now op) }
     requires room { plan.now.reserved + length bytes.old ≡ projection plan.now.arrays plan.now.reserved (op_of plan.now op) }
-    ensures stored { (env : Elements) → IsTaskReady plan.now op task env (D.shown depot.old) → OnOk result (HoldsCells plan.now op task env (D.shown depot.new)) }
-    ensures step { Steps (TaskChange plan.now op task (D.shown depot.old)) 0 (calls_of plan.now op task) (D.shown depot.old) (D.shown depot.new) }
-    ensures all { OnOk result (Made (calls_of plan.now op task) (D.shown depot.old).calls (D.shown depot.new).calls) }
-    ensures cause { IfErr result (IsTaskFault (D.shown depot.old) (D.shown depot.new) plan.now op task) }
+    ensures open { StaysOpen (C.belongs store.now access.new) (C.may_get store.now access.old) (C.may_get store.now access.new) }
+    ensures got { OnOk result (MayReadWritten plan.now op task (C.may_get store.now access.new)) }
+    ensures stored { (env : Elements) → IsTaskReady plan.now op task env (C.shown access.old) → OnOk result (HoldsCells plan.now op task env (C.shown access.new)) }
+    ensures step { Steps (TaskChange plan.now op task (C.shown access.old)) 0 (calls_of plan.now op task) (C.shown access.old) (C.shown access.new) }
+    ensures all { OnOk result (Made (calls_of plan.now op task) (C.shown access.old).calls (C.shown access.new).calls) }
+    ensures cause { IfErr result (IsTaskFault (C.shown access.old) (C.shown access.new) plan.now op task) }
 {
     let place_bytes = result_bytes(plan, op, task);
     let value_bytes = value_bytes(plan, op, task);
     let (front, places) = bytes.split_at_mut(bytes.len() - place_bytes);
     let (room, values) = front.split_at_mut(front.len() - value_bytes);
-    search_region(depot, plan, op, task, room, values, places)?;
-    write_found(depot, plan, op, task, values, places, room)
+    search_region::<C>(store, access, plan, op, task, room, values, places)?;
+    write_found::<C>(store, access, plan, op, task, values, places, room)
 }
 
 /// The values and the places that a task finds, row-major and little-endian. `room` has the scratch and, behind it, the regions that
 /// are read.
-fn search_region<D: Depot>(
-    depot: &mut D,
+fn search_region<C: Chunks>(
+    store: &C::Store,
+    access: &mut C::Access,
     plan: &Plan,
     op: u32,
     task: u32,
@@ -60,23 +69,26 @@ fn search_region<D: Depot>(
     values: &mut [u8],
     places: &mut [u8],
 ) -> Result<(), TaskFault>
+    requires belongs { C.belongs store.now access.old }
+    requires may { MayReadTask plan.now op task (C.may_get store.now access.old) }
     requires operation { op < length plan.now.ops }
     requires task { task < tasks_of plan.now.arrays (op_of plan.now op) }
     requires search { IsPlaceSearch (op_of plan.now op) }
     requires room { scratch_room plan.now.arrays (op_of plan.now op) + room_of_walks plan.now.arrays (input_walks plan.now.arrays (op_of plan.now op) task) ≤ length room.old }
     requires values { length values.old ≡ found_value_room plan.now op task }
     requires places { length places.old ≡ result_room plan.now op task (target_of (op_of plan.now op)) }
-    ensures places { (held : Contents) → AreSteadyInputs plan.now op task (D.shown depot.old) held → OnOk result (HasResult plan.now op task (target_of (op_of plan.now op)) held places.new) }
-    ensures values { (array : ℕ) (held : Contents) → value_array (op_of plan.now op) ≡ Some array → AreSteadyInputs plan.now op task (D.shown depot.old) held → OnOk result (HasResult plan.now op task array held values.new) }
+    ensures open { StaysOpen (C.belongs store.now access.new) (C.may_get store.now access.old) (C.may_get store.now access.new) }
+    ensures places { (held : Contents) → AreSteadyInputs plan.now op task (C.shown access.old) held → OnOk result (HasResult plan.now op task (target_of (op_of plan.now op)) held places.new) }
+    ensures values { (array : ℕ) (held : Contents) → value_array (op_of plan.now op) ≡ Some array → AreSteadyInputs plan.now op task (C.shown access.old) held → OnOk result (HasResult plan.now op task array held values.new) }
     ensures place_elements { OnOk result (AreElements (type_at plan.now.arrays (target_of (op_of plan.now op))) places.new) }
     ensures value_elements { OnOk result (AreElements (type_at plan.now.arrays (compared_by (op_of plan.now op))) values.new) }
-    ensures step { Steps NoChange 0 (read_calls plan.now.arrays (op_of plan.now op) task) (D.shown depot.old) (D.shown depot.new) }
-    ensures all { OnOk result (Made (read_calls plan.now.arrays (op_of plan.now op) task) (D.shown depot.old).calls (D.shown depot.new).calls) }
-    ensures cause { IfErr result (IsTaskFault (D.shown depot.old) (D.shown depot.new) plan.now op task) }
+    ensures step { Steps NoChange 0 (read_calls plan.now.arrays (op_of plan.now op) task) (C.shown access.old) (C.shown access.new) }
+    ensures all { OnOk result (Made (read_calls plan.now.arrays (op_of plan.now op) task) (C.shown access.old).calls (C.shown access.new).calls) }
+    ensures cause { IfErr result (IsTaskFault (C.shown access.old) (C.shown access.new) plan.now op task) }
 {
     let kept = input_bytes(plan, op, task);
     let (scratch, inputs) = room.split_at_mut(room.len() - kept);
-    read_regions(depot, plan, op, task, inputs, scratch)?;
+    read_regions::<C>(store, access, plan, op, task, inputs, scratch)?;
     find(plan, op, task, inputs, values, places);
     Ok(())
 }
@@ -243,8 +255,9 @@ fn find_again(
 }
 
 /// Stores the places that a task has found, and before them the values where they are stored.
-fn write_found<D: Depot>(
-    depot: &mut D,
+fn write_found<C: Chunks>(
+    store: &C::Store,
+    access: &mut C::Access,
     plan: &Plan,
     op: u32,
     task: u32,
@@ -252,6 +265,8 @@ fn write_found<D: Depot>(
     places: &[u8],
     scratch: &mut [u8],
 ) -> Result<(), TaskFault>
+    requires belongs { C.belongs store.now access.old }
+    requires puts { AllowsFound plan.now op task values.now places.now (C.may_put store.now) }
     requires operation { op < length plan.now.ops }
     requires task { task < tasks_of plan.now.arrays (op_of plan.now op) }
     requires search { IsPlaceSearch (op_of plan.now op) }
@@ -260,20 +275,22 @@ fn write_found<D: Depot>(
     requires value_elements { AreElements (type_at plan.now.arrays (compared_by (op_of plan.now op))) values.now }
     requires place_elements { AreElements (type_at plan.now.arrays (target_of (op_of plan.now op))) places.now }
     requires scratch { scratch_room plan.now.arrays (op_of plan.now op) ≤ length scratch.old }
+    ensures open { StaysOpen (C.belongs store.now access.new) (C.may_get store.now access.old) (C.may_get store.now access.new) }
+    ensures got { OnOk result (MayReadWritten plan.now op task (C.may_get store.now access.new)) }
     ensures step { (start : Shown) → ((array : ℕ) → value_array (op_of plan.now op) ≡ Some array → IsResultOver plan.now op task array start values.now) → IsResultOver plan.now op task (target_of (op_of plan.now op)) start places.now
-        → Steps (TaskChange plan.now op task start) 0 (length (written_chunks plan.now.arrays (op_of plan.now op) task)) (D.shown depot.old) (D.shown depot.new) }
+        → Steps (TaskChange plan.now op task start) 0 (length (written_chunks plan.now.arrays (op_of plan.now op) task)) (C.shown access.old) (C.shown access.new) }
     ensures stored { (env : Elements) (start : Shown) (calls : ℕ) → ((array : ℕ) → value_array (op_of plan.now op) ≡ Some array → IsResultOver plan.now op task array start values.now)
         → IsResultOver plan.now op task (target_of (op_of plan.now op)) start places.now
-        → IsTaskReady plan.now op task env start → Steps (TaskChange plan.now op task start) 0 calls start (D.shown depot.old) → OnOk result (HoldsCells plan.now op task env (D.shown depot.new)) }
-    ensures all { OnOk result (Made (length (written_chunks plan.now.arrays (op_of plan.now op) task)) (D.shown depot.old).calls (D.shown depot.new).calls) }
-    ensures cause { IfErr result (IsWriteFault (D.shown depot.old).faults (D.shown depot.new).faults (D.shown depot.new).lacks) }
+        → IsTaskReady plan.now op task env start → Steps (TaskChange plan.now op task start) 0 calls start (C.shown access.old) → OnOk result (HoldsCells plan.now op task env (C.shown access.new)) }
+    ensures all { OnOk result (Made (length (written_chunks plan.now.arrays (op_of plan.now op) task)) (C.shown access.old).calls (C.shown access.new).calls) }
+    ensures cause { IfErr result (IsWriteFault (C.shown access.old).faults (C.shown access.new).faults (C.shown access.new).lacks) }
 {
     match stored_values(plan, op) {
         Some(array) => {
             let found = Found { values, places };
-            write_both(depot, plan, op, task, array, found, scratch)
+            write_both::<C>(store, access, plan, op, task, array, found, scratch)
         }
-        None => write_only(depot, plan, op, task, places, scratch),
+        None => write_only::<C>(store, access, plan, op, task, places, scratch),
     }
 }
 

@@ -5,6 +5,8 @@ ghost use Rattle.cu_grid.specs.Counts.{chunk_lo, chunk_hi, IsRegion};
 ghost use Rattle.cu_grid.specs.Grid.{IsCoordinate};
 ghost use Rattle.cu_store.specs.Faults.{Rose};
 ghost use Rattle.cu_store.specs.Held.{Contents};
+ghost use Rattle.cu_store.specs.Chunks.{Keeps, StaysOpen};
+ghost use Rattle.cu_task.specs.Asks.{MayReadSources};
 ghost use Rattle.cu_store.specs.Steps.{NoChange, Steps};
 ghost use Rattle.cu_op.specs.Arrays.{type_at, chunk_room};
 ghost use Rattle.cu_op.specs.Operation.{shapes_at};
@@ -20,7 +22,7 @@ use cu_op::{ArrayInfo, Plan};
 use cu_pull::Pull;
 use cu_region::read_chunk;
 use cu_shape::{Dims, difference};
-use cu_store::{Depot, TaskFault};
+use cu_store::{Chunks, TaskFault};
 use cu_view::{gather, hull_of, lay_constants, touches_of};
 use cu_view_box::Block;
 
@@ -86,47 +88,55 @@ fn result_block(job: &ViewJob<'_>) -> Block
 
 /// Takes the elements of the region that come from the sources, one source after another, through `scratch`, which has
 /// the bytes of a chunk of each.
-pub(crate) fn read_sources<D: Depot>(
-    depot: &mut D,
+pub(crate) fn read_sources<C: Chunks>(
+    store: &C::Store,
+    access: &mut C::Access,
     job: &ViewJob<'_>,
     output: &mut [u8],
     scratch: &mut [u8],
 ) -> Result<(), TaskFault>
+    requires belongs { C.belongs store.now access.old }
+    requires may { MayReadSources (view_task_of job.now) (C.may_get store.now access.old) }
     requires job { IsViewJob job.now }
     requires output { length output.old ≡ buffer_room (view_task_of job.now) }
     requires scratch { (source : ℕ) → source < length (view_task_of job.now).ins → chunk_room (view_task_of job.now).arrays (slice_index (view_task_of job.now).ins source) ≤ length scratch.old }
-    ensures pulled { (told : Option Contents) → ((source : ℕ) → source < length (view_task_of job.now).ins → IsKnown (IsSourceKey (view_task_of job.now) source) told (D.shown depot.old)) → HasPulled (view_task_of job.now) 0 told output.old
+    ensures open { StaysOpen (C.belongs store.now access.new) (C.may_get store.now access.old) (C.may_get store.now access.new) }
+    ensures pulled { (told : Option Contents) → ((source : ℕ) → source < length (view_task_of job.now).ins → IsKnown (IsSourceKey (view_task_of job.now) source) told (C.shown access.old)) → HasPulled (view_task_of job.now) 0 told output.old
         → OnOk result (HasPulled (view_task_of job.now) (length (view_task_of job.now).ins) told output.new) }
-    ensures step { Steps NoChange 0 (view_calls (view_task_of job.now) (length (view_task_of job.now).ins)) (D.shown depot.old) (D.shown depot.new) }
-    ensures all { OnOk result (Rose (sure_calls (view_task_of job.now).pull (view_calls (view_task_of job.now) (length (view_task_of job.now).ins))) (D.shown depot.old).calls (D.shown depot.new).calls) }
-    ensures cause { IfErr result (IsViewFault (D.shown depot.old) (D.shown depot.new) (view_task_of job.now)) }
+    ensures step { Steps NoChange 0 (view_calls (view_task_of job.now) (length (view_task_of job.now).ins)) (C.shown access.old) (C.shown access.new) }
+    ensures all { OnOk result (Rose (sure_calls (view_task_of job.now).pull (view_calls (view_task_of job.now) (length (view_task_of job.now).ins))) (C.shown access.old).calls (C.shown access.new).calls) }
+    ensures cause { IfErr result (IsViewFault (C.shown access.old) (C.shown access.new) (view_task_of job.now)) }
 {
     for source in 0..job.ins.len() as u32 {
-        read_source(depot, job, source, output, scratch)?;
+        read_source::<C>(store, access, job, source, output, scratch)?;
     }
     Ok(())
 }
 
 /// Takes the elements of the region that come from one source.
-fn read_source<D: Depot>(
-    depot: &mut D,
+fn read_source<C: Chunks>(
+    store: &C::Store,
+    access: &mut C::Access,
     job: &ViewJob<'_>,
     source: u32,
     output: &mut [u8],
     scratch: &mut [u8],
 ) -> Result<(), TaskFault>
+    requires belongs { C.belongs store.now access.old }
+    requires may { Keeps (IsSourceKey (view_task_of job.now) source) (C.may_get store.now access.old) }
     requires job { IsViewJob job.now }
     requires source { source < length job.now.ins.now }
     requires output { length output.old ≡ buffer_room (view_task_of job.now) }
     requires scratch { chunk_room job.now.plan.now.arrays (slice_index job.now.ins.now source) ≤ length scratch.old }
-    ensures takes { (told : Option Contents) → IsKnown (IsSourceKey (view_task_of job.now) source) told (D.shown depot.old) → OnOk result (HaveCome (view_task_of job.now) source IsAny told output.old output.new) }
-    ensures step { Steps NoChange 0 (source_calls (view_task_of job.now) source) (D.shown depot.old) (D.shown depot.new) }
-    ensures all { OnOk result (Rose (sure_calls job.now.pull.now (source_calls (view_task_of job.now) source)) (D.shown depot.old).calls (D.shown depot.new).calls) }
-    ensures cause { IfErr result (IsChunkReadFault (D.shown depot.old) (D.shown depot.new) (IsSourceKey (view_task_of job.now) source) (chunk_room job.now.plan.now.arrays (slice_index job.now.ins.now source))) }
+    ensures open { StaysOpen (C.belongs store.now access.new) (C.may_get store.now access.old) (C.may_get store.now access.new) }
+    ensures takes { (told : Option Contents) → IsKnown (IsSourceKey (view_task_of job.now) source) told (C.shown access.old) → OnOk result (HaveCome (view_task_of job.now) source IsAny told output.old output.new) }
+    ensures step { Steps NoChange 0 (source_calls (view_task_of job.now) source) (C.shown access.old) (C.shown access.new) }
+    ensures all { OnOk result (Rose (sure_calls job.now.pull.now (source_calls (view_task_of job.now) source)) (C.shown access.old).calls (C.shown access.new).calls) }
+    ensures cause { IfErr result (IsChunkReadFault (C.shown access.old) (C.shown access.new) (IsSourceKey (view_task_of job.now) source) (chunk_room job.now.plan.now.arrays (slice_index job.now.ins.now source))) }
 {
     match needed_hull(job, source) {
         None => Ok(()),
-        Some(hull) => read_within(depot, job, source, &hull, output, scratch),
+        Some(hull) => read_within::<C>(store, access, job, source, &hull, output, scratch),
     }
 }
 
@@ -147,27 +157,31 @@ fn needed_hull(job: &ViewJob<'_>, source: u32) -> Option<Region>
 }
 
 /// Takes the elements of the region that come from one source, where all that do come from a region of it.
-fn read_within<D: Depot>(
-    depot: &mut D,
+fn read_within<C: Chunks>(
+    store: &C::Store,
+    access: &mut C::Access,
     job: &ViewJob<'_>,
     source: u32,
     hull: &Region,
     output: &mut [u8],
     scratch: &mut [u8],
 ) -> Result<(), TaskFault>
+    requires belongs { C.belongs store.now access.old }
+    requires may { Keeps (IsSourceKey (view_task_of job.now) source) (C.may_get store.now access.old) }
     requires job { IsViewJob job.now }
     requires source { source < length job.now.ins.now }
     requires hull { HasHull (view_task_of job.now) source (Option.Some hull.now) }
     requires output { length output.old ≡ buffer_room (view_task_of job.now) }
     requires scratch { chunk_room job.now.plan.now.arrays (slice_index job.now.ins.now source) ≤ length scratch.old }
-    ensures takes { (told : Option Contents) → IsKnown (IsSourceKey (view_task_of job.now) source) told (D.shown depot.old) → OnOk result (HaveCome (view_task_of job.now) source IsAny told output.old output.new) }
-    ensures step { Steps NoChange 0 (source_calls (view_task_of job.now) source) (D.shown depot.old) (D.shown depot.new) }
-    ensures all { OnOk result (Rose (sure_calls job.now.pull.now (source_calls (view_task_of job.now) source)) (D.shown depot.old).calls (D.shown depot.new).calls) }
-    ensures cause { IfErr result (IsChunkReadFault (D.shown depot.old) (D.shown depot.new) (IsSourceKey (view_task_of job.now) source) (chunk_room job.now.plan.now.arrays (slice_index job.now.ins.now source))) }
+    ensures open { StaysOpen (C.belongs store.now access.new) (C.may_get store.now access.old) (C.may_get store.now access.new) }
+    ensures takes { (told : Option Contents) → IsKnown (IsSourceKey (view_task_of job.now) source) told (C.shown access.old) → OnOk result (HaveCome (view_task_of job.now) source IsAny told output.old output.new) }
+    ensures step { Steps NoChange 0 (source_calls (view_task_of job.now) source) (C.shown access.old) (C.shown access.new) }
+    ensures all { OnOk result (Rose (sure_calls job.now.pull.now (source_calls (view_task_of job.now) source)) (C.shown access.old).calls (C.shown access.new).calls) }
+    ensures cause { IfErr result (IsChunkReadFault (C.shown access.old) (C.shown access.new) (IsSourceKey (view_task_of job.now) source) (chunk_room job.now.plan.now.arrays (slice_index job.now.ins.now source))) }
 {
     let from = source_array(job, source);
     for coord in from.layout.grid.cover(hull) {
-        read_piece(depot, job, source, &coord, output, scratch)?;
+        read_piece::<C>(store, access, job, source, &coord, output, scratch)?;
     }
     Ok(())
 }
@@ -182,27 +196,31 @@ fn source_array<'a>(job: &ViewJob<'a>, source: u32) -> &'a ArrayInfo
 }
 
 /// Takes the elements of the region that come from one chunk of a source, which is read only where some do.
-fn read_piece<D: Depot>(
-    depot: &mut D,
+fn read_piece<C: Chunks>(
+    store: &C::Store,
+    access: &mut C::Access,
     job: &ViewJob<'_>,
     source: u32,
     coord: &Dims,
     output: &mut [u8],
     scratch: &mut [u8],
 ) -> Result<(), TaskFault>
+    requires belongs { C.belongs store.now access.old }
+    requires may { Keeps (IsSourceKey (view_task_of job.now) source) (C.may_get store.now access.old) }
     requires job { IsViewJob job.now }
     requires source { source < length job.now.ins.now }
     requires coordinate { IsCoordinate (source_in (view_task_of job.now) source).layout.grid coord.now }
     requires output { length output.old ≡ buffer_room (view_task_of job.now) }
     requires scratch { chunk_room job.now.plan.now.arrays (slice_index job.now.ins.now source) ≤ length scratch.old }
-    ensures takes { (told : Option Contents) → IsKnown (IsSourceKey (view_task_of job.now) source) told (D.shown depot.old) → OnOk result (HaveCome (view_task_of job.now) source (IsInPart (view_task_of job.now) source coord.now) told output.old output.new) }
-    ensures step { Steps NoChange (sure_calls job.now.pull.now (calls_for (view_task_of job.now) source coord.now)) (calls_for (view_task_of job.now) source coord.now) (D.shown depot.old) (D.shown depot.new) }
-    ensures cause { IfErr result (IsChunkReadFault (D.shown depot.old) (D.shown depot.new) (IsSourceKey (view_task_of job.now) source) (chunk_room job.now.plan.now.arrays (slice_index job.now.ins.now source))) }
+    ensures open { StaysOpen (C.belongs store.now access.new) (C.may_get store.now access.old) (C.may_get store.now access.new) }
+    ensures takes { (told : Option Contents) → IsKnown (IsSourceKey (view_task_of job.now) source) told (C.shown access.old) → OnOk result (HaveCome (view_task_of job.now) source (IsInPart (view_task_of job.now) source coord.now) told output.old output.new) }
+    ensures step { Steps NoChange (sure_calls job.now.pull.now (calls_for (view_task_of job.now) source coord.now)) (calls_for (view_task_of job.now) source coord.now) (C.shown access.old) (C.shown access.new) }
+    ensures cause { IfErr result (IsChunkReadFault (C.shown access.old) (C.shown access.new) (IsSourceKey (view_task_of job.now) source) (chunk_room job.now.plan.now.arrays (slice_index job.now.ins.now source))) }
 {
     if !is_needed(job, source, coord) {
         return Ok(());
     }
-    take_chunk(depot, job, source, coord, output, scratch)
+    take_chunk::<C>(store, access, job, source, coord, output, scratch)
 }
 
 /// Whether an element of the region comes from a chunk of a source; of a reshaped source it may be that none does.
@@ -257,26 +275,30 @@ fn chunk_block(job: &ViewJob<'_>, source: u32, coord: &Dims) -> Block
 }
 
 /// Reads one chunk of a source into the front of `scratch`, and takes the elements of the region that come from it.
-fn take_chunk<D: Depot>(
-    depot: &mut D,
+fn take_chunk<C: Chunks>(
+    store: &C::Store,
+    access: &mut C::Access,
     job: &ViewJob<'_>,
     source: u32,
     coord: &Dims,
     output: &mut [u8],
     scratch: &mut [u8],
 ) -> Result<(), TaskFault>
+    requires belongs { C.belongs store.now access.old }
+    requires may { Keeps (IsSourceKey (view_task_of job.now) source) (C.may_get store.now access.old) }
     requires job { IsViewJob job.now }
     requires source { source < length job.now.ins.now }
     requires coordinate { IsCoordinate (source_in (view_task_of job.now) source).layout.grid coord.now }
     requires output { length output.old ≡ buffer_room (view_task_of job.now) }
     requires scratch { chunk_room job.now.plan.now.arrays (slice_index job.now.ins.now source) ≤ length scratch.old }
-    ensures takes { (told : Option Contents) → IsKnown (IsSourceKey (view_task_of job.now) source) told (D.shown depot.old) → OnOk result (HaveCome (view_task_of job.now) source (IsInPart (view_task_of job.now) source coord.now) told output.old output.new) }
-    ensures step { Steps NoChange 1 1 (D.shown depot.old) (D.shown depot.new) }
-    ensures cause { IfErr result (IsChunkReadFault (D.shown depot.old) (D.shown depot.new) (IsSourceKey (view_task_of job.now) source) (chunk_room job.now.plan.now.arrays (slice_index job.now.ins.now source))) }
+    ensures open { StaysOpen (C.belongs store.now access.new) (C.may_get store.now access.old) (C.may_get store.now access.new) }
+    ensures takes { (told : Option Contents) → IsKnown (IsSourceKey (view_task_of job.now) source) told (C.shown access.old) → OnOk result (HaveCome (view_task_of job.now) source (IsInPart (view_task_of job.now) source coord.now) told output.old output.new) }
+    ensures step { Steps NoChange 1 1 (C.shown access.old) (C.shown access.new) }
+    ensures cause { IfErr result (IsChunkReadFault (C.shown access.old) (C.shown access.new) (IsSourceKey (view_task_of job.now) source) (chunk_room job.now.plan.now.arrays (slice_index job.now.ins.now source))) }
 {
     let from = source_array(job, source);
     let chunk = &mut scratch[..chunk_bytes(&from.layout.grid, from.layout.dtype)];
-    read_chunk(depot, from, coord, chunk)?;
+    read_chunk::<C>(store, access, from, coord, chunk)?;
     move_chunk(job, source, coord, chunk, output);
     Ok(())
 }

@@ -16,8 +16,8 @@ ghost use Rattle.cu_work.specs.Tasks.{TaskPut, AreRun, IsUsedUp};
 use crate::outcome::Outcome;
 use crate::rooms::{Rooms, task_bytes, task_words};
 use cu_op::{Plan, range_law, tasks};
-use cu_store::{Depot, Key, TaskFault};
-use cu_task::run_task;
+use cu_store::{Depot, InDepot, Key, TaskFault};
+use cu_task::run_task_of;
 
 /// Why a task ends the round.
 #[derive(Clone, Copy)]
@@ -56,7 +56,8 @@ fn try_task<D: Depot>(
 {
     let byte_count = task_bytes(plan, op);
     let word_count = task_words(plan, op);
-    run_task(
+    run_task_of::<InDepot<D>>(
+        &(),
         depot,
         plan,
         op,

@@ -11,9 +11,9 @@ read_chunk-requires-clause-small g c = small_coordinate c.args.info.now.layout c
 
 pub returns-clause-read : goal.returns-clause-read
 returns-clause-read g c =
-    on_ok c.read_chunk.result (HasChunk c.args.info.now c.args.coord.now (g.D.Depot.shown c.read_chunk.new.depot).held c.read_chunk.new.buf)
+    on_ok c.read_chunk.result (HasChunk c.args.info.now c.args.coord.now (g.D.Depot.shown c.read_chunk.new.access).held c.read_chunk.new.buf)
     (HasHeldChunk c.args.info.now c.args.coord.now (g.D.Depot.shown c.args.depot.now) c.read_chunk.new.buf)
-    (held_chunk c.args.info.now c.args.coord.now c.read_chunk.new.buf (g.D.Depot.shown c.args.depot.now) (g.D.Depot.shown c.read_chunk.new.depot) c.requires.readable.layout.grid (stepped c.read_chunk.ensures.step))
+    (held_chunk c.args.info.now c.args.coord.now c.read_chunk.new.buf (g.D.Depot.shown c.args.depot.now) (g.D.Depot.shown c.read_chunk.new.access) c.requires.readable.layout.grid (stepped c.read_chunk.ensures.step))
     c.read_chunk.ensures.read
 
 pub returns-clause-step : goal.returns-clause-step
@@ -22,7 +22,7 @@ returns-clause-step g c = stepped c.read_chunk.ensures.step
 pub returns-clause-cause : goal.returns-clause-cause
 returns-clause-cause g c =
     if_err c.read_chunk.result
-    (IsChunkReadFault (g.D.Depot.shown c.args.depot.now) (g.D.Depot.shown c.read_chunk.new.depot) (λ key. key ≡ key_at c.args.info.now c.args.coord.now) (bytes_of c.args.info.now.layout))
-    (IsPartFault 1 (g.D.Depot.shown c.args.depot.now) (g.D.Depot.shown c.read_chunk.new.depot) c.args.info.now.layout (key_at c.args.info.now c.args.coord.now))
-    (part_fault (g.D.Depot.shown c.args.depot.now) (g.D.Depot.shown c.read_chunk.new.depot) c.args.info.now.layout (key_at c.args.info.now c.args.coord.now))
+    (IsChunkReadFault (g.D.Depot.shown c.args.depot.now) (g.D.Depot.shown c.read_chunk.new.access) (λ key. key ≡ key_at c.args.info.now c.args.coord.now) (bytes_of c.args.info.now.layout))
+    (IsPartFault 1 (g.D.Depot.shown c.args.depot.now) (g.D.Depot.shown c.read_chunk.new.access) c.args.info.now.layout (key_at c.args.info.now c.args.coord.now))
+    (part_fault (g.D.Depot.shown c.args.depot.now) (g.D.Depot.shown c.read_chunk.new.access) c.args.info.now.layout (key_at c.args.info.now c.args.coord.now))
     c.read_chunk.ensures.cause

@@ -7,4 +7,4 @@ pub returns-clause-read : goal.returns-clause-read
 returns-clause-read g c =
     let wide : c.from.result ≡ size_of c.args.layout.now.dtype = omega arith in
     let order = rw wide at c.reorder.ensures in
-    chunk_from_raw c.args.layout.now (g.D.Depot.shown c.fetch.new.depot).held c.args.key.now c.in_ok-order.order c.fetch.new.buf c.reorder.new.bytes c.in_ok-order.ensures.fetched order
+    chunk_from_raw c.args.layout.now (g.C.Chunks.shown c.fetch.new.access).held c.args.key.now c.in_ok-order.order c.fetch.new.buf c.reorder.new.bytes c.in_ok-order.ensures.fetched order

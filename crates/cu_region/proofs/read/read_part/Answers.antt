@@ -13,8 +13,8 @@ on_ok_then : {T E P Q : Type 0} (r : Result T E) → (P → Q) → OnOk r P → 
 on_ok_then (Ok x) f p = f p
 on_ok_then (Err e) f p = tt
 
-pub read_bytes-requires : goal.read_bytes-requires
-read_bytes-requires g c =
+pub read_bytes-requires-clause-length : goal.read_bytes-requires-clause-length
+read_bytes-requires-clause-length g c =
     let one : IsOneChunk c.args.info.now.layout.grid.chunk c.args.coord.now c.args.region.now.lo c.args.region.now.hi = c.is_one_chunk.ensures.0 (search rules) in
     c.requires.out_length ∙ ap (λ x. product x * size_of c.args.info.now.layout.dtype)
     (one_chunk_differences c.args.info.now.layout.grid c.args.coord.now c.args.region.now.lo c.args.region.now.hi c.requires.grid c.requires.meets.0 c.requires.region one)
@@ -26,7 +26,7 @@ returns-then-is_one_chunk-clause-part g c =
     (one_chunk_differences c.args.info.now.layout.grid c.args.coord.now c.args.region.now.lo c.args.region.now.hi c.requires.grid c.requires.meets.0 c.requires.region one) in
     let long : length c.read_bytes.new.buf ≡ bytes_of c.args.info.now.layout = omega arith in
     on_ok_then c.read_bytes.result
-    (λ read. reads_whole c.args.info.now c.args.coord.now c.args.region.now c.args.out.now c.read_bytes.new.buf (g.D.Depot.shown c.read_bytes.new.depot).held
+    (λ read. reads_whole c.args.info.now c.args.coord.now c.args.region.now c.args.out.now c.read_bytes.new.buf (g.C.Chunks.shown c.read_bytes.new.access).held
     c.requires.grid c.requires.region c.requires.meets.0 one read long c.requires.fill)
     (rw c.chunk_key-key.ensures at c.read_bytes.ensures.read)
 
@@ -37,5 +37,5 @@ returns-clause-part g c =
     let cut = length-take-le c.chunk_bytes.result c.args.scratch.now (omega arith) in
     let long : length c.fetch.new.buf ≡ bytes_of c.args.info.now.layout = omega arith in
     let read = rw c.chunk_key-key.ensures at c.in_ok-order.ensures.fetched in
-    reads_part c.args.info.now c.in_ok-order.order c.args.coord.now c.args.region.now c.fetch.new.buf c.args.out.now c.take_part.new.out (g.D.Depot.shown c.fetch.new.depot).held
+    reads_part c.args.info.now c.in_ok-order.order c.args.coord.now c.args.region.now c.fetch.new.buf c.args.out.now c.take_part.new.out (g.C.Chunks.shown c.fetch.new.access).held
     c.requires.grid c.requires.region read long c.requires.fill took

@@ -61,8 +61,8 @@ returns-clause-values g c held known =
     let operation = Copy copy.region copy.source copy.out in
     let fit = subst (Fit c.args.plan.now.arrays c.args.op) copy.is (fit_of c.args.plan.now c.operation-planned.ensures.sound c.args.op c.requires.operation) in
     let same : c.input_walk-walk.result ≡ (walk copy.source (task_lo c.args.plan.now.arrays operation c.args.task) (task_hi c.args.plan.now.arrays operation c.args.task)) = c.input_walk-walk.ensures.walk ∙ ap (λ (o : Op). slice_index_or (input_walks c.args.plan.now.arrays o c.args.task) 0 none) copy.is in
-    let steady = subst (λ (o : Op). IsSteady (IsWalkKey c.args.plan.now.arrays (input_walks c.args.plan.now.arrays o c.args.task)) (Some held) (g.D.Depot.shown c.args.depot.now).late) copy.is known.1 in
-    let read = subst (λ (w : Walk). (held : Contents) → (g.D.Depot.shown c.args.depot.now).held ≡ Some held → IsSteady (IsWalkKey c.args.plan.now.arrays (w ∷ [])) (Some held) (g.D.Depot.shown c.args.depot.now).late → OnOk c.read_walk.result (ReadsRegion (array_at c.args.plan.now.arrays w.array) w.region.lo w.region.hi (Some held) c.read_walk.new.out)) same c.read_walk.ensures.read held known.0 steady in
+    let steady = subst (λ (o : Op). IsSteady (IsWalkKey c.args.plan.now.arrays (input_walks c.args.plan.now.arrays o c.args.task)) (Some held) (g.C.Chunks.shown c.args.access.now).late) copy.is known.1 in
+    let read = subst (λ (w : Walk). (held : Contents) → (g.C.Chunks.shown c.args.access.now).held ≡ Some held → IsSteady (IsWalkKey c.args.plan.now.arrays (w ∷ [])) (Some held) (g.C.Chunks.shown c.args.access.now).late → OnOk c.read_walk.result (ReadsRegion (array_at c.args.plan.now.arrays w.array) w.region.lo w.region.hi (Some held) c.read_walk.new.out)) same c.read_walk.ensures.read held known.0 steady in
     on_ok_then c.read_walk.result (λ reads. subst (λ (o : Op). (idx : List ℕ) → IsWithin (task_lo c.args.plan.now.arrays o c.args.task) (task_hi c.args.plan.now.arrays o c.args.task) idx → rule o c.args.plan.now.arrays (stored_inputs c.args.plan.now.arrays held) (target_of o) idx ≡ buffer_element (type_at c.args.plan.now.arrays (target_of o)) (task_lo c.args.plan.now.arrays o c.args.task) (task_hi c.args.plan.now.arrays o c.args.task) c.read_walk.new.out idx) (sym copy.is)
     (λ idx w. reads idx w ∙ ap (λ (t : Dtype). buffer_element t (task_lo c.args.plan.now.arrays operation c.args.task) (task_hi c.args.plan.now.arrays operation c.args.task) c.read_walk.new.out idx) fit.2.types)) read
 
@@ -81,7 +81,7 @@ returns-clause-step g c =
     let operation = Copy copy.region copy.source copy.out in
     let same : c.input_walk-walk.result ≡ (walk copy.source (task_lo c.args.plan.now.arrays operation c.args.task) (task_hi c.args.plan.now.arrays operation c.args.task)) = c.input_walk-walk.ensures.walk ∙ ap (λ (o : Op). slice_index_or (input_walks c.args.plan.now.arrays o c.args.task) 0 none) copy.is in
     let calls : read_calls c.args.plan.now.arrays (op_of c.args.plan.now c.args.op) c.args.task ≡ length (walk_cells c.args.plan.now.arrays c.input_walk-walk.result) = ap (λ (o : Op). read_calls c.args.plan.now.arrays o c.args.task) copy.is ∙ ap length (append-nil (walk_cells c.args.plan.now.arrays (walk copy.source (task_lo c.args.plan.now.arrays operation c.args.task) (task_hi c.args.plan.now.arrays operation c.args.task)))) ∙ ap (λ (w : Walk). length (walk_cells c.args.plan.now.arrays w)) (sym same) in
-    subst (λ (n : ℕ). Steps NoChange 0 n (g.D.Depot.shown c.args.depot.now) (g.D.Depot.shown c.read_walk.new.depot)) (sym calls) c.read_walk.ensures.step
+    subst (λ (n : ℕ). Steps NoChange 0 n (g.C.Chunks.shown c.args.access.now) (g.C.Chunks.shown c.read_walk.new.access)) (sym calls) c.read_walk.ensures.step
 
 pub returns-clause-all : goal.returns-clause-all
 returns-clause-all g c =
@@ -89,12 +89,12 @@ returns-clause-all g c =
     let operation = Copy copy.region copy.source copy.out in
     let same : c.input_walk-walk.result ≡ (walk copy.source (task_lo c.args.plan.now.arrays operation c.args.task) (task_hi c.args.plan.now.arrays operation c.args.task)) = c.input_walk-walk.ensures.walk ∙ ap (λ (o : Op). slice_index_or (input_walks c.args.plan.now.arrays o c.args.task) 0 none) copy.is in
     let calls : read_calls c.args.plan.now.arrays (op_of c.args.plan.now c.args.op) c.args.task ≡ length (walk_cells c.args.plan.now.arrays c.input_walk-walk.result) = ap (λ (o : Op). read_calls c.args.plan.now.arrays o c.args.task) copy.is ∙ ap length (append-nil (walk_cells c.args.plan.now.arrays (walk copy.source (task_lo c.args.plan.now.arrays operation c.args.task) (task_hi c.args.plan.now.arrays operation c.args.task)))) ∙ ap (λ (w : Walk). length (walk_cells c.args.plan.now.arrays w)) (sym same) in
-    subst (λ (n : ℕ). OnOk c.read_walk.result (Made n (g.D.Depot.shown c.args.depot.now).calls (g.D.Depot.shown c.read_walk.new.depot).calls)) (sym calls) c.read_walk.ensures.all
+    subst (λ (n : ℕ). OnOk c.read_walk.result (Made n (g.C.Chunks.shown c.args.access.now).calls (g.C.Chunks.shown c.read_walk.new.access).calls)) (sym calls) c.read_walk.ensures.all
 
 pub returns-clause-cause : goal.returns-clause-cause
 returns-clause-cause g c =
     let copy = copied (op_of c.args.plan.now c.args.op) c.requires.copy in
     let operation = Copy copy.region copy.source copy.out in
     let same : c.input_walk-walk.result ≡ (walk copy.source (task_lo c.args.plan.now.arrays operation c.args.task) (task_hi c.args.plan.now.arrays operation c.args.task)) = c.input_walk-walk.ensures.walk ∙ ap (λ (o : Op). slice_index_or (input_walks c.args.plan.now.arrays o c.args.task) 0 none) copy.is in
-    let cause = subst (λ (w : Walk). IfErr c.read_walk.result (IsTaskInputFault (g.D.Depot.shown c.args.depot.now) (g.D.Depot.shown c.read_walk.new.depot) c.args.plan.now.arrays (w ∷ []))) same c.read_walk.ensures.cause in
-    on_err_more c.read_walk.result (λ e fault. read_fault c.args.plan.now c.operation-planned.ensures.sound c.args.op c.args.task c.requires.operation c.requires.task (g.D.Depot.shown c.args.depot.now) (g.D.Depot.shown c.read_walk.new.depot) e (subst (λ (o : Op). IsTaskInputFault (g.D.Depot.shown c.args.depot.now) (g.D.Depot.shown c.read_walk.new.depot) c.args.plan.now.arrays (input_walks c.args.plan.now.arrays o c.args.task) e) (sym copy.is) fault)) cause
+    let cause = subst (λ (w : Walk). IfErr c.read_walk.result (IsTaskInputFault (g.C.Chunks.shown c.args.access.now) (g.C.Chunks.shown c.read_walk.new.access) c.args.plan.now.arrays (w ∷ []))) same c.read_walk.ensures.cause in
+    on_err_more c.read_walk.result (λ e fault. read_fault c.args.plan.now c.operation-planned.ensures.sound c.args.op c.args.task c.requires.operation c.requires.task (g.C.Chunks.shown c.args.access.now) (g.C.Chunks.shown c.read_walk.new.access) e (subst (λ (o : Op). IsTaskInputFault (g.C.Chunks.shown c.args.access.now) (g.C.Chunks.shown c.read_walk.new.access) c.args.plan.now.arrays (input_walks c.args.plan.now.arrays o c.args.task) e) (sym copy.is) fault)) cause

@@ -21,16 +21,16 @@ pub returns-clause-step : goal.returns-clause-step
 returns-clause-step g c =
     let walks : c.deref.result.now ≡ input_walks c.args.plan.now.arrays (op_of c.args.plan.now c.args.op) c.args.task = c.deref.ensures.0 ∙ c.input_walks-walks.ensures.walks in
     let calls = region_calls c.args.plan.now.arrays (op_of c.args.plan.now c.args.op) c.args.task c.requires.regions in
-    subst (λ (n : ℕ). Steps NoChange 0 n (g.D.Depot.shown c.args.depot.now) (g.D.Depot.shown c.read_inputs.new.depot)) (ap (λ (ws : List Walk). length (cells_of_walks c.args.plan.now.arrays ws)) walks ∙ sym calls) c.read_inputs.ensures.step
+    subst (λ (n : ℕ). Steps NoChange 0 n (g.C.Chunks.shown c.args.access.now) (g.C.Chunks.shown c.read_inputs.new.access)) (ap (λ (ws : List Walk). length (cells_of_walks c.args.plan.now.arrays ws)) walks ∙ sym calls) c.read_inputs.ensures.step
 
 pub returns-clause-all : goal.returns-clause-all
 returns-clause-all g c =
     let walks : c.deref.result.now ≡ input_walks c.args.plan.now.arrays (op_of c.args.plan.now c.args.op) c.args.task = c.deref.ensures.0 ∙ c.input_walks-walks.ensures.walks in
     let calls = region_calls c.args.plan.now.arrays (op_of c.args.plan.now c.args.op) c.args.task c.requires.regions in
-    subst (λ (n : ℕ). OnOk c.read_inputs.result (Made n (g.D.Depot.shown c.args.depot.now).calls (g.D.Depot.shown c.read_inputs.new.depot).calls)) (ap (λ (ws : List Walk). length (cells_of_walks c.args.plan.now.arrays ws)) walks ∙ sym calls) c.read_inputs.ensures.all
+    subst (λ (n : ℕ). OnOk c.read_inputs.result (Made n (g.C.Chunks.shown c.args.access.now).calls (g.C.Chunks.shown c.read_inputs.new.access).calls)) (ap (λ (ws : List Walk). length (cells_of_walks c.args.plan.now.arrays ws)) walks ∙ sym calls) c.read_inputs.ensures.all
 
 pub returns-clause-cause : goal.returns-clause-cause
 returns-clause-cause g c =
     let walks : c.deref.result.now ≡ input_walks c.args.plan.now.arrays (op_of c.args.plan.now c.args.op) c.args.task = c.deref.ensures.0 ∙ c.input_walks-walks.ensures.walks in
-    let cause = subst (λ (ws : List Walk). IfErr c.read_inputs.result (IsTaskInputFault (g.D.Depot.shown c.args.depot.now) (g.D.Depot.shown c.read_inputs.new.depot) c.args.plan.now.arrays ws)) walks c.read_inputs.ensures.cause in
-    on_err_more c.read_inputs.result (λ e h. read_fault c.args.plan.now c.operation-planned.ensures.sound c.args.op c.args.task c.requires.operation c.requires.task (g.D.Depot.shown c.args.depot.now) (g.D.Depot.shown c.read_inputs.new.depot) e h) cause
+    let cause = subst (λ (ws : List Walk). IfErr c.read_inputs.result (IsTaskInputFault (g.C.Chunks.shown c.args.access.now) (g.C.Chunks.shown c.read_inputs.new.access) c.args.plan.now.arrays ws)) walks c.read_inputs.ensures.cause in
+    on_err_more c.read_inputs.result (λ e h. read_fault c.args.plan.now c.operation-planned.ensures.sound c.args.op c.args.task c.requires.operation c.requires.task (g.C.Chunks.shown c.args.access.now) (g.C.Chunks.shown c.read_inputs.new.access) e h) cause

@@ -1,4 +1,4 @@
-use Rattle.std.proofs.Common.{◌≤◌, ◌<◌, ℕ, Option, None, Some, length, ap, sym, ◌∙◌, subst, arith}
+use Rattle.std.proofs.Common.{◌≤◌, ◌<◌, ℕ, List, Option, None, Some, length, ap, sym, ◌∙◌, subst, arith}
 use Rattle.std.specs.Prelude.{slice_index, OnOk, IfErr}
 use Rattle.cu_store.specs.Faults.{Rose}
 use Rattle.cu_store.specs.Held.{Contents}
@@ -13,7 +13,7 @@ use Rattle.cu_task.specs.ViewJobs.{buffer_room, IsViewFault}
 use Rattle.cu_task.specs.Views.{ViewTask, HasPulled, IsSourceKey, IsKnown, view_calls, sure_calls}
 use Rattle.cu_task.proofs.InputReads.{on_ok_then, on_err_more}
 use Rattle.cu_task.proofs.JobViews.{fitting}
-use Rattle.cu_task.proofs.PullTask.{of_pull, has_values, has_elements, known_sources, view_fault, sure_all}
+use Rattle.cu_task.proofs.PullTask.{of_pull, source_key, has_values, has_elements, known_sources, view_fault, sure_all}
 use Rattle.cu_task.proofs.TaskRegions.{scratch_read}
 use Rattle.cu_task.proofs.TaskSteps.{read_fault}
 use Rattle.cu_task.proofs.ViewChunks.{IsFitting}
@@ -35,17 +35,17 @@ pub returns-clause-values : goal.returns-clause-values
 returns-clause-values g c held known =
     let o = of_pull c.args.plan.now c.args.op (op_of c.args.plan.now c.args.op) c.args.task c.args.job.now.pull.now c.args.job.now.ins.now (fit_of c.args.plan.now c.requires.sound c.args.op c.requires.operation) c.requires.pull in
     let fit = subst IsFitting c.requires.view (fitting c.args.job.now c.requires.job) in
-    let pulled = subst (λ (v : ViewTask). (told : Option Contents) → ((source : ℕ) → source < length v.ins → IsKnown (IsSourceKey v source) told (g.D.Depot.shown c.args.depot.now)) → HasPulled v 0 told c.lay_numbers.new.output
+    let pulled = subst (λ (v : ViewTask). (told : Option Contents) → ((source : ℕ) → source < length v.ins → IsKnown (IsSourceKey v source) told (g.C.Chunks.shown c.args.access.now)) → HasPulled v 0 told c.lay_numbers.new.output
     → OnOk c.read_sources.result (HasPulled v (length v.ins) told c.read_sources.new.output)) c.requires.view c.read_sources.ensures.pulled in
     let first = subst (λ (v : ViewTask). HasPulled v 0 (Some held) c.lay_numbers.new.output) c.requires.view (c.lay_numbers.ensures (Some held)) in
     on_ok_then c.read_sources.result
     (λ has idx w. o.value _ idx ∙ has_values (view_task c.args.plan.now.arrays c.args.job.now.pull.now c.args.job.now.ins.now (target_of (op_of c.args.plan.now c.args.op)) (task_lo c.args.plan.now.arrays (op_of c.args.plan.now c.args.op) c.args.task) (task_hi c.args.plan.now.arrays (op_of c.args.plan.now c.args.op) c.args.task)) fit held c.read_sources.new.output has idx w)
-    (pulled (Some held) (known_sources c.args.plan.now c.requires.sound (op_of c.args.plan.now c.args.op) c.args.task c.args.job.now.pull.now c.args.job.now.ins.now o held (g.D.Depot.shown c.args.depot.now) known.0 known.1) first)
+    (pulled (Some held) (known_sources c.args.plan.now c.requires.sound (op_of c.args.plan.now c.args.op) c.args.task c.args.job.now.pull.now c.args.job.now.ins.now o held (g.C.Chunks.shown c.args.access.now) known.0 known.1) first)
 
 pub returns-clause-elements : goal.returns-clause-elements
 returns-clause-elements g c =
     let fit = subst IsFitting c.requires.view (fitting c.args.job.now c.requires.job) in
-    let pulled = subst (λ (v : ViewTask). (told : Option Contents) → ((source : ℕ) → source < length v.ins → IsKnown (IsSourceKey v source) told (g.D.Depot.shown c.args.depot.now)) → HasPulled v 0 told c.lay_numbers.new.output
+    let pulled = subst (λ (v : ViewTask). (told : Option Contents) → ((source : ℕ) → source < length v.ins → IsKnown (IsSourceKey v source) told (g.C.Chunks.shown c.args.access.now)) → HasPulled v 0 told c.lay_numbers.new.output
     → OnOk c.read_sources.result (HasPulled v (length v.ins) told c.read_sources.new.output)) c.requires.view c.read_sources.ensures.pulled in
     let first = subst (λ (v : ViewTask). HasPulled v 0 None c.lay_numbers.new.output) c.requires.view (c.lay_numbers.ensures None) in
     on_ok_then c.read_sources.result
@@ -55,20 +55,26 @@ returns-clause-elements g c =
 pub returns-clause-step : goal.returns-clause-step
 returns-clause-step g c =
     let o = of_pull c.args.plan.now c.args.op (op_of c.args.plan.now c.args.op) c.args.task c.args.job.now.pull.now c.args.job.now.ins.now (fit_of c.args.plan.now c.requires.sound c.args.op c.requires.operation) c.requires.pull in
-    let step = subst (λ (v : ViewTask). Steps NoChange 0 (view_calls v (length v.ins)) (g.D.Depot.shown c.args.depot.now) (g.D.Depot.shown c.read_sources.new.depot)) c.requires.view c.read_sources.ensures.step in
-    subst (λ (n : ℕ). Steps NoChange 0 n (g.D.Depot.shown c.args.depot.now) (g.D.Depot.shown c.read_sources.new.depot)) (sym o.calls) step
+    let step = subst (λ (v : ViewTask). Steps NoChange 0 (view_calls v (length v.ins)) (g.C.Chunks.shown c.args.access.now) (g.C.Chunks.shown c.read_sources.new.access)) c.requires.view c.read_sources.ensures.step in
+    subst (λ (n : ℕ). Steps NoChange 0 n (g.C.Chunks.shown c.args.access.now) (g.C.Chunks.shown c.read_sources.new.access)) (sym o.calls) step
 
 pub returns-clause-all : goal.returns-clause-all
 returns-clause-all g c sure =
     let o = of_pull c.args.plan.now c.args.op (op_of c.args.plan.now c.args.op) c.args.task c.args.job.now.pull.now c.args.job.now.ins.now (fit_of c.args.plan.now c.requires.sound c.args.op c.requires.operation) c.requires.pull in
-    let all = subst (λ (v : ViewTask). OnOk c.read_sources.result (Rose (sure_calls v.pull (view_calls v (length v.ins))) (g.D.Depot.shown c.args.depot.now).calls (g.D.Depot.shown c.read_sources.new.depot).calls)) c.requires.view c.read_sources.ensures.all in
+    let all = subst (λ (v : ViewTask). OnOk c.read_sources.result (Rose (sure_calls v.pull (view_calls v (length v.ins))) (g.C.Chunks.shown c.args.access.now).calls (g.C.Chunks.shown c.read_sources.new.access).calls)) c.requires.view c.read_sources.ensures.all in
     on_ok_then c.read_sources.result
-    (λ rose. sure_all c.args.job.now.pull.now _ _ (g.D.Depot.shown c.args.depot.now).calls (g.D.Depot.shown c.read_sources.new.depot).calls (o.sure sure) o.calls rose) all
+    (λ rose. sure_all c.args.job.now.pull.now _ _ (g.C.Chunks.shown c.args.access.now).calls (g.C.Chunks.shown c.read_sources.new.access).calls (o.sure sure) o.calls rose) all
 
 pub returns-clause-cause : goal.returns-clause-cause
 returns-clause-cause g c =
     let o = of_pull c.args.plan.now c.args.op (op_of c.args.plan.now c.args.op) c.args.task c.args.job.now.pull.now c.args.job.now.ins.now (fit_of c.args.plan.now c.requires.sound c.args.op c.requires.operation) c.requires.pull in
-    let cause = subst (λ (v : ViewTask). IfErr c.read_sources.result (IsViewFault (g.D.Depot.shown c.args.depot.now) (g.D.Depot.shown c.read_sources.new.depot) v)) c.requires.view c.read_sources.ensures.cause in
+    let cause = subst (λ (v : ViewTask). IfErr c.read_sources.result (IsViewFault (g.C.Chunks.shown c.args.access.now) (g.C.Chunks.shown c.read_sources.new.access) v)) c.requires.view c.read_sources.ensures.cause in
     on_err_more c.read_sources.result
-    (λ e fault. read_fault c.args.plan.now c.requires.sound c.args.op c.args.task c.requires.operation c.requires.task (g.D.Depot.shown c.args.depot.now) (g.D.Depot.shown c.read_sources.new.depot) e
-    (view_fault c.args.plan.now c.requires.sound (op_of c.args.plan.now c.args.op) c.args.task c.args.job.now.pull.now c.args.job.now.ins.now o (g.D.Depot.shown c.args.depot.now) (g.D.Depot.shown c.read_sources.new.depot) e fault)) cause
+    (λ e fault. read_fault c.args.plan.now c.requires.sound c.args.op c.args.task c.requires.operation c.requires.task (g.C.Chunks.shown c.args.access.now) (g.C.Chunks.shown c.read_sources.new.access) e
+    (view_fault c.args.plan.now c.requires.sound (op_of c.args.plan.now c.args.op) c.args.task c.args.job.now.pull.now c.args.job.now.ins.now o (g.C.Chunks.shown c.args.access.now) (g.C.Chunks.shown c.read_sources.new.access) e fault)) cause
+
+pub read_sources-requires-clause-may : goal.read_sources-requires-clause-may
+read_sources-requires-clause-may g c =
+    let o = of_pull c.args.plan.now c.args.op (op_of c.args.plan.now c.args.op) c.args.task c.args.job.now.pull.now c.args.job.now.ins.now (fit_of c.args.plan.now c.requires.sound c.args.op c.requires.operation) c.requires.pull in
+    subst (λ (v : ViewTask). (source : ℕ) → source < length v.ins → (key : List ℕ) → IsSourceKey v source key → g.C.Chunks.may_get c.args.store.now c.args.access.now key) (sym c.requires.view)
+    (λ source below key here. c.requires.may key (source_key c.args.plan.now c.requires.sound (op_of c.args.plan.now c.args.op) c.args.task c.args.job.now.pull.now c.args.job.now.ins.now o source key below here))

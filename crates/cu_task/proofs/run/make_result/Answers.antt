@@ -12,6 +12,8 @@ compute_result-requires g c =
     let is : IsComputing (op_of c.args.plan.now c.args.op) = subst IsComputing own (computing c.operation.result.now.op (subst HasOneOutput (sym own) c.requires.single) c.in_default.not-Pull c.in_default.not-Copy) in
     let kept = kept_computing c.args.plan.now.arrays (op_of c.args.plan.now c.args.op) c.args.task is in
     record {
+      belongs = c.requires.belongs;
+      may = c.requires.may;
       operation = c.requires.operation;
       task = c.requires.task;
       computing = is;

@@ -124,18 +124,22 @@ returns-in_err-search_region-clause-cause g c =
 
 pub returns-clause-stored : goal.returns-clause-stored
 returns-clause-stored g c env ready =
-    let first : Steps (TaskChange c.args.plan.now c.args.op c.args.task (g.D.Depot.shown c.args.depot.now)) 0 (read_calls c.args.plan.now.arrays (op_of c.args.plan.now c.args.op) c.args.task) (g.D.Depot.shown c.args.depot.now) (g.D.Depot.shown c.search_region.new.depot) = steps_none c.search_region.ensures.step in
-    c.write_found.ensures.stored env (g.D.Depot.shown c.args.depot.now) (read_calls c.args.plan.now.arrays (op_of c.args.plan.now c.args.op) c.args.task) (λ array is held known. c.in_ok-search_region.ensures.values array held is known) c.in_ok-search_region.ensures.places ready first
+    let first : Steps (TaskChange c.args.plan.now c.args.op c.args.task (g.C.Chunks.shown c.args.access.now)) 0 (read_calls c.args.plan.now.arrays (op_of c.args.plan.now c.args.op) c.args.task) (g.C.Chunks.shown c.args.access.now) (g.C.Chunks.shown c.search_region.new.access) = steps_none c.search_region.ensures.step in
+    c.write_found.ensures.stored env (g.C.Chunks.shown c.args.access.now) (read_calls c.args.plan.now.arrays (op_of c.args.plan.now c.args.op) c.args.task) (λ array is held known. c.in_ok-search_region.ensures.values array held is known) c.in_ok-search_region.ensures.places ready first
 
 pub returns-clause-step : goal.returns-clause-step
 returns-clause-step g c =
-    let first : Steps (TaskChange c.args.plan.now c.args.op c.args.task (g.D.Depot.shown c.args.depot.now)) 0 (read_calls c.args.plan.now.arrays (op_of c.args.plan.now c.args.op) c.args.task) (g.D.Depot.shown c.args.depot.now) (g.D.Depot.shown c.search_region.new.depot) = steps_none c.search_region.ensures.step in
-    steps_then first (c.write_found.ensures.step (g.D.Depot.shown c.args.depot.now) (λ array is held known. c.in_ok-search_region.ensures.values array held is known) c.in_ok-search_region.ensures.places)
+    let first : Steps (TaskChange c.args.plan.now c.args.op c.args.task (g.C.Chunks.shown c.args.access.now)) 0 (read_calls c.args.plan.now.arrays (op_of c.args.plan.now c.args.op) c.args.task) (g.C.Chunks.shown c.args.access.now) (g.C.Chunks.shown c.search_region.new.access) = steps_none c.search_region.ensures.step in
+    steps_then first (c.write_found.ensures.step (g.C.Chunks.shown c.args.access.now) (λ array is held known. c.in_ok-search_region.ensures.values array held is known) c.in_ok-search_region.ensures.places)
 
 pub returns-clause-all : goal.returns-clause-all
 returns-clause-all g c =
-    on_ok_then c.write_found.result (λ second. all_made (g.D.Depot.shown c.args.depot.now).calls (g.D.Depot.shown c.search_region.new.depot).calls (g.D.Depot.shown c.write_found.new.depot).calls (read_calls c.args.plan.now.arrays (op_of c.args.plan.now c.args.op) c.args.task) (length (written_chunks c.args.plan.now.arrays (op_of c.args.plan.now c.args.op) c.args.task)) c.in_ok-search_region.ensures.all second) c.write_found.ensures.all
+    on_ok_then c.write_found.result (λ second. all_made (g.C.Chunks.shown c.args.access.now).calls (g.C.Chunks.shown c.search_region.new.access).calls (g.C.Chunks.shown c.write_found.new.access).calls (read_calls c.args.plan.now.arrays (op_of c.args.plan.now c.args.op) c.args.task) (length (written_chunks c.args.plan.now.arrays (op_of c.args.plan.now c.args.op) c.args.task)) c.in_ok-search_region.ensures.all second) c.write_found.ensures.all
 
 pub returns-clause-cause : goal.returns-clause-cause
 returns-clause-cause g c =
-    on_err_more c.write_found.result (λ e h. write_fault c.args.plan.now c.result_bytes-place_bytes.ensures.sound c.args.op c.args.task c.requires.operation c.requires.task (g.D.Depot.shown c.args.depot.now) (g.D.Depot.shown c.search_region.new.depot) (g.D.Depot.shown c.write_found.new.depot) e c.search_region.ensures.step.count h) c.write_found.ensures.cause
+    on_err_more c.write_found.result (λ e h. write_fault c.args.plan.now c.result_bytes-place_bytes.ensures.sound c.args.op c.args.task c.requires.operation c.requires.task (g.C.Chunks.shown c.args.access.now) (g.C.Chunks.shown c.search_region.new.access) (g.C.Chunks.shown c.write_found.new.access) e c.search_region.ensures.step.count h) c.write_found.ensures.cause
+
+pub write_found-requires-clause-puts : goal.write_found-requires-clause-puts
+write_found-requires-clause-puts g c =
+    (g.C.Chunks.shown c.args.access.now, (λ array is held known. c.in_ok-search_region.ensures.values array held is known), c.in_ok-search_region.ensures.places, c.requires.puts)

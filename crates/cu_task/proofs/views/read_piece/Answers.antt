@@ -13,9 +13,9 @@ returns-then-not-is_needed-clause-takes g c told known =
 
 pub returns-then-not-is_needed-clause-step : goal.returns-then-not-is_needed-clause-step
 returns-then-not-is_needed-clause-step g c =
-    calls_unneeded (view_task_of c.args.job.now) c.args.source c.args.coord.now (g.D.Depot.shown c.args.depot.now) (λ needs. true≢false (sym (c.is_needed.ensures.needed needs) ∙ c.if-not-is_needed.true))
+    calls_unneeded (view_task_of c.args.job.now) c.args.source c.args.coord.now (g.C.Chunks.shown c.args.access.now) (λ needs. true≢false (sym (c.is_needed.ensures.needed needs) ∙ c.if-not-is_needed.true))
 
 pub returns-clause-step : goal.returns-clause-step
 returns-clause-step g c =
-    calls_needed (view_task_of c.args.job.now) c.args.source c.args.coord.now (g.D.Depot.shown c.args.depot.now) (g.D.Depot.shown c.take_chunk.new.depot)
+    calls_needed (view_task_of c.args.job.now) c.args.source c.args.coord.now (g.C.Chunks.shown c.args.access.now) (g.C.Chunks.shown c.take_chunk.new.access)
     (λ exact. c.is_needed.ensures.only exact c.if-not-is_needed.false) c.take_chunk.ensures.step

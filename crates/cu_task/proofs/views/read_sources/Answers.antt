@@ -7,12 +7,14 @@ use Rattle.cu_task.specs.Views.{view_calls, source_calls, sure_calls, IsAny}
 use Rattle.cu_task.proofs.JobViews.{fitting}
 use Rattle.cu_task.proofs.ViewChunks.{sure_none, sure_rose, view_calls_more, view_calls_within}
 use Rattle.cu_task.proofs.ViewElements.{known_later, takes_before, pulled_more}
+use Rattle.cu_store.proofs.StaysOpen.{open_same, open_then}
 use Rattle.cu_task.proofs.views.read_sources.Goals as goal
 
 pub loop-source-init : goal.loop-source-init
 loop-source-init g c = record {
-  step = steps_same NoChange (g.D.Depot.shown c.args.depot.now);
+  step = steps_same NoChange (g.C.Chunks.shown c.args.access.now);
   all = (let e = sure_none c.args.job.now.pull.now in omega (arith, e));
+  open_ = open_same (g.C.Chunks.may_get c.args.store.now c.args.access.now) c.requires.belongs;
   pulled = λ told known pulled. pulled;
 }
 
@@ -24,13 +26,14 @@ loop-source-preserved g c =
     let before = c.loop-source.invariant in
     record {
       step = steps_wider (λ key value none. none) (omega arith) (omega (arith, more)) (steps_then before.step c.read_source.ensures.step);
-      all = subst (λ (m : ℕ). Rose (sure_calls c.args.job.now.pull.now m) (g.D.Depot.shown c.args.depot.now).calls (g.D.Depot.shown c.read_source.new.depot).calls) (sym more)
-          (sure_rose c.args.job.now.pull.now (view_calls (view_task_of c.args.job.now) c.loop-source.source) (source_calls (view_task_of c.args.job.now) c.loop-source.source) (g.D.Depot.shown c.args.depot.now).calls (g.D.Depot.shown c.loop-source.depot).calls (g.D.Depot.shown c.read_source.new.depot).calls
+      all = subst (λ (m : ℕ). Rose (sure_calls c.args.job.now.pull.now m) (g.C.Chunks.shown c.args.access.now).calls (g.C.Chunks.shown c.read_source.new.access).calls) (sym more)
+          (sure_rose c.args.job.now.pull.now (view_calls (view_task_of c.args.job.now) c.loop-source.source) (source_calls (view_task_of c.args.job.now) c.loop-source.source) (g.C.Chunks.shown c.args.access.now).calls (g.C.Chunks.shown c.loop-source.access).calls (g.C.Chunks.shown c.read_source.new.access).calls
           before.all c.in_ok-read_source.ensures.all);
+      open_ = open_then before.open_ c.read_source.ensures.open;
       pulled = λ told known pulled.
-          let later = known_later (view_task_of c.args.job.now) c.loop-source.source told 0 (view_calls (view_task_of c.args.job.now) c.loop-source.source) (g.D.Depot.shown c.args.depot.now) (g.D.Depot.shown c.loop-source.depot) (known c.loop-source.source below) before.step in
+          let later = known_later (view_task_of c.args.job.now) c.loop-source.source told 0 (view_calls (view_task_of c.args.job.now) c.loop-source.source) (g.C.Chunks.shown c.args.access.now) (g.C.Chunks.shown c.loop-source.access) (known c.loop-source.source below) before.step in
           pulled_more (view_task_of c.args.job.now) c.loop-source.source told c.loop-source.output c.read_source.new.output (before.pulled told known pulled)
-          (takes_before (view_task_of c.args.job.now) (fitting c.args.job.now c.requires.job) c.loop-source.source IsAny told (g.D.Depot.shown c.loop-source.depot) later c.loop-source.output c.read_source.new.output (c.in_ok-read_source.ensures.takes later.now later.known));
+          (takes_before (view_task_of c.args.job.now) (fitting c.args.job.now c.requires.job) c.loop-source.source IsAny told (g.C.Chunks.shown c.loop-source.access) later c.loop-source.output c.read_source.new.output (c.in_ok-read_source.ensures.takes later.now later.known));
     }
 
 pub returns-in_err-read_source-clause-step : goal.returns-in_err-read_source-clause-step
@@ -39,3 +42,15 @@ returns-in_err-read_source-clause-step g c =
     let more = view_calls_more (view_task_of c.args.job.now) c.loop-source.source in
     let most = view_calls_within (view_task_of c.args.job.now) (c.loop-source.source + 1) (length c.args.job.now.ins.now) (omega arith) in
     steps_wider (λ key value none. none) (omega arith) (omega (arith, more, most)) (steps_then c.loop-source.invariant.step c.read_source.ensures.step)
+
+pub read_source-requires-clause-belongs : goal.read_source-requires-clause-belongs
+read_source-requires-clause-belongs g c = c.loop-source.invariant.open_.belongs
+
+pub read_source-requires-clause-may : goal.read_source-requires-clause-may
+read_source-requires-clause-may g c key here = c.loop-source.invariant.open_.gets key (c.requires.may c.loop-source.source (omega arith) key here)
+
+pub returns-in_err-read_source-clause-open : goal.returns-in_err-read_source-clause-open
+returns-in_err-read_source-clause-open g c = open_then c.loop-source.invariant.open_ c.read_source.ensures.open
+
+pub returns-clause-open : goal.returns-clause-open
+returns-clause-open g c = c.loop-source.invariant.open_

@@ -4,12 +4,14 @@ use Rattle.cu_store.specs.Held.{Contents}
 use Rattle.cu_store.specs.Steps.{NoChange, Steps}
 use Rattle.cu_task.specs.ViewJobs.{view_task_of}
 use Rattle.cu_task.specs.Views.{view_calls, sure_calls, IsSourceKey, IsKnown, HasPulled}
+use Rattle.cu_store.specs.Chunks.{StaysOpen}
 use Rattle.cu_task.proofs.views.read_sources.Given as goal
 
 abbrev pub invariant-loop-source : goal.invariant-loop-source
 invariant-loop-source g l = record {
-  step : Steps NoChange 0 (view_calls (view_task_of l.job) l.source) (g.D.Depot.shown l.initial.depot) (g.D.Depot.shown l.depot);
-  all : Rose (sure_calls l.job.pull.now (view_calls (view_task_of l.job) l.source)) (g.D.Depot.shown l.initial.depot).calls (g.D.Depot.shown l.depot).calls;
-  pulled : (told : Option Contents) → ((source : ℕ) → source < length l.job.ins.now → IsKnown (IsSourceKey (view_task_of l.job) source) told (g.D.Depot.shown l.initial.depot)) → HasPulled (view_task_of l.job) 0 told l.initial.output
+  step : Steps NoChange 0 (view_calls (view_task_of l.job) l.source) (g.C.Chunks.shown l.initial.access) (g.C.Chunks.shown l.access);
+  all : Rose (sure_calls l.job.pull.now (view_calls (view_task_of l.job) l.source)) (g.C.Chunks.shown l.initial.access).calls (g.C.Chunks.shown l.access).calls;
+  open_ : StaysOpen (g.C.Chunks.belongs l.store l.access) (g.C.Chunks.may_get l.store l.initial.access) (g.C.Chunks.may_get l.store l.access);
+  pulled : (told : Option Contents) → ((source : ℕ) → source < length l.job.ins.now → IsKnown (IsSourceKey (view_task_of l.job) source) told (g.C.Chunks.shown l.initial.access)) → HasPulled (view_task_of l.job) 0 told l.initial.output
       → HasPulled (view_task_of l.job) l.source told l.output;
 }

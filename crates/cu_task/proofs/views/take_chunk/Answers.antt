@@ -27,14 +27,14 @@ move_chunk-requires-clause-elements g c = subst (λ (a : ArrayInfo). AreElements
 pub returns-clause-takes : goal.returns-clause-takes
 returns-clause-takes g c told known =
     takes_chunk (view_task_of c.args.job.now) (fitting c.args.job.now c.requires.job) c.args.source c.args.coord.now c.read_chunk.new.buf c.args.output.now c.move_chunk.new.output told 1 1
-    (g.D.Depot.shown c.args.depot.now) (g.D.Depot.shown c.read_chunk.new.depot) c.requires.source known c.read_chunk.ensures.step
-    (subst (λ (a : ArrayInfo). HasChunk a c.args.coord.now (g.D.Depot.shown c.read_chunk.new.depot).held c.read_chunk.new.buf) c.source_array-from.ensures c.in_ok-read_chunk.ensures.read)
+    (g.C.Chunks.shown c.args.access.now) (g.C.Chunks.shown c.read_chunk.new.access) c.requires.source known c.read_chunk.ensures.step
+    (subst (λ (a : ArrayInfo). HasChunk a c.args.coord.now (g.C.Chunks.shown c.read_chunk.new.access).held c.read_chunk.new.buf) c.source_array-from.ensures c.in_ok-read_chunk.ensures.read)
     c.move_chunk.ensures
 
 pub returns-in_err-read_chunk-clause-cause : goal.returns-in_err-read_chunk-clause-cause
 returns-in_err-read_chunk-clause-cause g c =
     let p = err_from_is_err_and c.from_residual.result c.from_residual.ensures.1 in
-    let cause = subst (λ (a : ArrayInfo). IsChunkReadFault (g.D.Depot.shown c.args.depot.now) (g.D.Depot.shown c.read_chunk.new.depot) (λ key. key ≡ key_at a c.args.coord.now) (bytes_of a.layout) c.in_err-read_chunk.field-0.0)
+    let cause = subst (λ (a : ArrayInfo). IsChunkReadFault (g.C.Chunks.shown c.args.access.now) (g.C.Chunks.shown c.read_chunk.new.access) (λ key. key ≡ key_at a c.args.coord.now) (bytes_of a.layout) c.in_err-read_chunk.field-0.0)
     c.source_array-from.ensures c.in_err-read_chunk.ensures.cause in
-    rw (p.1, p.2) (fault_more (g.D.Depot.shown c.args.depot.now) (g.D.Depot.shown c.args.depot.now) (g.D.Depot.shown c.read_chunk.new.depot) (λ key. key ≡ key_at (source_in (view_task_of c.args.job.now) c.args.source) c.args.coord.now)
+    rw (p.1, p.2) (fault_more (g.C.Chunks.shown c.args.access.now) (g.C.Chunks.shown c.args.access.now) (g.C.Chunks.shown c.read_chunk.new.access) (λ key. key ≡ key_at (source_in (view_task_of c.args.job.now) c.args.source) c.args.coord.now)
     (IsSourceKey (view_task_of c.args.job.now) c.args.source) (bytes_of (source_in (view_task_of c.args.job.now) c.args.source).layout) c.in_err-read_chunk.field-0.0 (omega arith) (λ key is. (c.args.coord.now, c.requires.coordinate, is)) cause)
