@@ -49,9 +49,9 @@ use cu_dir::DirDepot;
 use cu_grid::{Grid, Region};
 use cu_num::{Dtype, Encoding, Endian, Sep};
 use cu_op::{ArrayInfo, Layout};
-use cu_region::read_region;
+use cu_region::read_region_of;
 use cu_shape::Dims;
-use cu_store::Key;
+use cu_store::{InDepot, Key};
 use std::alloc::Global;
 use std::fs::Files;
 use std::io::ErrorKind;
@@ -116,7 +116,7 @@ fn timed_read<H: Files + AllocGlobal + Clone + Drop>(
         maker: None,
     };
     let start = Instant::now(clock)?;
-    let answer = read_region(depot, &info, region, out, scratch);
+    let answer = read_region_of::<InDepot<DirDepot<H>>>(&(), depot, &info, region, out, scratch);
     let taken = start.elapsed(clock)?.as_nanos();
     match answer {
         Ok(()) => Ok(taken),
@@ -219,8 +219,8 @@ use Rattle.cu_num.specs.Dtype.{size_of}
 use Rattle.cu_region.proofs.Whole.{coordinates_small}
 use Rattle.region_bench.proofs.timed_read.Goals as goal
 
-pub read_region-answer-requires-clause-coordinates : goal.read_region-answer-requires-clause-coordinates
-read_region-answer-requires-clause-coordinates g c coord m =
+pub read_region_of-answer-requires-clause-coordinates : goal.read_region_of-answer-requires-clause-coordinates
+read_region_of-answer-requires-clause-coordinates g c coord m =
     coordinates_small c.args.layout.now.grid (size_of c.args.layout.now.dtype) c.args.region.now.lo c.args.region.now.hi coord c.requires.limits m
 """
 

@@ -224,19 +224,25 @@ module _ (p : PlanView) (sound : Sound p) (ranges : HaveRanges) (types : HaveTyp
       let (promise, promised) = told_first yard.promise pass.entries entries fits.told own in
       ready_here p sound yard pass fits serves k task operation number ranges seen promise entries promised own (types p.arrays entries sound.arrays)
 
-  pub bad_of_input : (old : Shown) (e : TaskFault) → IsTaskFault old (shown_by pass) p k task e → IsBadOfInput p yard.promise e
+  pub bad_of_input : (old : Shown) (e : TaskFault) → IsTaskFault old (shown_by pass) p k task e → IsBadOfInput p yard.promise yard.entries e
   bad_of_input old e fault = by_promise yard.promise refl e fault
     where
-      by_promise : (o : Option Contents) → yard.promise ≡ o → (e : TaskFault) → IsTaskFault old (shown_by pass) p k task e → IsBadOfInput p o e
+      by_promise : (o : Option Contents) → yard.promise ≡ o → (e : TaskFault) → IsTaskFault old (shown_by pass) p k task e → IsBadOfInput p o yard.entries e
       by_promise None promised e fault = tt
       by_promise (Some promise) promised Store fault = tt
       by_promise (Some promise) promised NoMemory fault = tt
       by_promise (Some promise) promised (BadChunk key got want) (c, listed, is, size, other, holds) =
           let (entries, told) = told_too yard.promise pass.entries promise fits.told promised in
           let chunk = (read_array p sound k (op_of p k) (fit_of p sound k operation) task c number listed).1 in
+          let here = subst (λ (x : List ℕ). HoldsLength (shown_by pass).held x got) is holds in
           let given = of_input p sound yard pass fits serves k task operation number ranges seen promise entries promised told (types p.arrays entries sound.arrays) c got listed
-              (λ e. other (e ∙ sym size)) (subst (λ (x : List ℕ). HoldsLength (shown_by pass).held x got) is holds) in
-          (c, chunk, given, is)
+              (λ e. other (e ∙ sym size)) here in
+          let (bytes, was, long) = subst (λ (o : Option Contents). HoldsLength o (key_of p.arrays c) got) (ap (known_to_hold pass.promise pass.seen) told) here in
+          let only = serves.inputs c chunk given in
+          let same = if_not (pass.seen (key_of p.arrays c)) (pass.promise (key_of p.arrays c)) (entries (key_of p.arrays c))
+              (λ saw. not_both (is_made yard.specs (key_of p.arrays c)) only.1 (fits.made entries told (key_of p.arrays c) saw)) in
+          let in_entries : HoldsLength (Some entries) key got = subst (λ (x : List ℕ). HoldsLength (Some entries) x got) (sym is) (bytes, sym same ∙ was, long) in
+          (c, chunk, given, is, size, other, subst (λ (o : Option Contents). HoldsLength o key got) (sym (fits.entries ∙ told)) in_entries)
 
 -- inputs that were seen are seen after calls
 pub inputs_stay : (p : PlanView) (sound : Sound p) (yard : Served) (old new : Known) → ServesPlan p yard → Fits yard old → (k task : ℕ) (operation : k < length p.ops) (number : task < tasks_of p.arrays (op_of p k))

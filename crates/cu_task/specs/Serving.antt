@@ -5,7 +5,7 @@ use Rattle.cu_store.specs.Yard.{is_served, is_made, Served}
 use Rattle.cu_store.specs.declared.faults.TaskFault.{TaskFault}
 use Rattle.cu_store.specs.declared.faults.TaskFault.TheVariants.{BadChunk}
 use Rattle.cu_store.specs.declared.yard.Spec.{Spec}
-use Rattle.cu_op.specs.Arrays.{maker_at}
+use Rattle.cu_op.specs.Arrays.{maker_at, chunk_room}
 use Rattle.cu_op.specs.Cells.{IsChunk}
 use Rattle.cu_op.specs.PlanView.{PlanView}
 use Rattle.cu_op.specs.Schedule.{op_of, key_of, cell_value}
@@ -13,6 +13,7 @@ use Rattle.cu_op.specs.Sound.{IsCell}
 use Rattle.cu_op.specs.Value.{stored_inputs}
 use Rattle.cu_op.specs.Walks.{written_chunks, read_chunks}
 use Rattle.cu_op.specs.declared.cells.Cell.{Cell}
+use Rattle.cu_region.specs.Steady.{HoldsLength}
 
 -- the key is served, and may not be put
 abbrev pub IsOnlyRead : List Spec → List ℕ → Type 0
@@ -37,8 +38,8 @@ HasSeenInputs p k task seen = (c : Cell) → Contains (read_chunks p.arrays (op_
 abbrev pub HasSeenOutputs : PlanView → ℕ → ℕ → (List ℕ → Bool) → Type 0
 HasSeenOutputs p k task seen = (c : Cell) → Contains (written_chunks p.arrays (op_of p k) task) c → IsTrue (seen (key_of p.arrays c))
 
--- where the yard tells its promise, a bad chunk is an input's
-abbrev pub IsBadOfInput : PlanView → Option Contents → TaskFault → Type 0
-IsBadOfInput p None e = Unit {0}
-IsBadOfInput p (Some promise) (BadChunk key got want) = (c : Cell) × IsChunk p.arrays c × (maker_at p.arrays c.array ≡ None) × (key ≡ key_of p.arrays c)
-IsBadOfInput p (Some promise) e = Unit {0}
+-- where the yard tells its promise, a bad chunk is an input's: the key is only read, and holds `got` bytes, which aren't the bytes of a chunk
+abbrev pub IsBadOfInput : PlanView → Option Contents → Option Contents → TaskFault → Type 0
+IsBadOfInput p (Some promise) entries (BadChunk key got want) = (c : Cell) × IsChunk p.arrays c × (maker_at p.arrays c.array ≡ None) × (key ≡ key_of p.arrays c)
+    × (want ≡ chunk_room p.arrays c.array) × (got ≢ want) × HoldsLength entries key got
+IsBadOfInput p promise entries e = Unit {0}

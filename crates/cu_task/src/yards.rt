@@ -50,7 +50,7 @@ pub fn run_task<Y: Yard>(
         (shown_by (Y.knows pass.old)) (shown_by (Y.knows pass.new)) }
     ensures all { HasSureCalls (op_of plan.now op) → OnOk result (Made (calls_of plan.now op task) (Y.knows pass.old).calls (Y.knows pass.new).calls) }
     ensures cause { IfErr result (IsTaskFault (shown_by (Y.knows pass.old)) (shown_by (Y.knows pass.new)) plan.now op task) }
-    ensures bad { IfErr result (IsBadOfInput plan.now (Y.serves yard.now).promise) }
+    ensures bad { IfErr result (IsBadOfInput plan.now (Y.serves yard.now).promise (Y.serves yard.now).entries) }
 {
     range_law();
     let _ops = plan.ops();
