@@ -1,0 +1,6 @@
+pub mod Numbers
+pub mod Machine
+pub mod Step
+pub mod Table
+pub mod Own
+pub mod Queue

@@ -1,0 +1,144 @@
+//! What keeps a task waiting.
+ghost use Rattle.std.specs.Prelude.{◌≡◌, ◌≢◌, ◌<◌, ◌≤◌, ◌+◌, ℕ, IsTrue, ◌↔◌, length, MatchOption, slice_index_or};
+ghost use Rattle.cu_op.specs.Arrays.{maker_at};
+ghost use Rattle.cu_op.specs.Operation.{reads_of};
+ghost use Rattle.cu_op.specs.Schedule.{op_of};
+ghost use Rattle.cu_op.specs.Cells.{IsChunk};
+ghost use Rattle.cu_table.specs.declared.state.TaskId.{TaskId as Id};
+ghost use Rattle.cu_table.specs.Numbers.{IsTask, task_count, task_number};
+ghost use Rattle.cu_table.specs.Machine.{AreInputsDone};
+ghost use Rattle.cu_table.specs.Queue.{AreCounts, of_tasks, Blocks, WaitsForTask, IsCellDone, IsUndoneMaker, HasListPlace, Settles, IsPullOp, IsSourceOf, AreSourcesDone, IsOver, IsLined, IsWoken};
+
+use crate::queue::Queue;
+use crate::state::{TaskId, TaskState};
+use crate::tasks::Tasks;
+use cu_op::{Cell, Op, Plan, inputs, maker};
+
+/// The operation that makes the array at a place among those that an operation reads; none where it is an input.
+fn source_at(plan: &Plan, op: u32, at: u32) -> Option<u32>
+    requires operation { op < length plan.now.ops }
+    requires place { at < length (reads_of (op_of plan.now op)) }
+    ensures { result ≡ maker_at plan.now.arrays (slice_index_or (reads_of (op_of plan.now op)) at 0) }
+{
+    match plan.operation(op).op.read_at(at) {
+        None => None,
+        Some(array) => plan.array(array).maker,
+    }
+}
+
+/// An operation that makes what an operation reads and not all of whose tasks are done; none where there is none.
+fn undone_source(plan: &Plan, undone: &[usize], op: u32) -> Option<u32>
+    requires operation { op < length plan.now.ops }
+    requires counts { length undone.now ≡ length plan.now.ops }
+    ensures { MatchOption result (AreSourcesDone plan.now undone.now op) (λ k. IsSourceOf plan.now op k × (slice_index_or undone.now k 0 ≢ 0)) }
+{
+    for at in 0..plan.operation(op).op.read_count() {
+        if let Some(source) = source_at(plan, op, at) {
+            if undone[source as usize] != 0 {
+                return Some(source);
+            }
+        }
+    }
+    None
+}
+
+/// Whether an operation is a view, which waits for whole arrays.
+fn is_view(op: &Op) -> bool
+    ensures { IsTrue result ↔ IsPullOp op.now }
+{
+    match op {
+        Op::Pull { .. } => true,
+        _ => false,
+    }
+}
+
+/// The last task that isn't done and makes an input cell of a task, by its number; none where all of them are done. The last,
+/// since tasks mostly end in their order: the others are then done before it.
+fn undone_input(tasks: &Tasks, states: &[TaskState], op: u32, task: u32) -> Option<usize>
+    requires task { IsTask tasks.now op task }
+    requires states { length states.now ≡ task_count tasks.now }
+    ensures { MatchOption result (AreInputsDone tasks.now (of_tasks states.now) op task) (λ x. WaitsForTask tasks.now (of_tasks states.now) x op task) }
+{
+    let mut last = None;
+    for cell in inputs(tasks.plan(), op, task) {
+        match undone_maker(tasks, states, &cell) {
+            None => {}
+            Some(number) => last = Some(number),
+        }
+    }
+    last
+}
+
+/// The task that makes a chunk, by its number, where it isn't done.
+fn undone_maker(tasks: &Tasks, states: &[TaskState], cell: &Cell) -> Option<usize>
+    requires chunk { IsChunk tasks.now.arrays cell.now }
+    requires states { length states.now ≡ task_count tasks.now }
+    ensures { MatchOption result (IsCellDone tasks.now (of_tasks states.now) cell.now) (λ x. IsUndoneMaker tasks.now (of_tasks states.now) cell.now x) }
+{
+    match maker(tasks.plan(), cell) {
+        None => None,
+        Some((op, task)) => {
+            let number = tasks.number(op, task);
+            if states[number].done {
+                None
+            } else {
+                Some(number)
+            }
+        }
+    }
+}
+
+/// What keeps a task waiting: a task by its number or, past those, an operation; none where the task is ready.
+fn blocker(tasks: &Tasks, states: &[TaskState], undone: &[usize], id: TaskId) -> Option<usize>
+    requires task { IsTask tasks.now id.op id.task }
+    requires states { length states.now ≡ task_count tasks.now }
+    requires counts { AreCounts tasks.now (of_tasks states.now) undone.now }
+    ensures { MatchOption result (AreInputsDone tasks.now (of_tasks states.now) id.op id.task) (λ x. Blocks tasks.now (of_tasks states.now) x id.op id.task) }
+{
+    let plan = tasks.plan();
+    match undone_source(plan, undone, id.op) {
+        None => None,
+        Some(source) if is_view(&plan.operation(id.op).op) => {
+            Some(tasks.count() + source as usize)
+        }
+        Some(_) => undone_input(tasks, states, id.op, id.task),
+    }
+}
+
+/// Puts a waiting task into its list.
+pub(crate) fn settle(
+    tasks: &Tasks,
+    states: &[TaskState],
+    undone: &[usize],
+    queue: &mut Queue,
+    number: u32,
+)
+    requires states { length states.now ≡ task_count tasks.now }
+    requires counts { AreCounts tasks.now (of_tasks states.now) undone.now }
+    requires place { HasListPlace tasks.now queue.old number }
+    ensures { (id : Id) → IsTask tasks.now id.op id.task → task_number tasks.now id.op id.task ≡ number → Settles tasks.now (of_tasks states.now) id queue.old queue.new }
+{
+    match blocker(tasks, states, undone, tasks.id(number as usize)) {
+        None => queue.push(number),
+        Some(thing) => queue.watch(thing, number),
+    }
+}
+
+/// Puts anew the tasks that watched a thing that is over.
+pub(crate) fn wake(
+    tasks: &Tasks,
+    states: &[TaskState],
+    undone: &[usize],
+    queue: &mut Queue,
+    thing: usize,
+)
+    requires states { length states.now ≡ task_count tasks.now }
+    requires counts { AreCounts tasks.now (of_tasks states.now) undone.now }
+    requires over { IsOver tasks.now (of_tasks states.now) thing }
+    requires lined { IsLined tasks.now (of_tasks states.now) (λ j. ⊥) queue.old }
+    ensures { IsWoken tasks.now (of_tasks states.now) thing queue.old queue.new }
+{
+    while let Some(number) = queue.unwatch(thing) {
+        settle(tasks, states, undone, queue, number);
+    }
+}
