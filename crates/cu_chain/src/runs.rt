@@ -6,7 +6,7 @@ use anyhow::{Result, bail};
 use arrayvec::ArrayVec;
 use cu_mem::{CallKind, MemDepot, Rule, Script};
 use cu_op::Plan;
-use cu_work::{Outcome, Rooms, Texts, run_plan};
+use cu_work::{Rooms, RoundOutcome, Texts, run_plan};
 use std::alloc::Global;
 use std::fmt;
 
@@ -134,8 +134,8 @@ pub(crate) fn run_once(alloc: Global, plan: &Plan, script: Script, tally: &mut T
         metadata: METADATA,
     };
     match run_plan(plan, &mut depot, &texts, &mut rooms, 1) {
-        Ok(Outcome::Complete { .. }) => tally.complete = tally.complete.saturating_add(1),
-        Ok(Outcome::Broken { .. }) => tally.broken = tally.broken.saturating_add(1),
+        Ok(RoundOutcome::Complete { .. }) => tally.complete = tally.complete.saturating_add(1),
+        Ok(RoundOutcome::Broken { .. }) => tally.broken = tally.broken.saturating_add(1),
         Ok(_) => tally.others = tally.others.saturating_add(1),
         Err(_) => tally.refused = tally.refused.saturating_add(1),
     }

@@ -26,8 +26,8 @@ use Rattle.cu_work.specs.Order.{IsFree, IsFirst, plan_keys, operation_keys, task
 use Rattle.cu_work.specs.Run.{IsRecordFirst as IsTextFirst, IsUnstored as IsTextUnstored, HoldsTexts, run_of as work_run}
 use Rattle.cu_work.specs.Tasks.{IsUsedUp}
 use Rattle.cu_work.specs.declared.run.Texts.{Texts}
-use Rattle.cu_work.specs.declared.outcome.Outcome.{Outcome}
-use Rattle.cu_work.specs.declared.outcome.Outcome.TheVariants as ended
+use Rattle.cu_work.specs.declared.round.RoundOutcome.{RoundOutcome}
+use Rattle.cu_work.specs.declared.round.RoundOutcome.TheVariants as ended
 use Rattle.cu_work.specs.declared.run.TextFault.{TextFault}
 use Rattle.cu_work.specs.declared.run.TextFault.TheVariants as text
 use Rattle.cu_work.specs.declared.way.WayFault.{WayFault}
@@ -143,7 +143,7 @@ abbrev pub TextOf : PlanRun → Changes
 TextOf r key value = PutOf (text_at r 0).0 (text_at r 0).1 key value ⊎ PutOf (text_at r 1).0 (text_at r 1).1 key value
 
 -- what the loop over the plan tells
-pub record RunTold (retries : ℕ) (r : PlanRun) (start new : Shown) (result : Result Outcome TextFault) : Type 0 where
+pub record RunTold (retries : ℕ) (r : PlanRun) (start new : Shown) (result : Result RoundOutcome TextFault) : Type 0 where
   pub calls : ℕ
   pub step : Steps (RunChange r start) 0 calls start new
   pub texts : (env : Elements) → IsLeft r env start → OnOk result (HoldsTexts r env new)
@@ -195,7 +195,7 @@ module _ (c : RunCase) (job : Job) (laws : PlanLaws c job) (start : Shown) (clea
   rose_since : (n : ℕ) → Rose n start.faults c.new.depot.faults → Rose n c.old.depot.faults c.new.depot.faults
   rose_since n rose = let earlier = cleared.spared.step.count in omega (arith, rose, earlier)
 
-  run_started : (result : Result Outcome TextFault) → RunTold c.options.retries (job_run c job) start c.new.depot result → IsStarted c job
+  run_started : (result : Result RoundOutcome TextFault) → RunTold c.options.retries (job_run c job) start c.new.depot result → IsStarted c job
   run_started result told = record {
     accepted = cleared.accepted;
     planned = cleared.planned;
@@ -217,7 +217,7 @@ module _ (c : RunCase) (job : Job) (laws : PlanLaws c job) (start : Shown) (clea
   }
 
   -- the output of a run whose pieces are all held
-  stored : (result : Result Outcome TextFault) → RunTold c.options.retries (job_run c job) start c.new.depot result → WhereLeft c job (λ env. IsComplete (job_run c job) env c.new.depot) → HoldsAll c job
+  stored : (result : Result RoundOutcome TextFault) → RunTold c.options.retries (job_run c job) start c.new.depot result → WhereLeft c job (λ env. IsComplete (job_run c job) env c.new.depot) → HoldsAll c job
   stored result told complete = (
     complete,
     λ entry now is calm there.
@@ -227,7 +227,7 @@ module _ (c : RunCase) (job : Job) (laws : PlanLaws c job) (start : Shown) (clea
   )
 
   -- what a run comes to
-  pub run_ended : (result : Result Outcome TextFault) → RunTold c.options.retries (job_run c job) start c.new.depot result → Ended c job (failed_of result)
+  pub run_ended : (result : Result RoundOutcome TextFault) → RunTold c.options.retries (job_run c job) start c.new.depot result → Ended c job (failed_of result)
   run_ended (Ok (ended.Complete failed)) told = (
     run_started (Ok (ended.Complete failed)) told,
     stored (Ok (ended.Complete failed)) told (λ entry is calm. told.complete (env_of c job entry) (left_start entry is calm)),
@@ -282,7 +282,7 @@ pub same_run : (c : RunCase) (job : Job) (p : PlanView) (t : Texts) → p ≡ pl
 same_run c job p t plan record_key text metadata_key metadata = rw (plan, record_key, text, metadata_key, metadata) refl
 
 -- the tries that failed are few
-pub few_failed : (retries : ℕ) (p : PlanView) (start new : Shown) (result : Result Outcome TextFault) → Sound p → retries ≤ 8 → IfOk result (IsOutcome retries start new p)
+pub few_failed : (retries : ℕ) (p : PlanView) (start new : Shown) (result : Result RoundOutcome TextFault) → Sound p → retries ≤ 8 → IfOk result (IsOutcome retries start new p)
     → IfOk (failed_of result) (λ failed. failed ≤ 2 ^ 20)
 few_failed retries p start new (Ok (ended.Complete failed)) sound few outcome =
     let most = outcome.1 in

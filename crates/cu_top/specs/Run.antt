@@ -28,8 +28,8 @@ use Rattle.cu_work.specs.Drive.{task_count, IsBadChunk, IsInputKey}
 use Rattle.cu_work.specs.Order.{IsFree}
 use Rattle.cu_work.specs.Run.{HoldsTexts}
 use Rattle.cu_work.specs.Tasks.{IsUsedUp}
-use Rattle.cu_work.specs.declared.outcome.Outcome.{Outcome}
-use Rattle.cu_work.specs.declared.outcome.Outcome.TheVariants as ended
+use Rattle.cu_work.specs.declared.round.RoundOutcome.{RoundOutcome}
+use Rattle.cu_work.specs.declared.round.RoundOutcome.TheVariants as ended
 use Rattle.cu_work.specs.declared.run.TextFault.{TextFault}
 use Rattle.cu_work.specs.declared.run.TextFault.TheVariants as text
 use Rattle.cu_command.specs.Job.{IsJob, IsJobFault}
@@ -290,7 +290,7 @@ pub record IsCleared (options : Options) (text : List ℕ) (old start : Shown) (
   pub spared : Stepped NoChange old start
 
 -- how many tries failed, where all tasks were run; else what the run answers
-abbrev pub failed_of : Result Outcome TextFault → Result ℕ Status
+abbrev pub failed_of : Result RoundOutcome TextFault → Result ℕ Status
 failed_of (Ok (ended.Complete failed)) = Ok failed
 failed_of (Ok (ended.Broken op task)) = Err (TaskFailed op task)
 failed_of (Ok (ended.BadChunk key got want)) = Err (BadChunk key got want)

@@ -20,7 +20,7 @@ use cu_need::live_law;
 use cu_read::plain_law;
 use cu_state::{complete_law, left_law};
 use cu_store::{Depot, NoMemory, Sink};
-use cu_work::{Outcome, Rooms, TextFault, Texts, run_plan};
+use cu_work::{RoundOutcome, Rooms, TextFault, Texts, run_plan};
 use std::alloc::Global;
 
 /// The texts that a run stores in front of its chunks.
@@ -50,21 +50,21 @@ fn make_texts(alloc: Global, options: &Options, prepared: &Prepared) -> Result<B
 }
 
 /// How many tries of tasks failed, where all tasks were run; else what the run answers.
-fn failed_of(ended: &Result<Outcome, TextFault>) -> Result<u64, Status>
+fn failed_of(ended: &Result<RoundOutcome, TextFault>) -> Result<u64, Status>
     ensures { result ≡ failed_of ended.now }
 {
     match ended {
-        Ok(Outcome::Complete { failed }) => Ok(*failed),
-        Ok(Outcome::Broken { op, task }) => Err(Status::TaskFailed {
+        Ok(RoundOutcome::Complete { failed }) => Ok(*failed),
+        Ok(RoundOutcome::Broken { op, task }) => Err(Status::TaskFailed {
             op: *op,
             task: *task,
         }),
-        Ok(Outcome::BadChunk { key, got, want }) => Err(Status::BadChunk {
+        Ok(RoundOutcome::BadChunk { key, got, want }) => Err(Status::BadChunk {
             key: *key,
             got: *got,
             want: *want,
         }),
-        Ok(Outcome::Lacked) => Err(Status::NoMemory),
+        Ok(RoundOutcome::Lacked) => Err(Status::NoMemory),
         Err(TextFault::Failed(key)) => Err(Status::DepotFailed { key: *key }),
         Err(TextFault::NoMemory) => Err(Status::NoMemory),
     }

@@ -27,8 +27,8 @@ use Rattle.cu_state.specs.Pieces.{chunks_alone, Chunk, HoldsTask}
 use Rattle.cu_state.proofs.Elements.{HaveRanges}
 use Rattle.cu_state.proofs.Keeping.{left_kept, piece_stays}
 use Rattle.cu_state.proofs.Reading.{input_or_made, not_none, made_held, ready_after}
-use Rattle.cu_work.specs.declared.outcome.Outcome.{Outcome}
-use Rattle.cu_work.specs.declared.outcome.Outcome.TheVariants.{Complete, Broken, BadChunk, Lacked}
+use Rattle.cu_work.specs.declared.round.RoundOutcome.{RoundOutcome}
+use Rattle.cu_work.specs.declared.round.RoundOutcome.TheVariants.{Complete, Broken, BadChunk, Lacked}
 use Rattle.cu_work.specs.declared.tasks.TaskEnd.{TaskEnd}
 use Rattle.cu_work.specs.declared.tasks.TaskEnd.TheVariants as ended
 use Rattle.cu_work.specs.Drive.{DriveChange, operation_calls, plan_calls, IsInputKey, IsTaskEnd, IfBadIn, IsRoundEnd, IfBroken, IfBad, end_of, outcome_of}
@@ -372,7 +372,7 @@ plan_within p r n m first new h step =
     steps_wider (run_within p first) (omega arith) (mul-le-mul_left (r + 1) fewer) step
 
 -- a count of faults since an earlier moment
-pub end_earlier : (tries : ℕ) (p : PlanView) (first now new : Shown) (o : Outcome) → first.faults ≤ now.faults → IsRoundEnd tries now new p o → IsRoundEnd tries first new p o
+pub end_earlier : (tries : ℕ) (p : PlanView) (first now new : Shown) (o : RoundOutcome) → first.faults ≤ now.faults → IsRoundEnd tries now new p o → IsRoundEnd tries first new p o
 end_earlier tries p first now new (Complete failed) grew cause = cause
 end_earlier tries p first now new (Broken op task) grew (operation, number, rose) = (operation, number, omega (arith, grew, rose))
 end_earlier tries p first now new (BadChunk key got want) grew cause = cause

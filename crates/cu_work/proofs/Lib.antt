@@ -3,3 +3,5 @@ pub mod Lent
 pub mod Asking
 pub mod Running
 pub mod UsedUp
+pub mod Worlds
+pub mod AloneTurns

@@ -10,8 +10,8 @@ use Rattle.cu_state.specs.Left.{IsLeft, Begun, RunChange, AreDone}
 use Rattle.cu_state.specs.Pieces.{PlanRun, chunks_alone, Text, HoldsPiece, IsComplete}
 use Rattle.cu_state.proofs.Keeping.{left_kept, piece_stays, begun_since, left_alone, change_alone}
 use Rattle.cu_state.proofs.Reading.{all_held}
-use Rattle.cu_work.specs.declared.outcome.Outcome.{Outcome}
-use Rattle.cu_work.specs.declared.outcome.Outcome.TheVariants.{Complete, Broken, BadChunk, Lacked}
+use Rattle.cu_work.specs.declared.round.RoundOutcome.{RoundOutcome}
+use Rattle.cu_work.specs.declared.round.RoundOutcome.TheVariants.{Complete, Broken, BadChunk, Lacked}
 use Rattle.cu_work.specs.declared.run.Texts.{Texts}
 use Rattle.cu_work.specs.declared.run.TextFault.{TextFault}
 use Rattle.cu_work.specs.declared.run.TextFault.TheVariants.{Failed, NoMemory}
@@ -105,13 +105,13 @@ module _ (p : PlanView) (t : Texts) (tries : ℕ) (first after : Shown) (put : S
       pub left_alone_after : (env : Elements) → IsLeft (run_of p t) env first → IsLeft (chunks_alone p) env last
       left_alone_after env left = left_alone (run_of p t) env last (left_after_texts env left)
 
-      pub run_complete : (env : Elements) (o : Outcome) → IsLeft (run_of p t) env first → IfComplete o (AreDone (chunks_alone p) env (length p.ops) 0 new) → IfComplete o (IsComplete (run_of p t) env new)
+      pub run_complete : (env : Elements) (o : RoundOutcome) → IsLeft (run_of p t) env first → IfComplete o (AreDone (chunks_alone p) env (length p.ops) 0 new) → IfComplete o (IsComplete (run_of p t) env new)
       run_complete env (Complete failed) left done = all_held (run_of p t) env new left.sound (texts_held env left) done
       run_complete env (Broken op task) left done = tt
       run_complete env (BadChunk key got want) left done = tt
       run_complete env Lacked left done = tt
 
-      pub run_tries : (m : ℕ) (o : Outcome) → IfTried o (λ failed. new.calls ≤ last.calls + calls + failed * m) → IfTried o (λ failed. new.calls ≤ first.calls + 2 * tries + calls + failed * m)
+      pub run_tries : (m : ℕ) (o : RoundOutcome) → IfTried o (λ failed. new.calls ≤ last.calls + calls + failed * m) → IfTried o (λ failed. new.calls ≤ first.calls + 2 * tries + calls + failed * m)
       run_tries m (Complete failed) few = let a = put.calls.1 in let b = second.calls.1 in omega (arith, a, b, few)
       run_tries m (Broken op task) few = tt
       run_tries m (BadChunk key got want) few = tt

@@ -8,8 +8,8 @@ use Rattle.cu_op.specs.Cells.{tasks_of}
 use Rattle.cu_op.specs.PlanView.{PlanView}
 use Rattle.cu_op.specs.Schedule.{op_of}
 use Rattle.cu_task.specs.Task.{TaskChange, calls_of}
-use Rattle.cu_work.specs.declared.outcome.Outcome.{Outcome}
-use Rattle.cu_work.specs.declared.outcome.Outcome.TheVariants.{Complete, Broken, BadChunk, Lacked}
+use Rattle.cu_work.specs.declared.round.RoundOutcome.{RoundOutcome}
+use Rattle.cu_work.specs.declared.round.RoundOutcome.TheVariants.{Complete, Broken, BadChunk, Lacked}
 use Rattle.cu_work.specs.declared.run.Texts.{Texts}
 use Rattle.cu_work.specs.declared.tasks.TaskEnd.{TaskEnd}
 use Rattle.cu_work.specs.declared.tasks.TaskEnd.TheVariants as ended
@@ -93,7 +93,7 @@ outcome_used p tries start now new (ended.BadChunk key got want) k task run step
 outcome_used p tries start now new ended.Lacked k task run step cause = tt
 
 -- the round began after the texts were put
-pub used_since : (p : PlanView) (t : Texts) (tries : ℕ) (old start new : Shown) (o : Outcome) → Steps (PutOfText t) 0 (2 * tries) old start → IfBroken o (IsUsedUp p tries start new)
+pub used_since : (p : PlanView) (t : Texts) (tries : ℕ) (old start new : Shown) (o : RoundOutcome) → Steps (PutOfText t) 0 (2 * tries) old start → IfBroken o (IsUsedUp p tries start new)
     → IfBroken o (λ k task. (begun : Shown) × Steps (PutOfText t) 0 (2 * tries) old begun × IsUsedUp p tries begun new k task)
 used_since p t tries old start new (Broken op task) texts used = (start, texts, used)
 used_since p t tries old start new (Complete failed) texts used = tt

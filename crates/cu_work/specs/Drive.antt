@@ -16,8 +16,8 @@ use Rattle.cu_region.specs.Steady.{HoldsLength}
 use Rattle.cu_state.specs.Left.{IsLeft, AreDone}
 use Rattle.cu_state.specs.Pieces.{chunks_alone, IsInputChunk}
 use Rattle.cu_task.specs.Task.{calls_of}
-use Rattle.cu_work.specs.declared.outcome.Outcome.{Outcome}
-use Rattle.cu_work.specs.declared.outcome.Outcome.TheVariants.{Complete, Broken, BadChunk, Lacked}
+use Rattle.cu_work.specs.declared.round.RoundOutcome.{RoundOutcome}
+use Rattle.cu_work.specs.declared.round.RoundOutcome.TheVariants.{Complete, Broken, BadChunk, Lacked}
 use Rattle.cu_work.specs.declared.tasks.TaskEnd.{TaskEnd}
 use Rattle.cu_work.specs.declared.tasks.TaskEnd.TheVariants as ended
 
@@ -76,37 +76,37 @@ IfBadIn (ended.BadChunk key got want) P = P key
 IfBadIn end P = Unit {0}
 
 -- what the round answers where a task ended it
-abbrev pub outcome_of : TaskEnd → ℕ → ℕ → Outcome
+abbrev pub outcome_of : TaskEnd → ℕ → ℕ → RoundOutcome
 outcome_of ended.UsedUp op task = Broken op task
 outcome_of (ended.BadChunk key got want) op task = BadChunk key got want
 outcome_of ended.Lacked op task = Lacked
 
 -- Why a task ends the round. Broken: all tries of the task failed, the count risen in each.
-abbrev pub IsRoundEnd : ℕ → Shown → Shown → PlanView → Outcome → Type 0
+abbrev pub IsRoundEnd : ℕ → Shown → Shown → PlanView → RoundOutcome → Type 0
 IsRoundEnd tries old new p (Complete failed) = ⊥
 IsRoundEnd tries old new p (Broken op task) = (op < length p.ops) × (task < tasks_of p.arrays (op_of p op)) × Rose tries old.faults new.faults
 IsRoundEnd tries old new p (BadChunk key got want) = IsBadChunk p new key got want
 IsRoundEnd tries old new p Lacked = IsTrue new.lacks
 
 -- Why the round ends. Complete: each failed try raised the count.
-abbrev pub IsOutcome : ℕ → Shown → Shown → PlanView → Outcome → Type 0
+abbrev pub IsOutcome : ℕ → Shown → Shown → PlanView → RoundOutcome → Type 0
 IsOutcome retries old new p (Complete failed) = Rose failed old.faults new.faults × (failed ≤ retries * task_count p)
 IsOutcome retries old new p outcome = IsRoundEnd (retries + 1) old new p outcome
 
 -- a fact of a round that ran all tasks, of the task whose tries were used up, and of the bad chunk
-abbrev pub IfComplete : Outcome → Type 0 → Type 0
+abbrev pub IfComplete : RoundOutcome → Type 0 → Type 0
 IfComplete (Complete failed) P = P
 IfComplete outcome P = Unit {0}
 
 -- a fact of the number of tries that failed, where all tasks were run
-abbrev pub IfTried : Outcome → (ℕ → Type 0) → Type 0
+abbrev pub IfTried : RoundOutcome → (ℕ → Type 0) → Type 0
 IfTried (Complete failed) P = P failed
 IfTried outcome P = Unit {0}
 
-abbrev pub IfBroken : Outcome → (ℕ → ℕ → Type 0) → Type 0
+abbrev pub IfBroken : RoundOutcome → (ℕ → ℕ → Type 0) → Type 0
 IfBroken (Broken op task) P = P op task
 IfBroken outcome P = Unit {0}
 
-abbrev pub IfBad : Outcome → (List ℕ → Type 0) → Type 0
+abbrev pub IfBad : RoundOutcome → (List ℕ → Type 0) → Type 0
 IfBad (BadChunk key got want) P = P key
 IfBad outcome P = Unit {0}

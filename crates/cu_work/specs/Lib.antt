@@ -3,3 +3,5 @@ pub mod Drive
 pub mod Order
 pub mod Run
 pub mod Tasks
+pub mod Alone
+pub mod World

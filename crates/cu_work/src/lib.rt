@@ -1,14 +1,21 @@
-//! Running the tasks of a plan: the keys in the way, the memory that tasks are lent, and the round over all tasks.
+//! Running the tasks of a plan: the keys in the way, the memory that tasks are lent, one worker by a task table over a yard, the
+//! round over all tasks over a depot, and the law of every schedule.
 #![tactic(auto)]
 
+mod alone;
 mod outcome;
 mod rooms;
+mod round;
 mod run;
 mod tasks;
 mod way;
+mod world;
 
+pub use alone::drive_alone;
 pub use outcome::Outcome;
 pub use rooms::Rooms;
+pub use round::RoundOutcome;
 pub use run::{TextFault, Texts, run_plan};
-pub use tasks::drive_alone;
+pub use tasks::run_tasks;
 pub use way::{WayFault, ask_keys};
+pub use world::world_law;

@@ -1,13 +1,10 @@
 use cu_store::Key;
 
-/// How a round over the tasks of a plan ended.
+/// How a run of a plan's tasks ended.
 #[derive(Clone, Copy, Debug, PartialEq, Eq)]
 pub enum Outcome {
-    /// Each task is done. So many tries failed in all.
-    Complete {
-        /// The number of tries that failed.
-        failed: u64,
-    },
+    /// All tasks are done.
+    Complete,
     /// All tries of this task failed.
     Broken {
         /// The number of the operation.
@@ -24,6 +21,6 @@ pub enum Outcome {
         /// The bytes of a chunk.
         want: u64,
     },
-    /// The depot lacked memory.
+    /// The store lacked memory.
     Lacked,
 }

@@ -10,9 +10,9 @@ ghost use Rattle.cu_work.specs.Drive.{plan_calls, IsInputKey, IsOutcome, IsTaskM
 ghost use Rattle.cu_work.specs.Rooms.{rooms_of};
 ghost use Rattle.cu_work.specs.Run.{run_of, PutOfText, IsRecordFirst, HoldsTexts, IsTextFault, IsTextPutFault, IsUnstored};
 
-use crate::outcome::Outcome;
 use crate::rooms::Rooms;
-use crate::tasks::drive_alone;
+use crate::round::RoundOutcome;
+use crate::tasks::run_tasks;
 use cu_op::Plan;
 use cu_store::{Depot, DepotFault, Key, put_tries};
 
@@ -57,14 +57,14 @@ fn put_text<D: Depot>(depot: &mut D, key: &Key, text: &[u8], retries: u32) -> Re
 /// Where the contents are told and were left so at first, each text and each chunk of the plan is absent or holds its value at any
 /// end, and each holds it after `Complete`. Nothing is stored before the record is.
 ///
-/// `Failed`: all calls for this text failed. The answers of `Ok` are those of `drive_alone`; the texts are held then.
+/// `Failed`: all calls for this text failed. The answers of `Ok` are those of `run_tasks`; the texts are held then.
 pub fn run_plan<D: Depot>(
     plan: &Plan,
     depot: &mut D,
     texts: &Texts<'_>,
     rooms: &mut Rooms,
     retries: u32,
-) -> Result<Outcome, TextFault>
+) -> Result<RoundOutcome, TextFault>
     requires { rooms.old ≡ rooms_of plan.now }
     ensures rooms { rooms.new ≡ rooms.old }
     ensures step { Steps (RunChange (run_of plan.now texts.now) (D.shown depot.old)) 0 ((retries + 1) * (2 + plan_calls plan.now (length plan.now.ops)))
@@ -93,5 +93,5 @@ pub fn run_plan<D: Depot>(
     if let Err(fault) = put_text(depot, &texts.metadata_key, texts.metadata, retries) {
         return Err(fault);
     }
-    Ok(drive_alone(plan, depot, rooms, retries))
+    Ok(run_tasks(plan, depot, rooms, retries))
 }

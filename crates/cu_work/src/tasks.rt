@@ -13,8 +13,8 @@ ghost use Rattle.cu_work.specs.Rooms.{rooms_of};
 ghost use Rattle.cu_task.specs.Task.{IsTaskReady, TaskChange, HoldsCells, IsTaskFault, calls_of};
 ghost use Rattle.cu_work.specs.Tasks.{TaskPut, AreRun, IsUsedUp};
 
-use crate::outcome::Outcome;
 use crate::rooms::{Rooms, task_bytes, task_words};
+use crate::round::RoundOutcome;
 use cu_op::{Plan, range_law, tasks};
 use cu_store::{Depot, InDepot, Key, TaskFault};
 use cu_task::run_task_of;
@@ -122,13 +122,13 @@ fn finish_task<D: Depot>(
 }
 
 /// The outcome of a round that a task ended.
-fn outcome_of(end: TaskEnd, op: u32, task: u32) -> Outcome
+fn outcome_of(end: TaskEnd, op: u32, task: u32) -> RoundOutcome
     ensures { result ≡ outcome_of end op task }
 {
     match end {
-        TaskEnd::UsedUp => Outcome::Broken { op, task },
-        TaskEnd::BadChunk { key, got, want } => Outcome::BadChunk { key, got, want },
-        TaskEnd::Lacked => Outcome::Lacked,
+        TaskEnd::UsedUp => RoundOutcome::Broken { op, task },
+        TaskEnd::BadChunk { key, got, want } => RoundOutcome::BadChunk { key, got, want },
+        TaskEnd::Lacked => RoundOutcome::Lacked,
     }
 }
 
@@ -140,7 +140,7 @@ fn drive_operation<D: Depot>(
     bytes: &mut [u8],
     words: &mut [u64],
     retries: u32,
-) -> Result<u64, Outcome>
+) -> Result<u64, RoundOutcome>
     requires sound { Sound plan.now }
     requires operation { op < length plan.now.ops }
     requires bytes { length bytes.old ≡ (rooms_of plan.now).bytes }
@@ -177,7 +177,7 @@ fn drive_plan<D: Depot>(
     bytes: &mut [u8],
     words: &mut [u64],
     retries: u32,
-) -> Outcome
+) -> RoundOutcome
     requires bytes { length bytes.old ≡ (rooms_of plan.now).bytes }
     requires words { length words.old ≡ (rooms_of plan.now).words }
     ensures step { Steps (RunChange (chunks_alone plan.now) (D.shown depot.old)) 0 ((retries + 1) * plan_calls plan.now (length plan.now.ops)) (D.shown depot.old) (D.shown depot.new) }
@@ -198,7 +198,7 @@ fn drive_plan<D: Depot>(
             Err(outcome) => return outcome,
         }
     }
-    Outcome::Complete { failed }
+    RoundOutcome::Complete { failed }
 }
 
 /// Runs the tasks of the plan, in order, each with the memory that it is lent, and again where the store failed, at most `retries`
@@ -209,7 +209,12 @@ fn drive_plan<D: Depot>(
 ///
 /// `Broken`: all tries of this task failed, and the tasks before it are done. `BadChunk`: a chunk of an input is held with another
 /// number of bytes than a chunk of its array has. `Lacked`: the depot lacked memory.
-pub fn drive_alone<D: Depot>(plan: &Plan, depot: &mut D, rooms: &mut Rooms, retries: u32) -> Outcome
+pub fn run_tasks<D: Depot>(
+    plan: &Plan,
+    depot: &mut D,
+    rooms: &mut Rooms,
+    retries: u32,
+) -> RoundOutcome
     requires { rooms.old ≡ rooms_of plan.now }
     ensures rooms { rooms.new ≡ rooms.old }
     ensures step { Steps (RunChange (chunks_alone plan.now) (D.shown depot.old)) 0 ((retries + 1) * plan_calls plan.now (length plan.now.ops)) (D.shown depot.old) (D.shown depot.new) }

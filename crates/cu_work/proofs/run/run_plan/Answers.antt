@@ -35,54 +35,54 @@ returns-in-Err-put_text-clause-refused g c =
 pub returns-clause-step : goal.returns-clause-step
 returns-clause-step g c =
     run_step c.args.plan.now c.args.texts.now (c.args.retries + 1) (g.D.Depot.shown c.args.depot.now) (g.D.Depot.shown c.put_text.new.depot) c.put_text.ensures.step c.in_default.ensures.stored
-    (g.D.Depot.shown c.put_text-2.new.depot) c.put_text-2.ensures.step c.in_default-put_text.ensures.stored (plan_calls c.args.plan.now (length c.args.plan.now.ops)) (g.D.Depot.shown c.drive_alone.new.depot)
-    c.drive_alone.ensures.step
+    (g.D.Depot.shown c.put_text-2.new.depot) c.put_text-2.ensures.step c.in_default-put_text.ensures.stored (plan_calls c.args.plan.now (length c.args.plan.now.ops)) (g.D.Depot.shown c.run_tasks.new.depot)
+    c.run_tasks.ensures.step
 
 pub returns-clause-texts : goal.returns-clause-texts
 returns-clause-texts g c =
     texts_held c.args.plan.now c.args.texts.now (c.args.retries + 1) (g.D.Depot.shown c.args.depot.now) (g.D.Depot.shown c.put_text.new.depot) c.put_text.ensures.step c.in_default.ensures.stored
-    (g.D.Depot.shown c.put_text-2.new.depot) c.put_text-2.ensures.step c.in_default-put_text.ensures.stored (plan_calls c.args.plan.now (length c.args.plan.now.ops)) (g.D.Depot.shown c.drive_alone.new.depot)
-    c.drive_alone.ensures.step
+    (g.D.Depot.shown c.put_text-2.new.depot) c.put_text-2.ensures.step c.in_default-put_text.ensures.stored (plan_calls c.args.plan.now (length c.args.plan.now.ops)) (g.D.Depot.shown c.run_tasks.new.depot)
+    c.run_tasks.ensures.step
 
 pub returns-clause-record : goal.returns-clause-record
 returns-clause-record g c =
     run_record c.args.plan.now c.args.texts.now (c.args.retries + 1) (g.D.Depot.shown c.args.depot.now) (g.D.Depot.shown c.put_text.new.depot) c.put_text.ensures.step c.in_default.ensures.stored
-    (g.D.Depot.shown c.put_text-2.new.depot) c.put_text-2.ensures.step c.in_default-put_text.ensures.stored (plan_calls c.args.plan.now (length c.args.plan.now.ops)) (g.D.Depot.shown c.drive_alone.new.depot)
-    c.drive_alone.ensures.step
+    (g.D.Depot.shown c.put_text-2.new.depot) c.put_text-2.ensures.step c.in_default-put_text.ensures.stored (plan_calls c.args.plan.now (length c.args.plan.now.ops)) (g.D.Depot.shown c.run_tasks.new.depot)
+    c.run_tasks.ensures.step
 
 pub returns-clause-complete : goal.returns-clause-complete
 returns-clause-complete g c = λ env left.
     run_complete c.args.plan.now c.args.texts.now (c.args.retries + 1) (g.D.Depot.shown c.args.depot.now) (g.D.Depot.shown c.put_text.new.depot) c.put_text.ensures.step c.in_default.ensures.stored
-    (g.D.Depot.shown c.put_text-2.new.depot) c.put_text-2.ensures.step c.in_default-put_text.ensures.stored (plan_calls c.args.plan.now (length c.args.plan.now.ops)) (g.D.Depot.shown c.drive_alone.new.depot)
-    c.drive_alone.ensures.step env c.drive_alone.result left
-    (c.drive_alone.ensures.complete env
+    (g.D.Depot.shown c.put_text-2.new.depot) c.put_text-2.ensures.step c.in_default-put_text.ensures.stored (plan_calls c.args.plan.now (length c.args.plan.now.ops)) (g.D.Depot.shown c.run_tasks.new.depot)
+    c.run_tasks.ensures.step env c.run_tasks.result left
+    (c.run_tasks.ensures.complete env
     (left_alone_after c.args.plan.now c.args.texts.now (c.args.retries + 1) (g.D.Depot.shown c.args.depot.now) (g.D.Depot.shown c.put_text.new.depot) c.put_text.ensures.step c.in_default.ensures.stored
-    (g.D.Depot.shown c.put_text-2.new.depot) c.put_text-2.ensures.step c.in_default-put_text.ensures.stored (plan_calls c.args.plan.now (length c.args.plan.now.ops)) (g.D.Depot.shown c.drive_alone.new.depot)
-    c.drive_alone.ensures.step env left))
+    (g.D.Depot.shown c.put_text-2.new.depot) c.put_text-2.ensures.step c.in_default-put_text.ensures.stored (plan_calls c.args.plan.now (length c.args.plan.now.ops)) (g.D.Depot.shown c.run_tasks.new.depot)
+    c.run_tasks.ensures.step env left))
 
 pub returns-clause-broken : goal.returns-clause-broken
 returns-clause-broken g c = λ env left.
-    c.drive_alone.ensures.broken env
+    c.run_tasks.ensures.broken env
     (left_alone_after c.args.plan.now c.args.texts.now (c.args.retries + 1) (g.D.Depot.shown c.args.depot.now) (g.D.Depot.shown c.put_text.new.depot) c.put_text.ensures.step c.in_default.ensures.stored
-    (g.D.Depot.shown c.put_text-2.new.depot) c.put_text-2.ensures.step c.in_default-put_text.ensures.stored (plan_calls c.args.plan.now (length c.args.plan.now.ops)) (g.D.Depot.shown c.drive_alone.new.depot)
-    c.drive_alone.ensures.step env left)
+    (g.D.Depot.shown c.put_text-2.new.depot) c.put_text-2.ensures.step c.in_default-put_text.ensures.stored (plan_calls c.args.plan.now (length c.args.plan.now.ops)) (g.D.Depot.shown c.run_tasks.new.depot)
+    c.run_tasks.ensures.step env left)
 
 pub returns-clause-input : goal.returns-clause-input
 returns-clause-input g c = λ env left.
-    c.drive_alone.ensures.input env
+    c.run_tasks.ensures.input env
     (left_alone_after c.args.plan.now c.args.texts.now (c.args.retries + 1) (g.D.Depot.shown c.args.depot.now) (g.D.Depot.shown c.put_text.new.depot) c.put_text.ensures.step c.in_default.ensures.stored
-    (g.D.Depot.shown c.put_text-2.new.depot) c.put_text-2.ensures.step c.in_default-put_text.ensures.stored (plan_calls c.args.plan.now (length c.args.plan.now.ops)) (g.D.Depot.shown c.drive_alone.new.depot)
-    c.drive_alone.ensures.step env left)
+    (g.D.Depot.shown c.put_text-2.new.depot) c.put_text-2.ensures.step c.in_default-put_text.ensures.stored (plan_calls c.args.plan.now (length c.args.plan.now.ops)) (g.D.Depot.shown c.run_tasks.new.depot)
+    c.run_tasks.ensures.step env left)
 
 pub returns-clause-tries : goal.returns-clause-tries
 returns-clause-tries g c = λ m most.
     run_tries c.args.plan.now c.args.texts.now (c.args.retries + 1) (g.D.Depot.shown c.args.depot.now) (g.D.Depot.shown c.put_text.new.depot) c.put_text.ensures.step c.in_default.ensures.stored
-    (g.D.Depot.shown c.put_text-2.new.depot) c.put_text-2.ensures.step c.in_default-put_text.ensures.stored (plan_calls c.args.plan.now (length c.args.plan.now.ops)) (g.D.Depot.shown c.drive_alone.new.depot)
-    c.drive_alone.ensures.step m c.drive_alone.result (c.drive_alone.ensures.tries m most)
+    (g.D.Depot.shown c.put_text-2.new.depot) c.put_text-2.ensures.step c.in_default-put_text.ensures.stored (plan_calls c.args.plan.now (length c.args.plan.now.ops)) (g.D.Depot.shown c.run_tasks.new.depot)
+    c.run_tasks.ensures.step m c.run_tasks.result (c.run_tasks.ensures.tries m most)
 
 pub returns-clause-used_up : goal.returns-clause-used_up
 returns-clause-used_up g c =
-    used_since c.args.plan.now c.args.texts.now (c.args.retries + 1) (g.D.Depot.shown c.args.depot.now) (g.D.Depot.shown c.put_text-2.new.depot) (g.D.Depot.shown c.drive_alone.new.depot) c.drive_alone.result
+    used_since c.args.plan.now c.args.texts.now (c.args.retries + 1) (g.D.Depot.shown c.args.depot.now) (g.D.Depot.shown c.put_text-2.new.depot) (g.D.Depot.shown c.run_tasks.new.depot) c.run_tasks.result
     (texts_refused c.args.plan.now c.args.texts.now (c.args.retries + 1) (g.D.Depot.shown c.args.depot.now) (g.D.Depot.shown c.put_text.new.depot) c.put_text.ensures.step c.in_default.ensures.stored
     (g.D.Depot.shown c.put_text-2.new.depot) c.put_text-2.ensures.step)
-    c.drive_alone.ensures.used_up
+    c.run_tasks.ensures.used_up

@@ -4,7 +4,7 @@ use Rattle.cu_op.specs.Schedule.{op_of}
 use Rattle.cu_state.specs.Left.{AreDone}
 use Rattle.cu_state.specs.Pieces.{chunks_alone}
 use Rattle.cu_work.specs.Drive.{operation_calls, IsRoundEnd, IfBroken, IfBad, IsInputKey}
-use Rattle.cu_work.specs.declared.outcome.Outcome.{Outcome}
+use Rattle.cu_work.specs.declared.round.RoundOutcome.{RoundOutcome}
 use Rattle.cu_task.specs.Task.{calls_of}
 use Rattle.cu_work.proofs.Driving.{failed_fits, left_between, operation_step, operation_within, operation_more, still_done, outcome_input, outcome_broken, outcome_cause, done_operation, rose_then, few_more, calls_more, operation_calls_more}
 use Rattle.cu_work.specs.Tasks.{AreRun, IsUsedUp}
@@ -30,7 +30,7 @@ returns-in-Err-clause-step g c =
 pub returns-in-Err-clause-broken : goal.returns-in-Err-clause-broken
 returns-in-Err-clause-broken g c = λ env left done.
     let P : ℕ → ℕ → Type 0 = λ k task. AreDone (chunks_alone c.args.plan.now) env k task (g.D.Depot.shown c.finish_task.new.depot) in
-    subst (λ (o : Outcome). IfBroken o P) (sym c.outcome_of.ensures)
+    subst (λ (o : RoundOutcome). IfBroken o P) (sym c.outcome_of.ensures)
     (outcome_broken c.in-Err.end c.args.op c.loop-task.task P
     (still_done c.args.plan.now c.args.op c.loop-task.task c.args.retries (operation_calls c.args.plan.now c.args.op c.loop-task.task) (g.D.Depot.shown c.args.depot.now) (g.D.Depot.shown c.loop-task.depot)
     c.loop-task.invariant.step c.loop-task.invariant.done (g.D.Depot.shown c.finish_task.new.depot) c.in-Err.ensures.step env left done))
@@ -39,14 +39,14 @@ pub returns-in-Err-clause-input : goal.returns-in-Err-clause-input
 returns-in-Err-clause-input g c = λ env left done.
     let between = left_between c.args.plan.now c.args.op c.loop-task.task c.args.retries (operation_calls c.args.plan.now c.args.op c.loop-task.task) (g.D.Depot.shown c.args.depot.now) (g.D.Depot.shown c.loop-task.depot)
     c.loop-task.invariant.step c.loop-task.invariant.done env left done in
-    subst (λ (o : Outcome). IfBad o (IsInputKey c.args.plan.now)) (sym c.outcome_of.ensures)
+    subst (λ (o : RoundOutcome). IfBad o (IsInputKey c.args.plan.now)) (sym c.outcome_of.ensures)
     (outcome_input c.args.plan.now c.in-Err.end c.args.op c.loop-task.task (c.in-Err.ensures.input env between.0 between.1))
 
 pub returns-in-Err-clause-cause : goal.returns-in-Err-clause-cause
 returns-in-Err-clause-cause g c =
     let e = c.tasks-task-end.ensures.tasks in
     let t = c.loop-task-test.true in
-    subst (λ (o : Outcome). IsRoundEnd (c.args.retries + 1) (g.D.Depot.shown c.args.depot.now) (g.D.Depot.shown c.finish_task.new.depot) c.args.plan.now o) (sym c.outcome_of.ensures)
+    subst (λ (o : RoundOutcome). IsRoundEnd (c.args.retries + 1) (g.D.Depot.shown c.args.depot.now) (g.D.Depot.shown c.finish_task.new.depot) c.args.plan.now o) (sym c.outcome_of.ensures)
     (outcome_cause (c.args.retries + 1) c.args.plan.now (g.D.Depot.shown c.args.depot.now) (g.D.Depot.shown c.loop-task.depot) (g.D.Depot.shown c.finish_task.new.depot) c.in-Err.end c.args.op c.loop-task.task
     c.requires.operation (omega (arith, e, t)) c.loop-task.invariant.step.count c.in-Err.ensures.cause)
 
@@ -99,7 +99,7 @@ returns-clause-tries g c = λ m most.
 
 pub returns-in-Err-clause-used_up : goal.returns-in-Err-clause-used_up
 returns-in-Err-clause-used_up g c = λ start run.
-    subst (λ (o : Outcome). IfBroken o (IsUsedUp c.args.plan.now (c.args.retries + 1) start (g.D.Depot.shown c.finish_task.new.depot))) (sym c.outcome_of.ensures)
+    subst (λ (o : RoundOutcome). IfBroken o (IsUsedUp c.args.plan.now (c.args.retries + 1) start (g.D.Depot.shown c.finish_task.new.depot))) (sym c.outcome_of.ensures)
     (outcome_used c.args.plan.now (c.args.retries + 1) start (g.D.Depot.shown c.loop-task.depot) (g.D.Depot.shown c.finish_task.new.depot) c.in-Err.end c.args.op c.loop-task.task
     (c.loop-task.invariant.run start run) c.in-Err.ensures.own c.in-Err.ensures.cause)
 
