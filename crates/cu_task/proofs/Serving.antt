@@ -236,11 +236,11 @@ module _ (p : PlanView) (sound : Sound p) (ranges : HaveRanges) (types : HaveTyp
           let chunk = (read_array p sound k (op_of p k) (fit_of p sound k operation) task c number listed).1 in
           let here = subst (λ (x : List ℕ). HoldsLength (shown_by pass).held x got) is holds in
           let given = of_input p sound yard pass fits serves k task operation number ranges seen promise entries promised told (types p.arrays entries sound.arrays) c got listed
-              (λ e. other (e ∙ sym size)) here in
+          (λ e. other (e ∙ sym size)) here in
           let (bytes, was, long) = subst (λ (o : Option Contents). HoldsLength o (key_of p.arrays c) got) (ap (known_to_hold pass.promise pass.seen) told) here in
           let only = serves.inputs c chunk given in
           let same = if_not (pass.seen (key_of p.arrays c)) (pass.promise (key_of p.arrays c)) (entries (key_of p.arrays c))
-              (λ saw. not_both (is_made yard.specs (key_of p.arrays c)) only.1 (fits.made entries told (key_of p.arrays c) saw)) in
+          (λ saw. not_both (is_made yard.specs (key_of p.arrays c)) only.1 (fits.made entries told (key_of p.arrays c) saw)) in
           let in_entries : HoldsLength (Some entries) key got = subst (λ (x : List ℕ). HoldsLength (Some entries) x got) (sym is) (bytes, sym same ∙ was, long) in
           (c, chunk, given, is, size, other, subst (λ (o : Option Contents). HoldsLength o key got) (sym (fits.entries ∙ told)) in_entries)
 

@@ -111,7 +111,14 @@ pub(crate) fn read_walk<C: Chunks>(
     ensures all { OnOk result (Made (length (walk_cells plan.now.arrays walk.now)) (C.shown access.old).calls (C.shown access.new).calls) }
     ensures cause { IfErr result (IsTaskInputFault (C.shown access.old) (C.shown access.new) plan.now.arrays (walk.now ∷ [])) }
 {
-    read_region_of::<C>(store, access, plan.array(walk.array), &walk.region, out, scratch)
+    read_region_of::<C>(
+        store,
+        access,
+        plan.array(walk.array),
+        &walk.region,
+        out,
+        scratch,
+    )
 }
 
 /// The bytes of the elements of a walk's region.

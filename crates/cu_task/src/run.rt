@@ -65,7 +65,9 @@ pub fn run_task_of<C: Chunks>(
     ensures cause { IfErr result (IsTaskFault (C.shown access.old) (C.shown access.new) plan.now op task) }
 {
     match &plan.operation(op).op {
-        Op::PairFold { .. } | Op::PairMerge { .. } => run_search::<C>(store, access, plan, op, task, bytes),
+        Op::PairFold { .. } | Op::PairMerge { .. } => run_search::<C>(
+            store, access, plan, op, task, bytes,
+        ),
         _ => run_single::<C>(store, access, plan, op, task, bytes, words),
     }
 }

@@ -20,7 +20,7 @@ use cu_need::live_law;
 use cu_read::plain_law;
 use cu_state::{complete_law, left_law};
 use cu_store::{Depot, NoMemory, Sink};
-use cu_work::{RoundOutcome, Rooms, TextFault, Texts, run_plan};
+use cu_work::{Rooms, RoundOutcome, TextFault, Texts, run_plan};
 use std::alloc::Global;
 
 /// The texts that a run stores in front of its chunks.

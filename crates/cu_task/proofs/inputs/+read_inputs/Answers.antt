@@ -33,17 +33,28 @@ read_inputs-requires g t c κs sub =
       (
         search rules,
         (
-         search rules, (search rules, (c.read_walk.ensures.open.belongs, ((λ key here. c.read_walk.ensures.open.gets key (c.requires.may key (subst (λ (ws : List Walk). IsWalkKey c.args.plan.now.arrays ws key) (sym split) (rest_key c.args.plan.now.arrays c.walk-item.result rest key here)))), (
-          All-tail (IsWalkOver c.args.plan.now.arrays) c.walk-item.result (take (length c.args.walks.now - 1) (drop 1 c.args.walks.now)) (subst (All (IsWalkOver c.args.plan.now.arrays)) split c.requires.walks),
+          search rules,
           (
-            (let own = c.walk_bytes.ensures.bytes in let back = c.split_at_mut-own.ensures.back_len in
-                let sum : walk_room c.args.plan.now.arrays c.walk-item.result + room_of_walks c.args.plan.now.arrays (take (length c.args.walks.now - 1) (drop 1 c.args.walks.now)) ≤ length c.args.inputs.now =
-                subst (λ (n : ℕ). n ≤ length c.args.inputs.now) (sum_by-cons (walk_room c.args.plan.now.arrays) c.walk-item.result (take (length c.args.walks.now - 1) (drop 1 c.args.walks.now))) room in
-                room_left (length c.args.inputs.now) (length c.split_at_mut-own.result.1.now) c.walk_bytes.result (walk_room c.args.plan.now.arrays c.walk-item.result)
-                (room_of_walks c.args.plan.now.arrays (take (length c.args.walks.now - 1) (drop 1 c.args.walks.now))) own back sum),
-            All-tail (λ (w : Walk). chunk_room c.args.plan.now.arrays w.array ≤ length c.read_walk.new.scratch) c.walk-item.result (take (length c.args.walks.now - 1) (drop 1 c.args.walks.now))
-                (subst (All (λ (w : Walk). chunk_room c.args.plan.now.arrays w.array ≤ length c.read_walk.new.scratch)) split scratch),
-          )))))
+            search rules,
+            (
+              c.read_walk.ensures.open.belongs,
+              (
+                (λ key here. c.read_walk.ensures.open.gets key (c.requires.may key (subst (λ (ws : List Walk). IsWalkKey c.args.plan.now.arrays ws key) (sym split) (rest_key c.args.plan.now.arrays c.walk-item.result rest key here)))),
+                (
+                  All-tail (IsWalkOver c.args.plan.now.arrays) c.walk-item.result (take (length c.args.walks.now - 1) (drop 1 c.args.walks.now)) (subst (All (IsWalkOver c.args.plan.now.arrays)) split c.requires.walks),
+                  (
+                    (let own = c.walk_bytes.ensures.bytes in let back = c.split_at_mut-own.ensures.back_len in
+                        let sum : walk_room c.args.plan.now.arrays c.walk-item.result + room_of_walks c.args.plan.now.arrays (take (length c.args.walks.now - 1) (drop 1 c.args.walks.now)) ≤ length c.args.inputs.now =
+                        subst (λ (n : ℕ). n ≤ length c.args.inputs.now) (sum_by-cons (walk_room c.args.plan.now.arrays) c.walk-item.result (take (length c.args.walks.now - 1) (drop 1 c.args.walks.now))) room in
+                        room_left (length c.args.inputs.now) (length c.split_at_mut-own.result.1.now) c.walk_bytes.result (walk_room c.args.plan.now.arrays c.walk-item.result)
+                        (room_of_walks c.args.plan.now.arrays (take (length c.args.walks.now - 1) (drop 1 c.args.walks.now))) own back sum),
+                    All-tail (λ (w : Walk). chunk_room c.args.plan.now.arrays w.array ≤ length c.read_walk.new.scratch) c.walk-item.result (take (length c.args.walks.now - 1) (drop 1 c.args.walks.now))
+                        (subst (All (λ (w : Walk). chunk_room c.args.plan.now.arrays w.array ≤ length c.read_walk.new.scratch)) split scratch),
+                  ),
+                ),
+              ),
+            ),
+          ),
         ),
       ),
     )

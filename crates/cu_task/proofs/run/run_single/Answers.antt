@@ -116,6 +116,6 @@ returns-clause-got g c =
     let target : c.target-array.result ≡ (target_of (op_of c.args.plan.now c.args.op)) = c.target-array.ensures ∙ ap (λ (o : Planned). target_of o.op) c.operation.ensures.operation in
     on_ok_then c.write_array.result
     (λ got cell there. got_cell c.args.plan.now c.result_bytes-result.ensures.sound c.args.op c.args.task (target_of (op_of c.args.plan.now c.args.op)) (g.C.Chunks.may_get c.args.store.now c.write_array.new.access) c.requires.operation c.requires.task cell there
-        (only_target c.args.plan.now c.result_bytes-result.ensures.sound c.args.op c.args.task c.requires.operation c.requires.task c.requires.single cell there)
-        (subst (λ (a : ℕ). MayReadRegion c.args.plan.now c.args.op c.args.task a (g.C.Chunks.may_get c.args.store.now c.write_array.new.access)) target got))
+    (only_target c.args.plan.now c.result_bytes-result.ensures.sound c.args.op c.args.task c.requires.operation c.requires.task c.requires.single cell there)
+    (subst (λ (a : ℕ). MayReadRegion c.args.plan.now c.args.op c.args.task a (g.C.Chunks.may_get c.args.store.now c.write_array.new.access)) target got))
     c.write_array.ensures.got
