@@ -1,0 +1,118 @@
+"""Lazy arrays of integers and truth values that are larger than memory, computed by the program `cubed` over Zarr v3 arrays.
+
+An expression is built by NumPy's operators and by the functions of `cengmoat.array_api`, and is run by the program: what it
+answers is right, or it is refused with a reason. This package proves nothing and decides nothing.
+
+>>> store = cengmoat.Store("scratch")
+>>> t = store.save("t", numpy.arange(6, dtype="int32"), chunks=4)
+>>> (t * 2 + 1).compute()
+array([ 1,  3,  5,  7,  9, 11], dtype=int32)
+"""
+from __future__ import annotations
+
+import os
+from typing import Any, Optional, Union
+
+from . import array_api
+from .array import Array
+from .dtypes import NDArray
+from .errors import (
+    BadChunk, BadExpression, BadLoad, BadMetadata, BadType, BadWords, CengmoatError, Exists, Locked, NoArray, NoMemory, NoPlan,
+    NoProgram, OtherPlan, OverLimit, OverMemory, ReadFault, Stopped, StoreFailed, TaskFailed, Unequal, Unfinished, WriteFault,
+)
+from .plans import Operation, Plan, Report
+from .running import compute_node
+from .status import ArrayStatus, Status
+from .store import Store
+
+__version__ = "0.1.0"
+
+__all__ = [
+    "Array", "ArrayStatus", "BadChunk", "BadExpression", "BadLoad", "BadMetadata", "BadType", "BadWords", "CengmoatError", "Exists",
+    "Locked", "NoArray", "NoMemory", "NoPlan", "NoProgram", "Operation", "OtherPlan", "OverLimit", "OverMemory", "Plan", "ReadFault",
+    "Report", "Status", "Stopped", "Store", "StoreFailed", "TaskFailed", "Unequal", "Unfinished", "WriteFault", "array_api", "compute",
+    "from_zarr", "to_zarr",
+]
+
+
+def from_zarr(folder: Union[str, os.PathLike[str]], name: str, *, unfinished: bool = False, **options: Any) -> Array:
+    """Return a stored array of a folder as a lazy one.
+
+    Parameters
+    ----------
+    folder : str or path
+        The folder of the arrays.
+    name : str
+        The array's name.
+    unfinished : bool
+        Whether it is given also where it is the result of a run that hasn't finished.
+    **options
+        As of `Store`.
+
+    Raises
+    ------
+    NoArray, BadMetadata, Unfinished
+        As of `Store.array`.
+    """
+    return Store(folder, **options).array(name, unfinished=unfinished)
+
+
+def to_zarr(x: Array, name: str, *, store: Optional[Store] = None, progress: Optional[bool] = None, resume: bool = False) -> Array:
+    """Compute an array, store it under a name, and return it as a stored array.
+
+    Parameters
+    ----------
+    x : Array
+        The array.
+    name : str
+        The name of the result.
+    store : Store, optional
+        Where it is stored; must be given where no stored array is in the expression.
+    progress : bool, optional
+        Whether a bar is shown; else on a terminal.
+    resume : bool
+        Whether a run that stopped is gone on with; where none was begun, one begins.
+
+    Raises
+    ------
+    CengmoatError
+        The class of the program's answer, as OverMemory and Exists.
+    Unfinished
+        Where an input is the result of a run that hasn't finished.
+    Locked
+        Where another process stores this name now.
+    TypeError, ValueError
+        Where the name isn't one, or there is no store.
+    """
+    if not isinstance(x, Array):
+        raise TypeError(f"to_zarr takes a lazy array, and not {type(x).__name__}: store.save stores an array in memory")
+    return x.store(name, store=store, progress=progress, resume=resume)
+
+
+def compute(*arrays: Array, store: Optional[Store] = None, progress: Optional[bool] = None) -> tuple[NDArray, ...]:
+    """Compute arrays and return them, each by a run of its own.
+
+    A result is stored under a temporary name, read, and removed with all on the way to it, also after an error or Ctrl-C.
+
+    Parameters
+    ----------
+    *arrays : Array
+        The arrays.
+    store : Store, optional
+        Where they are computed; else in the folder of their stored arrays, or in a temporary one where there are none.
+    progress : bool, optional
+        Whether a bar is shown; else on a terminal.
+
+    Raises
+    ------
+    CengmoatError
+        As of `to_zarr`.
+    """
+    for x in arrays:
+        if not isinstance(x, Array):
+            raise TypeError(f"compute takes lazy arrays, and not {type(x).__name__}")
+    done: dict[int, NDArray] = {}
+    for x in arrays:
+        if id(x.node) not in done:
+            done[id(x.node)] = compute_node(x.node, store, progress)
+    return tuple(done[id(x.node)] for x in arrays)

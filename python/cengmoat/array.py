@@ -1,0 +1,249 @@
+"""Lazy arrays: an expression over stored arrays, of which type, shape and chunks are known without running."""
+from __future__ import annotations
+
+from types import ModuleType
+from typing import TYPE_CHECKING, Any, Iterator, Optional
+
+from . import build, views
+from .dtypes import DType, NDArray, as_dtype
+from .operators import Operators
+from .shapes import ChunksLike, Shape, numblocks, product
+from .show import array_html, array_text
+
+if TYPE_CHECKING:
+    from .plans import Plan
+    from .store import Store
+
+API_VERSIONS = ("2021.12", "2022.12")
+
+
+class Array(Operators):
+    """An array that isn't computed yet.
+
+    It is made by a `Store`, by `from_zarr`, by the functions of `cengmoat.array_api`, and by operators on such arrays.
+    Nothing is computed before `store`, `compute`, `check`, `bool()`, `int()` or `numpy.asarray()`.
+
+    Parameters
+    ----------
+    node : Node
+        The expression.
+    """
+
+    __slots__ = ()
+
+    # What is known without running
+
+    @property
+    def dtype(self) -> DType:
+        """The type of the elements."""
+        return self.node.dtype
+
+    @property
+    def shape(self) -> Shape:
+        """The size of each axis, in elements."""
+        return self.node.shape
+
+    @property
+    def chunks(self) -> Shape:
+        """The size of a chunk on each axis, in elements."""
+        return self.node.chunks
+
+    @property
+    def numblocks(self) -> Shape:
+        """The count of chunks on each axis."""
+        return numblocks(self.shape, self.chunks)
+
+    @property
+    def ndim(self) -> int:
+        """The count of axes."""
+        return len(self.shape)
+
+    @property
+    def size(self) -> int:
+        """The count of elements."""
+        return product(self.shape)
+
+    @property
+    def itemsize(self) -> int:
+        """The bytes of an element."""
+        return self.dtype.itemsize
+
+    @property
+    def nbytes(self) -> int:
+        """The bytes of all elements."""
+        return self.size * self.dtype.itemsize
+
+    @property
+    def device(self) -> str:
+        """The device, as the standard has it: there is one."""
+        return "cpu"
+
+    @property
+    def T(self) -> Array:
+        """The matrix with its axes exchanged; a ValueError where there aren't two axes."""
+        if self.ndim != 2:
+            raise ValueError(f"T is of arrays of two axes, and not of shape {self.shape}: see mT and permute_dims")
+        return Array(views.permute_dims(self.node, (1, 0)))
+
+    @property
+    def mT(self) -> Array:
+        """The array with its last two axes exchanged; a ValueError where there are fewer."""
+        if self.ndim < 2:
+            raise ValueError(f"mT is of arrays of two axes or more, and not of shape {self.shape}")
+        return Array(views.permute_dims(self.node, (*range(self.ndim - 2), self.ndim - 1, self.ndim - 2)))
+
+    def __repr__(self) -> str:
+        return array_text(self.node)
+
+    def _repr_html_(self) -> str:
+        return array_html(self.node)
+
+    def __len__(self) -> int:
+        if not self.shape:
+            raise TypeError("an array without an axis has no len()")
+        return self.shape[0]
+
+    def __iter__(self) -> Iterator[Array]:
+        if not self.shape:
+            raise TypeError("an array without an axis has no elements to go over")
+        return (self[at] for at in range(self.shape[0]))
+
+    def __array_namespace__(self, *, api_version: Optional[str] = None) -> ModuleType:
+        """Return the namespace of the array API standard; a ValueError for a version that isn't known."""
+        if api_version is not None and api_version not in API_VERSIONS:
+            raise ValueError(f"api_version {api_version!r} isn't one of {', '.join(API_VERSIONS)}")
+        from . import array_api
+        return array_api
+
+    def to_device(self, device: str, /, *, stream: Any = None) -> Array:
+        """Return the array: there is one device."""
+        if device != "cpu" or stream is not None:
+            raise ValueError(f"there is the device 'cpu' alone, and not {device!r}, and no stream")
+        return self
+
+    # Views
+
+    def __getitem__(self, key: Any) -> Array:
+        return Array(views.index(self.node, key))
+
+    def astype(self, dtype: Any, *, copy: bool = True) -> Array:
+        """Return the array in another type: each number is wrapped to it, and 0 becomes false and all else true."""
+        return Array(build.astype(self.node, as_dtype(dtype)))
+
+    def rechunk(self, chunks: ChunksLike) -> Array:
+        """Return the array in other chunks: a size for all axes, one for each, or a mapping; -1 means the whole axis."""
+        return Array(views.rechunk(self.node, chunks))
+
+    def reshape(self, *shape: Any) -> Array:
+        """Return the same elements, row by row, in another shape, of which one size may be -1."""
+        return Array(views.reshape(self.node, shape[0] if len(shape) == 1 else shape))
+
+    def transpose(self, axes: Optional[tuple[int, ...]] = None) -> Array:
+        """Return the array with its axes in another order, the opposite one where none is given."""
+        return Array(views.permute_dims(self.node, tuple(range(self.ndim))[::-1] if axes is None else axes))
+
+    # Reductions. NumPy's own functions call these methods, and hand over `out=None`.
+
+    def sum(self, axis: Any = None, *, dtype: Any = None, keepdims: bool = False, out: None = None) -> Array:
+        """Return the sum over axes, int64 or uint64 where no type is given, wrapped once."""
+        return self._total("sum", axis, dtype, keepdims, out)
+
+    def prod(self, axis: Any = None, *, dtype: Any = None, keepdims: bool = False, out: None = None) -> Array:
+        """Return the product over axes, int64 or uint64 where no type is given, wrapped once."""
+        return self._total("prod", axis, dtype, keepdims, out)
+
+    def _total(self, op: str, axis: Any, dtype: Any, keepdims: bool, out: None) -> Array:
+        wanted = None if dtype is None else as_dtype(dtype)
+        if wanted is not None and wanted.kind == "b":
+            raise TypeError(f"{op} gives integers, and not bool")
+        found = self._reduced(op, axis, keepdims, out)
+        return found if wanted is None else found.astype(wanted)
+
+    def _reduced(self, op: str, axis: Any, keepdims: bool, out: None) -> Array:
+        if out is not None:
+            raise TypeError(f"{op}: an array isn't changed, so out is None")
+        if op in ("argmin", "argmax"):
+            return Array(build.search(op, self.node, axis, keepdims))
+        return Array(build.reduction(op, self.node, axis, keepdims))
+
+    def min(self, axis: Any = None, *, keepdims: bool = False, out: None = None) -> Array:
+        """Return the least over axes."""
+        return self._reduced("min", axis, keepdims, out)
+
+    def max(self, axis: Any = None, *, keepdims: bool = False, out: None = None) -> Array:
+        """Return the greatest over axes."""
+        return self._reduced("max", axis, keepdims, out)
+
+    def any(self, axis: Any = None, *, keepdims: bool = False, out: None = None) -> Array:
+        """Return whether an element over axes isn't 0."""
+        return self._reduced("any", axis, keepdims, out)
+
+    def all(self, axis: Any = None, *, keepdims: bool = False, out: None = None) -> Array:
+        """Return whether no element over axes is 0."""
+        return self._reduced("all", axis, keepdims, out)
+
+    def argmin(self, axis: Optional[int] = None, *, keepdims: bool = False, out: None = None) -> Array:
+        """Return the first place of the least along an axis, or in the whole array row by row."""
+        return self._reduced("argmin", axis, keepdims, out)
+
+    def argmax(self, axis: Optional[int] = None, *, keepdims: bool = False, out: None = None) -> Array:
+        """Return the first place of the greatest along an axis, or in the whole array row by row."""
+        return self._reduced("argmax", axis, keepdims, out)
+
+    # Running
+
+    def compute(self, *, store: Optional[Store] = None, progress: Optional[bool] = None) -> NDArray:
+        """Compute the array and return it; see `cengmoat.compute`."""
+        from .running import compute_node
+        return compute_node(self.node, store, progress)
+
+    def store(self, name: str, *, store: Optional[Store] = None, progress: Optional[bool] = None, resume: bool = False) -> Array:
+        """Compute the array, store it under a name, and return it as a stored array; see `cengmoat.to_zarr`."""
+        from .running import store_node
+        return Array(store_node(self.node, name, store, progress, resume))
+
+    def check(self, name: str, *, store: Optional[Store] = None) -> int:
+        """Compare the stored array of a name with what this expression means, and return the count of its elements.
+
+        Raises
+        ------
+        Unequal
+            At the first element that differs.
+        """
+        from .running import check_node
+        return check_node(self.node, name, store)
+
+    def plan(self, *, store: Optional[Store] = None) -> Plan:
+        """Return the operations by which the array would be computed, with their tasks, memory and bytes."""
+        from .running import plan_node
+        return plan_node(self.node, store)
+
+    def __array__(self, dtype: Any = None, copy: Optional[bool] = None) -> NDArray:
+        found = self.compute()
+        return found if dtype is None else found.astype(dtype)
+
+    def item(self) -> Any:
+        """Compute an array of one element and return it as an integer or a truth value of Python."""
+        return self._one().item()
+
+    def _one(self) -> Any:
+        if self.size != 1:
+            raise ValueError(f"an array of shape {self.shape} has no one value: see any, all and compute")
+        return self.compute().reshape(())[()]
+
+    def __bool__(self) -> bool:
+        return bool(self._one())
+
+    def __int__(self) -> int:
+        return int(self._one())
+
+    def __float__(self) -> float:
+        return float(self._one())
+
+    def __complex__(self) -> complex:
+        return complex(self._one())
+
+    def __index__(self) -> int:
+        if self.ndim or self.dtype.kind == "b":
+            raise TypeError(f"an array of {self.dtype} and shape {self.shape} is no index")
+        return int(self._one())

@@ -1,0 +1,73 @@
+"""Reductions over axes, exact and wrapped once, at whichever chunks."""
+from __future__ import annotations
+
+from typing import Any, Union
+
+from ..array import Array
+from ._common import FLOATS, Axes, lacks, node_of
+
+
+def max(x: Array, /, *, axis: Axes = None, keepdims: bool = False) -> Array:
+    """Return the greatest over axes, or over all where there are none.
+
+    Raises
+    ------
+    TypeError
+        For bool.
+    IndexError
+        Where the array hasn't an axis.
+    ValueError
+        Where an axis stands twice, or there is no element to choose from.
+    """
+    return Array(node_of(x)).max(axis, keepdims=keepdims)
+
+
+def mean(x: Array, /, *, axis: Axes = None, keepdims: bool = False) -> Array:
+    """Refuse: there are no floats."""
+    lacks("mean", f"{FLOATS}; sum(x) // n is the mean rounded down")
+
+
+def min(x: Array, /, *, axis: Axes = None, keepdims: bool = False) -> Array:
+    """Return the least over axes; as ``max``."""
+    return Array(node_of(x)).min(axis, keepdims=keepdims)
+
+
+def prod(x: Array, /, *, axis: Axes = None, dtype: Any = None, keepdims: bool = False) -> Array:
+    """Return the product over axes; as ``sum``, and of nothing 1."""
+    return Array(node_of(x)).prod(axis, dtype=dtype, keepdims=keepdims)
+
+
+def std(x: Array, /, *, axis: Axes = None, correction: Union[int, float] = 0.0, keepdims: bool = False) -> Array:
+    """Refuse: there are no floats."""
+    lacks("std", FLOATS)
+
+
+def sum(x: Array, /, *, axis: Axes = None, dtype: Any = None, keepdims: bool = False) -> Array:
+    """Return the sum over axes, or over all where there are none.
+
+    Parameters
+    ----------
+    x : Array
+        Of integers.
+    axis : int or tuple of int, optional
+        The axes that are summed.
+    dtype : dtype, optional
+        The type to which the exact sum is wrapped once; else int64, and uint64 of unsigned types.
+    keepdims : bool
+        Whether these axes stay, with size 1.
+
+    Raises
+    ------
+    TypeError
+        For bool.
+    IndexError
+        Where the array hasn't an axis.
+    ValueError
+        Where an axis stands twice.
+    """
+    return Array(node_of(x)).sum(axis, dtype=dtype, keepdims=keepdims)
+
+
+def var(x: Array, /, *, axis: Axes = None, correction: Union[int, float] = 0.0, keepdims: bool = False) -> Array:
+    """Refuse: there are no floats."""
+    lacks("var", FLOATS)

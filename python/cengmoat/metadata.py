@@ -1,0 +1,217 @@
+"""Zarr v3 metadata: what is read, and the one text that is written."""
+from __future__ import annotations
+
+import json
+from dataclasses import dataclass
+from typing import Any, Iterator, Optional
+
+import numpy as np
+
+from .dtypes import BOOL, NAMES, DType, greatest, least
+from .errors import BadMetadata
+from .shapes import MOST_AXES, MOST_CHUNK_BYTES, MOST_CHUNKS, MOST_ELEMENTS, Shape, numblocks, product
+
+MOST_TEXT = 1_048_576
+REQUIRED = ("zarr_format", "node_type", "shape", "data_type", "chunk_grid", "chunk_key_encoding", "fill_value", "codecs")
+OPTIONAL = ("attributes", "dimension_names", "storage_transformers")
+
+
+@dataclass(frozen=True)
+class Metadata:
+    """The layout of a stored array.
+
+    Attributes
+    ----------
+    dtype : numpy.dtype
+        Its type, in the machine's byte order.
+    shape, chunks : tuple of int
+        Its shape, and the shape of its chunks.
+    fill : int
+        What an absent chunk has everywhere.
+    is_big : bool
+        Whether its chunks are big-endian.
+    encoding, separator : str
+        How the keys of its chunks are written.
+    dimensions : tuple of str or None, or None
+        Its `dimension_names`, where there are any.
+    """
+
+    dtype: DType
+    shape: Shape
+    chunks: Shape
+    fill: int = 0
+    is_big: bool = False
+    encoding: str = "default"
+    separator: str = "/"
+    dimensions: Optional[tuple[Optional[str], ...]] = None
+
+    @property
+    def numblocks(self) -> Shape:
+        """How many chunks each axis has."""
+        return numblocks(self.shape, self.chunks)
+
+    @property
+    def nchunks(self) -> int:
+        """How many chunks the array has."""
+        return product(self.numblocks)
+
+    @property
+    def chunk_bytes(self) -> int:
+        """The bytes of each chunk file."""
+        return product(self.chunks) * self.dtype.itemsize
+
+    @property
+    def stored_dtype(self) -> DType:
+        """The type in the byte order of the files."""
+        return self.dtype.newbyteorder(">" if self.is_big else "<")
+
+    def coordinates(self) -> Iterator[Shape]:
+        """Go over the coordinates of all chunks, row by row."""
+        return iter(np.ndindex(*self.numblocks))
+
+    def chunk_key(self, name: str, coordinate: Shape) -> str:
+        """Return the key of a chunk of the array of this name."""
+        parts = [str(at) for at in coordinate]
+        parts = ["c", *parts] if self.encoding == "default" else parts or ["0"]
+        return f"{name}/{self.separator.join(parts)}"
+
+    def text(self) -> str:
+        """Return the metadata as the program writes it: compact JSON, its members in byte order."""
+        codec: dict[str, Any] = {"name": "bytes"}
+        if self.dtype.itemsize > 1:
+            codec["configuration"] = {"endian": "big" if self.is_big else "little"}
+        members = {
+            "zarr_format": 3, "node_type": "array", "data_type": self.dtype.name, "shape": list(self.shape),
+            "chunk_grid": {"name": "regular", "configuration": {"chunk_shape": list(self.chunks)}},
+            "chunk_key_encoding": {"name": self.encoding, "configuration": {"separator": self.separator}},
+            "codecs": [codec], "fill_value": bool(self.fill) if self.dtype == BOOL else self.fill,
+        }
+        return json.dumps(members, sort_keys=True, separators=(",", ":"))
+
+
+def _number(text: str) -> int | float:
+    """Read a number as the program does: `-0` is no integer."""
+    return -0.0 if text == "-0" else int(text)
+
+
+def _constant(text: str) -> Any:
+    """Refuse NaN and Infinity, which Python's reader takes and JSON hasn't."""
+    raise ValueError(text)
+
+
+def _is_int(value: Any) -> bool:
+    return isinstance(value, int) and not isinstance(value, bool)
+
+
+class _Reader:
+    """Reads the metadata of one array, and refuses it with the first fault."""
+
+    def __init__(self, name: str) -> None:
+        self.name = name
+
+    def need(self, holds: bool, code: int) -> None:
+        """Refuse with a code where something doesn't hold."""
+        if not holds:
+            raise BadMetadata(name=self.name, code=code)
+
+    def part(self, value: Any, code: int) -> tuple[str, dict[str, Any]]:
+        """Return the name and the configuration of a part."""
+        if isinstance(value, str):
+            return value, {}
+        self.need(isinstance(value, dict) and isinstance(value.get("name"), str), code)
+        self.need(set(value) <= {"name", "configuration", "must_understand"}, code)
+        self.need(isinstance(value.get("must_understand", True), bool), code)
+        configuration = value.get("configuration", {})
+        self.need(isinstance(configuration, dict), code)
+        return value["name"], configuration
+
+    def sizes(self, value: Any, low: int) -> Shape:
+        """Return a list of sizes from `low` on, at most one for each of six axes."""
+        self.need(isinstance(value, list) and len(value) <= MOST_AXES, 5)
+        self.need(all(_is_int(size) and low <= size < 2**64 for size in value), 5)
+        return tuple(value)
+
+    def grid(self, members: dict[str, Any], dtype: DType) -> tuple[Shape, Shape]:
+        """Return the shape and the chunk shape, within the limits."""
+        shape = self.sizes(members["shape"], 0)
+        name, configuration = self.part(members["chunk_grid"], 5)
+        self.need(name == "regular" and set(configuration) == {"chunk_shape"}, 5)
+        chunks = self.sizes(configuration["chunk_shape"], 1)
+        self.need(len(chunks) == len(shape), 5)
+        self.need(product(max(1, size) for size in shape) <= MOST_ELEMENTS, 5)
+        self.need(product(chunks) * dtype.itemsize <= MOST_CHUNK_BYTES, 5)
+        self.need(product(max(1, count) for count in numblocks(shape, chunks)) <= MOST_CHUNKS, 5)
+        return shape, chunks
+
+    def encoding(self, value: Any) -> tuple[str, str]:
+        """Return how keys are written, and with which separator."""
+        name, configuration = self.part(value, 6)
+        self.need(name in ("default", "v2") and set(configuration) <= {"separator"}, 6)
+        separator = configuration.get("separator", "/" if name == "default" else ".")
+        self.need(separator in ("/", "."), 6)
+        return name, separator
+
+    def fill(self, value: Any, dtype: DType) -> int:
+        """Return the fill value, a number of the type."""
+        if dtype == BOOL:
+            self.need(isinstance(value, bool), 7)
+        else:
+            self.need(_is_int(value) and least(dtype) <= value <= greatest(dtype), 7)
+        return int(value)
+
+    def is_big(self, value: Any, dtype: DType) -> bool:
+        """Return whether the one codec is that of big-endian bytes."""
+        self.need(isinstance(value, list) and len(value) == 1, 8)
+        name, configuration = self.part(value[0], 8)
+        self.need(name == "bytes" and set(configuration) <= {"endian"}, 8)
+        self.need("endian" in configuration or dtype.itemsize == 1, 8)
+        endian = configuration.get("endian", "little")
+        self.need(endian in ("little", "big"), 8)
+        return endian == "big" and dtype.itemsize > 1
+
+    def others(self, members: dict[str, Any], ndim: int) -> Optional[tuple[Optional[str], ...]]:
+        """Return the names of the axes, and refuse members that aren't known or are of a wrong kind."""
+        names = members.get("dimension_names")
+        self.need(isinstance(members.get("attributes", {}), dict), 3)
+        if names is not None:
+            self.need(isinstance(names, list) and len(names) == ndim and all(it is None or isinstance(it, str) for it in names), 3)
+        self.need(members.get("storage_transformers", []) == [], 3)
+        for member in set(members) - {*REQUIRED, *OPTIONAL}:
+            value = members[member]
+            self.need(isinstance(value, dict) and value.get("must_understand") is False, 9)
+        return None if names is None else tuple(names)
+
+
+def read_metadata(name: str, text: bytes) -> Metadata:
+    """Return the layout that a metadata text says.
+
+    Parameters
+    ----------
+    name : str
+        The array's name, for the refusal.
+    text : bytes
+        The content of its `zarr.json`.
+
+    Raises
+    ------
+    BadMetadata
+        Where the text isn't metadata that the program accepts.
+    """
+    reader = _Reader(name)
+    reader.need(len(text) <= MOST_TEXT, 10)
+    try:
+        members = json.loads(text.decode("utf-8"), parse_constant=_constant, parse_int=_number)
+    except (ValueError, RecursionError):
+        raise BadMetadata(name=name, code=1) from None
+    reader.need(isinstance(members, dict), 1)
+    reader.need(_is_int(members.get("zarr_format")) and members["zarr_format"] == 3 and members.get("node_type") == "array", 2)
+    reader.need(all(member in members for member in REQUIRED), 3)
+    kind, configuration = reader.part(members["data_type"], 4)
+    reader.need(kind in NAMES and not configuration, 4)
+    dtype = np.dtype(kind)
+    shape, chunks = reader.grid(members, dtype)
+    encoding, separator = reader.encoding(members["chunk_key_encoding"])
+    fill = reader.fill(members["fill_value"], dtype)
+    is_big = reader.is_big(members["codecs"], dtype)
+    dimensions = reader.others(members, len(shape))
+    return Metadata(dtype, shape, chunks, fill, is_big, encoding, separator, dimensions)

@@ -1,0 +1,40 @@
+"""Names of arrays, and the keys that belong to one."""
+from __future__ import annotations
+
+import re
+from typing import Any
+
+NAME = re.compile(r"[A-Za-z0-9][A-Za-z0-9_.-]{0,31}\Z")
+
+
+def is_name(value: Any) -> bool:
+    """Return whether a value may name an array."""
+    return isinstance(value, str) and NAME.match(value) is not None
+
+
+def check_name(value: Any) -> str:
+    """Return a name.
+
+    Raises
+    ------
+    TypeError
+        Where it isn't a text.
+    ValueError
+        Where it isn't 1 to 32 letters, digits, `_`, `-` and `.`, of which the first is a letter or a digit.
+    """
+    if not isinstance(value, str):
+        raise TypeError(f"{value!r} isn't a name: a name is a text")
+    if not is_name(value):
+        raise ValueError(f"{value!r} isn't a name: a name has 1 to 32 of the letters A to Z and a to z, digits, _, - and .,"
+                         " and begins with a letter or a digit")
+    return value
+
+
+def metadata_key(name: str) -> str:
+    """Return the key of an array's metadata."""
+    return f"{name}/zarr.json"
+
+
+def record_key(name: str) -> str:
+    """Return the key of the record of the plan that makes an array."""
+    return f"_cubed/{name}/plan.json"

@@ -1,0 +1,145 @@
+"""The program: where it is, and calls of it."""
+from __future__ import annotations
+
+import functools
+import os
+import shutil
+import subprocess
+from typing import Callable, Optional, Sequence
+
+from .errors import NoProgram, error_of
+
+VARIABLE = "CENGMOAT_CUBED"
+HERE = os.path.dirname(os.path.abspath(__file__))
+# The repository in which the package lies, where it isn't installed elsewhere.
+TOP = os.path.dirname(os.path.dirname(HERE))
+SCRIPT = "cubed"
+# Where the gate and the script leave the program that they proved and built, and where it lies in an archive.
+BUILT = os.path.join("crates", "cu_bin", "out", "cu_bin")
+ARCHIVED = os.path.join("program", "cubed")
+# The seconds after which a run is looked at for the first time.
+FIRST_WAIT = 0.2
+LEFT_OUT = ("out", "must-fail", "more-edits")
+
+
+def _is_program(path: str) -> bool:
+    return os.path.isfile(path) and os.access(path, os.X_OK)
+
+
+@functools.lru_cache(maxsize=None)
+def _is_old(top: str, built: int) -> bool:
+    """Return whether a source of a repository is newer than the program that was built in it at this time, in nanoseconds."""
+    for at, folders, files in os.walk(os.path.join(top, "crates")):
+        folders[:] = [name for name in folders if name not in LEFT_OUT]
+        if any(name.endswith((".rt", ".antt")) and os.stat(os.path.join(at, name)).st_mtime_ns > built for name in files):
+            return True
+    return os.stat(os.path.join(top, "crates.txt")).st_mtime_ns > built
+
+
+def program_of(top: str) -> Optional[str]:
+    """Return the program of a repository or of an archive, or None where the folder is neither.
+
+    Raises
+    ------
+    NoProgram
+        Where it isn't built, or is older than its sources.
+    """
+    archived, built = os.path.join(top, ARCHIVED), os.path.join(top, BUILT)
+    if _is_program(archived):
+        return archived
+    if not os.path.isfile(os.path.join(top, "crates.txt")):
+        return None
+    if not _is_program(built):
+        raise NoProgram(f"the program isn't built: {os.path.join(top, SCRIPT)} proves and builds it")
+    if _is_old(top, os.stat(built).st_mtime_ns):
+        raise NoProgram(f"{built} is older than its sources: {os.path.join(top, SCRIPT)} proves and builds it anew")
+    return built
+
+
+def _behind(path: str) -> str:
+    """Return the program that the script of a repository runs, so that a call never begins to build it; else the path."""
+    real = os.path.realpath(path)
+    found = program_of(os.path.dirname(real)) if os.path.basename(real) == SCRIPT else None
+    return found or os.path.abspath(path)
+
+
+def find_program(given: Optional[str] = None) -> str:
+    """Return the path of the program: as given, as the environment says, beside the package, or on the path.
+
+    Raises
+    ------
+    NoProgram
+        Where there is none, it isn't built, or it is older than its sources.
+    """
+    for path, said in ((given, "program="), (os.environ.get(VARIABLE), VARIABLE)):
+        if path:
+            found = shutil.which(os.path.expanduser(path))
+            if found is None:
+                raise NoProgram(f"{said} says {path}, which is no program")
+            return _behind(found)
+    beside = os.path.join(HERE, SCRIPT)
+    found = beside if _is_program(beside) else program_of(TOP) or shutil.which(SCRIPT)
+    if found is None:
+        raise NoProgram(f"the program isn't found: say program=, set {VARIABLE}, put cubed on the path, or build it by ./cubed"
+                        " at the top of the repository")
+    return _behind(found)
+
+
+def environment() -> dict[str, str]:
+    """Return the environment of the program: large buffers lie in huge pages where the system gives them on demand."""
+    return {"GLIBC_TUNABLES": "glibc.malloc.hugetlb=1", **os.environ}
+
+
+def call_program(words: Sequence[str], text: str, *, expression_of: Callable[[int], Optional[str]] = lambda node: None,
+                 locks: Sequence[int] = (), watch: Optional[Callable[[], float]] = None) -> str:
+    """Call the program and return what it printed.
+
+    Parameters
+    ----------
+    words : sequence of str
+        The path of the program and its words.
+    text : str
+        What it reads from standard input.
+    expression_of : callable
+        Returns the Python expression of a node's number, for errors.
+    locks : sequence of int
+        Descriptors that it keeps open as long as it runs.
+    watch : callable, optional
+        Is called while it runs, and returns the seconds until it is called again.
+
+    Raises
+    ------
+    CengmoatError
+        The class of the answer, where it isn't Ok.
+    """
+    try:
+        process = subprocess.Popen(list(words), stdin=subprocess.PIPE, stdout=subprocess.PIPE, stderr=subprocess.PIPE,
+                                   env=environment(), pass_fds=list(locks))
+    except OSError as error:
+        raise NoProgram(f"{words[0]} doesn't start: {error.strerror}") from None
+    try:
+        said = _communicate(process, text.encode(), watch)
+    except BaseException:
+        # (Ctrl-C reaches the program too where both are in one terminal)
+        process.kill()
+        process.wait()
+        for stream in (process.stdin, process.stdout, process.stderr):
+            if stream is not None:
+                stream.close()
+        raise
+    if process.returncode:
+        raise error_of(process.returncode, said[1].decode(errors="replace"), expression_of)
+    return said[0].decode()
+
+
+def _communicate(process: subprocess.Popen[bytes], text: bytes, watch: Optional[Callable[[], float]]) -> tuple[bytes, bytes]:
+    """Hand the program its text and wait for its end."""
+    wait = None if watch is None else FIRST_WAIT
+    data: Optional[bytes] = text
+    while True:
+        try:
+            return process.communicate(data, timeout=wait)
+        except subprocess.TimeoutExpired:
+            data = None
+            if watch is not None:
+                wait = watch()

@@ -1,0 +1,146 @@
+"""Whether arrays are finished: by the record of a plan and the chunks that are stored."""
+from __future__ import annotations
+
+import os
+from dataclasses import dataclass
+from typing import Iterator, Optional, Sequence
+
+from .dtypes import DType
+from .errors import CengmoatError, Unfinished
+from .files import read_file, stored_chunks
+from .locks import is_locked
+from .metadata import Metadata, read_metadata
+from .names import is_name, metadata_key, record_key
+from .shapes import Shape
+from .show import table_html, table_text
+from .sizes import bytes_text
+
+
+@dataclass(frozen=True)
+class ArrayStatus:
+    """What is known of an array of a folder.
+
+    Attributes
+    ----------
+    name : str
+        Its name.
+    dtype, shape, chunks
+        Its type, shape and chunk shape; None where its metadata is missing or not accepted.
+    stored, nchunks : int
+        How many of its chunks are stored, and how many it has.
+    is_finished : bool
+        False where a run that makes it has begun and some of its chunks are missing; True also of an array that has no record.
+    is_running : bool
+        Whether a process that uses this package makes it now.
+    nbytes : int
+        The bytes of the chunks that are stored.
+    """
+
+    name: str
+    dtype: Optional[DType]
+    shape: Optional[Shape]
+    chunks: Optional[Shape]
+    stored: int
+    nchunks: int
+    is_finished: bool
+    is_running: bool
+    nbytes: int
+
+    @property
+    def state(self) -> str:
+        """One word: finished, running or unfinished."""
+        return "running" if self.is_running else "finished" if self.is_finished else "unfinished"
+
+
+class Status(Sequence[ArrayStatus]):
+    """The arrays of a folder, by name. It prints as a table in a terminal and in a notebook."""
+
+    def __init__(self, arrays: Sequence[ArrayStatus]) -> None:
+        self.arrays = tuple(arrays)
+
+    def __getitem__(self, key):  # type: ignore[no-untyped-def]
+        """Return the status of an array by its place or by its name."""
+        if isinstance(key, str):
+            found = next((it for it in self.arrays if it.name == key), None)
+            if found is None:
+                raise KeyError(key)
+            return found
+        return self.arrays[key]
+
+    def __len__(self) -> int:
+        return len(self.arrays)
+
+    def __iter__(self) -> Iterator[ArrayStatus]:
+        return iter(self.arrays)
+
+    def _table(self) -> tuple[list[str], list[list[object]]]:
+        heads = ["name", "type", "shape", "chunks", "stored", "state", "bytes"]
+        return heads, [[it.name, str(it.dtype or "-"), str(it.shape if it.shape is not None else "-"),
+                        str(it.chunks if it.chunks is not None else "-"), f"{it.stored} of {it.nchunks}", it.state,
+                        bytes_text(it.nbytes)] for it in self]
+
+    def __repr__(self) -> str:
+        return table_text(*self._table())
+
+    def _repr_html_(self) -> str:
+        return table_html(*self._table())
+
+
+def metadata_of(folder: str, name: str) -> Optional[Metadata]:
+    """Return the layout of a stored array, or None where it has no metadata; a BadMetadata where that isn't accepted."""
+    text = read_file(os.path.join(folder, metadata_key(name)))
+    return None if text is None else read_metadata(name, text)
+
+
+def has_record(folder: str, name: str) -> bool:
+    """Return whether there is the record of a plan that makes an array."""
+    return os.path.isfile(os.path.join(folder, record_key(name)))
+
+
+def status_of(folder: str, name: str) -> ArrayStatus:
+    """Return the status of an array."""
+    try:
+        meta = metadata_of(folder, name)
+    except CengmoatError:
+        meta = None
+    recorded, running = has_record(folder, name), is_locked(folder, name)
+    if meta is None:
+        return ArrayStatus(name, None, None, None, 0, 0, not recorded, running, 0)
+    stored = stored_chunks(folder, name, meta)
+    finished = not recorded or stored == meta.nchunks
+    return ArrayStatus(name, meta.dtype, meta.shape, meta.chunks, stored, meta.nchunks, finished, running, stored * meta.chunk_bytes)
+
+
+def _entries(folder: str) -> list[str]:
+    try:
+        return [entry.name for entry in os.scandir(folder) if is_name(entry.name) and entry.is_dir()]
+    except (FileNotFoundError, NotADirectoryError):
+        return []
+
+
+def array_names(folder: str) -> list[str]:
+    """Return the names of the arrays of a folder that have metadata."""
+    return sorted(name for name in _entries(folder) if os.path.isfile(os.path.join(folder, metadata_key(name))))
+
+
+def all_names(folder: str) -> list[str]:
+    """Return the names that have metadata or the record of a plan."""
+    recorded = [name for name in _entries(os.path.join(folder, "_cubed")) if has_record(folder, name)]
+    return sorted({*array_names(folder), *recorded})
+
+
+def check_finished(folder: str, name: str) -> None:
+    """Refuse an array that a run has begun and not finished.
+
+    Raises
+    ------
+    Unfinished
+        Where it is one: some of its chunks are missing, and would be read as fill values.
+    """
+    if not has_record(folder, name):
+        return
+    found = status_of(folder, name)
+    if not found.is_finished:
+        raise Unfinished(f"{name} is the result of a run that hasn't finished: {found.stored} of {found.nchunks} chunks are stored,"
+                         " and the others would be read as fill values. Take it up again by store(.., resume=True) of its expression,"
+                         " or say unfinished=True to use it as it is")

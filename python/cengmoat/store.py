@@ -1,0 +1,229 @@
+"""A folder of stored arrays, and how expressions over them are run."""
+from __future__ import annotations
+
+import os
+from typing import Any, Iterator, Optional, Union
+
+import numpy as np
+
+from .array import Array
+from .dtypes import NDArray, as_dtype, as_int
+from .errors import NoArray
+from .files import read_index_of
+from .index import read_index
+from .locks import locked
+from .metadata import Metadata
+from .names import check_name
+from .nodes import Node
+from .plans import Report
+from .program import find_program
+from .running import remove_array
+from .saving import check_absent, write_array
+from .shapes import ChunksLike, as_chunks, check_limits
+from .sizes import as_bytes
+from .status import Status, all_names, array_names, check_finished, metadata_of, status_of
+
+
+def _count(value: Any, low: int, high: int, what: str) -> int:
+    count = as_int(value, what)
+    if not low <= count <= high:
+        raise ValueError(f"{what} is from {low} to {high}, and not {count}")
+    return count
+
+
+class Store:
+    """A folder of arrays, as uncompressed Zarr v3 arrays.
+
+    An expression over arrays of two stores of one folder runs with the options of the first, unless `store=` names another.
+
+    Parameters
+    ----------
+    folder : str or path
+        The folder. It is made with the first array that is saved.
+    program : str, optional
+        The path of the program; else it is found beside the package, in CENGMOAT_CUBED, or on the path.
+    allowed_mem, reserved_mem : int or str
+        The bytes that a task may need, and how many of them are set aside: 200000000, "2GB", "64MiB".
+    workers : int
+        How many tasks run at once, from 1 to 64.
+    retries : int
+        How often a call or a task that failed is tried again, from 0 to 8.
+    split_every : int
+        How many partial results a task merges, from 2 to 64.
+
+    Attributes
+    ----------
+    report : Report or None
+        What the last run did.
+
+    Raises
+    ------
+    TypeError, ValueError
+        Where an option isn't of its kind or in its range.
+    NoProgram
+        Where the program that is given isn't there.
+    """
+
+    def __init__(self, folder: Union[str, os.PathLike[str]], program: Optional[str] = None, allowed_mem: Union[int, str] = "200MB",
+                 reserved_mem: Union[int, str] = 0, workers: int = 1, retries: int = 2, split_every: int = 4) -> None:
+        self.folder = os.path.abspath(os.path.expanduser(os.fspath(folder)))
+        self.allowed_mem = as_bytes(allowed_mem, "allowed_mem")
+        self.reserved_mem = as_bytes(reserved_mem, "reserved_mem")
+        self.workers = _count(workers, 1, 64, "workers")
+        self.retries = _count(retries, 0, 8, "retries")
+        self.split_every = _count(split_every, 2, 64, "split_every")
+        self.report: Optional[Report] = None
+        self._program = None if program is None else find_program(program)
+
+    @property
+    def program(self) -> str:
+        """The path of the program; a NoProgram where it isn't found."""
+        if self._program is None:
+            self._program = find_program()
+        return self._program
+
+    def __repr__(self) -> str:
+        return f"cengmoat.Store({self.folder!r}, {len(self.names())} arrays)"
+
+    def words(self, command: str, folder: Optional[str] = None) -> list[str]:
+        """Return the words of a call of the program, over another folder where one is given."""
+        found = [self.program, self.folder if folder is None else folder, command]
+        if command != "check":
+            found += ["--allowed-mem", str(self.allowed_mem), "--reserved-mem", str(self.reserved_mem),
+                      "--split-every", str(self.split_every)]
+        if command != "plan":
+            found += ["--retries", str(self.retries)]
+        if command in ("run", "resume") and self.workers != 1:
+            found += ["--workers", str(self.workers)]
+        return found
+
+    # Stored arrays
+
+    def names(self) -> list[str]:
+        """Return the names of the stored arrays, in order; `status` says which of them are finished."""
+        return array_names(self.folder)
+
+    def __iter__(self) -> Iterator[str]:
+        return iter(self.names())
+
+    def __contains__(self, name: object) -> bool:
+        return name in self.names()
+
+    def _layout(self, name: str) -> Metadata:
+        found = metadata_of(self.folder, check_name(name))
+        if found is None:
+            raise NoArray(name=name)
+        return found
+
+    def array(self, name: str, *, unfinished: bool = False) -> Array:
+        """Return a stored array as a lazy one. Only its metadata is read.
+
+        Parameters
+        ----------
+        name : str
+            Its name.
+        unfinished : bool
+            Whether it is given also where it is the result of a run that hasn't finished; missing chunks have the fill value.
+
+        Raises
+        ------
+        NoArray
+            Where there is none of this name.
+        BadMetadata
+            Where its metadata isn't accepted.
+        Unfinished
+            Where a run has begun it and not finished.
+        TypeError, ValueError
+            Where the name isn't one.
+        """
+        meta = self._layout(name)
+        if not unfinished:
+            check_finished(self.folder, name)
+        return Array(Node.stored(self, name, meta, unfinished))
+
+    def __getitem__(self, name: str) -> Array:
+        return self.array(name)
+
+    def save(self, name: str, data: Any, chunks: ChunksLike = None) -> Array:
+        """Store an array chunk by chunk, whole or not at all, and return it as a lazy one.
+
+        Parameters
+        ----------
+        name : str
+            The name under which it is stored.
+        data : array-like
+            An array of integers or truth values. Of one that has `shape`, `dtype` and slices (a memory map, an array of another
+            library) only a chunk at a time is in memory.
+        chunks : int or tuple of int, optional
+            The chunk shape; -1 means the whole axis. Else chunks of at most about 16 MiB.
+
+        Raises
+        ------
+        TypeError
+            Where the type isn't one of the program's, as float64, or the name isn't a text.
+        ValueError
+            Where the name isn't one, the chunks don't fit the shape, or the array is above the limits.
+        Exists
+            Where there is an array of this name, or the record of a plan that makes one.
+        """
+        check_name(name)
+        if isinstance(data, Array):
+            raise TypeError(f"save takes an array in memory: x.store({name!r}) computes and stores a lazy one")
+        if not all(hasattr(data, it) for it in ("shape", "dtype", "__getitem__")):
+            data = np.asarray(data)
+        try:
+            dtype = as_dtype(data.dtype)
+        except NotImplementedError as error:
+            raise TypeError(str(error)) from None
+        shape = tuple(int(size) for size in data.shape)
+        sides = as_chunks(chunks, shape, dtype)
+        check_limits(shape, sides, dtype, "save")
+        with locked(self.folder, name):
+            check_absent(self.folder, name)
+            write_array(self.folder, name, Metadata(dtype, shape, sides), data)
+        return self.array(name)
+
+    def read(self, name: str, index: Any = ..., *, unfinished: bool = False) -> NDArray:
+        """Return elements of a stored array. Only the chunks that have one of them are read.
+
+        Parameters
+        ----------
+        name : str
+            Its name.
+        index : int, slice, None, ... or tuple of these
+            Which elements, as in brackets behind a NumPy array.
+        unfinished : bool
+            Whether it is read also where it is the result of a run that hasn't finished; missing chunks have the fill value.
+
+        Raises
+        ------
+        NoArray, BadMetadata, Unfinished
+            As of `array`.
+        BadChunk
+            Where a chunk file hasn't the bytes of a chunk.
+        IndexError, ValueError, NotImplementedError
+            Where the index isn't one of the array.
+        """
+        meta = self._layout(name)
+        if not unfinished:
+            check_finished(self.folder, name)
+        return read_index_of(self.folder, name, meta, read_index(index, meta.shape))
+
+    def status(self) -> Status:
+        """Return the name, type, shape, stored chunks, state and bytes of each array, of unfinished ones too."""
+        return Status([status_of(self.folder, name) for name in all_names(self.folder)])
+
+    def remove(self, name: str) -> None:
+        """Remove an array, the record of the plan that made it, and all on the way to it.
+
+        Raises
+        ------
+        NoArray
+            Where there is neither an array nor a record of this name.
+        Locked
+            Where another process computes or stores it now.
+        """
+        if check_name(name) not in all_names(self.folder):
+            raise NoArray(name=name)
+        with locked(self.folder, name, remove=True):
+            remove_array(self, name)

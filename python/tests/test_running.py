@@ -1,0 +1,404 @@
+"""Runs: what is left after an interrupt, locks, unfinished results, plans and progress."""
+from __future__ import annotations
+
+import io
+import os
+import signal
+import subprocess
+import sys
+import textwrap
+import threading
+import time
+import unittest
+from typing import Any
+
+from .support import PROGRAM, PYTHON, Case, WithProgram, cengmoat, np, xp
+
+# A program that begins a run, stores one chunk, and goes on until it is stopped.
+ENDLESS = """
+import json
+job = json.load(sys.stdin)
+name = job["store_as"]
+def put(key, text):
+    path = os.path.join(words[0], key)
+    os.makedirs(os.path.dirname(path), exist_ok=True)
+    with open(path, "w") as file:
+        file.write(text)
+meta = open(os.path.join(words[0], "t", "zarr.json")).read()
+put(f"_cubed/{name}/plan.json", "{}")
+put(f"_cubed/{name}/0/c/0", "x")
+put(f"{name}/zarr.json", meta)
+put(f"{name}/c/0", "x" * 16)
+put("begun", "")
+time.sleep(600)
+"""
+
+
+# (a process that runs in the background may have been told to leave Ctrl-C alone)
+HEARS = "import signal\nsignal.signal(signal.SIGINT, signal.default_int_handler)\n"
+
+
+def until(holds: Any) -> None:
+    """Wait until something holds, at most a minute."""
+    end = time.monotonic() + 60
+    while not holds():
+        if time.monotonic() > end:
+            raise AssertionError("it didn't come")
+        time.sleep(0.01)
+
+
+class Interrupts(Case):
+    """What a run leaves that is stopped in its midst."""
+
+    def begin(self, work: str, program: str) -> subprocess.Popen[bytes]:
+        """Start Python with a store `s` and its array `t`, and let it work."""
+        script = f"{HEARS}import cengmoat\ns = cengmoat.Store({self.here.folder!r}, program={program!r})\nt = s['t']\n{work}"
+        return subprocess.Popen([sys.executable, "-c", script], env={**os.environ, "PYTHONPATH": PYTHON}, stderr=subprocess.PIPE)
+
+    def setUp(self) -> None:
+        super().setUp()
+        self.here = self.store()
+        self.here.save("t", np.arange(6, dtype="int32"), 4)
+        self.before = self.keys(self.here.folder)
+        self.begun = os.path.join(self.here.folder, "begun")
+
+    def left(self) -> list[str]:
+        return [key for key in self.keys(self.here.folder) if key not in self.before and key != "begun"]
+
+    def end(self, process: subprocess.Popen[bytes]) -> bytes:
+        """Return what Python wrote on standard error, once it has ended."""
+        return process.communicate(timeout=20)[1]
+
+    def test_ctrl_c_leaves_no_key(self) -> None:
+        process = self.begin("(t + 1).compute()", self.fake_program(ENDLESS))
+        until(lambda: os.path.exists(self.begun))
+        self.assertEqual(len(self.left()), 4)
+        process.send_signal(signal.SIGINT)
+        self.assertIn(b"KeyboardInterrupt", self.end(process))
+        self.assertEqual(self.left(), [])
+        self.assertEqual(os.listdir(os.path.join(self.here.folder, ".locks")), ["t"])
+
+    def test_ctrl_c_in_memory_too(self) -> None:
+        process = self.begin("import numpy\n(t + numpy.arange(6)).compute()", self.fake_program(ENDLESS))
+        until(lambda: os.path.exists(self.begun))
+        self.assertEqual(sum("-0/" in key for key in self.left()), 2)
+        process.send_signal(signal.SIGINT)
+        self.end(process)
+        self.assertEqual(self.left(), [])
+
+    def test_ctrl_c_waits_for_the_end_of_clearing(self) -> None:
+        done = []
+        before = signal.signal(signal.SIGINT, signal.default_int_handler)
+        self.addCleanup(signal.signal, signal.SIGINT, before)
+        with self.assertRaises(KeyboardInterrupt):
+            with cengmoat.running.uninterrupted():
+                signal.raise_signal(signal.SIGINT)
+                done.append(True)
+        self.assertEqual(done, [True])
+        self.assertIs(signal.getsignal(signal.SIGINT), signal.default_int_handler)
+
+    def test_an_error_leaves_no_key(self) -> None:
+        ending = ENDLESS.replace("time.sleep(600)", "sys.stderr.write('error 10 op=0 task=1')\nsys.exit(10)")
+        store = self.store(program=self.fake_program(ending))
+        self.assertRaises(cengmoat.TaskFailed, (store["t"] + 1).compute)
+        self.assertEqual(self.left(), [])
+
+    def test_a_killed_process_is_cleared_after(self) -> None:
+        process = self.begin("(t + 1).compute()", self.fake_program(ENDLESS))
+        until(lambda: os.path.exists(self.begun))
+        process.kill()
+        process.wait()
+        self.end_of_children(process)
+        self.assertEqual(len(self.left()), 4)
+        ending = "sys.stderr.write('error 70')\nsys.exit(70)"
+        store = self.store(program=self.fake_program(ending))
+        self.assertRaises(cengmoat.NoMemory, (store["t"] + 1).compute)
+        self.assertEqual(self.left(), [])
+
+    def end_of_children(self, process: subprocess.Popen[bytes]) -> None:
+        """End the program whose starter was killed. It holds the lock as long as it runs."""
+        locks = os.path.join(self.here.folder, ".locks")
+        [name] = [it for it in os.listdir(locks) if it.startswith("tmp-")]
+        self.assertTrue(cengmoat.locks.is_locked(self.here.folder, name))
+        for number in filter(str.isdigit, os.listdir("/proc")):
+            try:
+                with open(f"/proc/{number}/cmdline", "rb") as file:
+                    if os.path.join(self.folder, "fake").encode() in file.read().split(b"\0"):
+                        os.kill(int(number), signal.SIGKILL)
+            except OSError:
+                continue
+        self.end(process)
+        until(lambda: not cengmoat.locks.is_locked(self.here.folder, name))
+
+    def test_two_runs_of_one_name(self) -> None:
+        process = self.begin("(t + 1).store('y')", self.fake_program(ENDLESS))
+        until(lambda: os.path.exists(self.begun))
+        store = self.store(program=self.fake_program("print('ok ops=1 tasks=2 starts=2 failed=0 peak=1600')"))
+        self.assertRaises(cengmoat.Locked, (store["t"] + 1).store, "y")
+        self.assertRaises(cengmoat.Locked, store.save, "y", np.arange(3))
+        self.assertRaises(cengmoat.Locked, store.remove, "y")
+        self.assertEqual(store.status()["y"].state, "running")
+        process.send_signal(signal.SIGINT)
+        self.end(process)
+        self.assertEqual(store.status()["y"].state, "unfinished")
+        store.remove("y")
+        self.assertEqual(self.left(), [])
+
+    def test_locks_of_threads(self) -> None:
+        store = self.store(program=self.fake_program(ENDLESS.replace("sleep(600)", "sleep(1)")))
+        found: list[BaseException] = []
+
+        def run() -> None:
+            try:
+                (store["t"] + 1).store("y")
+            except Exception as error:
+                found.append(error)
+
+        threads = [threading.Thread(target=run) for _ in range(3)]
+        for thread in threads:
+            thread.start()
+        for thread in threads:
+            thread.join()
+        self.assertEqual(sum(isinstance(error, cengmoat.Locked) for error in found), 2, found)
+
+
+class Words(Case):
+    def test_words_of_each_command(self) -> None:
+        """What a store says is what the program is told."""
+        path = os.path.join(self.folder, "words")
+        text = f"open({path!r}, 'a').write(' '.join(words) + chr(10))\nsys.stderr.write('error 70')\nsys.exit(70)"
+        here = self.store(program=self.fake_program(text), allowed_mem="1MB", reserved_mem=7, workers=3, retries=1, split_every=5)
+        t = here.save("t", np.arange(4))
+        for call in ((t + 1).plan, lambda: (t + 1).store("y"), lambda: (t + 1).check("t")):
+            self.assertRaises(cengmoat.NoMemory, call)
+        with open(path, encoding="utf-8") as file:
+            said = file.read().splitlines()
+        memory = "--allowed-mem 1000000 --reserved-mem 7 --split-every 5"
+        self.assertEqual(said, [f"{here.folder} plan {memory}", f"{here.folder} run {memory} --retries 1 --workers 3",
+                                f"{here.folder} check --retries 1"])
+        os.unlink(path)
+        self.assertRaises(cengmoat.NoMemory, (self.store(program=here.program)["t"] + 1).store, "y")
+        with open(path, encoding="utf-8") as file:
+            self.assertEqual(file.read(), f"{here.folder} run --allowed-mem 200000000 --reserved-mem 0 --split-every 4 --retries 2\n")
+
+
+class Programs(Case):
+    """Where the program is found."""
+
+    def put(self, path: str, mode: int = 0o755) -> str:
+        path = os.path.join(self.folder, path)
+        os.makedirs(os.path.dirname(path), exist_ok=True)
+        with open(path, "w", encoding="utf-8") as file:
+            file.write("#!/bin/sh\n")
+        os.chmod(path, mode)
+        return path
+
+    def test_behind_the_script_of_a_repository(self) -> None:
+        find = cengmoat.program.find_program
+        script = self.put("cubed")
+        self.assertEqual(find(script), script)
+        source, _ = self.put("crates/cu_top/src/lib.rt", 0o644), self.put("crates.txt", 0o644)
+        self.assertRaises(cengmoat.NoProgram, find, script)
+        built = self.put("crates/cu_bin/out/cu_bin")
+        link = os.path.join(self.folder, "link")
+        os.symlink(script, link)
+        self.assertEqual((find(script), find(link)), (built, built))
+        self.put("crates/cu_top/must-fail/a.rt")
+        os.utime(source, (time.time() + 9, time.time() + 9))
+        os.utime(built)
+        self.assertRaises(cengmoat.NoProgram, find, script)
+        archived = self.put("program/cubed")
+        self.assertEqual(find(script), archived)
+
+    def test_the_environment_and_the_path(self) -> None:
+        code = "import cengmoat; print(cengmoat.program.find_program())"
+        one, other = self.put("one/cubed"), self.put("other/program")
+        for more, wanted in (({"CENGMOAT_CUBED": other}, other), ({"CENGMOAT_CUBED": other, "PATH": os.path.dirname(one)}, other)):
+            said = subprocess.run([sys.executable, "-c", code], env={**os.environ, "PYTHONPATH": PYTHON, **more}, capture_output=True, text=True)
+            self.assertEqual(said.stdout.strip(), wanted, said.stderr)
+        self.assertRaises(cengmoat.NoProgram, cengmoat.program.find_program, os.path.join(self.folder, "none"))
+
+
+class Unfinished(WithProgram):
+    def setUp(self) -> None:
+        super().setUp()
+        self.here = self.store()
+        self.t = self.here.save("t", np.arange(1, 13, dtype="int32").reshape(3, 4), (1, 3))
+        self.y = self.t * 2 + 1
+        self.y.store("y")
+        self.exact = np.arange(1, 13, dtype="int32").reshape(3, 4) * 2 + 1
+
+    def stop(self) -> None:
+        """Leave what a run leaves that was stopped before its last chunks."""
+        for key in ("y/c/1/1", "y/c/2/0", "y/c/2/1", "_cubed/y/0/c/2/1"):
+            path = os.path.join(self.here.folder, key)
+            if os.path.exists(path):
+                os.unlink(path)
+
+    def test_status(self) -> None:
+        self.stop()
+        found = self.here.status()["y"]
+        self.assertEqual((found.name, found.dtype, found.shape, found.chunks), ("y", np.dtype("int32"), (3, 4), (1, 3)))
+        self.assertEqual((found.stored, found.nchunks, found.is_finished, found.state, found.nbytes), (3, 6, False, "unfinished", 36))
+        self.assertTrue(self.here.status()["t"].is_finished)
+        self.assertIn("3 of 6", repr(self.here.status()))
+        self.assertIn("unfinished", self.here.status()._repr_html_())
+        os.unlink(os.path.join(self.here.folder, "y", "zarr.json"))
+        self.assertFalse(self.here.status()["y"].is_finished)
+        self.assertEqual(self.here.names(), ["t"])
+
+    def test_it_is_refused_as_an_input(self) -> None:
+        stored = self.here["y"]
+        self.stop()
+        self.assertRaises(cengmoat.Unfinished, self.here.__getitem__, "y")
+        self.assertRaises(cengmoat.Unfinished, self.here.read, "y")
+        self.assertRaises(cengmoat.Unfinished, (stored + 1).compute)
+        self.assertRaises(cengmoat.Unfinished, stored.compute)
+        self.assertRaises(cengmoat.Unfinished, self.y.check, "y")
+        self.assertRaises(cengmoat.Unfinished, (stored + 1).store, "z")
+        half = self.exact.copy()
+        half[1, 3:], half[2] = 0, 0
+        self.same((self.here.array("y", unfinished=True) + 1).compute(), half + 1)
+        self.same(self.here.read("y", unfinished=True), half)
+        self.same(cengmoat.from_zarr(self.here.folder, "y", unfinished=True, program=PROGRAM).compute(), half)
+
+    def test_it_is_taken_up_again(self) -> None:
+        self.stop()
+        self.assertRaises(cengmoat.Exists, self.y.store, "y")
+        with self.assertRaises(cengmoat.OtherPlan):
+            (self.t * 2 + 3).store("y", resume=True)
+        with self.assertRaises(cengmoat.OtherPlan):
+            self.y.store("y", store=self.store(allowed_mem=10**6), resume=True)
+        self.assertFalse(self.here.status()["y"].is_finished)
+        self.same(self.y.store("y", resume=True).compute(), self.exact)
+        self.same(self.y.store("y", resume=True).compute(), self.exact)
+        self.same(self.y.store("new", resume=True).compute(), self.exact)
+        self.assertTrue(all(it.is_finished for it in self.here.status()))
+
+    def test_with_an_array_in_memory(self) -> None:
+        def lazy() -> Any:
+            return self.t + np.array([1, 2, 3, 4])
+
+        lazy().store("m")
+        os.unlink(os.path.join(self.here.folder, "m", "c", "2", "1"))
+        self.same(lazy().store("m", resume=True).compute(), self.exact // 2 + np.array([1, 2, 3, 4]))
+        self.assertEqual(self.here.names(), ["m", "t", "y"])
+
+
+class Running(WithProgram):
+    def setUp(self) -> None:
+        super().setUp()
+        self.here = self.store()
+        self.data = np.arange(-10, 20, dtype="int16").reshape(5, 6)
+        self.t = self.here.save("t", self.data, (2, 4))
+
+    def test_compute_leaves_no_key(self) -> None:
+        before = self.keys(self.here.folder)
+        a, b, again = cengmoat.compute(self.t + 1, (self.t > 3).any(axis=1), self.t + 1)
+        self.same(a, self.data + np.int16(1))
+        self.same(b, (self.data > 3).any(axis=1))
+        self.same(again, self.data + np.int16(1))
+        self.same(np.asarray(self.t - self.t), self.data - self.data)
+        self.assertEqual(self.keys(self.here.folder), before)
+        self.assertEqual(cengmoat.compute(), ())
+
+    def test_values(self) -> None:
+        total = self.t.sum()
+        self.assertEqual((int(total), bool(total), float(total), complex(total), range(20)[self.t.max()]), (135, True, 135.0, 135 + 0j, 19))
+        self.assertFalse(bool((self.t > 100).any()))
+        self.assertEqual([int(row.sum()) for row in self.t], self.data.sum(axis=1).tolist())
+
+    def test_storing(self) -> None:
+        stored = cengmoat.to_zarr(self.t.T, "turned")
+        self.assertEqual((stored.node.op, stored.shape, stored.chunks), ("input", (6, 5), (4, 2)))
+        self.assertEqual(self.here.report.ops, 1)
+        self.same(self.here.read("turned", (slice(1, None, 2), -1)), self.data.T[1::2, -1])
+        self.same(cengmoat.from_zarr(self.here.folder, "turned", program=PROGRAM).compute(), self.data.T)
+        (xp.asarray([1, 2]) - xp.asarray([5, 9])).store("memory", store=self.here)
+        self.same(self.here.read("memory"), np.array([-4, -7]))
+        self.assertEqual([name for name in self.here.names() if name.startswith("data-")], [])
+        xp.ones((2, 2), dtype="uint8").store("made", store=self.here)
+        self.same(self.here.read("made"), np.ones((2, 2), "uint8"))
+
+    def test_plans(self) -> None:
+        lazy = (self.t + self.here.save("o", np.ones(6, "int8"), 6)).sum(axis=0)
+        plan = lazy.plan()
+        self.assertEqual([it.kind for it in plan], ["copy", "map", "fold", "merge"])
+        self.assertEqual([it.nbytes for it in plan], [2 * 4, 6 * 16, 6 * 32, 2 * 32])
+        self.assertEqual((plan.tasks, plan.stored, plan.nbytes), (1 + 6 + 6 + 2, 2 + 6 + 6 + 2, sum(it.nbytes for it in plan)))
+        self.assertEqual(plan.peak, max(it.memory for it in plan))
+        lazy.store("sums")
+        self.assertEqual((self.here.report.tasks, self.here.report.peak), (plan.tasks, plan.peak))
+        self.assertEqual(self.stored_bytes("sums"), plan.nbytes)
+        for said in ("t + o", "sum(t + o, axis=0)", "(5, 6)", "int16", "copy", "peak"):
+            self.assertIn(said, repr(plan))
+        self.assertIn("<table>", plan._repr_html_())
+
+    def stored_bytes(self, name: str) -> int:
+        """Return the bytes of all chunks of a run."""
+        return sum(os.path.getsize(os.path.join(at, file)) for top in (name, f"_cubed/{name}")
+                   for at, _, files in os.walk(os.path.join(self.here.folder, top)) for file in files if not file.endswith(".json"))
+
+    def test_bytes_of_plans(self) -> None:
+        wide = self.here.save("wide", np.arange(96, dtype="int32").reshape(8, 12), (8, 1))
+        for number, lazy in enumerate((wide.rechunk((1, 12)), wide.argmax(axis=1), wide.argmin(), wide[:, ::2], wide.any(),
+                                       wide @ wide.T, xp.matmul(wide[:, 0], wide), wide.astype("int8").astype("int64"), wide.sum(axis=0))):
+            here = self.store(allowed_mem=300 if number == 0 else 10**5)
+            plan = lazy.plan(store=here)
+            lazy.store(f"r{number}", store=here)
+            self.assertEqual(self.stored_bytes(f"r{number}"), plan.nbytes, plan)
+        self.assertEqual([it.kind for it in wide.rechunk((1, 12)).plan(store=self.store(allowed_mem=300))], ["copy", "copy"])
+
+    def test_progress(self) -> None:
+        plan = (self.t * 2 + 1).plan()
+        stream = io.StringIO()
+        bar = cengmoat.progress.Bar(self.here.folder, "p", plan, "p", stream)
+        bar.bar = None
+        (self.t * 2 + 1).store("p")
+        self.assertEqual(bar.stored(), plan.stored)
+        bar.show(plan.operations[0].stored)
+        bar.watch()
+        bar.close(True)
+        self.assertIn(f"{plan.operations[0].tasks}/{plan.tasks} tasks", stream.getvalue())
+        self.assertIn(f"{plan.tasks}/{plan.tasks} tasks", stream.getvalue())
+        before, sys.stderr = sys.stderr, io.StringIO()
+        try:
+            (self.t + 1).store("q", progress=True)
+            self.assertIn("6/6", sys.stderr.getvalue())
+            (self.t + 1).store("r", progress=False)
+            self.assertNotIn("r:", sys.stderr.getvalue())
+        finally:
+            sys.stderr = before
+
+    def test_a_real_run_is_interrupted(self) -> None:
+        self.here.save("big", np.ones(1500, "int64"), 1)
+        before = self.keys(self.here.folder)
+        work = HEARS + textwrap.dedent(f"""
+            import cengmoat
+            x = cengmoat.Store({self.here.folder!r}, program={PROGRAM!r})["big"]
+            for _ in range(8):
+                x = cengmoat.array_api.flip(x)
+            x.compute()
+        """)
+        # (it is tried again where the run ended before it was interrupted)
+        self.assertTrue(any(self.interrupted(work, before) for _ in range(5)))
+
+    def interrupted(self, work: str, before: list[str]) -> bool:
+        """Interrupt a run when it has stored some chunks, see that nothing of it is left, and return whether it was in time."""
+        process = subprocess.Popen([sys.executable, "-c", work], env={**os.environ, "PYTHONPATH": PYTHON}, stdout=subprocess.PIPE,
+                                   stderr=subprocess.PIPE)
+        records = os.path.join(self.here.folder, "_cubed")
+
+        def begun() -> bool:
+            heads = os.listdir(records) if os.path.isdir(records) else []
+            return process.poll() is not None or any(os.path.isdir(os.path.join(records, head, "0", "c")) for head in heads)
+
+        until(begun)
+        process.send_signal(signal.SIGINT)
+        said = process.communicate(timeout=60)[1]
+        self.assertEqual(self.keys(self.here.folder), before)
+        return b"KeyboardInterrupt" in said
+
+
+if __name__ == "__main__":
+    unittest.main()
