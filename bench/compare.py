@@ -7,7 +7,8 @@ A case has up to three stored arrays of any type, up to four axes (of copies six
 keys with either separator, members of the metadata in any order, any fill value, chunks that are absent, any bytes past the edge, and
 any bytes for truth values; and an expression of up to ten nodes over them: every elementwise function, view and reduction, searches
 for places, products of matrices and changes of chunks, literals, broadcast shapes, arguments in chunks that fit each other or don't,
-nodes that are used twice, dead nodes, inputs that are themselves the result, and any count of partial results that a task merges.
+nodes that are used twice, dead nodes, inputs that are themselves the result, any count of partial results that a task merges, and memory
+with which all, some or none of the maps that could be are merged.
 `--only` says which nodes a case has most of: functions, views, reductions, copies (of up to 2,500 elements, in memory around what
 the plan needs), or any. `plan` must print what bench/rules.py says, and store nothing; what `run` must store is computed by NumPy,
 the arrays on the way too, and what it must answer is told by bench/rules.py. One case in four is damaged, in one or two of: the text,
@@ -131,6 +132,8 @@ class Case:
         self.split_every = pick.choice([rules.SPLIT_EVERY, rules.SPLIT_EVERY, 2, 3, 5, 64])
         if mix.askew == 1 and mix is not MIXES["check"]:
             self.fit_memory()
+        elif mix is not MIXES["check"] and pick.random() < 0.3:
+            self.fit_maps()
 
     def fit_memory(self):
         """Allows about as much as the plan needs."""
@@ -138,6 +141,13 @@ class Case:
         if plan:
             most = max(plan.need(k) for k, live in enumerate(plan.live) if live)
             self.allowed = max(0, most + self.pick.choice([-1, 0, 0, 1, self.pick.randint(0, 64), self.pick.randint(0, most), self.pick.randint(0, most), 2 * most, ALLOWED]))
+
+    def fit_maps(self):
+        """Allows about as much as an operation of the plan needs, so that some maps are merged and some aren't."""
+        if self.is_typed():
+            plan = rules.typed_plan(self.text.encode(), self.held, self.allowed, self.reserved, self.split_every)
+            projected = self.pick.choice([plan.projected(step) for _, step in plan.operations()])
+            self.allowed = max(0, projected + self.pick.choice([-1, 0, 0, -self.pick.randint(0, 2000)]))
 
     def is_typed(self):
         try:
@@ -208,11 +218,13 @@ class Case:
 
     def bad_chunk(self, plan, arg, where):
         """Returns the line for a chunk of another length of an input, or nothing."""
+        if plan.expr["nodes"][arg]["op"] != "input":
+            return None
         key = plan.key(arg, where)
         path = os.path.join(self.folder, key)
         dtype, _, chunk = plan.infos[arg]
         want = rules.SIZES[dtype] * int(numpy.prod(chunk, dtype=object))
-        if plan.expr["nodes"][arg]["op"] == "input" and os.path.isfile(path) and os.path.getsize(path) != want:
+        if os.path.isfile(path) and os.path.getsize(path) != want:
             return f"error 13 key={key} got={os.path.getsize(path)} want={want}\n"
         return None
 
@@ -220,7 +232,7 @@ class Case:
         """Returns the lines for chunks of another length that a task reads, and those for such that it may read: a reshape may
         read a chunk of which it needs no element."""
         read, perhaps = set(), set()
-        for k in plan.made:
+        for k in plan.lowered:
             read |= {self.bad_chunk(plan, arg, where) for arg, where in chunks_read(plan, k)}
             if plan.expr["nodes"][k]["op"] in ("reshape", "squeeze", "expand_dims"):
                 perhaps |= {self.bad_chunk(plan, arg, where) for arg in plan.arrays(k) for where in plan.chunks(arg)}

@@ -225,6 +225,9 @@ read_region_of-answer-requires-clause-coordinates g c coord m =
 """
 
 
+SOURCES = {"src/main.rt": SOURCE, "proofs/timed_read/Answers.antt": ANSWERS}
+
+
 def needed(names):
     """The repository's crates among these and below them, with their lines of crates.txt."""
     with open(os.path.join(TOP, "crates.txt")) as file:
@@ -238,17 +241,16 @@ def needed(names):
     return found
 
 
-def write_sources(folder):
-    """A repository of the program and the crates below it."""
-    lines = needed(NEEDS)
-    for name in lines:
-        shutil.copytree(os.path.join(TOP, "crates", name), os.path.join(folder, "crates", name),
+def write_sources(folder, name, needs, sources):
+    """A repository of a program, of which these are the files, and of the crates below it."""
+    lines = needed(needs)
+    for below in lines:
+        shutil.copytree(os.path.join(TOP, "crates", below), os.path.join(folder, "crates", below),
                         ignore=shutil.ignore_patterns("out", "must-fail"))
     shutil.copy(os.path.join(TOP, "HANDLES"), folder)
-    crate = os.path.join(folder, "crates", NAME)
-    texts = {os.path.join(folder, "crates.txt"): "".join(lines.values()) + f"{NAME}: {' '.join(NEEDS)}\n",
-             os.path.join(crate, "src", "main.rt"): SOURCE,
-             os.path.join(crate, "proofs", "timed_read", "Answers.antt"): ANSWERS}
+    crate = os.path.join(folder, "crates", name)
+    texts = {os.path.join(crate, path): text for path, text in sources.items()}
+    texts[os.path.join(folder, "crates.txt")] = "".join(lines.values()) + f"{name}: {' '.join(needs)}\n"
     for path, text in texts.items():
         os.makedirs(os.path.dirname(path), exist_ok=True)
         with open(path, "w") as file:
@@ -268,11 +270,11 @@ def sum_of(folder):
     return told.hexdigest()[:16]
 
 
-def program_in(keep):
+def program_in(keep, name=NAME, needs=NEEDS, sources=SOURCES):
     """The path in this folder of the program built from the sources as they are. It is built where it isn't there."""
     with tempfile.TemporaryDirectory(prefix="cubed-build-") as folder:
-        crate = write_sources(folder)
-        kept = os.path.join(os.path.abspath(keep), f"{NAME}-{sum_of(folder)}")
+        crate = write_sources(folder, name, needs, sources)
+        kept = os.path.join(os.path.abspath(keep), f"{name}-{sum_of(folder)}")
         if os.access(kept, os.X_OK):
             return kept
         if not shutil.which("rt"):
@@ -282,7 +284,7 @@ def program_in(keep):
         if ran.returncode:
             raise SystemExit(f"{ran.stdout}rt run ended with status {ran.returncode}")
         os.makedirs(keep, exist_ok=True)
-        shutil.copy(os.path.join(crate, "out", NAME), kept + ".new")
+        shutil.copy(os.path.join(crate, "out", name), kept + ".new")
         os.rename(kept + ".new", kept)
         return kept
 

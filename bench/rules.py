@@ -1,11 +1,12 @@
 """What `plan` and `run` must answer for an expression, read anew from the public standards and this project's own rules: the text (3),
 the metadata of the inputs (8, 7), types and shapes (4), memory (5), counts (6), keys in the way (9), the operations with their
-tasks, chunks and memory, the record, the keys of the arrays that are made, and the elements of elementwise functions as exact whole
-numbers.
+tasks, chunks and memory, also after maps are merged, the record, the keys of the arrays that are made, and the elements of elementwise
+functions as exact whole numbers.
 
 Nothing here comes from the program. bench/compare.py and tools/elementwise_cases.py use it; the first takes the elements from
 NumPy instead.
 """
+import collections
 import itertools
 import json
 import math
@@ -18,6 +19,7 @@ from reductions import FOLDS, PLACES, Step, aligned_operands, bytes_of, fold_ste
 
 NAME = re.compile(r"[A-Za-z0-9][A-Za-z0-9_.-]{0,31}\Z")
 MOST_TEXT, MOST_NODES, MOST_TASKS, MOST_CELLS = 1 << 20, 256, 1 << 16, 1 << 18
+MOST_INPUTS, MOST_INSTRUCTIONS = 8, 32
 SPLIT_EVERY, DEFAULT = 4, 200000000
 
 
@@ -392,9 +394,46 @@ class Plan:
         self.places = {node["id"]: number for number, node in enumerate(expr["nodes"])}
         self.out = self.places[expr["out"]]
         self.live = self.marks()
-        self.made = [k for k, node in enumerate(expr["nodes"]) if self.live[k] and (node["op"] != "input" or k == self.out)]
-        self.steps = {k: self.steps_of(k) for k in self.made}
+        self.lowered = [k for k, node in enumerate(expr["nodes"]) if self.live[k] and (node["op"] != "input" or k == self.out)]
+        self.steps = {k: self.steps_of(k) for k in self.lowered}
+        self.counts = self.tasks(), self.cells()
+        self.merge_maps()
         self.prefixes = dict(self.named())
+
+    def merge_maps(self):
+        """Merges maps into the maps that read them: these are taken in order, and the inputs of each from first to last, as they stand
+        when it is taken. An input is told by the node of which it is an argument and its place among this node's arrays."""
+        maps = [k for k in self.lowered if self.expr["nodes"][k]["op"] in FUNCTIONS]
+        self.map_inputs = {k: [(k, at) for at in range(len(self.arrays(k)))] for k in maps}
+        self.instructions = {k: len(self.arrays(k)) + self.literals(k) + 1 for k in maps}
+        self.merged = set()
+        reads = collections.Counter(arg for k in self.lowered for arg in self.arrays(k))
+        for k in maps:
+            for source in list(self.map_inputs[k]):
+                maker = self.straight(source)
+                if maker in maps and maker != self.out and reads[maker] == 1 and self.infos[maker][1:] == self.infos[k][1:]:
+                    self.merge(maker, k, source)
+        self.made = [k for k in self.lowered if k not in self.merged]
+
+    def merge(self, maker, reader, source):
+        """Merges a map into the one that reads it as this input, where both together are small enough."""
+        at = self.map_inputs[reader].index(source)
+        inputs = self.map_inputs[reader][:at] + self.map_inputs[maker] + self.map_inputs[reader][at + 1:]
+        instructions = self.instructions[reader] - 1 + self.instructions[maker]
+        chunks = [bytes_of(self.infos[self.arrays(k)[place]][0], self.aligned_args(k)[place]) for k, place in inputs]
+        result = bytes_of(*self.infos[reader][::2])
+        room = max([*chunks, result]) + sum(chunks) + result + 512 * instructions
+        if len(inputs) <= MOST_INPUTS and instructions <= MOST_INSTRUCTIONS and self.reserved + room <= self.allowed:
+            self.map_inputs[reader], self.instructions[reader] = inputs, instructions
+            self.steps[reader][-1] = Step("map", [self.infos[reader]], room)
+            self.steps[maker].pop()
+            self.merged.add(maker)
+
+    def straight(self, source):
+        """Returns the node whose array is this input of a map, and nothing where it is a copy in other chunks."""
+        k, at = source
+        arg = self.arrays(k)[at]
+        return arg if self.aligned_args(k)[at] == list(self.infos[arg][2]) else None
 
     def named(self):
         """Yields the prefix of each made array, by its node, the place of its operation and its place among those that this writes."""
@@ -524,6 +563,10 @@ class Plan:
                 for which, array in enumerate(step.arrays):
                     yield k, at, which, array
 
+    def map_reads(self, k, place):
+        """Returns for each input of a map that is left, in order, the input and the node and the chunk of its argument that a task reads."""
+        return [((node, at), *self.task_inputs(node, place)[at]) for node, at in self.map_inputs[k]]
+
     def task_inputs(self, k, place):
         """Returns for each argument the node and the chunk that a task of a function reads where all are aligned."""
         shape = self.infos[k][1]
@@ -543,7 +586,7 @@ class Plan:
 
     def record(self):
         names = sorted({node["name"] for node in self.expr["nodes"] if node["op"] == "input"})
-        return {"allowed": self.allowed, "cubed": 1, "expr": self.expr, "inputs": {name: self.metas[name].written() for name in names},
+        return {"allowed": self.allowed, "cubed": 2, "expr": self.expr, "inputs": {name: self.metas[name].written() for name in names},
                 "reserved": self.reserved, "split_every": self.split_every}
 
     def array(self, k):
@@ -570,10 +613,11 @@ def counted_plan(data, held, allowed, reserved, split_every=SPLIT_EVERY):
     for k, live in enumerate(plan.live):
         if live and plan.need(k) > allowed:
             refuse(5, node=k, need=plan.need(k), allowed=allowed)
-    if plan.tasks() > MOST_TASKS:
-        refuse(6, which=1, count=plan.tasks())
-    if plan.cells() > MOST_CELLS:
-        refuse(6, which=2, count=plan.cells())
+    tasks, cells = plan.counts
+    if tasks > MOST_TASKS:
+        refuse(6, which=1, count=tasks)
+    if cells > MOST_CELLS:
+        refuse(6, which=2, count=cells)
     return plan
 
 

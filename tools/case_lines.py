@@ -33,7 +33,7 @@ def program_calls(case, shared):
 def calls(kind, case, shared):
     if kind == "calls":
         return program_calls(case, shared)
-    for name in ("steps", "calls", "rows"):
+    for name in ("steps", "calls", "rows", "turns"):
         if name in case:
             return len(case[name])
     return 1

@@ -128,7 +128,7 @@ def calls_of(plan):
     done = 2
     for op, k in enumerate(plan.made):
         for task, place in enumerate(plan.chunks(k)):
-            keys = [("get", plan.key(arg, where)) for arg, where in plan.task_inputs(k, place)] + [("put", plan.key(k, place))]
+            keys = [("get", plan.key(arg, where)) for _, arg, where in plan.map_reads(k, place)] + [("put", plan.key(k, place))]
             calls += [(kind, key, done, (op, task)) for kind, key in keys]
             done += 1
     return calls
@@ -175,7 +175,7 @@ LITERAL_EXPRESSION = '{"nodes":[{"id":"a","op":"input","name":"a"},{"id":"b","op
 LITERAL_METADATA = '{"chunk_grid":{"configuration":{"chunk_shape":[4]},"name":"regular"},"chunk_key_encoding":{"configuration":' \
     '{"separator":"/"},"name":"default"},"codecs":[{"configuration":{"endian":"little"},"name":"bytes"}],"data_type":"int32",' \
     '"fill_value":0,"node_type":"array","shape":[6],"zarr_format":3}'
-LITERAL_RECORD = '{"allowed":1600,"cubed":1,"expr":{"nodes":[{"id":"a","name":"a","op":"input"},{"id":"b","name":"b","op":"input"},' \
+LITERAL_RECORD = '{"allowed":1600,"cubed":2,"expr":{"nodes":[{"id":"a","name":"a","op":"input"},{"id":"b","name":"b","op":"input"},' \
     '{"args":["a","b"],"id":"s","op":"add"},{"args":["s",2],"id":"t","op":"multiply"}],"out":"t","store_as":"y"},"inputs":{"a":' \
     f'{LITERAL_METADATA},"b":{LITERAL_METADATA}' + '},"reserved":0,"split_every":4}'
 LITERAL_CHUNKS = [
@@ -329,6 +329,63 @@ def used_twice_rows():
                 [node("p", "input", name="a"), node("q", "input", name="a"), node("s", "add", "p", "q"), node("t", "add", "s", "q")]))]
 
 
+def reported(row, ops, tasks, peak):
+    assert row["output"] == f"ok ops={ops} tasks={tasks} starts={tasks} failed=0 peak={peak}\n", row["output"]
+    return row
+
+
+def functions_of(count):
+    """Returns so many functions, each of the one before; a number is negated or not."""
+    return [*inputs_of("a"), *[node(f"m{at}", "negative", f"m{at - 1}" if at else "a") for at in range(count)]]
+
+
+def sum_of(count):
+    """Returns the arrays a0, a1 and so on, and the nodes that add them one after another."""
+    arrays = {f"a{at}": six(range(at, at + 6)) for at in range(count)}
+    adds = [node(f"s{at}", "add", f"s{at - 1}" if at > 1 else "a0", f"a{at}") for at in range(1, count)]
+    return arrays, [*inputs_of(*arrays), *adds]
+
+
+def merged_rows():
+    """Maps whose result one other map alone reads: with enough memory they are one operation, with a byte less they are two. An array that
+    is read twice stays, and so does one of another grid; and a map has at most 8 inputs and 32 instructions."""
+    two = a_and_b()
+    three = {**two, "c": six([7, 7, 7, 9, 9, 9])}
+    matrix = {"a": stored("int32", [2, 3], [1, 2], range(6)), "b": stored("int32", [3], [2], [5, 6, 7])}
+    nine, eight, one = sum_of(9), sum_of(8), {"a": six([1, 2, 3, 4, 5, 6])}
+    both = [*ADDED, node("d", "subtract", "a", "b"), node("p", "multiply", "s", "d")]
+    diamond = [*ADDED, node("u", "negative", "s"), node("v", "square", "s"), node("w", "subtract", "u", "v")]
+    last = [*inputs_of("a", "b", "c"), node("n", "square", "c"), node("s", "subtract", "a", "b"), node("t", "subtract", "n", "s")]
+    chosen = [*ADDED, node("l", "less", "a", 3), node("w", "where", "l", "s", -1), node("t", "subtract", 100, "w")]
+    narrow = [*ADDED, node("n", "astype", "s", dtype="int8"), node("w", "add", "n", "a"), node("t", "equal", "w", "b")]
+    stretched = [*inputs_of("a", "b"), node("n", "negative", "b"), node("s", "add", "a", "n"), node("t", "square", "s")]
+    copied = [*inputs_of("a", "b"), node("n", "negative", "b"), node("s", "add", "a", "n"), node("t", "square", "s")]
+    sides = {"a": six([1, 2, 3, 4, 5, 6]), "b": stored("int32", [6], [3], range(6))}
+    return [
+        reported(ran(two, expression(DOUBLED), 2624), 1, 2, 2624), reported(ran(two, expression(DOUBLED), 2623), 2, 4, 1600),
+        reported(ran(two, expression(DOUBLED), 2631, 7), 1, 2, 2631), reported(ran(two, expression(DOUBLED), 2630, 7), 2, 4, 1607),
+        reported(ran(two, expression(both)), 1, 2, 3680), ran(two, expression([*ADDED, node("t", "multiply", "s", "s")])),
+        ran(two, expression(diamond)), ran(three, expression(last)), ran(two, expression(chosen)), ran(two, expression(narrow)),
+        ran(matrix, expression(stretched)),
+        with_copy(ran(sides, expression(copied)), "_cubed/y/1", stored("int32", [6], [4], [0, -1, -2, -3, -4, -5])), ran(*(eight[0], expression(eight[1]))), ran(*(nine[0], expression(nine[1]))),
+        ran(one, expression(functions_of(31))), ran(one, expression(functions_of(32))), ran(one, expression(functions_of(64))),
+        ran({"a": number("int16", 5), "b": number("int16", -7)}, expression(both)),
+        ran({"a": stored("int8", [0, 3], [2, 2], []), "b": stored("int8", [3], [2], [1, 2, 3])}, expression([*ADDED, node("t", "abs", "s")]))]
+
+
+def with_copy(row, name, array):
+    """Returns the row with the chunks of a copy, which the plan makes behind its first array: the rules name the arrays of nodes alone."""
+    leaves = row["leaves"]
+    at = next(k for k, (key, _) in enumerate(leaves) if key.startswith("y/c"))
+    return {**row, "leaves": leaves[:at] + array.holds(name)[1:] + leaves[at:]}
+
+
+def merged_calls():
+    """One operation of two maps, whichever call fails."""
+    arrays = {**a_and_b(), "c": six([1, 1, 1, 2, 2, 2])}
+    return looped(arrays, expression([*inputs_of("a", "b", "c"), node("s", "add", "a", "b"), node("t", "multiply", "c", "s")]), 2640, 20)
+
+
 def dead_rows():
     """A dead input is read and stands in the record; its chunks are neither read nor needed, and no dead node is carried out."""
     large = stored("int64", [4000], [2000], [0] * 4000, absent={(0,), (1,)})
@@ -406,6 +463,8 @@ def elementwise_cases():
         {"name": "faults in the tasks of later operations", "rows": broken_rows()},
         {"name": "chains of 1, 2 and 40 functions", "rows": chained_rows()},
         {"name": "a node and an input are used twice", "rows": used_twice_rows()},
+        {"name": "maps that are merged, and maps that aren't", "rows": merged_rows()},
+        {"name": "two maps in one operation, whichever call fails", **merged_calls()},
         {"name": "dead nodes are neither carried out nor refused for memory, and chunks of dead inputs aren't read", "rows": dead_rows()},
         {"name": "arrays without an axis", "rows": rank_zero_rows()},
         {"name": "arrays without elements", "rows": empty_rows()},
@@ -521,9 +580,9 @@ def memory_rows():
     rows = []
     for text in (expression(nodes), expression(select)):
         plan = plan_over(text, bytes_of, 10**6)
-        for k in plan.made:
-            rows.append(refused(bytes_of, text, None, plan.need(k) - 1))
-        rows.append(ran(bytes_of, text, plan.peak()))
+        needs = [plan.need(k) for k in plan.lowered]
+        rows += [refused(bytes_of, text, None, need - 1) for need in needs]
+        rows += [ran(bytes_of, text, allowed) for allowed in (max(needs), plan.peak() - 1, plan.peak())]
     return rows + [
         refused(a_and_b(), expression(ADDED), "error 5 node=0 need=1601 allowed=1600", 1600, 1601),
         refused(a_and_b(), expression([*inputs_of("a", "b"), node("n", "negative", "b")]), "error 5 node=1 need=9 allowed=8", 8, 9),
@@ -607,7 +666,7 @@ def pair_rows():
         row(both, "5 node=2 need=1600 allowed=1599", faults=failing("_cubed/y/plan.json", "has"), allowed=1599, calls=2),
         row(both, "16 key=_cubed/y/plan.json", faults=failing("_cubed/y/plan.json", "has"), more_holds=[["y/zarr.json", ""]]),
         row(both, "9 key=_cubed/y/plan.json", faults=failing("y/zarr.json", "has"), more_holds=held),
-        row(both, "16 key=_cubed/y/0/c/1", expression(DOUBLED), faults=failing("_cubed/y/0/c/1", "has"), more_holds=[["y/c/0", ""]]),
+        row(both, "16 key=_cubed/y/0/c/1", expression(DOUBLED), allowed=1600, faults=failing("_cubed/y/0/c/1", "has"), more_holds=[["y/c/0", ""]]),
         row({"a": six([1, 2, 3, 4, 5, 6], raw={(0,): {"hex": "01"}}), "b": both["b"]}, "9 key=y/c/1", more_holds=[["y/c/1", ""]])]
 
 

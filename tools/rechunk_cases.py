@@ -288,9 +288,15 @@ def reads_of(plan, k, at, place):
     if step.kind == "copy":
         wheres = step.within(place, step.source)
         return [plan.part_key(k, at - 1, 0, where) if step.is_second else plan.key(step.arg, where) for where in wheres]
-    lasts = [number for number, other in enumerate(plan.steps[k][:at]) if other.kind == "copy" and not plan.steps[k][number + 1].is_second]
-    copies = {arg: number for (arg, _, _), number in zip(plan.copied(k), lasts)}
-    return [plan.part_key(k, copies[arg], 0, where) if arg in copies else plan.key(arg, where) for arg, where in plan.task_inputs(k, place)]
+    return [plan.key(arg, where) if plan.straight(source) is not None else plan.part_key(source[0], copy_of(plan, *source), 0, where)
+            for source, arg, where in plan.map_reads(k, place)]
+
+
+def copy_of(plan, k, place):
+    """Returns the number of the operation of a node that makes the copy of an argument in other chunks."""
+    steps = plan.steps[k]
+    lasts = [at for at, step in enumerate(steps) if step.kind == "copy" and not (at + 1 < len(steps) and steps[at + 1].is_second)]
+    return lasts[[at for at in range(len(plan.arrays(k))) if plan.straight((k, at)) is None].index(place)]
 
 
 def looped(arrays, text, allowed):
@@ -367,10 +373,10 @@ def demo_rows():
     """Every kind but one, over arrays of whose chunks none is held; and the others over small ones."""
     large = {"demo_a": metadata_of("int32", [512, 512], [64, 512]), "demo_b": metadata_of("int32", [512, 512], [512, 64])}
     row = planned(large, expression(DEMO), 1000000, calls=2)
-    assert row["output"].splitlines()[-1].startswith("plan ops=10 tasks=57 ") and row["output"].endswith("peak=540672\n"), row["output"]
+    assert row["output"].splitlines()[-1].startswith("plan ops=8 tasks=41 ") and row["output"].endswith("peak=658944\n"), row["output"]
     small = {"demo_a": metadata_of("int32", [4, 4], [4, 4]), "demo_b": metadata_of("int32", [4, 4], [4, 4])}
     four = planned(small, expression(DEMO))
-    assert four["output"].endswith("peak=1792\n") and "plan ops=6 tasks=6 " in four["output"], four["output"]
+    assert four["output"].endswith("peak=3904\n") and "plan ops=4 tasks=4 " in four["output"], four["output"]
     a, matrix = metadata_of("int16", [5], [2]), metadata_of("int8", [4, 5], [2, 2])
     return [row, four, planned({"a": matrix, "b": a}, expression([*inputs_of("a", "b"), node("r", "matmul", "a", "b")])),
             planned({"a": matrix, "b": metadata_of("uint8", [5, 3], [3, 2])}, expression([*inputs_of("a", "b"), node("r", "matmul", "a", "b")]), None, 0, 2),

@@ -23,6 +23,7 @@ TOP = os.path.dirname(os.path.dirname(os.path.realpath(__file__)))
 sys.dont_write_bytecode = True
 sys.path.insert(0, f"{TOP}/tools")
 import folder as folder_commands  # noqa: E402
+import word_cases  # noqa: E402
 from zarr_store import TYPES, Layout, Stored, item_bytes  # noqa: E402
 
 try:
@@ -246,6 +247,18 @@ def stopped_after(count):
             yield
     finally:
         os.remove = remove
+
+
+class Help(unittest.TestCase):
+    ROW = re.compile(r"^  --(\S+) N +\S.*?  +(\d+) to (\d+) +(\d+) +(\S.*)$", re.MULTILINE)
+
+    def test_options_are_those_of_the_table(self):
+        """The help has each option with its range, its number where it isn't given, and its commands, as the cases have them."""
+        told = {}
+        for name, least, most, default, commands in self.ROW.findall(run(f"{TOP}/cubed", "help").stdout.decode()):
+            told[name] = (int(least), int(most), int(default), sorted(commands.split(", ")))
+        table = {name: (*row[:3], sorted(row[3])) for name, row in word_cases.OPTIONS.items()}
+        self.assertEqual(told, table)
 
 
 class Explain(unittest.TestCase):

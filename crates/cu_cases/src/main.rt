@@ -14,7 +14,8 @@ use anyhow::{Context, Result, bail};
 use calls::run_calls;
 use cu_rows::{
     Findings, Said, Texts, list_of, refuse_others, run_expressions, run_keys, run_metadata,
-    run_promotions, run_regions, run_scalars, run_shapes, run_typing, text_of,
+    run_promotions, run_regions, run_scalars, run_shapes, run_turns, run_typing, run_zarray,
+    text_of,
 };
 use depots::run_depot;
 use folder::run_folder;
@@ -38,8 +39,10 @@ fn run_case<R: Files + AllocGlobal + Clone + Drop>(
         "folder" => run_folder(rt, texts, said, name, findings),
         "depot" => run_depot(rt, texts, said, name, findings),
         "metadata" => run_metadata(texts, said, name, findings),
+        "zarray" => run_zarray(texts, said, name, findings),
         "expressions" => run_expressions(texts, said, name, findings),
         "typing" => run_typing(texts, said, name, findings),
+        "turns" => run_turns(texts, said, name, findings),
         "scalars" => run_scalars(texts.alloc, said, name, findings),
         "regions" => run_regions(texts.alloc, said, name, findings),
         "keys" => run_keys(texts.alloc, said, name, findings),

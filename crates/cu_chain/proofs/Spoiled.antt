@@ -34,14 +34,17 @@ use Rattle.cu_name.specs.Keys.{record_key_of, made_prefix_of}
 use Rattle.cu_name.specs.Name.{IsArrayName}
 use Rattle.cu_zarr.specs.Key.{metadata_key_of}
 use Rattle.cu_op.specs.Arrays.{array_at, maker_at}
+use Rattle.cu_op.specs.InputCells.{input_cells}
+use Rattle.cu_op.specs.Schedule.{op_of}
 use Rattle.cu_op.specs.Value.{HasTypes}
+use Rattle.cu_op.proofs.TaskCells.{written_cell}
 use Rattle.cu_state.specs.Names.{HasPlanNames}
 use Rattle.cu_state.specs.Pieces.{PlanRun, Piece, IsPiece, piece_key, KeysApart, HoldsPiece}
 use Rattle.cu_state.proofs.PlanNames.{keys_apart}
 use Rattle.cu_state.proofs.Keeping.{left_at_first, left_alone}
 use Rattle.cu_chain.proofs.Chains.{chain_sound}
 use Rattle.cu_table.specs.Numbers.{IsTask, task_number}
-use Rattle.cu_table.specs.Machine.{copy_ended, done_now, state_at}
+use Rattle.cu_table.specs.Machine.{AreInputsDone, copy_ended, done_now, state_at}
 use Rattle.cu_work.specs.World.{Stops, IsFound, Happens}
 use Rattle.cu_chain.specs.Weakened.{AllMay, HappensEarly, HappensUnstored, HappensAnyhow}
 
@@ -169,8 +172,20 @@ input_name (suc (suc zero)) h e = absurd (not_made 0 e)
 input_name (suc (suc (suc zero))) h e = absurd (not_made 1 e)
 input_name (suc (suc (suc (suc a)))) h e = absurd (omega arith)
 
+input_once : (a b : ℕ) → a < 4 → b < 4 → maker_at chain_arrays a ≡ None → maker_at chain_arrays b ≡ None → (array_at chain_arrays a).prefix ≡ (array_at chain_arrays b).prefix → a ≡ b
+input_once zero zero h k e f same = refl
+input_once zero (suc zero) h k e f same = let one = one_code 97 98 same in absurd (omega (arith, one))
+input_once (suc zero) zero h k e f same = let one = one_code 98 97 same in absurd (omega (arith, one))
+input_once (suc zero) (suc zero) h k e f same = refl
+input_once a (suc (suc zero)) h k e f same = absurd (not_made 0 f)
+input_once a (suc (suc (suc zero))) h k e f same = absurd (not_made 1 f)
+input_once a (suc (suc (suc (suc b)))) h k e f same = absurd (omega arith)
+input_once (suc (suc zero)) b h k e f same = absurd (not_made 0 e)
+input_once (suc (suc (suc zero))) b h k e f same = absurd (not_made 1 e)
+input_once (suc (suc (suc (suc a)))) b h k e f same = absurd (omega arith)
+
 names : HasPlanNames named_run (codes "y") [] []
-names = record { named = short_name 121 (omega arith) (omega arith); texts = refl; encodings = encoded; made = made_name; inputs = input_name }
+names = record { named = short_name 121 (omega arith) (omega arith); texts = refl; encodings = encoded; made = made_name; inputs = input_name; once = input_once }
 
 held_elsewhere : (key : List ℕ) → key ≢ codes "a/c/0" → ones_held key ≡ None
 held_elsewhere key apart = elim (cases_Bool (bytes_eq key (codes "a/c/0"))) [
@@ -234,18 +249,14 @@ first_done = record {
 abbrev pub unstored_events : List Event
 unstored_events = Steps (own_entry Start) ∷ Steps (own_entry Done) ∷ []
 
--- the start is one of the world's own, since the first task waits and reads inputs alone
-pub unstored_happens : (starts : Happens chain (first_world nothing_done ones_held) (Steps (own_entry Start)) first_begun)
-    → AllMay (HappensUnstored chain) (first_world nothing_done ones_held) unstored_events first_done
-unstored_happens starts = (
-  first_begun,
-  inl starts,
-  (
-    first_done,
-    inr (refl, (record { going = refl; runs = (0, omega arith, refl); undone = refl; room = refl }, refl), refl, refl),
-    refl,
-  ),
-)
+-- the first task reads inputs alone
+given : (c : Cell) → Contains (input_cells chain_arrays (op_of chain_plan 0) 0) c → maker_at chain_arrays c.array ≡ None
+given c (zero, below, is) = ap (λ (x : Cell). maker_at chain_arrays x.array) (sym is)
+given c (suc zero, below, is) = ap (λ (x : Cell). maker_at chain_arrays x.array) (sym is)
+given c (suc (suc n), below, is) = absurd (omega (arith, below))
+
+start_done : Start ≡ Done → ⊥
+start_done e = cc
 
 abbrev pub one_done : List Bool
 one_done = true ∷ false ∷ false ∷ false ∷ []
@@ -255,3 +266,48 @@ stopped = record { machine = opening one_done; held = ones_held; started = [] }
 
 pub anyhow_happens : AllMay (HappensAnyhow chain) (first_world nothing_done ones_held) (Stops one_done ∷ []) stopped
 anyhow_happens = (stopped, inr (refl, refl, refl, refl), refl)
+
+-- Each of the three conditions is needed: without it the law would be false.
+module _ (stays : promotion Int32 Int32 ≡ Some Int32) (typed : HasTypes chain_arrays env) where
+  first_ready : AreInputsDone chain_plan (opening nothing_done) 0 0
+  first_ready k t (c, listed, writes) = absurd ((written_cell chain_plan (chain_sound stays) k t c.array c.coord writes).made (given c listed))
+
+  first_starts : Happens chain (first_world nothing_done ones_held) (Steps (own_entry Start)) first_begun
+  first_starts = (
+    (
+      record {
+        going = refl;
+        free = All-nil (λ (c : RunningCopy). c.worker ≢ 0);
+        task = record { operation = omega arith; number = omega arith };
+        room = refl;
+        can = inl (first_ready, (refl, refl));
+      },
+      refl,
+    ),
+    λ e. absurd (start_done e),
+    refl,
+    refl,
+  )
+
+  unstored_happens : AllMay (HappensUnstored chain) (first_world nothing_done ones_held) unstored_events first_done
+  unstored_happens = (
+    first_begun,
+    inl first_starts,
+    (
+      first_done,
+      inr (refl, (record { going = refl; runs = (0, omega arith, refl); undone = refl; room = refl }, refl), refl, refl),
+      refl,
+    ),
+  )
+
+  -- a task may be started before its inputs are there
+  pub early_refuted : ((w : World) → AllMay (HappensEarly chain) (first_world nothing_done ones_held) early_events w → IsRight chain_plan env w) → ⊥
+  early_refuted law = early_spoils (law spoiled early_happens).left
+
+  -- a task may be done before its chunks are there
+  pub unstored_refuted : ((w : World) → AllMay (HappensUnstored chain) (first_world nothing_done ones_held) unstored_events w → IsRight chain_plan env w) → ⊥
+  unstored_refuted law = unstored_spoils stays typed first_done refl refl (law first_done unstored_happens)
+
+  -- a stop may name tasks whose chunks are absent
+  pub anyhow_refuted : ((w : World) → AllMay (HappensAnyhow chain) (first_world nothing_done ones_held) (Stops one_done ∷ []) w → IsRight chain_plan env w) → ⊥
+  anyhow_refuted law = unstored_spoils stays typed stopped refl refl (law stopped anyhow_happens)

@@ -185,6 +185,7 @@ module _ (e : Expression) where
     pub front : Front (with_step e last before step) f
     pub least : size before ≤ j
     pub below : j < size (with_step e last before step)
+    pub within : j < size (with_steps e g ss)
     pub ends : last ≡ true → with_step e last before step ≡ with_steps e g ss
     pub fits : (arrays : List ArrayInfo) (reserved : ℕ) (given : List ℕ) (first : ℕ) → AreSteps arrays reserved given first (length g.arrays) ss → IsStep arrays reserved given first (length before.arrays) step
     pub among : Contains ss step
@@ -209,6 +210,7 @@ module _ (e : Expression) where
           front = front_then h (with_steps e g (s ∷ ss)) f (front_steps h ss) front;
           least = least;
           below = here;
+          within = below;
           ends = λ is. sym (ap (with_steps e h) (none_last ss is));
           fits = λ arrays reserved given first are. are.0;
           among = (0, omega arith, refl);
@@ -227,6 +229,7 @@ module _ (e : Expression) where
               front = w.front;
               least = w.least;
               below = w.below;
+              within = w.within;
               ends = w.ends;
               fits = λ arrays reserved given first are. w.fits arrays reserved given first (subst (λ (next : ℕ). AreSteps arrays reserved given first next ss) (sym long) are.1);
               among = (let i = w.among in (suc i.0, (let l = i.1 in omega (arith, l)), i.2));

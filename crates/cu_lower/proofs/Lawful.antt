@@ -1,8 +1,9 @@
 -- What a plan's user wants to know of it, from where its parts stand.
-use Rattle.std.proofs.Common.{◌≡◌, ◌≢◌, ℕ, ◌<◌, ◌≤◌, ◌-◌, ◌==◌, ℤ, Bool, true, false, List, Option, Some, None, length, get_or, refl, ap, sym, ◌∙◌, subst, inl, inr, [], ◌∷◌, arith}
+use Rattle.std.proofs.Common.{◌≡◌, ◌≢◌, ℕ, ◌+◌, ◌<◌, ◌≤◌, ◌-◌, ◌==◌, ℤ, Bool, true, false, List, Option, Some, None, length, get_or, refl, ap, sym, ◌∙◌, subst, inl, inr, [], ◌∷◌, arith}
 use Rattle.std.specs.Prelude.{not, slice_get}
-use Rattle.std.proofs.lemmas.Bool.{eq-eqb}
+use Rattle.std.proofs.lemmas.Bool.{cases_lt, eq-eqb}
 use Rattle.std.proofs.lemmas.Option.{slice_get-get_or}
+use Rattle.cu_name.specs.Keys.{made_prefix_of}
 use Rattle.cu_name.specs.Name.{IsArrayName}
 use Rattle.cu_shape.specs.Index.{IsInside}
 use Rattle.cu_op.specs.Arrays.{array_at, maker_at}
@@ -20,13 +21,13 @@ use Rattle.cu_expr.specs.declared.inputs.InputInfo.{InputInfo}
 use Rattle.cu_need.specs.Live.{is_live, IsClosed}
 use Rattle.cu_lower.specs.Inputs.{input_array, input_names, input_place}
 use Rattle.cu_lower.specs.Plan.{lowered, array_of_node, plan_of}
-use Rattle.cu_lower.specs.Premises.{IsLowerable, IsLiveInput, OutputDiffers, AreThere, HaveElements, IsOfNode, IsOutput, expression_run}
+use Rattle.cu_lower.specs.Premises.{IsLowerable, IsLiveInput, OutputDiffers, AreThere, HasArraysInOrder, HaveElements, IsOfNode, IsOutput, expression_run}
 use Rattle.cu_lower.specs.declared.options.Options.{Options}
 use Rattle.cu_lower.proofs.Applied.{Told}
 use Rattle.cu_lower.proofs.Meanings as meanings
 use Rattle.cu_lower.proofs.Meanings.{HaveRanges}
 use Rattle.cu_lower.proofs.Names.{array_name, used_is_name}
-use Rattle.cu_lower.proofs.InputNames.{names_once}
+use Rattle.cu_lower.proofs.InputNames.{input_placed, names_once}
 use Rattle.cu_need.specs.Need.{own_need}
 use Rattle.cu_need.specs.Operands.{copies_of}
 use Rattle.cu_lower_reduce.specs.Steps.{all_made}
@@ -82,6 +83,16 @@ module _ (e : Expression) (infos : List NodeInfo) (inputs : List InputInfo) (opt
 
   -- ---- names
 
+  -- no input stands twice
+  pub once : (a b : ℕ) → a < length grown.arrays → b < length grown.arrays → maker_at grown.arrays a ≡ None → maker_at grown.arrays b ≡ None
+      → (array_at grown.arrays a).prefix ≡ (array_at grown.arrays b).prefix → a ≡ b
+  once a b la lb na nb same =
+      let ga = soundness.without_maker e infos inputs options ok laws lives.closed a la na in
+      let gb = soundness.without_maker e infos inputs options ok laws lives.closed b lb nb in
+      let pa = ap (λ (x : ArrayInfo). x.prefix) (soundness.input_at e infos inputs options ok laws lives.closed a ga) in
+      let pb = ap (λ (x : ArrayInfo). x.prefix) (soundness.input_at e infos inputs options ok laws lives.closed b gb) in
+      names_once e a b ga gb (sym pa ∙ same ∙ pb)
+
   pub named : (recorded metadata : List ℕ) → OutputDiffers e → HasPlanNames (expression_run e (plan_of e infos inputs options) recorded metadata) e.store_as recorded metadata
   named recorded metadata differs = record {
     named = array_name e.store_as ok.form.store_as;
@@ -100,6 +111,7 @@ module _ (e : Expression) (infos : List NodeInfo) (inputs : List InputInfo) (opt
         let (k, u) = soundness.used e infos inputs options ok laws lives.closed a l in
         subst (λ (q : List ℕ). IsArrayName q × (q ≢ e.store_as)) (sym prefix)
         (array_name (get_or (input_names e) a []) (used_is_name e (get_or (input_names e) a []) ok.form (k, u)), differs k (get_or (input_names e) a []) u);
+    once = once;
   }
 
   -- ---- arrays
@@ -141,6 +153,75 @@ module _ (e : Expression) (infos : List NodeInfo) (inputs : List InputInfo) (opt
       let n = get_or e.nodes e.out no_node in
       made_output n n.form (slice_get-get_or e.nodes e.out no_node ok.form.out) refl (stored_made n.form)
 
+  -- ---- the order of the arrays
+
+  -- where the stored node stands
+  out_stands : placed.Stands e infos inputs options ok laws e.out (get_or e.nodes e.out no_node).form
+  out_stands =
+      let n = get_or e.nodes e.out no_node in
+      placed.node_stands e infos inputs options ok laws e.out n n.form (slice_get-get_or e.nodes e.out no_node ok.form.out) refl (stored_made n.form) lives.closed.stored
+
+  -- its array stands behind all that was there before it
+  out_behind : length out_stands.before.arrays ≤ array_of_node grown e.out
+  out_behind =
+      let some = make_some _ _ out_stands.make in
+      let place = out_stands.place in
+      let long = steps_long e out_stands.before (placed.steps_at e infos inputs options ok laws e.out (get_or e.nodes e.out no_node).form (length out_stands.before.arrays)) in
+      omega (arith, some, place, long)
+
+  out_past : given ≤ array_of_node grown e.out
+  out_past = let first = out_stands.known.growing.inputs in let behind = out_behind in omega (arith, first, behind)
+
+  -- what a node makes stands up to its own array
+  up_to : (a : ℕ) (w : soundness.StoodArray e infos inputs options ok laws lives.closed a) → a ≤ array_of_node grown w.k
+  up_to a w = let within = w.step.within in let place = w.node.place in omega (arith, within, place)
+
+  -- no live node has a number past the stored node's, so no array stands behind its
+  before_out : (a : ℕ) → a < length grown.arrays → a ≤ array_of_node grown e.out
+  before_out a below =
+      elim (soundness.by_array e infos inputs options ok laws lives.closed a below) [
+        | inl l ↦ let past = out_past in omega (arith, l, past)
+        | inr w ↦
+            let most = up_to a w in
+            elim (cases_lt w.k e.out) [
+              | inl earlier ↦ let behind = out_behind in let l = out_stands.earlier w.k earlier w.node.live in omega (arith, most, behind, l)
+              | inr late ↦
+                  let l = lives.below w.k w.node.live in
+                  let same : w.k ≡ e.out = omega (arith, l, late) in
+                  let place = ap (array_of_node grown) same in
+                  omega (arith, most, place)
+            ]
+      ]
+
+  out_last : array_of_node grown e.out + 1 ≡ length grown.arrays
+  out_last =
+      let within = soundness.out_within e infos inputs options ok laws lives.closed in
+      let most = before_out (length grown.arrays - 1) (omega (arith, within)) in
+      omega (arith, within, most)
+
+  pub order : HasArraysInOrder e (plan_of e infos inputs options)
+  order = record {
+    inputs = out_past;
+    given = λ a l. ap (λ (x : ArrayInfo). x.maker) (soundness.input_at e infos inputs options ok laws lives.closed a l);
+    places = λ k name u. (input_placed e k u.node name u.at u.live u.form).0;
+    others = λ a below none. soundness.without_maker e infos inputs options ok laws lives.closed a below none;
+    encodings = λ a below made. soundness.encoding_at e infos inputs options ok laws lives.closed a (soundness.with_maker e infos inputs options ok laws lives.closed a below made);
+    last = out_last;
+    names = λ a past before. numbered a past before;
+  }
+    where
+      numbered : (a : ℕ) → given ≤ a → a < array_of_node grown e.out → (array_at grown.arrays a).prefix ≡ made_prefix_of e.store_as (a - given)
+      numbered a past before =
+          let within = soundness.out_within e infos inputs options ok laws lives.closed in
+          elim (soundness.by_array e infos inputs options ok laws lives.closed a (omega (arith, within, before))) [
+            | inl l ↦ absurd (omega (arith, l, past))
+            | inr w ↦
+                elim (soundness.made_array e infos inputs options ok laws lives.closed a w).named [
+                  | inl own ↦ let is = own.0 in absurd (omega (arith, is, before))
+                  | inr number ↦ number
+                ]
+          ]
+
   pub input : (k : ℕ) (name : List ℕ) → IsLiveInput e k name → array_at grown.arrays (input_place e name) ≡ input_array inputs name
   input k name u = (standing.named_at e infos inputs options ok.form (all_steps e infos inputs options ok laws) k u.node name u.at u.form u.live).1
 
@@ -149,15 +230,6 @@ module _ (e : Expression) (infos : List NodeInfo) (inputs : List InputInfo) (opt
       let l = soundness.without_maker e infos inputs options ok laws lives.closed a below none in
       let (k, u) = soundness.used e infos inputs options ok laws lives.closed a l in
       (k, get_or (input_names e) a [], u, soundness.input_at e infos inputs options ok laws lives.closed a l)
-
-  pub once : (a b : ℕ) → a < length grown.arrays → b < length grown.arrays → maker_at grown.arrays a ≡ None → maker_at grown.arrays b ≡ None
-      → (array_at grown.arrays a).prefix ≡ (array_at grown.arrays b).prefix → a ≡ b
-  once a b la lb na nb same =
-      let ga = soundness.without_maker e infos inputs options ok laws lives.closed a la na in
-      let gb = soundness.without_maker e infos inputs options ok laws lives.closed b lb nb in
-      let pa = ap (λ (x : ArrayInfo). x.prefix) (soundness.input_at e infos inputs options ok laws lives.closed a ga) in
-      let pb = ap (λ (x : ArrayInfo). x.prefix) (soundness.input_at e infos inputs options ok laws lives.closed b gb) in
-      names_once e a b ga gb (sym pa ∙ same ∙ pb)
 
 -- ---- values
 

@@ -1,6 +1,9 @@
 -- What the plan of an expression takes for granted, and what it has in return (this project's own rule).
-use Rattle.std.specs.Prelude.{◌≡◌, ◌≢◌, ℕ, ◌<◌, ◌≤◌, ◌^◌, ℤ, pos, Bool, true, false, List, [], ◌∷◌, All, length, sum_by, slice_get, Some, None, Ok, unwrap_or}
+use Rattle.std.specs.Prelude.{◌≡◌, ◌≢◌, ℕ, ◌+◌, ◌-◌, ◌<◌, ◌≤◌, ◌^◌, ℤ, pos, Bool, true, false, List, [], ◌∷◌, All, length, sum_by, slice_get, Some, None, Ok, unwrap_or}
+use Rattle.cu_num.specs.declared.layout.Encoding.TheVariants.{Plain}
+use Rattle.cu_num.specs.declared.layout.Sep.TheVariants.{Slash}
 use Rattle.cu_shape.specs.Index.{IsInside}
+use Rattle.cu_op.specs.Arrays.{array_at, maker_at}
 use Rattle.cu_op.specs.Layout.{IsLayout}
 use Rattle.cu_op.specs.Cells.{tasks_of}
 use Rattle.cu_op.specs.PlanView.{PlanView, operation_at}
@@ -8,7 +11,7 @@ use Rattle.cu_op.specs.Sound.{made_chunks}
 use Rattle.cu_op.specs.Value.{Elements, HasTypes}
 use Rattle.cu_op.specs.declared.layout.ArrayInfo.{ArrayInfo}
 use Rattle.cu_op.specs.declared.operation.Planned.{Planned}
-use Rattle.cu_name.specs.Keys.{record_key_of}
+use Rattle.cu_name.specs.Keys.{record_key_of, made_prefix_of}
 use Rattle.cu_state.specs.Pieces.{PlanRun}
 use Rattle.cu_zarr.specs.Key.{metadata_key_of}
 use Rattle.cu_form.specs.Expression.{Expression, IsExpression}
@@ -26,7 +29,7 @@ use Rattle.cu_need.specs.Need.{own_need, first_over}
 use Rattle.cu_need.specs.Operands.{copies_of}
 use Rattle.cu_copy.specs.Copies.{max_mem}
 use Rattle.cu_lower_reduce.specs.Copies.{is_copy}
-use Rattle.cu_lower.specs.Inputs.{input_place}
+use Rattle.cu_lower.specs.Inputs.{input_names, input_place}
 use Rattle.cu_lower.specs.Plan.{plan_of}
 use Rattle.cu_lower.specs.Parts.{made_layout}
 use Rattle.cu_lower.specs.declared.options.Options.{Options}
@@ -110,6 +113,17 @@ pub record IsOutput (e : Expression) (infos : List NodeInfo) (a : ArrayInfo) : T
   pub name : a.prefix ≡ e.store_as
   pub layout : a.layout ≡ made_layout (info_at infos e.out)
   pub made : a.maker ≢ None
+
+-- The arrays of the inputs that live nodes use come first, and are the only ones that no operation makes. Those behind them have the encoding
+-- "default" with "/". The last is the output's, and the others are called `_cubed/NAME/K`, where K counts them from 0.
+pub record HasArraysInOrder (e : Expression) (plan : PlanView) : Type 0 where
+  pub inputs : length (input_names e) ≤ plan.out
+  pub given : (a : ℕ) → a < length (input_names e) → maker_at plan.arrays a ≡ None
+  pub places : (k : ℕ) (name : List ℕ) → IsLiveInput e k name → input_place e name < length (input_names e)
+  pub others : (a : ℕ) → a < length plan.arrays → maker_at plan.arrays a ≡ None → a < length (input_names e)
+  pub encodings : (a : ℕ) → a < length plan.arrays → maker_at plan.arrays a ≢ None → (array_at plan.arrays a).layout.encoding ≡ Plain Slash
+  pub last : plan.out + 1 ≡ length plan.arrays
+  pub names : (a : ℕ) → length (input_names e) ≤ a → a < plan.out → (array_at plan.arrays a).prefix ≡ made_prefix_of e.store_as (a - length (input_names e))
 
 -- the run of a plan with a record and metadata, under the keys of the output's name
 abbrev pub expression_run : Expression → PlanView → List ℕ → List ℕ → PlanRun

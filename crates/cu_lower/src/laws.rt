@@ -18,7 +18,7 @@ ghost use Rattle.cu_need.specs.Live.{is_live};
 ghost use Rattle.cu_lower.specs.Inputs.{input_array, input_place};
 ghost use Rattle.cu_copy.specs.Copies.{max_mem};
 ghost use Rattle.cu_lower.specs.Plan.{lowered, array_of_node, plan_of};
-ghost use Rattle.cu_lower.specs.Premises.{IsLowerable, IsLiveInput, OutputDiffers, AreThere, HaveElements, HasCounts, IsComputedNode, IsOfNode, IsOutput, NeedsAsMuch, expression_run};
+ghost use Rattle.cu_lower.specs.Premises.{IsLowerable, IsLiveInput, OutputDiffers, AreThere, HasArraysInOrder, HaveElements, HasCounts, IsComputedNode, IsOfNode, IsOutput, NeedsAsMuch, expression_run};
 ghost use Rattle.cu_lower.specs.declared.options.Options.{Options};
 
 use cu_lower_reduce::{operands_law, product_law, rechunk_law, reduction_law, search_law};
@@ -53,7 +53,8 @@ pub fn plan_law()
 }
 
 /// The array of the stored node is the output's, the array at the place of a live input node's name is the input with that name, and each
-/// array that no operation makes is one of these. None of them stands twice.
+/// array that no operation makes is one of these. None of them stands twice. They come first. The arrays behind them have the encoding
+/// "default" with "/"; the last is the output's, and the others have the names `_cubed/NAME/K`, where K counts them from 0.
 pub fn array_law()
     ensures output { (e : Expression) (infos : List NodeInfo) (inputs : List InputInfo) (options : Options) → IsLowerable e infos inputs options
         → IsOutput e infos (array_at (plan_of e infos inputs options).arrays (plan_of e infos inputs options).out) }
@@ -66,6 +67,8 @@ pub fn array_law()
         → a < length (plan_of e infos inputs options).arrays → b < length (plan_of e infos inputs options).arrays
         → maker_at (plan_of e infos inputs options).arrays a ≡ None → maker_at (plan_of e infos inputs options).arrays b ≡ None
         → (array_at (plan_of e infos inputs options).arrays a).prefix ≡ (array_at (plan_of e infos inputs options).arrays b).prefix → a ≡ b }
+    ensures order { (e : Expression) (infos : List NodeInfo) (inputs : List InputInfo) (options : Options) → IsLowerable e infos inputs options
+        → HasArraysInOrder e (plan_of e infos inputs options) }
 {
     live_law();
     pull_law();

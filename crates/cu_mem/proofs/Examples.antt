@@ -1,11 +1,11 @@
 -- The definitions at small examples.
 use Rattle.std.proofs.Common.{◌≡◌, ℕ, List, [], ◌∷◌, Some, None, true, false, refl}
 use Rattle.cu_mem.specs.declared.late.Waiting.{Waiting}
-use Rattle.cu_mem.specs.declared.script.CallKind.TheVariants.{Has, Put}
-use Rattle.cu_mem.specs.declared.script.Counted.{Counted}
-use Rattle.cu_mem.specs.Entries.{bytes_under}
+use Rattle.cu_cells.specs.declared.script.CallKind.TheVariants.{Has, Put}
+use Rattle.cu_cells.specs.declared.script.Counted.{Counted}
+use Rattle.cu_mem.specs.Entries.{held_in}
 use Rattle.cu_mem.specs.Late.{lands_on, waiting}
-use Rattle.cu_mem.specs.Script.{Progress, fails, land, next}
+use Rattle.cu_cells.specs.Script.{Progress, fails, land, next}
 
 -- two puts on key 1 are due, the later one counts; one on key 2 lands two calls later
 abbrev late : List Waiting
@@ -20,7 +20,7 @@ lands_not_yet = refl
 lands_two_calls_later : lands_on (waiting (waiting late)) (2 ∷ []) ≡ Some (9 ∷ [])
 lands_two_calls_later = refl
 
-first_entry : bytes_under ((1 ∷ [], 5 ∷ []) ∷ (1 ∷ [], 6 ∷ []) ∷ []) (1 ∷ []) ≡ Some (5 ∷ [])
+first_entry : held_in ((1 ∷ [], Some (5 ∷ [])) ∷ (1 ∷ [], Some (6 ∷ [])) ∷ []) (1 ∷ []) ≡ Some (5 ∷ [])
 first_entry = refl
 
 -- puts on key 1, of which the second and the third fail

@@ -2,5 +2,6 @@ mod EntryLemmas
 mod Examples
 mod Landings
 mod LateLemmas
-mod Lists
 mod MemorySteps
+mod Rooms
+mod Sharing

@@ -8,7 +8,8 @@ use Rattle.cu_mem.specs.declared.late.Waiting.{Waiting}
 abbrev pub is_due : Waiting → Bool
 is_due w = w.wait == 0
 
--- the bytes that land on a key at the next call: those of the put on it that failed last, among those that are due
+-- the bytes that land on a key at the next call: those of the put on it that failed last, among
+-- those that are due
 abbrev pub lands_on : List Waiting → List ℕ → Option (List ℕ)
 lands_on late key = option_map (λ w. w.entry.1) (find (λ w. is_due w && bytes_eq w.entry.0 key) (reverse late))
 

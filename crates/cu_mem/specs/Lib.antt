@@ -2,4 +2,5 @@ pub mod Entries
 pub mod Late
 pub mod Memory
 pub mod Script
+pub mod Sharing
 pub mod Streams

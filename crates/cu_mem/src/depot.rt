@@ -4,64 +4,78 @@ ghost use Rattle.std.specs.Option.{option_copied};
 ghost use Rattle.cu_store.specs.Held.{Gets, Answers, Holds, IsGone};
 ghost use Rattle.cu_store.specs.Steps.{NoChange, PutOf, RemovalOf, Steps, LandsLate, AddsOnlyFailed, Caused};
 
-use crate::entries::{Entry, bytes_of, store, take_away};
+use crate::entries::{Entry, Slot, bytes_of, store, take_away};
 use crate::late::{Waiting, land_due};
-use crate::script::{CallKind, Fate, Running, Script};
+use cu_cells::{CallKind, Fate, Layout, Running, Script};
 use cu_store::{Depot, DepotFault, Got, Key, NoMemory};
 use std::alloc::Global;
 use std::marker::Model;
+use std::snapshot::Snapshot;
 
-/// A depot that keeps all that it holds in memory. It tells what it holds, and its calls fail where its script says so.
+/// A depot that keeps all that it holds in memory. It tells what it holds, and its calls fail where
+/// its script says so.
 #[derive(Drop)]
 pub struct MemDepot {
-    alloc: Global,
-    entries: Vec<Entry>,
-    late: Vec<Waiting>,
-    script: Running,
-    faults: u64,
-    calls: u64,
+    pub(crate) alloc: Global,
+    pub(crate) slots: Vec<Slot>,
+    pub(crate) late: Vec<Waiting>,
+    pub(crate) script: Running,
+    pub(crate) faults: u64,
+    pub(crate) calls: u64,
+    pub(crate) loan: Option<Snapshot<Layout>>,
+    pub(crate) rooms: Vec<Vec<u8>>,
 }
 
 impl Model for MemDepot {
-    ghost use Rattle.std.specs.Prelude.{◌+◌, ◌≤◌, vec_len};
+    ghost use Rattle.std.specs.Prelude.{◌+◌, ◌≤◌, List, ℕ, IsTrue, All, length, option_map, vec_len};
     ghost use Rattle.std.specs.Vec.{vec_capacity};
-    ghost use Rattle.cu_mem.specs.Memory.{Memory};
+    ghost use Rattle.cu_store.specs.Yard.{is_made};
+    ghost use Rattle.cu_cells.specs.Cells.{FitIn};
+    ghost use Rattle.cu_mem.specs.Entries.{has_place};
+    ghost use Rattle.cu_mem.specs.Memory.{Memory, loan_of};
     ghost use Rattle.cu_mem.specs.Script.{progress};
 
     ghost Value = { Memory };
 
-    ghost view = { λ d. record { entries = d.entries.items; late = d.late.items; script = progress d.script; faults = d.faults; calls = d.calls } };
+    ghost view = { λ d. record { slots = d.slots.items; late = d.late.items; script = progress d.script; faults = d.faults; calls = d.calls; loan = loan_of (option_map (λ s. s.value) d.loan); spare = vec_len d.rooms } };
 
-    // There is room to land each late put.
-    ghost invariant = { λ d. vec_len d.entries + vec_len d.late ≤ vec_capacity d.entries };
+    // There is room to land each late put, and a place for each made key of the last yard. Each
+    // room has room for a value of that yard, and what is put off in it has a place among the late
+    // puts.
+    ghost invariant = { λ d. (vec_len d.slots + (vec_len d.late + vec_len d.rooms) ≤ vec_capacity d.slots) × (vec_len d.late + vec_len d.rooms ≤ vec_capacity d.late) × (vec_len d.rooms ≤ 8) × All (λ v. FitIn (loan_of (option_map (λ s. s.value) d.loan)).specs (length v.items)) d.rooms.items × ((key : List ℕ) → IsTrue (is_made (loan_of (option_map (λ s. s.value) d.loan)).specs key) → IsTrue (has_place d.slots.items key)) };
 }
 
 impl MemDepot {
-    ghost use Rattle.cu_mem.specs.Memory.{contents, shown_of, Begins};
+    ghost use Rattle.cu_mem.specs.Memory.{contents, shown_of, loan_of, Begins};
     ghost use Rattle.cu_mem.specs.Script.{LandsOnce, started, fate};
     ghost use Rattle.cu_store.specs.Faults.{last_count};
     ghost use Rattle.std.specs.Prelude.{◌+◌, min};
 
-    /// An empty depot, whose calls fail where the script says so. A rule with a `land` has `times` 1.
+    /// An empty depot, whose calls fail where the script says so. A rule with a `land` has `times`
+    /// 1.
     pub fn make(alloc: Global, script: Script) -> MemDepot
         requires { LandsOnce script.rules.items }
         ensures empty { (key : List ℕ) → contents result key ≡ None }
         ensures late { result.late ≡ [] }
+        ensures loan { (result.loan ≡ loan_of None) × (result.spare ≡ 0) }
         ensures script { result.script ≡ started script }
         ensures faults { result.faults ≡ 0 }
         ensures calls { result.calls ≡ 0 }
     {
         MemDepot {
             alloc,
-            entries: Vec::new(alloc),
+            slots: Vec::new(alloc),
             late: Vec::new(alloc),
             script: Running::start(script),
             faults: 0,
             calls: 0,
+            loan: None,
+            rooms: Vec::new(alloc),
         }
     }
 
-    /// Stores these bytes under the key, in place of what was there. It isn't counted as a call, and no script lets it fail.
+    /// Stores these bytes under the key, in place of what was there. It isn't counted as a call,
+    /// and no script lets it fail.
     pub fn insert(&mut self, key: &Key, bytes: &[u8]) -> Result<(), NoMemory>
         ensures stored { OnOk result (contents self.new key.now ≡ Some bytes.now) }
         ensures others { (other : List ℕ) → other ≢ key.now → contents self.new other ≡ contents self.old other }
@@ -70,13 +84,14 @@ impl MemDepot {
         ensures script { self.new.script ≡ self.old.script }
         ensures faults { self.new.faults ≡ self.old.faults }
         ensures calls { self.new.calls ≡ self.old.calls }
+        ensures loan { (self.new.loan ≡ self.old.loan) × (self.new.spare ≡ self.old.spare) }
     {
         let entry = Entry::copy(self.alloc, key, bytes)?;
-        match self.entries.reserve(self.late.len() + 1) {
+        match self.slots.reserve(self.late.len() + self.rooms.len() + 1) {
             Ok(()) => {}
             Err(_) => return Err(NoMemory),
         }
-        store(&mut self.entries, entry);
+        store(&mut self.slots, entry);
         Ok(())
     }
 
@@ -84,7 +99,7 @@ impl MemDepot {
     pub fn lookup(&self, key: &Key) -> Option<&[u8]>
         ensures { option_copied result ≡ contents self.now key.now }
     {
-        bytes_of(&self.entries, key)
+        bytes_of(&self.slots, key)
     }
 
     /// How many calls of `Depot` were made. The count stops at the last value of a `u64`.
@@ -94,8 +109,8 @@ impl MemDepot {
         self.calls
     }
 
-    /// From now on this script says which calls fail. Its counts begin at 0, and what is late stays late.
-    /// A rule with a `land` has `times` 1.
+    /// From now on this script says which calls fail. Its counts begin at 0, and what is late stays
+    /// late. A rule with a `land` has `times` 1.
     pub fn set_script(&mut self, script: Script)
         requires { LandsOnce script.rules.items }
         ensures { self.new ≡ record self.old { script = started script } }
@@ -103,14 +118,16 @@ impl MemDepot {
         self.script = Running::start(script);
     }
 
-    /// What each call does first: it is counted, due late puts land, and the script says what becomes of it.
+    /// What each call does first: it is counted, due late puts land, and the script says what
+    /// becomes of it.
     fn begin(&mut self, kind: CallKind, key: &Key) -> Fate
         ensures fate { result ≡ fate self.old.script kind key.now }
         ensures begun { Begins kind key.now self.old self.new }
         ensures step { Steps NoChange 1 1 (shown_of self.old) (shown_of self.new) }
+        ensures loan { (self.new.loan ≡ self.old.loan) × (self.new.spare ≡ self.old.spare) }
     {
         self.calls = self.calls.saturating_add(1);
-        land_due(&mut self.entries, &mut self.late);
+        land_due(&mut self.slots, &mut self.late);
         self.script.next(kind, key)
     }
 
@@ -130,7 +147,11 @@ impl MemDepot {
         ensures refused { OnErr result (self.new ≡ self.old) }
     {
         let entry = Entry::copy(self.alloc, key, bytes)?;
-        match self.entries.reserve(self.late.len() + 1) {
+        match self.slots.reserve(self.late.len() + self.rooms.len() + 1) {
+            Ok(()) => {}
+            Err(_) => return Err(NoMemory),
+        }
+        match self.late.reserve(self.rooms.len() + 1) {
             Ok(()) => {}
             Err(_) => return Err(NoMemory),
         }
@@ -152,14 +173,14 @@ fn copy_front(bytes: &[u8], buf: &mut [u8]) -> u64
 }
 
 impl Depot for MemDepot {
-    ghost use Rattle.cu_mem.specs.Memory.{contents, shown_of, OnlyLands, LandsAndSets, Raises, put_late};
+    ghost use Rattle.cu_mem.specs.Memory.{contents, shown_of, OnlyLands, LandsAndSets, put_late};
     ghost use Rattle.cu_mem.specs.Late.{waiting, late_writes};
-    ghost use Rattle.cu_mem.specs.Script.{fails, land, next};
+    ghost use Rattle.cu_mem.specs.Script.{fails, land, next, Raises};
 
     ghost shown = { shown_of };
 
-    /// Copies as many bytes of the key's value as `buf` has room for, and says how long the value is.
-    /// It fails exactly where the script says so, and takes no memory.
+    /// Copies as many bytes of the key's value as `buf` has room for, and says how long the value
+    /// is. It fails exactly where the script says so, and takes no memory.
     fn get(&mut self, key: &Key, buf: &mut [u8]) -> Result<Got, DepotFault>
         ensures got { Gets (Some (contents self.new)) key.now buf.new result }
         ensures step { Steps NoChange 1 1 (shown_of self.old) (shown_of self.new) }
@@ -171,11 +192,12 @@ impl Depot for MemDepot {
         ensures lands { OnlyLands self.old self.new }
         ensures waits { self.new.late ≡ waiting self.old.late }
         ensures script { self.new.script ≡ next self.old.script CallKind.Get key.now }
+        ensures loan { (self.new.loan ≡ self.old.loan) × (self.new.spare ≡ self.old.spare) }
     {
         if let Fate::Fails(_) = self.begin(CallKind::Get, key) {
             return Err(self.fault());
         }
-        match bytes_of(&self.entries, key) {
+        match bytes_of(&self.slots, key) {
             None => Ok(Got::Absent),
             Some(bytes) => Ok(Got::Held(copy_front(bytes, buf))),
         }
@@ -193,15 +215,17 @@ impl Depot for MemDepot {
         ensures lands { OnlyLands self.old self.new }
         ensures waits { self.new.late ≡ waiting self.old.late }
         ensures script { self.new.script ≡ next self.old.script CallKind.Has key.now }
+        ensures loan { (self.new.loan ≡ self.old.loan) × (self.new.spare ≡ self.old.spare) }
     {
         if let Fate::Fails(_) = self.begin(CallKind::Has, key) {
             return Err(self.fault());
         }
-        Ok(bytes_of(&self.entries, key).is_some())
+        Ok(bytes_of(&self.slots, key).is_some())
     }
 
-    /// Stores these bytes under the key, in place of what was there. Failed comes only where the script says so; there a put
-    /// that is to land later may want memory for its bytes, and nothing is late or counted as a fault where it has none.
+    /// Stores these bytes under the key, in place of what was there. Failed comes only where the
+    /// script says so; there a put that is to land later may want memory for its bytes, and nothing
+    /// is late or counted as a fault where it has none.
     fn put(&mut self, key: &Key, bytes: &[u8]) -> Result<(), DepotFault>
         ensures stored { OnOk result (Holds (Some (contents self.new)) key.now bytes.now) }
         ensures step { Steps (PutOf key.now bytes.now) 1 1 (shown_of self.old) (shown_of self.new) }
@@ -217,6 +241,7 @@ impl Depot for MemDepot {
         ensures lands_err { OnErr result (OnlyLands self.old self.new) }
         ensures waits { self.new.late ≡ waiting self.old.late ++ put_late result (land self.old.script CallKind.Put key.now) key.now bytes.now }
         ensures script { self.new.script ≡ next self.old.script CallKind.Put key.now }
+        ensures loan { (self.new.loan ≡ self.old.loan) × (self.new.spare ≡ self.old.spare) }
     {
         match self.begin(CallKind::Put, key) {
             Fate::Works => match self.insert(key, bytes) {
@@ -245,11 +270,12 @@ impl Depot for MemDepot {
         ensures lands_err { OnErr result (OnlyLands self.old self.new) }
         ensures waits { self.new.late ≡ waiting self.old.late }
         ensures script { self.new.script ≡ next self.old.script CallKind.Remove key.now }
+        ensures loan { (self.new.loan ≡ self.old.loan) × (self.new.spare ≡ self.old.spare) }
     {
         if let Fate::Fails(_) = self.begin(CallKind::Remove, key) {
             return Err(self.fault());
         }
-        take_away(&mut self.entries, key);
+        take_away(&mut self.slots, key);
         Ok(())
     }
 }

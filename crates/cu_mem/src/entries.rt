@@ -1,11 +1,13 @@
-//! What is held: a list of keys with their bytes, where the first of a key counts.
-ghost use Rattle.std.specs.Prelude.{◌≡◌, ◌<◌, ◌≤◌, ◌+◌, ℕ, List, IfOk, None, Some, if◌then◌else◌, vec_len};
+//! What is held: a list of places for keys, each with its bytes where the key is held. The first
+//! place of a key counts.
+ghost use Rattle.std.specs.Prelude.{◌≡◌, ◌<◌, ◌≤◌, ◌+◌, ℕ, List, IfOk, OnOk, IsTrue, None, Some, option_map, if◌then◌else◌, vec_len};
 ghost use Rattle.std.specs.Vec.{vec_capacity};
 ghost use Rattle.std.specs.List.{position};
 ghost use Rattle.std.specs.Option.{option_copied};
 ghost use Rattle.std.specs.Str.{bytes_eq};
-ghost use Rattle.cu_mem.specs.Entries.{bytes_under};
+ghost use Rattle.cu_mem.specs.Entries.{held_in, has_place, IsFirstUnder};
 
+use cu_cells::same_key;
 use cu_store::{Key, NoMemory};
 use std::alloc::Global;
 use std::marker::Model;
@@ -26,6 +28,13 @@ impl Model for Entry {
 }
 
 impl Entry {
+    /// The key, with these bytes.
+    pub(crate) fn of(key: Key, bytes: Vec<u8>) -> Entry
+        ensures { result ≡ (key, bytes.items) }
+    {
+        Entry { key, bytes }
+    }
+
     /// The key, with a copy of the bytes.
     pub(crate) fn copy(alloc: Global, key: &Key, bytes: &[u8]) -> Result<Entry, NoMemory>
         ensures { IfOk result (λ e. e ≡ (key.now, bytes.now)) }
@@ -35,71 +44,142 @@ impl Entry {
             Err(_) => Err(NoMemory),
         }
     }
+}
 
-    /// Whether it stands under this key.
+/// A place for a key, and its bytes where it is held. A key keeps its place once it has one.
+#[derive(Drop)]
+pub(crate) struct Slot {
+    key: Key,
+    bytes: Option<Vec<u8>>,
+}
+
+impl Model for Slot {
+    ghost use Rattle.std.specs.Prelude.{ℕ, List, Option, option_map};
+
+    ghost Value = { List ℕ × Option (List ℕ) };
+
+    ghost view = { λ s. (s.key, option_map (λ v. v.items) s.bytes) };
+}
+
+impl Slot {
+    /// Whether it is the key's.
     fn is_under(&self, key: &Key) -> bool
         ensures { result ≡ bytes_eq self.now.0 key.now }
     {
         same_key(&self.key, key)
     }
 
-    /// The bytes.
-    fn bytes(&self) -> &[u8]
-        ensures { result.now ≡ self.now.1 }
+    /// The bytes, where the key is held.
+    fn bytes(&self) -> Option<&[u8]>
+        ensures { option_copied result ≡ self.now.1 }
     {
-        &self.bytes
+        match &self.bytes {
+            Some(bytes) => Some(bytes.as_slice()),
+            None => None,
+        }
     }
 }
 
-/// Whether two keys are the same text.
-pub(crate) fn same_key(a: &Key, b: &Key) -> bool
-    ensures { result ≡ bytes_eq a.now b.now }
+/// The place of a key.
+fn place_of(slots: &[Slot], key: &Key) -> Option<usize>
+    ensures { result ≡ position (λ e. bytes_eq e.0 key.now) slots.now }
 {
-    a.text() == b.text()
-}
-
-/// The place of the first entry under a key.
-fn place_of(entries: &[Entry], key: &Key) -> Option<usize>
-    ensures { result ≡ position (λ e. bytes_eq e.0 key.now) entries.now }
-{
-    entries.iter().position(|e| e.is_under(key))
+    slots.iter().position(|e| e.is_under(key))
 }
 
 /// The bytes that are held under a key.
-pub(crate) fn bytes_of<'a>(entries: &'a [Entry], key: &Key) -> Option<&'a [u8]>
-    ensures { option_copied result ≡ bytes_under entries.now key.now }
+pub(crate) fn bytes_of<'a>(slots: &'a [Slot], key: &Key) -> Option<&'a [u8]>
+    ensures { option_copied result ≡ held_in slots.now key.now }
 {
-    for e in entries {
+    for e in slots {
         if e.is_under(key) {
-            return Some(e.bytes());
+            return e.bytes();
         }
     }
     None
 }
 
-/// Puts an entry in the place of the one under its key, or at the end, where there is room for it.
-pub(crate) fn store(entries: &mut Vec<Entry>, entry: Entry)
-    requires { vec_len entries.old < vec_capacity entries.old }
-    ensures stored { (key : List ℕ) → bytes_under entries.new.items key ≡ (if bytes_eq entry.0 key then Some entry.1 else bytes_under entries.old.items key) }
-    ensures len { vec_len entries.new ≤ vec_len entries.old + 1 }
-    ensures capacity { vec_capacity entries.old ≤ vec_capacity entries.new }
+/// Puts bytes in the place of a key that has one.
+fn set_place(slots: &mut Vec<Slot>, at: usize, key: Key, bytes: Option<Vec<u8>>)
+    requires at { at < vec_len slots.old }
+    requires first { IsFirstUnder slots.old.items at key }
+    ensures held { (k : List ℕ) → held_in slots.new.items k ≡ (if bytes_eq key k then option_map (λ v. v.items) bytes else held_in slots.old.items k) }
+    ensures places { (k : List ℕ) → has_place slots.new.items k ≡ has_place slots.old.items k }
+    ensures len { vec_len slots.new ≡ vec_len slots.old }
+    ensures capacity { vec_capacity slots.new ≡ vec_capacity slots.old }
 {
-    match place_of(entries, &entry.key) {
-        Some(i) => entries[i] = entry,
-        None => match entries.push(entry) {
+    slots[at] = Slot { key, bytes };
+}
+
+/// Puts an entry in the place of its key, or at the end, where there is room for it.
+pub(crate) fn store(slots: &mut Vec<Slot>, entry: Entry)
+    requires { vec_len slots.old < vec_capacity slots.old }
+    ensures stored { (key : List ℕ) → held_in slots.new.items key ≡ (if bytes_eq entry.0 key then Some entry.1 else held_in slots.old.items key) }
+    ensures places { (key : List ℕ) → IsTrue (has_place slots.old.items key) → IsTrue (has_place slots.new.items key) }
+    ensures len { vec_len slots.new ≤ vec_len slots.old + 1 }
+    ensures capacity { vec_capacity slots.old ≤ vec_capacity slots.new }
+{
+    let Entry { key, bytes } = entry;
+    match place_of(slots, &key) {
+        Some(i) => set_place(slots, i, key, Some(bytes)),
+        None => match slots.push(Slot {
+            key,
+            bytes: Some(bytes),
+        }) {
             Ok(()) => {}
             Err(_) => unreachable!(),
         },
     }
 }
 
-/// Takes each entry under a key away.
-pub(crate) fn take_away(entries: &mut Vec<Entry>, gone: &Key)
-    ensures gone { (key : List ℕ) → bytes_under entries.new.items key ≡ (if bytes_eq gone.now key then None else bytes_under entries.old.items key) }
-    ensures len { vec_len entries.new ≤ vec_len entries.old }
-    ensures capacity { vec_capacity entries.new ≡ vec_capacity entries.old }
+/// Puts these bytes in the place of a key that has one.
+pub(crate) fn fill_place(slots: &mut Vec<Slot>, key: &Key, bytes: Vec<u8>)
+    requires { IsTrue (has_place slots.old.items key.now) }
+    ensures stored { (k : List ℕ) → held_in slots.new.items k ≡ (if bytes_eq key.now k then Some bytes.items else held_in slots.old.items k) }
+    ensures places { (k : List ℕ) → has_place slots.new.items k ≡ has_place slots.old.items k }
+    ensures len { vec_len slots.new ≡ vec_len slots.old }
+    ensures capacity { vec_capacity slots.new ≡ vec_capacity slots.old }
 {
-    while let Some(i) = place_of(entries, gone) {
-        let _ = entries.remove(i);
+    match place_of(slots, key) {
+        Some(i) => set_place(slots, i, *key, Some(bytes)),
+        None => unreachable!(),
+    }
+}
+
+/// Makes a key absent. It keeps its place.
+pub(crate) fn take_away(slots: &mut Vec<Slot>, gone: &Key)
+    ensures gone { (key : List ℕ) → held_in slots.new.items key ≡ (if bytes_eq gone.now key then None else held_in slots.old.items key) }
+    ensures places { (key : List ℕ) → has_place slots.new.items key ≡ has_place slots.old.items key }
+    ensures len { vec_len slots.new ≡ vec_len slots.old }
+    ensures capacity { vec_capacity slots.new ≡ vec_capacity slots.old }
+{
+    match place_of(slots, gone) {
+        Some(i) => set_place(slots, i, *gone, None),
+        None => {}
+    }
+}
+
+/// Gives a key a place, and keeps room for so many more.
+pub(crate) fn keep_place(slots: &mut Vec<Slot>, key: &Key, more: usize) -> Result<(), NoMemory>
+    requires { vec_len slots.old + more ≤ vec_capacity slots.old }
+    ensures held { (k : List ℕ) → held_in slots.new.items k ≡ held_in slots.old.items k }
+    ensures places { (k : List ℕ) → IsTrue (has_place slots.old.items k) → IsTrue (has_place slots.new.items k) }
+    ensures kept { OnOk result (IsTrue (has_place slots.new.items key.now)) }
+    ensures room { vec_len slots.new + more ≤ vec_capacity slots.new }
+{
+    match place_of(slots, key) {
+        Some(_) => return Ok(()),
+        None => {}
+    }
+    match slots.reserve(more + 1) {
+        Ok(()) => {}
+        Err(_) => return Err(NoMemory),
+    }
+    match slots.push(Slot {
+        key: *key,
+        bytes: None,
+    }) {
+        Ok(()) => Ok(()),
+        Err(_) => unreachable!(),
     }
 }

@@ -4,11 +4,11 @@
 mod depot;
 mod entries;
 mod late;
-mod script;
+mod share;
 mod streams;
 
+pub use cu_cells::{CallKind, Rule, Script};
 pub use depot::MemDepot;
-pub use script::{CallKind, Rule, Script};
 pub use streams::{MemSink, MemSource};
 
 #[cfg(test)]

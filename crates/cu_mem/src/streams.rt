@@ -49,7 +49,8 @@ impl Source for MemSource {
 
     ghost faults = { λ s. s.faults };
 
-    /// Takes as many bytes as are left and as `buf` has room for. It fails exactly from the call `fail_at` on.
+    /// Takes as many bytes as are left and as `buf` has room for. It fails exactly from the call
+    /// `fail_at` on.
     fn read(&mut self, buf: &mut [u8]) -> Result<usize, Failed>
         requires { 0 < length buf.old }
         ensures taken { Takes (Some self.old.left) (Some self.new.left) buf.new result }
@@ -75,7 +76,8 @@ impl Source for MemSource {
     }
 }
 
-/// Room for text. From the call `fail_at` on, counted from 0, each write fails, and so does each where the room is full.
+/// Room for text. From the call `fail_at` on, counted from 0, each write fails, and so does each
+/// where the room is full.
 #[derive(Drop)]
 pub struct MemSink {
     text: Vec<u8>,
@@ -127,7 +129,8 @@ impl Sink for MemSink {
 
     ghost faults = { λ s. s.faults };
 
-    /// Takes as many bytes as there is room for. It fails exactly where the room is full, and from the call `fail_at` on.
+    /// Takes as many bytes as there is room for. It fails exactly where the room is full, and from
+    /// the call `fail_at` on.
     fn write(&mut self, piece: &[u8]) -> Result<usize, Failed>
         requires { 0 < length piece.now }
         ensures appended { Appends (Some self.old.text) (Some self.new.text) piece.now result }

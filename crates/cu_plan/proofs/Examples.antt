@@ -2,16 +2,19 @@
 use Rattle.std.proofs.Common.{◌≡◌, ◌++◌, pos, List, ℕ, [], ◌∷◌, None, Some, refl, codes}
 use Rattle.std.specs.Fmt.{digits}
 use Rattle.cu_num.specs.declared.types.Dtype.TheVariants.{Int16, Int32}
+use Rattle.cu_num.specs.declared.functions.Fn2.TheVariants.{Add, Multiply}
 use Rattle.cu_form.specs.Expression.{Expression}
 use Rattle.cu_form.specs.declared.args.Arg.{Arg}
 use Rattle.cu_form.specs.declared.expr.Node.{Node}
 use Rattle.cu_form.specs.declared.form.Form.{Form}
 use Rattle.cu_node.specs.Info.{info_of}
+use Rattle.cu_node.specs.declared.element_op.ElementOp.{ElementOp}
 use Rattle.cu_node.specs.declared.info.NodeInfo.{NodeInfo}
 use Rattle.cu_expr.specs.declared.inputs.InputInfo.{InputInfo}
 use Rattle.cu_lower.specs.Parts.{made_layout}
 use Rattle.cu_lower.specs.Plan.{plan_of}
 use Rattle.cu_lower.specs.declared.options.Options.{Options}
+use Rattle.cu_plan.specs.Plan.{merged_plan_of}
 use Rattle.cu_plan.specs.Refusal.{refusal_of}
 use Rattle.cu_plan.specs.Text.{operation_line, plan_line, plan_text}
 use Rattle.cu_plan.specs.declared.fault.PlanFault.TheVariants.{OverMemory, OverLimit}
@@ -76,3 +79,40 @@ too_many_chunks = refl
 -- memory comes before the counts
 memory_first : refusal_of (with_memory 3) chain (info_of Int32 (65536 ∷ []) (65536 ∷ []) ∷ ones ∷ ones ∷ ones ∷ ones ∷ []) ≡ Some (OverMemory 0 524288 3)
 memory_first = refl
+
+-- ---- twice a sum
+
+abbrev six : NodeInfo
+six = info_of Int32 (6 ∷ []) (4 ∷ [])
+
+abbrev input : List ℕ → Node
+input name = record { name = name; form = Form.Input name }
+
+abbrev twice_a_sum : Expression
+twice_a_sum = record {
+  nodes = input (codes "a") ∷ input (codes "b") ∷ record { name = codes "s"; form = Form.Elementwise (ElementOp.Two Add) (Arg.Node 0 ∷ Arg.Node 1 ∷ []) }
+      ∷ record { name = codes "t"; form = Form.Elementwise (ElementOp.Two Multiply) (Arg.Node 2 ∷ Arg.Int (pos 2) ∷ []) } ∷ [];
+  out = 3;
+  store_as = codes "y";
+}
+
+abbrev twice_inputs : List InputInfo
+twice_inputs = record { name = codes "a"; layout = made_layout six } ∷ record { name = codes "b"; layout = made_layout six } ∷ []
+
+-- with enough memory the two maps are one, with a byte less they are two, and no memory is refused for it
+merged_text : plan_text (merged_plan_of twice_a_sum (six ∷ six ∷ six ∷ six ∷ []) twice_inputs (with_memory 2624))
+    ≡ codes "op 0 map node=3 tasks=2 cells=2 projected=2624" ++ 10 ∷ codes "plan ops=1 tasks=2 cells=2 peak=2624" ++ 10 ∷ []
+unfolding digits operation_line plan_line merged_plan_of
+merged_text = refl
+
+unmerged_text : plan_text (merged_plan_of twice_a_sum (six ∷ six ∷ six ∷ six ∷ []) twice_inputs (with_memory 2623))
+    ≡ codes "op 0 map node=2 tasks=2 cells=2 projected=1600" ++ 10 ∷ codes "op 1 map node=3 tasks=2 cells=2 projected=1584" ++ 10
+    ∷ codes "plan ops=2 tasks=4 cells=4 peak=1600" ++ 10 ∷ []
+unfolding digits operation_line plan_line merged_plan_of
+unmerged_text = refl
+
+sum_alone : refusal_of (with_memory 1600) twice_a_sum (six ∷ six ∷ six ∷ six ∷ []) ≡ None
+sum_alone = refl
+
+sum_refused : refusal_of (with_memory 1599) twice_a_sum (six ∷ six ∷ six ∷ six ∷ []) ≡ Some (OverMemory 2 1600 1599)
+sum_refused = refl

@@ -8,7 +8,7 @@ mod sums;
 mod text;
 
 pub use fault::PlanFault;
-pub use laws::refusal_law;
+pub use laws::{merged_plan_law, refusal_law};
 pub use planning::plan;
 pub use sums::{cell_count, peak, task_count};
 pub use text::plan_text;

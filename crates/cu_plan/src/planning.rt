@@ -1,21 +1,23 @@
 //! The plan of an expression.
 
-ghost use Rattle.std.specs.Prelude.{◌≡◌, All, IfErr, IfOk, OnOk, None, Ok, Some};
+ghost use Rattle.std.specs.Prelude.{◌≡◌, ◌≤◌, All, IfErr, IfOk, OnOk, None, Ok, Some};
 ghost use Rattle.cu_expr.specs.Typing.{typed};
 ghost use Rattle.cu_form.specs.Expression.{IsExpression};
 ghost use Rattle.cu_lower.specs.Parts.{AreOptions};
-ghost use Rattle.cu_lower.specs.Plan.{plan_of};
-ghost use Rattle.cu_lower.specs.Premises.{IsLowerable, IsOfNode};
+ghost use Rattle.cu_lower.specs.Premises.{IsLowerable};
 ghost use Rattle.cu_need.specs.Need.{AreWithinLimits};
 ghost use Rattle.cu_node.specs.Info.{IsInfo};
 ghost use Rattle.cu_op.specs.Layout.{IsLayout};
 ghost use Rattle.cu_op.specs.Sound.{Sound};
+ghost use Rattle.cu_plan.specs.Plan.{merged_plan_of};
 ghost use Rattle.cu_plan.specs.Refusal.{refusal_of, IsRefusal};
 
 use crate::fault::PlanFault;
+use crate::laws::merged_plan_law;
 use cu_expr::{InputInfo, Types, typing_law};
 use cu_form::Expr;
-use cu_lower::{Options, lower, plan_law};
+use cu_fuse::fuse;
+use cu_lower::{Options, array_law, lower};
 use cu_need::{first_over, max_mem, plan_counts, typed_law};
 use cu_node::NodeInfo;
 use cu_op::Plan;
@@ -74,9 +76,29 @@ fn check(options: &Options, expr: &Expr, infos: &[NodeInfo]) -> Result<(), PlanF
     }
 }
 
+/// The plan of an expression that is accepted, in which maps are merged.
+#[tactic(auto, unfolding(crate::specs::Plan::merged_plan_of))]
+fn merged(
+    alloc: Global,
+    expr: &Expr,
+    infos: &[NodeInfo],
+    inputs: &[InputInfo],
+    options: &Options,
+) -> Result<Plan, NoMemory>
+    requires { IsLowerable expr.now infos.now inputs.now options.now }
+    ensures plan { IfOk result (λ plan. plan ≡ merged_plan_of expr.now infos.now inputs.now options.now) }
+    ensures sound { IfOk result Sound }
+    ensures needs { IfOk result (λ plan. All (λ o. o.projected ≤ options.now.allowed) plan.ops) }
+{
+    merged_plan_law();
+    array_law();
+    let plan = lower(alloc, expr, infos, inputs, options)?;
+    fuse(alloc, plan)
+}
+
 /// The plan of an expression whose nodes have these types over these inputs. It is refused where a live node needs more than is allowed,
-/// by the first that does, and else where its tasks or its stored chunks are too many. Nothing is merged in it, and each of its operations
-/// belongs to a live node and needs at most what is allowed.
+/// by the first that does, and else where its tasks or its stored chunks are too many, as they are before maps are merged. Then maps are
+/// merged in it where that needs no more than is allowed, so that each of its operations needs at most that.
 pub fn plan(
     alloc: Global,
     expr: &Expr,
@@ -87,21 +109,20 @@ pub fn plan(
     requires types { typed inputs.now expr.now ≡ Ok types.now }
     requires layouts { All (λ i. IsLayout i.layout) inputs.now }
     requires options { AreOptions options.now }
-    ensures plan { IfOk result (λ plan. plan ≡ plan_of expr.now types.now inputs.now options.now) }
+    ensures plan { IfOk result (λ plan. plan ≡ merged_plan_of expr.now types.now inputs.now options.now) }
     ensures sound { IfOk result Sound }
-    ensures needs { IfOk result (λ plan. All (IsOfNode expr.now types.now options.now) plan.ops) }
+    ensures needs { IfOk result (λ plan. All (λ o. o.projected ≤ options.now.allowed) plan.ops) }
     ensures lowerable { OnOk result (IsLowerable expr.now types.now inputs.now options.now) }
     ensures accepted { OnOk result (refusal_of options.now expr.now types.now ≡ None) }
     ensures refused { IfErr result (IsRefusal options.now expr.now types.now) }
 {
     typing_law();
     typed_law();
-    plan_law();
     let Ok(infos) = infos_of(alloc, expr, types, inputs) else {
         return Err(PlanFault::NoMemory);
     };
     check(options, expr, &infos)?;
-    match lower(alloc, expr, &infos, inputs, options) {
+    match merged(alloc, expr, &infos, inputs, options) {
         Ok(plan) => Ok(plan),
         Err(_) => Err(PlanFault::NoMemory),
     }

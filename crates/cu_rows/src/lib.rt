@@ -10,7 +10,9 @@ mod metadata;
 mod numbers;
 mod regions;
 mod shapes;
+mod turns;
 mod typing;
+mod zarrays;
 
 pub use bytes::{Texts, key_of};
 pub use expressions::run_expressions;
@@ -20,4 +22,6 @@ pub use metadata::run_metadata;
 pub use numbers::{run_promotions, run_scalars};
 pub use regions::{run_keys, run_regions};
 pub use shapes::run_shapes;
+pub use turns::run_turns;
 pub use typing::run_typing;
+pub use zarrays::run_zarray;

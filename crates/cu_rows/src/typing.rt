@@ -1,6 +1,7 @@
 //! The kind of case that types an expression over its inputs.
-ghost use Rattle.std.specs.Prelude.{◌≤◌, ◌^◌, IfOk, OnOk, length};
+ghost use Rattle.std.specs.Prelude.{◌≤◌, ◌^◌, All, IfOk, OnOk, length};
 ghost use Rattle.cu_expr.specs.Premises.{HasGrid, HaveGrids};
+ghost use Rattle.cu_op.specs.Layout.{IsLayout};
 
 use crate::bytes::Texts;
 use crate::findings::{Findings, Place};
@@ -43,8 +44,9 @@ pub fn run_typing(
 }
 
 /// The inputs of a list.
-fn inputs_of(alloc: Global, list: &[Value]) -> Result<Vec<InputInfo>>
-    ensures { IfOk result (λ inputs. HaveGrids inputs.items) }
+pub(crate) fn inputs_of(alloc: Global, list: &[Value]) -> Result<Vec<InputInfo>>
+    ensures grids { IfOk result (λ inputs. HaveGrids inputs.items) }
+    ensures layouts { IfOk result (λ inputs. All (λ i. IsLayout i.layout) inputs.items) }
 {
     let mut inputs = Vec::new(alloc);
     for value in list {
@@ -55,7 +57,8 @@ fn inputs_of(alloc: Global, list: &[Value]) -> Result<Vec<InputInfo>>
 
 /// An input, from its name, type, shape and chunk shape.
 fn input_of(value: &Value) -> Result<InputInfo>
-    ensures { IfOk result (λ input. HasGrid input.layout) }
+    ensures grid { IfOk result (λ input. HasGrid input.layout) }
+    ensures fill { IfOk result (λ input. IsLayout input.layout) }
 {
     let [name, dtype, shape, chunk] = list_of(value)? else {
         bail!("an input has a name, a type, a shape and a chunk shape");
@@ -69,7 +72,8 @@ fn input_of(value: &Value) -> Result<InputInfo>
 
 /// A layout of this type, shape and chunk shape. What else it says has no part in typing.
 fn layout_of(dtype: Dtype, shape: Dims, chunk: Dims) -> Result<Layout>
-    ensures { IfOk result HasGrid }
+    ensures grid { IfOk result HasGrid }
+    ensures fill { IfOk result IsLayout }
 {
     let _short = shape.rank();
     let Ok(grid) = Grid::make(shape, chunk, size(dtype)) else {

@@ -17,7 +17,11 @@ use Rattle.cu_op.specs.Arrays.{array_at, maker_at}
 use Rattle.cu_op.specs.Schedule.{key_of}
 use Rattle.cu_op.specs.Sound.{Sound, IsCell}
 use Rattle.cu_state.specs.Names.{HasPlanNames}
-use Rattle.cu_state.specs.Pieces.{PlanRun, Piece, Text, Chunk, IsPiece, piece_key, KeysApart}
+use Rattle.cu_state.specs.Pieces.{PlanRun, Piece, Text, Chunk, IsPiece, IsInputChunk, piece_key, KeysApart, InputsApart}
+use Rattle.cu_codec.proofs.KeyLaws.{same_chunk}
+use Rattle.cu_op.proofs.CellsOfTasks.{coordinates_small}
+use Rattle.cu_op.specs.Cells.{cell}
+use Rattle.cu_shape.proofs.Places.{inside-length}
 
 -- the key begins with the name and a slash
 abbrev IsKeyOf : List ℕ → List ℕ → Type 0
@@ -172,3 +176,25 @@ module _ (r : PlanRun) (name recorded metadata : List ℕ) (sound : Sound r.plan
   -- no key of a piece is one of an array with another name
   pub other_names : (q : Piece) (other rest : List ℕ) → IsPiece r q → IsArrayName other → other ≢ name → piece_key r q ≢ other ++ 47 ∷ rest
   other_names q other rest piece named differ e = apart_names name other (piece_key r q) names.named named differ (owner q piece) (rest, e)
+
+  small_chunk : (c : Cell) → IsInputChunk r.plan.arrays c → All (λ i. i < 2 ^ 64) c.coord
+  small_chunk c input k d below = let s = coordinates_small r.plan c.array c.coord sound input.within input.coordinate k d below in omega (arith, s)
+
+  -- two chunks of one input with one key are one chunk
+  one_chunk : (c d : Cell) → IsInputChunk r.plan.arrays c → IsInputChunk r.plan.arrays d → c.array ≡ d.array → key_of r.plan.arrays c ≡ key_of r.plan.arrays d → c ≡ d
+  one_chunk c d input other same e =
+      let there : IsInputChunk r.plan.arrays (cell c.array d.coord) = subst (λ (a : ℕ). IsInputChunk r.plan.arrays (cell a d.coord)) (sym same) other in
+      let here : key_of r.plan.arrays c ≡ key_of r.plan.arrays (cell c.array d.coord) = e ∙ ap (λ (a : ℕ). key_of r.plan.arrays (cell a d.coord)) (sym same) in
+      let coords = same_chunk (array_at r.plan.arrays c.array).prefix (array_at r.plan.arrays c.array).layout.encoding c.coord d.coord (small_chunk c input) (small_chunk (cell c.array d.coord) there)
+      (inside-length _ c.coord input.coordinate ∙ sym (inside-length _ d.coord there.coordinate)) here in
+      λ i. cell (same i) (coords i)
+
+  -- the keys of two chunks of inputs differ
+  pub inputs_apart : InputsApart r
+  inputs_apart c d input other e =
+      let (named, differ) = names.inputs c.array input.within input.given in
+      let (also, unlike) = names.inputs d.array other.within other.given in
+      let k = chunk_of_name (array_at r.plan.arrays c.array).prefix c.coord (array_at r.plan.arrays c.array).layout.encoding in
+      let l = chunk_of_name (array_at r.plan.arrays d.array).prefix d.coord (array_at r.plan.arrays d.array).layout.encoding in
+      let prefixes = one_name (array_at r.plan.arrays c.array).prefix (array_at r.plan.arrays d.array).prefix k.0 l.0 named.plain also.plain (sym k.1 ∙ e ∙ l.1) in
+      one_chunk c d input other (names.once c.array d.array input.within other.within input.given other.given prefixes) e

@@ -6,6 +6,7 @@ use Rattle.cu_store.specs.Steps.{Shown, Changes, Steps}
 use Rattle.cu_op.specs.declared.cells.Cell.{Cell}
 use Rattle.cu_op.specs.Arrays.{grid_at, maker_at}
 use Rattle.cu_op.specs.Cells.{tasks_of}
+use Rattle.cu_op.specs.PlanView.{PlanView}
 use Rattle.cu_op.specs.Schedule.{op_of, key_of}
 use Rattle.cu_op.specs.Sound.{Sound}
 use Rattle.cu_op.specs.Value.{Elements, stored_inputs, HasTypes}
@@ -28,6 +29,10 @@ pub record IsLeft (r : PlanRun) (env : Elements) (shown : Shown) : Type 0 where
       → stored_inputs r.plan.arrays held a idx ≡ env a idx
   pub pieces : (q : Piece) → IsPiece r q → (held (piece_key r q) ≡ None) ⊎ ((bytes : List ℕ) × (held (piece_key r q) ≡ Some bytes) × (piece_value r env q ≡ Some bytes))
   pub quiet : IsQuiet r env held shown.late
+
+-- two environments give each index inside an input the same element
+abbrev pub AgreeOnInputs : PlanView → Elements → Elements → Type 0
+AgreeOnInputs p env other = (a : ℕ) (idx : List ℕ) → a < length p.arrays → maker_at p.arrays a ≡ None → IsInside (grid_at p.arrays a).shape idx → env a idx ≡ other a idx
 
 -- from one moment to another only values of pieces were put, late puts aside, by so many calls
 abbrev pub Begun : PlanRun → Elements → ℕ → ℕ → Shown → Shown → Type 0

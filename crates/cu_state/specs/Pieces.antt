@@ -55,6 +55,10 @@ pub record KeysApart (r : PlanRun) : Type 0 where
   pub pieces : (q s : Piece) → IsPiece r q → IsPiece r s → piece_key r q ≡ piece_key r s → q ≡ s
   pub inputs : (q : Piece) (c : Cell) → IsPiece r q → IsInputChunk r.plan.arrays c → piece_key r q ≢ key_of r.plan.arrays c
 
+-- Two chunks of inputs with one key are one chunk.
+abbrev pub InputsApart : PlanRun → Type 0
+InputsApart r = (c d : Cell) → IsInputChunk r.plan.arrays c → IsInputChunk r.plan.arrays d → key_of r.plan.arrays c ≡ key_of r.plan.arrays d → c ≡ d
+
 -- the piece has a value and holds it, where the contents are told
 abbrev pub HoldsPiece : PlanRun → Elements → Piece → Shown → Type 0
 HoldsPiece r env q shown = (bytes : List ℕ) × (piece_value r env q ≡ Some bytes) × Holds shown.held (piece_key r q) bytes

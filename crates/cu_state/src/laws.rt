@@ -5,15 +5,16 @@ ghost use Rattle.cu_store.specs.Held.{Contents};
 ghost use Rattle.cu_store.specs.Steps.{Shown, Steps};
 ghost use Rattle.cu_op.specs.declared.cells.Cell.{Cell};
 ghost use Rattle.cu_op.specs.Arrays.{array_at, grid_at, maker_at};
-ghost use Rattle.cu_op.specs.Cells.{tasks_of};
-ghost use Rattle.cu_op.specs.Schedule.{op_of, IsReady};
+ghost use Rattle.cu_op.specs.Cells.{tasks_of, IsChunk};
+ghost use Rattle.cu_op.specs.PlanView.{PlanView};
+ghost use Rattle.cu_op.specs.Schedule.{op_of, cell_value, IsReady};
 ghost use Rattle.cu_op.specs.Sound.{Sound};
 ghost use Rattle.cu_op.specs.Value.{Elements, plan_value, stored_inputs};
 ghost use Rattle.cu_op.specs.Walks.{read_chunks};
-ghost use Rattle.cu_state.specs.Left.{IsQuiet, IsLeft, Begun, RunChange, AreDone};
+ghost use Rattle.cu_state.specs.Left.{IsQuiet, IsLeft, AgreeOnInputs, Begun, RunChange, AreDone};
 ghost use Rattle.cu_state.specs.Names.{HasPlanNames};
 ghost use Rattle.cu_zarr.specs.Key.{metadata_key_of};
-ghost use Rattle.cu_state.specs.Pieces.{PlanRun, chunks_alone, Piece, Chunk, Text, IsPiece, piece_key, KeysApart, HoldsPiece, HoldsTask, IsComplete};
+ghost use Rattle.cu_state.specs.Pieces.{PlanRun, chunks_alone, Piece, Chunk, Text, IsPiece, piece_key, KeysApart, InputsApart, HoldsPiece, HoldsTask, IsComplete};
 
 use cu_op::range_law;
 
@@ -67,11 +68,21 @@ pub fn complete_law()
 }
 
 /// The keys of a plan with a name, of its record, its metadata and its chunks, are apart among themselves, and from the metadata and
-/// the chunks of its inputs.
+/// the chunks of its inputs. The keys of the chunks of its inputs are apart too.
 pub fn names_law()
     ensures apart { (r : PlanRun) (name recorded metadata : List ℕ) → Sound r.plan → HasPlanNames r name recorded metadata → KeysApart r }
+    ensures inputs { (r : PlanRun) (name recorded metadata : List ℕ) → Sound r.plan → HasPlanNames r name recorded metadata → InputsApart r }
     ensures metadata { (r : PlanRun) (name recorded metadata : List ℕ) (q : Piece) (a : ℕ) → Sound r.plan → HasPlanNames r name recorded metadata → IsPiece r q
         → a < length r.plan.arrays → maker_at r.plan.arrays a ≡ None → piece_key r q ≢ metadata_key_of (array_at r.plan.arrays a).prefix }
     ensures others { (r : PlanRun) (name recorded metadata : List ℕ) (q : Piece) (other rest : List ℕ) → Sound r.plan → HasPlanNames r name recorded metadata → IsPiece r q
         → IsArrayName other → other ≢ name → piece_key r q ≢ other ++ 47 ∷ rest }
+{}
+
+/// The values of a plan are those that the elements inside its inputs make: where two environments agree there, each array has the same
+/// values, and each chunk one value.
+pub fn alike_law()
+    ensures values { (p : PlanView) (env other : Elements) (a : ℕ) (idx : List ℕ) → Sound p → AgreeOnInputs p env other → a < length p.arrays
+        → IsInside (grid_at p.arrays a).shape idx → plan_value p env a idx ≡ plan_value p other a idx }
+    ensures chunks { (p : PlanView) (env other : Elements) (c : Cell) → Sound p → AgreeOnInputs p env other → IsChunk p.arrays c
+        → cell_value p env c ≡ cell_value p other c }
 {}

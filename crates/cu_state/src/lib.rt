@@ -4,4 +4,4 @@
 
 mod laws;
 
-pub use laws::{begun_law, complete_law, left_law, names_law, task_law};
+pub use laws::{alike_law, begun_law, complete_law, left_law, names_law, task_law};

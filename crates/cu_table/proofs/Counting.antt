@@ -21,7 +21,7 @@ use Rattle.cu_table.specs.Own.{is_end}
 use Rattle.cu_table.proofs.Copies.{a_copy, sum_without}
 use Rattle.cu_table.proofs.Keeping.{Kept, inside, counted, step_kept, length_sum, opening_kept}
 
-abbrev one : Bool → ℕ
+abbrev pub one : Bool → ℕ
 one b = if b then 1 else 0
 
 module _ (g : Settings) (old : Machine) (kept : Kept g.plan g.retries old) (e : Entry) (new : Machine) where
@@ -51,7 +51,7 @@ module _ (g : Settings) (old : Machine) (kept : Kept g.plan g.retries old) (e : 
       let b = ap undone_among tasks in
       omega (arith, a, w, v, b)
 
-  count_step : (kind : EventKind) → StepOf g old kind e new
+  pub count_step : (kind : EventKind) → StepOf g old kind e new
       → (one (is_start kind) + length old.copies ≡ one (is_end kind) + length new.copies) × (one (is_done kind) + undone_among new.tasks ≡ undone_among old.tasks)
   count_step Start step =
       let a = ap (λ (m : Machine). length m.copies) step.1 in
@@ -91,12 +91,17 @@ count_run g old (e ∷ es) new kept (mid, step, run) =
 abbrev pub IsAlone : TaskState → Type 0
 IsAlone s = (s.copies ≤ 1) × (s.done ≡ true → s.copies ≡ 0)
 
+-- a task that is started waited
+pub alone_started : (g : Settings) → g.backups ≡ false → (m : Machine) (op task : ℕ) → CanStart g m op task → IsAlone (one_copy_more (state_at g.plan m op task))
+alone_started g off m op task (inl (ready, w)) = ((let c = w.1 in omega (arith, c)), (λ done. absurd (cc (done, w.0))))
+alone_started g off m op task (inr (n, on, single)) = absurd (cc (on, off))
+
 module _ (g : Settings) (off : g.backups ≡ false) (old : Machine) (kept : Kept g.plan g.retries old) (e : Entry) (new : Machine) (alone : All IsAlone old.tasks) where
   alone_at : IsTask g.plan e.op e.task → IsAlone (state_at g.plan old e.op e.task)
   alone_at is = alone (task_number g.plan e.op e.task) no_task (inside g.plan g.retries old kept e.op e.task is no_task)
 
   -- a copy of a task that ends: the task had one, and has none
-  alone_ended : Runs old e.worker e.op e.task → (s : TaskState) → s.copies ≡ (state_at g.plan old e.op e.task).copies - 1 → (ended : Option Ending) → new ≡ copy_ended g.plan old e s ended
+  pub alone_ended : Runs old e.worker e.op e.task → (s : TaskState) → s.copies ≡ (state_at g.plan old e.op e.task).copies - 1 → (ended : Option Ending) → new ≡ copy_ended g.plan old e s ended
       → All IsAlone new.tasks
   alone_ended runs s less ended is =
       let c = counted g.plan g.retries old kept e.worker e.op e.task runs in
@@ -104,18 +109,14 @@ module _ (g : Settings) (off : g.backups ≡ false) (old : Machine) (kept : Kept
       subst (All IsAlone) (sym (ap (λ (m : Machine). m.tasks) is))
       (All-set IsAlone old.tasks (task_number g.plan e.op e.task) s (omega (arith, a, less), (λ done. omega (arith, a, less))) alone)
 
-  alone_step : (kind : EventKind) → StepOf g old kind e new → new.ended ≡ None
+  pub alone_step : (kind : EventKind) → StepOf g old kind e new → new.ended ≡ None
       → All IsAlone new.tasks × (old.ended ≡ None) × (one (is_end kind) ≡ one (is_done kind) + one (is_failed kind))
   alone_step Start step none = (
     subst (All IsAlone) (sym (ap (λ (m : Machine). m.tasks) step.1))
-        (All-set IsAlone old.tasks (task_number g.plan e.op e.task) (one_copy_more (state_at g.plan old e.op e.task)) (waits step.0.can) alone),
+        (All-set IsAlone old.tasks (task_number g.plan e.op e.task) (one_copy_more (state_at g.plan old e.op e.task)) (alone_started g off old e.op e.task step.0.can) alone),
     step.0.going,
     refl,
   )
-    where
-      waits : CanStart g old e.op e.task → IsAlone (one_copy_more (state_at g.plan old e.op e.task))
-      waits (inl (ready, w)) = ((let c = w.1 in omega (arith, c)), (λ done. absurd (cc (done, w.0))))
-      waits (inr (n, on, single)) = absurd (cc (on, off))
   alone_step Done step none = (alone_ended step.0.runs (done_now (state_at g.plan old e.op e.task)) refl None step.1, step.0.going, refl)
   alone_step Failed step none =
       (alone_ended step.0.runs (failed_now (state_at g.plan old e.op e.task)) refl (ending_after g.retries (state_at g.plan old e.op e.task).failures e.op e.task) step.1, step.0.going, refl)

@@ -19,3 +19,6 @@ pub mod Reports
 pub mod Claims
 pub mod Alone
 pub mod Examples
+pub mod Doing
+pub mod Tallies
+pub mod Whole

@@ -9,7 +9,7 @@ use Rattle.cu_history.specs.History.{is_start, own}
 use Rattle.cu_table.specs.declared.state.RunningCopy.{RunningCopy}
 use Rattle.cu_table.specs.Machine.{Machine, without, RunsNothing, Runs, opening, copy_of}
 use Rattle.cu_table.specs.Own.{left_running, running_of}
-use Rattle.cu_table.specs.Step.{Settings, StepOf, Run, Replays}
+use Rattle.cu_table.specs.Step.{Settings, Step, StepOf, Run, Replays}
 
 abbrev Free : List RunningCopy → ℕ → Type 0
 Free cs worker = All (λ c. c.worker ≢ worker) cs
@@ -141,6 +141,15 @@ run_tells g old (e ∷ es) new w a (mid, step, run) =
     by_test (λ b. left_running (running_of old.copies w) (cond b (e ∷ own w es) (own w es)) ≡ running_of new.copies w) e.worker w
     (λ same. ap (λ (x : Option (ℕ × ℕ)). left_running x (own w es)) (sym self ∙ ap (running_of mid.copies) same) ∙ rest)
     (λ ne. ap (λ (x : Option (ℕ × ℕ)). left_running x (own w es)) (sym (others w ne)) ∙ rest)
+
+single_run : (g : Settings) (old : Machine) (es : List Entry) (new : Machine) → Single old.copies → Run g old es new → Single new.copies
+single_run g old [] new a is = subst (λ (m : Machine). Single m.copies) (sym is) a
+single_run g old (e ∷ es) new a (mid, step, run) = single_run g mid es new (step_tells g e.kind old mid e refl a step).2 run
+
+-- of the workers an entry changes what its own runs
+pub step_running : (g : Settings) (done : List Bool) (history : List Entry) (old new : Machine) (e : Entry) (w : ℕ) → Replays g done history old → Step g old e new
+    → running_of new.copies w ≡ left_running (running_of old.copies w) (own w (e ∷ []))
+step_running g done history old new e w (long, run) step = sym (run_tells g old (e ∷ []) new w (single_run g (opening done) history old tt run) (new, step, refl))
 
 pub own_running : (g : Settings) (done : List Bool) (history : List Entry) (m : Machine) (w : ℕ) → Replays g done history m → running_of m.copies w ≡ left_running None (own w history)
 own_running g done history m w (long, run) = sym (run_tells g (opening done) history m w tt run)

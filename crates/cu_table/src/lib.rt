@@ -17,6 +17,9 @@ mod watch;
 
 pub use claim::Claim;
 pub use cu_history::{Entry, EventKind};
-pub use laws::{alone_law, claim_law, count_law, ended_law, history_law, own_law};
+pub use laws::{
+    alone_law, broken_law, claim_law, count_law, done_law, ended_law, history_law, own_law,
+    step_law, task_law,
+};
 pub use state::{Ending, RunningCopy, TaskId, TaskState};
 pub use table::Table;

@@ -2,12 +2,10 @@ mod AskLemmas
 mod CallLemmas
 mod CheckLemmas
 mod Completeness
-mod OptionLemmas
 mod PlanLemmas
 mod PlannedLemmas
 mod PrepareLemmas
 mod RecordExample
 mod RecordLemmas
 mod RunLemmas
-mod WordLemmas
 mod WordsExample

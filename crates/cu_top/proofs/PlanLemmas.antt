@@ -14,10 +14,8 @@ use Rattle.cu_form.specs.declared.form.Form.{Form}
 use Rattle.cu_meaning.specs.Argument.{NodeElements, shape_of_node}
 use Rattle.cu_meaning.specs.Meaning.{meaning_of}
 use Rattle.cu_node.specs.declared.info.NodeInfo.{NodeInfo}
-use Rattle.cu_need.specs.Live.{is_live}
 use Rattle.cu_lower.specs.Inputs.{input_array, input_place}
-use Rattle.cu_lower.specs.Plan.{lowered, array_of_node, plan_of}
-use Rattle.cu_lower.specs.Premises.{IsLowerable, IsLiveInput, IsOutput, OutputDiffers, HaveElements}
+use Rattle.cu_lower.specs.Premises.{IsLowerable, IsLiveInput, IsOutput, OutputDiffers}
 use Rattle.cu_lower.specs.declared.options.Options.{Options}
 use Rattle.cu_op.specs.declared.layout.ArrayInfo.{ArrayInfo}
 use Rattle.cu_op.specs.declared.layout.Layout.{Layout}
@@ -36,6 +34,7 @@ use Rattle.cu_state.specs.Pieces.{PlanRun, Chunk, IsComplete}
 use Rattle.cu_store.specs.Held.{Contents}
 use Rattle.cu_store.specs.Steps.{Shown}
 use Rattle.cu_zarr.specs.Stored.{stored_element}
+use Rattle.cu_plan.specs.Plan.{merged_plan_of, HaveInputElements}
 use Rattle.cu_command.specs.declared.job.Job.{Job}
 use Rattle.cu_top.specs.Prepare.{reads_array, HasNoOwnInput, IsLentWithin, HasPlan, out_layout}
 use Rattle.cu_top.specs.Run.{RunCase, plan_in, job_run, env_of, used_element, elements_of, IsMeant}
@@ -81,16 +80,16 @@ complete_value r env shown a idx sound complete within made inside =
 -- the laws of a plan's arrays and values
 abbrev pub OutputLaw : Type 0
 OutputLaw = (e : Expression) (infos : List NodeInfo) (inputs : List InputInfo) (options : Options) → IsLowerable e infos inputs options
-    → IsOutput e infos (array_at (plan_of e infos inputs options).arrays (plan_of e infos inputs options).out)
+    → IsOutput e infos (array_at (merged_plan_of e infos inputs options).arrays (merged_plan_of e infos inputs options).out)
 
 abbrev pub InputLaw : Type 0
 InputLaw = (e : Expression) (infos : List NodeInfo) (inputs : List InputInfo) (options : Options) (k : ℕ) (name : List ℕ) → IsLowerable e infos inputs options
-    → IsLiveInput e k name → array_at (plan_of e infos inputs options).arrays (input_place e name) ≡ input_array inputs name
+    → IsLiveInput e k name → array_at (merged_plan_of e infos inputs options).arrays (input_place e name) ≡ input_array inputs name
 
 abbrev pub ValueLaw : Type 0
-ValueLaw = (e : Expression) (infos : List NodeInfo) (inputs : List InputInfo) (options : Options) (env : Elements) (elements : NodeElements) (k : ℕ) (idx : List ℕ) (x : ℤ)
-    → HaveElements e infos inputs options env elements → is_live e k ≡ true → IsInside (shape_of_node infos k) idx
-    → plan_value (plan_of e infos inputs options) env (array_of_node (lowered e infos inputs options) k) idx ≡ Some x → x ≡ meaning_of e infos elements k idx
+ValueLaw = (e : Expression) (infos : List NodeInfo) (inputs : List InputInfo) (options : Options) (env : Elements) (elements : NodeElements) (idx : List ℕ) (x : ℤ)
+    → HaveInputElements e infos inputs options env elements → IsInside (shape_of_node infos e.out) idx
+    → plan_value (merged_plan_of e infos inputs options) env (merged_plan_of e infos inputs options).out idx ≡ Some x → x ≡ meaning_of e infos elements e.out idx
 
 abbrev pub ElementsLaw : Type 0
 ElementsLaw = (r : PlanRun) (env : Elements) (shown : Shown) (a : ℕ) (idx : List ℕ) (left : IsLeft r env shown) → IsComplete r env shown
@@ -110,19 +109,19 @@ module _ (c : RunCase) (job : Job) (planned : HasPlan c.options job) (inputs : I
       (inputs job.expr job.types job.inputs.items c.options k name planned i)
 
   have_elements : (entry : Contents) (shown : Shown) → IsLeft (job_run c job) (env_of c job entry) shown
-      → HaveElements job.expr job.types job.inputs.items c.options (env_of c job entry) (elements_of job entry)
+      → HaveInputElements job.expr job.types job.inputs.items c.options (env_of c job entry) (elements_of job entry)
   have_elements entry shown left = record { lowerable = planned; typed = left.typed; given = λ k name idx i inside. elements_given entry k name idx i }
 
   -- the output of a complete run is what the expression means
-  pub meant : ValueLaw → ElementsLaw → is_live job.expr job.expr.out ≡ true → (entry : Contents) (shown : Shown) → (left : IsLeft (job_run c job) (env_of c job entry) shown)
+  pub meant : ValueLaw → ElementsLaw → (entry : Contents) (shown : Shown) → (left : IsLeft (job_run c job) (env_of c job entry) shown)
       → IsComplete (job_run c job) (env_of c job entry) shown → IsMeant job entry left.held
-  meant value elements live entry shown left complete idx inside =
+  meant value elements entry shown left complete idx inside =
       let is = output job.expr job.types job.inputs.items c.options planned in
       let a = (plan_in c job).out in
       let within = left.sound.out in
       let place : IsInside (grid_at (plan_in c job).arrays a).shape idx = subst (λ (l : Layout). IsInside l.grid.shape idx) (sym is.layout) inside in
       let (x, valued) = complete_value (job_run c job) (env_of c job entry) shown a idx left.sound complete within is.made place in
-      let means = value job.expr job.types job.inputs.items c.options (env_of c job entry) (elements_of job entry) job.expr.out idx x (have_elements entry shown left) live inside valued in
+      let means = value job.expr job.types job.inputs.items c.options (env_of c job entry) (elements_of job entry) idx x (have_elements entry shown left) inside valued in
       let stored = elements (job_run c job) (env_of c job entry) shown a idx left complete within is.made place in
       stored_is (array_at (plan_in c job).arrays a) (out_layout job) job.expr.store_as left.held idx is.layout is.name ∙ stored ∙ valued ∙ ap Some means
     where

@@ -18,7 +18,7 @@ use Rattle.cu_op.specs.Value.{Elements, stored_inputs}
 use Rattle.cu_op.specs.Walks.{written_chunks}
 use Rattle.cu_op.proofs.TaskCells.{some_task}
 use Rattle.cu_state.specs.Left.{IsQuiet, IsLeft, RunChange, AreDone}
-use Rattle.cu_lower.specs.Premises.{IsOfNode, OutputDiffers}
+use Rattle.cu_lower.specs.Premises.{OutputDiffers}
 use Rattle.cu_state.specs.Names.{HasPlanNames}
 use Rattle.cu_state.specs.Pieces.{PlanRun, Piece, Text, Chunk, IsPiece, piece_key, text_at, chunks_alone, KeysApart, IsComplete}
 use Rattle.cu_work.specs.Drive.{task_count, IsOutcome, IsInputKey, IfComplete, IfBroken, IfBad}
@@ -168,7 +168,7 @@ LeftLaw = (r : PlanRun) (shown : Shown) (held : Contents) → Sound r.plan → K
 -- the laws of a plan that a run rests on
 pub record PlanLaws (c : RunCase) (job : Job) : Type 0 where
   pub sound : Sound (plan_in c job)
-  pub needs : (j : ℕ) → j < length (plan_in c job).ops → IsOfNode job.expr job.types c.options (operation_at (plan_in c job).ops j)
+  pub needs : (j : ℕ) → j < length (plan_in c job).ops → (operation_at (plan_in c job).ops j).projected ≤ (plan_in c job).allowed
   pub names : OutputDiffers job.expr → HasPlanNames (job_run c job) job.expr.store_as (record_text c.options job) (out_metadata job)
   pub left : LeftLaw
   pub meant : (entry : Contents) (shown : Shown) (left : IsLeft (job_run c job) (env_of c job entry) shown) → IsComplete (job_run c job) (env_of c job entry) shown → IsMeant job entry left.held
@@ -200,7 +200,7 @@ module _ (c : RunCase) (job : Job) (laws : PlanLaws c job) (start : Shown) (clea
     accepted = cleared.accepted;
     planned = cleared.planned;
     sound = laws.sound;
-    room = lent_within (plan_in c job) laws.sound (λ j below. (laws.needs j below).allowed);
+    room = lent_within (plan_in c job) laws.sound laws.needs;
     own = cleared.own;
     apart = keys;
     free = cleared.free;

@@ -1,17 +1,22 @@
 -- What the call answers to the command `run`, from the text on. This project's own rules.
-use Rattle.std.specs.Prelude.{◌≡◌, ◌⊎◌, ℕ, List}
+use Rattle.std.specs.Prelude.{◌≡◌, ◌⊎◌, ℕ, List, true, Result, Ok, Err}
+use Rattle.cu_name.specs.Name.{is_name}
+use Rattle.cu_words.specs.declared.line.LineFault.{LineFault}
+use Rattle.cu_words.specs.declared.line.LineFault.TheVariants.{Refused, NoMemory as Wanting}
 use Rattle.cu_read.specs.declared.faults.ReadFault.{ReadFault as ExpressionFault}
 use Rattle.cu_store.specs.Faults.{Rose}
 use Rattle.cu_store.specs.Steps.{NoChange}
 use Rattle.cu_command.specs.Seen.{Stepped}
 use Rattle.cu_command.specs.Streams.{ReadsAll}
 use Rattle.cu_command.specs.declared.status.Status.{Status}
-use Rattle.cu_command.specs.declared.status.Status.TheVariants.{BadExpr, ReadFault, NoMemory}
+use Rattle.cu_command.specs.declared.status.Status.TheVariants.{BadWords, BadExpr, ReadFault, NoMemory}
 use Rattle.cu_lower.specs.declared.options.Options.{Options}
 use Rattle.cu_top.specs.Run.{Scene, RunCase, case, IsWanting, Ran}
-use Rattle.cu_top.specs.Words.{Command, run, load, check, print, plan}
+use Rattle.cu_top.specs.Words.{Command, IsInRange, run, load, check, print, plan}
 use Rattle.cu_top.specs.declared.words.Asked.{Asked}
 use Rattle.cu_top.specs.declared.words.Asked.TheVariants as asked
+use Rattle.cu_top.specs.declared.words.Reading.{Reading}
+use Rattle.cu_top.specs.declared.words.Reading.TheVariants as reading
 
 -- what the words were read as
 abbrev pub command_view : Asked → Command
@@ -20,6 +25,31 @@ command_view (asked.Plan options) = plan options
 command_view (asked.Load retries) = load retries
 command_view (asked.Check retries) = check retries
 command_view (asked.Print name retries) = print name retries
+
+-- the words were read, they are refused with this code, or memory was wanted
+abbrev pub IsAsked : Result Command ℕ → Result Asked LineFault → Type 0
+IsAsked command (Ok a) = command ≡ Ok (command_view a)
+IsAsked command (Err (Refused code)) = command ≡ Err code
+IsAsked command (Err Wanting) = Unit {0}
+
+-- options are in their ranges, and a name is one
+abbrev pub IsSound : Asked → Type 0
+IsSound (asked.Run options) = IsInRange options
+IsSound (asked.Plan options) = IsInRange options
+IsSound (asked.Print name retries) = is_name name ≡ true
+IsSound a = Unit {0}
+
+-- what came of reading words that ask for this command
+abbrev pub IsReading : Result Command ℕ → Reading → Type 0
+IsReading command (reading.Asked a) = (command ≡ Ok (command_view a)) × IsSound a
+IsReading command (reading.Refused code) = command ≡ Err code
+IsReading command reading.NoMemory = Unit {0}
+
+-- words with this fault are refused, or memory was wanted
+abbrev pub IsWordsRefused : ℕ → Status → Type 0
+IsWordsRefused code (BadWords c) = c ≡ code
+IsWordsRefused code NoMemory = Unit {0}
+IsWordsRefused code status = ⊥
 
 -- nothing but puts that were late has landed
 abbrev pub AreSpared : Scene → Scene → Type 0

@@ -4,7 +4,6 @@ use Rattle.std.specs.List.{list_any}
 use Rattle.cu_form.specs.Expression.{Expression}
 use Rattle.cu_form.specs.declared.form.Form.{Form}
 use Rattle.cu_lower.specs.Parts.{made_layout}
-use Rattle.cu_lower.specs.Plan.{plan_of}
 use Rattle.cu_lower.specs.Premises.{IsLowerable}
 use Rattle.cu_lower.specs.declared.options.Options.{Options}
 use Rattle.cu_name.specs.Keys.{record_key_of}
@@ -13,6 +12,7 @@ use Rattle.cu_op.specs.Layout.{layout_view}
 use Rattle.cu_op.specs.PlanView.{PlanView}
 use Rattle.cu_op.specs.Projection.{projection}
 use Rattle.cu_op.specs.declared.layout.Layout.{Layout}
+use Rattle.cu_plan.specs.Plan.{merged_plan_of}
 use Rattle.cu_plan.specs.Refusal.{refusal_of}
 use Rattle.cu_plan.specs.declared.fault.PlanFault.{PlanFault}
 use Rattle.cu_plan.specs.declared.fault.PlanFault.TheVariants as fault
@@ -25,9 +25,9 @@ use Rattle.cu_command.specs.declared.status.Status.TheVariants.{OverMemory, Over
 
 -- ---- the plan
 
--- the plan of a job's expression
+-- the plan of a job's expression, in which maps are merged
 abbrev pub job_plan : Options → Job → PlanView
-job_plan options job = plan_of job.expr job.types job.inputs.items options
+job_plan options job = merged_plan_of job.expr job.types job.inputs.items options
 
 -- the keys of the plan in the order in which they are asked for: its record's, the output's metadata's, and those of its chunks
 abbrev pub keys_of : Options → Job → List (List ℕ)

@@ -10,7 +10,7 @@ ghost use Rattle.cu_command.specs.Seen.{Stepped, stream, seen};
 ghost use Rattle.cu_load.specs.Load.{Loaded};
 ghost use Rattle.cu_lower.specs.declared.options.Options.{Options};
 ghost use Rattle.cu_print.specs.Print.{Printed};
-ghost use Rattle.cu_top.specs.Call.{CameToRun, DidNothing, IsReadFault, IsShort, IsRefusedText, RunTells};
+ghost use Rattle.cu_top.specs.Call.{CameToRun, DidNothing, IsReadFault, IsShort, IsRefusedText, IsWordsRefused, RunTells};
 ghost use Rattle.cu_top.specs.Complete.{IsPlannable, IsServable, IsServed};
 ghost use Rattle.cu_top.specs.Planned.{IsPrinted, PlanTells};
 ghost use Rattle.cu_top.specs.Run.{scene, IsDone, IsUnreported, IsTaskFailed, IsBadInput, IsDepotFailed, HasNoPlan, IsBlocked, IsMissing, IsRefused, IsBadExpr, IsBadType, PrintsOnly};
@@ -19,7 +19,7 @@ ghost use Rattle.cu_top.specs.Words.{IsInRange};
 
 use crate::planned::print_plan;
 use crate::run::run;
-use crate::words::{Asked, read_words};
+use crate::words::{Asked, Reading, read_words};
 use cu_check::check;
 use cu_command::{ReadRefused, Status, read_all};
 use cu_load::load;
@@ -39,8 +39,9 @@ pub fn top<R: Source, W: Sink, D: Depot>(
     out: &mut W,
     depot: &mut D,
 ) -> Status
-    // The words that are refused, and by no other answer's cause.
-    ensures words { (code : ℕ) → command_of (map string_bytes words.now) ≡ Err code → (result ≡ Status.BadWords code) × DidNothing (scene (stream (R.left src.old) (R.faults src.old)) (stream (W.written out.old) (W.faults out.old)) (D.shown depot.old))
+    // The words that are refused, and by no other answer's cause; where the command is missing or unknown no memory is wanted.
+    ensures unknown { command_of (map string_bytes words.now) ≡ Err 1 → result ≡ Status.BadWords 1 }
+    ensures words { (code : ℕ) → command_of (map string_bytes words.now) ≡ Err code → IsWordsRefused code result × DidNothing (scene (stream (R.left src.old) (R.faults src.old)) (stream (W.written out.old) (W.faults out.old)) (D.shown depot.old))
         (scene (stream (R.left src.new) (R.faults src.new)) (stream (W.written out.new) (W.faults out.new)) (D.shown depot.new)) }
     // What `run` answers, and what it leaves.
     ensures done { (options : Options) → command_of (map string_bytes words.now) ≡ Ok (run options) → result ≡ Status.Done
@@ -133,7 +134,8 @@ fn carry<R: Source, W: Sink, D: Depot>(
     out: &mut W,
     depot: &mut D,
 ) -> Status
-    ensures words { (code : ℕ) → command_of (map string_bytes words.now) ≡ Err code → (result ≡ Status.BadWords code) × DidNothing (scene (stream (R.left src.old) (R.faults src.old)) (stream (W.written out.old) (W.faults out.old)) (D.shown depot.old))
+    ensures unknown { command_of (map string_bytes words.now) ≡ Err 1 → result ≡ Status.BadWords 1 }
+    ensures words { (code : ℕ) → command_of (map string_bytes words.now) ≡ Err code → IsWordsRefused code result × DidNothing (scene (stream (R.left src.old) (R.faults src.old)) (stream (W.written out.old) (W.faults out.old)) (D.shown depot.old))
         (scene (stream (R.left src.new) (R.faults src.new)) (stream (W.written out.new) (W.faults out.new)) (D.shown depot.new)) }
     ensures runs { (options : Options) → command_of (map string_bytes words.now) ≡ Ok (run options) → RunTells options (scene (stream (R.left src.old) (R.faults src.old)) (stream (W.written out.old) (W.faults out.old)) (D.shown depot.old))
         (scene (stream (R.left src.new) (R.faults src.new)) (stream (W.written out.new) (W.faults out.new)) (D.shown depot.new)) result }
@@ -149,9 +151,10 @@ fn carry<R: Source, W: Sink, D: Depot>(
     ensures checks { (retries : ℕ) → command_of (map string_bytes words.now) ≡ Ok (check retries) → Checked retries (stream (R.left src.old) (R.faults src.old)) (stream (R.left src.new) (R.faults src.new))
         (seen (stream (W.written out.old) (W.faults out.old)) (D.shown depot.old)) (seen (stream (W.written out.new) (W.faults out.new)) (D.shown depot.new)) result }
 {
-    let asked = match read_words(words) {
-        Ok(asked) => asked,
-        Err(code) => return Status::BadWords { code },
+    let asked = match read_words(alloc, words) {
+        Reading::Asked(asked) => asked,
+        Reading::Refused { code } => return Status::BadWords { code },
+        Reading::NoMemory => return Status::NoMemory,
     };
     match &asked {
         Asked::Run(options) => run_command(alloc, options, src, out, depot),

@@ -14,9 +14,9 @@ use crate::prepare::{Prepared, prepare};
 use crate::record::record_text;
 use crate::report::report;
 use cu_command::Status;
-use cu_lower::{Options, array_law, plan_law, value_law};
+use cu_lower::Options;
 use cu_meta::write_meta;
-use cu_need::live_law;
+use cu_plan::merged_plan_law;
 use cu_read::plain_law;
 use cu_state::{complete_law, left_law};
 use cu_store::{Depot, NoMemory, Sink};
@@ -40,7 +40,7 @@ fn make_texts(alloc: Global, options: &Options, prepared: &Prepared) -> Result<B
     ensures record { IfOk result (λ texts. texts.plan.items ≡ record_text options.now prepared.now.job) }
     ensures metadata { IfOk result (λ texts. texts.array.items ≡ out_metadata prepared.now.job) }
 {
-    array_law();
+    merged_plan_law();
     let record = record_text(alloc, options, &prepared.job)?;
     let metadata = write_meta(alloc, &prepared.plan.array(prepared.plan.out()).layout)?;
     Ok(BothTexts {
@@ -87,10 +87,7 @@ fn store_plan<D: Depot>(
 {
     left_law();
     complete_law();
-    plan_law();
-    array_law();
-    value_law();
-    live_law();
+    merged_plan_law();
     let Ok(texts) = make_texts(alloc, options, prepared) else {
         return Err(Status::NoMemory);
     };

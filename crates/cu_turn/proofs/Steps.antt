@@ -1,5 +1,5 @@
 -- Each kind of step keeps the rule.
-use Rattle.std.proofs.Common.{◌≡◌, ◌≢◌, ◌⊎◌, ℕ, zero, suc, ◌+◌, ◌%◌, ◌<◌, ◌==◌, Bool, true, false, true≢false, List, [], ◌∷◌, ◌++◌, length, set, Option, Some, None, refl, sym, ap, ◌∙◌, subst, inl, inr, ⊎_elim, arith, append-nil, length-set, get_or-set_same}
+use Rattle.std.proofs.Common.{◌≡◌, ◌≢◌, ◌⊎◌, ℕ, zero, suc, ◌+◌, ◌%◌, ◌<◌, ◌==◌, Bool, true, false, true≢false, List, [], ◌∷◌, ◌++◌, map, length, set, Option, Some, None, refl, sym, ap, ◌∙◌, subst, inl, inr, ⊎_elim, arith, append-nil, length-set, get_or-set_same}
 use Rattle.std.specs.Prelude.{slice_index, slice_set, Contains}
 use mathlib.Core.Option as opt
 use mathlib.Core.Option.{some-ne-none, some-injective}
@@ -12,7 +12,7 @@ use Rattle.cu_history.specs.declared.entry.Entry.{Entry}
 use Rattle.cu_history.specs.History.{own, has_halt}
 use Rattle.cu_turn.specs.declared.view.SeatView.{SeatView}
 use Rattle.cu_turn.specs.declared.view.KnownFront.{KnownFront}
-use Rattle.cu_turn.specs.Views.{first_root, informed, split_root, split_off, root_joined, spent, is_shorter, either_informed}
+use Rattle.cu_turn.specs.Views.{first_root, informed, split_root, split_off, root_joined, joined_numbers, spent, is_shorter, either_informed}
 use Rattle.cu_turn.specs.Rule.{IsPrefix, Each, AllBelow, AllOf, IsKnownFront, Agrees, SeatsApart, IsTurnState, IsWorker, IsRoot, Learns, TurnTaken, TakesTurn, Grows, FreesTurn}
 use Rattle.cu_turn.proofs.Fronts.{prefix_same, prefix_longer, own-append, own_others, own_below, each_map, each-append, each_front, halt_prefix}
 
@@ -52,12 +52,12 @@ apart_like views at v w old here live root number taken =
       record {
         root = λ r. a.root (sym root ∙ r);
         numbers = λ r s t. a.numbers (sym root ∙ r) s (sym number ∙ t);
-        below = λ r. let c = a.below (sym root ∙ r) in (subst (λ n. u.number < n) (sym number) c.0, subst (λ l. Each (λ n. n ≢ u.number) l) (sym taken) c.1);
+        below = λ r. let c = a.below (sym root ∙ r) in (subst (λ n. u.number < n) (sym number) c.0, subst (λ (l : List KnownFront). Each (λ n. n ≢ u.number) (map (λ k. k.number) l)) (sym taken) c.1);
       },
       record {
         root = λ r. root ∙ b.root r;
         numbers = λ r s t. b.numbers r (sym root ∙ s) (t ∙ number);
-        below = λ r. let c = b.below r in (subst (λ n. n < u.number) (sym number) c.0, subst (λ m. Each (λ n. n ≢ m) u.joined) (sym number) c.1);
+        below = λ r. let c = b.below r in (subst (λ n. n < u.number) (sym number) c.0, subst (λ m. Each (λ n. n ≢ m) (joined_numbers u)) (sym number) c.1);
       },
     ))
 
@@ -141,14 +141,14 @@ module _ {S : Type 0} (history : S → List Entry) (fault_of : S → Option Task
           home = λ e. absurd (some-ne-none id e);
           out = λ k e. (w, subst (λ n. get_elem? (set s.views id w) n ≡ opt.some w) (some-injective id k e) (set_there s.views id v w here), worker.0, refl);
           agree = agrees_set (history x) (fault_of x) (opt.some id) s.views id w
-              (λ j u ne e lu. let g = kept.agree j u e lu in record { front = g.front; fault = g.fault; own = g.own; turn = λ t. absurd (some-ne-none j (sym (g.turn t).0 ∙ free)); below = g.below; fronts = g.fronts })
+              (λ j u ne e lu. let g = kept.agree j u e lu in record { front = g.front; fault = g.fault; own = g.own; turn = λ t. absurd (some-ne-none j (sym (g.turn t).0 ∙ free)); below = g.below; joined = g.joined })
               (λ _. record {
                 front = prefix_same (history x) (history x) refl;
                 fault = λ _. refl;
                 own = λ _. refl;
                 turn = λ _. (refl, refl, refl, worker.1);
                 below = λ r. absurd (no_turn (sym worker.1 ∙ r));
-                fronts = f.fronts;
+                joined = λ r. absurd (no_turn (sym worker.1 ∙ r));
               });
           apart = apart_like s.views id v w kept.apart here worker.0 refl refl refl;
         },
@@ -174,21 +174,29 @@ module _ {S : Type 0} (history : S → List Entry) (fault_of : S → Option Task
       by_turn true e = absurd (e refl)
       by_turn false e = refl
 
-  fronts_grown : (log es : List Entry) (fault now : Option TaskFault) (hs : List KnownFront) → (has_halt log ≡ true → fault ≡ now) → Each (IsKnownFront log fault) hs → Each (IsKnownFront (log ++ es) now) hs
-  fronts_grown log es fault now hs stays = each_map (IsKnownFront log fault) (IsKnownFront (log ++ es) now) hs
-      (λ h (known : IsKnownFront log fault h). (prefix_longer h.front log es known.0, λ (halt : has_halt h.front ≡ true). known.1 halt ∙ stays (halt_prefix h.front log known.0 halt)))
+  -- of another number nothing is added
+  own_grown : (log es front : List Entry) (n m : ℕ) → AllOf n es → m ≢ n → own m log ≡ own m front → own m (log ++ es) ≡ own m front
+  own_grown log es front n m of apart is = own-append m log es ∙ ap (λ l. own m log ++ l) (own_others n m es apart of) ∙ append-nil (own m log) ∙ is
+
+  joined_grown : (log es : List Entry) (fault now : Option TaskFault) (n : ℕ) (ks : List KnownFront) → (has_halt log ≡ true → fault ≡ now) → AllOf n es
+      → Each (λ m. m ≢ n) (map (λ (k : KnownFront). k.number) ks) → Each (IsKnownFront log fault) ks → Each (IsKnownFront (log ++ es) now) ks
+  joined_grown log es fault now n [] stays of apart known = tt
+  joined_grown log es fault now n (k ∷ ks) stays of (one, more) ((front, all, halt), known) = (
+    (prefix_longer k.front log es front, own_grown log es k.front n k.number of one all, λ (h : has_halt k.front ≡ true). halt h ∙ stays (halt_prefix k.front log front h)),
+    joined_grown log es fault now n ks stays of more known,
+  )
 
   -- what the others know of the history that was added to
   agrees_grown : (log es : List Entry) (fault now : Option TaskFault) (holder : opt.Option ℕ) (n : ℕ) (j : ℕ) (u : SeatView) → Agrees log fault holder j u → AllOf n es → (has_halt log ≡ true → fault ≡ now)
-      → (u.root ≡ true → n < u.number) → (u.root ≡ false → u.number ≢ n) → u.turn ≡ false → Agrees (log ++ es) now opt.none j u
+      → (u.root ≡ true → (n < u.number) × Each (λ m. m ≢ n) (joined_numbers u)) → (u.root ≡ false → u.number ≢ n) → u.turn ≡ false → Agrees (log ++ es) now opt.none j u
   agrees_grown log es fault now holder n j u f of stays root worker rests =
       record {
         front = prefix_longer u.front log es f.front;
         fault = λ h. f.fault h ∙ stays (halt_prefix u.front log f.front h);
-        own = λ r. own-append u.number log es ∙ ap (λ l. own u.number log ++ l) (own_others n u.number es (worker r) of) ∙ append-nil (own u.number log) ∙ f.own r;
+        own = λ r. own_grown log es u.front n u.number of (worker r) (f.own r);
         turn = λ t. absurd (no_turn (sym rests ∙ t));
-        below = λ r. let b = f.below r in (each-append (λ e. e.worker < u.number) log es b.0 (each_map (λ e. e.worker ≡ n) (λ e. e.worker < u.number) es (λ e is. subst (λ k. k < u.number) (sym is) (root r)) of), b.1);
-        fronts = fronts_grown log es fault now u.fronts stays f.fronts;
+        below = λ r. let b = f.below r in (each-append (λ e. e.worker < u.number) log es b.0 (each_map (λ e. e.worker ≡ n) (λ e. e.worker < u.number) es (λ e is. subst (λ k. k < u.number) (sym is) (root r).0) of), b.1);
+        joined = λ r. joined_grown log es fault now n u.joined stays of (root r).1 (f.joined r);
       }
 
   -- the state is given back
@@ -221,7 +229,7 @@ module _ {S : Type 0} (history : S → List Entry) (fault_of : S → Option Task
               subst (λ l. Agrees l (fault_of x) opt.none j u) (sym is_new)
               (agrees_grown (history kept.state) es (fault_of kept.state) (fault_of x) kept.holder v.number j u g of
               (λ h. sym is_fault ∙ stays (subst (λ l. has_halt l ≡ true) (sym is_log) h))
-              (λ r. (b.below r).0)
+              (λ r. b.below r)
               (λ r. b.numbers r worker)
               (others_rest id j u kept.holder g ne had)))
               (λ _. record {
@@ -230,8 +238,7 @@ module _ {S : Type 0} (history : S → List Entry) (fault_of : S → Option Task
                 own = λ _. refl;
                 turn = λ t. absurd (no_turn t);
                 below = λ r. absurd (no_turn (sym worker ∙ r));
-                fronts = subst (λ l. Each (IsKnownFront l (fault_of x)) v.fronts) (sym is_new)
-                    (fronts_grown (history kept.state) es (fault_of kept.state) (fault_of x) v.fronts (λ h. sym is_fault ∙ stays (subst (λ l. has_halt l ≡ true) (sym is_log) h)) f.fronts);
+                joined = λ r. absurd (no_turn (sym worker ∙ r));
               });
           apart = apart_like s.views id v w kept.apart here live refl refl refl;
         },
@@ -257,9 +264,9 @@ module _ {S : Type 0} (history : S → List Entry) (fault_of : S → Option Task
         turn = λ t. absurd (no_turn (sym rests ∙ t));
         below = λ _. (
           each_map (λ e. e.worker < v.number) (λ e. e.worker < v.number + 1) (history kept.state) (λ e low. omega arith) none_above,
-          each_map (λ n. n < v.number) (λ n. n < v.number + 1) v.joined (λ n low. omega arith) joined_below,
+          each_map (λ n. n < v.number) (λ n. n < v.number + 1) (joined_numbers v) (λ n low. omega arith) joined_below,
         );
-        fronts = f.fronts;
+        joined = f.joined;
       }) in
       let apart = apart_set s.views id l kept.apart (λ j u ne e lu lw.
       let a = kept.apart id j v u (λ k. ne (sym k)) here e live lu in
@@ -285,13 +292,13 @@ module _ {S : Type 0} (history : S → List Entry) (fault_of : S → Option Task
               own = λ _. own_below v.number (history kept.state) none_above ∙ sym (own_below v.number v.front (front_below v.number v.front (history kept.state) f.front none_above));
               turn = λ t. absurd (no_turn t);
               below = λ t. absurd (no_turn t);
-              fronts = tt;
+              joined = λ t. absurd (no_turn t);
             })
             (at_snoc views r u j e);
         apart = apart_snoc views r apart (λ j u e lu. ⊎_elim
             (λ (x : (j ≡ id) × (l ≡ u)). subst (λ (z : SeatView). SeatsApart r z × SeatsApart z r) x.1 (
               record { root = λ t. absurd (no_turn t); numbers = λ t w. absurd (no_turn (sym w ∙ root)); below = λ t. absurd (no_turn t) },
-              record { root = λ _. refl; numbers = λ t w. absurd (no_turn (sym t ∙ root)); below = λ _. (omega arith, each_map (λ n. n < v.number) (λ n. n ≢ v.number) v.joined (λ n low is. omega arith) joined_below) },
+              record { root = λ _. refl; numbers = λ t w. absurd (no_turn (sym t ∙ root)); below = λ _. (omega arith, each_map (λ n. n < v.number) (λ n. n ≢ v.number) (joined_numbers v) (λ n low is. omega arith) joined_below) },
             ))
             (λ (x : (j ≢ id) × (get_elem? s.views j ≡ opt.some u)).
             let a = kept.apart id j v u (λ k. x.0 (sym k)) here x.1 live lu in (
@@ -325,7 +332,7 @@ module _ {S : Type 0} (history : S → List Entry) (fault_of : S → Option Task
         own = λ e. absurd (no_turn (sym e ∙ root));
         turn = λ t. absurd (no_turn (sym rests ∙ t));
         below = λ _. ((f.below root).0, (low, (f.below root).1));
-        fronts = ((g.front, g.fault), f.fronts);
+        joined = λ t. ((g.front, g.own worker, g.fault), f.joined root);
       }) in
       let others : (j : ℕ) (u : SeatView) → j ≢ id → j ≢ other → get_elem? s.views j ≡ opt.some u → u.live ≡ true → SeatsApart b u × SeatsApart u b = λ j u ne no e lu.
       let x = kept.apart id j v u (λ k. ne (sym k)) here e live lu in
@@ -391,21 +398,25 @@ module _ {S : Type 0} (history : S → List Entry) (fault_of : S → Option Task
         own = λ _. refl;
         turn = λ t. absurd (no_turn t);
         below = λ _. (tt, tt);
-        fronts = tt;
+        joined = λ _. tt;
       }
       only (suc j) u fault e = absurd (some-ne-none u (sym e))
 
-  -- once each number is joined, the state is at home, and the root's front begins its history
-  pub closes : (id : ℕ) (v : SeatView) (s : State (Option S) SeatView) → Ruled s → get_elem? s.views id ≡ opt.some v → IsRoot v → ((n : ℕ) → n < v.number → Contains v.joined n)
-      → (x : S) × (get_elem? s.homes 0 ≡ opt.some (opt.some (Some x))) × IsValid x × IsPrefix v.front (history x) × Each (IsKnownFront (history x) (fault_of x)) v.fronts
+  -- what the root knows of the state that comes back at the end
+  abbrev pub IsKept : SeatView → S → Type 0
+  IsKept v x = IsValid x × IsPrefix v.front (history x) × Each (IsKnownFront (history x) (fault_of x)) v.joined × AllBelow v.number (history x)
+
+  -- once each number is joined, the state is at home
+  pub closes : (id : ℕ) (v : SeatView) (s : State (Option S) SeatView) → Ruled s → get_elem? s.views id ≡ opt.some v → IsRoot v → ((n : ℕ) → n < v.number → Contains (joined_numbers v) n)
+      → (x : S) × (get_elem? s.homes 0 ≡ opt.some (opt.some (Some x))) × IsKept v x
   closes id v s kept here (live, root, rests) all =
       let f = kept.agree id v here live in
       let free : kept.holder ≡ opt.none = nobody kept.holder (λ k e. let (h, at, hl, ht) = kept.out k e in
       let not_root : k ≢ id = λ is. no_turn (sym rests ∙ ap (λ (z : SeatView). z.turn) (same_view s.views k id h v at here is) ∙ ht) in
       let a = kept.apart id k v h (λ i. not_root (sym i)) here at live hl in
       let b = a.below root in
-      not_joined v.joined h.number b.1 (all h.number b.0)) in
-      (kept.state, kept.home free, kept.valid, f.front, f.fronts)
+      not_joined (joined_numbers v) h.number b.1 (all h.number b.0)) in
+      (kept.state, kept.home free, (kept.valid, f.front, f.joined root, (f.below root).0))
     where
       nobody : (o : opt.Option ℕ) → ((k : ℕ) → o ≡ opt.some k → ⊥) → o ≡ opt.none
       nobody opt.none f = refl
@@ -429,20 +440,20 @@ takes_as {S} history fault_of P Q f slots id me v even is worker is_even =
 module _ {S : Type 0} (history : S → List Entry) (fault_of : S → Option TaskFault) (IsValid : S → Type 0) where
   -- what comes back at the end
   abbrev pub IsClosed : SeatView → Option S → Type 0
-  IsClosed v slot = (x : S) × (slot ≡ Some x) × IsValid x × IsPrefix v.front (history x) × Each (IsKnownFront (history x) (fault_of x)) v.fronts
+  IsClosed v slot = (x : S) × (slot ≡ Some x) × IsKept history fault_of IsValid v x
 
   pub comes_back : (id : ℕ) (u v : SeatView) (ws : List ℕ) (xs : List (Option S)) (slot : Option S) → u ≡ v → Final (Seen (IsTurnState history fault_of IsValid) id v) ws xs
-      → IsRoot u → ((n : ℕ) → n < u.number → Contains u.joined n) → get_elem? xs 0 ≡ opt.some slot → IsClosed u slot
+      → IsRoot u → ((n : ℕ) → n < u.number → Contains (joined_numbers u) n) → get_elem? xs 0 ≡ opt.some slot → IsClosed u slot
   comes_back id u v ws xs slot same (s, (kept, here), words, count, homes) root all at =
-      let (x, at_home, fit, front, halt) = closes history fault_of IsValid id u s kept (here ∙ ap opt.some (sym same)) root all in
-      (x, some-injective slot (Some x) (sym at ∙ homes 0 (Some x) at_home), fit, front, halt)
+      let (x, at_home, known) = closes history fault_of IsValid id u s kept (here ∙ ap opt.some (sym same)) root all in
+      (x, some-injective slot (Some x) (sym at ∙ homes 0 (Some x) at_home), known)
 
   -- a fact of the state that comes back
-  pub back_is : (v : SeatView) (slot : Option S) (x : S) → IsClosed v slot → slot ≡ Some x → IsValid x × IsPrefix v.front (history x) × Each (IsKnownFront (history x) (fault_of x)) v.fronts
-  back_is v slot x (y, is, fit, front, halt) e = subst (λ (z : S). IsValid z × IsPrefix v.front (history z) × Each (IsKnownFront (history z) (fault_of z)) v.fronts) (ap (value_or x) (sym is ∙ e)) (fit, front, halt)
+  pub back_is : (v : SeatView) (slot : Option S) (x : S) → IsClosed v slot → slot ≡ Some x → IsKept history fault_of IsValid v x
+  back_is v slot x (y, is, known) e = subst (IsKept history fault_of IsValid v) (ap (value_or x) (sym is ∙ e)) known
 
   pub some_back : (v : SeatView) (slot : Option S) → IsClosed v slot → slot ≡ None → ⊥
-  some_back v slot (y, is, fit, front, halt) e = no_turn (ap is_none (sym e ∙ is) ∙ refl)
+  some_back v slot (y, is, known) e = no_turn (ap is_none (sym e ∙ is) ∙ refl)
 
   -- the state that was taken
   pub taken_is : (v : SeatView) (m : Me (Option S) SeatView) (x : S) → TurnTaken history fault_of IsValid v m → ((k : ℕ) × (m.1 ≡ (k, Some x) ∷ [])) → (m.0 ≡ informed v true (history x) (fault_of x)) × Learns history fault_of IsValid v x

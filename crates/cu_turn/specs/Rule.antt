@@ -8,7 +8,7 @@ use Rattle.cu_history.specs.declared.entry.Entry.{Entry}
 use Rattle.cu_history.specs.History.{own, has_halt}
 use Rattle.cu_turn.specs.declared.view.SeatView.{SeatView}
 use Rattle.cu_turn.specs.declared.view.KnownFront.{KnownFront}
-use Rattle.cu_turn.specs.Views.{informed}
+use Rattle.cu_turn.specs.Views.{informed, joined_numbers}
 
 -- xs is a beginning of ys
 abbrev pub IsPrefix : List Entry → List Entry → Type 0
@@ -27,9 +27,10 @@ AllBelow n = Each (λ e. e.worker < n)
 abbrev pub AllOf : ℕ → List Entry → Type 0
 AllOf n = Each (λ e. e.worker ≡ n)
 
--- what a seat knew that was joined: a beginning of the history, and the fault of a Halt in it
+-- what a seat knew that was joined: a beginning of the history with all entries of its number, and the fault of a Halt in it
 abbrev pub IsKnownFront : List Entry → Option TaskFault → KnownFront → Type 0
-IsKnownFront log fault k = IsPrefix k.front log × (has_halt k.front ≡ true → k.fault ≡ fault)
+IsKnownFront log fault k =
+    IsPrefix k.front log × (own k.number log ≡ own k.number k.front) × (has_halt k.front ≡ true → k.fault ≡ fault)
 
 -- What a live seat knows, where the state has this history and fault, and `holder` is the number of the seat that has the
 -- turn. No entry has a number at or above the root's count of splits.
@@ -38,15 +39,15 @@ pub record Agrees (log : List Entry) (kept : Option TaskFault) (holder : opt.Opt
   pub fault : has_halt v.front ≡ true → v.fault ≡ kept
   pub own : v.root ≡ false → own v.number log ≡ own v.number v.front
   pub turn : v.turn ≡ true → (holder ≡ opt.some at) × (v.front ≡ log) × (v.fault ≡ kept) × (v.root ≡ false)
-  pub below : v.root ≡ true → AllBelow v.number log × Each (λ n. n < v.number) v.joined
-  pub fronts : Each (IsKnownFront log kept) v.fronts
+  pub below : v.root ≡ true → AllBelow v.number log × Each (λ n. n < v.number) (joined_numbers v)
+  pub joined : v.root ≡ true → Each (IsKnownFront log kept) v.joined
 
 -- Two live seats: at most one is the root, their numbers differ, and those of the others are below the root's count of
 -- splits and not among the numbers that it has joined.
 pub record SeatsApart (v w : SeatView) : Type 0 where
   pub root : v.root ≡ true → w.root ≡ false
   pub numbers : v.root ≡ false → w.root ≡ false → v.number ≢ w.number
-  pub below : v.root ≡ true → (w.number < v.number) × Each (λ n. n ≢ w.number) v.joined
+  pub below : v.root ≡ true → (w.number < v.number) × Each (λ n. n ≢ w.number) (joined_numbers v)
 
 -- a seat of a worker, without the turn
 abbrev pub IsWorker : SeatView → Type 0

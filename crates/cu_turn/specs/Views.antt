@@ -1,5 +1,5 @@
 -- What a seat knows, and what its own steps make of it.
-use Rattle.std.specs.Prelude.{◌+◌, Bool, true, false, List, [], ◌∷◌, Option, None}
+use Rattle.std.specs.Prelude.{ℕ, ◌+◌, Bool, true, false, List, [], ◌∷◌, map, Option, None}
 use Rattle.cu_store.specs.declared.faults.TaskFault.{TaskFault}
 use Rattle.cu_history.specs.declared.entry.Entry.{Entry}
 use Rattle.cu_turn.specs.declared.view.SeatView.{SeatView}
@@ -14,7 +14,6 @@ first_root = record {
   front = [];
   fault = None;
   joined = [];
-  fronts = [];
 }
 
 -- a seat that was joined
@@ -38,7 +37,6 @@ split_off v = record {
   front = v.front;
   fault = v.fault;
   joined = [];
-  fronts = [];
 }
 
 -- whether the first list is shorter than the second
@@ -61,6 +59,9 @@ abbrev pub root_joined : SeatView → SeatView → SeatView
 root_joined v w = record v {
   front = (longer_front v w).front;
   fault = (longer_front v w).fault;
-  joined = w.number ∷ v.joined;
-  fronts = record { front = w.front; fault = w.fault } ∷ v.fronts;
+  joined = record { number = w.number; front = w.front; fault = w.fault } ∷ v.joined;
 }
+
+-- the numbers of the seats that the root has joined
+abbrev pub joined_numbers : SeatView → List ℕ
+joined_numbers v = map (λ k. k.number) v.joined

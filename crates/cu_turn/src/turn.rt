@@ -1,7 +1,7 @@
 //! The lock: a word that is even where nobody has the turn, and a slot with the state.
 ghost use Rattle.std.specs.Prelude.{◌≡◌, ℕ, ◌+◌, ◌%◌, ◌<◌, [], ◌∷◌, true, false, None, Contains, IfOk, IfErr};
-ghost use Rattle.cu_turn.specs.Rule.{IsPrefix, IsWorker, IsRoot, Learns, TurnTaken, Grows, Each, IsKnownFront};
-ghost use Rattle.cu_turn.specs.Views.{first_root, informed, split_root, split_off, root_joined};
+ghost use Rattle.cu_turn.specs.Rule.{IsPrefix, AllBelow, IsWorker, IsRoot, Learns, TurnTaken, Grows, Each, IsKnownFront};
+ghost use Rattle.cu_turn.specs.Views.{first_root, informed, split_root, split_off, root_joined, joined_numbers};
 ghost use Rattle.cu_turn.specs.Seats.{IsSeat, seat_view};
 
 use crate::rule::{Fact, FreeTurn, HasHistory, RootStep, TakeTurn, TurnRule};
@@ -146,14 +146,16 @@ impl<S: HasHistory<K> + Drop, K> Turn<S, K> {
         seat.into_badge()
     }
 
-    /// The state, once each other seat was joined. What the root and each of these knew begins its history.
+    /// The state, once each other seat was joined. What the root and each of these knew begins its history. Each entry is of a
+    /// number below the count of splits, and each joined seat knew all entries of its own number.
     pub fn close(self, root: Badge<SeatView>) -> S
         requires seat { IsSeat self.table.shared.table_id (seat_view root) root }
         requires root { IsRoot (seat_view root) }
-        requires all { (n : ℕ) → n < (seat_view root).number → Contains (seat_view root).joined n }
+        requires all { (n : ℕ) → n < (seat_view root).number → Contains (joined_numbers (seat_view root)) n }
         ensures invariant { S.invariant self.table.shared.key result }
         ensures front { IsPrefix (seat_view root).front (S.history result) }
-        ensures fronts { Each (IsKnownFront (S.history result) (S.fault result)) (seat_view root).fronts }
+        ensures joined { Each (IsKnownFront (S.history result) (S.fault result)) (seat_view root).joined }
+        ensures below { AllBelow (seat_view root).number (S.history result) }
     {
         let Turn { table } = self;
         let mut closed = table.close_with(root.into_seat::<Option<S>>());

@@ -17,14 +17,16 @@ pub struct SeatView {
     pub front: LinkedList<Entry>,
     /// The fault of a Halt in it.
     pub fault: Option<TaskFault>,
-    /// The numbers of the seats that the root has joined, the last one first.
-    pub joined: LinkedList<u64>,
-    /// What those seats knew, in the same order.
-    pub fronts: LinkedList<KnownFront>,
+    /// What the seats knew that the root has joined, the last one first.
+    pub joined: LinkedList<KnownFront>,
 }
 
-/// A beginning of the history that a seat knew, and the fault of a Halt in it.
+/// What a seat knew that was joined.
 pub struct KnownFront {
+    /// The number of its worker.
+    pub number: u64,
+    /// A beginning of the history.
     pub front: LinkedList<Entry>,
+    /// The fault of a Halt in it.
     pub fault: Option<TaskFault>,
 }

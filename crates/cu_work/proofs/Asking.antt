@@ -148,7 +148,7 @@ pub operation_more : (tries : ℕ) (p : PlanView) (k : ℕ) (old new : Shown) (r
 operation_more tries p k old new result asked = let e : suc k ≡ k + 1 = omega arith in subst (λ (n : ℕ). IsAsked tries old new (plan_keys p n) result) e asked
 
 -- the keys of the tasks so far stand in front of all
-operation_rest : (p : PlanView) (k n m : ℕ) → n ≤ m → (rest : List (List ℕ)) × (operation_keys p k m ≡ operation_keys p k n ++ rest)
+pub operation_rest : (p : PlanView) (k n m : ℕ) → n ≤ m → (rest : List (List ℕ)) × (operation_keys p k m ≡ operation_keys p k n ++ rest)
 operation_rest p k n zero h = let none : n ≡ 0 = omega arith in ([], subst (λ (x : ℕ). [] ≡ operation_keys p k x ++ []) (sym none) refl)
 operation_rest p k n (suc m) h =
     elim (cases_lt n (suc m)) [
@@ -158,7 +158,7 @@ operation_rest p k n (suc m) h =
       | inr more ↦ let same : n ≡ suc m = omega arith in ([], subst (λ (x : ℕ). operation_keys p k (suc m) ≡ operation_keys p k x ++ []) (sym same) (sym (append-nil (operation_keys p k (suc m)))))
     ]
 
-plan_rest : (p : PlanView) (n m : ℕ) → n ≤ m → (rest : List (List ℕ)) × (plan_keys p m ≡ plan_keys p n ++ rest)
+pub plan_rest : (p : PlanView) (n m : ℕ) → n ≤ m → (rest : List (List ℕ)) × (plan_keys p m ≡ plan_keys p n ++ rest)
 plan_rest p n zero h = let none : n ≡ 0 = omega arith in ([], subst (λ (x : ℕ). [] ≡ plan_keys p x ++ []) (sym none) refl)
 plan_rest p n (suc m) h =
     elim (cases_lt n (suc m)) [

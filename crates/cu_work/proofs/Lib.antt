@@ -5,3 +5,9 @@ pub mod Running
 pub mod UsedUp
 pub mod Worlds
 pub mod AloneTurns
+pub mod Ends
+pub mod Searching
+pub mod SearchedTasks
+pub mod Removing
+pub mod CommandLaws
+pub mod Resuming

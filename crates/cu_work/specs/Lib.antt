@@ -5,3 +5,7 @@ pub mod Run
 pub mod Tasks
 pub mod Alone
 pub mod World
+pub mod Ends
+pub mod Search
+pub mod Removal
+pub mod Commands

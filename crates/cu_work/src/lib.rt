@@ -3,7 +3,10 @@
 #![tactic(auto)]
 
 mod alone;
+mod commands;
+mod find;
 mod outcome;
+mod removal;
 mod rooms;
 mod round;
 mod run;
@@ -12,7 +15,10 @@ mod way;
 mod world;
 
 pub use alone::drive_alone;
+pub use commands::{commands_law, resume_law};
+pub use find::{FindFault, find_done};
 pub use outcome::Outcome;
+pub use removal::{RemoveFault, remove_plan};
 pub use rooms::Rooms;
 pub use round::RoundOutcome;
 pub use run::{TextFault, Texts, run_plan};

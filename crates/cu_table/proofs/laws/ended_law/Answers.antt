@@ -1,6 +1,7 @@
 use Rattle.std.proofs.Common.{inl, inr}
 use Rattle.cu_table.specs.Machine.{opening}
 use Rattle.cu_table.proofs.Ended.{ended_stays, halt_halted, halted_halt, ended_undone}
+use Rattle.cu_table.proofs.Doing.{halts_so}
 use Rattle.cu_table.proofs.laws.ended_law.Goals as goal
 
 pub returns-clause-stays : goal.returns-clause-stays
@@ -14,3 +15,6 @@ returns-clause-halt c = λ s done history m replays. (
 
 pub returns-clause-undone : goal.returns-clause-undone
 returns-clause-undone c = ended_undone
+
+pub returns-clause-fault : goal.returns-clause-fault
+returns-clause-fault c = halts_so

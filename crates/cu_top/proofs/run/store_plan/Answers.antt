@@ -1,4 +1,4 @@
-use Rattle.std.proofs.Common.{◌+◌, ◌*◌, ℕ, length, subst, sym, Result, IfOk, ◌≤◌, ◌^◌}
+use Rattle.std.proofs.Common.{arith, ◌+◌, ◌*◌, ℕ, length, subst, sym, Result, IfOk, ◌≤◌, ◌^◌}
 use Rattle.cu_op.specs.Sound.{Sound}
 use Rattle.cu_command.specs.declared.status.Status.{Status}
 use Rattle.cu_state.specs.Pieces.{PlanRun}
@@ -17,14 +17,16 @@ returns-clause-ended g c = λ text old source next sink after cleared.
     let options = c.args.options.now in
     let run = case options text (scene source sink old) (scene next after now) in
     let job = c.args.prepared.now.job in
-    let sound = c.plan_law.ensures.sound job.expr job.types job.inputs.items options c.requires.planned in
-    let live = (c.live_law.ensures.closed job.expr c.requires.planned.form).stored in
+    let sound = c.merged_plan_law.ensures.sound job.expr job.types job.inputs.items options c.requires.planned in
     let laws : PlanLaws run job = record {
       sound = sound;
-      needs = λ j below. c.plan_law.ensures.needs job.expr job.types job.inputs.items options j c.requires.planned below;
-      names = λ differ. c.plan_law.ensures.names job.expr job.types job.inputs.items options (record_text options job) (out_metadata job) c.requires.planned differ;
+      needs = λ j below.
+          let most = c.merged_plan_law.ensures.needs job.expr job.types job.inputs.items options j c.requires.planned below in
+          let memory = c.merged_plan_law.ensures.memory job.expr job.types job.inputs.items options in
+          omega (arith, most, memory);
+      names = λ differ. c.merged_plan_law.ensures.names job.expr job.types job.inputs.items options (record_text options job) (out_metadata job) c.requires.planned differ;
       left = c.left_law.ensures;
-      meant = meant run job c.requires.planned c.array_law.ensures.inputs c.array_law.ensures.output c.value_law.ensures.equal c.complete_law.ensures.elements live;
+      meant = meant run job c.requires.planned c.merged_plan_law.ensures.inputs c.merged_plan_law.ensures.output c.merged_plan_law.ensures.equal c.complete_law.ensures.elements;
     } in
     let told : RunTold options.retries (job_run run job) start now c.run_plan-ended.result =
     subst (λ (r : PlanRun). RunTold options.retries r start now c.run_plan-ended.result) (same_run run job c.args.prepared.now.plan
@@ -49,6 +51,6 @@ returns-clause-ended g c = λ text old source next sink after cleared.
 pub returns-clause-few : goal.returns-clause-few
 returns-clause-few g c =
     let job = c.args.prepared.now.job in
-    let sound = subst Sound (sym c.requires.plan) (c.plan_law.ensures.sound job.expr job.types job.inputs.items c.args.options.now c.requires.planned) in
+    let sound = subst Sound (sym c.requires.plan) (c.merged_plan_law.ensures.sound job.expr job.types job.inputs.items c.args.options.now c.requires.planned) in
     subst (λ (r : Result ℕ Status). IfOk r (λ failed. failed ≤ 2 ^ 20)) (sym c.failed_of.ensures)
     (few_failed c.args.options.now.retries c.args.prepared.now.plan (g.D.Depot.shown c.args.depot.now) (g.D.Depot.shown c.run_plan-ended.new.depot) c.run_plan-ended.result sound c.requires.retries c.run_plan-ended.ensures.outcome)

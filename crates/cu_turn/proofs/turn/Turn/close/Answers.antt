@@ -33,8 +33,8 @@ returns-clause-front g c =
     c.close_with-closed.ensures.values.2 c.requires.root c.requires.all c.take-slot.ensures.value in
     (back_is history fault invariant v c.take-slot.result c.in-Some.state slot c.in-Some.is).1
 
-pub returns-clause-fronts : goal.returns-clause-fronts
-returns-clause-fronts g c =
+pub returns-clause-joined : goal.returns-clause-joined
+returns-clause-joined g c =
     let v = seat_view c.args.root in
     let history = g.S.HasHistory.history in
     let fault = g.S.HasHistory.fault in
@@ -42,3 +42,13 @@ returns-clause-fronts g c =
     let slot = comes_back history fault invariant _ v _ _ _ c.take-slot.result (ap first_view c.into_seat.ensures.2)
     c.close_with-closed.ensures.values.2 c.requires.root c.requires.all c.take-slot.ensures.value in
     (back_is history fault invariant v c.take-slot.result c.in-Some.state slot c.in-Some.is).2
+
+pub returns-clause-below : goal.returns-clause-below
+returns-clause-below g c =
+    let v = seat_view c.args.root in
+    let history = g.S.HasHistory.history in
+    let fault = g.S.HasHistory.fault in
+    let invariant = g.S.HasHistory.invariant c.args.self.table.shared.key in
+    let slot = comes_back history fault invariant _ v _ _ _ c.take-slot.result (ap first_view c.into_seat.ensures.2)
+    c.close_with-closed.ensures.values.2 c.requires.root c.requires.all c.take-slot.ensures.value in
+    (back_is history fault invariant v c.take-slot.result c.in-Some.state slot c.in-Some.is).3

@@ -1,0 +1,4 @@
+pub mod Tables
+pub mod Passes
+pub mod States
+pub mod SeatViews

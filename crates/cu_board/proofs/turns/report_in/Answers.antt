@@ -1,0 +1,24 @@
+use Rattle.cu_board.proofs.Tables.{report_grown}
+use Rattle.cu_board.proofs.States.{report_keeps, yard_of}
+use Rattle.cu_board.proofs.turns.report_in.Goals as goal
+
+pub returns-clause-grown : goal.returns-clause-grown
+returns-clause-grown g c =
+    let t = c.args.state.now.table in
+    report_grown c.args.number c.args.op c.args.task c.args.ended t c.report.new.self c.report.ensures.reported
+    (λ h. (c.ended_law.ensures.halt t.settings t.done t.history t.state c.requires.legal).0 h)
+
+pub returns-clause-kept : goal.returns-clause-kept
+returns-clause-kept g c = λ made first owned state.
+    let laws = g.Y.Yard.laws in
+    let knows = g.Y.Yard.knows in
+    let t = c.args.state.now.table in
+    let u = c.report.new.self in
+    let p = c.args.state.now.pass in
+    report_keeps knows g.Y.Yard.owns made first c.args.number c.args.op c.args.task t p c.args.ended u c.pass_on.new.kept (knows c.args.pass.now)
+    state c.report.ensures.reported
+    (λ e goes op task is d. (c.step_law.ensures.done t.settings t.done t.history t.state u.state e op task c.requires.legal goes.step is).0 d)
+    c.report.ensures.legal c.requires.may
+    (laws.same p c.args.pass.now (laws.one_yard c.args.yard.now p c.args.pass.now c.requires.own.0 c.requires.own.1))
+    c.pass_on.ensures.takes_in
+    (yard_of g.Y.Yard.serves knows g.Y.Yard.owns g.Y.Yard.together laws c.args.yard.now first c.pass_on.new.kept owned c.pass_on.ensures.own.0)

@@ -1,0 +1,92 @@
+//! What a seat does while it has the turn.
+ghost use Rattle.std.specs.Prelude.{◌≡◌, min};
+ghost use Rattle.cu_store.specs.Faults.{last_count};
+ghost use Rattle.cu_store.specs.Yard.{IsLater};
+ghost use Rattle.cu_table.specs.Table.{TableView, IsClaim};
+ghost use Rattle.cu_board.specs.Board.{IsLegal, IsBoardState, IsResting, IsRunning, IsGrownBy, Reports, TellsClaim, UnlessRun, MayReport, TakesIn, LeavesCount};
+
+use crate::state::BoardState;
+use cu_store::{TaskFault, Yard};
+use cu_table::{Claim, ended_law, own_law, step_law};
+
+/// A claim. The caller's pass takes in what the board's has seen, where there is a task to run.
+pub(crate) fn claim_in<Y: Yard>(
+    state: &mut BoardState<Y>,
+    number: u32,
+    yard: &Y,
+    pass: &mut Y::Pass,
+) -> Claim
+    requires own { Y.owns yard.now state.old.pass × Y.owns yard.now pass.old }
+    requires legal { IsLegal state.old.table }
+    requires resting { IsResting number state.old.table.history }
+    ensures claimed { IsClaim state.old.table number result state.new.table }
+    ensures grown { IsGrownBy number state.old.table state.new.table }
+    ensures own { Y.owns yard.now pass.new }
+    ensures later { IsLater (Y.knows pass.old) (Y.knows pass.new) }
+    ensures count { min (Y.knows pass.new).faults last_count ≡ min (Y.knows pass.old).faults last_count }
+    ensures kept { (made : TableView) (first : _) → Y.owns yard.now first
+        → IsBoardState Y.knows Y.owns made first state.old.table state.old.pass
+        → IsBoardState Y.knows Y.owns made first state.new.table state.new.pass
+        × TellsClaim result state.new.table (Y.knows pass.new) }
+    ensures unless_run { UnlessRun result (Y.knows pass.new ≡ Y.knows pass.old) }
+{
+    own_law();
+    ended_law();
+    step_law();
+    let claim = state.table.claim(number);
+    if let Claim::Run { .. } = claim {
+        let copy = yard.split(&mut state.pass);
+        yard.join(pass, copy);
+    }
+    claim
+}
+
+// What the caller's pass has seen, or its count, goes to the pass of the board.
+fn pass_on<Y: Yard>(yard: &Y, kept: &mut Y::Pass, pass: &mut Y::Pass, ended: &Result<(), TaskFault>)
+    requires { Y.owns yard.now kept.old × Y.owns yard.now pass.old }
+    ensures own { Y.owns yard.now kept.new × Y.owns yard.now pass.new }
+    ensures takes_in { TakesIn ended.now (Y.knows pass.old) (Y.knows kept.old) (Y.knows kept.new) }
+    ensures count { LeavesCount ended.now (Y.knows pass.old) (Y.knows pass.new) }
+{
+    match ended {
+        Ok(_) => {
+            let copy = yard.split(pass);
+            yard.join(kept, copy);
+        }
+        Err(fault) => {
+            if let TaskFault::Store = fault {
+                let moved = yard.hand(pass);
+                yard.join(kept, moved);
+            }
+        }
+    }
+}
+
+/// A report. What is true of a board's state before is true of it afterwards.
+pub(crate) fn report_in<Y: Yard>(
+    state: &mut BoardState<Y>,
+    number: u32,
+    yard: &Y,
+    pass: &mut Y::Pass,
+    op: u32,
+    task: u32,
+    ended: Result<(), TaskFault>,
+)
+    requires own { Y.owns yard.now state.old.pass × Y.owns yard.now pass.old }
+    requires legal { IsLegal state.old.table }
+    requires running { IsRunning number op task state.old.table.history }
+    requires may { MayReport state.old.table.settings.plan op task ended (Y.knows pass.old) }
+    ensures reported { Reports state.old.table number op task ended state.new.table }
+    ensures grown { IsGrownBy number state.old.table state.new.table }
+    ensures own { Y.owns yard.now pass.new }
+    ensures count { LeavesCount ended (Y.knows pass.old) (Y.knows pass.new) }
+    ensures kept { (made : TableView) (first : _) → Y.owns yard.now first
+        → IsBoardState Y.knows Y.owns made first state.old.table state.old.pass
+        → IsBoardState Y.knows Y.owns made first state.new.table state.new.pass }
+{
+    own_law();
+    ended_law();
+    step_law();
+    pass_on(yard, &mut state.pass, pass, &ended);
+    state.table.report(number, op, task, ended);
+}

@@ -1,0 +1,16 @@
+pub mod Bytes
+pub mod CellFacts
+pub mod Entries
+pub mod Found
+pub mod Gets
+pub mod Joined
+pub mod Lands
+pub mod Lates
+pub mod Lists
+pub mod Moves
+pub mod Outs
+pub mod Own
+pub mod WordPlaces
+pub mod Puts
+pub mod Starting
+pub mod Texts

@@ -1,0 +1,179 @@
+-- The plan that is left has no more operations, tasks and chunks; and its result is there.
+use Rattle.std.proofs.Common.{◌≡◌, inl, inr, ℕ, zero, suc, ◌+◌, ◌<◌, ◌≤◌, ◌^◌, true, List, [], ◌∷◌, ◌++◌, Contains, length, map, Option, Some, None, refl, ap, sym, ◌∙◌, subst, arith, ⊎_elim, if◌then◌else◌}
+use Rattle.std.specs.Prelude.{sum_by}
+use Rattle.std.proofs.lemmas.Bool.{cases_Bool}
+use Rattle.std.proofs.lemmas.List.{length-map}
+use Rattle.std.proofs.lemmas.List.Sums.{sum_by-append, sum_by-cons}
+use Rattle.cu_shape.specs.Index.{product}
+use Rattle.cu_grid.specs.Grid.{RegularGrid}
+use Rattle.cu_op.specs.declared.layout.ArrayInfo.{ArrayInfo}
+use Rattle.cu_op.specs.declared.operation.Op.{Op}
+use Rattle.cu_op.specs.declared.operation.Op.TheVariants.{Map}
+use Rattle.cu_op.specs.declared.operation.Planned.{Planned}
+use Rattle.cu_op.specs.Arrays.{array_at, maker_at, grid_counts, array_chunk_count}
+use Rattle.cu_op.specs.Cells.{tasks_of, task_grid}
+use Rattle.cu_op.specs.Operation.{writes_of}
+use Rattle.cu_op.specs.PlanView.{PlanView}
+use Rattle.cu_op.specs.Sound.{Sound, cells_by, made_chunks}
+use Rattle.cu_fuse.specs.Close.{remains, remaining_from, remaining_numbers, remaining_array, remaining_arrays, count_behind, renumbered, renumbered_planned, new_number, closed, fused, setting_of, HasMadeNames}
+use Rattle.cu_fuse.specs.Fused.{SettingView, fused_ops, map_inputs, joint}
+use Rattle.cu_fuse.specs.Merge.{merged_op}
+use Rattle.cu_fuse.specs.Runs.{HasWriter}
+use Rattle.cu_fuse.proofs.Closing.{renumbered_tasks}
+use Rattle.cu_fuse.proofs.ClosedNames.{closed_few, arrays_are, keys_are, inputs_are}
+use Rattle.cu_fuse.proofs.ClosedSound.{operations, makers}
+use Rattle.cu_fuse.proofs.ClosedValue.{AreLeft, all_left, left_written}
+use Rattle.cu_fuse.proofs.FromSound.{fused_sound, written_at}
+use Rattle.cu_fuse.proofs.Fusing.{Step, all_keep}
+use Rattle.cu_fuse.proofs.LeftArrays.{kept_layout, placed_once, within, numbers_in}
+use Rattle.cu_fuse.proofs.Running.{written_left, written_right, written_parts}
+
+-- the sum over what is left of a step
+module _ (s : SettingView) (f : Planned → ℕ) (a : ℕ) (old new : List Planned) (t : Step s a old new) (same : f (joint s t.maker t.reader a) ≡ f t.reader) where
+  fewer : sum_by f new ≤ sum_by f old
+  fewer =
+      let ends = sum_by-append f t.front (t.maker ∷ (t.between ++ (t.reader ∷ t.behind))) in
+      let maker = sum_by-cons f t.maker (t.between ++ (t.reader ∷ t.behind)) in
+      let middle = sum_by-append f t.between (t.reader ∷ t.behind) in
+      let reader = sum_by-cons f t.reader t.behind in
+      let first = sum_by-append f t.front (t.between ++ (joint s t.maker t.reader a ∷ t.behind)) in
+      let second = sum_by-append f t.between (joint s t.maker t.reader a ∷ t.behind) in
+      let third = sum_by-cons f (joint s t.maker t.reader a) t.behind in
+      let before = ap (sum_by f) t.before in
+      let after = ap (sum_by f) t.after in
+      omega (arith, ends, maker, middle, reader, first, second, third, before, after, same)
+
+-- the joint operation goes over the reader's tasks, and writes what the reader writes
+joint_out : (s : SettingView) (a : ℕ) (old new : List Planned) (t : Step s a old new) → (writes_of (joint s t.maker t.reader a).op ≡ writes_of t.reader.op) × (task_grid s.arrays (joint s t.maker t.reader a).op ≡ task_grid s.arrays t.reader.op)
+joint_out s a old new t =
+    let i = t.merged.op in
+    let both : (joint s t.maker t.reader a).op ≡ merged_op (Map t.joins.inner t.joins.inner_ins a) (Map t.joins.outer t.joins.outer_ins t.joins.out) t.j = i ∙ (λ k. merged_op (t.joins.makes k) (t.joins.takes k) t.j) in
+    (ap writes_of both ∙ sym (ap writes_of t.joins.takes), ap (task_grid s.arrays) both ∙ sym (ap (task_grid s.arrays) t.joins.takes))
+
+-- ---- what a merge keeps
+
+module _ (s : SettingView) (room : s.allowed < 2 ^ 64) where
+  pub tasks_kept : (ops : List Planned) (n : ℕ) → sum_by (λ o. tasks_of s.arrays o.op) ops ≤ n → sum_by (λ o. tasks_of s.arrays o.op) (fused_ops s ops) ≤ n
+  tasks_kept ops n h =
+      all_keep s (λ l. sum_by (λ o. tasks_of s.arrays o.op) l ≤ n) room
+      (λ a old new t few.
+      let same : tasks_of s.arrays (joint s t.maker t.reader a).op ≡ tasks_of s.arrays t.reader.op = ap (λ (g : RegularGrid). product (grid_counts g)) (joint_out s a old new t).1 in
+      let l = fewer s (λ (o : Planned). tasks_of s.arrays o.op) a old new t same in omega (arith, l, few))
+      (map_inputs ops) ops h
+
+  pub count_kept : (ops : List Planned) (n : ℕ) → sum_by (λ o. 1) ops ≤ n → sum_by (λ o. 1) (fused_ops s ops) ≤ n
+  count_kept ops n h =
+      all_keep s (λ l. sum_by (λ o. 1) l ≤ n) room (λ a old new t few. let l = fewer s (λ (o : Planned). 1) a old new t refl in omega (arith, l, few)) (map_inputs ops) ops h
+
+  pub written_kept : (ops : List Planned) → HasWriter ops s.out → HasWriter (fused_ops s ops) s.out
+  written_kept ops h =
+      all_keep s (λ l. HasWriter l s.out) room
+      (λ a old new t w.
+      subst (λ (l : List Planned). HasWriter l s.out) (sym t.after) (on a old new t (subst (λ (l : List Planned). HasWriter l s.out) t.before w)))
+      (map_inputs ops) ops h
+    where
+      reader_part : (a : ℕ) (old new : List Planned) (t : Step s a old new) → HasWriter (t.reader ∷ t.behind) s.out → HasWriter (joint s t.maker t.reader a ∷ t.behind) s.out
+      reader_part a old new t (inl h) = inl (subst (λ (l : List ℕ). Contains l s.out) (sym (joint_out s a old new t).0) h)
+      reader_part a old new t (inr h) = inr h
+
+      not_maker : (a : ℕ) (old new : List Planned) (t : Step s a old new) → HasWriter (t.maker ∷ (t.between ++ (t.reader ∷ t.behind))) s.out → HasWriter (t.between ++ (t.reader ∷ t.behind)) s.out
+      not_maker a old new t (inl h) = absurd (t.kept (only a (subst (λ (o : Op). Contains (writes_of o) s.out) t.joins.makes h)))
+        where
+          only : (x : ℕ) → Contains (x ∷ []) s.out → x ≡ s.out
+          only x (zero, l, e) = e
+          only x (suc k, l, e) = absurd (omega arith)
+      not_maker a old new t (inr h) = h
+
+      on : (a : ℕ) (old new : List Planned) (t : Step s a old new) → HasWriter (t.front ++ (t.maker ∷ (t.between ++ (t.reader ∷ t.behind)))) s.out → HasWriter (t.front ++ (t.between ++ (joint s t.maker t.reader a ∷ t.behind))) s.out
+      on a old new t w = ⊎_elim
+          (λ early. written_left t.front (t.between ++ (joint s t.maker t.reader a ∷ t.behind)) s.out early)
+          (λ rest. written_right t.front (t.between ++ (joint s t.maker t.reader a ∷ t.behind)) s.out
+          (⊎_elim
+          (λ middle. written_left t.between (joint s t.maker t.reader a ∷ t.behind) s.out middle)
+          (λ last. written_right t.between (joint s t.maker t.reader a ∷ t.behind) s.out (reader_part a old new t last))
+          (written_parts t.between (t.reader ∷ t.behind) s.out (not_maker a old new t rest))))
+          (written_parts t.front (t.maker ∷ (t.between ++ (t.reader ∷ t.behind))) s.out w)
+
+pub length_is : (ops : List Planned) → sum_by (λ o. 1) ops ≡ length ops
+length_is [] = refl
+length_is (o ∷ os) = let l = length_is os in let c = sum_by-cons (λ (o : Planned). 1) o os in omega (arith, l, c)
+
+-- ---- the sums of the plan that is left
+
+module _ (p : PlanView) (ops : List Planned) where
+  abbrev N : List ℕ
+  N = remaining_numbers p.arrays ops
+
+  tasks_closed : (os : List Planned) → AreLeft N os → sum_by (λ o. tasks_of (closed (setting_of p) ops).arrays o.op) (map (renumbered_planned (new_number (setting_of p) ops)) os) ≡ sum_by (λ o. tasks_of p.arrays o.op) os
+  tasks_closed [] left = refl
+  tasks_closed (o ∷ os) ((reads, writes), rest) =
+      let f = new_number (setting_of p) ops in
+      let own : tasks_of (closed (setting_of p) ops).arrays (renumbered f o.op) ≡ tasks_of p.arrays o.op =
+      ap (λ (g : RegularGrid). product (grid_counts g)) (renumbered_tasks f p.arrays (closed (setting_of p) ops).arrays (Contains N) (kept_layout p ops) (placed_once p ops) o.op writes) in
+      let more = tasks_closed os rest in
+      let a = sum_by-cons (λ (x : Planned). tasks_of (closed (setting_of p) ops).arrays x.op) (renumbered_planned f o) (map (renumbered_planned f) os) in
+      let b = sum_by-cons (λ (x : Planned). tasks_of p.arrays x.op) o os in
+      omega (arith, own, more, a, b)
+
+  -- a made array that is left has the chunks that it had
+  cells_same : (k a : ℕ) (m : Option ℕ) → maker_at p.arrays a ≡ m → made_chunks (remaining_array (setting_of p) ops k a m) ≡ made_chunks (array_at p.arrays a)
+  cells_same k a None e = refl
+  cells_same k a (Some m) e = sym (ap (λ (x : Option ℕ). cells_by x (array_chunk_count (array_at p.arrays a))) e)
+
+  cells_fewer : (k n : ℕ) (rest : List ArrayInfo) → ((i : ℕ) → i < length rest → array_at p.arrays (n + i) ≡ array_at rest i) → sum_by made_chunks (remaining_arrays (setting_of p) ops k (remaining_from ops n rest)) ≤ sum_by made_chunks rest
+  cells_fewer k n [] same = omega arith
+  cells_fewer k n (a ∷ rest) same = elim (cases_Bool (remains ops n a.maker)) [
+    | inl stays ↦ subst (λ (l : List ℕ). sum_by made_chunks (remaining_arrays (setting_of p) ops k l) ≤ sum_by made_chunks (a ∷ rest)) (sym (λ i. if stays i then (n ∷ remaining_from ops (n + 1) rest) else remaining_from ops (n + 1) rest))
+        (let next = cells_fewer (count_behind (setting_of p) k n (maker_at p.arrays n)) (n + 1) rest later in
+        let x = sum_by-cons made_chunks (remaining_array (setting_of p) ops k n (maker_at p.arrays n)) (remaining_arrays (setting_of p) ops (count_behind (setting_of p) k n (maker_at p.arrays n)) (remaining_from ops (n + 1) rest)) in
+        let y = sum_by-cons made_chunks a rest in
+        let own = cells_same k n (maker_at p.arrays n) refl ∙ ap made_chunks here in
+        omega (arith, next, x, y, own))
+    | inr gone ↦ subst (λ (l : List ℕ). sum_by made_chunks (remaining_arrays (setting_of p) ops k l) ≤ sum_by made_chunks (a ∷ rest)) (sym (λ i. if gone i then (n ∷ remaining_from ops (n + 1) rest) else remaining_from ops (n + 1) rest))
+        (let next = cells_fewer k (n + 1) rest later in let y = sum_by-cons made_chunks a rest in omega (arith, next, y))
+  ]
+    where
+      here : array_at p.arrays n ≡ a
+      here = ap (array_at p.arrays) (let z : n ≡ n + 0 = omega arith in z) ∙ same 0 (omega arith)
+
+      later : (i : ℕ) → i < length rest → array_at p.arrays (n + 1 + i) ≡ array_at rest i
+      later i h = ap (array_at p.arrays) (let z : n + 1 + i ≡ n + suc i = omega arith in z) ∙ same (suc i) (omega arith)
+
+-- the result is left: an input stays, and what an operation wrote is written still
+pub out_stays : (p : PlanView) → Sound p → p.allowed < 2 ^ 64 → Contains (remaining_numbers p.arrays (fused_ops (setting_of p) p.ops)) p.out
+out_stays p sound room = numbers_in p ops p.out sound.out (go (maker_at p.arrays p.out) refl)
+  where
+    ops : List Planned
+    ops = fused_ops (setting_of p) p.ops
+
+    go : (m : Option ℕ) → maker_at p.arrays p.out ≡ m → remains ops p.out (maker_at p.arrays p.out) ≡ true
+    go None e = ap (remains ops p.out) e
+    go (Some k) e =
+        let (l, w) = sound.makers p.out k sound.out e in
+        left_written ops p.out (maker_at p.arrays p.out) (written_kept (setting_of p) room p.ops (written_at p.ops k p.out l w))
+
+-- a plan is sound after the merges of its maps
+pub fused_is_sound : (p : PlanView) → Sound p → HasMadeNames p → p.allowed < 2 ^ 64 → Sound (fused p)
+fused_is_sound p sound names room =
+    let s : SettingView = setting_of p in
+    let ops : List Planned = fused_ops s p.ops in
+    let run = (fused_sound p (λ a idx. None) sound room).0 in
+    let left = all_left p ops [] ops refl run in
+    let few = closed_few p ops sound names in
+    let count : length ops ≤ length p.ops = (let c = count_kept s room p.ops (length p.ops) (let l = length_is p.ops in omega (arith, l)) in let l = length_is ops in omega (arith, c, l)) in
+    let all_cells = cells_fewer p ops 0 0 p.arrays (λ i h. ap (array_at p.arrays) (let z : 0 + i ≡ i = omega arith in z)) in
+    let cells = sound.cells in
+    let all_ops = sound.operation_count in
+    let all_arrays = sound.array_count in
+    record {
+      operations = operations p ops sound run;
+      makers = makers p ops sound run;
+      arrays = arrays_are p ops sound names;
+      keys = keys_are p ops sound names;
+      out = within p ops p.out (out_stays p sound room);
+      array_count = omega (arith, few, all_arrays);
+      operation_count = (let l = length-map ops (renumbered_planned (new_number (setting_of p) ops)) in omega (arith, l, count, all_ops));
+      input_chunks = inputs_are p ops sound names;
+      tasks = (let e = tasks_closed p ops ops left in let t = tasks_kept s room p.ops 65536 sound.tasks in omega (arith, e, t));
+      cells = omega (arith, all_cells, cells);
+    }

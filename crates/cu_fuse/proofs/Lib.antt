@@ -1,0 +1,20 @@
+pub mod Splicing
+pub mod Merging
+pub mod Running
+pub mod Closing
+pub mod Fusing
+pub mod FromSound
+pub mod Unique
+pub mod LeftArrays
+pub mod ClosedValue
+pub mod ClosedSound
+pub mod ClosedNames
+pub mod ClosedCounts
+pub mod FusedPlans
+pub mod SmallNumbers
+pub mod Scanning
+pub mod MergedAway
+pub mod MergedAll
+pub mod Renumbering
+pub mod Rules
+mod Examples

@@ -1,0 +1,6 @@
+pub mod Close
+pub mod Fused
+pub mod Merge
+pub mod Rule
+pub mod Runs
+pub mod Splice

@@ -1,0 +1,55 @@
+-- A map with the maker of one of its inputs merged in (this project's own rule).
+use Rattle.std.specs.Prelude.{◌≡◌, ◌≢◌, ℕ, ◌^◌, ◌<◌, List, ◌∷◌, ◌++◌, length, slice_get, Some}
+use Rattle.arrayvec.specs.ArrayVec.{ArrayVec}
+use Rattle.cu_op.specs.declared.kernel.Kernel.{Kernel}
+use Rattle.cu_op.specs.declared.layout.ArrayInfo.{ArrayInfo}
+use Rattle.cu_op.specs.declared.operation.Op.{Op}
+use Rattle.cu_op.specs.declared.operation.Op.TheVariants.{Map}
+use Rattle.cu_op.specs.declared.operation.Planned.{Planned}
+use Rattle.cu_op.specs.Arrays.{grid_at}
+use Rattle.cu_op.specs.Projection.{projection}
+use Rattle.cu_fuse.specs.Runs.{HasReader}
+use Rattle.cu_fuse.specs.Splice.{put_in, spliced}
+
+-- the second operation with the first, which makes its input number j, merged in: the first one's kernel stands in place of the load, its
+-- inputs in place of the input; of operations that aren't maps the second
+abbrev pub merged_op : Op → Op → ℕ → Op
+merged_op (Map inner inner_ins mid) (Map outer outer_ins out) j =
+    Map (record { code = record { items = spliced j (length inner_ins.items) inner.code.items outer.code.items } }) (record { items = put_in j inner_ins.items outer_ins.items }) out
+merged_op maker reader j = reader
+
+-- the maker of an array, its first reader, and the operations between and behind
+pub record Around : Type 0 where
+  pub maker : Planned
+  pub between : List Planned
+  pub reader : Planned
+  pub behind : List Planned
+
+-- these operations, and with one in place of maker and reader
+abbrev pub apart_ops : Around → List Planned
+apart_ops r = r.maker ∷ (r.between ++ (r.reader ∷ r.behind))
+
+abbrev pub joined_ops : Around → Planned → List Planned
+joined_ops r both = r.between ++ (both ∷ r.behind)
+
+-- the maker is a map whose array the reader alone reads, as its input number j, and the reader is a map over the same grid
+pub record Joins (arrays : List ArrayInfo) (r : Around) (array j : ℕ) : Type 0 where
+  pub inner : Kernel
+  pub inner_ins : ArrayVec ℕ
+  pub outer : Kernel
+  pub outer_ins : ArrayVec ℕ
+  pub out : ℕ
+  pub makes : r.maker.op ≡ Map inner inner_ins array
+  pub takes : r.reader.op ≡ Map outer outer_ins out
+  pub input : slice_get outer_ins.items j ≡ Some array
+  pub alone : (k : ℕ) → k ≢ j → slice_get outer_ins.items k ≡ Some array → ⊥
+  pub between_apart : HasReader r.between array → ⊥
+  pub behind_apart : HasReader r.behind array → ⊥
+  pub grid : grid_at arrays array ≡ grid_at arrays out
+
+-- the reader with its maker merged in, which belongs to the reader's node
+pub record IsMerged (arrays : List ArrayInfo) (reserved : ℕ) (maker reader both : Planned) (j : ℕ) : Type 0 where
+  pub op : both.op ≡ merged_op maker.op reader.op j
+  pub node : both.node ≡ reader.node
+  pub projected : both.projected ≡ projection arrays reserved both.op
+  pub room : both.projected < 2 ^ 64

@@ -1,0 +1,22 @@
+-- The plan of an expression, in which maps are merged (this project's own rule).
+use Rattle.std.specs.Prelude.{◌≡◌, List, Ok, All}
+use Rattle.cu_expr.specs.declared.inputs.InputInfo.{InputInfo}
+use Rattle.cu_form.specs.Expression.{Expression}
+use Rattle.cu_fuse.specs.Close.{fused}
+use Rattle.cu_lower.specs.Plan.{plan_of}
+use Rattle.cu_lower.specs.Premises.{AreOfInputs, IsLowerable}
+use Rattle.cu_lower.specs.declared.options.Options.{Options}
+use Rattle.cu_meaning.specs.Argument.{NodeElements}
+use Rattle.cu_node.specs.declared.info.NodeInfo.{NodeInfo}
+use Rattle.cu_op.specs.PlanView.{PlanView}
+use Rattle.cu_op.specs.Value.{Elements, HasTypes}
+
+-- the operations that its live nodes add, after the merges of the maps among them
+unfoldable pub merged_plan_of : Expression → List NodeInfo → List InputInfo → Options → PlanView
+merged_plan_of e infos inputs options = fused (plan_of e infos inputs options)
+
+-- the inputs' arrays have elements of their types, and the input nodes have these
+pub record HaveInputElements (e : Expression) (infos : List NodeInfo) (inputs : List InputInfo) (options : Options) (env : Elements) (elements : NodeElements) : Type 0 where
+  pub lowerable : IsLowerable e infos inputs options
+  pub typed : HasTypes (merged_plan_of e infos inputs options).arrays env
+  pub given : AreOfInputs e infos env elements

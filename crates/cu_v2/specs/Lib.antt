@@ -1,0 +1,4 @@
+pub mod Fault
+pub mod Members
+pub mod Zarray
+pub mod Form

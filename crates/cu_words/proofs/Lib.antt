@@ -1,0 +1,5 @@
+pub mod Decimals
+pub mod Findings
+pub mod Lines
+pub mod Tellings
+pub mod Walks

@@ -1,0 +1,118 @@
+//! The table of the options.
+ghost use Rattle.std.specs.Prelude.{◌≡◌, ◌≤◌};
+ghost use Rattle.cu_words.specs.Options.{command_named, option_row, options_of, positional_count};
+ghost use Rattle.cu_words.specs.Options.{row_view};
+
+/// A command, which the first word names.
+#[derive(Clone, Copy)]
+pub enum CommandName {
+    Run,
+    Plan,
+    Load,
+    Check,
+    Print,
+}
+
+/// An option of the command line.
+#[derive(Clone, Copy)]
+pub enum OptionName {
+    /// The bytes that a task may need.
+    AllowedMem,
+    /// How many of these are set aside.
+    ReservedMem,
+    /// How many partial results a task of a reduction merges.
+    SplitEvery,
+    /// How many threads run tasks; so far one.
+    Workers,
+    /// How often a call or a task is tried again.
+    Retries,
+    /// Whether a slow task is run a second time; so far never.
+    Backups,
+}
+
+/// A row of the table of the options: the name, without its `--`; the least and the most number
+/// that the option takes; and its number where it isn't given. Memory is in bytes.
+#[derive(Clone, Copy)]
+pub struct TableRow<'a> {
+    pub name: &'a str,
+    pub least: u64,
+    pub most: u64,
+    pub default: u64,
+}
+
+impl OptionName {
+    /// The option's row of the table.
+    pub fn row<'a>(self) -> TableRow<'a>
+        ensures row { row_view result ≡ option_row self }
+        ensures default { (result.least ≤ result.default) × (result.default ≤ result.most) }
+    {
+        let (name, least, most, default) = match self {
+            OptionName::AllowedMem => ("allowed-mem", 0, 1 << 40, 200_000_000),
+            OptionName::ReservedMem => ("reserved-mem", 0, 1 << 40, 0),
+            OptionName::SplitEvery => ("split-every", 2, 64, 4),
+            OptionName::Workers => ("workers", 1, 1, 1),
+            OptionName::Retries => ("retries", 0, 8, 2),
+            OptionName::Backups => ("backups", 0, 0, 0),
+        };
+        TableRow {
+            name,
+            least,
+            most,
+            default,
+        }
+    }
+}
+
+static RUN: [OptionName; 6] = [
+    OptionName::AllowedMem,
+    OptionName::ReservedMem,
+    OptionName::SplitEvery,
+    OptionName::Workers,
+    OptionName::Retries,
+    OptionName::Backups,
+];
+
+static PLAN: [OptionName; 3] = [
+    OptionName::AllowedMem,
+    OptionName::ReservedMem,
+    OptionName::SplitEvery,
+];
+
+static OTHERS: [OptionName; 1] = [OptionName::Retries];
+
+impl CommandName {
+    /// The command that this word names.
+    pub fn of(word: &str) -> Option<CommandName>
+        ensures { result ≡ command_named word.now }
+    {
+        match word {
+            "run" => Some(CommandName::Run),
+            "plan" => Some(CommandName::Plan),
+            "load" => Some(CommandName::Load),
+            "check" => Some(CommandName::Check),
+            "print" => Some(CommandName::Print),
+            _ => None,
+        }
+    }
+
+    /// How many positionals the command takes.
+    pub fn positionals(self) -> usize
+        ensures { result ≡ positional_count self }
+    {
+        match self {
+            CommandName::Print => 1,
+            _ => 0,
+        }
+    }
+
+    /// The options that the command takes.
+    pub fn options(self) -> &'static [OptionName]
+        ensures { result.now ≡ options_of self }
+    {
+        match self {
+            CommandName::Run => RUN.as_slice(),
+            CommandName::Plan => PLAN.as_slice(),
+            CommandName::Load | CommandName::Check | CommandName::Print => OTHERS.as_slice(),
+        }
+    }
+}

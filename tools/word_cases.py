@@ -1,0 +1,158 @@
+#!/usr/bin/env python3
+"""Writes the table of cases of the command line, with answers that this script works out from the table of options alone.
+
+usage: tools/word_cases.py > crates/cu_cases/data/words.json
+
+Words that are accepted are shown by the next thing that the command finds wrong: an empty text, or an array that isn't there.
+"""
+import json
+import re
+
+# Each option: the least and the most number, the number where it isn't given, and the commands that take it.
+OPTIONS = {
+    "allowed-mem": (0, 2**40, 200_000_000, ("plan", "run")),
+    "reserved-mem": (0, 2**40, 0, ("plan", "run")),
+    "split-every": (2, 64, 4, ("plan", "run")),
+    "workers": (1, 1, 1, ("run",)),
+    "retries": (0, 8, 2, ("run", "load", "check", "print")),
+    "backups": (0, 0, 0, ("run",)),
+}
+ACCEPTED = {
+    "run": "error 3 code=1 node=0",
+    "plan": "error 3 code=1 node=0",
+    "load": "error 18 code=1",
+    "check": "error 3 code=1 node=0",
+}
+NAME = re.compile(r"[A-Za-z0-9][A-Za-z0-9_.-]{0,31}\Z")
+NUMBER = re.compile(r"\+?[0-9]+\Z")
+
+
+def parts(words):
+    """Returns the pairs of an option and its value, and the positionals; None where the words have no such parts."""
+    behind = []
+    if "--" in words:
+        at = words.index("--")
+        words, behind = words[:at], words[at + 1 :]
+    given, positionals = [], []
+    words = iter(words)
+    for word in words:
+        if word == "-" or not word.startswith("-"):
+            positionals.append(word)
+        elif not word.startswith("--"):
+            return None
+        elif "=" in word:
+            given.append(tuple(word[2:].split("=", 1)))
+        else:
+            given.append((word[2:], next(words, None)))
+    return given, positionals + behind
+
+
+def is_accepted(command, given):
+    names = [name for name, value in given]
+    for name, value in given:
+        if name not in OPTIONS or command not in OPTIONS[name][3] or names.count(name) > 1:
+            return False
+        least, most = OPTIONS[name][:2]
+        if value is None or not NUMBER.match(value) or not least <= int(value) <= most:
+            return False
+    return True
+
+
+def answer(words):
+    """Returns the line of the answer to these words."""
+    if not words or words[0] not in (*ACCEPTED, "print"):
+        return "error 2 code=1"
+    found = parts(words[1:])
+    if found is None or not is_accepted(words[0], found[0]):
+        return "error 2 code=2"
+    if len(found[1]) != (words[0] == "print"):
+        return "error 2 code=2"
+    if words[0] != "print":
+        return ACCEPTED[words[0]]
+    return f"error 8 name={found[1][0]}" if NAME.match(found[1][0]) else "error 2 code=3"
+
+
+def both(name, value):
+    """Both forms of an option."""
+    return [[f"--{name}", value], [f"--{name}={value}"]]
+
+
+def commands():
+    yield "no command, and words that are none", [
+        [], [""], ["fly"], ["Run"], ["run "], ["--"], ["-"], ["--retries", "2", "run"], ["resume"], ["drop"], ["demo", "4"],
+        ["help"], ["--help"], ["-h"], ["--version"], ["ru"], ["run\n"], ["läuft"]]
+    yield "commands alone, and with help and version", [
+        [command, *more] for command in (*ACCEPTED, "print")
+        for more in ([], ["--help"], ["-h"], ["help"], ["--version"], ["-V"])]
+
+
+def ends():
+    """Each option of each command at the ends of its range, and beyond them; and the options that a command doesn't take."""
+    for name, (least, most, _, takers) in OPTIONS.items():
+        rows = []
+        for command in (*ACCEPTED, "print"):
+            front = [command, "y"] if command == "print" else [command]
+            values = [least, most, most + 1, *([least - 1] if least else [])] if command in takers else [least]
+            rows += [front + form for value in values for form in both(name, str(value))]
+        yield f"the ends of {name}", rows
+
+
+def numbers():
+    yield "numbers as u64::from_str reads them", [
+        ["run", *form] for value in (
+            "", "+", "-", "+7", "007", "++7", "-0", "-1", " 7", "7 ", "7.0", "1e3", "0x10", "1_000", "٣", "7\n", "=7", "7=", "--",
+            "18446744073709551615", "18446744073709551616", "340282366920938463463374607431768211456", "+0", "00000000000000000000009")
+        for form in both("allowed-mem", value)]
+    yield "small numbers with a plus and with zeros", [
+        ["run", *form] for name, value in (("workers", "+1"), ("workers", "01"), ("backups", "+0"), ("backups", "00"), ("retries", "+8"),
+            ("retries", "08"), ("split-every", "+64"), ("split-every", "002"), ("workers", ""), ("backups", ""), ("backups", "-0"))
+        for form in both(name, value)]
+
+
+def forms():
+    every = ["--allowed-mem", "9", "--reserved-mem=8", "--split-every", "7", "--workers=1", "--retries", "6", "--backups=0"]
+    yield "all options, in any order", [["run", *every], ["run", *every[3:], *every[:3]], ["run", *every[2:3], *every[:2], *every[3:]],
+        ["plan", *every[:5]], ["plan", *every[:6]], ["plan", *every]]
+    yield "options that are given twice", [
+        [command, *first, *second]
+        for command, name, value in (("run", "allowed-mem", "1"), ("run", "workers", "1"), ("plan", "split-every", "4"), ("load", "retries", "2"), ("check", "retries", "0"))
+        for first in both(name, value) for second in both(name, value)]
+    yield "options without a value", [
+        ["run", "--allowed-mem"], ["run", "--retries", "2", "--allowed-mem"], ["run", "--allowed-mem", "--retries", "2"],
+        ["run", "--allowed-mem", "--retries=2"], ["run", "--allowed-mem", "--", "2"], ["run", "--allowed-mem", "--"], ["run", "--allowed-mem="],
+        ["run", "--allowed-mem=", "2"], ["load", "--retries"], ["load", "--retries="], ["print", "y", "--retries"], ["print", "--retries", "y"],
+        ["print", "--retries", "--", "y"], ["check", "--retries", "-1"], ["run", "--workers"], ["run", "--backups"], ["run", "--backups", "--workers", "1"]]
+    yield "names that are cut, longer, or in another case", [
+        ["run", *form] for name in ("allowed", "allowed-me", "allowed-memo", "a", "Allowed-mem", "ALLOWED-MEM", "allowed_mem", "retrie", "retries2", "worker",
+            "w", "backup", "split", "", " retries", "retries ", "-retries")
+        for form in both(name, "2")]
+    yield "short forms, and words that begin with one dash", [
+        ["run", *more] for more in (["-r", "2"], ["-r2"], ["-r=2"], ["-2"], ["-retries", "2"], ["-retries=2"], ["-", "2"], ["-"], ["-a"], ["-ab"], ["-é"],
+            ["-="], ["--retries", "2", "-x"], ["-x", "--retries", "2"])]
+
+
+def positionals():
+    yield "positionals where there are none", [
+        [command, *more] for command in ACCEPTED for more in (["y"], ["--", "y"], ["--"], ["--", "--"], ["y", "--"], ["--", "--retries", "2"], ["", ""])]
+    yield "names to print", [
+        ["print", name] for name in ("y", "a.b-c_d", "0", "_y", ".y", "-y", "--y", "-", "", "y z", "y/z", "ä", "y" * 32, "y" * 33, "run", "y\n", "y=", "=")]
+    yield "names to print behind the end of the options", [
+        ["print", "--", name] for name in ("y", "-y", "--y", "--", "-", "", "--retries", "--retries=2", "_y")]
+    yield "a name before and behind options and their end", [
+        ["print", *words] for words in (["y", "--retries", "3"], ["--retries", "3", "y"], ["--retries=3", "y"], ["y", "--retries=3"], ["--retries", "3", "--", "y"],
+            ["--retries=3", "--", "y"], ["y", "--"], ["y", "--", "z"], ["--", "y", "z"], ["y", "z"], ["y", "--retries", "9"], ["_y", "--retries", "9"], ["--retries=9", "_y"],
+            ["_y", "--retries", "8"], ["-", "--retries", "8"], ["--", "y", "--retries", "3"], ["y", "--retries", "3", "z"], ["--", "--", "y"], ["--retries", "3", "--", "--"],
+            ["y", "--allowed-mem", "2"], ["y", "--retries", "2", "--retries=2"], ["--retries", "2", "--retries", "y"], [])]
+
+
+def main():
+    cases = [*commands(), *ends(), *numbers(), *forms(), *positionals()]
+    lines = []
+    for name, rows in cases:
+        told = [json.dumps({"words": words, "line": answer(words)}, ensure_ascii=False) for words in rows]
+        lines.append('{"name": %s,\n "rows": [\n  %s]}' % (json.dumps(name), ",\n  ".join(told)))
+    print('{\n"kind": "calls",\n"shared": {\n  "holds": []\n},\n"cases": [\n%s]\n}' % ",\n".join(lines))
+
+
+if __name__ == "__main__":
+    main()
