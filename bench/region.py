@@ -29,7 +29,7 @@ from add import has_numpy, timed  # add.py, in this folder
 SIDE, CHUNK_SIDE, LOW, HIGH = 4096, 2048, 1024, 3072
 CHUNK_BYTES, REGION_BYTES = 4 * CHUNK_SIDE**2, 4 * (HIGH - LOW) ** 2
 TOP = os.path.join(os.path.dirname(os.path.abspath(__file__)), "..")
-NAME, NEEDS = "region_bench", "cu_num cu_shape cu_grid cu_store cu_dir cu_codec cu_op cu_region arrayvec".split()
+NAME, NEEDS = "region_bench", "cu_num cu_shape cu_box cu_grid cu_store cu_dir cu_codec cu_op cu_region arrayvec".split()
 ORDERS = ("little", "big")
 
 # The program: `region_bench FOLDER little|big READS` prints the least nanoseconds of a read, and a checksum.

@@ -14,6 +14,7 @@ import sys
 TOP = os.path.dirname(os.path.dirname(os.path.realpath(__file__)))
 sys.path.insert(0, f"{TOP}/bench")
 import rules  # noqa: E402
+import worker  # noqa: E402
 from rules import Array, compact  # noqa: E402
 
 try:
@@ -119,31 +120,30 @@ def refused(arrays, text, line=None, allowed=None, reserved=0, **more):
 
 
 def calls_of(plan):
-    """Returns the calls of the depot that a run makes, of which none fails: kind, key and the line where it fails for good, with
-    how many keys are stored then. Each input has a name of its own, and no task reads one array twice."""
+    """Returns the calls of the depot and its yard that a run makes, of which none fails: the key, how many keys are stored by then, and
+    the task whose call it is. Each input has a name of its own, and no task reads one array twice."""
     names = [entry["name"] for entry in plan.expr["nodes"] if entry["op"] == "input"]
-    calls = [("get", f"{name}/zarr.json", 0, None) for name in names]
-    calls += [("has", key, 0, None) for key in plan.keys_in_the_way()]
-    calls += [("put", key, number, None) for number, key in enumerate(plan.keys_in_the_way()[:2])]
-    done = 2
-    for op, k in enumerate(plan.made):
-        for task, place in enumerate(plan.chunks(k)):
-            keys = [("get", plan.key(arg, where)) for _, arg, where in plan.map_reads(k, place)] + [("put", plan.key(k, place))]
-            calls += [(kind, key, done, (op, task)) for kind, key in keys]
-            done += 1
-    return calls
+    calls = [(f"{name}/zarr.json", 0, None) for name in names] + [(key, 0, None) for key in plan.keys_in_the_way()]
+    return calls + [(key, number, None) for number, key in enumerate(plan.keys_in_the_way()[:2])] + worker.calls_of(tasks_of(plan))
+
+
+def tasks_of(plan):
+    """Returns the tasks of a plan of maps."""
+    return [worker.Task(op, task, [plan.key(arg, where) for _, arg, where in plan.map_reads(k, place)], [plan.key(k, place)])
+            for op, k in enumerate(plan.made) for task, place in enumerate(plan.chunks(k))]
 
 
 def looped(arrays, text, allowed, late):
     """Returns a run with each of its calls failing once and for good, a stop before each, and each put late."""
     plan = plan_over(text, arrays, allowed)
     calls, ends = calls_of(plan), []
-    for _, key, done, task in calls:
+    for key, done, task in calls:
         line = f"error 10 op={task[0]} task={task[1]}" if task else f"error 16 key={key}"
         ends.append([line, done, BEFORE if done else ""])
-    first = next(at for at, call in enumerate(calls) if call[3])
+    first = next(at for at, call in enumerate(calls) if call[2])
     loops = {"ends": ends, "once": {"from": first, "output": plan.report(1)}, "late": late, "sinks": True}
-    return {**ran(arrays, text, allowed), "calls": len(calls), "loops": loops}
+    row = ran(arrays, text, allowed)
+    return {**row, "leaves": worker.in_order_stored(row["leaves"], tasks_of(plan)), "calls": len(calls), "loops": loops}
 
 
 # The arrays of the worked examples

@@ -15,6 +15,7 @@ sys.path.insert(0, f"{TOP}/bench")
 sys.path.insert(0, f"{TOP}/tools")
 import elementwise_cases as tables  # noqa: E402
 import rules  # noqa: E402
+import worker  # noqa: E402
 from elementwise_cases import ADDED, DOUBLED, a_and_b, expression, inputs_of, line_of, metadata_of, node, six, stored  # noqa: E402
 from reduction_cases import DEMO, made_by, reported  # noqa: E402
 from view_cases import AMPLE, counted, number, seen  # noqa: E402
@@ -299,25 +300,26 @@ def copy_of(plan, k, place):
     return lasts[[at for at in range(len(plan.arrays(k))) if plan.straight((k, at)) is None].index(place)]
 
 
+def tasks_of(plan):
+    """Returns the tasks of a plan of copies and maps."""
+    steps = [(k, at, step) for k, steps in plan.steps.items() for at, step in enumerate(steps)]
+    return [worker.Task(op, task, reads_of(plan, k, at, place), [plan.part_key(k, at, which, where) for which, where in step.written(place)])
+            for op, (k, at, step) in enumerate(steps) for task, place in enumerate(step.places())]
+
+
 def looped(arrays, text, allowed):
     """A run with each of its calls failing once and for good, a stop before each, and each put late."""
     plan = plan_over(arrays, text, allowed)
     keys = plan.keys_in_the_way()
     calls = [(f"{entry['name']}/zarr.json", 0, None) for entry in plan.expr["nodes"] if entry["op"] == "input"]
     calls += [(key, 0, None) for key in keys] + [(key, done, None) for done, key in enumerate(keys[:2])]
-    done, number = 2, 0
-    for k, steps in plan.steps.items():
-        for at, step in enumerate(steps):
-            for task, place in enumerate(step.places()):
-                calls += [(key, done, (number, task)) for key in reads_of(plan, k, at, place)]
-                for which, where in step.written(place):
-                    calls.append((plan.part_key(k, at, which, where), done, (number, task)))
-                    done += 1
-            number += 1
+    tasks = tasks_of(plan)
+    calls += worker.calls_of(tasks)
     ends = [[f"error 10 op={task[0]} task={task[1]}" if task else f"error 16 key={key}", done, tables.BEFORE if done else ""] for key, done, task in calls]
     first = next(at for at, call in enumerate(calls) if call[2])
     loops = {"ends": ends, "once": {"from": first, "output": plan.report(1)}, "late": len(calls), "sinks": True}
-    return {**ran(arrays, text, allowed), "calls": len(calls), "loops": loops}
+    row = ran(arrays, text, allowed)
+    return {**row, "leaves": worker.in_order_stored(row["leaves"], tasks), "calls": len(calls), "loops": loops}
 
 
 def rechunk_cases():

@@ -16,6 +16,7 @@ sys.path.insert(0, f"{TOP}/tools")
 import compare  # noqa: E402
 import elementwise_cases as tables  # noqa: E402
 import rules  # noqa: E402
+import worker  # noqa: E402
 from elementwise_cases import expression, inputs_of, line_of, node, plan_over, refused, stored  # noqa: E402
 from reductions import FOLDS, PLACES  # noqa: E402
 from view_cases import AMPLE, array_of, counted, number, seen  # noqa: E402
@@ -194,17 +195,14 @@ def looped(op, line, split_every):
     plan = plan_over(text, arrays, AMPLE, 0, split_every)
     calls = [("a/zarr.json", 0, None)] + [(key, 0, None) for key in plan.keys_in_the_way()]
     calls += [(key, number, None) for number, key in enumerate(plan.keys_in_the_way()[:2])]
-    done = 2
-    for at, step in enumerate(plan.steps[1]):
-        for task, place in enumerate(step.places()):
-            calls += [(key, done, (at, task)) for key in chunks_read(plan, 1, at, place)]
-            for which in range(len(step.arrays)):
-                calls.append((plan.part_key(1, at, which, place), done, (at, task)))
-                done += 1
+    tasks = [worker.Task(at, task, chunks_read(plan, 1, at, place), [plan.part_key(1, at, which, place) for which in range(len(step.arrays))])
+             for at, step in enumerate(plan.steps[1]) for task, place in enumerate(step.places())]
+    calls += worker.calls_of(tasks)
     ends = [[f"error 10 op={task[0]} task={task[1]}" if task else f"error 16 key={key}", done, tables.BEFORE if done else ""] for key, done, task in calls]
     first = next(at for at, call in enumerate(calls) if call[2])
     loops = {"ends": ends, "once": {"from": first, "output": plan.report(1)}, "late": len(calls), "sinks": True}
-    return {**ran(arrays, text, None, split_every), "calls": len(calls), "loops": loops}
+    row = ran(arrays, text, None, split_every)
+    return {**row, "leaves": worker.in_order_stored(row["leaves"], tasks), "calls": len(calls), "loops": loops}
 
 
 def reduction_cases():

@@ -16,6 +16,7 @@ sys.path.insert(0, f"{TOP}/tools")
 import compare  # noqa: E402
 import elementwise_cases as tables  # noqa: E402
 import rules  # noqa: E402
+import worker  # noqa: E402
 from elementwise_cases import expression, inputs_of, line_of, node, plan_over, refused, stored  # noqa: E402
 
 AMPLE = 200000000
@@ -226,16 +227,15 @@ def looped():
     plan = plan_over(text, arrays, AMPLE)
     calls = [(key, 0, None) for key in ("a/zarr.json", "b/zarr.json")] + [(key, 0, None) for key in plan.keys_in_the_way()]
     calls += [(key, number, None) for number, key in enumerate(plan.keys_in_the_way()[:2])]
-    done = 2
-    for op, k in enumerate(plan.made):
-        for task, place in enumerate(plan.chunks(k)):
-            keys = [plan.key(arg, where) for arg, where in reads_of(plan, k, place)] + [plan.key(k, place)]
-            calls += [(key, done, (op, task)) for key in keys]
-            done += 1
+    tasks = [worker.Task(op, task, [plan.key(arg, where) for arg, where in reads_of(plan, k, place)], [plan.key(k, place)],
+                         [plan.made.index(arg) for arg in plan.arrays(k) if arg in plan.made])
+             for op, k in enumerate(plan.made) for task, place in enumerate(plan.chunks(k))]
+    calls += worker.calls_of(tasks)
     ends = [[f"error 10 op={task[0]} task={task[1]}" if task else f"error 16 key={key}", done, tables.BEFORE if done else ""] for key, done, task in calls]
     first = next(at for at, call in enumerate(calls) if call[2])
     loops = {"ends": ends, "once": {"from": first, "output": plan.report(1)}, "late": len(calls), "sinks": True}
-    return {**ran(arrays, text), "calls": len(calls), "loops": loops}
+    row = ran(arrays, text)
+    return {**row, "leaves": worker.in_order_stored(row["leaves"], tasks), "calls": len(calls), "loops": loops}
 
 
 def view_cases():

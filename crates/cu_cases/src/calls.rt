@@ -3,10 +3,10 @@
 use crate::case::{Case, Content, add_contents};
 use crate::loops::{Trial, run_loops};
 use crate::script::script_of;
-use crate::watched::Watched;
 use anyhow::{Result, bail};
 use cu_mem::MemDepot;
 use cu_rows::{Findings, Place, Said, Texts, refuse_others};
+use cu_watch::Watched;
 use serde_json::Value;
 
 /// What a call may say. Only a case has rows.

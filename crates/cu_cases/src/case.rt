@@ -1,11 +1,12 @@
 //! Calls of the program over a depot in memory, and what must come of them.
+ghost use Rattle.cu_cases.specs.Late.{NoneLate};
 
-use crate::watched::Watched;
 use anyhow::{Result, bail};
 use cu_mem::{MemDepot, MemSink, MemSource, Script};
 use cu_rows::{Findings, Place, Said, Texts, key_of, list_of, pair_of, text_of};
-use cu_store::{Depot, Got, Key};
+use cu_store::{Depot, Got, Key, Share};
 use cu_top::{Status, number, status_line, top};
+use cu_watch::Watched;
 use serde_json::Value;
 use std::alloc::Global;
 
@@ -117,7 +118,7 @@ impl<'a> Case<'a> {
         Ok(Watched::new(self.alloc, depot))
     }
 
-    /// Makes the call over a depot in memory, and compares what comes of it with what must come.
+    /// Makes the call over a depot in memory, of which no put is late, and compares what comes of it with what must come.
     pub(crate) fn run(
         &self,
         depot: &mut Watched<MemDepot>,
@@ -126,6 +127,9 @@ impl<'a> Case<'a> {
         place: &Place<'_>,
         findings: &mut Findings,
     ) -> Result<()> {
+        if !depot.depot.none_late() {
+            bail!("a put of an earlier call is late");
+        }
         depot.forget();
         self.answer(depot, room, wanted, place, findings)?;
         self.expect_contents(depot, wanted.stored, place, findings)?;
@@ -133,14 +137,16 @@ impl<'a> Case<'a> {
     }
 
     /// Makes the call, and compares its status and its output with what must come.
-    pub(crate) fn answer<D: Depot>(
+    pub(crate) fn answer<D: Share>(
         &self,
         depot: &mut D,
         room: u64,
         wanted: &Wanted<'_>,
         place: &Place<'_>,
         findings: &mut Findings,
-    ) -> Result<()> {
+    ) -> Result<()>
+        requires { NoneLate (D.shown depot.old).held (D.shown depot.old).late }
+    {
         let Ok(mut sink) = MemSink::make(self.alloc, room, self.sink_fails_at) else {
             bail!("no memory");
         };
@@ -180,7 +186,10 @@ impl<'a> Case<'a> {
     }
 
     /// Makes the call.
-    fn ask<D: Depot>(&self, sink: &mut MemSink, depot: &mut D) -> Result<Status> {
+    #[tactic(auto, using(crate::proofs::Calm::none_late_is_calm))]
+    fn ask<D: Share>(&self, sink: &mut MemSink, depot: &mut D) -> Result<Status>
+        requires { NoneLate (D.shown depot.old).held (D.shown depot.old).late }
+    {
         let input = self.input.clone()?;
         let mut source = MemSource::make(input, self.source_fails_at);
         Ok(top(self.alloc, &self.words, &mut source, sink, depot))

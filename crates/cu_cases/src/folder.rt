@@ -11,8 +11,8 @@ use std::rt::Files;
 const FOLDER: &str = "folder_of_a_case";
 
 /// Makes the calls of a case one after another over an empty folder, and reads back by `get` what each has left.
-pub(crate) fn run_folder<R: Files + AllocGlobal + Clone + Drop>(
-    rt: &R,
+pub(crate) fn run_folder(
+    rt: &HostRuntime,
     texts: &Texts<'_>,
     said: &Said<'_>,
     name: &str,

@@ -4,17 +4,17 @@ ghost use Rattle.std.specs.Prelude.{◌≡◌, IfOk, None};
 ghost use Rattle.cu_mem.specs.Script.{LandsOnce};
 
 use crate::case::{Case, Wanted};
-use crate::watched::{Made, Watched};
 use anyhow::{Result, bail};
 use cu_mem::{CallKind, MemDepot, Rule, Script};
 use cu_rows::{Findings, Place, Said, Texts, list_of, number_of, refuse_others, text_of};
+use cu_watch::{LoggedCall, Watched};
 use serde_json::Value;
 
 /// A case that was run, and the calls that it made of the depot.
 #[derive(Clone, Copy)]
 pub(crate) struct Trial<'a> {
     pub(crate) case: &'a Case<'a>,
-    pub(crate) calls: &'a [Made],
+    pub(crate) calls: &'a [LoggedCall],
     pub(crate) name: &'a str,
     pub(crate) row: u64,
 }

@@ -8,7 +8,6 @@ mod depots;
 mod folder;
 mod loops;
 mod script;
-mod watched;
 
 use anyhow::{Context, Result, bail};
 use calls::run_calls;
@@ -26,8 +25,8 @@ use std::rt::{Env, Files};
 use std::{env, fs};
 
 /// Runs a case of this kind.
-fn run_case<R: Files + AllocGlobal + Clone + Drop>(
-    rt: &R,
+fn run_case(
+    rt: &HostRuntime,
     kind: &str,
     texts: &Texts<'_>,
     said: &Said<'_>,
@@ -53,8 +52,8 @@ fn run_case<R: Files + AllocGlobal + Clone + Drop>(
 }
 
 /// Runs the cases of a table, and writes a line for each.
-fn run_table<R: Files + AllocGlobal + Clone + Drop>(
-    rt: &R,
+fn run_table(
+    rt: &HostRuntime,
     table: &Value,
     printed: &mut String,
     findings: &mut Findings,
@@ -85,8 +84,8 @@ fn run_table<R: Files + AllocGlobal + Clone + Drop>(
 }
 
 /// Runs the table of a file.
-fn run_file<R: Files + AllocGlobal + Clone + Drop>(
-    rt: &R,
+fn run_file(
+    rt: &HostRuntime,
     file: &str,
     printed: &mut String,
     findings: &mut Findings,
@@ -102,11 +101,7 @@ fn run_file<R: Files + AllocGlobal + Clone + Drop>(
 }
 
 /// Runs the tables that the words name.
-fn run_all(
-    rt: &(impl Files + Env + AllocGlobal + Clone + Drop),
-    printed: &mut String,
-    findings: &mut Findings,
-) -> Result<()> {
+fn run_all(rt: &HostRuntime, printed: &mut String, findings: &mut Findings) -> Result<()> {
     for word in env::args(rt)?.skip(1) {
         run_file(rt, word.as_str(), printed, findings).context(format_args!("{word}"))?;
     }

@@ -2,7 +2,6 @@ pub mod BoxRuns
 pub mod KeyLaws
 pub mod Numbers
 pub mod OneChunk
-pub mod PartRuns
 pub mod Shared
 pub mod Swapped
 pub mod Taken

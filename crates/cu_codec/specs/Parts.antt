@@ -1,17 +1,14 @@
 -- Elements in the bytes of a chunk and in those of a region, both row-major (Zarr v3 core, "Regular grids"; a region's buffer is this project's own).
-use Rattle.std.specs.Prelude.{◌≡◌, ◌≢◌, ℕ, ◌*◌, ◌<◌, ℤ, false, List, take, drop, if◌then◌else◌}
+use Rattle.std.specs.Prelude.{◌≡◌, ◌≢◌, ℕ, ◌<◌, ℤ, false, List, if◌then◌else◌}
 use Rattle.cu_num.specs.Dtype.{size_of}
 use Rattle.cu_num.specs.Element.{element_bytes, in_order}
 use Rattle.cu_num.specs.declared.types.Dtype.{Dtype}
 use Rattle.cu_num.specs.declared.layout.Endian.{Endian}
 use Rattle.cu_num.specs.declared.layout.Endian.TheVariants.{Little}
 use Rattle.cu_shape.specs.Index.{product, place_of, quotients, remainders, sums, differences, products, is_inside}
+pub use Rattle.cu_box.specs.Order.{part_at}
 use Rattle.cu_grid.specs.Counts.{IsWithin}
 use Rattle.cu_grid.specs.Grid.{RegularGrid, index_at_place}
-
--- the bytes of element `at` where each element has `size` bytes
-abbrev pub part_at : ℕ → List ℕ → ℕ → List ℕ
-part_at size bytes at = take size (drop (at * size) bytes)
 
 -- the place of an index in a region's buffer
 abbrev pub place_within : List ℕ → List ℕ → List ℕ → ℕ

@@ -1,6 +1,6 @@
 //! The keys under which a depot holds an array (Zarr v3 core, "Chunk key encoding").
 ghost use Rattle.std.specs.Prelude.{◌≡◌, ◌+◌, ◌*◌, ◌-◌, ◌<◌, ◌≤◌, [], ◌∷◌, ◌++◌, length, drop, All, decimal, codes};
-ghost use Rattle.cu_zarr.specs.Key.{separator, separated, coordinates, chunk_key_of, metadata_key_of};
+ghost use Rattle.cu_zarr.specs.Key.{separator, separated, coordinates, chunk_key_of, metadata_key_of, zarray_key_of};
 
 use arrayvec::ArrayString;
 use cu_num::{Encoding, Sep};
@@ -33,6 +33,17 @@ pub fn metadata_key(prefix: &Key) -> Key
     let mut text = Text::new();
     text.push_str(prefix.text());
     text.push_str("/zarr.json");
+    key_of(&text)
+}
+
+/// The key of the metadata of an array of version 2 whose keys begin with this prefix, its name of at most 45 bytes.
+pub fn zarray_key(prefix: &Key) -> Key
+    requires { length prefix.now ≤ 45 }
+    ensures { result ≡ zarray_key_of prefix.now }
+{
+    let mut text = Text::new();
+    text.push_str(prefix.text());
+    text.push_str("/.zarray");
     key_of(&text)
 }
 

@@ -8,7 +8,7 @@ ghost use Rattle.cu_grid.specs.Grid.{IsCoordinate, IsInChunk};
 ghost use Rattle.cu_codec.specs.Box.{IsShared};
 ghost use Rattle.cu_codec.specs.Parts.{part, part_at, HasFill, IsOneChunk, IsPartTaken, IsLaid};
 
-use crate::boxes::{Placing, copy_box};
+use cu_box::{Placing, copy_box};
 use cu_grid::{Grid, Region};
 use cu_num::{Dtype, Endian, save};
 use cu_shape::Dims;

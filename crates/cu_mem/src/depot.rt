@@ -109,6 +109,13 @@ impl MemDepot {
         self.calls
     }
 
+    /// Whether no put is late. It isn't counted as a call.
+    pub fn none_late(&self) -> bool
+        ensures { IsTrue result ↔ (self.now.late ≡ []) }
+    {
+        self.late.is_empty()
+    }
+
     /// From now on this script says which calls fail. Its counts begin at 0, and what is late stays
     /// late. A rule with a `land` has `times` 1.
     pub fn set_script(&mut self, script: Script)

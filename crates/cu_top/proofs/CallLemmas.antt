@@ -1,5 +1,5 @@
 -- What the command `run` answers, from the text on.
-use Rattle.std.proofs.Common.{◌≡◌, ◌⊎◌, inl, inr, ℕ, ◌<◌, false, nat_le, List, [], ◌∷◌, ◌++◌, length, Option, Some, None, Result, Ok, Err, refl, sym, ap, ◌∙◌, subst, arith, length-append}
+use Rattle.std.proofs.Common.{◌≡◌, ◌⊎◌, inl, inr, ℕ, ◌<◌, Bool, false, nat_le, List, [], ◌∷◌, ◌++◌, length, Option, Some, None, Result, Ok, Err, refl, sym, ap, ◌∙◌, subst, arith, length-append}
 use Rattle.std.proofs.lemmas.List.{append-nil}
 use Rattle.cu_form.specs.Expression.{Expression}
 use Rattle.cu_read.specs.Read.{expression_of, whole_fault}
@@ -16,19 +16,19 @@ use Rattle.cu_lower.specs.declared.options.Options.{Options}
 use Rattle.cu_top.specs.Call.{RunTells, IsRefusedText}
 use Rattle.cu_top.specs.Run.{Scene, RunCase, case, Ran}
 
-module _ (options : Options) (old new : Scene) where
+module _ (lack : Bool) (options : Options) (old new : Scene) where
   -- what a run of the text answers
-  pub told_run : (text : List ℕ) (status : Status) → ReadsAll old.source.told new.source.told text → Ran (case options text old new) status → RunTells options old new status
+  pub told_run : (text : List ℕ) (status : Status) → ReadsAll old.source.told new.source.told text → Ran lack (case options text old new) status → RunTells lack options old new status
   told_run text ReadFault read ran = absurd ran
   told_run text NoMemory read ran = inr (text, read, ran)
   told_run text status read ran = (text, read, ran)
 
   -- one of its answers
-  pub told_as : (status other : Status) → RunTells options old new status → status ≡ other → RunTells options old new other
-  told_as status other tells same = subst (RunTells options old new) same tells
+  pub told_as : (status other : Status) → RunTells lack options old new status → status ≡ other → RunTells lack options old new other
+  told_as status other tells same = subst (RunTells lack options old new) same tells
 
   -- it never answers that words or a text to load are wrong
-  pub never : (status : Status) (code : ℕ) → RunTells options old new status → (status ≡ BadWords code) ⊎ (status ≡ BadLoad code) → ⊥
+  pub never : (status : Status) (code : ℕ) → RunTells lack options old new status → (status ≡ BadWords code) ⊎ (status ≡ BadLoad code) → ⊥
   never status code tells (inl same) = let (text, read, ran) = told_as status (BadWords code) tells same in ran
   never status code tells (inr same) = let (text, read, ran) = told_as status (BadLoad code) tells same in ran
 
@@ -77,31 +77,31 @@ module _ (c : RunCase) (f : ExpressionFault) (err : expression_of c.text ≡ Err
   no_job job is = not_both (expression_of c.text) job.expr f is.said err
 
   -- it is refused, or memory was wanted
-  pub refused_run : (status : Status) → Ran c status → IsRefusedText f status
-  refused_run (BadExpr code node) ran =
+  pub refused_run : (lack : Bool) (status : Status) → Ran lack c status → IsRefusedText f status
+  refused_run lack (BadExpr code node) ran =
       let same = same_fault (expression_of c.text) f (record { code = code; node = node }) err ran.1 in
       (sym (ap (λ (x : ExpressionFault). x.code) same), sym (ap (λ (x : ExpressionFault). x.node) same))
-  refused_run NoMemory ran = tt
-  refused_run (BadType code node) ran = not_both (expression_of c.text) ran.1.expr f ran.1.said err
-  refused_run (NoArray name) ran = no_turn (expression_of c.text) f c.old.depot name err ran.1.0
-  refused_run (BadMeta name code) ran = no_turn (expression_of c.text) f c.old.depot name err ran.1.0
-  refused_run (DepotFailed key) (rose, inl unread) = no_turn (expression_of c.text) f c.old.depot unread.1.0 err unread.1.2
-  refused_run (DepotFailed key) (rose, inr (inl (spared, (job, accepted, first)))) = no_job job accepted
-  refused_run (DepotFailed key) (rose, inr (inr (job, started, unstored))) = no_job job started.accepted
-  refused_run (OverMemory node need allowed) (spared, (job, accepted, why)) = no_job job accepted
-  refused_run (OverLimit which count) (spared, (job, accepted, why)) = no_job job accepted
-  refused_run (Exists key) (spared, (job, accepted, why)) = no_job job accepted
-  refused_run Done (job, started, ran) = no_job job started.accepted
-  refused_run WriteFault (rose, (job, started, ran)) = no_job job started.accepted
-  refused_run (TaskFailed op task) (rose, (job, started, ran)) = no_job job started.accepted
-  refused_run (BadChunk key got want) (job, started, ran) = no_job job started.accepted
-  refused_run status ran = absurd ran
+  refused_run lack NoMemory ran = tt
+  refused_run lack (BadType code node) ran = not_both (expression_of c.text) ran.1.expr f ran.1.said err
+  refused_run lack (NoArray name) ran = no_turn (expression_of c.text) f c.old.depot name err ran.1.0
+  refused_run lack (BadMeta name code) ran = no_turn (expression_of c.text) f c.old.depot name err ran.1.0
+  refused_run lack (DepotFailed key) (rose, inl unread) = no_turn (expression_of c.text) f c.old.depot unread.1.0 err unread.1.2
+  refused_run lack (DepotFailed key) (rose, inr (inl (spared, (job, accepted, first)))) = no_job job accepted
+  refused_run lack (DepotFailed key) (rose, inr (inr (job, started, unstored))) = no_job job started.accepted
+  refused_run lack (OverMemory node need allowed) (spared, (job, accepted, why)) = no_job job accepted
+  refused_run lack (OverLimit which count) (spared, (job, accepted, why)) = no_job job accepted
+  refused_run lack (Exists key) (spared, (job, accepted, why)) = no_job job accepted
+  refused_run lack Done (job, started, ran) = no_job job started.accepted
+  refused_run lack WriteFault (rose, (job, started, ran)) = no_job job started.accepted
+  refused_run lack (TaskFailed op task) (rose, (job, started, ran)) = no_job job started.accepted
+  refused_run lack (BadChunk key got want) (job, started, ran) = no_job job started.accepted
+  refused_run lack status ran = absurd ran
 
 -- so does the command
-pub refused_text : (options : Options) (old new : Scene) (left : List ℕ) (f : ExpressionFault) (status : Status) → old.source.told ≡ Some left → expression_of left ≡ Err f → RunTells options old new status
+pub refused_text : (lack : Bool) (options : Options) (old new : Scene) (left : List ℕ) (f : ExpressionFault) (status : Status) → old.source.told ≡ Some left → expression_of left ≡ Err f → RunTells lack options old new status
     → IsRefusedText f status
-refused_text options old new left f ReadFault told err tells = tt
-refused_text options old new left f NoMemory told err tells = tt
-refused_text options old new left f status told err (text, read, ran) =
+refused_text lack options old new left f ReadFault told err tells = tt
+refused_text lack options old new left f NoMemory told err tells = tt
+refused_text lack options old new left f status told err (text, read, ran) =
     refused_run (case options text old new) f
-    (same_expression left text new.source.told (subst (λ (o : Option (List ℕ)). ReadsAll o new.source.told text) told read) ∙ err) status ran
+    (same_expression left text new.source.told (subst (λ (o : Option (List ℕ)). ReadsAll o new.source.told text) told read) ∙ err) lack status ran

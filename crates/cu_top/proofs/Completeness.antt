@@ -128,39 +128,39 @@ module _ (c : RunCase) (entry : Contents) (told : c.old.depot.held ≡ Some entr
               not_made k key (record { within = within; made = λ none. none_or_some (maker_at (plan_in c job).arrays k.array) n none made; coordinate = coordinate }) is_key of_input
 
   module _ (rest : (job : Job) → IsJob c.old.depot c.text job → IsAtRest c.options job entry c.old.depot) where
-    served_run : (status : Status) → Ran c status → IsServed status
-    served_run Done ran = tt
-    served_run NoMemory ran = tt
-    served_run WriteFault ran = none_rose 1 c.old.sink.faults c.new.sink.faults (omega arith) sink ran.0
-    served_run (DepotFailed key) ran = none_rose (c.options.retries + 1) c.old.depot.faults c.new.depot.faults (omega arith) depot ran.0
-    served_run (TaskFailed op task) ran = none_rose (c.options.retries + 1) c.old.depot.faults c.new.depot.faults (omega arith) depot ran.0
-    served_run (BadExpr code node) ran = let e = no_fault (fault.Expression code node) ran in cc
-    served_run (BadType code node) ran = let e = no_fault (fault.Typing code node) ran in cc
-    served_run (BadMeta name code) ran = let e = no_fault (fault.BadMeta name code) ran in cc
-    served_run (NoArray name) ran = let e = no_fault (fault.NoArray name) ran in cc
-    served_run (OverMemory node need allowed) (spared, (job, accepted, why)) = none_or_some _ _ (rest job accepted).planned why
-    served_run (OverLimit which count) (spared, (job, accepted, why)) = none_or_some _ _ (rest job accepted).planned why
-    served_run (Exists key) (spared, (job, accepted, (planned, (first, way, own)))) = not_in_way job (rest job accepted) key spared first.0 way
-    served_run (BadChunk key got want) (job, started, (bad, texts, input)) =
+    served_run : (lack : Bool) (status : Status) → Ran lack c status → IsServed status
+    served_run lack Done ran = tt
+    served_run lack NoMemory ran = tt
+    served_run lack WriteFault ran = none_rose 1 c.old.sink.faults c.new.sink.faults (omega arith) sink ran.0
+    served_run lack (DepotFailed key) ran = none_rose (c.options.retries + 1) c.old.depot.faults c.new.depot.faults (omega arith) depot ran.0
+    served_run lack (TaskFailed op task) ran = none_rose (c.options.retries + 1) c.old.depot.faults c.new.depot.faults (omega arith) depot ran.0
+    served_run lack (BadExpr code node) ran = let e = no_fault (fault.Expression code node) ran in cc
+    served_run lack (BadType code node) ran = let e = no_fault (fault.Typing code node) ran in cc
+    served_run lack (BadMeta name code) ran = let e = no_fault (fault.BadMeta name code) ran in cc
+    served_run lack (NoArray name) ran = let e = no_fault (fault.NoArray name) ran in cc
+    served_run lack (OverMemory node need allowed) (spared, (job, accepted, why)) = none_or_some _ _ (rest job accepted).planned why
+    served_run lack (OverLimit which count) (spared, (job, accepted, why)) = none_or_some _ _ (rest job accepted).planned why
+    served_run lack (Exists key) (spared, (job, accepted, (planned, (first, way, own)))) = not_in_way job (rest job accepted) key spared first.0 way
+    served_run lack (BadChunk key got want) (job, started, (bad, texts, input)) =
         let at_rest = rest job started.accepted in
         not_bad job at_rest started key got want bad (input entry told (started.opens entry told (calm job at_rest started)))
-    served_run status ran = absurd ran
+    served_run lack status ran = absurd ran
 
 -- ---- the call
 
 module _ (words : List (List ℕ)) (left : List ℕ) (entry : Contents) (old new : Scene) (told_left : old.source.told ≡ Some left) (told : old.depot.held ≡ Some entry)
     (premise : IsServable words left entry old.depot) (source : StoodStill old.source.faults new.source.faults) (sink : StoodStill old.sink.faults new.sink.faults)
     (depot : StoodStill old.depot.faults new.depot.faults) where
-  came : (status : Status) → CameToRun premise.options old new (λ c. Ran c status) → IsServed status
-  came status (text, read, ran) =
+  came : (lack : Bool) (status : Status) → CameToRun premise.options old new (λ c. Ran lack c status) → IsServed status
+  came lack status (text, read, ran) =
       let same : text ≡ left = same_text left text new.source.told premise.typable.expr (subst (λ (t : Option (List ℕ)). ReadsAll t new.source.told text) told_left read) premise.typable.said in
-      served_run (case premise.options left old new) entry told premise.typable depot sink premise.rest status (subst (λ (t : List ℕ). Ran (case premise.options t old new) status) same ran)
+      served_run (case premise.options left old new) entry told premise.typable depot sink premise.rest lack status (subst (λ (t : List ℕ). Ran lack (case premise.options t old new) status) same ran)
 
-  run_served : (status : Status) → RunTells premise.options old new status → IsServed status
-  run_served ReadFault tells = none_rose 1 old.source.faults new.source.faults (omega arith) source tells.0
-  run_served NoMemory tells = tt
-  run_served status tells = came status tells
+  run_served : (lack : Bool) (status : Status) → RunTells lack premise.options old new status → IsServed status
+  run_served lack ReadFault tells = none_rose 1 old.source.faults new.source.faults (omega arith) source tells.0
+  run_served lack NoMemory tells = tt
+  run_served lack status tells = came lack status tells
 
   -- Where all is accepted, nothing is in the way and no count of faults rises, the run is carried out, or memory is wanted.
-  pub served : (status : Status) → ((options : Options) → command_of words ≡ Ok (run options) → RunTells options old new status) → IsServed status
-  served status tells = run_served status (tells premise.options premise.words_give)
+  pub served : (lack : Bool) (status : Status) → ((options : Options) → command_of words ≡ Ok (run options) → RunTells lack options old new status) → IsServed status
+  served lack status tells = run_served lack status (tells premise.options premise.words_give)

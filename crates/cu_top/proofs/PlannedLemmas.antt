@@ -1,5 +1,5 @@
 -- What the command `plan` answers, and what a run answers before it asks for its keys.
-use Rattle.std.proofs.Common.{◌≡◌, inl, ℕ, ◌+◌, ◌≤◌, List, length, Option, Some, None, Ok, Err, ◌∙◌, subst, arith}
+use Rattle.std.proofs.Common.{Bool, false, ◌≡◌, inl, ℕ, ◌+◌, ◌≤◌, List, length, Option, Some, None, Ok, Err, ◌∙◌, subst, arith}
 use Rattle.cu_read.specs.Read.{expression_of}
 use Rattle.cu_read.specs.declared.faults.ReadFault.{ReadFault as ExpressionFault}
 use Rattle.cu_store.specs.Faults.{Rose}
@@ -43,16 +43,16 @@ plan_refused c job (refused.OverLimit which count) spared accepted why = (spared
 plan_refused c job refused.NoMemory spared accepted why = spared
 
 -- a run is refused so too
-pub refused_ran : (c : RunCase) (status : Status) → IsPlanRefused c status → Ran c status
-refused_ran c (BadExpr code node) why = why
-refused_ran c (DepotFailed key) why = (why.1.3, inl why)
-refused_ran c (NoArray name) why = why
-refused_ran c (BadMeta name code) why = why
-refused_ran c (BadType code node) why = why
-refused_ran c (OverMemory node need allowed) why = why
-refused_ran c (OverLimit which count) why = why
-refused_ran c NoMemory why = inl why
-refused_ran c status why = absurd why
+pub refused_ran : (lack : Bool) (c : RunCase) (status : Status) → IsPlanRefused c status → Ran lack c status
+refused_ran lack c (BadExpr code node) why = why
+refused_ran lack c (DepotFailed key) why = (why.1.3, inl why)
+refused_ran lack c (NoArray name) why = why
+refused_ran lack c (BadMeta name code) why = why
+refused_ran lack c (BadType code node) why = why
+refused_ran lack c (OverMemory node need allowed) why = why
+refused_ran lack c (OverLimit which count) why = why
+refused_ran lack c NoMemory why = inl why
+refused_ran lack c status why = absurd why
 
 -- what wasn't planned is answered so
 pub refused_plans : (c : RunCase) (status : Status) → IsPlanRefused c status → Plans c status
@@ -106,7 +106,7 @@ module _ (c : RunCase) (f : ExpressionFault) (err : expression_of c.text ≡ Err
   plans_refused : (status : Status) → Plans c status → IsRefusedText f status
   plans_refused Done (spared, (job, accepted, planned)) = no_expression job accepted
   plans_refused WriteFault (rose, (spared, (job, accepted, planned))) = no_expression job accepted
-  plans_refused status why = refused_run c f err status (refused_ran c status why)
+  plans_refused status why = refused_run c f err false status (refused_ran false c status why)
 
 -- it is refused, or memory was wanted
 pub plan_refused_text : (options : Options) (old new : Scene) (left : List ℕ) (f : ExpressionFault) (status : Status) → old.source.told ≡ Some left → expression_of left ≡ Err f → PlanTells options old new status

@@ -1,5 +1,5 @@
 -- What the call answers to the command `run`, from the text on. This project's own rules.
-use Rattle.std.specs.Prelude.{◌≡◌, ◌⊎◌, ℕ, List, true, Result, Ok, Err}
+use Rattle.std.specs.Prelude.{◌≡◌, ◌⊎◌, Bool, ℕ, List, true, Result, Ok, Err}
 use Rattle.cu_name.specs.Name.{is_name}
 use Rattle.cu_words.specs.declared.line.LineFault.{LineFault}
 use Rattle.cu_words.specs.declared.line.LineFault.TheVariants.{Refused, NoMemory as Wanting}
@@ -69,15 +69,15 @@ CameToRun options old new fact = (text : List ℕ) × ReadsAll old.source.told n
 abbrev pub IsReadFault : Scene → Scene → Type 0
 IsReadFault old new = Rose 1 old.source.faults new.source.faults × AreSpared old new
 
--- 70: nothing was stored, or the run was started
-abbrev pub IsShort : Options → Scene → Scene → Type 0
-IsShort options old new = AreSpared old new ⊎ CameToRun options old new IsWanting
+-- 70: nothing was stored; or the run was started, and no chunk was put unless the depot's yards lack memory
+abbrev pub IsShort : Bool → Options → Scene → Scene → Type 0
+IsShort lack options old new = AreSpared old new ⊎ CameToRun options old new (IsWanting lack)
 
--- what the command `run` answers
-abbrev pub RunTells : Options → Scene → Scene → Status → Type 0
-RunTells options old new ReadFault = IsReadFault old new
-RunTells options old new NoMemory = IsShort options old new
-RunTells options old new status = CameToRun options old new (λ c. Ran c status)
+-- what the command `run` answers, of a depot whose yards lack memory or don't
+abbrev pub RunTells : Bool → Options → Scene → Scene → Status → Type 0
+RunTells lack options old new ReadFault = IsReadFault old new
+RunTells lack options old new NoMemory = IsShort lack options old new
+RunTells lack options old new status = CameToRun options old new (λ c. Ran lack c status)
 
 -- 3 with this fault, unless the text wasn't read or memory was wanted
 abbrev pub IsRefusedText : ExpressionFault → Status → Type 0

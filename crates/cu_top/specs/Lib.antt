@@ -3,6 +3,7 @@ pub mod Call
 pub mod Complete
 pub mod Planned
 pub mod Prepare
+pub mod Quiet
 pub mod Record
 pub mod Report
 pub mod Run

@@ -4,8 +4,9 @@ use Rattle.std.specs.Fmt.{decimal}
 use Rattle.cu_op.specs.PlanView.{PlanView}
 use Rattle.cu_work.specs.Drive.{task_count}
 use Rattle.cu_plan.specs.Text.{peak_of}
+use Rattle.cu_top.specs.declared.report.RunCounts.{RunCounts}
 
--- `ok ops=N tasks=T starts=S failed=F peak=P`, with a line feed: a task that failed is started once more
-unfoldable pub report_line : PlanView → ℕ → List ℕ
-report_line p failed = codes "ok ops=" ++ decimal (length p.ops) ++ codes " tasks=" ++ decimal (task_count p) ++ codes " starts=" ++ decimal (task_count p + failed)
-    ++ codes " failed=" ++ decimal failed ++ codes " peak=" ++ decimal (peak_of p) ++ 10 ∷ []
+-- `ok ops=N tasks=T starts=S failed=F peak=P`, with a line feed
+unfoldable pub report_line : PlanView → RunCounts → List ℕ
+report_line p n = codes "ok ops=" ++ decimal (length p.ops) ++ codes " tasks=" ++ decimal (task_count p) ++ codes " starts=" ++ decimal n.starts
+    ++ codes " failed=" ++ decimal n.failures ++ codes " peak=" ++ decimal (peak_of p) ++ 10 ∷ []

@@ -1,5 +1,5 @@
 -- What a run answers, and what it leaves. This project's own rules.
-use Rattle.std.specs.Prelude.{◌≡◌, ◌⊎◌, ℕ, ◌+◌, ◌*◌, ◌<◌, ◌≤◌, ℤ, pos, List, length, slice_get, All, Contains, Option, Some, None, Result, Ok, Err, unwrap_or}
+use Rattle.std.specs.Prelude.{◌≡◌, ◌⊎◌, Bool, false, IsTrue, ℕ, ◌+◌, ◌*◌, ◌<◌, ◌≤◌, ℤ, pos, List, [], length, slice_get, All, Contains, Option, Some, None, Result, Ok, Err, unwrap_or}
 use Rattle.cu_shape.specs.Index.{IsInside}
 use Rattle.cu_store.specs.Faults.{Rose}
 use Rattle.cu_store.specs.Held.{Contents}
@@ -22,16 +22,21 @@ use Rattle.cu_meaning.specs.Meaning.{meaning_of}
 use Rattle.cu_lower.specs.Inputs.{layout_named}
 use Rattle.cu_lower.specs.Premises.{expression_run as plan_run}
 use Rattle.cu_lower.specs.declared.options.Options.{Options}
-use Rattle.cu_state.specs.Pieces.{PlanRun, Text, chunks_alone, KeysApart, HoldsPiece, IsComplete}
-use Rattle.cu_state.specs.Left.{IsQuiet, IsLeft, RunChange, AreDone}
+use Rattle.cu_state.specs.Pieces.{PlanRun, Text, KeysApart, HoldsPiece, IsComplete}
+use Rattle.cu_state.specs.Left.{IsQuiet, IsLeft, RunChange}
+use Rattle.cu_history.specs.History.{is_start, is_done, is_failed, count_kind, count_of_task}
+use Rattle.cu_history.specs.declared.entry.Entry.{Entry}
+use Rattle.cu_table.specs.declared.state.Ending.TheVariants.{Broken}
+use Rattle.cu_table.specs.Machine.{Machine, AllDone}
+use Rattle.cu_table.specs.Step.{Settings, Replays}
 use Rattle.cu_work.specs.Drive.{task_count, IsBadChunk, IsInputKey}
 use Rattle.cu_work.specs.Order.{IsFree}
 use Rattle.cu_work.specs.Run.{HoldsTexts}
-use Rattle.cu_work.specs.Tasks.{IsUsedUp}
-use Rattle.cu_work.specs.declared.round.RoundOutcome.{RoundOutcome}
-use Rattle.cu_work.specs.declared.round.RoundOutcome.TheVariants as ended
-use Rattle.cu_work.specs.declared.run.TextFault.{TextFault}
-use Rattle.cu_work.specs.declared.run.TextFault.TheVariants as text
+use Rattle.cu_work.specs.Shared.{none_done, HoldsDone}
+use Rattle.cu_work.specs.declared.outcome.Outcome.{Outcome}
+use Rattle.cu_work.specs.declared.outcome.Outcome.TheVariants as ended
+use Rattle.cu_work.specs.declared.run.RunFault.{RunFault}
+use Rattle.cu_work.specs.declared.run.RunFault.TheVariants as text
 use Rattle.cu_command.specs.Job.{IsJob, IsJobFault}
 use Rattle.cu_command.specs.Seen.{Stream, Stepped}
 use Rattle.cu_command.specs.Streams.{WroteFront}
@@ -43,7 +48,9 @@ use Rattle.cu_command.specs.declared.status.Status.TheVariants.{Done, BadExpr, B
 use Rattle.cu_top.specs.Ask.{IsFirstOf, IsInWay, IsOwnFirst}
 use Rattle.cu_top.specs.Prepare.{job_plan, keys_of, out_layout, out_metadata, HasPlan, IsUnplanned, HasNoOwnInput, IsLentWithin}
 use Rattle.cu_top.specs.Record.{record_text}
+use Rattle.cu_top.specs.Quiet.{run_of_job}
 use Rattle.cu_top.specs.Report.{report_line}
+use Rattle.cu_top.specs.declared.report.RunCounts.{RunCounts}
 
 -- what is seen of the outside at one moment: the source, the sink and the depot
 pub record Scene : Type 0 where
@@ -71,7 +78,7 @@ plan_in c job = job_plan c.options job
 
 -- the plan and its two texts, the record and the output's metadata
 abbrev pub job_run : RunCase → Job → PlanRun
-job_run c job = plan_run job.expr (plan_in c job) (record_text c.options job) (out_metadata job)
+job_run c job = run_of_job c.options job
 
 -- the elements of the inputs, by what the depot held when the run began
 abbrev pub env_of : RunCase → Job → Contents → Elements
@@ -165,10 +172,32 @@ abbrev pub HoldsAll : RunCase → Job → Type 0
 HoldsAll c job = WhereLeft c job (λ env. IsComplete (job_run c job) env c.new.depot)
     × ((entry now : Contents) → c.old.depot.held ≡ Some entry → IsLeft (job_run c job) (env_of c job entry) c.old.depot → c.new.depot.held ≡ Some now → IsMeant job entry now)
 
--- So many tries of tasks failed, each of which raised the count of the depot's faults; a task that was finished had at most as many of them as
--- it is tried again. With a fact of the line that reports them.
+-- ---- the history
+
+-- what the tasks go by: the plan, how often each is tried again, and no second copies
+abbrev pub settings_of : RunCase → Job → Settings
+settings_of c job = record { plan = plan_in c job; retries = c.options.retries; backups = false }
+
+-- One worker ran tasks: from none that was done, by a legal history, to a state in which no copy runs. The count of the depot's faults rose by
+-- each failure of the history at least.
+pub record IsHistory (c : RunCase) (job : Job) (history : List Entry) (m : Machine) : Type 0 where
+  pub legal : Replays (settings_of c job) (none_done (plan_in c job)) history m
+  pub resting : m.copies ≡ []
+  pub rose : Rose (count_kind is_failed history) c.old.depot.faults c.new.depot.faults
+
+-- such a history and the state that it left, with a fact of both
+abbrev pub WasRun : RunCase → Job → (List Entry → Machine → Type 0) → Type 0
+WasRun c job fact = (history : List Entry) × (m : Machine) × IsHistory c job history m × fact history m
+
+-- All tasks are done: these are how often one was started and how often one failed. Each was started once, and once more for each failure,
+-- and failed at most as often as it is tried again.
+abbrev pub IsCounted : RunCase → Job → RunCounts → Type 0
+IsCounted c job n = WasRun c job (λ history m. AllDone (plan_in c job) m × (n.starts ≡ count_kind is_start history) × (n.failures ≡ count_kind is_failed history))
+    × (n.starts ≡ task_count (plan_in c job) + n.failures) × (n.failures ≤ c.options.retries * task_count (plan_in c job))
+
+-- the same, with a fact of the line that reports it
 abbrev pub Counted : RunCase → Job → (List ℕ → Type 0) → Type 0
-Counted c job fact = (failed : ℕ) × Rose failed c.old.depot.faults c.new.depot.faults × (failed ≤ c.options.retries * task_count (plan_in c job)) × fact (report_line (plan_in c job) failed)
+Counted c job fact = (n : RunCounts) × IsCounted c job n × fact (report_line (plan_in c job) n)
 
 -- the first n bytes of the line were written
 abbrev pub WroteTo : RunCase → List ℕ → ℕ → Type 0
@@ -189,30 +218,31 @@ IsUnreported c = Rose 1 c.old.sink.faults c.new.sink.faults
 abbrev pub TextPut : RunCase → Job → Changes
 TextPut c job key value = RecordPut c job key value ⊎ PutOf (metadata_key_of job.expr.store_as) (out_metadata job) key value
 
--- From a moment at which nothing but the texts had been put, the tasks before this one alone were run, and then this one alone, until each
--- of its tries had failed.
-abbrev pub HasNoTriesLeft : RunCase → Job → ℕ → ℕ → Type 0
-HasNoTriesLeft c job op task = (begin : Shown) × Stepped (TextPut c job) c.old.depot begin × IsUsedUp (plan_in c job) (c.options.retries + 1) begin c.new.depot op task
+-- The task ended the run: it failed once and again as often as it is tried again, and is not done. Where the contents were told and the premise
+-- holds, each chunk of a task that is done is held.
+abbrev pub HasBroken : RunCase → Job → ℕ → ℕ → List Entry → Machine → Type 0
+HasBroken c job op task history m = (m.ended ≡ Some (Broken op task)) × (count_of_task is_failed op task history ≡ c.options.retries + 1) × (count_of_task is_done op task history ≡ 0)
+    × WhereLeft c job (λ env. HoldsDone (job_run c job) env m c.new.depot)
 
--- 10: all tries of this task of this operation failed, and its chunks were absent when the run began. Where the contents were told and the
--- premise holds, the texts are held, and the tasks before it are done.
+-- 10: this task of this operation ended the run, and its chunks were absent when the run began. Where the contents were told and the
+-- premise holds, the texts are held.
 abbrev pub IsTaskFailed : RunCase → ℕ → ℕ → Type 0
 IsTaskFailed c op task = Rose (c.options.retries + 1) c.old.depot.faults c.new.depot.faults
     × Started c (λ job. (op < length (plan_in c job).ops) × (task < tasks_of (plan_in c job).arrays (op_of (plan_in c job) op))
     × ((entry : Contents) (k : Cell) → c.old.depot.held ≡ Some entry → Contains (written_chunks (plan_in c job).arrays (op_of (plan_in c job) op) task) k
     → entry (key_of (plan_in c job).arrays k) ≡ None)
-    × HoldsBoth c job × WhereLeft c job (λ env. AreDone (chunks_alone (plan_in c job)) env op task c.new.depot) × HasNoTriesLeft c job op task)
+    × HoldsBoth c job × WasRun c job (HasBroken c job op task))
 
 -- 13: this chunk, which a task reads, holds `got` bytes and not the `want` bytes of a chunk. Where the contents were told and the premise
 -- holds, it is an input's, and the texts are held.
 abbrev pub IsBadInput : RunCase → List ℕ → ℕ → ℕ → Type 0
 IsBadInput c key got want = Started c (λ job. IsBadChunk (plan_in c job) c.new.depot key got want × HoldsBoth c job × WhereLeft c job (λ env. IsInputKey (plan_in c job) key))
 
--- The calls for the record failed, and nothing but it was put; or those for the output's metadata, the record is held, and nothing but both
--- was put.
+-- Nothing but the texts was put. The calls for the record failed, and nothing but it was put; or those to share the keys did, which the record's
+-- key stands for, and both texts are held; or those for the output's metadata did, and the record is held.
 abbrev pub IsTextFailed : RunCase → Job → List ℕ → Type 0
 IsTextFailed c job key = ((key ≡ record_key_of job.expr.store_as) ⊎ (key ≡ metadata_key_of job.expr.store_as)) × Stepped (TextPut c job) c.old.depot c.new.depot
-    × WhereLeft c job (λ env. ((key ≡ record_key_of job.expr.store_as) × Stepped (RecordPut c job) c.old.depot c.new.depot)
+    × WhereLeft c job (λ env. ((key ≡ record_key_of job.expr.store_as) × (Stepped (RecordPut c job) c.old.depot c.new.depot ⊎ HoldsTexts (job_run c job) env c.new.depot))
     ⊎ ((key ≡ metadata_key_of job.expr.store_as) × HoldsPiece (job_run c job) env (Text 0) c.new.depot))
 
 -- reading the text, the inputs and the types ended so, and nothing was stored
@@ -247,9 +277,9 @@ HasNoPlan c status = IsSpared c × OfJob c (λ job. IsUnplanned c.options job st
 abbrev pub IsBlocked : RunCase → List ℕ → Type 0
 IsBlocked c key = IsSpared c × OfPlanned c (λ job. IsFirstOf c.old.depot (keys_of c.options job) key × IsInWay job.expr c.new.depot key × IsOwnFirst job.expr key)
 
--- 70: nothing was stored, or the run was started
-abbrev pub IsWanting : RunCase → Type 0
-IsWanting c = IsSpared c ⊎ Started c (λ job. Unit {0})
+-- 70: nothing was stored; or the run was started, and no chunk was put unless the depot's yards lack memory
+abbrev pub IsWanting : Bool → RunCase → Type 0
+IsWanting lack c = IsSpared c ⊎ Started c (λ job. Stepped (TextPut c job) c.old.depot c.new.depot ⊎ IsTrue lack)
 
 -- 3 to 8: the text, the metadata of an input, the types or the plan was refused, and nothing was stored
 abbrev pub WasRefused : RunCase → Status → Type 0
@@ -261,16 +291,16 @@ WasRefused c (BadMeta name code) = IsRefused c name code
 WasRefused c (NoArray name) = IsMissing c name
 WasRefused c status = ⊥
 
--- what a run answers
-abbrev pub Ran : RunCase → Status → Type 0
-Ran c Done = IsDone c
-Ran c WriteFault = IsUnreported c
-Ran c (TaskFailed op task) = IsTaskFailed c op task
-Ran c (BadChunk key got want) = IsBadInput c key got want
-Ran c (DepotFailed key) = IsDepotFailed c key
-Ran c (Exists key) = IsBlocked c key
-Ran c NoMemory = IsWanting c
-Ran c status = WasRefused c status
+-- what a run answers, of a depot whose yards lack memory or don't
+abbrev pub Ran : Bool → RunCase → Status → Type 0
+Ran lack c Done = IsDone c
+Ran lack c WriteFault = IsUnreported c
+Ran lack c (TaskFailed op task) = IsTaskFailed c op task
+Ran lack c (BadChunk key got want) = IsBadInput c key got want
+Ran lack c (DepotFailed key) = IsDepotFailed c key
+Ran lack c (Exists key) = IsBlocked c key
+Ran lack c NoMemory = IsWanting lack c
+Ran lack c status = WasRefused c status
 
 -- nothing was printed but by the report
 abbrev pub PrintsOnly : Status → Option (List ℕ) → Option (List ℕ) → Type 0
@@ -289,16 +319,17 @@ pub record IsCleared (options : Options) (text : List ℕ) (old start : Shown) (
   pub free : (entry : Contents) → old.held ≡ Some entry → All (IsFree entry) (keys_of options job)
   pub spared : Stepped NoChange old start
 
--- how many tries failed, where all tasks were run; else what the run answers
-abbrev pub failed_of : Result RoundOutcome TextFault → Result ℕ Status
-failed_of (Ok (ended.Complete failed)) = Ok failed
-failed_of (Ok (ended.Broken op task)) = Err (TaskFailed op task)
-failed_of (Ok (ended.BadChunk key got want)) = Err (BadChunk key got want)
-failed_of (Ok ended.Lacked) = Err NoMemory
-failed_of (Err (text.Failed key)) = Err (DepotFailed key)
-failed_of (Err text.NoMemory) = Err NoMemory
+-- the counts, where all tasks are done; else what the run answers, where the record has this key
+abbrev pub answer_to : Result Outcome RunFault → List ℕ → RunCounts → Result RunCounts Status
+answer_to (Ok ended.Complete) of_record counts = Ok counts
+answer_to (Ok (ended.Broken op task)) of_record counts = Err (TaskFailed op task)
+answer_to (Ok (ended.BadChunk key got want)) of_record counts = Err (BadChunk key got want)
+answer_to (Ok ended.Lacked) of_record counts = Err NoMemory
+answer_to (Err (text.TextFailed key)) of_record counts = Err (DepotFailed key)
+answer_to (Err text.ShareFailed) of_record counts = Err (DepotFailed of_record)
+answer_to (Err text.NoMemory) of_record counts = Err NoMemory
 
--- what storing comes to: how many tries failed in a run whose output is complete, or what the run answers
-abbrev pub Ended : RunCase → Job → Result ℕ Status → Type 0
-Ended c job (Ok failed) = IsStarted c job × HoldsAll c job × Rose failed c.old.depot.faults c.new.depot.faults × (failed ≤ c.options.retries * task_count (plan_in c job))
-Ended c job (Err status) = Ran c status
+-- what storing comes to: the counts of a run whose output is complete, or what the run answers
+abbrev pub Ended : Bool → RunCase → Job → Result RunCounts Status → Type 0
+Ended lack c job (Ok n) = IsStarted c job × HoldsAll c job × IsCounted c job n
+Ended lack c job (Err status) = Ran lack c status

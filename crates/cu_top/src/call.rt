@@ -1,5 +1,5 @@
 //! The program's one call.
-ghost use Rattle.std.specs.Prelude.{◌≡◌, ℕ, ◌^◌, ◌≤◌, ℤ, List, Some, Ok, Err, map, string_bytes};
+ghost use Rattle.std.specs.Prelude.{◌≡◌, ℕ, ◌^◌, ◌≤◌, ℤ, List, Option, Some, Ok, Err, map, string_bytes};
 ghost use Rattle.cu_read.specs.Read.{expression_of};
 ghost use Rattle.cu_read.specs.declared.faults.ReadFault.{ReadFault as ExpressionFault};
 ghost use Rattle.cu_check.specs.Check.{Checked, IsFoundEqual, IsUnequal, ReadsText};
@@ -7,12 +7,14 @@ ghost use Rattle.cu_store.specs.Held.{Contents};
 ghost use Rattle.cu_command.specs.Job.{StoodStill};
 ghost use Rattle.cu_store.specs.Steps.{NoChange};
 ghost use Rattle.cu_command.specs.Seen.{Stepped, stream, seen};
+ghost use Rattle.cu_command.specs.Streams.{ReadsAll};
 ghost use Rattle.cu_load.specs.Load.{Loaded};
 ghost use Rattle.cu_lower.specs.declared.options.Options.{Options};
 ghost use Rattle.cu_print.specs.Print.{Printed};
 ghost use Rattle.cu_top.specs.Call.{CameToRun, DidNothing, IsReadFault, IsShort, IsRefusedText, IsWordsRefused, RunTells};
 ghost use Rattle.cu_top.specs.Complete.{IsPlannable, IsServable, IsServed};
 ghost use Rattle.cu_top.specs.Planned.{IsPrinted, PlanTells};
+ghost use Rattle.cu_top.specs.Quiet.{IsCalm};
 ghost use Rattle.cu_top.specs.Run.{scene, IsDone, IsUnreported, IsTaskFailed, IsBadInput, IsDepotFailed, HasNoPlan, IsBlocked, IsMissing, IsRefused, IsBadExpr, IsBadType, PrintsOnly};
 ghost use Rattle.cu_top.specs.Words.{run, plan, load, check, print, command_of};
 ghost use Rattle.cu_top.specs.Words.{IsInRange};
@@ -26,19 +28,23 @@ use cu_load::load;
 use cu_lower::Options;
 use cu_name::key_of_name;
 use cu_print::print;
-use cu_store::{Depot, Sink, Source};
+use cu_store::{Depot, Share, Sink, Source};
 use std::alloc::Global;
 
 /// Carries out the command that the words give. `run` reads an expression from the source, stores the array that it makes in the depot,
 /// and writes the report to the sink. `plan` reads an expression and writes what its plan does; it stores nothing. `load` reads an array from the source and stores it. `check` reads an expression from the source and
 /// compares its stored output with what it means. `print` writes a stored array to the sink.
-pub fn top<R: Source, W: Sink, D: Depot>(
+pub fn top<R: Source, W: Sink, D: Share>(
     alloc: Global,
     words: &[String],
     src: &mut R,
     out: &mut W,
     depot: &mut D,
 ) -> Status
+    // Where the depot tells its contents, no put that is late when a run begins carries another value of its plan, or another content of an
+    // input.
+    requires quiet { (options : Options) (text : List ℕ) (next : Option (List ℕ)) → command_of (map string_bytes words.now) ≡ Ok (run options)
+        → ReadsAll (R.left src.old) next text → IsCalm options text (D.shown depot.old) }
     // The words that are refused, and by no other answer's cause; where the command is missing or unknown no memory is wanted.
     ensures unknown { command_of (map string_bytes words.now) ≡ Err 1 → result ≡ Status.BadWords 1 }
     ensures words { (code : ℕ) → command_of (map string_bytes words.now) ≡ Err code → IsWordsRefused code result × DidNothing (scene (stream (R.left src.old) (R.faults src.old)) (stream (W.written out.old) (W.faults out.old)) (D.shown depot.old))
@@ -87,10 +93,10 @@ pub fn top<R: Source, W: Sink, D: Depot>(
         → IsReadFault (scene (stream (R.left src.old) (R.faults src.old)) (stream (W.written out.old) (W.faults out.old)) (D.shown depot.old))
         (scene (stream (R.left src.new) (R.faults src.new)) (stream (W.written out.new) (W.faults out.new)) (D.shown depot.new)) }
     ensures no_memory { (options : Options) → command_of (map string_bytes words.now) ≡ Ok (run options) → result ≡ Status.NoMemory
-        → IsShort options (scene (stream (R.left src.old) (R.faults src.old)) (stream (W.written out.old) (W.faults out.old)) (D.shown depot.old))
+        → IsShort (D.yards_lack depot.new) options (scene (stream (R.left src.old) (R.faults src.old)) (stream (W.written out.old) (W.faults out.old)) (D.shown depot.old))
         (scene (stream (R.left src.new) (R.faults src.new)) (stream (W.written out.new) (W.faults out.new)) (D.shown depot.new)) }
     // No other answer comes, and the table of all of them.
-    ensures runs { (options : Options) → command_of (map string_bytes words.now) ≡ Ok (run options) → RunTells options (scene (stream (R.left src.old) (R.faults src.old)) (stream (W.written out.old) (W.faults out.old)) (D.shown depot.old))
+    ensures runs { (options : Options) → command_of (map string_bytes words.now) ≡ Ok (run options) → RunTells (D.yards_lack depot.new) options (scene (stream (R.left src.old) (R.faults src.old)) (stream (W.written out.old) (W.faults out.old)) (D.shown depot.old))
         (scene (stream (R.left src.new) (R.faults src.new)) (stream (W.written out.new) (W.faults out.new)) (D.shown depot.new)) result }
     ensures prints { (options : Options) → command_of (map string_bytes words.now) ≡ Ok (run options) → PrintsOnly result (W.written out.old) (W.written out.new) }
     // Where a run is accepted, nothing is in the way and no count of faults rises, it is carried out, or memory is wanted.
@@ -127,17 +133,19 @@ pub fn top<R: Source, W: Sink, D: Depot>(
 }
 
 /// Carries out the command.
-fn carry<R: Source, W: Sink, D: Depot>(
+fn carry<R: Source, W: Sink, D: Share>(
     alloc: Global,
     words: &[String],
     src: &mut R,
     out: &mut W,
     depot: &mut D,
 ) -> Status
+    requires quiet { (options : Options) (text : List ℕ) (next : Option (List ℕ)) → command_of (map string_bytes words.now) ≡ Ok (run options)
+        → ReadsAll (R.left src.old) next text → IsCalm options text (D.shown depot.old) }
     ensures unknown { command_of (map string_bytes words.now) ≡ Err 1 → result ≡ Status.BadWords 1 }
     ensures words { (code : ℕ) → command_of (map string_bytes words.now) ≡ Err code → IsWordsRefused code result × DidNothing (scene (stream (R.left src.old) (R.faults src.old)) (stream (W.written out.old) (W.faults out.old)) (D.shown depot.old))
         (scene (stream (R.left src.new) (R.faults src.new)) (stream (W.written out.new) (W.faults out.new)) (D.shown depot.new)) }
-    ensures runs { (options : Options) → command_of (map string_bytes words.now) ≡ Ok (run options) → RunTells options (scene (stream (R.left src.old) (R.faults src.old)) (stream (W.written out.old) (W.faults out.old)) (D.shown depot.old))
+    ensures runs { (options : Options) → command_of (map string_bytes words.now) ≡ Ok (run options) → RunTells (D.yards_lack depot.new) options (scene (stream (R.left src.old) (R.faults src.old)) (stream (W.written out.old) (W.faults out.old)) (D.shown depot.old))
         (scene (stream (R.left src.new) (R.faults src.new)) (stream (W.written out.new) (W.faults out.new)) (D.shown depot.new)) result }
     ensures prints { (options : Options) → command_of (map string_bytes words.now) ≡ Ok (run options) → PrintsOnly result (W.written out.old) (W.written out.new) }
     ensures plans { (options : Options) → command_of (map string_bytes words.now) ≡ Ok (plan options) → PlanTells options (scene (stream (R.left src.old) (R.faults src.old)) (stream (W.written out.old) (W.faults out.old)) (D.shown depot.old))
@@ -166,7 +174,7 @@ fn carry<R: Source, W: Sink, D: Depot>(
 }
 
 /// Computes the expression that the source has.
-fn run_command<R: Source, W: Sink, D: Depot>(
+fn run_command<R: Source, W: Sink, D: Share>(
     alloc: Global,
     options: &Options,
     src: &mut R,
@@ -174,7 +182,8 @@ fn run_command<R: Source, W: Sink, D: Depot>(
     depot: &mut D,
 ) -> Status
     requires options { IsInRange options.now }
-    ensures answer { RunTells options.now (scene (stream (R.left src.old) (R.faults src.old)) (stream (W.written out.old) (W.faults out.old)) (D.shown depot.old))
+    requires quiet { (text : List ℕ) (next : Option (List ℕ)) → ReadsAll (R.left src.old) next text → IsCalm options.now text (D.shown depot.old) }
+    ensures answer { RunTells (D.yards_lack depot.new) options.now (scene (stream (R.left src.old) (R.faults src.old)) (stream (W.written out.old) (W.faults out.old)) (D.shown depot.old))
         (scene (stream (R.left src.new) (R.faults src.new)) (stream (W.written out.new) (W.faults out.new)) (D.shown depot.new)) result }
     ensures prints { PrintsOnly result (W.written out.old) (W.written out.new) }
 {

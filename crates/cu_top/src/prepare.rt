@@ -1,5 +1,5 @@
 //! What is checked before anything is stored: the text, the inputs' metadata, the types, the plan, and the keys in the way.
-ghost use Rattle.std.specs.Prelude.{◌≡◌, IfErr, IfOk};
+ghost use Rattle.std.specs.Prelude.{◌≡◌, Bool, IfErr, IfOk};
 ghost use Rattle.cu_op.specs.Sound.{Sound};
 ghost use Rattle.cu_store.specs.Steps.{NoChange};
 ghost use Rattle.cu_command.specs.Job.{IsJob};
@@ -81,8 +81,8 @@ pub fn prepare<D: Depot>(
     ensures cleared { IfOk result (λ p. IsCleared options.now text.now (D.shown depot.old) (D.shown depot.new) p.job) }
     ensures plan { IfOk result (λ p. p.plan ≡ job_plan options.now p.job) }
     ensures sound { IfOk result (λ p. Sound p.plan) }
-    ensures refused { (source next sink after : Stream)
-        → IfErr result (Ran (case options.now text.now (scene source sink (D.shown depot.old)) (scene next after (D.shown depot.new)))) }
+    ensures refused { (source next sink after : Stream) (lack : Bool)
+        → IfErr result (Ran lack (case options.now text.now (scene source sink (D.shown depot.old)) (scene next after (D.shown depot.new)))) }
 {
     let prepared = match plan_job(alloc, options, text, depot) {
         Ok(prepared) => prepared,

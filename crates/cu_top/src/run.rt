@@ -1,26 +1,28 @@
 //! A run: what is stored, once the job was accepted and nothing is in the way.
-ghost use Rattle.std.specs.Prelude.{◌≡◌, ℕ, ◌^◌, ◌≤◌, List, IfOk, false};
+ghost use Rattle.std.specs.Prelude.{◌≡◌, ℕ, List, IfOk, false};
 ghost use Rattle.serde_json.specs.View.{view};
 ghost use Rattle.serde_json.specs.Written.{has_float};
 ghost use Rattle.cu_store.specs.Steps.{Shown};
 ghost use Rattle.cu_command.specs.Seen.{Stream, stream};
 ghost use Rattle.cu_top.specs.Prepare.{job_plan, out_metadata, HasPlan};
 ghost use Rattle.cu_top.specs.Record.{record_text};
-ghost use Rattle.cu_top.specs.Run.{scene, case, Ran, PrintsOnly, IsCleared, Ended, failed_of};
+ghost use Rattle.cu_top.specs.Quiet.{IsCalm};
+ghost use Rattle.cu_top.specs.Run.{scene, case, Ran, PrintsOnly, IsCleared, Ended, answer_to};
 ghost use Rattle.cu_top.specs.Words.{IsInRange};
 
 use crate::ask::text_keys;
 use crate::prepare::{Prepared, prepare};
 use crate::record::record_text;
-use crate::report::report;
+use crate::report::{RunCounts, counts_of, report};
 use cu_command::Status;
 use cu_lower::Options;
 use cu_meta::write_meta;
 use cu_plan::merged_plan_law;
 use cu_read::plain_law;
 use cu_state::{complete_law, left_law};
-use cu_store::{Depot, NoMemory, Sink};
-use cu_work::{Rooms, RoundOutcome, TextFault, Texts, run_plan};
+use cu_store::{Key, NoMemory, Share, Sink};
+use cu_table::{broken_law, count_law};
+use cu_work::{Outcome, RunFault, RunMemory, Texts, run_plan};
 use std::alloc::Global;
 
 /// The texts that a run stores in front of its chunks.
@@ -49,49 +51,55 @@ fn make_texts(alloc: Global, options: &Options, prepared: &Prepared) -> Result<B
     })
 }
 
-/// How many tries of tasks failed, where all tasks were run; else what the run answers.
-fn failed_of(ended: &Result<RoundOutcome, TextFault>) -> Result<u64, Status>
-    ensures { result ≡ failed_of ended.now }
+/// The counts, where all tasks are done; else what the run answers, where the record has this key.
+fn answer_to(
+    ended: &Result<Outcome, RunFault>,
+    of_record: &Key,
+    counts: RunCounts,
+) -> Result<RunCounts, Status>
+    ensures { result ≡ answer_to ended.now of_record.now counts }
 {
     match ended {
-        Ok(RoundOutcome::Complete { failed }) => Ok(*failed),
-        Ok(RoundOutcome::Broken { op, task }) => Err(Status::TaskFailed {
+        Ok(Outcome::Complete) => Ok(counts),
+        Ok(Outcome::Broken { op, task }) => Err(Status::TaskFailed {
             op: *op,
             task: *task,
         }),
-        Ok(RoundOutcome::BadChunk { key, got, want }) => Err(Status::BadChunk {
+        Ok(Outcome::BadChunk { key, got, want }) => Err(Status::BadChunk {
             key: *key,
             got: *got,
             want: *want,
         }),
-        Ok(RoundOutcome::Lacked) => Err(Status::NoMemory),
-        Err(TextFault::Failed(key)) => Err(Status::DepotFailed { key: *key }),
-        Err(TextFault::NoMemory) => Err(Status::NoMemory),
+        Ok(Outcome::Lacked) => Err(Status::NoMemory),
+        Err(RunFault::TextFailed(key)) => Err(Status::DepotFailed { key: *key }),
+        Err(RunFault::ShareFailed) => Err(Status::DepotFailed { key: *of_record }),
+        Err(RunFault::NoMemory) => Err(Status::NoMemory),
     }
 }
 
-/// Makes the texts, takes the memory of the tasks, and stores what the plan makes. Says how many tries of tasks failed.
-fn store_plan<D: Depot>(
+/// Makes the texts, takes the memory of the tasks, and stores what the plan makes. Says how often tasks were started and failed.
+fn store_plan<D: Share>(
     alloc: Global,
     options: &Options,
     prepared: &Prepared,
     depot: &mut D,
-) -> Result<u64, Status>
+) -> Result<RunCounts, Status>
     requires planned { HasPlan options.now prepared.now.job }
     requires plan { prepared.now.plan ≡ job_plan options.now prepared.now.job }
-    requires retries { options.now.retries ≤ 8 }
     requires plain { has_float (view prepared.now.job.value) ≡ false }
+    requires quiet { (text : List ℕ) × (old : Shown) × IsCleared options.now text old (D.shown depot.old) prepared.now.job × IsCalm options.now text old }
     ensures ended { (text : List ℕ) (old : Shown) (source next sink after : Stream) → IsCleared options.now text old (D.shown depot.old) prepared.now.job
-        → Ended (case options.now text (scene source sink old) (scene next after (D.shown depot.new))) prepared.now.job result }
-    ensures few { IfOk result (λ failed. failed ≤ 2 ^ 20) }
+        → Ended (D.yards_lack depot.new) (case options.now text (scene source sink old) (scene next after (D.shown depot.new))) prepared.now.job result }
 {
     left_law();
     complete_law();
     merged_plan_law();
+    count_law();
+    broken_law();
     let Ok(texts) = make_texts(alloc, options, prepared) else {
         return Err(Status::NoMemory);
     };
-    let Ok(mut rooms) = Rooms::make(alloc, &prepared.plan) else {
+    let Ok(mut memory) = RunMemory::make(alloc, &prepared.plan, options.retries) else {
         return Err(Status::NoMemory);
     };
     let keys = text_keys(&prepared.job.expr);
@@ -101,12 +109,19 @@ fn store_plan<D: Depot>(
         metadata_key: keys.metadata,
         metadata: &texts.array,
     };
-    let ended = run_plan(&prepared.plan, depot, &stored, &mut rooms, options.retries);
-    failed_of(&ended)
+    let ended = run_plan(
+        alloc,
+        &prepared.plan,
+        depot,
+        &stored,
+        &mut memory,
+        options.retries,
+    );
+    answer_to(&ended, &keys.record, counts_of(memory.table.history()))
 }
 
 /// Computes the expression of a text over the stored arrays, stores the array that it makes, and writes the report.
-pub fn run<W: Sink, D: Depot>(
+pub fn run<W: Sink, D: Share>(
     alloc: Global,
     options: &Options,
     text: &[u8],
@@ -114,7 +129,8 @@ pub fn run<W: Sink, D: Depot>(
     depot: &mut D,
 ) -> Status
     requires options { IsInRange options.now }
-    ensures answer { (source next : Stream) → Ran (case options.now text.now (scene source (stream (W.written out.old) (W.faults out.old)) (D.shown depot.old))
+    requires quiet { IsCalm options.now text.now (D.shown depot.old) }
+    ensures answer { (source next : Stream) → Ran (D.yards_lack depot.new) (case options.now text.now (scene source (stream (W.written out.old) (W.faults out.old)) (D.shown depot.old))
         (scene next (stream (W.written out.new) (W.faults out.new)) (D.shown depot.new))) result }
     ensures prints { PrintsOnly result (W.written out.old) (W.written out.new) }
 {
@@ -124,7 +140,7 @@ pub fn run<W: Sink, D: Depot>(
         Err(status) => return status,
     };
     match store_plan(alloc, options, &prepared, depot) {
-        Ok(failed) => match report(out, &prepared.plan, failed) {
+        Ok(counts) => match report(out, &prepared.plan, &counts) {
             Ok(()) => Status::Done,
             Err(_) => Status::WriteFault,
         },

@@ -17,7 +17,7 @@ use Rattle.cu_work.specs.declared.removal.RemoveFault.TheVariants.{Failed, NoMem
 use Rattle.cu_work.specs.Order.{task_keys, operation_keys, plan_keys}
 use Rattle.cu_work.specs.Removal.{RemovalIn, IsGoneBut, IsRemoveFault, AreRemoved, keys_before_record, removed_keys}
 use Rattle.cu_work.proofs.Asking.{operation_rest, plan_rest}
-use Rattle.cu_work.proofs.Ends.{Grows, all_calls, ends_one, ends_before, ends_behind}
+use Rattle.cu_work.proofs.EndedCalls.{Grows, all_calls, ends_one, ends_before, ends_behind}
 
 pub removal_grows : Grows RemovalIn
 removal_grows ks ls = ((λ key value change. (Contains-append_left ks ls key change.0, change.1)), (λ key value change. (Contains-append_right ks ls key change.0, change.1)))

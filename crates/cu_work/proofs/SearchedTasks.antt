@@ -21,7 +21,7 @@ use Rattle.cu_work.specs.Order.{IsHeldIn, task_keys, operation_keys, plan_keys}
 use Rattle.cu_work.specs.Search.{NamesTask, NamesStored, IsSearchFault, AreAsked, IsSearched}
 use Rattle.cu_work.specs.World.{IsStored, IsFound}
 use Rattle.cu_work.proofs.Asking.{operation_rest, plan_rest}
-use Rattle.cu_work.proofs.Ends.{over_both}
+use Rattle.cu_work.proofs.EndedCalls.{over_both}
 use Rattle.cu_work.proofs.Searching.{none_grows, none_fills, held_stays, told_then, told_first, stored_of, of_stored, search_before, search_behind}
 
 -- ---- tasks before another

@@ -19,7 +19,7 @@ use Rattle.cu_work.specs.Ends.{NoneOf}
 use Rattle.cu_work.specs.Order.{IsHeldIn, task_keys}
 use Rattle.cu_work.specs.Search.{IsSearchFault, AreAsked}
 use Rattle.cu_work.specs.World.{IsStored}
-use Rattle.cu_work.proofs.Ends.{Grows, over_both, ends_before, ends_behind, ends_calls}
+use Rattle.cu_work.proofs.EndedCalls.{Grows, over_both, ends_before, ends_behind, ends_calls}
 
 pub none_grows : Grows NoneOf
 none_grows ks ls = ((λ key value change. change), (λ key value change. change))

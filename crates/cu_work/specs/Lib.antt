@@ -2,10 +2,11 @@ pub mod Rooms
 pub mod Drive
 pub mod Order
 pub mod Run
-pub mod Tasks
 pub mod Alone
 pub mod World
 pub mod Ends
 pub mod Search
 pub mod Removal
 pub mod Commands
+pub mod Shared
+pub mod Workers

@@ -2,12 +2,14 @@
 use Rattle.std.specs.Prelude.{◌≡◌, ◌⊎◌, ℕ, ◌<◌, IsTrue, List, [], ◌∷◌, length}
 use Rattle.cu_store.specs.Faults.{Rose}
 use Rattle.cu_store.specs.Steps.{Shown, Changes, PutOf, Steps}
+use Rattle.cu_store.specs.declared.faults.DepotFault.{DepotFault}
+use Rattle.cu_store.specs.declared.faults.DepotFault.TheVariants as depot
 use Rattle.cu_op.specs.PlanView.{PlanView}
 use Rattle.cu_op.specs.Value.{Elements}
 use Rattle.cu_state.specs.Pieces.{PlanRun, Text, text_at, HoldsPiece}
 use Rattle.cu_work.specs.declared.run.Texts.{Texts}
-use Rattle.cu_work.specs.declared.run.TextFault.{TextFault}
-use Rattle.cu_work.specs.declared.run.TextFault.TheVariants.{Failed, NoMemory}
+use Rattle.cu_work.specs.declared.run.RunFault.{RunFault}
+use Rattle.cu_work.specs.declared.run.RunFault.TheVariants.{TextFailed, ShareFailed, NoMemory}
 
 -- the plan and its texts: the record, and then the metadata
 abbrev pub run_of : PlanView → Texts → PlanRun
@@ -21,23 +23,31 @@ PutOfText t key value = PutOf t.record_key t.record.now key value ⊎ PutOf t.me
 abbrev pub IsRecordFirst : PlanRun → Elements → ℕ → Shown → Shown → Type 0
 IsRecordFirst r env most old new = Steps (PutOf (text_at r 0).0 (text_at r 0).1) 0 most old new ⊎ HoldsPiece r env (Text 0) new
 
--- Where the calls for a text failed: for the record nothing else was put, and for the metadata the record is held. Where memory was
--- wanting either is so.
-abbrev pub IsUnstored : PlanRun → Elements → ℕ → Shown → Shown → TextFault → Type 0
-IsUnstored r env tries old new (Failed key) =
-    ((key ≡ (text_at r 0).0) × Steps (PutOf (text_at r 0).0 (text_at r 0).1) 0 tries old new) ⊎ ((key ≡ (text_at r 1).0) × HoldsPiece r env (Text 0) new)
-IsUnstored r env tries old new NoMemory = IsRecordFirst r env tries old new
-
 -- both texts are held
 abbrev pub HoldsTexts : PlanRun → Elements → Shown → Type 0
 HoldsTexts r env shown = (n : ℕ) → n < length r.texts → HoldsPiece r env (Text n) shown
 
--- why storing the texts ended: all calls for one of them failed, the count risen in each, or the store lacks memory
-abbrev pub IsTextFault : ℕ → Texts → Shown → Shown → TextFault → Type 0
-IsTextFault tries t old new (Failed key) = ((key ≡ t.record_key) ⊎ (key ≡ t.metadata_key)) × Rose tries old.faults new.faults
-IsTextFault tries t old new NoMemory = IsTrue new.lacks
+-- Where the calls for a text failed: for the record nothing else was put, and for the metadata the record is held. Where those to share
+-- failed both texts are held. Where memory was wanting nothing but the record was put, or it is held.
+abbrev pub IsUnstored : PlanRun → Elements → ℕ → Shown → Shown → RunFault → Type 0
+IsUnstored r env tries old new (TextFailed key) =
+    ((key ≡ (text_at r 0).0) × Steps (PutOf (text_at r 0).0 (text_at r 0).1) 0 tries old new) ⊎ ((key ≡ (text_at r 1).0) × HoldsPiece r env (Text 0) new)
+IsUnstored r env tries old new ShareFailed = HoldsTexts r env new
+IsUnstored r env tries old new NoMemory = IsRecordFirst r env tries old new
+
+-- why no task was run: all calls for one text or to share failed, the count risen in each, or the depot lacks memory
+abbrev pub IsRunFault : ℕ → Texts → Shown → Shown → RunFault → Type 0
+IsRunFault tries t old new (TextFailed key) = ((key ≡ t.record_key) ⊎ (key ≡ t.metadata_key)) × Rose tries old.faults new.faults
+IsRunFault tries t old new ShareFailed = Rose tries old.faults new.faults
+IsRunFault tries t old new NoMemory = IsTrue new.lacks
 
 -- the same of one text
-abbrev pub IsTextPutFault : ℕ → List ℕ → Shown → Shown → TextFault → Type 0
-IsTextPutFault tries key old new (Failed failed) = (failed ≡ key) × Rose tries old.faults new.faults
+abbrev pub IsTextPutFault : ℕ → List ℕ → Shown → Shown → RunFault → Type 0
+IsTextPutFault tries key old new (TextFailed failed) = (failed ≡ key) × Rose tries old.faults new.faults
+IsTextPutFault tries key old new ShareFailed = ⊥
 IsTextPutFault tries key old new NoMemory = IsTrue new.lacks
+
+-- why no task was run, where sharing ended so
+abbrev pub fault_of : DepotFault → RunFault
+fault_of depot.Failed = ShareFailed
+fault_of depot.NoMemory = NoMemory

@@ -16,7 +16,7 @@ use cu_table::{Claim, Table, alone_law, history_law};
 use cu_task::run_task;
 
 /// One try of a task, which is lent exactly its own memory of these bytes and words.
-fn try_in_yard<Y: Yard>(
+pub(crate) fn try_in_yard<Y: Yard>(
     plan: &Plan,
     yard: &Y,
     pass: &mut Y::Pass,
@@ -49,7 +49,7 @@ fn try_in_yard<Y: Yard>(
 }
 
 /// The outcome of a run that a fault ended. One of the store ends none.
-fn halt_outcome(fault: TaskFault) -> Outcome
+pub(crate) fn halt_outcome(fault: TaskFault) -> Outcome
     ensures { result ≡ halt_outcome fault }
 {
     match fault {

@@ -1,27 +1,37 @@
-//! Running the tasks of a plan: the keys in the way, the memory that tasks are lent, one worker by a task table over a yard, the
-//! round over all tasks over a depot, and the law of every schedule.
+//! Running the tasks of a plan: the keys in the way, the memory that a run takes, one worker by a task table over a yard that a depot
+//! shares, and the law of every schedule.
 #![tactic(auto)]
 
 mod alone;
 mod commands;
+mod counts;
+mod crew;
+mod ends;
 mod find;
+mod memory;
 mod outcome;
 mod removal;
 mod rooms;
-mod round;
 mod run;
-mod tasks;
+mod shared;
+mod turns;
 mod way;
+mod worker;
 mod world;
 
 pub use alone::drive_alone;
 pub use commands::{commands_law, resume_law};
+pub use counts::{failures, starts};
+pub use crew::{dismiss, hire};
+pub use ends::outcome_law;
 pub use find::{FindFault, find_done};
+pub use memory::RunMemory;
 pub use outcome::Outcome;
 pub use removal::{RemoveFault, remove_plan};
 pub use rooms::Rooms;
-pub use round::RoundOutcome;
-pub use run::{TextFault, Texts, run_plan};
-pub use tasks::run_tasks;
+pub use run::{RunFault, Texts, run_plan};
+pub use shared::run_tasks;
+pub use turns::drive;
 pub use way::{WayFault, ask_keys};
+pub use worker::Worker;
 pub use world::world_law;

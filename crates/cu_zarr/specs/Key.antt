@@ -29,3 +29,7 @@ chunk_key_of name encoding coord = name ++ codes "/" ++ coordinates encoding coo
 -- the key of the array's metadata
 abbrev pub metadata_key_of : List ℕ → List ℕ
 metadata_key_of name = name ++ codes "/zarr.json"
+
+-- the key of the metadata of an array of version 2
+abbrev pub zarray_key_of : List ℕ → List ℕ
+zarray_key_of name = name ++ codes "/.zarray"

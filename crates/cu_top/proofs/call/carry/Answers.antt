@@ -1,7 +1,10 @@
 use Rattle.cu_top.proofs.call.carry.Goals as goal
 
-pub run_command-requires : goal.run_command-requires
-run_command-requires g c = record { options = rw c.in-Run.is at c.in-Asked.ensures.answer.1 }
+pub run_command-requires-clause-options : goal.run_command-requires-clause-options
+run_command-requires-clause-options g c κs within = rw c.in-Run.is at c.in-Asked.ensures.answer.1
+
+pub run_command-requires-clause-quiet : goal.run_command-requires-clause-quiet
+run_command-requires-clause-quiet g c κs within = λ text next read. c.requires.quiet c.in-Run.options text next (rw c.in-Run.is at c.in-Asked.ensures.answer.0) read
 
 pub key_of_name-requires : goal.key_of_name-requires
 key_of_name-requires g c = rw c.in-Print.is at c.in-Asked.ensures.answer.1

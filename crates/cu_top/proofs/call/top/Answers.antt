@@ -8,14 +8,14 @@ use Rattle.cu_top.proofs.call.top.Goals as goal
 
 pub returns-clause-refused_text : goal.returns-clause-refused_text
 returns-clause-refused_text g c = λ options text fault words told err.
-    refused_text options (scene (stream (g.R.Source.left c.args.src.now) (g.R.Source.faults c.args.src.now)) (stream (g.W.Sink.written c.args.out.now) (g.W.Sink.faults c.args.out.now)) (g.D.Depot.shown c.args.depot.now))
+    refused_text (g.D.Share.yards_lack c.carry.new.depot) options (scene (stream (g.R.Source.left c.args.src.now) (g.R.Source.faults c.args.src.now)) (stream (g.W.Sink.written c.args.out.now) (g.W.Sink.faults c.args.out.now)) (g.D.Depot.shown c.args.depot.now))
     (scene (stream (g.R.Source.left c.carry.new.src) (g.R.Source.faults c.carry.new.src)) (stream (g.W.Sink.written c.carry.new.out) (g.W.Sink.faults c.carry.new.out)) (g.D.Depot.shown c.carry.new.depot))
     text fault c.carry.result told err (c.carry.ensures.runs options words)
 
 pub returns-clause-complete : goal.returns-clause-complete
 returns-clause-complete g c = λ text entry told_left told premise source sink depot.
     served _ text entry (scene (stream (g.R.Source.left c.args.src.now) (g.R.Source.faults c.args.src.now)) (stream (g.W.Sink.written c.args.out.now) (g.W.Sink.faults c.args.out.now)) (g.D.Depot.shown c.args.depot.now))
-    (scene (stream (g.R.Source.left c.carry.new.src) (g.R.Source.faults c.carry.new.src)) (stream (g.W.Sink.written c.carry.new.out) (g.W.Sink.faults c.carry.new.out)) (g.D.Depot.shown c.carry.new.depot)) told_left told premise source sink depot c.carry.result c.carry.ensures.runs
+    (scene (stream (g.R.Source.left c.carry.new.src) (g.R.Source.faults c.carry.new.src)) (stream (g.W.Sink.written c.carry.new.out) (g.W.Sink.faults c.carry.new.out)) (g.D.Depot.shown c.carry.new.depot)) told_left told premise source sink depot (g.D.Share.yards_lack c.carry.new.depot) c.carry.result c.carry.ensures.runs
 
 pub returns-clause-equal : goal.returns-clause-equal
 returns-clause-equal g c = λ retries words done.

@@ -8,8 +8,8 @@ use Rattle.cu_top.specs.Run.{scene, case, Ran}
 use Rattle.cu_top.proofs.prepare.prepare.Goals as goal
 
 pub returns-in-Err-clause-refused : goal.returns-in-Err-clause-refused
-returns-in-Err-clause-refused g c = λ source next sink after.
-    refused_ran (case c.args.options.now c.args.text.now (scene source sink (g.D.Depot.shown c.args.depot.now)) (scene next after (g.D.Depot.shown c.plan_job.new.depot))) c.in-Err.status
+returns-in-Err-clause-refused g c = λ source next sink after lack.
+    refused_ran lack (case c.args.options.now c.args.text.now (scene source sink (g.D.Depot.shown c.args.depot.now)) (scene next after (g.D.Depot.shown c.plan_job.new.depot))) c.in-Err.status
     (c.in-Err.ensures.refused source next sink after)
 
 pub returns-in-Ok-ask_plan-clause-cleared : goal.returns-in-Ok-ask_plan-clause-cleared
@@ -24,8 +24,8 @@ returns-in-Ok-ask_plan-clause-cleared g c = record {
 }
 
 pub returns-in-Err-ask_plan-clause-refused : goal.returns-in-Err-ask_plan-clause-refused
-returns-in-Err-ask_plan-clause-refused g c = λ source next sink after.
+returns-in-Err-ask_plan-clause-refused g c = λ source next sink after lack.
     let run = case c.args.options.now c.args.text.now (scene source sink (g.D.Depot.shown c.args.depot.now)) (scene next after (g.D.Depot.shown c.ask_plan.new.depot)) in
-    subst (λ (status : Status). Ran run status) (sym c.answer_of.ensures)
-    (ask_refused run c.in-Ok.prepared.job (g.D.Depot.shown c.plan_job.new.depot) c.in-Err-ask_plan.fault c.in-Ok.ensures.job c.in-Ok.ensures.planned
+    subst (λ (status : Status). Ran lack run status) (sym c.answer_of.ensures)
+    (ask_refused lack run c.in-Ok.prepared.job (g.D.Depot.shown c.plan_job.new.depot) c.in-Err-ask_plan.fault c.in-Ok.ensures.job c.in-Ok.ensures.planned
     c.plan_job.ensures.step c.ask_plan.ensures.step (c.in-Err-ask_plan.ensures.refused c.args.options.now c.in-Ok.ensures.plan))

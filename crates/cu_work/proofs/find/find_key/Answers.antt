@@ -1,7 +1,7 @@
 use Rattle.std.proofs.Common.{◌+◌, Bool}
 use Rattle.cu_store.specs.declared.faults.DepotFault.TheVariants as depot
 use Rattle.cu_work.specs.Ends.{NoneOf}
-use Rattle.cu_work.proofs.Ends.{ends_one, caused_as}
+use Rattle.cu_work.proofs.EndedCalls.{ends_one, caused_as}
 use Rattle.cu_work.proofs.Searching.{asked_key}
 use Rattle.cu_work.proofs.find.find_key.Goals as goal
 

@@ -1,6 +1,6 @@
 use Rattle.std.proofs.Common.{◌+◌}
 use Rattle.cu_store.specs.declared.faults.DepotFault.TheVariants as depot
-use Rattle.cu_work.proofs.Ends.{caused_as}
+use Rattle.cu_work.proofs.EndedCalls.{caused_as}
 use Rattle.cu_work.proofs.Removing.{removed_key, failed_key, lacked_key, kept_step}
 use Rattle.cu_work.proofs.removal.remove_key.Goals as goal
 

@@ -1,88 +1,70 @@
-use Rattle.std.proofs.Common.{◌+◌, length}
-use Rattle.cu_work.specs.Drive.{plan_calls}
-use Rattle.cu_work.proofs.Running.{record_most, texts_most, texts_refused, record_first, run_step, run_record, texts_held, run_complete, left_alone_after, record_unstored, metadata_unstored, run_tries}
-use Rattle.cu_work.proofs.UsedUp.{used_since}
+use Rattle.std.proofs.Common.{◌+◌, inr, sym, ap, subst, arith}
+use Rattle.cu_table.specs.Table.{TableView}
+use Rattle.cu_work.specs.Run.{run_of, IsUnstored}
+use Rattle.cu_work.proofs.Running.{unstored_first, apart_alone, open_mid, run_step, texts_after, alone_mid, complete_after, share_unstored, share_refused}
 use Rattle.cu_work.proofs.run.run_plan.Goals as goal
 
-pub returns-in-Err-clause-step : goal.returns-in-Err-clause-step
-returns-in-Err-clause-step g c =
-    record_most c.args.plan.now c.args.texts.now (c.args.retries + 1) (g.D.Depot.shown c.args.depot.now) (g.D.Depot.shown c.put_text.new.depot) c.put_text.ensures.step (plan_calls c.args.plan.now (length c.args.plan.now.ops))
+pub returns-in-Err-clause-record : goal.returns-in-Err-clause-record
+returns-in-Err-clause-record g c = λ env left.
+    unstored_first c.args.plan.now c.args.texts.now env (c.args.retries + 1) (g.D.Depot.shown c.args.depot.now) (g.D.Depot.shown c.put_texts.new.depot) c.in-Err.fault (c.in-Err.ensures.unstored env left)
 
-pub returns-in-Err-put_text-clause-step : goal.returns-in-Err-put_text-clause-step
-returns-in-Err-put_text-clause-step g c =
-    texts_most c.args.plan.now c.args.texts.now (c.args.retries + 1) (g.D.Depot.shown c.args.depot.now) (g.D.Depot.shown c.put_text.new.depot) c.put_text.ensures.step c.in_default.ensures.stored
-    (g.D.Depot.shown c.put_text-2.new.depot) c.put_text-2.ensures.step (plan_calls c.args.plan.now (length c.args.plan.now.ops))
+pub run_tasks-requires-clause-apart : goal.run_tasks-requires-clause-apart
+run_tasks-requires-clause-apart g c κs within = apart_alone (run_of c.args.plan.now c.args.texts.now) c.requires.apart
 
-pub returns-in-Err-put_text-clause-record : goal.returns-in-Err-put_text-clause-record
-returns-in-Err-put_text-clause-record g c =
-    record_first c.args.plan.now c.args.texts.now (c.args.retries + 1) (g.D.Depot.shown c.args.depot.now) (g.D.Depot.shown c.put_text.new.depot) c.put_text.ensures.step c.in_default.ensures.stored
-    (g.D.Depot.shown c.put_text-2.new.depot) c.put_text-2.ensures.step
+pub run_tasks-requires-clause-open : goal.run_tasks-requires-clause-open
+run_tasks-requires-clause-open g c κs within =
+    open_mid c.args.plan.now c.args.texts.now (c.args.retries + 1) (g.D.Depot.shown c.args.depot.now) (g.D.Depot.shown c.put_texts.new.depot) c.put_texts.ensures.step c.put_texts.ensures.own c.requires.open
 
-pub returns-in-Err-clause-unstored : goal.returns-in-Err-clause-unstored
-returns-in-Err-clause-unstored g c = λ env left.
-    record_unstored c.args.plan.now c.args.texts.now (c.args.retries + 1) (g.D.Depot.shown c.args.depot.now) (g.D.Depot.shown c.put_text.new.depot) c.put_text.ensures.step env c.in-Err.fault c.in-Err.ensures.cause
+pub returns-in-Ok-clause-step : goal.returns-in-Ok-clause-step
+returns-in-Ok-clause-step g c =
+    run_step c.args.plan.now c.args.texts.now (c.args.retries + 1) (g.D.Depot.shown c.args.depot.now) (g.D.Depot.shown c.put_texts.new.depot) c.put_texts.ensures.step c.put_texts.ensures.own
+    (g.D.Depot.shown c.run_tasks.new.depot) c.run_tasks.ensures.step
 
-pub returns-in-Err-put_text-clause-unstored : goal.returns-in-Err-put_text-clause-unstored
-returns-in-Err-put_text-clause-unstored g c =
-    metadata_unstored c.args.plan.now c.args.texts.now (c.args.retries + 1) (g.D.Depot.shown c.args.depot.now) (g.D.Depot.shown c.put_text.new.depot) c.put_text.ensures.step c.in_default.ensures.stored
-    (g.D.Depot.shown c.put_text-2.new.depot) c.put_text-2.ensures.step c.in-Err-put_text.fault c.in-Err-put_text.ensures.cause
+pub returns-in-Err-run_tasks-clause-step : goal.returns-in-Err-run_tasks-clause-step
+returns-in-Err-run_tasks-clause-step g c =
+    run_step c.args.plan.now c.args.texts.now (c.args.retries + 1) (g.D.Depot.shown c.args.depot.now) (g.D.Depot.shown c.put_texts.new.depot) c.put_texts.ensures.step c.put_texts.ensures.own
+    (g.D.Depot.shown c.run_tasks.new.depot) c.run_tasks.ensures.step
 
-pub returns-in-Err-put_text-clause-refused : goal.returns-in-Err-put_text-clause-refused
-returns-in-Err-put_text-clause-refused g c =
-    texts_refused c.args.plan.now c.args.texts.now (c.args.retries + 1) (g.D.Depot.shown c.args.depot.now) (g.D.Depot.shown c.put_text.new.depot) c.put_text.ensures.step c.in_default.ensures.stored
-    (g.D.Depot.shown c.put_text-2.new.depot) c.put_text-2.ensures.step
+pub returns-in-Ok-clause-texts : goal.returns-in-Ok-clause-texts
+returns-in-Ok-clause-texts g c =
+    texts_after c.args.plan.now c.args.texts.now (c.args.retries + 1) (g.D.Depot.shown c.args.depot.now) (g.D.Depot.shown c.put_texts.new.depot) c.put_texts.ensures.step c.put_texts.ensures.own
+    (g.D.Depot.shown c.run_tasks.new.depot) c.run_tasks.ensures.step
+    c.in_default.ensures.stored
 
-pub returns-clause-step : goal.returns-clause-step
-returns-clause-step g c =
-    run_step c.args.plan.now c.args.texts.now (c.args.retries + 1) (g.D.Depot.shown c.args.depot.now) (g.D.Depot.shown c.put_text.new.depot) c.put_text.ensures.step c.in_default.ensures.stored
-    (g.D.Depot.shown c.put_text-2.new.depot) c.put_text-2.ensures.step c.in_default-put_text.ensures.stored (plan_calls c.args.plan.now (length c.args.plan.now.ops)) (g.D.Depot.shown c.run_tasks.new.depot)
-    c.run_tasks.ensures.step
+pub returns-in-Ok-clause-record : goal.returns-in-Ok-clause-record
+returns-in-Ok-clause-record g c = λ env left.
+    inr (texts_after c.args.plan.now c.args.texts.now (c.args.retries + 1) (g.D.Depot.shown c.args.depot.now) (g.D.Depot.shown c.put_texts.new.depot) c.put_texts.ensures.step c.put_texts.ensures.own
+    (g.D.Depot.shown c.run_tasks.new.depot) c.run_tasks.ensures.step
+    c.in_default.ensures.stored env left 0 (omega arith))
 
-pub returns-clause-texts : goal.returns-clause-texts
-returns-clause-texts g c =
-    texts_held c.args.plan.now c.args.texts.now (c.args.retries + 1) (g.D.Depot.shown c.args.depot.now) (g.D.Depot.shown c.put_text.new.depot) c.put_text.ensures.step c.in_default.ensures.stored
-    (g.D.Depot.shown c.put_text-2.new.depot) c.put_text-2.ensures.step c.in_default-put_text.ensures.stored (plan_calls c.args.plan.now (length c.args.plan.now.ops)) (g.D.Depot.shown c.run_tasks.new.depot)
-    c.run_tasks.ensures.step
+pub returns-in-Err-run_tasks-clause-record : goal.returns-in-Err-run_tasks-clause-record
+returns-in-Err-run_tasks-clause-record g c = λ env left.
+    inr (texts_after c.args.plan.now c.args.texts.now (c.args.retries + 1) (g.D.Depot.shown c.args.depot.now) (g.D.Depot.shown c.put_texts.new.depot) c.put_texts.ensures.step c.put_texts.ensures.own
+    (g.D.Depot.shown c.run_tasks.new.depot) c.run_tasks.ensures.step
+    c.in_default.ensures.stored env left 0 (omega arith))
 
-pub returns-clause-record : goal.returns-clause-record
-returns-clause-record g c =
-    run_record c.args.plan.now c.args.texts.now (c.args.retries + 1) (g.D.Depot.shown c.args.depot.now) (g.D.Depot.shown c.put_text.new.depot) c.put_text.ensures.step c.in_default.ensures.stored
-    (g.D.Depot.shown c.put_text-2.new.depot) c.put_text-2.ensures.step c.in_default-put_text.ensures.stored (plan_calls c.args.plan.now (length c.args.plan.now.ops)) (g.D.Depot.shown c.run_tasks.new.depot)
-    c.run_tasks.ensures.step
+pub returns-in-Ok-clause-done : goal.returns-in-Ok-clause-done
+returns-in-Ok-clause-done g c = λ env left.
+    c.in-Ok.ensures.done env (alone_mid c.args.plan.now c.args.texts.now (c.args.retries + 1) (g.D.Depot.shown c.args.depot.now) (g.D.Depot.shown c.put_texts.new.depot) c.put_texts.ensures.step c.put_texts.ensures.own env left)
 
-pub returns-clause-complete : goal.returns-clause-complete
-returns-clause-complete g c = λ env left.
-    run_complete c.args.plan.now c.args.texts.now (c.args.retries + 1) (g.D.Depot.shown c.args.depot.now) (g.D.Depot.shown c.put_text.new.depot) c.put_text.ensures.step c.in_default.ensures.stored
-    (g.D.Depot.shown c.put_text-2.new.depot) c.put_text-2.ensures.step c.in_default-put_text.ensures.stored (plan_calls c.args.plan.now (length c.args.plan.now.ops)) (g.D.Depot.shown c.run_tasks.new.depot)
-    c.run_tasks.ensures.step env c.run_tasks.result left
-    (c.run_tasks.ensures.complete env
-    (left_alone_after c.args.plan.now c.args.texts.now (c.args.retries + 1) (g.D.Depot.shown c.args.depot.now) (g.D.Depot.shown c.put_text.new.depot) c.put_text.ensures.step c.in_default.ensures.stored
-    (g.D.Depot.shown c.put_text-2.new.depot) c.put_text-2.ensures.step c.in_default-put_text.ensures.stored (plan_calls c.args.plan.now (length c.args.plan.now.ops)) (g.D.Depot.shown c.run_tasks.new.depot)
-    c.run_tasks.ensures.step env left))
+pub returns-in-Ok-clause-complete : goal.returns-in-Ok-clause-complete
+returns-in-Ok-clause-complete g c = λ env left.
+    complete_after c.args.plan.now c.args.texts.now (c.args.retries + 1) (g.D.Depot.shown c.args.depot.now) (g.D.Depot.shown c.put_texts.new.depot) c.put_texts.ensures.step c.put_texts.ensures.own
+    (g.D.Depot.shown c.run_tasks.new.depot) c.run_tasks.ensures.step
+    c.in_default.ensures.stored c.args.memory.now.table c.run_tasks.new.memory.table (g.D.Depot.shown c.put_texts.new.depot) c.in-Ok.outcome (ap (λ (t : TableView). t.settings.plan) c.requires.memory.table)
+    c.in-Ok.ensures.driven env left (c.in-Ok.ensures.done env (alone_mid c.args.plan.now c.args.texts.now (c.args.retries + 1) (g.D.Depot.shown c.args.depot.now) (g.D.Depot.shown c.put_texts.new.depot) c.put_texts.ensures.step c.put_texts.ensures.own env left))
 
-pub returns-clause-broken : goal.returns-clause-broken
-returns-clause-broken g c = λ env left.
-    c.run_tasks.ensures.broken env
-    (left_alone_after c.args.plan.now c.args.texts.now (c.args.retries + 1) (g.D.Depot.shown c.args.depot.now) (g.D.Depot.shown c.put_text.new.depot) c.put_text.ensures.step c.in_default.ensures.stored
-    (g.D.Depot.shown c.put_text-2.new.depot) c.put_text-2.ensures.step c.in_default-put_text.ensures.stored (plan_calls c.args.plan.now (length c.args.plan.now.ops)) (g.D.Depot.shown c.run_tasks.new.depot)
-    c.run_tasks.ensures.step env left)
+pub returns-in-Ok-clause-input : goal.returns-in-Ok-clause-input
+returns-in-Ok-clause-input g c = λ env left.
+    c.in-Ok.ensures.input env (alone_mid c.args.plan.now c.args.texts.now (c.args.retries + 1) (g.D.Depot.shown c.args.depot.now) (g.D.Depot.shown c.put_texts.new.depot) c.put_texts.ensures.step c.put_texts.ensures.own env left)
 
-pub returns-clause-input : goal.returns-clause-input
-returns-clause-input g c = λ env left.
-    c.run_tasks.ensures.input env
-    (left_alone_after c.args.plan.now c.args.texts.now (c.args.retries + 1) (g.D.Depot.shown c.args.depot.now) (g.D.Depot.shown c.put_text.new.depot) c.put_text.ensures.step c.in_default.ensures.stored
-    (g.D.Depot.shown c.put_text-2.new.depot) c.put_text-2.ensures.step c.in_default-put_text.ensures.stored (plan_calls c.args.plan.now (length c.args.plan.now.ops)) (g.D.Depot.shown c.run_tasks.new.depot)
-    c.run_tasks.ensures.step env left)
+pub returns-in-Err-run_tasks-clause-unstored : goal.returns-in-Err-run_tasks-clause-unstored
+returns-in-Err-run_tasks-clause-unstored g c = λ env left.
+    subst (IsUnstored (run_of c.args.plan.now c.args.texts.now) env (c.args.retries + 1) (g.D.Depot.shown c.args.depot.now) (g.D.Depot.shown c.run_tasks.new.depot)) (sym c.fault_of.ensures)
+    (share_unstored c.args.plan.now c.args.texts.now (c.args.retries + 1) (g.D.Depot.shown c.args.depot.now) (g.D.Depot.shown c.put_texts.new.depot) c.put_texts.ensures.step c.put_texts.ensures.own (g.D.Depot.shown c.run_tasks.new.depot)
+    (texts_after c.args.plan.now c.args.texts.now (c.args.retries + 1) (g.D.Depot.shown c.args.depot.now) (g.D.Depot.shown c.put_texts.new.depot) c.put_texts.ensures.step c.put_texts.ensures.own
+    (g.D.Depot.shown c.run_tasks.new.depot) c.run_tasks.ensures.step c.in_default.ensures.stored) c.in-Err-run_tasks.fault env left)
 
-pub returns-clause-tries : goal.returns-clause-tries
-returns-clause-tries g c = λ m most.
-    run_tries c.args.plan.now c.args.texts.now (c.args.retries + 1) (g.D.Depot.shown c.args.depot.now) (g.D.Depot.shown c.put_text.new.depot) c.put_text.ensures.step c.in_default.ensures.stored
-    (g.D.Depot.shown c.put_text-2.new.depot) c.put_text-2.ensures.step c.in_default-put_text.ensures.stored (plan_calls c.args.plan.now (length c.args.plan.now.ops)) (g.D.Depot.shown c.run_tasks.new.depot)
-    c.run_tasks.ensures.step m c.run_tasks.result (c.run_tasks.ensures.tries m most)
-
-pub returns-clause-used_up : goal.returns-clause-used_up
-returns-clause-used_up g c =
-    used_since c.args.plan.now c.args.texts.now (c.args.retries + 1) (g.D.Depot.shown c.args.depot.now) (g.D.Depot.shown c.put_text-2.new.depot) (g.D.Depot.shown c.run_tasks.new.depot) c.run_tasks.result
-    (texts_refused c.args.plan.now c.args.texts.now (c.args.retries + 1) (g.D.Depot.shown c.args.depot.now) (g.D.Depot.shown c.put_text.new.depot) c.put_text.ensures.step c.in_default.ensures.stored
-    (g.D.Depot.shown c.put_text-2.new.depot) c.put_text-2.ensures.step)
-    c.run_tasks.ensures.used_up
+pub returns-in-Err-run_tasks-clause-refused : goal.returns-in-Err-run_tasks-clause-refused
+returns-in-Err-run_tasks-clause-refused g c =
+    share_refused c.args.plan.now c.args.texts.now (c.args.retries + 1) (g.D.Depot.shown c.args.depot.now) (g.D.Depot.shown c.put_texts.new.depot) c.put_texts.ensures.step c.put_texts.ensures.own (g.D.Depot.shown c.run_tasks.new.depot) c.in-Err-run_tasks.ensures.refused

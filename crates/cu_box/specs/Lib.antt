@@ -1,0 +1,4 @@
+pub mod Box
+pub mod Order
+pub mod Rows
+pub mod Slices

@@ -1,0 +1,65 @@
+use Rattle.std.proofs.Common.{◌≡◌, ◌∙◌, sym, ap, List, ℕ, ◌+◌, length, None, arith, rules, subst}
+use Rattle.cu_board.specs.Views.{SeatAt}
+use Rattle.cu_store.specs.Yard.{uncounted}
+use Rattle.cu_history.specs.declared.entry.Entry.{Entry}
+use Rattle.cu_history.specs.History.{own}
+use Rattle.cu_table.specs.Own.{left_running}
+use Rattle.std.specs.Prelude.{All}
+use Rattle.std.proofs.lemmas.List.Elements.{All-head, All-tail, All-push}
+use Rattle.cu_work.specs.Rooms.{RoomSizes, rooms_of}
+use Rattle.cu_work.specs.Workers.{IsWorkerOf}
+use Rattle.cu_work.specs.declared.worker.Worker.{Worker}
+use Rattle.cu_work.specs.declared.outcome.Outcome.TheVariants.{Lacked}
+use Rattle.cu_work.specs.Workers.{AreWorkersOf, AreNumbered}
+use Rattle.cu_work.proofs.Crews.{crew_snoc, numbered_snoc}
+use Rattle.cu_work.proofs.crew.hire.Goals as goal
+
+pub loop-room-preserved : goal.loop-room-preserved
+loop-room-preserved g c =
+    let i = c.loop-room.invariant in
+    let p = c.push_reserved.ensures in
+    let s = c.split-seat.ensures in
+    let y = c.split-pass.ensures in
+    let w : Worker g.row.Y.Denot g.row.Y-Pass.Denot = record { number = c.loop-room.number; rooms = c.in-Some.room; seat = c.split-seat.result; pass = c.split-pass.result; outcome = Lacked } in
+    let len : length c.loop-room.workers.items ≡ c.loop-room.workers.len = search rules in
+    let one : IsWorkerOf g.Y.Yard.owns c.args.yard.now c.args.board.now.board c.loop-room.number c.split-seat.result c.split-pass.result = record {
+      own = y.own.1;
+      seat_is = (ap (λ (x : SeatAt). x.board) s.seat ∙ i.6.seat_is.0, ap (λ (x : SeatAt). x.view.root) s.seat);
+      number_is = ap (λ (x : SeatAt). x.view.number) s.seat ∙ i.6.number;
+      resting = ap (λ (x : SeatAt). left_running None (own c.loop-room.number x.view.front)) s.seat ∙ ap (λ (h : List Entry). left_running None (own c.loop-room.number h)) i.7;
+    } in
+    let step = ap length c.in-Some.ensures.steps.0 in
+    let total = i.3 in (
+      tt,
+      tt,
+      search rules,
+      omega (arith, step, total),
+      i.4,
+      search rules,
+      record {
+        seat_is = (ap (λ (x : SeatAt). x.board) s.root ∙ i.6.seat_is.0, ap (λ (x : SeatAt). x.view.root) s.root ∙ i.6.seat_is.1);
+        number = ap (λ (x : SeatAt). x.view.number) s.root ∙ ap (λ (n : ℕ). n + 1) i.6.number;
+        joined = ap (λ (x : SeatAt). x.view.joined) s.root ∙ i.6.joined;
+      },
+      ap (λ (x : SeatAt). x.view.front) s.root ∙ i.7,
+      subst (AreWorkersOf g.Y.Yard.owns c.args.yard.now c.args.board.now.board) (sym p.items)
+          (crew_snoc g.Y.Yard.owns c.args.yard.now c.args.board.now.board c.loop-room.workers.items w i.8
+          (subst (λ (k : ℕ). IsWorkerOf g.Y.Yard.owns c.args.yard.now c.args.board.now.board k c.split-seat.result c.split-pass.result) (i.2 ∙ sym len) one)),
+      subst AreNumbered (sym p.items) (numbered_snoc c.loop-room.workers.items w i.9 (i.2 ∙ sym len)),
+      y.own.0,
+      y.first ∙ i.11,
+      λ q given.
+          let (rest, before) = i.12 q given in
+          let all = subst (All (λ (r : RoomSizes). r ≡ rooms_of q)) c.in-Some.ensures.steps.0 rest in (
+            All-tail (λ (r : RoomSizes). r ≡ rooms_of q) c.in-Some.room _ all,
+            subst (All (λ (x : Worker g.row.Y.Denot g.row.Y-Pass.Denot). x.rooms ≡ rooms_of q)) (sym p.items)
+                (All-push (λ (x : Worker g.row.Y.Denot g.row.Y-Pass.Denot). x.rooms ≡ rooms_of q) c.loop-room.workers.items w before
+                (All-head (λ (r : RoomSizes). r ≡ rooms_of q) c.in-Some.room _ all)),
+          ),
+      subst (All (λ (x : Worker g.row.Y.Denot g.row.Y-Pass.Denot). g.Y.Yard.knows x.pass ≡ uncounted (g.Y.Yard.knows c.args.pass.now))) (sym p.items)
+          (All-push (λ (x : Worker g.row.Y.Denot g.row.Y-Pass.Denot). g.Y.Yard.knows x.pass ≡ uncounted (g.Y.Yard.knows c.args.pass.now)) c.loop-room.workers.items w i.13
+          (y.second ∙ ap uncounted i.11)),
+    )
+
+pub returns-clause-rooms : goal.returns-clause-rooms
+returns-clause-rooms g c = λ p given. (c.loop-room.invariant.12 p given).1

@@ -1,0 +1,82 @@
+use Rattle.std.proofs.Common.{◌∙◌, sym, refl, subst, ℕ}
+use Rattle.cu_op.specs.PlanView.{PlanView}
+use Rattle.cu_op.specs.Sound.{Sound}
+use Rattle.cu_table.specs.declared.claim.Claim.TheVariants as claim
+use Rattle.cu_table.specs.Numbers.{IsTask}
+use Rattle.cu_table.specs.Table.{start_of}
+use Rattle.cu_board.specs.Board.{IsResting, IsRunning, MayReport}
+use Rattle.cu_task.specs.Serving.{HasSeenInputs}
+use Rattle.cu_work.proofs.Turning.{same_after, runs_after, task_after, inputs_after, writes_inputs, halted_after, reported_after, later_then, later_any, later_reported}
+use Rattle.cu_work.proofs.turns.work_to_end.Goals as goal
+
+pub try_in_rooms-ended-requires-clause-task : goal.try_in_rooms-ended-requires-clause-task
+try_in_rooms-ended-requires-clause-task g c κs within =
+    let r = c.in-Run in
+    subst (λ (p : PlanView). IsTask p r.op r.task) c.requires.plan
+    (task_after c.args.board.now.table c.loop.worker.seat.view c.claim.new.seat.view r.op r.task r.copy (g.Y.Yard.knows c.claim.new.pass) r.ensures.claimed)
+
+pub try_in_rooms-ended-requires-clause-inputs : goal.try_in_rooms-ended-requires-clause-inputs
+try_in_rooms-ended-requires-clause-inputs g c κs within =
+    let made = c.args.board.now.table in
+    let r = c.in-Run in
+    let k = g.Y.Yard.knows c.claim.new.pass in
+    let turn = r.ensures.claimed in
+    let sound = subst Sound (sym c.requires.plan) c.ops-ops.ensures.sound in
+    let is = task_after made c.loop.worker.seat.view c.claim.new.seat.view r.op r.task r.copy k turn in
+    subst (λ (p : PlanView). HasSeenInputs p r.op r.task k.seen) c.requires.plan
+    (inputs_after made c.loop.worker.seat.view c.claim.new.seat.view r.op r.task r.copy k turn
+    (writes_inputs made.settings.plan sound r.op r.task is
+    (λ cell among. (c.input_cells_law.ensures.cells made.settings.plan r.op r.task cell sound is.operation is.number).0 among))
+    (c.step_law.ensures.ready turn.before.settings turn.before.done turn.before.history turn.before.state turn.after.state
+    (start_of turn.before.settings.plan c.loop.worker.seat.view.number r.op r.task) turn.found.legal turn.answer.0.step refl))
+
+pub report-requires-clause-may : goal.report-requires-clause-may
+report-requires-clause-may g c κs within =
+    let r = c.in-Run in
+    subst (λ (p : PlanView). MayReport p r.op r.task c.try_in_rooms-ended.result (g.Y.Yard.knows c.try_in_rooms-ended.new.pass)) (sym c.requires.plan) c.try_in_rooms-ended.ensures.may
+
+pub report-requires-clause-running : goal.report-requires-clause-running
+report-requires-clause-running g c κs within =
+    let made = c.args.board.now.table in
+    let r = c.in-Run in
+    let k = g.Y.Yard.knows c.claim.new.pass in
+    let same = same_after made c.loop.worker.seat.view c.claim.new.seat.view (claim.Run r.op r.task r.copy) k r.ensures.claimed in
+    subst (λ (n : ℕ). IsRunning n r.op r.task c.claim.new.seat.view.front) (sym same.1)
+    (runs_after made c.loop.worker.seat.view c.claim.new.seat.view r.op r.task r.copy k r.ensures.claimed)
+
+pub loop-preserved-in-Run : goal.loop-preserved-in-Run
+loop-preserved-in-Run g c =
+    let made = c.args.board.now.table in
+    let r = c.in-Run in
+    let e = c.report.ensures in
+    let i = c.loop.invariant in
+    let specs = (g.Y.Yard.serves c.args.yard.now).specs in
+    let first = g.Y.Yard.knows c.args.worker.now.pass in
+    let k0 = g.Y.Yard.knows c.loop.worker.pass in
+    let k = g.Y.Yard.knows c.claim.new.pass in
+    let l = g.Y.Yard.knows c.try_in_rooms-ended.new.pass in
+    let m = g.Y.Yard.knows c.report.new.pass in
+    let same = same_after made c.loop.worker.seat.view c.claim.new.seat.view (claim.Run r.op r.task r.copy) k r.ensures.claimed in
+    let after = reported_after made c.claim.new.seat.view c.report.new.seat.view r.op r.task c.try_in_rooms-ended.result e.reported in
+    let number = same.1 ∙ i.2.number_is in (
+      tt,
+      tt,
+      record {
+        own = e.own;
+        seat_is = (e.board ∙ r.ensures.board ∙ i.2.seat_is.0, after.0 ∙ same.0 ∙ i.2.seat_is.1);
+        number_is = after.1 ∙ number;
+        resting = subst (λ (n : ℕ). IsResting n c.report.new.seat.view.front) number after.2;
+      },
+      i.3,
+      c.try_in_rooms-ended.ensures.rooms ∙ i.4,
+      later_then specs first l m (later_then specs first k l (later_then specs first k0 k i.5 (later_any specs k0 k r.ensures.later)) c.try_in_rooms-ended.ensures.later)
+          (later_reported specs c.try_in_rooms-ended.result l m e.count),
+    )
+
+pub returns-in-Halted-clause-ended : goal.returns-in-Halted-clause-ended
+returns-in-Halted-clause-ended g c =
+    let i = c.loop.invariant in
+    let turn = c.in-Halted.ensures.claimed in
+    (halted_after c.args.board.now.table c.loop.worker.seat.view c.claim.new.seat.view c.in-Halted.fault c.halt_outcome.result (g.Y.Yard.knows c.claim.new.pass) turn
+    (subst (λ (n : ℕ). IsResting n c.loop.worker.seat.view.front) (sym i.2.number_is) i.2.resting)
+    (c.ended_law.ensures.fault turn.before.settings turn.before.done turn.before.history turn.before.state c.in-Halted.fault turn.found.legal turn.answer.1) c.halt_outcome.ensures).1
