@@ -16,12 +16,15 @@ import argparse
 import os
 import subprocess
 import sys
+import tempfile
 import time
 
 sys.dont_write_bytecode = True
 import region  # region.py, in this folder
 from add import has_numpy
 
+NAME = "box_bench"
+NEEDS = "cu_num cu_shape cu_box cu_grid cu_codec".split()
 SIDE = 4096
 SIZES, ROWS = (1, 2, 4, 8), (1, 2, 4, 16, 4096)
 WAYS = ("read-little", "read-big", "write-little")
@@ -33,7 +36,7 @@ SOURCE = """\
 ghost use Rattle.std.specs.Prelude.{◌≡◌, ◌*◌, ◌≤◌, ◌<◌, ◌∷◌, [], length, IfOk, IfSome};
 ghost use Rattle.cu_num.specs.Dtype.{size_of};
 ghost use Rattle.cu_shape.specs.Index.{product, differences};
-ghost use Rattle.cu_grid.specs.Grid.{IsGrid};
+ghost use Rattle.cu_grid.specs.Grid.{IsGrid, IsCoordinate};
 
 use cu_codec::{chunk_bytes, lay_part, take_part};
 use cu_grid::{Grid, Region};
@@ -79,6 +82,26 @@ struct Case {
     order: Endian,
 }
 
+/// Copies the chunk into its place in the array at this coordinate.
+fn take_one(case: &Case, coord: &Dims, chunk: &[u8], out: &mut [u8])
+    requires coordinate { IsCoordinate case.now.grid coord.now }
+    requires shape { case.now.grid.shape ≡ 4096 ∷ 4096 ∷ [] }
+    requires lo { case.now.region.lo ≡ 0 ∷ 0 ∷ [] }
+    requires hi { case.now.region.hi ≡ 4096 ∷ 4096 ∷ [] }
+    requires chunk_length { length chunk.now ≡ product case.now.grid.chunk * size_of case.now.t }
+    requires out_length { length out.old ≡ 16777216 * size_of case.now.t }
+{
+    take_part(
+        &case.grid,
+        u64::from(size(case.t)),
+        case.order,
+        coord,
+        chunk,
+        &case.region,
+        out,
+    );
+}
+
 /// Copies the chunk once into each of its places in the array.
 fn take_all(case: &Case, chunk: &[u8], out: &mut [u8])
     requires shape { case.now.grid.shape ≡ 4096 ∷ 4096 ∷ [] }
@@ -87,18 +110,9 @@ fn take_all(case: &Case, chunk: &[u8], out: &mut [u8])
     requires chunk_length { length chunk.now ≡ product case.now.grid.chunk * size_of case.now.t }
     requires out_length { length out.old ≡ 16777216 * size_of case.now.t }
 {
-    let wide = u64::from(size(case.t));
     for number in 0..case.grid.count() {
         let coord = case.grid.coordinate(number);
-        take_part(
-            &case.grid,
-            wide,
-            case.order,
-            &coord,
-            chunk,
-            &case.region,
-            out,
-        );
+        take_one(case, &coord, chunk, out);
     }
 }
 
@@ -194,7 +208,7 @@ fn checksum(bytes: &[u8]) -> u64 {
 }
 
 /// The case of these elements and columns.
-fn case(t: Dtype, order: Endian, columns: u64) -> io::Result<Case>
+fn make_case(t: Dtype, order: Endian, columns: u64) -> io::Result<Case>
     ensures shape { IfOk result (λ c. c.grid.shape ≡ 4096 ∷ 4096 ∷ []) }
     ensures lo { IfOk result (λ c. c.region.lo ≡ 0 ∷ 0 ∷ []) }
     ensures hi { IfOk result (λ c. c.region.hi ≡ 4096 ∷ 4096 ∷ []) }
@@ -260,7 +274,7 @@ fn main(rt: HostRuntime) -> io::Result<()> {
         "read-big" => Endian::Big,
         _ => Endian::Little,
     };
-    let case = case(t, order, columns)?;
+    let case = make_case(t, order, columns)?;
     let is_read = way.as_str() != "write-little";
     let (least, sum) = measure(&rt, alloc, &case, is_read, rounds)?;
     println!(rt; "{least} {sum}")
@@ -293,16 +307,18 @@ all_within g coord lo hi idx ok here a b c h =
     rw (b, c) (within idx inside)
 """
 TAKE = """\
-use Rattle.std.proofs.Common.{◌∙◌}
+use Rattle.std.proofs.Common.{◌≡◌, ◌∙◌, arith}
 use Rattle.cu_num.specs.Dtype.{size_of}
 use Rattle.box_bench.proofs.WholeRegion.{is_region, is_whole}
-use Rattle.box_bench.proofs.take_all.Goals as goal
+use Rattle.box_bench.proofs.take_one.Goals as goal
 
 pub take_part-requires-clause-region : goal.take_part-requires-clause-region
 take_part-requires-clause-region c = is_region _ _ _ c.requires.shape c.requires.lo c.requires.hi
 
 pub take_part-requires-clause-out_length : goal.take_part-requires-clause-out_length
-take_part-requires-clause-out_length c = ?
+take_part-requires-clause-out_length c =
+    let wide : c.from.result ≡ size_of c.args.case.now.t = omega arith in
+    rw wide (c.requires.out_length ∙ is_whole c.args.case.now.region.lo c.args.case.now.region.hi (size_of c.args.case.now.t) c.requires.lo c.requires.hi)
 """
 LAY = """\
 use Rattle.std.proofs.Common.{◌∙◌}
@@ -319,8 +335,8 @@ lay_part-requires-clause-whole c = λ idx. all_within c.args.case.now.grid c.coo
 pub lay_part-requires-clause-input_length : goal.lay_part-requires-clause-input_length
 lay_part-requires-clause-input_length c = c.requires.input_length ∙ is_whole c.args.case.now.region.lo c.args.case.now.region.hi (size_of c.args.case.now.t) c.requires.lo c.requires.hi
 """
-ANSWERS = {"proofs/Lib.antt": "pub mod WholeRegion\n", "proofs/WholeRegion.antt": LEMMAS,
-           "proofs/take_all/Answers.antt": TAKE, "proofs/lay_all/Answers.antt": LAY}
+SOURCES = {"src/main.rt": SOURCE, "proofs/Lib.antt": "pub mod WholeRegion\n", "proofs/WholeRegion.antt": LEMMAS,
+           "proofs/take_one/Answers.antt": TAKE, "proofs/lay_all/Answers.antt": LAY}
 
 
 def peer(way, size, columns, rounds):
@@ -394,10 +410,9 @@ def main():
     told = parser.parse_args()
     if not has_numpy():
         raise SystemExit("this Python has no NumPy")
-    region.NAME, region.NEEDS = "box_bench", "cu_num cu_shape cu_box cu_grid cu_codec".split()
-    region.SOURCE, region.ANSWERS = SOURCE, ANSWERS
-    program = told.program or region.program_in(told.keep or "kept")
-    compare(program, told.runs, told.rounds, told.only)
+    with tempfile.TemporaryDirectory(prefix="cubed-program-") as spare:
+        program = told.program or region.program_in(told.keep or spare, NAME, NEEDS, SOURCES)
+        compare(program, told.runs, told.rounds, told.only)
 
 
 if __name__ == "__main__":

@@ -2,6 +2,7 @@
 """Computes small random expressions with the program and with NumPy, and compares each byte of what is stored, and the lines of `plan`.
 
   compare.py [--program FILE] [--dir FOLDER] [--cases N] [--seed N] [--first N] [--only run|views|reductions|copies|any|check]
+             [--workers N,N..]
 
 A case has up to three stored arrays of any type, up to four axes (of copies six), any chunk shape, either byte order, either encoding of
 keys with either separator, members of the metadata in any order, any fill value, chunks that are absent, any bytes past the edge, and
@@ -14,15 +15,19 @@ the plan needs), or any. `plan` must print what bench/rules.py says, and store n
 the arrays on the way too, and what it must answer is told by bench/rules.py. One case in four is damaged, in one or two of: the text,
 an argument, metadata, a chunk, a key in the way, memory, counts. Some arrays are printed too, some loaded, and the output of one run
 in five is checked by `check`. In one case of nine NumPy stores the output of an expression of every operator, now and then with one
-element changed, and the program checks it. Prints how often each answer came, and ends with 1 at the first case that differs, whose
-folder is kept; `--first` goes on at that case.
+element changed, and the program checks it. With `--workers` each expression is also run with each of these numbers of workers, every
+time in a copy of the folder and with `--backups` 0 or 1: what is stored and printed must be the same bytes, but for the starts, of which
+there may be up to two a task where slow tasks are run twice. Prints how often each answer came, and ends with 1 at the first case that
+differs, whose folder is kept; `--first` goes on at that case.
 """
 import argparse
 import collections
+import copy
 import itertools
 import json
 import os
 import random
+import re
 import shutil
 import subprocess
 import sys
@@ -162,6 +167,13 @@ class Case:
             return None
         with open(path, "rb") as file:
             return file.read()
+
+    def copied(self, folder):
+        """Returns the same case in a copy of its folder."""
+        shutil.copytree(self.folder, folder)
+        case = copy.copy(self)
+        case.folder = folder
+        return case
 
     def plan(self):
         return rules.plan_of(self.text.encode(), self.held, self.allowed, self.reserved, self.split_every)
@@ -374,7 +386,7 @@ def wrong_files(case, before, stored, is_whole):
     return f"{missing} are missing" if is_whole and missing else None
 
 
-def run_case(pick, program, folder, counts, only):
+def run_case(pick, program, folder, counts, only, workers=()):
     """Runs one case, and tells why it is wrong, or nothing."""
     kind = only or pick.choice(["run", "run", "reductions", "views", "copies", "copies", "any", "any", "check"])
     case = Case(pick, folder, MIXES[kind])
@@ -387,13 +399,13 @@ def run_case(pick, program, folder, counts, only):
     if pick.random() < 0.25:
         for _ in range(pick.choice([1, 1, 1, 2])):
             case.damage()
-    return planned_wrong(case, program, counts) or ran_wrong(case, program, counts)
+    return planned_wrong(case, program, counts) or worked_wrong(case, program, counts, workers) or ran_wrong(case, program, counts)
 
 
-def called(case, words, counts):
+def called(case, words, counts, how=""):
     """Calls the program with the case's text."""
     ended = subprocess.run(words, input=case.text.encode(), capture_output=True, check=False)
-    counts[f"{words[2]} {ended.returncode}"] += 1
+    counts[f"{words[2]}{how} {ended.returncode}"] += 1
     return ended
 
 
@@ -420,10 +432,41 @@ def ran_wrong(case, program, counts):
     return f"{' '.join(ended.args)} <<< '{case.text}': {wrong}" if wrong else None
 
 
-def wrong_end(ended, ends):
-    """Why the program's end is none of these, or nothing."""
+def worked_wrong(case, program, counts, workers):
+    """Runs the case with each number of workers, each time in a copy of its folder, and tells why what is printed or stored is wrong or
+    isn't what the first of them stored, or nothing."""
+    ends, stored = expected(case) if workers else (None, None)
+    before, first = files_in(case.folder), None
+    for count in workers:
+        backups = case.pick.randint(0, 1)
+        other = case.copied(f"{case.folder}-{count}")
+        words = [*other.words(program, "run"), "--workers", str(count), "--backups", str(backups)]
+        ended = called(other, words, counts, f" with {count} workers")
+        may_repeat = count > 1 and backups == 1
+        wrong = wrong_end(ended, ends, may_repeat) or wrong_files(other, before, stored or {}, ended.returncode == 0)
+        bytes_held = {key: other.held(key) for key in files_in(other.folder)}
+        if ended.returncode == 0:
+            first = first or bytes_held
+            wrong = wrong or (bytes_held != first and "it stored other bytes than the first number of workers")
+        if wrong:
+            return f"{' '.join(words)} <<< '{case.text}': {wrong}"
+        shutil.rmtree(other.folder)
+    return None
+
+
+def with_one_start_a_task(printed):
+    """Returns a report with the starts that there are where no task is run twice, if it has at most two starts a task."""
+    told = re.fullmatch(r"(ok ops=\d+ tasks=(\d+) starts=)(\d+)( failed=0 peak=\d+\n)", printed)
+    if told and int(told[2]) <= int(told[3]) <= 2 * int(told[2]):
+        return told[1] + told[2] + told[4]
+    return printed
+
+
+def wrong_end(ended, ends, may_repeat=False):
+    """Why the program's end is none of these, or nothing. Tasks may have been run a second time if `may_repeat` holds."""
     printed, empty = (ended.stderr, ended.stdout) if ended.returncode else (ended.stdout, ended.stderr)
-    if (ended.returncode, printed.decode()) not in ends or empty:
+    line = with_one_start_a_task(printed.decode()) if may_repeat else printed.decode()
+    if (ended.returncode, line) not in ends or empty:
         return f"it ended with {ended.returncode} {ended.stdout} {ended.stderr}, not {ends}"
     return None
 
@@ -560,11 +603,12 @@ def main():
     words.add_argument("--seed", type=int, default=1)
     words.add_argument("--first", type=int, default=0)
     words.add_argument("--only", choices=list(MIXES))
+    words.add_argument("--workers", type=lambda told: [int(count) for count in told.split(",")], default=[])
     given = words.parse_args()
     counts = collections.Counter()
     for number in range(given.first, given.cases):
         folder = tempfile.mkdtemp(dir=given.dir, prefix="cubed-compare-")
-        wrong = run_case(random.Random(f"{given.seed} {number}"), os.path.abspath(given.program), folder, counts, given.only)
+        wrong = run_case(random.Random(f"{given.seed} {number}"), os.path.abspath(given.program), folder, counts, given.only, given.workers)
         if wrong:
             print(f"case {number} of seed {given.seed} in {folder}: {wrong}")
             return 1

@@ -6,6 +6,8 @@
 Prints a 1000 by 1000 int32 array in chunks of 250 by 250, and in one chunk, with the program and with NumPy over the same
 files; and loads a text of 100,000 numbers with the program and with Python's json and NumPy. The texts and the stored
 bytes are compared. For each the least of the runs stands; NumPy's time is without the start of Python and the import.
+Then it prints an array of 16 columns in chunks of one column and in chunks of whole rows, with the program alone, and
+compares both times: each row of the first meets every chunk.
 """
 import argparse
 import json
@@ -92,6 +94,22 @@ def measure_print(program, folder, runs, side):
     report(f"print, chunks of {side} by {side}", ours, peer)
 
 
+def measure_narrow(program, folder, runs):
+    """Prints the same array in tall, narrow chunks and in wide ones."""
+    rows, columns, side = 8000, 16, 500
+    elements = numpy.random.default_rng(1).integers(-2 ** 31, 2 ** 31, size=(rows, columns), dtype="<i4")
+    put(folder, "narrow/zarr.json", metadata([rows, columns], [rows, 1]))
+    for column in range(columns):
+        put(folder, f"narrow/c/0/{column}", elements[:, column].tobytes())
+    put(folder, "wide/zarr.json", metadata([rows, columns], [side, columns]))
+    for low in range(0, rows, side):
+        put(folder, f"wide/c/{low // side}/0", elements[low:low + side].tobytes())
+    narrow, wide = [[timed(lambda: program_output([program, folder, "print", name])) for _ in range(runs)] for name in ("narrow", "wide")]
+    if narrow[0][1].partition(b"\n")[2] != wide[0][1].partition(b"\n")[2]:
+        raise SystemExit("the texts differ")
+    report(f"print of {rows} rows, tall and narrow chunks beside wide ones", narrow, wide, "narrow", "wide")
+
+
 def measure_load(program, folder, runs):
     text = json.dumps({"name": "p", "data_type": "int32", "shape": [100000], "chunk_shape": [10000],
                        "elements": list(range(100000))}, separators=(",", ":")).encode()
@@ -108,9 +126,9 @@ def measure_load(program, folder, runs):
     report(f"load, {len(text)} bytes of text", ours, peer)
 
 
-def report(what, ours, peer):
+def report(what, ours, peer, name="cubed", other_name="NumPy"):
     least, other = min(ours)[0], min(peer)[0]
-    print(f"{what}: cubed {least * 1000:.1f} ms, NumPy {other * 1000:.1f} ms, ratio {least / other:.2f}")
+    print(f"{what}: {name} {least * 1000:.1f} ms, {other_name} {other * 1000:.1f} ms, ratio {least / other:.2f}")
 
 
 def main():
@@ -124,6 +142,7 @@ def main():
         for side in (250, 1000):
             measure_print(program, folder, given.runs, side)
         measure_load(program, folder, given.runs)
+        measure_narrow(program, folder, min(given.runs, 3))
 
 
 if __name__ == "__main__":

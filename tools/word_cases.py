@@ -1,24 +1,29 @@
 #!/usr/bin/env python3
-"""Writes the table of cases of the command line, with answers that this script works out from the table of options alone.
+"""Writes the tables of cases of the command line, with answers that this script works out from the table of options alone.
 
 usage: tools/word_cases.py > crates/cu_cases/data/words.json
+       tools/word_cases.py resume > crates/cu_cases/data/resume_words.json
 
+The words of `resume` are tried over a folder: a depot in memory tells its contents, and a table can't say that a plan left them.
 Words that are accepted are shown by the next thing that the command finds wrong: an empty text, or an array that isn't there.
 """
 import json
 import re
+import sys
 
 # Each option: the least and the most number, the number where it isn't given, and the commands that take it.
 OPTIONS = {
-    "allowed-mem": (0, 2**40, 200_000_000, ("plan", "run")),
-    "reserved-mem": (0, 2**40, 0, ("plan", "run")),
-    "split-every": (2, 64, 4, ("plan", "run")),
-    "workers": (1, 1, 1, ("run",)),
-    "retries": (0, 8, 2, ("run", "load", "check", "print")),
-    "backups": (0, 0, 0, ("run",)),
+    "allowed-mem": (0, 2**40, 200_000_000, ("plan", "run", "resume", "drop")),
+    "reserved-mem": (0, 2**40, 0, ("plan", "run", "resume", "drop")),
+    "split-every": (2, 64, 4, ("plan", "run", "resume", "drop")),
+    "workers": (1, 64, 1, ("run", "resume")),
+    "retries": (0, 8, 2, ("run", "resume", "drop", "load", "check", "print")),
+    "backups": (0, 1, 0, ("run", "resume")),
 }
 ACCEPTED = {
     "run": "error 3 code=1 node=0",
+    "resume": "error 3 code=1 node=0",
+    "drop": "error 3 code=1 node=0",
     "plan": "error 3 code=1 node=0",
     "load": "error 18 code=1",
     "check": "error 3 code=1 node=0",
@@ -79,7 +84,7 @@ def both(name, value):
 
 def commands():
     yield "no command, and words that are none", [
-        [], [""], ["fly"], ["Run"], ["run "], ["--"], ["-"], ["--retries", "2", "run"], ["resume"], ["drop"], ["demo", "4"],
+        [], [""], ["fly"], ["Run"], ["run "], ["--"], ["-"], ["--retries", "2", "run"], ["demo", "4"],
         ["help"], ["--help"], ["-h"], ["--version"], ["ru"], ["run\n"], ["läuft"]]
     yield "commands alone, and with help and version", [
         [command, *more] for command in (*ACCEPTED, "print")
@@ -112,7 +117,7 @@ def numbers():
 def forms():
     every = ["--allowed-mem", "9", "--reserved-mem=8", "--split-every", "7", "--workers=1", "--retries", "6", "--backups=0"]
     yield "all options, in any order", [["run", *every], ["run", *every[3:], *every[:3]], ["run", *every[2:3], *every[:2], *every[3:]],
-        ["plan", *every[:5]], ["plan", *every[:6]], ["plan", *every]]
+        ["plan", *every[:5]], ["plan", *every[:6]], ["plan", *every], ["resume", *every], ["drop", *every[:5]], ["drop", *every[:5], *every[6:8]], ["drop", *every]]
     yield "options that are given twice", [
         [command, *first, *second]
         for command, name, value in (("run", "allowed-mem", "1"), ("run", "workers", "1"), ("plan", "split-every", "4"), ("load", "retries", "2"), ("check", "retries", "0"))
@@ -145,14 +150,20 @@ def positionals():
             ["y", "--allowed-mem", "2"], ["y", "--retries", "2", "--retries=2"], ["--retries", "2", "--retries", "y"], [])]
 
 
-def main():
+def main(over_folder):
     cases = [*commands(), *ends(), *numbers(), *forms(), *positionals()]
+    members = "steps" if over_folder else "rows"
     lines = []
     for name, rows in cases:
-        told = [json.dumps({"words": words, "line": answer(words)}, ensure_ascii=False) for words in rows]
-        lines.append('{"name": %s,\n "rows": [\n  %s]}' % (json.dumps(name), ",\n  ".join(told)))
-    print('{\n"kind": "calls",\n"shared": {\n  "holds": []\n},\n"cases": [\n%s]\n}' % ",\n".join(lines))
+        told = [json.dumps({"words": words, "line": answer(words)}, ensure_ascii=False) for words in rows if (words[:1] == ["resume"]) == over_folder]
+        if told and over_folder:
+            # The folder of a case is there once something is stored.
+            told.insert(0, json.dumps({"words": ["load"], "input": {"name": "a", "data_type": "int8", "shape": [1], "chunk_shape": [1], "elements": [1]}, "output": "ok elements=1 chunks=1\n"}))
+        if told:
+            lines.append('{"name": %s,\n "%s": [\n  %s]}' % (json.dumps(name), members, ",\n  ".join(told)))
+    front = '"kind": "folder",' if over_folder else '"kind": "calls",\n"shared": {\n  "holds": []\n},'
+    print('{\n%s\n"cases": [\n%s]\n}' % (front, ",\n".join(lines)))
 
 
 if __name__ == "__main__":
-    main()
+    main(sys.argv[1:] == ["resume"])

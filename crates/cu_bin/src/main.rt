@@ -5,6 +5,7 @@ mod adapters;
 
 use adapters::{StdSink, StdSource};
 use cu_dir::DirDepot;
+use cu_store::NoGate;
 use cu_top::{Status, number, status_line, top};
 use std::alloc::Global;
 use std::io::ErrorKind;
@@ -48,6 +49,14 @@ fn main(rt: HostRuntime) -> ExitCode {
     };
     let mut source = StdSource::make(&rt);
     let mut sink = StdSink::make(&rt);
-    let status = top(alloc, command, &mut source, &mut sink, &mut depot);
+    let status = top(
+        &rt,
+        alloc,
+        command,
+        &mut source,
+        &mut sink,
+        &mut depot,
+        &NoGate,
+    );
     ended(&rt, &status)
 }

@@ -20,7 +20,7 @@ or_right false b t = t
 -- a cause is told to each pass of the yard
 pub cause_same : (p : PlanView) (k l : Known) (f : TaskFault) → IsOfOneYard k l → IsCauseOf p k f → IsCauseOf p l f
 cause_same p k l fault.Store yard c = tt
-cause_same p k l (fault.BadChunk key got want) yard c = λ e told. c e (sym yard.entries ∙ told)
+cause_same p k l (fault.BadChunk key got want) yard c = (c.0, λ e told. c.1 e (sym yard.entries ∙ told))
 cause_same p k l fault.NoMemory yard c = subst IsTrue (sym yard.lacks) c
 
 same_yard : (k l : Known) → l ≡ k → IsOfOneYard k l

@@ -11,7 +11,7 @@ use Rattle.cu_op.specs.declared.cells.Cell.{Cell}
 use Rattle.cu_op.specs.Arrays.{chunk_room}
 use Rattle.cu_op.specs.PlanView.{PlanView}
 use Rattle.cu_op.specs.Schedule.{op_of, key_of}
-use Rattle.cu_op.specs.Walks.{written_chunks}
+use Rattle.cu_op.specs.Walks.{written_chunks, read_chunks}
 use Rattle.cu_state.specs.Pieces.{IsInputChunk}
 use Rattle.cu_table.specs.declared.claim.Claim.{Claim}
 use Rattle.cu_table.specs.declared.claim.Claim.TheVariants.{Run, Halted}
@@ -50,9 +50,21 @@ pub record IsBadEntry (p : PlanView) (entries : Contents) (key : List ℕ) (got 
   pub held : entries key ≡ Some bytes
   pub length_is : length bytes ≡ got
 
--- why this fault ends a run, as a pass tells it: of a bad chunk where contents are told
+-- the key is that of a chunk that a task of the plan reads, whose bytes are `want` and not `got`
+pub record IsReadAmiss (p : PlanView) (key : List ℕ) (got want : ℕ) : Type 0 where
+  pub op : ℕ
+  pub task : ℕ
+  pub is : IsTask p op task
+  pub cell : Cell
+  pub read : Contains (read_chunks p.arrays (op_of p op) task) cell
+  pub key_is : key ≡ key_of p.arrays cell
+  pub want_is : want ≡ chunk_room p.arrays cell.array
+  pub other : got ≢ want
+
+-- Why this fault ends a run, as a pass tells it. Of a bad chunk a task reads it, and where contents are told it is an input's.
 abbrev pub IsCauseOf : PlanView → Known → TaskFault → Type 0
-IsCauseOf p k (fault.BadChunk key got want) = (entries : Contents) → k.entries ≡ Some entries → IsBadEntry p entries key got want
+IsCauseOf p k (fault.BadChunk key got want) =
+    IsReadAmiss p key got want × ((entries : Contents) → k.entries ≡ Some entries → IsBadEntry p entries key got want)
 IsCauseOf p k fault.NoMemory = IsTrue k.lacks
 IsCauseOf p k fault.Store = Unit {0}
 

@@ -103,8 +103,8 @@ impl<Y: Yard> Board<Y> {
     }
 
     /// Tells how the task ended that the seat's own entries leave running. Ok wants the task's cells among those that the pass
-    /// has seen, and Store a count of faults above 0, which goes to the board's pass. BadChunk wants that a chunk of an input is
-    /// known to be so, and NoMemory a yard that lacks.
+    /// has seen, and Store a count of faults above 0, which goes to the board's pass. BadChunk wants a chunk that a task
+    /// reads, and an input's where contents are told; NoMemory wants a yard that lacks.
     pub fn report<H: Wait>(
         &self,
         rt: &H,

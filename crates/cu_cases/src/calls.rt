@@ -8,6 +8,8 @@ use cu_mem::MemDepot;
 use cu_rows::{Findings, Place, Said, Texts, refuse_others};
 use cu_watch::Watched;
 use serde_json::Value;
+use std::sync::Wait;
+use std::thread::Threads;
 
 /// What a call may say. Only a case has rows.
 const MEMBERS: [&str; 18] = [
@@ -33,6 +35,7 @@ const MEMBERS: [&str; 18] = [
 
 /// Runs a case: each of its rows over a depot of its own, or the one row that it is.
 pub(crate) fn run_calls(
+    threads: &(impl Threads + Wait + Sync),
     texts: &Texts<'_>,
     said: &Said<'_>,
     name: &str,
@@ -44,18 +47,19 @@ pub(crate) fn run_calls(
     }
     let rows = said.list("rows")?;
     if rows.is_empty() {
-        return run_row(texts, said, name, 0, findings);
+        return run_row(threads, texts, said, name, 0, findings);
     }
     for (at, row) in rows.iter().enumerate() {
         refuse_others(row, &MEMBERS)?;
         let said = Said { row, ..*said };
-        run_row(texts, &said, name, at as u64, findings)?;
+        run_row(threads, texts, &said, name, at as u64, findings)?;
     }
     Ok(())
 }
 
 /// Runs a row: its steps, one after another over one depot, or the one call that it is and its loops.
 fn run_row(
+    threads: &(impl Threads + Wait + Sync),
     texts: &Texts<'_>,
     said: &Said<'_>,
     name: &str,
@@ -65,11 +69,11 @@ fn run_row(
     let contents = contents_in(texts, said)?;
     let steps = said.list("steps")?;
     if !steps.is_empty() {
-        return run_steps(texts, said, contents, steps, name, findings);
+        return run_steps(threads, texts, said, contents, steps, name, findings);
     }
     let case = Case::read(texts, said, contents)?;
     let mut depot = case.depot()?;
-    run_call(&case, said, &mut depot, name, row, findings)?;
+    run_call(threads, &case, said, &mut depot, name, row, findings)?;
     let Some(loops) = said.member("loops") else {
         return Ok(());
     };
@@ -88,11 +92,12 @@ fn run_row(
         ..*said
     };
     let again = Case::read(texts, &second, contents_in(texts, said)?)?;
-    run_loops(&trial, &again, texts, loops, findings)
+    run_loops(threads, &trial, &again, texts, loops, findings)
 }
 
 /// Runs steps, each of which finds what the ones before have left.
 fn run_steps(
+    threads: &(impl Threads + Wait + Sync),
     texts: &Texts<'_>,
     said: &Said<'_>,
     contents: Vec<Content>,
@@ -106,7 +111,7 @@ fn run_steps(
         refuse_others(row, &MEMBERS)?;
         let said = Said { row, ..*said };
         let case = Case::read(texts, &said, contents)?;
-        run_call(&case, &said, &mut depot, name, at as u64, findings)?;
+        run_call(threads, &case, &said, &mut depot, name, at as u64, findings)?;
         contents = case.into_contents();
     }
     Ok(())
@@ -114,6 +119,7 @@ fn run_steps(
 
 /// Makes a call over a depot, under the script that the table says.
 fn run_call(
+    threads: &(impl Threads + Wait + Sync),
     case: &Case<'_>,
     said: &Said<'_>,
     depot: &mut Watched<MemDepot>,
@@ -129,7 +135,7 @@ fn run_call(
         what: "call",
         number: 0,
     };
-    case.run(depot, case.room, &case.wanted(), &place, findings)?;
+    case.run(threads, depot, case.room, &case.wanted(), &place, findings)?;
     let Some(calls) = depot.calls() else {
         bail!("no memory");
     };

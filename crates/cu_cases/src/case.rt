@@ -1,14 +1,17 @@
 //! Calls of the program over a depot in memory, and what must come of them.
-ghost use Rattle.cu_cases.specs.Late.{NoneLate};
+ghost use Rattle.std.specs.Prelude.{◌≡◌, map, string_bytes};
+ghost use Rattle.cu_cases.specs.Late.{MayCall, is_resume};
 
 use anyhow::{Result, bail};
 use cu_mem::{MemDepot, MemSink, MemSource, Script};
 use cu_rows::{Findings, Place, Said, Texts, key_of, list_of, pair_of, text_of};
-use cu_store::{Depot, Got, Key, Share};
+use cu_store::{Depot, Got, Key, NoGate, Share};
 use cu_top::{Status, number, status_line, top};
 use cu_watch::Watched;
 use serde_json::Value;
 use std::alloc::Global;
+use std::sync::Wait;
+use std::thread::Threads;
 
 /// What a key holds; `None` where it is absent.
 #[derive(Drop)]
@@ -121,6 +124,7 @@ impl<'a> Case<'a> {
     /// Makes the call over a depot in memory, of which no put is late, and compares what comes of it with what must come.
     pub(crate) fn run(
         &self,
+        threads: &(impl Threads + Wait + Sync),
         depot: &mut Watched<MemDepot>,
         room: u64,
         wanted: &Wanted<'_>,
@@ -130,8 +134,11 @@ impl<'a> Case<'a> {
         if !depot.depot.none_late() {
             bail!("a put of an earlier call is late");
         }
+        if is_resume(&self.words) {
+            bail!("a run goes on over a folder alone");
+        }
         depot.forget();
-        self.answer(depot, room, wanted, place, findings)?;
+        self.answer(threads, depot, room, wanted, place, findings)?;
         self.expect_contents(depot, wanted.stored, place, findings)?;
         self.expect_rest(depot, wanted.stored, place, findings)
     }
@@ -139,18 +146,19 @@ impl<'a> Case<'a> {
     /// Makes the call, and compares its status and its output with what must come.
     pub(crate) fn answer<D: Share>(
         &self,
+        threads: &(impl Threads + Wait + Sync),
         depot: &mut D,
         room: u64,
         wanted: &Wanted<'_>,
         place: &Place<'_>,
         findings: &mut Findings,
     ) -> Result<()>
-        requires { NoneLate (D.shown depot.old).held (D.shown depot.old).late }
+        requires { MayCall (map string_bytes self.now.words.items) (D.shown depot.old).held (D.shown depot.old).late }
     {
         let Ok(mut sink) = MemSink::make(self.alloc, room, self.sink_fails_at) else {
             bail!("no memory");
         };
-        let status = self.ask(&mut sink, depot)?;
+        let status = self.ask(threads, &mut sink, depot)?;
         findings.made();
         expect_status(self.alloc, &status, wanted.line, place, findings)?;
         let output = sink.text();
@@ -162,6 +170,20 @@ impl<'a> Case<'a> {
         findings.expect(place, "the output", output, must)
     }
 
+    /// Puts or removes what stands before the call.
+    pub(crate) fn fill<D: Depot>(&self, depot: &mut D) -> Result<()> {
+        for content in self.contents.iter().take(self.before) {
+            let done = match &content.bytes {
+                Some(bytes) => depot.put(&content.key, bytes),
+                None => depot.remove(&content.key),
+            };
+            if done.is_err() {
+                bail!("a key can't be filled");
+            }
+        }
+        Ok(())
+    }
+
     /// Reads back by `get` what the call has left, and compares it with what must be there.
     pub(crate) fn read_back<D: Depot>(
         &self,
@@ -169,7 +191,7 @@ impl<'a> Case<'a> {
         place: &Place<'_>,
         findings: &mut Findings,
     ) -> Result<()> {
-        for content in &self.contents {
+        for content in self.contents.iter().skip(self.before) {
             let length = content.bytes.as_ref().map_or(0, |bytes| bytes.len());
             let mut buf = vec![in self.alloc; 0u8; length]?;
             let got = depot.get(&content.key, &mut buf);
@@ -186,13 +208,26 @@ impl<'a> Case<'a> {
     }
 
     /// Makes the call.
-    #[tactic(auto, using(crate::proofs::Calm::none_late_is_calm))]
-    fn ask<D: Share>(&self, sink: &mut MemSink, depot: &mut D) -> Result<Status>
-        requires { NoneLate (D.shown depot.old).held (D.shown depot.old).late }
+    #[tactic(auto, using(crate::proofs::Calm::may_run, crate::proofs::Calm::may_resume))]
+    fn ask<D: Share>(
+        &self,
+        threads: &(impl Threads + Wait + Sync),
+        sink: &mut MemSink,
+        depot: &mut D,
+    ) -> Result<Status>
+        requires { MayCall (map string_bytes self.now.words.items) (D.shown depot.old).held (D.shown depot.old).late }
     {
         let input = self.input.clone()?;
         let mut source = MemSource::make(input, self.source_fails_at);
-        Ok(top(self.alloc, &self.words, &mut source, sink, depot))
+        Ok(top(
+            threads,
+            self.alloc,
+            &self.words,
+            &mut source,
+            sink,
+            depot,
+            &NoGate,
+        ))
     }
 
     /// Compares what is held under each key that the case names.
@@ -259,6 +294,17 @@ impl<'a> Case<'a> {
             }
         }
         last
+    }
+}
+
+/// Whether the words are for a run that goes on. Where a depot tells its contents, such a run wants to know that they are what its plan
+/// left, which no table can say.
+fn is_resume(words: &[String]) -> bool
+    ensures { result ≡ is_resume (map string_bytes words.now) }
+{
+    match words {
+        [first, ..] => first.as_str() == "resume",
+        [] => false,
     }
 }
 

@@ -9,6 +9,8 @@ use cu_mem::{CallKind, MemDepot, Rule, Script};
 use cu_rows::{Findings, Place, Said, Texts, list_of, number_of, refuse_others, text_of};
 use cu_watch::{LoggedCall, Watched};
 use serde_json::Value;
+use std::sync::Wait;
+use std::thread::Threads;
 
 /// A case that was run, and the calls that it made of the depot.
 #[derive(Clone, Copy)]
@@ -28,6 +30,7 @@ pub(crate) struct Trial<'a> {
 /// - `late` lets each put fail once and land after 0, 1 and so on to below so many calls;
 /// - `sinks`, where it is true, tries each sink that is too small.
 pub(crate) fn run_loops(
+    threads: &(impl Threads + Wait + Sync),
     trial: &Trial<'_>,
     again: &Case<'_>,
     texts: &Texts<'_>,
@@ -42,16 +45,16 @@ pub(crate) fn run_loops(
     };
     let fronts = said.is_set("fronts")?;
     if said.member("ends").is_some() {
-        trial.each_end(again, said.list("ends")?, fronts, findings)?;
+        trial.each_end(threads, again, said.list("ends")?, fronts, findings)?;
     }
     let late = said.number("late")?;
     match (said.member("once"), late) {
-        (Some(once), late) => trial.each_again(texts, once, late.unwrap_or(0), findings)?,
+        (Some(once), late) => trial.each_again(threads, texts, once, late.unwrap_or(0), findings)?,
         (None, Some(_)) => bail!("late puts are tried with once"),
         (None, None) => {}
     }
     if said.is_set("sinks")? {
-        trial.each_sink(findings)?;
+        trial.each_sink(threads, findings)?;
     }
     Ok(())
 }
@@ -60,6 +63,7 @@ impl Trial<'_> {
     /// Runs the case over a depot of its own with this script.
     fn run(
         &self,
+        threads: &(impl Threads + Wait + Sync),
         script: Script,
         room: u64,
         wanted: &Wanted<'_>,
@@ -70,7 +74,8 @@ impl Trial<'_> {
     {
         let mut depot = self.case.depot()?;
         depot.depot.set_script(script);
-        self.case.run(&mut depot, room, wanted, place, findings)?;
+        self.case
+            .run(threads, &mut depot, room, wanted, place, findings)?;
         Ok(depot)
     }
 
@@ -86,6 +91,7 @@ impl Trial<'_> {
     /// Stops before each call, and lets each fail for good.
     fn each_end(
         &self,
+        threads: &(impl Threads + Wait + Sync),
         again: &Case<'_>,
         ends: &[Value],
         fronts: bool,
@@ -96,7 +102,7 @@ impl Trial<'_> {
             return findings.expect_so(&place, false);
         }
         for (at, end) in ends.iter().enumerate() {
-            self.end(again, at, end, fronts, findings)?;
+            self.end(threads, again, at, end, fronts, findings)?;
         }
         Ok(())
     }
@@ -104,6 +110,7 @@ impl Trial<'_> {
     /// Stops before a call, and lets it fail for good.
     fn end(
         &self,
+        threads: &(impl Threads + Wait + Sync),
         again: &Case<'_>,
         at: usize,
         end: &Value,
@@ -122,12 +129,16 @@ impl Trial<'_> {
         let mut stop = Script::none();
         stop.stop_after = Some(at as u64);
         let place = self.place("stopped before call", at);
-        let mut depot = self.run(stop, self.case.room, &wanted, &place, findings)?;
-        run_again(again, &mut depot, &wanted, second, &place, findings)?;
+        let mut depot = self.run(threads, stop, self.case.room, &wanted, &place, findings)?;
+        run_again(
+            threads, again, &mut depot, &wanted, second, &place, findings,
+        )?;
         let place = self.place("failing for good, call", at);
         let script = Script::one(self.rule_for_good(at)?);
-        let mut depot = self.run(script, self.case.room, &wanted, &place, findings)?;
-        run_again(again, &mut depot, &wanted, second, &place, findings)
+        let mut depot = self.run(threads, script, self.case.room, &wanted, &place, findings)?;
+        run_again(
+            threads, again, &mut depot, &wanted, second, &place, findings,
+        )
     }
 
     /// Lets a call and each of its kind on its key that follows fail.
@@ -155,6 +166,7 @@ impl Trial<'_> {
     /// Lets each call fail once, and each put also land late.
     fn each_again(
         &self,
+        threads: &(impl Threads + Wait + Sync),
         texts: &Texts<'_>,
         once: &Value,
         late: u64,
@@ -180,9 +192,9 @@ impl Trial<'_> {
                 is_front: false,
                 stored: self.case.stored(),
             };
-            self.fail_once(at, made.kind, &wanted, findings)?;
+            self.fail_once(threads, at, made.kind, &wanted, findings)?;
             if made.kind == CallKind::Put {
-                self.land_late(at, late, &wanted, findings)?;
+                self.land_late(threads, at, late, &wanted, findings)?;
             }
         }
         Ok(())
@@ -191,6 +203,7 @@ impl Trial<'_> {
     /// Lets a call fail once.
     fn fail_once(
         &self,
+        threads: &(impl Threads + Wait + Sync),
         at: usize,
         kind: CallKind,
         wanted: &Wanted<'_>,
@@ -204,13 +217,21 @@ impl Trial<'_> {
             land: None,
         };
         let place = self.place("failing once, call", at);
-        self.run(Script::one(rule), self.case.room, wanted, &place, findings)?;
+        self.run(
+            threads,
+            Script::one(rule),
+            self.case.room,
+            wanted,
+            &place,
+            findings,
+        )?;
         Ok(())
     }
 
     /// Lets a put fail once and land after 0, 1 and so on to below so many calls.
     fn land_late(
         &self,
+        threads: &(impl Threads + Wait + Sync),
         at: usize,
         late: u64,
         wanted: &Wanted<'_>,
@@ -226,7 +247,14 @@ impl Trial<'_> {
                 land: Some(wait),
             };
             let place = self.place("landing late, call", at);
-            self.run(Script::one(rule), self.case.room, wanted, &place, findings)?;
+            self.run(
+                threads,
+                Script::one(rule),
+                self.case.room,
+                wanted,
+                &place,
+                findings,
+            )?;
         }
         Ok(())
     }
@@ -243,7 +271,11 @@ impl Trial<'_> {
     }
 
     /// Tries each sink that is too small for the output: it takes as much of it as it has room for.
-    fn each_sink(&self, findings: &mut Findings) -> Result<()> {
+    fn each_sink(
+        &self,
+        threads: &(impl Threads + Wait + Sync),
+        findings: &mut Findings,
+    ) -> Result<()> {
         for room in 0..self.case.output.len() {
             let wanted = Wanted {
                 line: "error 12",
@@ -252,7 +284,14 @@ impl Trial<'_> {
                 stored: self.case.stored(),
             };
             let place = self.place("sink of bytes", room);
-            self.run(Script::none(), room as u64, &wanted, &place, findings)?;
+            self.run(
+                threads,
+                Script::none(),
+                room as u64,
+                &wanted,
+                &place,
+                findings,
+            )?;
         }
         Ok(())
     }
@@ -261,6 +300,7 @@ impl Trial<'_> {
 /// Makes a second call over the depot that the first one left, of which no call fails any more, where the table says its line:
 /// without a line all keys are stored then, and with one those that were.
 fn run_again(
+    threads: &(impl Threads + Wait + Sync),
     again: &Case<'_>,
     depot: &mut Watched<MemDepot>,
     first: &Wanted<'_>,
@@ -290,7 +330,7 @@ fn run_again(
         what: "a second call after the end at call",
         number: place.number,
     };
-    again.run(depot, again.room, &wanted, &place, findings)
+    again.run(threads, depot, again.room, &wanted, &place, findings)
 }
 
 fn count_of(value: &Value) -> Result<usize> {

@@ -22,11 +22,14 @@ use serde_json::Value;
 use std::fmt::Write;
 use std::process::ExitCode;
 use std::rt::{Env, Files};
+use std::sync::Wait;
+use std::thread::Threads;
 use std::{env, fs};
 
 /// Runs a case of this kind.
 fn run_case(
     rt: &HostRuntime,
+    threads: &(impl Threads + Wait + Sync),
     kind: &str,
     texts: &Texts<'_>,
     said: &Said<'_>,
@@ -34,8 +37,8 @@ fn run_case(
     findings: &mut Findings,
 ) -> Result<()> {
     match kind {
-        "calls" => run_calls(texts, said, name, findings),
-        "folder" => run_folder(rt, texts, said, name, findings),
+        "calls" => run_calls(threads, texts, said, name, findings),
+        "folder" => run_folder(rt, threads, texts, said, name, findings),
         "depot" => run_depot(rt, texts, said, name, findings),
         "metadata" => run_metadata(texts, said, name, findings),
         "zarray" => run_zarray(texts, said, name, findings),
@@ -54,6 +57,7 @@ fn run_case(
 /// Runs the cases of a table, and writes a line for each.
 fn run_table(
     rt: &HostRuntime,
+    threads: &(impl Threads + Wait + Sync),
     table: &Value,
     printed: &mut String,
     findings: &mut Findings,
@@ -74,7 +78,7 @@ fn run_table(
         };
         let name = said.text("name")?;
         let before = findings.runs();
-        if let Err(error) = run_case(rt, kind, &texts, &said, name, findings) {
+        if let Err(error) = run_case(rt, threads, kind, &texts, &said, name, findings) {
             findings.fail(name, &error)?;
         }
         let runs = findings.runs().saturating_sub(before);
@@ -86,6 +90,7 @@ fn run_table(
 /// Runs the table of a file.
 fn run_file(
     rt: &HostRuntime,
+    threads: &(impl Threads + Wait + Sync),
     file: &str,
     printed: &mut String,
     findings: &mut Findings,
@@ -94,16 +99,21 @@ fn run_file(
     let table = Value::from_str(rt.alloc(), text.as_str())?;
     let before = findings.runs();
     write!(printed, "{file}\n")?;
-    run_table(rt, &table, printed, findings)?;
+    run_table(rt, threads, &table, printed, findings)?;
     let runs = findings.runs().saturating_sub(before);
     write!(printed, "{file}: {runs}\n")?;
     Ok(())
 }
 
 /// Runs the tables that the words name.
-fn run_all(rt: &HostRuntime, printed: &mut String, findings: &mut Findings) -> Result<()> {
+fn run_all(
+    rt: &HostRuntime,
+    threads: &(impl Threads + Wait + Sync),
+    printed: &mut String,
+    findings: &mut Findings,
+) -> Result<()> {
     for word in env::args(rt)?.skip(1) {
-        run_file(rt, word.as_str(), printed, findings).context(format_args!("{word}"))?;
+        run_file(rt, threads, word.as_str(), printed, findings).context(format_args!("{word}"))?;
     }
     Ok(())
 }
@@ -111,7 +121,7 @@ fn run_all(rt: &HostRuntime, printed: &mut String, findings: &mut Findings) -> R
 fn main(rt: HostRuntime) -> Result<ExitCode> {
     let mut printed = String::new(rt.alloc());
     let mut findings = Findings::new(rt.alloc());
-    run_all(&rt, &mut printed, &mut findings)?;
+    run_all(&rt, &rt, &mut printed, &mut findings)?;
     print!(rt; "{printed}")?;
     if findings.count() == 0 {
         return Ok(ExitCode::SUCCESS);

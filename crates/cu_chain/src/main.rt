@@ -5,13 +5,21 @@
 mod plan;
 
 use anyhow::{Result, bail};
-use cu_work::RunMemory;
+use cu_work::{RunMemory, RunOptions, none_done};
 use plan::chain;
 
 fn main(rt: HostRuntime) -> Result<()> {
     let alloc = rt.alloc();
     let plan = chain(alloc)?;
-    let Ok(memory) = RunMemory::make(alloc, &plan, 1) else {
+    let options = RunOptions {
+        workers: 2,
+        retries: 1,
+        backups: false,
+    };
+    let Ok(done) = none_done(alloc, &plan) else {
+        bail!("no memory");
+    };
+    let Ok(memory) = RunMemory::make(alloc, &plan, &options, &done) else {
         bail!("no memory");
     };
     println!(rt;

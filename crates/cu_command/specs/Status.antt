@@ -2,7 +2,7 @@
 use Rattle.std.specs.Prelude.{ℕ, List, [], ◌++◌, codes, decimal}
 use Rattle.std.specs.Fmt.{signed_decimal}
 use Rattle.cu_command.specs.declared.status.Status.{Status}
-use Rattle.cu_command.specs.declared.status.Status.TheVariants.{Done, BadWords, BadExpr, BadType, OverMemory, OverLimit, BadMeta, NoArray, Exists, TaskFailed, ReadFault, WriteFault, BadChunk, DepotFailed, Unequal, BadLoad, NoMemory}
+use Rattle.cu_command.specs.declared.status.Status.TheVariants.{Done, BadWords, BadExpr, BadType, OverMemory, OverLimit, BadMeta, NoArray, Exists, TaskFailed, ReadFault, WriteFault, BadChunk, OtherPlan, NoPlan, DepotFailed, Unequal, BadLoad, NoMemory}
 
 -- the answer's number, which is the exit status of the program
 abbrev pub exit_status : Status → ℕ
@@ -19,6 +19,8 @@ exit_status (TaskFailed op task) = 10
 exit_status ReadFault = 11
 exit_status WriteFault = 12
 exit_status (BadChunk key got want) = 13
+exit_status (OtherPlan place) = 14
+exit_status NoPlan = 15
 exit_status (DepotFailed key) = 16
 exit_status (Unequal place stored plain) = 17
 exit_status (BadLoad code) = 18
@@ -39,6 +41,8 @@ line_of (TaskFailed op task) = codes "error 10 op=" ++ decimal op ++ codes " tas
 line_of ReadFault = codes "error 11"
 line_of WriteFault = codes "error 12"
 line_of (BadChunk key got want) = codes "error 13 key=" ++ key ++ codes " got=" ++ decimal got ++ codes " want=" ++ decimal want
+line_of (OtherPlan place) = codes "error 14 place=" ++ decimal place
+line_of NoPlan = codes "error 15"
 line_of (DepotFailed key) = codes "error 16 key=" ++ key
 line_of (Unequal place stored plain) = codes "error 17 place=" ++ decimal place ++ codes " stored=" ++ signed_decimal stored ++ codes " plain=" ++ signed_decimal plain
 line_of (BadLoad code) = codes "error 18 code=" ++ decimal code

@@ -65,6 +65,12 @@ pub enum Status {
         got: u64,
         want: u64,
     },
+    /// 14: the record of another plan is held, which differs from this plan's first at this byte.
+    OtherPlan {
+        place: u64,
+    },
+    /// 15: no record of this plan is held.
+    NoPlan,
     /// 16: all tries of a call for this key failed.
     DepotFailed {
         key: Key,
@@ -104,6 +110,8 @@ pub fn number(status: &Status) -> u8
         Status::ReadFault => 11,
         Status::WriteFault => 12,
         Status::BadChunk { .. } => 13,
+        Status::OtherPlan { .. } => 14,
+        Status::NoPlan => 15,
         Status::DepotFailed { .. } => 16,
         Status::Unequal { .. } => 17,
         Status::BadLoad { .. } => 18,
@@ -157,6 +165,8 @@ pub fn status_line(status: &Status) -> LineText
             push_field(&mut line, " got=", *got);
             push_field(&mut line, " want=", *want);
         }
+        Status::OtherPlan { place } => push_field(&mut line, "error 14 place=", *place),
+        Status::NoPlan => line.push_str("error 15"),
         Status::DepotFailed { key } => push_key(&mut line, "error 16 key=", key),
         Status::Unequal {
             place,

@@ -1,5 +1,5 @@
 -- Plans with copies: their operations, arrays, values and meanings.
-use Rattle.std.proofs.Common.{◌≡◌, ℕ, zero, suc, ◌<◌, pos, List, [], ◌∷◌, None, Some, Ok, refl, ap, sym, ◌∙◌, subst, codes, arith}
+use Rattle.std.proofs.Common.{◌≡◌, ℕ, zero, suc, ◌<◌, pos, false, List, [], ◌∷◌, None, Some, Ok, refl, ap, sym, ◌∙◌, subst, codes, arith}
 use Rattle.std.specs.Prelude.{slice_get, slice_index, bytes_eq, map}
 use Rattle.std.specs.List.{position_or_len}
 use Rattle.std.proofs.lemmas.Int.{ints}
@@ -39,7 +39,7 @@ abbrev of_form : List ℕ → Form → Node
 of_form name form = record { name = name; form = form }
 
 abbrev with_memory : ℕ → Options
-with_memory allowed = record { allowed = allowed; reserved = 0; split_every = 4; retries = 2 }
+with_memory allowed = record { allowed = allowed; reserved = 0; split_every = 4; retries = 2; workers = 1; backups = false }
 
 abbrev x : Node
 x = of_form (codes "x") (Form.Input (codes "x"))

@@ -1,5 +1,5 @@
 -- Plans of small expressions: their arrays, operations and values.
-use Rattle.std.proofs.Common.{◌≡◌, ℕ, zero, suc, ◌<◌, ◌==◌, pos, true, List, [], ◌∷◌, All, None, Some, refl, ap, sym, ◌∙◌, subst, codes, replicate, arith, if◌then◌else◌}
+use Rattle.std.proofs.Common.{◌≡◌, ℕ, zero, suc, ◌<◌, ◌==◌, pos, true, false, List, [], ◌∷◌, All, None, Some, refl, ap, sym, ◌∙◌, subst, codes, replicate, arith, if◌then◌else◌}
 use Rattle.std.specs.Prelude.{slice_get, bytes_eq}
 use Rattle.std.specs.List.{position_or_len}
 use Rattle.std.proofs.lemmas.List.Elements.{All-nil, All-cons}
@@ -52,7 +52,7 @@ abbrev stored : List ℕ → Dtype → InputInfo
 stored name t = record { name = name; layout = made_layout (ten t) }
 
 abbrev options : Options
-options = record { allowed = 10000; reserved = 0; split_every = 4; retries = 2 }
+options = record { allowed = 10000; reserved = 0; split_every = 4; retries = 2; workers = 1; backups = false }
 
 abbrev b : Node
 b = of_form (codes "b") (Form.Input (codes "b"))

@@ -34,7 +34,7 @@ abbrev stored_last : Node → Node → Expression
 stored_last x y = record { nodes = x ∷ y ∷ []; out = 1; store_as = codes "y" }
 
 abbrev options : Options
-options = record { allowed = 64; reserved = 0; split_every = 4; retries = 2 }
+options = record { allowed = 64; reserved = 0; split_every = 4; retries = 2; workers = 1; backups = false }
 
 abbrev a : Node
 a = of_form (codes "a") (Form.Input (codes "a"))
@@ -90,7 +90,7 @@ unfolding wrapped
 the_sum_is_meant = refl
 
 -- merged in pairs it has two rounds
-in_pairs : (plan_of summed sum_infos inputs (record { allowed = 64; reserved = 0; split_every = 2; retries = 2 })).ops
+in_pairs : (plan_of summed sum_infos inputs (record { allowed = 64; reserved = 0; split_every = 2; retries = 2; workers = 1; backups = false })).ops
     ≡ record { op = Fold Sum (record { 0 = 63 }) 0 1; node = 1; projected = 24 } ∷ record { op = Merge Sum 0 2 1 2; node = 1; projected = 32 } ∷ record { op = Merge Sum 0 2 2 3; node = 1; projected = 32 } ∷ []
 in_pairs = refl
 

@@ -1,5 +1,5 @@
 -- Plans of small expressions with views: their operations, values and meanings.
-use Rattle.std.proofs.Common.{◌≡◌, ℕ, zero, suc, ◌+◌, ◌*◌, ◌<◌, pos, negsuc, List, [], ◌∷◌, None, Some, refl, ap, sym, ◌∙◌, subst, codes, arith}
+use Rattle.std.proofs.Common.{◌≡◌, ℕ, zero, suc, ◌+◌, ◌*◌, ◌<◌, pos, negsuc, false, List, [], ◌∷◌, None, Some, refl, ap, sym, ◌∙◌, subst, codes, arith}
 use Rattle.std.specs.Prelude.{slice_get, slice_index, bytes_eq}
 use Rattle.std.specs.List.{position_or_len}
 use Rattle.std.proofs.lemmas.Int.{ints}
@@ -35,7 +35,7 @@ abbrev stored_last : Node → Node → Expression
 stored_last x y = record { nodes = x ∷ y ∷ []; out = 1; store_as = codes "y" }
 
 abbrev options : Options
-options = record { allowed = 64; reserved = 0; split_every = 4; retries = 2 }
+options = record { allowed = 64; reserved = 0; split_every = 4; retries = 2; workers = 1; backups = false }
 
 abbrev stored : List ℕ → NodeInfo → InputInfo
 stored name i = record { name = name; layout = made_layout i }

@@ -9,4 +9,8 @@ pub struct Options {
     pub split_every: u32,
     /// How often a call for a key, or a task, is tried again.
     pub retries: u32,
+    /// How many workers run tasks: 1 to 64.
+    pub workers: u32,
+    /// Whether an idle worker may run a second copy of a task that runs.
+    pub backups: bool,
 }

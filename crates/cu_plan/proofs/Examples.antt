@@ -1,5 +1,5 @@
 -- What some plans say, and why some expressions have none.
-use Rattle.std.proofs.Common.{◌≡◌, ◌++◌, pos, List, ℕ, [], ◌∷◌, None, Some, refl, codes}
+use Rattle.std.proofs.Common.{◌≡◌, ◌++◌, pos, false, List, ℕ, [], ◌∷◌, None, Some, refl, codes}
 use Rattle.std.specs.Fmt.{digits}
 use Rattle.cu_num.specs.declared.types.Dtype.TheVariants.{Int16, Int32}
 use Rattle.cu_num.specs.declared.functions.Fn2.TheVariants.{Add, Multiply}
@@ -20,7 +20,7 @@ use Rattle.cu_plan.specs.Text.{operation_line, plan_line, plan_text}
 use Rattle.cu_plan.specs.declared.fault.PlanFault.TheVariants.{OverMemory, OverLimit}
 
 abbrev with_memory : ℕ → Options
-with_memory allowed = record { allowed = allowed; reserved = 0; split_every = 4; retries = 2 }
+with_memory allowed = record { allowed = allowed; reserved = 0; split_every = 4; retries = 2; workers = 1; backups = false }
 
 abbrev rechunk : List ℕ → ℕ → ℕ → Node
 rechunk name source size = record { name = name; form = Form.Rechunk (Arg.Node source ∷ []) (size ∷ []) }

@@ -94,6 +94,8 @@ fn options_of(said: &Said<'_>) -> Result<Options>
         reserved: 0,
         split_every,
         retries: 0,
+        workers: 1,
+        backups: false,
     })
 }
 

@@ -14,6 +14,8 @@ use Rattle.cu_command.specs.declared.status.Status.{Status}
 use Rattle.cu_command.specs.declared.status.Status.TheVariants.{Done, BadWords, BadExpr, BadType, OverMemory, OverLimit, BadMeta, NoArray, Exists, TaskFailed, ReadFault, WriteFault, BadChunk, DepotFailed, BadLoad, NoMemory}
 use Rattle.cu_lower.specs.declared.options.Options.{Options}
 use Rattle.cu_top.specs.Call.{RunTells, IsRefusedText}
+use Rattle.cu_top.specs.Drop.{Dropped, DropTells}
+use Rattle.cu_top.specs.Resume.{WasResumed, ResumeTells}
 use Rattle.cu_top.specs.Run.{Scene, RunCase, case, Ran}
 
 module _ (lack : Bool) (options : Options) (old new : Scene) where
@@ -105,3 +107,18 @@ refused_text lack options old new left f NoMemory told err tells = tt
 refused_text lack options old new left f status told err (text, read, ran) =
     refused_run (case options text old new) f
     (same_expression left text new.source.told (subst (λ (o : Option (List ℕ)). ReadsAll o new.source.told text) told read) ∙ err) lack status ran
+
+-- ---- the other commands
+
+module _ (lack : Bool) (options : Options) (old new : Scene) where
+  -- what a run of the text answers that goes on
+  pub told_resume : (text : List ℕ) (status : Status) → ReadsAll old.source.told new.source.told text → WasResumed lack (case options text old new) status → ResumeTells lack options old new status
+  told_resume text ReadFault read why = absurd why
+  told_resume text NoMemory read why = inr (text, read, why)
+  told_resume text status read why = (text, read, why)
+
+  -- what the removal of its plan answers
+  pub told_drop : (text : List ℕ) (status : Status) → ReadsAll old.source.told new.source.told text → Dropped (case options text old new) status → DropTells options old new status
+  told_drop text ReadFault read why = absurd why
+  told_drop text NoMemory read why = inr (text, read, why)
+  told_drop text status read why = (text, read, why)

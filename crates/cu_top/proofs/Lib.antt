@@ -2,10 +2,15 @@ mod AskLemmas
 mod CallLemmas
 mod CheckLemmas
 mod Completeness
+mod DriveLemmas
+mod DropLemmas
+mod HeldLemmas
+mod LawLemmas
 mod PlanLemmas
 mod PlannedLemmas
 mod PrepareLemmas
 mod RecordExample
 mod RecordLemmas
+mod ReopenLemmas
 mod RunLemmas
 mod WordsExample

@@ -1,67 +1,54 @@
 -- A run: what clears its way, what it keeps once it is started, and how it ends.
-use Rattle.std.proofs.Common.{◌≡◌, ◌⊎◌, inl, inr, ℕ, zero, suc, ◌+◌, ◌*◌, ◌<◌, ◌≤◌, ◌^◌, List, [], ◌∷◌, length, map, All, Contains, Option, Some, None, Result, Ok, Err, IfOk, IfErr, refl, sym, ap, ◌∙◌, subst, arith}
-use Rattle.std.specs.Prelude.{OnOk, OnErr, IsTrue, Bool, true, false, ◌==◌, ◌&&◌, if◌then◌else◌}
+use Rattle.std.proofs.Common.{◌≡◌, ◌⊎◌, inl, inr, ℕ, zero, suc, ◌+◌, ◌<◌, ◌≤◌, List, [], ◌∷◌, length, map, All, Contains, Option, Some, None, Result, Ok, Err, refl, sym, ap, ◌∙◌, subst, arith}
+use Rattle.std.specs.Prelude.{Bool, false}
 use Rattle.std.proofs.Common.{replicate}
 use Rattle.std.proofs.lemmas.List.{get_or-replicate, length-replicate}
-use Rattle.cu_history.specs.declared.entry.EventKind.{EventKind}
 use Rattle.std.proofs.lemmas.Bool.{cases_lt}
-use Rattle.std.proofs.lemmas.Nat.{mul-le}
 use Rattle.std.proofs.lemmas.List.Elements.{All-weaker, All-contains, Contains-append_left, Contains-append_right}
 use Rattle.cu_store.specs.Faults.{last_count, Rose}
 use Rattle.cu_store.specs.Held.{Contents, IsAmong}
-use Rattle.cu_store.specs.Steps.{Shown, Changes, NoChange, PutOf, OrLate, Lands, Steps}
+use Rattle.cu_store.specs.Steps.{Shown, NoChange, OrLate, Lands, Steps}
 use Rattle.cu_zarr.specs.Key.{metadata_key_of}
 use Rattle.cu_name.specs.Keys.{record_key_of}
 use Rattle.cu_op.specs.declared.cells.Cell.{Cell}
 use Rattle.cu_op.specs.Cells.{tasks_of}
-use Rattle.cu_op.specs.PlanView.{PlanView, operation_at}
+use Rattle.cu_op.specs.PlanView.{PlanView}
 use Rattle.cu_op.specs.Schedule.{op_of, key_of}
 use Rattle.cu_op.specs.Sound.{Sound}
-use Rattle.cu_op.specs.Value.{Elements, stored_inputs}
+use Rattle.cu_op.specs.Value.{Elements}
 use Rattle.cu_op.specs.Walks.{written_chunks}
 use Rattle.cu_op.proofs.TaskCells.{some_task}
-use Rattle.cu_history.specs.declared.entry.Entry.{Entry}
-use Rattle.cu_history.specs.History.{is_start, is_done, is_failed, count_kind, count_of_task}
-use Rattle.cu_state.specs.Left.{IsQuiet, IsLeft, RunChange}
-use Rattle.cu_lower.specs.Premises.{OutputDiffers}
-use Rattle.cu_state.specs.Names.{HasPlanNames}
-use Rattle.cu_state.specs.Pieces.{PlanRun, Piece, Text, Chunk, IsPiece, piece_key, text_at, KeysApart, InputsApart, IsComplete}
-use Rattle.cu_table.specs.declared.state.Ending.{Ending}
-use Rattle.cu_table.specs.declared.state.Ending.TheVariants.{Broken}
-use Rattle.cu_table.specs.Machine.{Machine, AllDone, opening}
-use Rattle.cu_table.specs.Numbers.{IsTask}
-use Rattle.cu_table.specs.Step.{Settings, Replays}
+use Rattle.cu_state.specs.Left.{IsLeft, RunChange}
+use Rattle.cu_state.specs.Pieces.{Piece, Text, Chunk, IsPiece, piece_key, KeysApart}
+use Rattle.cu_table.specs.Machine.{opening}
 use Rattle.cu_table.specs.Table.{TableView, undone_among}
-use Rattle.cu_work.specs.Alone.{IsDecided}
-use Rattle.cu_work.specs.Drive.{task_count, IsBadChunk, IsInputKey}
+use Rattle.cu_work.specs.Drive.{task_count}
 use Rattle.cu_work.specs.Order.{IsFree, IsFirst, plan_keys, operation_keys, task_keys}
-use Rattle.cu_work.specs.Run.{IsRecordFirst as IsTextFirst, IsUnstored as IsTextUnstored, HoldsTexts, run_of as work_run}
-use Rattle.cu_work.specs.Shared.{none_done, IsOpen, IsOpenAs, HasDriven, HoldsDone, IfBadChunk, IfComplete, IfLacked}
-use Rattle.cu_work.specs.declared.run.Texts.{Texts}
+use Rattle.cu_work.specs.Run.{IsRecordFirst as IsTextFirst}
+use Rattle.cu_work.specs.Shared.{none_done, IsOpen}
 use Rattle.cu_work.specs.declared.outcome.Outcome.{Outcome}
 use Rattle.cu_work.specs.declared.outcome.Outcome.TheVariants as ended
+use Rattle.cu_work.specs.declared.outcome.RunEnd.{RunEnd}
+use Rattle.cu_work.specs.declared.run.HeldTexts.TheVariants.{Neither}
 use Rattle.cu_work.specs.declared.run.RunFault.{RunFault}
 use Rattle.cu_work.specs.declared.run.RunFault.TheVariants as text
-use Rattle.cu_work.proofs.FewFailures.{failures_few}
-use Rattle.cu_work.proofs.Running.{left_stored}
 use Rattle.cu_work.specs.declared.way.WayFault.{WayFault}
 use Rattle.cu_work.specs.declared.way.WayFault.TheVariants as way
 use Rattle.cu_command.specs.Seen.{Stepped}
 use Rattle.cu_command.proofs.SeenLemmas.{stepped, stepped_then, stepped_wider, stepped_none}
+use Rattle.cu_command.specs.declared.job.Job.{Job}
 use Rattle.cu_command.specs.declared.status.Status.{Status}
 use Rattle.cu_command.specs.declared.status.Status.TheVariants.{Done, WriteFault}
 use Rattle.cu_top.specs.Ask.{IsFirstOf, IsAskEnd, answer_of}
-use Rattle.cu_top.specs.Prepare.{HasPlan, keys_of, out_metadata}
-use Rattle.cu_top.specs.Record.{record_text}
-use Rattle.cu_top.specs.Quiet.{run_of_job, IsCalm, IsCalmFor}
-use Rattle.cu_top.specs.Run.{RunCase, job_run, plan_in, env_of, IsAccepted, IsStarted, IsCleared, IsMeant, HoldsAll, WhereQuiet, WhereLeft, WroteTo, IsHistory, IsCounted, HasBroken, settings_of, Ran, Ended, PrintsOnly, answer_to}
-use Rattle.cu_top.specs.declared.report.RunCounts.{RunCounts}
-use Rattle.cu_command.specs.declared.job.Job.{Job}
-use Rattle.cu_top.proofs.PlanLemmas.{lent_within, differs}
+use Rattle.cu_top.specs.Driven.{Driven, HasEnded, IsUnrun, counts_in, outcome_answer, fault_answer, drive_answer}
+use Rattle.cu_top.specs.Prepare.{HasPlan, keys_of}
+use Rattle.cu_top.specs.Quiet.{IsCalm, IsCalmFor}
+use Rattle.cu_top.specs.Run.{RunCase, job_run, plan_in, env_of, IsAccepted, IsStarted, IsCleared, WhereQuiet, WroteTo, IsCounted, TextPut, Ran, Ended, PrintsOnly}
 use Rattle.cu_top.specs.Report.{report_line}
-use Rattle.cu_state.proofs.Keeping.{left_kept, begun_since}
-use Rattle.cu_state.proofs.PlanNames.{keys_apart, inputs_apart}
-use Rattle.cu_store.proofs.Steps.{steps_none}
+use Rattle.cu_top.specs.declared.report.RunCounts.{RunCounts}
+use Rattle.cu_top.proofs.DriveLemmas.{HistoryLaws, PlanLaws, apart_run, open_start, left_start, rose_since, started_case, run_step, left_end, stored}
+use Rattle.cu_top.proofs.DriveLemmas.{history_of, few_failures, broken_task, broken_by, broken_rose}
+use Rattle.cu_top.proofs.PlanLemmas.{lent_within}
 
 -- ---- what is absent now was absent before
 
@@ -149,281 +136,141 @@ piece_listed c job (Chunk k) sound piece =
 
 -- ---- a run that was started
 
--- why no task was run
-abbrev pub IsNotRun : ℕ → PlanRun → Shown → Shown → RunFault → Type 0
-IsNotRun tries r start new (text.TextFailed key) = ((key ≡ (text_at r 0).0) ⊎ (key ≡ (text_at r 1).0)) × Rose tries start.faults new.faults
-IsNotRun tries r start new text.ShareFailed = Rose tries start.faults new.faults
-IsNotRun tries r start new text.NoMemory = IsTrue new.lacks
-
--- one of the texts is put
-abbrev pub TextOf : PlanRun → Changes
-TextOf r key value = PutOf (text_at r 0).0 (text_at r 0).1 key value ⊎ PutOf (text_at r 1).0 (text_at r 1).1 key value
-
--- what storing the plan tells
-pub record RunTold (retries : ℕ) (r : PlanRun) (lack : Bool) (start new : Shown) (fresh now : TableView) (result : Result Outcome RunFault) : Type 0 where
-  pub step : Steps (RunChange r start) 0 last_count start new
-  pub texts : (env : Elements) → IsLeft r env start → OnOk result (HoldsTexts r env new)
-  pub first : (env : Elements) → IsLeft r env start → IsTextFirst r env last_count start new
-  pub unstored : (env : Elements) → IsLeft r env start → IfErr result (IsTextUnstored r env (retries + 1) start new)
-  pub refused : OnErr result (Steps (TextOf r) 0 (3 * (retries + 1)) start new)
-  pub cause : IfErr result (IsNotRun (retries + 1) r start new)
-  pub driven : IfOk result (HasDriven fresh now start new)
-  pub done : (env : Elements) → IsLeft r env start → IfOk result (λ o. HoldsDone r env now.state new)
-  pub complete : (env : Elements) → IsLeft r env start → IfOk result (λ o. IfComplete o (IsComplete r env new))
-  pub bad : IfOk result (λ o. IfBadChunk o (IsBadChunk r.plan new))
-  pub input : (env : Elements) → IsLeft r env start → IfOk result (λ o. IfBadChunk o (λ key got want. IsInputKey r.plan key))
-  pub lacked : IfOk result (λ o. IfLacked o (IsTrue lack))
-
--- the table before the first task
-abbrev pub fresh_table : PlanView → ℕ → TableView
-fresh_table p retries = record { settings = record { plan = p; retries = retries; backups = false }; done = none_done p; history = []; state = opening (none_done p) }
-
--- the laws of histories that the report and the cause of a task rest on
-pub record HistoryLaws : Type 0 where
-  pub whole : (s : Settings) (done : List Bool) (history : List Entry) (m : Machine) → Replays s done history m
-      → s.backups ≡ false → AllDone s.plan m → count_kind is_start history ≡ count_kind is_failed history + undone_among (opening done).tasks
-  pub fresh : (done : List Bool) → All (λ d. d ≡ false) done → undone_among (opening done).tasks ≡ length done
-  pub task : (s : Settings) (done : List Bool) (history : List Entry) (m : Machine) (op task : ℕ) → Replays s done history m → m.ended ≡ Some (Broken op task) → IsTask s.plan op task
-  pub exactly : (s : Settings) (done : List Bool) (history : List Entry) (m : Machine) (op task : ℕ) → Replays s done history m → IsTask s.plan op task → m.ended ≡ Some (Broken op task)
-      → count_of_task is_failed op task history ≡ s.retries + 1
-  pub undone : (s : Settings) (done : List Bool) (history : List Entry) (m : Machine) (op task : ℕ) → Replays s done history m → m.ended ≡ Some (Broken op task)
-      → count_of_task is_done op task history ≡ 0
-
--- the entries of a task among all
-fewer : (a b d : Bool) → (if a && b && d then 1 else 0) ≤ (if a then 1 else 0)
-fewer true true true = omega arith
-fewer true true false = omega arith
-fewer true false true = omega arith
-fewer true false false = omega arith
-fewer false b d = omega arith
-
-few_of_task : (f : EventKind → Bool) (op task : ℕ) (history : List Entry) → count_of_task f op task history ≤ count_kind f history
-few_of_task f op task [] = omega arith
-few_of_task f op task (e ∷ es) =
-    let rest = few_of_task f op task es in
-    let one = fewer (f e.kind) (e.op == op) (e.task == task) in
-    omega (arith, rest, one)
-
 all_replicated : (n : ℕ) → All (λ (d : Bool). d ≡ false) (replicate n false)
 all_replicated n k d below = get_or-replicate n k false d (let l = length-replicate n false in omega (arith, below, l))
 
--- what was told after a step was told before it
-told_before : (W : Changes) (a b : Option Contents) (now : Contents) → Lands W a b → b ≡ Some now → (held : Contents) × (a ≡ Some held)
-told_before W None None now lands told = cc
-told_before W None (Some b) now lands told = absurd lands
-told_before W (Some a) b now lands told = (a, refl)
-
-some_held : (a b : Contents) → ◌≡◌ {A = Option Contents} (Some a) (Some b) → a ≡ b
-some_held a b e = cc
-
--- the law of what a run finds where no piece is held
-abbrev pub LeftLaw : Type 0
-LeftLaw = (r : PlanRun) (shown : Shown) (held : Contents) → Sound r.plan → KeysApart r → shown.held ≡ Some held
-    → ((q : Piece) → IsPiece r q → held (piece_key r q) ≡ None) → IsQuiet r (stored_inputs r.plan.arrays held) held shown.late → IsLeft r (stored_inputs r.plan.arrays held) shown
-
--- the laws of a plan that a run rests on
-pub record PlanLaws (c : RunCase) (job : Job) : Type 0 where
-  pub sound : Sound (plan_in c job)
-  pub needs : (j : ℕ) → j < length (plan_in c job).ops → (operation_at (plan_in c job).ops j).projected ≤ (plan_in c job).allowed
-  pub names : OutputDiffers job.expr → HasPlanNames (job_run c job) job.expr.store_as (record_text c.options job) (out_metadata job)
-  pub left : LeftLaw
-  pub meant : (entry : Contents) (shown : Shown) (left : IsLeft (job_run c job) (env_of c job entry) shown) → IsComplete (job_run c job) (env_of c job entry) shown → IsMeant job entry left.held
+-- how many tasks aren't done at first where none is
+abbrev pub FreshLaw : Type 0
+FreshLaw = (done : List Bool) → All (λ d. d ≡ false) done → undone_among (opening done).tasks ≡ length done
 
 module _ (c : RunCase) (job : Job) (laws : PlanLaws c job) (start : Shown) (cleared : IsCleared c.options c.text c.old.depot start job) where
   keys : KeysApart (job_run c job)
-  keys = keys_apart (job_run c job) job.expr.store_as (record_text c.options job) (out_metadata job) laws.sound (laws.names (differs job.expr cleared.own))
-
-  pub apart_run : KeysApart (job_run c job)
-  apart_run = keys
-
-  pub apart_inputs : InputsApart (job_run c job)
-  apart_inputs = inputs_apart (job_run c job) job.expr.store_as (record_text c.options job) (out_metadata job) laws.sound (laws.names (differs job.expr cleared.own))
+  keys = apart_run c job laws cleared.own
 
   left_old : WhereQuiet c job (λ env. IsLeft (job_run c job) env c.old.depot)
   left_old entry told calm =
       laws.left (job_run c job) c.old.depot entry laws.sound keys told
       (λ q piece. All-contains (IsFree entry) (keys_of c.options job) (piece_key (job_run c job) q) (cleared.free entry told) (piece_listed c job q laws.sound piece)) calm
 
-  -- what was left so at first is left so where the run starts
-  kept : (env : Elements) → IsLeft (job_run c job) env c.old.depot → IsLeft (job_run c job) env start
-  kept env left = left_kept (job_run c job) env c.old.depot left 0 cleared.spared.calls start (steps_none cleared.spared.step)
-
-  left_start : WhereLeft c job (λ env. IsLeft (job_run c job) env start)
-  left_start entry told left = kept (env_of c job entry) left
-
-  change_since : (key : List ℕ) (value : Option (List ℕ)) → RunChange (job_run c job) start key value → RunChange (job_run c job) c.old.depot key value
-  change_since key value (q, bytes, piece, at, is, valued) = (q, bytes, piece, at, is, λ env left. valued env (kept env left))
-
-  rose_since : (n : ℕ) → Rose n start.faults c.new.depot.faults → Rose n c.old.depot.faults c.new.depot.faults
-  rose_since n rose = let earlier = cleared.spared.step.count in omega (arith, rose, earlier)
-
   -- the store is open for the run, where nothing wrong was late when it began
-  calm_later : (now : Option Contents) → start.held ≡ now → IsCalmFor (job_run c job) c.old.depot.held c.old.depot.late → IsOpenAs (job_run c job) now start
-  calm_later None told calm = tt
-  calm_later (Some now) told calm =
-      let (entry, e) = told_before (OrLate NoChange c.old.depot.late) c.old.depot.held start.held now cleared.spared.step.lands told in
-      let left = kept (env_of c job entry) (left_old entry e (subst (λ (h : Option Contents). IsCalmFor (job_run c job) h c.old.depot.late) e calm)) in
-      subst (λ (h : Contents). IsLeft (job_run c job) (stored_inputs (plan_in c job).arrays h) start) (some_held left.held now (sym left.told ∙ told))
-      (left_stored (job_run c job) (env_of c job entry) start left)
+  pub open_cleared : IsCalm c.options c.text c.old.depot → IsOpen (job_run c job) start
+  open_cleared calm =
+      open_start c job laws start cleared.spared
+      (λ entry told. left_old entry told (subst (λ (h : Option Contents). IsCalmFor (job_run c job) h c.old.depot.late) told (calm job cleared.accepted cleared.planned)))
 
-  pub open_start : IsCalm c.options c.text c.old.depot → IsOpen (job_run c job) start
-  open_start calm = calm_later start.held refl (calm job cleared.accepted cleared.planned)
+  module _ (lack : Bool) (histories : HistoryLaws) (fresh : FreshLaw) where
+    abbrev pub none : List Bool
+    none = none_done (plan_in c job)
 
-  module _ (lack : Bool) (histories : HistoryLaws) (now : TableView) (result : Result Outcome RunFault)
-      (told : RunTold c.options.retries (job_run c job) lack start c.new.depot (fresh_table (plan_in c job) c.options.retries) now result) where
-    run_started : IsStarted c job
-    run_started = record {
-      accepted = cleared.accepted;
-      planned = cleared.planned;
-      sound = laws.sound;
-      room = lent_within (plan_in c job) laws.sound laws.needs;
-      own = cleared.own;
-      apart = keys;
-      free = cleared.free;
-      step = stepped_then (stepped_none cleared.spared) (stepped_wider change_since (stepped told.step));
-      opens = left_old;
-      left = λ entry is calm.
-          let at = left_start entry is calm in
-          left_kept (job_run c job) (env_of c job entry) start at 0 last_count c.new.depot (begun_since (job_run c job) (env_of c job entry) start at 0 last_count c.new.depot told.step);
-      first = λ entry is calm.
-          elim (told.first (env_of c job entry) (left_start entry is calm)) [
-            | inl step ↦ inr (stepped_then (stepped_none cleared.spared) (stepped step))
-            | inr holds ↦ inl holds
-          ];
-    }
+    module _ (step : Steps (RunChange (job_run c job) start) 0 last_count start c.new.depot)
+        (first : (env : Elements) → IsLeft (job_run c job) env start → IsTextFirst (job_run c job) env last_count start c.new.depot) where
+      run_started : IsStarted c job
+      run_started = record {
+        accepted = cleared.accepted;
+        planned = cleared.planned;
+        sound = laws.sound;
+        room = lent_within (plan_in c job) laws.sound laws.needs;
+        own = cleared.own;
+        apart = keys;
+        free = cleared.free;
+        step = run_step c job laws start cleared.spared Neither none lack step;
+        opens = left_old;
+        left = left_end c job laws start cleared.spared Neither none lack step;
+        first = λ entry is calm.
+            elim (first (env_of c job entry) (left_start c job laws start cleared.spared entry is calm)) [
+              | inl step ↦ inr (stepped_then (stepped_none cleared.spared) (stepped step))
+              | inr holds ↦ inl holds
+            ];
+      }
 
-    -- the output of a run whose pieces are all held
-    stored : WhereLeft c job (λ env. IsComplete (job_run c job) env c.new.depot) → HoldsAll c job
-    stored complete = (
-      complete,
-      λ entry now is calm there.
-          let left = run_started.left entry is calm in
-          let same : left.held ≡ now = some_held left.held now (sym left.told ∙ there) in
-          subst (IsMeant job entry) same (laws.meant entry c.new.depot left (complete entry is calm)),
-    )
+      counted : (t : TableView) → HasEnded (started_case c job laws start cleared.spared Neither none lack) ended.Complete t → IsCounted c job (counts_in t.history)
+      counted t ends =
+          let all = fresh none (all_replicated (task_count (plan_in c job))) in
+          let length_is : length none ≡ task_count (plan_in c job) = length-replicate (task_count (plan_in c job)) false in
+          let least = ends.counts.0 in (
+            (t.history, t.state, history_of c job laws start cleared.spared Neither none lack ended.Complete t ends, (ends.driven.decided.1, refl, refl)),
+            omega (arith, least, all, length_is),
+            λ alone. (let exactly = ends.counts.1 alone in omega (arith, exactly, all, length_is)),
+            few_failures c job laws start cleared.spared Neither none lack ended.Complete t ends ends.driven.decided.0,
+          )
 
-    -- the history of the tasks
-    legal_of : (o : Outcome) → HasDriven (fresh_table (plan_in c job) c.options.retries) now start c.new.depot o → Replays (settings_of c job) (none_done (plan_in c job)) now.history now.state
-    legal_of o driven =
-        subst (λ (d : List Bool). Replays (settings_of c job) d now.history now.state) driven.done
-        (subst (λ (s : Settings). Replays s now.done now.history now.state) driven.settings driven.legal)
-
-    history_of : (o : Outcome) → HasDriven (fresh_table (plan_in c job) c.options.retries) now start c.new.depot o → IsHistory c job now.history now.state
-    history_of o driven = record {
-      legal = legal_of o driven;
-      resting = driven.resting;
-      rose = rose_since (count_kind is_failed now.history) driven.rose;
-    }
-
-    counted : (counts : RunCounts) → counts.starts ≡ count_kind is_start now.history → counts.failures ≡ count_kind is_failed now.history
-        → HasDriven (fresh_table (plan_in c job) c.options.retries) now start c.new.depot ended.Complete → IsCounted c job counts
-    counted counts starts failures driven =
-        let legal = legal_of ended.Complete driven in
-        let whole = histories.whole (settings_of c job) (none_done (plan_in c job)) now.history now.state legal refl driven.decided.1 in
-        let fresh = histories.fresh (none_done (plan_in c job)) (all_replicated (task_count (plan_in c job))) in
-        let all : length (none_done (plan_in c job)) ≡ task_count (plan_in c job) = length-replicate (task_count (plan_in c job)) false in
-        let few : count_kind is_failed now.history ≤ c.options.retries * task_count (plan_in c job) = failures_few (settings_of c job) (none_done (plan_in c job)) now.history now.state legal driven.decided.0 in (
-          (now.history, now.state, history_of ended.Complete driven, (driven.decided.1, starts, failures)),
-          omega (arith, whole, fresh, all, starts, failures),
-          subst (λ (n : ℕ). n ≤ c.options.retries * task_count (plan_in c job)) (sym failures) few,
-        )
-
-    broken_by : (op task : ℕ) → HasDriven (fresh_table (plan_in c job) c.options.retries) now start c.new.depot (ended.Broken op task)
-        → ((env : Elements) → IsLeft (job_run c job) env start → HoldsDone (job_run c job) env now.state c.new.depot) → HasBroken c job op task now.history now.state
-    broken_by op task driven done =
-        let legal = legal_of (ended.Broken op task) driven in
-        let is = histories.task (settings_of c job) (none_done (plan_in c job)) now.history now.state op task legal driven.decided in (
-          driven.decided,
-          histories.exactly (settings_of c job) (none_done (plan_in c job)) now.history now.state op task legal is driven.decided,
-          histories.undone (settings_of c job) (none_done (plan_in c job)) now.history now.state op task legal driven.decided,
-          λ entry told_entry calm. done (env_of c job entry) (left_start entry told_entry calm),
-        )
-
-    broken_rose : (op task : ℕ) → HasDriven (fresh_table (plan_in c job) c.options.retries) now start c.new.depot (ended.Broken op task) → Rose (c.options.retries + 1) c.old.depot.faults c.new.depot.faults
-    broken_rose op task driven =
-        let legal = legal_of (ended.Broken op task) driven in
-        let is = histories.task (settings_of c job) (none_done (plan_in c job)) now.history now.state op task legal driven.decided in
-        let exactly = histories.exactly (settings_of c job) (none_done (plan_in c job)) now.history now.state op task legal is driven.decided in
-        let few = few_of_task is_failed op task now.history in
-        let rose = rose_since (count_kind is_failed now.history) driven.rose in
-        omega (arith, exactly, few, rose)
-
-  -- what a run comes to
-  pub run_ended : (lack : Bool) → HistoryLaws → (now : TableView) (result : Result Outcome RunFault) (counts : RunCounts)
-      → counts.starts ≡ count_kind is_start now.history → counts.failures ≡ count_kind is_failed now.history
-      → RunTold c.options.retries (job_run c job) lack start c.new.depot (fresh_table (plan_in c job) c.options.retries) now result
-      → Ended lack c job (answer_to result (record_key_of job.expr.store_as) counts)
-  run_ended lack histories now (Ok ended.Complete) counts starts failures told = (
-    run_started lack histories now (Ok ended.Complete) told,
-    stored lack histories now (Ok ended.Complete) told (λ entry is calm. told.complete (env_of c job entry) (left_start entry is calm)),
-    counted lack histories now (Ok ended.Complete) told counts starts failures told.driven,
-  )
-  run_ended lack histories now (Ok (ended.Broken op task)) counts starts failures told =
-      let started = run_started lack histories now (Ok (ended.Broken op task)) told in
-      let legal = legal_of lack histories now (Ok (ended.Broken op task)) told (ended.Broken op task) told.driven in
-      let is = histories.task (settings_of c job) (none_done (plan_in c job)) now.history now.state op task legal told.driven.decided in (
-        broken_rose lack histories now (Ok (ended.Broken op task)) told op task told.driven,
-        (
-          job,
-          started,
-          (
-            is.operation,
-            is.number,
-            λ entry k held listed. All-contains (IsFree entry) (keys_of c.options job) (key_of (plan_in c job).arrays k) (cleared.free entry held) (written_key c job op task k is.operation is.number listed),
-            λ entry held calm. told.texts (env_of c job entry) (left_start entry held calm),
+      -- what a run comes to whose tasks were run
+      ended_by : (o : Outcome) (t : TableView) → HasEnded (started_case c job laws start cleared.spared Neither none lack) o t → Ended lack c job (outcome_answer o (counts_in t.history))
+      ended_by ended.Complete t ends = (
+        run_started,
+        stored c job laws start cleared.spared Neither none lack step (λ entry is calm. ends.complete (env_of c job entry) (left_start c job laws start cleared.spared entry is calm)),
+        counted t ends,
+      )
+      ended_by (ended.Broken op task) t ends =
+          let is = broken_task c job laws start cleared.spared Neither none lack histories t op task ends in (
+            broken_rose c job laws start cleared.spared Neither none lack histories t op task ends,
             (
-              now.history,
-              now.state,
-              history_of lack histories now (Ok (ended.Broken op task)) told (ended.Broken op task) told.driven,
-              broken_by lack histories now (Ok (ended.Broken op task)) told op task told.driven told.done,
+              job,
+              run_started,
+              (
+                is.operation,
+                is.number,
+                λ entry k held listed. All-contains (IsFree entry) (keys_of c.options job) (key_of (plan_in c job).arrays k) (cleared.free entry held) (written_key c job op task k is.operation is.number listed),
+                λ entry held calm. ends.texts (env_of c job entry) (left_start c job laws start cleared.spared entry held calm),
+                (
+                  t.history,
+                  t.state,
+                  history_of c job laws start cleared.spared Neither none lack (ended.Broken op task) t ends,
+                  broken_by c job laws start cleared.spared Neither none lack histories t op task ends,
+                ),
+              ),
             ),
-          ),
+          )
+      ended_by (ended.BadChunk key got want) t ends = (
+        job,
+        run_started,
+        (
+          ends.bad,
+          λ entry is calm. ends.texts (env_of c job entry) (left_start c job laws start cleared.spared entry is calm),
+          λ entry is calm. ends.input (env_of c job entry) (left_start c job laws start cleared.spared entry is calm),
         ),
       )
-  run_ended lack histories now (Ok (ended.BadChunk key got want)) counts starts failures told = (
-    job,
-    run_started lack histories now (Ok (ended.BadChunk key got want)) told,
-    (
-      told.bad,
-      λ entry is calm. told.texts (env_of c job entry) (left_start entry is calm),
-      λ entry is calm. told.input (env_of c job entry) (left_start entry is calm),
-    ),
-  )
-  run_ended lack histories now (Ok ended.Lacked) counts starts failures told = inr (job, run_started lack histories now (Ok ended.Lacked) told, inr told.lacked)
-  run_ended lack histories now (Err (text.TextFailed key)) counts starts failures told = (
-    rose_since (c.options.retries + 1) told.cause.1,
-    inr (inr (
-      job,
-      run_started lack histories now (Err (text.TextFailed key)) told,
-      (
-        told.cause.0,
-        stepped_then (stepped_none cleared.spared) (stepped told.refused),
-        λ entry is calm. elim (told.unstored (env_of c job entry) (left_start entry is calm)) [
-          | inl first ↦ inl (first.0, inl (stepped_then (stepped_none cleared.spared) (stepped first.1)))
-          | inr held ↦ inr held
-        ],
-      ),
-    )),
-  )
-  run_ended lack histories now (Err text.ShareFailed) counts starts failures told = (
-    rose_since (c.options.retries + 1) told.cause,
-    inr (inr (
-      job,
-      run_started lack histories now (Err text.ShareFailed) told,
-      (
-        inl refl,
-        stepped_then (stepped_none cleared.spared) (stepped told.refused),
-        λ entry is calm. inl (refl, inr (told.unstored (env_of c job entry) (left_start entry is calm))),
-      ),
-    )),
-  )
-  run_ended lack histories now (Err text.NoMemory) counts starts failures told =
-      inr (job, run_started lack histories now (Err text.NoMemory) told, inl (stepped_then (stepped_none cleared.spared) (stepped told.refused)))
+      ended_by ended.Lacked t ends = inr (job, run_started, inr ends.lacked)
 
--- the run that the texts make of the plan
-pub same_run : (c : RunCase) (job : Job) (p : PlanView) (t : Texts) → p ≡ plan_in c job → t.record_key ≡ record_key_of job.expr.store_as → t.record.now ≡ record_text c.options job
-    → t.metadata_key ≡ metadata_key_of job.expr.store_as → t.metadata.now ≡ out_metadata job → work_run p t ≡ job_run c job
-same_run c job p t plan record_key text metadata_key metadata = rw (plan, record_key, text, metadata_key, metadata) refl
+      -- and where none was
+      texts_put : (f : RunFault) → IsUnrun (started_case c job laws start cleared.spared Neither none lack) f → Stepped (TextPut c job) c.old.depot c.new.depot
+      texts_put f unrun = stepped_then (stepped_none cleared.spared) (stepped_wider (λ key value change. change) (stepped unrun.refused))
+
+      unrun_by : (f : RunFault) → IsUnrun (started_case c job laws start cleared.spared Neither none lack) f → Ran lack c (fault_answer (record_key_of job.expr.store_as) f)
+      unrun_by (text.TextFailed key) unrun = (
+        rose_since c job laws start cleared.spared (c.options.retries + 1) unrun.cause.1,
+        inr (inr (
+          job,
+          run_started,
+          (
+            unrun.cause.0,
+            texts_put (text.TextFailed key) unrun,
+            λ entry is calm. elim (unrun.unstored (env_of c job entry) (left_start c job laws start cleared.spared entry is calm)) [
+              | inl first ↦ inl (first.0, inl (stepped_then (stepped_none cleared.spared) (stepped first.1)))
+              | inr held ↦ inr held
+            ],
+          ),
+        )),
+      )
+      unrun_by text.ShareFailed unrun = (
+        rose_since c job laws start cleared.spared (c.options.retries + 1) unrun.cause,
+        inr (inr (
+          job,
+          run_started,
+          (
+            inl refl,
+            texts_put text.ShareFailed unrun,
+            λ entry is calm. inl (refl, inr (unrun.unstored (env_of c job entry) (left_start c job laws start cleared.spared entry is calm))),
+          ),
+        )),
+      )
+      unrun_by text.NoMemory unrun = inr (job, run_started, inl (texts_put text.NoMemory unrun))
+
+    -- what a run comes to
+    pub run_ended : (result : Result RunEnd RunFault) → Driven (started_case c job laws start cleared.spared Neither none lack) result
+        → Ended lack c job (drive_answer (record_key_of job.expr.store_as) result)
+    run_ended (Ok e) told = ended_by told.step told.first e.outcome e.table told.ended
+    run_ended (Err f) told = unrun_by told.step told.first f told.unrun
 
 -- ---- the report
 

@@ -1,21 +1,21 @@
 -- The words of some calls, and their options.
-use Rattle.std.proofs.Common.{◌≡◌, [], ◌∷◌, codes, Ok, Err, refl}
+use Rattle.std.proofs.Common.{◌≡◌, [], ◌∷◌, true, false, codes, Ok, Err, refl}
 use Rattle.cu_words.specs.Words.{line_given}
-use Rattle.cu_top.specs.Words.{command_of, run, plan, load, check, print}
+use Rattle.cu_top.specs.Words.{command_of, run, resume, drop, plan, load, check, print}
 
-allowed : command_of (codes "run" ∷ codes "--allowed-mem" ∷ codes "1600" ∷ []) ≡ Ok (run (record { allowed = 1600; reserved = 0; split_every = 4; retries = 2 }))
+allowed : command_of (codes "run" ∷ codes "--allowed-mem" ∷ codes "1600" ∷ []) ≡ Ok (run (record { allowed = 1600; reserved = 0; split_every = 4; retries = 2; workers = 1; backups = false }))
 unfolding command_of line_given
 allowed = refl
 
-defaults : command_of (codes "run" ∷ []) ≡ Ok (run (record { allowed = 200000000; reserved = 0; split_every = 4; retries = 2 }))
+defaults : command_of (codes "run" ∷ []) ≡ Ok (run (record { allowed = 200000000; reserved = 0; split_every = 4; retries = 2; workers = 1; backups = false }))
 unfolding command_of line_given
 defaults = refl
 
-both : command_of (codes "run" ∷ codes "--reserved-mem" ∷ codes "+7" ∷ codes "--allowed-mem" ∷ codes "01" ∷ []) ≡ Ok (run (record { allowed = 1; reserved = 7; split_every = 4; retries = 2 }))
+both : command_of (codes "run" ∷ codes "--reserved-mem" ∷ codes "+7" ∷ codes "--allowed-mem" ∷ codes "01" ∷ []) ≡ Ok (run (record { allowed = 1; reserved = 7; split_every = 4; retries = 2; workers = 1; backups = false }))
 unfolding command_of line_given
 both = refl
 
-most : command_of (codes "run" ∷ codes "--allowed-mem" ∷ codes "1099511627776" ∷ []) ≡ Ok (run (record { allowed = 1099511627776; reserved = 0; split_every = 4; retries = 2 }))
+most : command_of (codes "run" ∷ codes "--allowed-mem" ∷ codes "1099511627776" ∷ []) ≡ Ok (run (record { allowed = 1099511627776; reserved = 0; split_every = 4; retries = 2; workers = 1; backups = false }))
 unfolding command_of line_given
 most = refl
 
@@ -51,7 +51,7 @@ empty_number : command_of (codes "run" ∷ codes "--allowed-mem" ∷ codes "+" �
 unfolding command_of line_given
 empty_number = refl
 
-retried : command_of (codes "run" ∷ codes "--retries" ∷ codes "8" ∷ []) ≡ Ok (run (record { allowed = 200000000; reserved = 0; split_every = 4; retries = 8 }))
+retried : command_of (codes "run" ∷ codes "--retries" ∷ codes "8" ∷ []) ≡ Ok (run (record { allowed = 200000000; reserved = 0; split_every = 4; retries = 8; workers = 1; backups = false }))
 unfolding command_of line_given
 retried = refl
 
@@ -111,7 +111,7 @@ nothing_to_print : command_of (codes "print" ∷ []) ≡ Err 2
 unfolding command_of line_given
 nothing_to_print = refl
 
-split : command_of (codes "run" ∷ codes "--split-every" ∷ codes "2" ∷ []) ≡ Ok (run (record { allowed = 200000000; reserved = 0; split_every = 2; retries = 2 }))
+split : command_of (codes "run" ∷ codes "--split-every" ∷ codes "2" ∷ []) ≡ Ok (run (record { allowed = 200000000; reserved = 0; split_every = 2; retries = 2; workers = 1; backups = false }))
 unfolding command_of line_given
 split = refl
 
@@ -123,7 +123,7 @@ split_in_many : command_of (codes "run" ∷ codes "--split-every" ∷ codes "65"
 unfolding command_of line_given
 split_in_many = refl
 
-plans : command_of (codes "plan" ∷ codes "--allowed-mem" ∷ codes "64" ∷ []) ≡ Ok (plan (record { allowed = 64; reserved = 0; split_every = 4; retries = 2 }))
+plans : command_of (codes "plan" ∷ codes "--allowed-mem" ∷ codes "64" ∷ []) ≡ Ok (plan (record { allowed = 64; reserved = 0; split_every = 4; retries = 2; workers = 1; backups = false }))
 unfolding command_of line_given
 plans = refl
 
@@ -134,3 +134,19 @@ plans_never_retried = refl
 plans_no_name : command_of (codes "plan" ∷ codes "y" ∷ []) ≡ Err 2
 unfolding command_of line_given
 plans_no_name = refl
+
+workers : command_of (codes "run" ∷ codes "--workers" ∷ codes "64" ∷ codes "--backups=1" ∷ []) ≡ Ok (run (record { allowed = 200000000; reserved = 0; split_every = 4; retries = 2; workers = 64; backups = true }))
+unfolding command_of line_given
+workers = refl
+
+resumes : command_of (codes "resume" ∷ codes "--workers=4" ∷ []) ≡ Ok (resume (record { allowed = 200000000; reserved = 0; split_every = 4; retries = 2; workers = 4; backups = false }))
+unfolding command_of line_given
+resumes = refl
+
+drops : command_of (codes "drop" ∷ codes "--retries" ∷ codes "0" ∷ []) ≡ Ok (drop (record { allowed = 200000000; reserved = 0; split_every = 4; retries = 0; workers = 1; backups = false }))
+unfolding command_of line_given
+drops = refl
+
+drops_with_no_workers : command_of (codes "drop" ∷ codes "--workers" ∷ codes "1" ∷ []) ≡ Err 2
+unfolding command_of line_given
+drops_with_no_workers = refl

@@ -12,7 +12,7 @@ use Rattle.cu_command.specs.declared.status.Status.{Status}
 use Rattle.cu_command.specs.declared.status.Status.TheVariants.{BadWords, BadExpr, ReadFault, NoMemory}
 use Rattle.cu_lower.specs.declared.options.Options.{Options}
 use Rattle.cu_top.specs.Run.{Scene, RunCase, case, IsWanting, Ran}
-use Rattle.cu_top.specs.Words.{Command, IsInRange, run, load, check, print, plan}
+use Rattle.cu_top.specs.Words.{Command, IsInRange, run, resume, drop, load, check, print, plan}
 use Rattle.cu_top.specs.declared.words.Asked.{Asked}
 use Rattle.cu_top.specs.declared.words.Asked.TheVariants as asked
 use Rattle.cu_top.specs.declared.words.Reading.{Reading}
@@ -21,6 +21,8 @@ use Rattle.cu_top.specs.declared.words.Reading.TheVariants as reading
 -- what the words were read as
 abbrev pub command_view : Asked → Command
 command_view (asked.Run options) = run options
+command_view (asked.Resume options) = resume options
+command_view (asked.Drop options) = drop options
 command_view (asked.Plan options) = plan options
 command_view (asked.Load retries) = load retries
 command_view (asked.Check retries) = check retries
@@ -35,6 +37,8 @@ IsAsked command (Err Wanting) = Unit {0}
 -- options are in their ranges, and a name is one
 abbrev pub IsSound : Asked → Type 0
 IsSound (asked.Run options) = IsInRange options
+IsSound (asked.Resume options) = IsInRange options
+IsSound (asked.Drop options) = IsInRange options
 IsSound (asked.Plan options) = IsInRange options
 IsSound (asked.Print name retries) = is_name name ≡ true
 IsSound a = Unit {0}

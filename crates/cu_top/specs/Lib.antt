@@ -1,10 +1,15 @@
 pub mod Ask
 pub mod Call
 pub mod Complete
+pub mod Driven
+pub mod Drop
+pub mod Held
+pub mod Laws
 pub mod Planned
 pub mod Prepare
 pub mod Quiet
 pub mod Record
 pub mod Report
+pub mod Resume
 pub mod Run
 pub mod Words

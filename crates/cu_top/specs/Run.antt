@@ -33,10 +33,6 @@ use Rattle.cu_work.specs.Drive.{task_count, IsBadChunk, IsInputKey}
 use Rattle.cu_work.specs.Order.{IsFree}
 use Rattle.cu_work.specs.Run.{HoldsTexts}
 use Rattle.cu_work.specs.Shared.{none_done, HoldsDone}
-use Rattle.cu_work.specs.declared.outcome.Outcome.{Outcome}
-use Rattle.cu_work.specs.declared.outcome.Outcome.TheVariants as ended
-use Rattle.cu_work.specs.declared.run.RunFault.{RunFault}
-use Rattle.cu_work.specs.declared.run.RunFault.TheVariants as text
 use Rattle.cu_command.specs.Job.{IsJob, IsJobFault}
 use Rattle.cu_command.specs.Seen.{Stream, Stepped}
 use Rattle.cu_command.specs.Streams.{WroteFront}
@@ -174,26 +170,27 @@ HoldsAll c job = WhereLeft c job (λ env. IsComplete (job_run c job) env c.new.d
 
 -- ---- the history
 
--- what the tasks go by: the plan, how often each is tried again, and no second copies
+-- what the tasks go by: the plan, how often each is tried again, and whether second copies are run
 abbrev pub settings_of : RunCase → Job → Settings
-settings_of c job = record { plan = plan_in c job; retries = c.options.retries; backups = false }
+settings_of c job = record { plan = plan_in c job; retries = c.options.retries; backups = c.options.backups }
 
--- One worker ran tasks: from none that was done, by a legal history, to a state in which no copy runs. The count of the depot's faults rose by
--- each failure of the history at least.
-pub record IsHistory (c : RunCase) (job : Job) (history : List Entry) (m : Machine) : Type 0 where
-  pub legal : Replays (settings_of c job) (none_done (plan_in c job)) history m
+-- Workers ran tasks: from a state in which these were done, by a legal history, to one in which no copy runs. The count of the depot's
+-- faults rose by each failure of the history at least.
+pub record IsHistory (c : RunCase) (job : Job) (done : List Bool) (history : List Entry) (m : Machine) : Type 0 where
+  pub legal : Replays (settings_of c job) done history m
   pub resting : m.copies ≡ []
   pub rose : Rose (count_kind is_failed history) c.old.depot.faults c.new.depot.faults
 
--- such a history and the state that it left, with a fact of both
+-- such a history from a state in which none was done, and the state that it left, with a fact of both
 abbrev pub WasRun : RunCase → Job → (List Entry → Machine → Type 0) → Type 0
-WasRun c job fact = (history : List Entry) × (m : Machine) × IsHistory c job history m × fact history m
+WasRun c job fact = (history : List Entry) × (m : Machine) × IsHistory c job (none_done (plan_in c job)) history m × fact history m
 
 -- All tasks are done: these are how often one was started and how often one failed. Each was started once, and once more for each failure,
--- and failed at most as often as it is tried again.
+-- or with second copies at least so often, and failed at most as often as it is tried again.
 abbrev pub IsCounted : RunCase → Job → RunCounts → Type 0
 IsCounted c job n = WasRun c job (λ history m. AllDone (plan_in c job) m × (n.starts ≡ count_kind is_start history) × (n.failures ≡ count_kind is_failed history))
-    × (n.starts ≡ task_count (plan_in c job) + n.failures) × (n.failures ≤ c.options.retries * task_count (plan_in c job))
+    × (task_count (plan_in c job) + n.failures ≤ n.starts) × (c.options.backups ≡ false → n.starts ≡ task_count (plan_in c job) + n.failures)
+    × (n.failures ≤ c.options.retries * task_count (plan_in c job))
 
 -- the same, with a fact of the line that reports it
 abbrev pub Counted : RunCase → Job → (List ℕ → Type 0) → Type 0
@@ -318,16 +315,6 @@ pub record IsCleared (options : Options) (text : List ℕ) (old start : Shown) (
   pub own : HasNoOwnInput job.expr
   pub free : (entry : Contents) → old.held ≡ Some entry → All (IsFree entry) (keys_of options job)
   pub spared : Stepped NoChange old start
-
--- the counts, where all tasks are done; else what the run answers, where the record has this key
-abbrev pub answer_to : Result Outcome RunFault → List ℕ → RunCounts → Result RunCounts Status
-answer_to (Ok ended.Complete) of_record counts = Ok counts
-answer_to (Ok (ended.Broken op task)) of_record counts = Err (TaskFailed op task)
-answer_to (Ok (ended.BadChunk key got want)) of_record counts = Err (BadChunk key got want)
-answer_to (Ok ended.Lacked) of_record counts = Err NoMemory
-answer_to (Err (text.TextFailed key)) of_record counts = Err (DepotFailed key)
-answer_to (Err text.ShareFailed) of_record counts = Err (DepotFailed of_record)
-answer_to (Err text.NoMemory) of_record counts = Err NoMemory
 
 -- what storing comes to: the counts of a run whose output is complete, or what the run answers
 abbrev pub Ended : Bool → RunCase → Job → Result RunCounts Status → Type 0

@@ -1,17 +1,20 @@
 -- What the words of the command line ask for. This project's own rules.
-use Rattle.std.specs.Prelude.{◌≡◌, ◌≤◌, ℕ, List, [], ◌∷◌, true, Result, Ok, Err, if◌then◌else◌}
+use Rattle.std.specs.Prelude.{◌≡◌, ◌≤◌, ◌==◌, ℕ, List, [], ◌∷◌, true, Result, Ok, Err, if◌then◌else◌}
 use Rattle.cu_name.specs.Name.{is_name}
 use Rattle.cu_lower.specs.Parts.{AreOptions}
 use Rattle.cu_lower.specs.declared.options.Options.{Options}
 use Rattle.cu_words.specs.Words.{GivenLine, line_given}
 use Rattle.cu_words.specs.declared.line.Numbers.{Numbers}
 use Rattle.cu_words.specs.declared.options.CommandName.{CommandName}
-use Rattle.cu_words.specs.declared.options.CommandName.TheVariants.{Run, Plan, Load, Check, Print}
+use Rattle.cu_words.specs.declared.options.CommandName.TheVariants.{Run, Resume, Drop, Plan, Print}
+use Rattle.cu_words.specs.declared.options.CommandName.TheVariants.{Load, Check}
 
 -- each option is in its range, those that plans go by too
 pub record IsInRange (o : Options) : Type 0 where
   pub of_plans : AreOptions o
   pub retries : o.retries ≤ 8
+  pub some : 1 ≤ o.workers
+  pub few : o.workers ≤ 64
 
 -- the options among the numbers of the line
 abbrev pub options_among : Numbers → Options
@@ -20,12 +23,17 @@ options_among n = record {
   reserved = n.reserved_mem;
   split_every = n.split_every;
   retries = n.retries;
+  workers = n.workers;
+  backups = n.backups == 1;
 }
 
--- what the words ask for: a run, what its plan does, a text that gives an array, the comparison of
--- a stored output, or the print of an array with this name
+-- what the words ask for: a run, a run that goes on, the removal of a plan's keys, what a plan does,
+-- a text that gives an array, the comparison of a stored output, or the print of an array with this
+-- name
 pub data Command : Type 0 where
   run : Options → Command
+  resume : Options → Command
+  drop : Options → Command
   plan : Options → Command
   load : ℕ → Command
   check : ℕ → Command
@@ -39,6 +47,8 @@ print_of words retries = Err 2
 -- the command with these options and positionals
 abbrev pub command_with : CommandName → Options → List (List ℕ) → Result Command ℕ
 command_with Run options words = Ok (run options)
+command_with Resume options words = Ok (resume options)
+command_with Drop options words = Ok (drop options)
 command_with Plan options words = Ok (plan options)
 command_with Load options words = Ok (load options.retries)
 command_with Check options words = Ok (check options.retries)

@@ -50,7 +50,7 @@ fn reads_array(name: &IdText, form: &Form) -> bool
 }
 
 /// Whether the output is one of the inputs.
-fn is_own_input(expr: &Expr) -> bool
+pub fn is_own_input(expr: &Expr) -> bool
     ensures { result ≡ is_own_input expr.now }
 {
     let nodes = expr.nodes();

@@ -16,10 +16,15 @@ ghost use Rattle.cu_top.specs.Complete.{IsPlannable, IsServable, IsServed};
 ghost use Rattle.cu_top.specs.Planned.{IsPrinted, PlanTells};
 ghost use Rattle.cu_top.specs.Quiet.{IsCalm};
 ghost use Rattle.cu_top.specs.Run.{scene, IsDone, IsUnreported, IsTaskFailed, IsBadInput, IsDepotFailed, HasNoPlan, IsBlocked, IsMissing, IsRefused, IsBadExpr, IsBadType, PrintsOnly};
-ghost use Rattle.cu_top.specs.Words.{run, plan, load, check, print, command_of};
+ghost use Rattle.cu_top.specs.Drop.{DropTells};
+ghost use Rattle.cu_top.specs.Held.{IsLeftEntry};
+ghost use Rattle.cu_top.specs.Resume.{ResumeTells};
+ghost use Rattle.cu_top.specs.Words.{run, resume, drop, plan, load, check, print, command_of};
 ghost use Rattle.cu_top.specs.Words.{IsInRange};
 
+use crate::drop::drop_plan;
 use crate::planned::print_plan;
+use crate::resume::resume;
 use crate::run::run;
 use crate::words::{Asked, Reading, read_words};
 use cu_check::check;
@@ -28,23 +33,31 @@ use cu_load::load;
 use cu_lower::Options;
 use cu_name::key_of_name;
 use cu_print::print;
-use cu_store::{Depot, Share, Sink, Source};
+use cu_store::{Depot, Gate, Share, Sink, Source};
 use std::alloc::Global;
+use std::sync::Wait;
+use std::thread::Threads;
 
 /// Carries out the command that the words give. `run` reads an expression from the source, stores the array that it makes in the depot,
-/// and writes the report to the sink. `plan` reads an expression and writes what its plan does; it stores nothing. `load` reads an array from the source and stores it. `check` reads an expression from the source and
+/// and writes the report to the sink. `resume` goes on with a run that was stopped, and `drop` removes all keys of a plan. `plan` reads an expression and writes what its plan does; it stores nothing. `load` reads an array from the source and stores it. `check` reads an expression from the source and
 /// compares its stored output with what it means. `print` writes a stored array to the sink.
-pub fn top<R: Source, W: Sink, D: Share>(
+pub fn top<H: Threads + Wait + Sync, R: Source, W: Sink, D: Share, G: Gate>(
+    rt: &H,
     alloc: Global,
     words: &[String],
     src: &mut R,
     out: &mut W,
     depot: &mut D,
+    gate: &G,
 ) -> Status
     // Where the depot tells its contents, no put that is late when a run begins carries another value of its plan, or another content of an
     // input.
     requires quiet { (options : Options) (text : List ℕ) (next : Option (List ℕ)) → command_of (map string_bytes words.now) ≡ Ok (run options)
         → ReadsAll (R.left src.old) next text → IsCalm options text (D.shown depot.old) }
+    // Where the depot tells its contents and the record of the plan is held, or a put of it is late, when a run goes on, the
+    // contents are what the plan left.
+    requires left { (options : Options) (text : List ℕ) (next : Option (List ℕ))
+        → command_of (map string_bytes words.now) ≡ Ok (resume options) → ReadsAll (R.left src.old) next text → IsLeftEntry options text (D.shown depot.old) }
     // The words that are refused, and by no other answer's cause; where the command is missing or unknown no memory is wanted.
     ensures unknown { command_of (map string_bytes words.now) ≡ Err 1 → result ≡ Status.BadWords 1 }
     ensures words { (code : ℕ) → command_of (map string_bytes words.now) ≡ Err code → IsWordsRefused code result × DidNothing (scene (stream (R.left src.old) (R.faults src.old)) (stream (W.written out.old) (W.faults out.old)) (D.shown depot.old))
@@ -102,6 +115,15 @@ pub fn top<R: Source, W: Sink, D: Share>(
     // Where a run is accepted, nothing is in the way and no count of faults rises, it is carried out, or memory is wanted.
     ensures complete { (text : List ℕ) (entry : Contents) → R.left src.old ≡ Some text → (D.shown depot.old).held ≡ Some entry → IsServable (map string_bytes words.now) text entry (D.shown depot.old)
         → StoodStill (R.faults src.old) (R.faults src.new) → StoodStill (W.faults out.old) (W.faults out.new) → StoodStill (D.shown depot.old).faults (D.shown depot.new).faults → IsServed result }
+    // What `resume` answers: all of it, and where a run that goes on is accepted and no count of faults rises, it is carried out, or
+    // memory is wanted.
+    ensures resumes { (options : Options) → command_of (map string_bytes words.now) ≡ Ok (resume options) → ResumeTells (D.yards_lack depot.new) options (scene (stream (R.left src.old) (R.faults src.old)) (stream (W.written out.old) (W.faults out.old)) (D.shown depot.old))
+        (scene (stream (R.left src.new) (R.faults src.new)) (stream (W.written out.new) (W.faults out.new)) (D.shown depot.new)) result }
+    ensures resume_prints { (options : Options) → command_of (map string_bytes words.now) ≡ Ok (resume options) → PrintsOnly result (W.written out.old) (W.written out.new) }
+    // What `drop` answers.
+    ensures drops { (options : Options) → command_of (map string_bytes words.now) ≡ Ok (drop options) → DropTells options (scene (stream (R.left src.old) (R.faults src.old)) (stream (W.written out.old) (W.faults out.old)) (D.shown depot.old))
+        (scene (stream (R.left src.new) (R.faults src.new)) (stream (W.written out.new) (W.faults out.new)) (D.shown depot.new)) result }
+    ensures drop_prints { (options : Options) → command_of (map string_bytes words.now) ≡ Ok (drop options) → PrintsOnly result (W.written out.old) (W.written out.new) }
     // What `plan` answers: all of it, and of 0 and of a text that is no expression alone. Where a plan is accepted and no count of faults
     // rises, it is printed, or memory is wanted.
     ensures plans { (options : Options) → command_of (map string_bytes words.now) ≡ Ok (plan options) → PlanTells options (scene (stream (R.left src.old) (R.faults src.old)) (stream (W.written out.old) (W.faults out.old)) (D.shown depot.old))
@@ -129,25 +151,35 @@ pub fn top<R: Source, W: Sink, D: Share>(
     ensures unequal { (retries place : ℕ) (stored plain : ℤ) → command_of (map string_bytes words.now) ≡ Ok (check retries) → result ≡ Status.Unequal place stored plain
         → ReadsText (stream (R.left src.old) (R.faults src.old)) (stream (R.left src.new) (R.faults src.new)) (λ text. IsUnequal text (D.shown depot.old) place stored plain) }
 {
-    carry(alloc, words, src, out, depot)
+    carry(rt, alloc, words, src, out, depot, gate)
 }
 
 /// Carries out the command.
-fn carry<R: Source, W: Sink, D: Share>(
+fn carry<H: Threads + Wait + Sync, R: Source, W: Sink, D: Share, G: Gate>(
+    rt: &H,
     alloc: Global,
     words: &[String],
     src: &mut R,
     out: &mut W,
     depot: &mut D,
+    gate: &G,
 ) -> Status
     requires quiet { (options : Options) (text : List ℕ) (next : Option (List ℕ)) → command_of (map string_bytes words.now) ≡ Ok (run options)
         → ReadsAll (R.left src.old) next text → IsCalm options text (D.shown depot.old) }
+    requires left { (options : Options) (text : List ℕ) (next : Option (List ℕ))
+        → command_of (map string_bytes words.now) ≡ Ok (resume options) → ReadsAll (R.left src.old) next text → IsLeftEntry options text (D.shown depot.old) }
     ensures unknown { command_of (map string_bytes words.now) ≡ Err 1 → result ≡ Status.BadWords 1 }
     ensures words { (code : ℕ) → command_of (map string_bytes words.now) ≡ Err code → IsWordsRefused code result × DidNothing (scene (stream (R.left src.old) (R.faults src.old)) (stream (W.written out.old) (W.faults out.old)) (D.shown depot.old))
         (scene (stream (R.left src.new) (R.faults src.new)) (stream (W.written out.new) (W.faults out.new)) (D.shown depot.new)) }
     ensures runs { (options : Options) → command_of (map string_bytes words.now) ≡ Ok (run options) → RunTells (D.yards_lack depot.new) options (scene (stream (R.left src.old) (R.faults src.old)) (stream (W.written out.old) (W.faults out.old)) (D.shown depot.old))
         (scene (stream (R.left src.new) (R.faults src.new)) (stream (W.written out.new) (W.faults out.new)) (D.shown depot.new)) result }
     ensures prints { (options : Options) → command_of (map string_bytes words.now) ≡ Ok (run options) → PrintsOnly result (W.written out.old) (W.written out.new) }
+    ensures resumes { (options : Options) → command_of (map string_bytes words.now) ≡ Ok (resume options) → ResumeTells (D.yards_lack depot.new) options (scene (stream (R.left src.old) (R.faults src.old)) (stream (W.written out.old) (W.faults out.old)) (D.shown depot.old))
+        (scene (stream (R.left src.new) (R.faults src.new)) (stream (W.written out.new) (W.faults out.new)) (D.shown depot.new)) result }
+    ensures resume_prints { (options : Options) → command_of (map string_bytes words.now) ≡ Ok (resume options) → PrintsOnly result (W.written out.old) (W.written out.new) }
+    ensures drops { (options : Options) → command_of (map string_bytes words.now) ≡ Ok (drop options) → DropTells options (scene (stream (R.left src.old) (R.faults src.old)) (stream (W.written out.old) (W.faults out.old)) (D.shown depot.old))
+        (scene (stream (R.left src.new) (R.faults src.new)) (stream (W.written out.new) (W.faults out.new)) (D.shown depot.new)) result }
+    ensures drop_prints { (options : Options) → command_of (map string_bytes words.now) ≡ Ok (drop options) → PrintsOnly result (W.written out.old) (W.written out.new) }
     ensures plans { (options : Options) → command_of (map string_bytes words.now) ≡ Ok (plan options) → PlanTells options (scene (stream (R.left src.old) (R.faults src.old)) (stream (W.written out.old) (W.faults out.old)) (D.shown depot.old))
         (scene (stream (R.left src.new) (R.faults src.new)) (stream (W.written out.new) (W.faults out.new)) (D.shown depot.new)) result }
     ensures plan_prints { (options : Options) → command_of (map string_bytes words.now) ≡ Ok (plan options) → PrintsOnly result (W.written out.old) (W.written out.new) }
@@ -165,7 +197,9 @@ fn carry<R: Source, W: Sink, D: Share>(
         Reading::NoMemory => return Status::NoMemory,
     };
     match &asked {
-        Asked::Run(options) => run_command(alloc, options, src, out, depot),
+        Asked::Run(options) => run_command(rt, alloc, options, src, out, depot, gate),
+        Asked::Resume(options) => resume_command(rt, alloc, options, src, out, depot, gate),
+        Asked::Drop(options) => drop_command(alloc, options, src, out, depot),
         Asked::Plan(options) => plan_command(alloc, options, src, out, depot),
         Asked::Load { retries } => load(alloc, *retries, src, out, depot),
         Asked::Check { retries } => check(alloc, *retries, src, out, depot),
@@ -174,12 +208,14 @@ fn carry<R: Source, W: Sink, D: Share>(
 }
 
 /// Computes the expression that the source has.
-fn run_command<R: Source, W: Sink, D: Share>(
+fn run_command<H: Threads + Wait + Sync, R: Source, W: Sink, D: Share, G: Gate>(
+    rt: &H,
     alloc: Global,
     options: &Options,
     src: &mut R,
     out: &mut W,
     depot: &mut D,
+    gate: &G,
 ) -> Status
     requires options { IsInRange options.now }
     requires quiet { (text : List ℕ) (next : Option (List ℕ)) → ReadsAll (R.left src.old) next text → IsCalm options.now text (D.shown depot.old) }
@@ -188,7 +224,50 @@ fn run_command<R: Source, W: Sink, D: Share>(
     ensures prints { PrintsOnly result (W.written out.old) (W.written out.new) }
 {
     match read_all(alloc, src) {
-        Ok(text) => run(alloc, options, &text, out, depot),
+        Ok(text) => run(rt, alloc, options, &text, out, depot, gate),
+        Err(ReadRefused::Fault) => Status::ReadFault,
+        Err(ReadRefused::NoMemory) => Status::NoMemory,
+    }
+}
+
+/// Goes on with a run of the expression that the source has.
+fn resume_command<H: Threads + Wait + Sync, R: Source, W: Sink, D: Share, G: Gate>(
+    rt: &H,
+    alloc: Global,
+    options: &Options,
+    src: &mut R,
+    out: &mut W,
+    depot: &mut D,
+    gate: &G,
+) -> Status
+    requires options { IsInRange options.now }
+    requires left { (text : List ℕ) (next : Option (List ℕ)) → ReadsAll (R.left src.old) next text → IsLeftEntry options.now text (D.shown depot.old) }
+    ensures answer { ResumeTells (D.yards_lack depot.new) options.now (scene (stream (R.left src.old) (R.faults src.old)) (stream (W.written out.old) (W.faults out.old)) (D.shown depot.old))
+        (scene (stream (R.left src.new) (R.faults src.new)) (stream (W.written out.new) (W.faults out.new)) (D.shown depot.new)) result }
+    ensures prints { PrintsOnly result (W.written out.old) (W.written out.new) }
+{
+    match read_all(alloc, src) {
+        Ok(text) => resume(rt, alloc, options, &text, out, depot, gate),
+        Err(ReadRefused::Fault) => Status::ReadFault,
+        Err(ReadRefused::NoMemory) => Status::NoMemory,
+    }
+}
+
+/// Removes the keys of the plan of the expression that the source has.
+fn drop_command<R: Source, W: Sink, D: Depot>(
+    alloc: Global,
+    options: &Options,
+    src: &mut R,
+    out: &mut W,
+    depot: &mut D,
+) -> Status
+    requires options { IsInRange options.now }
+    ensures answer { DropTells options.now (scene (stream (R.left src.old) (R.faults src.old)) (stream (W.written out.old) (W.faults out.old)) (D.shown depot.old))
+        (scene (stream (R.left src.new) (R.faults src.new)) (stream (W.written out.new) (W.faults out.new)) (D.shown depot.new)) result }
+    ensures prints { PrintsOnly result (W.written out.old) (W.written out.new) }
+{
+    match read_all(alloc, src) {
+        Ok(text) => drop_plan(alloc, options, &text, out, depot),
         Err(ReadRefused::Fault) => Status::ReadFault,
         Err(ReadRefused::NoMemory) => Status::NoMemory,
     }

@@ -5,12 +5,18 @@
 
 mod ask;
 mod call;
+mod drive;
+mod drop;
+mod held;
+mod laws;
 mod planned;
 mod prepare;
 mod record;
 mod report;
+mod resume;
 mod run;
 mod words;
 
 pub use call::top;
 pub use cu_command::{LineText, Status, number, status_line};
+pub use laws::list_law;

@@ -15,6 +15,10 @@ use std::alloc::Global;
 pub enum Asked {
     /// `run`: an expression is computed.
     Run(Options),
+    /// `resume`: a run goes on.
+    Resume(Options),
+    /// `drop`: the keys of a plan are removed.
+    Drop(Options),
     /// `plan`: what the plan of an expression does is printed.
     Plan(Options),
     /// `load`: an array that a text gives is stored.
@@ -77,6 +81,8 @@ fn asked_by(line: &CommandLine) -> Result<Asked, LineFault>
     let options = options_among(&line.numbers);
     match line.command {
         CommandName::Run => Ok(Asked::Run(options)),
+        CommandName::Resume => Ok(Asked::Resume(options)),
+        CommandName::Drop => Ok(Asked::Drop(options)),
         CommandName::Plan => Ok(Asked::Plan(options)),
         CommandName::Load => Ok(Asked::Load {
             retries: options.retries,
@@ -99,6 +105,8 @@ fn options_among(numbers: &Numbers) -> Options
         reserved: numbers.reserved_mem,
         split_every: numbers.split_every as u32,
         retries: numbers.retries as u32,
+        workers: numbers.workers as u32,
+        backups: numbers.backups == 1,
     }
 }
 

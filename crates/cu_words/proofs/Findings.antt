@@ -22,7 +22,7 @@ use Rattle.cu_words.specs.declared.line.LineFault.{LineFault}
 use Rattle.cu_words.specs.declared.line.LineFault.TheVariants.{Refused, NoMemory}
 use Rattle.cu_words.specs.Reader.{IsFaultOf, IsMatched, IsParted, positional_name, told, values_found}
 use Rattle.cu_words.specs.declared.options.CommandName.{CommandName}
-use Rattle.cu_words.specs.declared.options.CommandName.TheVariants.{Run, Plan, Load, Check, Print}
+use Rattle.cu_words.specs.declared.options.CommandName.TheVariants.{Run, Resume, Drop, Plan, Load, Check, Print}
 use Rattle.cu_words.specs.declared.options.OptionName.{OptionName}
 use Rattle.cu_words.specs.declared.options.OptionName.TheVariants.{AllowedMem, ReservedMem, SplitEvery, Workers, Retries, Backups}
 use Rattle.cu_words.proofs.Walks.{Agrees, EndsWell, else_left, else_right, is_known_part, row_with, rows_with, rules, same_text, equal_text, shape, total, walk_agrees, walk_at}
@@ -103,6 +103,8 @@ built_told names = record { top = shape names; subs = [] }
 
 built_is : (command : CommandName) → built (told (option_names command)) ≡ built_told (option_names command)
 built_is Run = refl
+built_is Resume = refl
+built_is Drop = refl
 built_is Plan = refl
 built_is Load = refl
 built_is Check = refl
@@ -110,6 +112,8 @@ built_is Print = refl
 
 pub told_simple : (command : CommandName) → is_simple_and_free (told (option_names command)) ≡ true
 told_simple Run = refl
+told_simple Resume = refl
+told_simple Drop = refl
 told_simple Plan = refl
 told_simple Load = refl
 told_simple Check = refl
@@ -117,6 +121,8 @@ told_simple Print = refl
 
 no_positional_option : (command : CommandName) → is_option_name (option_names command) positional_name ≡ false
 no_positional_option Run = refl
+no_positional_option Resume = refl
+no_positional_option Drop = refl
 no_positional_option Plan = refl
 no_positional_option Load = refl
 no_positional_option Check = refl

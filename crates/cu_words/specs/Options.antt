@@ -3,7 +3,8 @@
 use Rattle.std.specs.Prelude.{ℕ, ◌^◌, List, [], ◌∷◌, map, codes, bytes_eq, Option, Some, None}
 use Rattle.std.specs.Prelude.{if◌then◌else◌}
 use Rattle.cu_words.specs.declared.options.CommandName.{CommandName}
-use Rattle.cu_words.specs.declared.options.CommandName.TheVariants.{Run, Plan, Load, Check, Print}
+use Rattle.cu_words.specs.declared.options.CommandName.TheVariants.{Run, Resume, Drop, Plan, Print}
+use Rattle.cu_words.specs.declared.options.CommandName.TheVariants.{Load, Check}
 use Rattle.cu_words.specs.declared.options.OptionName.{OptionName}
 use Rattle.cu_words.specs.declared.options.OptionName.TheVariants.{AllowedMem, ReservedMem}
 use Rattle.cu_words.specs.declared.options.OptionName.TheVariants.{SplitEvery, Workers, Retries}
@@ -24,13 +25,15 @@ option_row AllowedMem =
     record { name = codes "allowed-mem"; least = 0; most = 2 ^ 40; default = 200000000 }
 option_row ReservedMem = record { name = codes "reserved-mem"; least = 0; most = 2 ^ 40; default = 0 }
 option_row SplitEvery = record { name = codes "split-every"; least = 2; most = 64; default = 4 }
-option_row Workers = record { name = codes "workers"; least = 1; most = 1; default = 1 }
+option_row Workers = record { name = codes "workers"; least = 1; most = 64; default = 1 }
 option_row Retries = record { name = codes "retries"; least = 0; most = 8; default = 2 }
-option_row Backups = record { name = codes "backups"; least = 0; most = 0; default = 0 }
+option_row Backups = record { name = codes "backups"; least = 0; most = 1; default = 0 }
 
 -- the options that a command takes
 abbrev pub options_of : CommandName → List OptionName
 options_of Run = AllowedMem ∷ ReservedMem ∷ SplitEvery ∷ Workers ∷ Retries ∷ Backups ∷ []
+options_of Resume = AllowedMem ∷ ReservedMem ∷ SplitEvery ∷ Workers ∷ Retries ∷ Backups ∷ []
+options_of Drop = AllowedMem ∷ ReservedMem ∷ SplitEvery ∷ Retries ∷ []
 options_of Plan = AllowedMem ∷ ReservedMem ∷ SplitEvery ∷ []
 options_of command = Retries ∷ []
 
@@ -46,6 +49,8 @@ positional_count command = 0
 abbrev pub command_named : List ℕ → Option CommandName
 command_named word =
     if bytes_eq word (codes "run") then Some Run
+    else if bytes_eq word (codes "resume") then Some Resume
+    else if bytes_eq word (codes "drop") then Some Drop
     else if bytes_eq word (codes "plan") then Some Plan
     else if bytes_eq word (codes "load") then Some Load
     else if bytes_eq word (codes "check") then Some Check

@@ -7,6 +7,8 @@ ghost use Rattle.cu_words.specs.Options.{row_view};
 #[derive(Clone, Copy)]
 pub enum CommandName {
     Run,
+    Resume,
+    Drop,
     Plan,
     Load,
     Check,
@@ -22,11 +24,11 @@ pub enum OptionName {
     ReservedMem,
     /// How many partial results a task of a reduction merges.
     SplitEvery,
-    /// How many threads run tasks; so far one.
+    /// How many threads run tasks.
     Workers,
     /// How often a call or a task is tried again.
     Retries,
-    /// Whether a slow task is run a second time; so far never.
+    /// Whether a task that runs is started a second time where nothing else is left to start.
     Backups,
 }
 
@@ -50,9 +52,9 @@ impl OptionName {
             OptionName::AllowedMem => ("allowed-mem", 0, 1 << 40, 200_000_000),
             OptionName::ReservedMem => ("reserved-mem", 0, 1 << 40, 0),
             OptionName::SplitEvery => ("split-every", 2, 64, 4),
-            OptionName::Workers => ("workers", 1, 1, 1),
+            OptionName::Workers => ("workers", 1, 64, 1),
             OptionName::Retries => ("retries", 0, 8, 2),
-            OptionName::Backups => ("backups", 0, 0, 0),
+            OptionName::Backups => ("backups", 0, 1, 0),
         };
         TableRow {
             name,
@@ -78,6 +80,13 @@ static PLAN: [OptionName; 3] = [
     OptionName::SplitEvery,
 ];
 
+static DROP: [OptionName; 4] = [
+    OptionName::AllowedMem,
+    OptionName::ReservedMem,
+    OptionName::SplitEvery,
+    OptionName::Retries,
+];
+
 static OTHERS: [OptionName; 1] = [OptionName::Retries];
 
 impl CommandName {
@@ -87,6 +96,8 @@ impl CommandName {
     {
         match word {
             "run" => Some(CommandName::Run),
+            "resume" => Some(CommandName::Resume),
+            "drop" => Some(CommandName::Drop),
             "plan" => Some(CommandName::Plan),
             "load" => Some(CommandName::Load),
             "check" => Some(CommandName::Check),
@@ -110,7 +121,8 @@ impl CommandName {
         ensures { result.now ≡ options_of self }
     {
         match self {
-            CommandName::Run => RUN.as_slice(),
+            CommandName::Run | CommandName::Resume => RUN.as_slice(),
+            CommandName::Drop => DROP.as_slice(),
             CommandName::Plan => PLAN.as_slice(),
             CommandName::Load | CommandName::Check | CommandName::Print => OTHERS.as_slice(),
         }

@@ -123,7 +123,7 @@ module _ (p : PlanView) (sound : Sound p) where
     | inr own ↦ task_piece k n key operation (omega (arith, few)) own
   ]
 
-  plan_piece : (n : ℕ) (key : List ℕ) → n ≤ length p.ops → Contains (plan_keys p n) key → IsCellKey key
+  pub plan_piece : (n : ℕ) (key : List ℕ) → n ≤ length p.ops → Contains (plan_keys p n) key → IsCellKey key
   plan_piece zero key few (i, below, e) = absurd (omega (arith, below))
   plan_piece (suc n) key few listed = elim (Contains-append_cases (plan_keys p n) (operation_keys p n (tasks_of p.arrays (op_of p n))) key listed) [
     | inl before ↦ plan_piece n key (omega (arith, few)) before

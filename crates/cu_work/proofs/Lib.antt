@@ -10,7 +10,9 @@ pub mod CommandLaws
 pub mod Resuming
 pub mod PlanChunks
 pub mod Promised
+pub mod Worked
 pub mod SharedRuns
+pub mod Counted
 pub mod Running
 pub mod FewFailures
 pub mod Turning

@@ -1,5 +1,5 @@
 -- The texts of a plan and then its chunks, one after another.
-use Rattle.std.proofs.Common.{◌≡◌, ◌≢◌, inl, inr, ℕ, zero, suc, ◌*◌, Option, Some, None, Result, Ok, Err, IfErr, refl, sym, ◌∙◌, subst, arith}
+use Rattle.std.proofs.Common.{◌≡◌, ◌≢◌, inl, inr, ℕ, zero, suc, ◌*◌, Bool, List, Option, Some, None, Result, Ok, Err, IfErr, refl, sym, ◌∙◌, subst, arith}
 use Rattle.std.specs.Prelude.{OnOk}
 use Rattle.cu_store.specs.Faults.{last_count}
 use Rattle.cu_store.specs.Held.{Contents, Holds}
@@ -22,11 +22,16 @@ use Rattle.cu_table.specs.Machine.{AllDone}
 use Rattle.cu_table.specs.Table.{TableView}
 use Rattle.cu_work.specs.declared.outcome.Outcome.{Outcome}
 use Rattle.cu_work.specs.declared.outcome.Outcome.TheVariants as outcome
+use Rattle.cu_work.specs.Order.{IsHeldIn}
+use Rattle.cu_work.specs.World.{IsFound}
+use Rattle.cu_work.specs.declared.run.HeldTexts.{HeldTexts}
+use Rattle.cu_work.specs.declared.run.HeldTexts.TheVariants.{Neither, Record, Both}
 use Rattle.cu_work.specs.declared.run.Texts.{Texts}
 use Rattle.cu_work.specs.declared.run.RunFault.{RunFault}
 use Rattle.cu_work.specs.declared.run.RunFault.TheVariants.{TextFailed, ShareFailed, NoMemory}
-use Rattle.cu_work.specs.Run.{run_of, fault_of, PutOfText, IsRecordFirst, HoldsTexts, IsRunFault, IsTextPutFault, IsUnstored}
+use Rattle.cu_work.specs.Run.{run_of, fault_of, PutOfText, PutOfMissing, AreTextsHeld, IsRecordFirst, HoldsTexts, IsRunFault, IsTextPutFault, IsUnstored}
 use Rattle.cu_work.specs.Shared.{IsOpen, IsOpenAs, HasDriven, HoldsDone, IfComplete}
+use Rattle.cu_work.proofs.Resuming.{found_stays}
 
 -- a put of a text is a put of a piece
 record_within : (p : PlanView) (t : Texts) (first : Shown) → Within (PutOf t.record_key t.record.now) (RunChange (run_of p t) first)
@@ -66,7 +71,7 @@ module _ (p : PlanView) (t : Texts) (tries : ℕ) (first after : Shown) (put : S
   record_unstored ShareFailed cause env = absurd cause
   record_unstored NoMemory cause env = inl (steps_wider (λ key value change. change) (omega arith) (omega arith) put)
 
-  pub record_cause : (f : RunFault) → IsTextPutFault tries t.record_key first after f → IsRunFault tries t first after f
+  pub record_cause : (f : RunFault) → IsTextPutFault tries t.record_key first after f → IsRunFault Neither tries t first after f
   record_cause (TextFailed key) (same, rose) = (inl same, rose)
   record_cause ShareFailed cause = absurd cause
   record_cause NoMemory cause = cause
@@ -101,12 +106,12 @@ module _ (p : PlanView) (t : Texts) (tries : ℕ) (first after : Shown) (put : S
     metadata_unstored (Ok x) cause env left = tt
     metadata_unstored (Err f) cause env left = unstored_last f cause env left
 
-    cause_last : (f : RunFault) → IsTextPutFault tries t.metadata_key after last f → IsRunFault tries t first last f
+    cause_last : (f : RunFault) → IsTextPutFault tries t.metadata_key after last f → IsRunFault Neither tries t first last f
     cause_last (TextFailed key) (same, rose) = (inr same, let more = put.count in omega (arith, rose, more))
     cause_last ShareFailed cause = absurd cause
     cause_last NoMemory cause = cause
 
-    pub metadata_cause : (result : Result (Unit {0}) RunFault) → IfErr result (IsTextPutFault tries t.metadata_key after last) → IfErr result (IsRunFault tries t first last)
+    pub metadata_cause : (result : Result (Unit {0}) RunFault) → IfErr result (IsTextPutFault tries t.metadata_key after last) → IfErr result (IsRunFault Neither tries t first last)
     metadata_cause (Ok x) cause = tt
     metadata_cause (Err f) cause = cause_last f cause
 
@@ -119,6 +124,68 @@ module _ (p : PlanView) (t : Texts) (tries : ℕ) (first after : Shown) (put : S
         → OnOk result (HoldsTexts (run_of p t) env last)
     texts_stored (Ok x) stored_second env left = both_held stored_second env left
     texts_stored (Err f) stored_second env left = tt
+
+-- ---- the texts where some are held
+
+-- what is held of a plan is of its one value
+held_piece : (r : PlanRun) (env : Elements) (shown : Shown) → IsLeft r env shown → (q : Piece) → IsPiece r q → IsHeldIn shown.held (piece_key r q) → HoldsPiece r env q shown
+held_piece r env shown left q piece there =
+    let (bytes, holds) = subst (λ (h : Option Contents). IsHeldIn h (piece_key r q)) left.told there in
+    elim (left.pieces q piece) [
+      | inl none ↦ absurd (none_some bytes (sym none ∙ holds))
+      | inr (value, has, v) ↦ (value, v, subst (λ (h : Option Contents). Holds h (piece_key r q) value) (sym left.told) has)
+    ]
+  where
+    none_some : (bytes : List ℕ) → None ≡ Some bytes → ⊥
+    none_some bytes e = cc
+
+module _ (p : PlanView) (t : Texts) (tries : ℕ) (first : Shown) (held : AreTextsHeld Record t first.held) (last : Shown) (put : Steps (PutOf t.metadata_key t.metadata.now) 1 tries first last) where
+  -- after the metadata, where the record is held
+  pub second_step : Steps (RunChange (run_of p t) first) 0 (2 * tries) first last
+  second_step = steps_wider (metadata_within p t first) (omega arith) (omega arith) put
+
+  pub second_own : Steps (PutOfMissing Record t) 0 (2 * tries) first last
+  second_own = steps_wider (λ key value change. change) (omega arith) (omega arith) put
+
+  first_stays : (env : Elements) → IsLeft (run_of p t) env first → HoldsPiece (run_of p t) env (Text 0) last
+  first_stays env left =
+      piece_stays (run_of p t) env first left 0 (2 * tries) last (begun_since (run_of p t) env first left 0 (2 * tries) last second_step) (Text 0) (omega arith)
+      (held_piece (run_of p t) env first left (Text 0) (omega arith) held)
+
+  two_held : (env : Elements) → IsLeft (run_of p t) env first → Holds last.held t.metadata_key t.metadata.now → HoldsTexts (run_of p t) env last
+  two_held env left stored zero h = first_stays env left
+  two_held env left stored (suc zero) h = (t.metadata.now, refl, stored)
+  two_held env left stored (suc (suc n)) h = absurd (omega arith)
+
+  pub second_stored : (result : Result (Unit {0}) RunFault) → OnOk result (Holds last.held t.metadata_key t.metadata.now) → (env : Elements) → IsLeft (run_of p t) env first
+      → OnOk result (HoldsTexts (run_of p t) env last)
+  second_stored (Ok x) stored env left = two_held env left stored
+  second_stored (Err f) stored env left = tt
+
+  unstored_second : (f : RunFault) → IsTextPutFault tries t.metadata_key first last f → (env : Elements) → IsLeft (run_of p t) env first → IsUnstored (run_of p t) env tries first last f
+  unstored_second (TextFailed key) (same, rose) env left = inr (same, first_stays env left)
+  unstored_second ShareFailed cause env left = absurd cause
+  unstored_second NoMemory cause env left = inr (first_stays env left)
+
+  pub second_unstored : (result : Result (Unit {0}) RunFault) → IfErr result (IsTextPutFault tries t.metadata_key first last) → (env : Elements) → IsLeft (run_of p t) env first
+      → IfErr result (IsUnstored (run_of p t) env tries first last)
+  second_unstored (Ok x) cause env left = tt
+  second_unstored (Err f) cause env left = unstored_second f cause env left
+
+  cause_second : (f : RunFault) → IsTextPutFault tries t.metadata_key first last f → IsRunFault Record tries t first last f
+  cause_second (TextFailed key) cause = cause
+  cause_second ShareFailed cause = absurd cause
+  cause_second NoMemory cause = cause
+
+  pub second_cause : (result : Result (Unit {0}) RunFault) → IfErr result (IsTextPutFault tries t.metadata_key first last) → IfErr result (IsRunFault Record tries t first last)
+  second_cause (Ok x) cause = tt
+  second_cause (Err f) cause = cause_second f cause
+
+-- where both are held
+pub both_there : (p : PlanView) (t : Texts) (first : Shown) → AreTextsHeld Both t first.held → (env : Elements) → IsLeft (run_of p t) env first → HoldsTexts (run_of p t) env first
+both_there p t first held env left zero h = held_piece (run_of p t) env first left (Text 0) (omega arith) held.0
+both_there p t first held env left (suc zero) h = held_piece (run_of p t) env first left (Text 1) (omega arith) held.1
+both_there p t first held env left (suc (suc n)) h = absurd (omega arith)
 
 -- ---- the store before the tasks
 
@@ -157,8 +224,19 @@ apart_alone r apart = record { pieces = pieces; inputs = λ q c piece input. inp
 some_held : (a b : Contents) → ◌≡◌ {A = Option Contents} (Some a) (Some b) → a ≡ b
 some_held a b e = cc
 
-module _ (p : PlanView) (t : Texts) (tries : ℕ) (first mid : Shown) (step : Steps (RunChange (run_of p t) first) 0 (2 * tries) first mid)
-    (own : Steps (PutOfText t) 0 (2 * tries) first mid) where
+told_before : (W : Changes) (a b : Option Contents) (now : Contents) → Lands W a b → b ≡ Some now → (held : Contents) × (a ≡ Some held)
+told_before W None None now lands told = cc
+told_before W None (Some b) now lands told = absurd lands
+told_before W (Some a) b now lands told = (a, refl)
+
+module _ (p : PlanView) (t : Texts) (texts_held : HeldTexts) (tries : ℕ) (first mid : Shown) (step : Steps (RunChange (run_of p t) first) 0 (2 * tries) first mid)
+    (own : Steps (PutOfMissing texts_held t) 0 (2 * tries) first mid) where
+  -- the chunks of the tasks that are done at first are held
+  pub found_mid : (done : List Bool) → ((held : Contents) → first.held ≡ Some held → IsFound p held done) → (now : Contents) → mid.held ≡ Some now → IsFound p now done
+  found_mid done found now told_now =
+      let (held, told) = told_before (OrLate (RunChange (run_of p t) first) first.late) first.held mid.held now step.lands told_now in
+      found_stays p (run_of p t) first first mid 0 (2 * tries) held now done step told told_now (found held told)
+
   left_mid : (env : Elements) → IsLeft (run_of p t) env first → IsLeft (run_of p t) env mid
   left_mid env left = left_kept (run_of p t) env first left 0 (2 * tries) mid (begun_since (run_of p t) env first left 0 (2 * tries) mid step)
 
@@ -205,9 +283,9 @@ module _ (p : PlanView) (t : Texts) (tries : ℕ) (first mid : Shown) (step : St
 
   -- ---- where they weren't run
 
-  pub share_refused : (new : Shown) → Steps NoChange 0 tries mid new → Steps (PutOfText t) 0 (3 * tries) first new
+  pub share_refused : (new : Shown) → Steps NoChange 0 tries mid new → Steps (PutOfMissing texts_held t) 0 (3 * tries) first new
   share_refused new share =
-      let two : Steps (PutOfText t) 0 tries mid new = steps_none share in
+      let two : Steps (PutOfMissing texts_held t) 0 tries mid new = steps_none share in
       steps_wider (λ key value change. change) (omega arith) (omega arith) (steps_then own two)
 
   pub share_unstored : (new : Shown) → ((env : Elements) → IsLeft (run_of p t) env first → HoldsTexts (run_of p t) env new) → (f : DepotFault) (env : Elements) → IsLeft (run_of p t) env first
@@ -215,7 +293,7 @@ module _ (p : PlanView) (t : Texts) (tries : ℕ) (first mid : Shown) (step : St
   share_unstored new held depot.Failed env left = held env left
   share_unstored new held depot.NoMemory env left = inr (held env left 0 (omega arith))
 
-  pub share_cause : (new : Shown) (f : DepotFault) → IsShareFault tries mid new f → IsRunFault tries t first new (fault_of f)
+  pub share_cause : (new : Shown) (f : DepotFault) → IsShareFault tries mid new f → IsRunFault texts_held tries t first new (fault_of f)
   share_cause new depot.Failed rose = let more = own.count in omega (arith, rose, more)
   share_cause new depot.NoMemory lacks = lacks
 

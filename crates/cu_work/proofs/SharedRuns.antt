@@ -1,13 +1,14 @@
 -- What a run of a plan's tasks in a shared yard leaves.
 use Rattle.std.specs.Prelude.{slice_index_or}
-use Rattle.std.proofs.Common.{◌≡◌, inl, inr, ℕ, zero, suc, map, replicate, ◌+◌, ◌*◌, ◌<◌, ◌≤◌, Bool, true, false, IsTrue, List, length, Option, Some, None, IsSome, refl, ap, sym, ◌∙◌, subst, arith}
+use Rattle.std.proofs.lemmas.List.{length-replicate}
+use Rattle.std.proofs.Common.{◌≡◌, inl, inr, ℕ, zero, suc, true≢false, replicate, ◌+◌, ◌*◌, ◌<◌, ◌≤◌, Bool, false, IsTrue, List, length, Option, Some, None, IsSome, refl, ap, sym, ◌∙◌, subst, arith}
 use Rattle.cu_shape.specs.Index.{IsInside, quotients}
 use Rattle.cu_grid.proofs.Parting.{has_coordinate}
 use Rattle.cu_store.specs.Faults.{last_count, Rose}
 use Rattle.cu_store.specs.Held.{Contents, Write, IsAmong, Holds}
 use Rattle.cu_store.specs.Share.{Lent, MayShare, IsShared, MayGiveBack, PutPromised, HoldsSeen, AddsCounts, HoldsPromised, LatePromised, LateSteady, IsPromiseOf, ServesAs}
 use Rattle.cu_store.specs.Steps.{Shown, Changes, NoChange, OrLate, IsChangedBy, Lands, Steps}
-use Rattle.cu_store.specs.Yard.{is_served, is_made, bytes_under, Served, Known, Fits, shown_by}
+use Rattle.cu_store.specs.Yard.{is_served, is_made, bytes_under, Served, Known, Fits}
 use Rattle.cu_store.specs.declared.yard.Spec.{Spec}
 use Rattle.cu_store.specs.declared.faults.TaskFault.TheVariants as fault
 use Rattle.cu_store.proofs.Sharing.{may_share_later}
@@ -29,15 +30,20 @@ use Rattle.cu_state.specs.Pieces.{PlanRun, chunks_alone, Chunk, HoldsPiece, Keys
 use Rattle.cu_state.proofs.Alike.{chunks_alike}
 use Rattle.cu_state.proofs.Keeping.{left_kept}
 use Rattle.cu_task.specs.Serving.{ServesPlan, PromisesValues, IsBadOfInput}
-use Rattle.cu_table.specs.Machine.{Machine, no_task, opened, opening}
+use Rattle.cu_table.specs.Machine.{opening}
 use Rattle.cu_table.specs.Numbers.{task_count, task_number}
 use Rattle.cu_table.specs.Table.{TableView}
-use Rattle.cu_work.specs.Alone.{HasRun, HasSeenDone, IsDecided, IsHaltOf}
-use Rattle.cu_work.specs.Drive.{IsBadChunk, IsInputKey, IsTaskMost}
+use Rattle.cu_board.specs.Board.{IsCauseOf}
+use Rattle.cu_work.specs.Alone.{HasSeenDone, IsDecided}
+use Rattle.cu_work.specs.Drive.{IsBadChunk, IsInputKey}
+use Rattle.cu_work.specs.World.{IsFound}
 use Rattle.cu_work.specs.Shared.{promised_writes, lent_of, none_done, specs_of, IsOpen, IsOpenAs, HasDriven, HoldsDone, IfBadChunk, IfLacked}
+use Rattle.cu_work.specs.Workers.{HasWorked}
 use Rattle.cu_work.specs.declared.outcome.Outcome.{Outcome}
 use Rattle.cu_work.specs.declared.outcome.Outcome.TheVariants as outcome
 use Rattle.cu_work.proofs.PlanChunks.{ChunksApart, chunks_apart, made_cell, cell_made, read_input, input_read}
+use Rattle.cu_work.proofs.Resuming.{found_stays, found_seen}
+use Rattle.cu_work.proofs.Worked.{bad_of_input}
 use Rattle.cu_work.proofs.Promised.{promise_value, promise_fits, nothing_fits}
 
 some_held : (a b : Contents) → ◌≡◌ {A = Option Contents} (Some a) (Some b) → a ≡ b
@@ -174,9 +180,15 @@ module _ (p : PlanView) (sound : Sound p) (apart : KeysApart (chunks_alone p)) (
       values = values_of mid.held refl shared.tells;
     }
 
+    -- what is held of the tasks that are done at first was seen
+    pub seen_first : (done : List Bool) → ((held : Contents) → start.held ≡ Some held → IsFound p held done) → HasSeenDone p (opening done) first.seen
+    seen_first done found = found_seen p lent wants mid yard first done sound shared (λ c piece. cell_made p c piece) (λ now told_now.
+        let (held, told) = told_before (OrLate NoChange start.late) start.held mid.held now share.lands told_now in
+        found_stays p r start start mid 0 tries held now done (steps_none share) told told_now (found held told))
+
     -- ---- once the tasks were run
 
-    module _ (table now : TableView) (last : Known) (plan : table.settings.plan ≡ p) (ran : HasRun yard table now first last) where
+    module _ (table now : TableView) (last : Known) (plan : table.settings.plan ≡ p) (ran : HasWorked yard table now first last) where
       pub may_give_back : MayGiveBack lent mid yard last
       may_give_back =
           let may = may_share_later share may_share in
@@ -209,9 +221,8 @@ module _ (p : PlanView) (sound : Sound p) (apart : KeysApart (chunks_alone p)) (
             let more = share.count in
             omega (arith, rose, none, sum, more)
 
-        pub shared_calls : (m : ℕ) → IsTaskMost p m → new.calls ≤ start.calls + tries + count_kind is_start now.history * m
-        shared_calls m most =
-            let few = ran.calls m (subst (λ (q : PlanView). IsTaskMost q m) (sym plan) most) in
+        pub shared_calls : (m : ℕ) → last.calls ≤ first.calls + count_kind is_start now.history * m → new.calls ≤ start.calls + tries + count_kind is_start now.history * m
+        shared_calls m few =
             let none = shared.calls in
             let sum = counts.calls in
             let more = share.calls.1 in
@@ -296,28 +307,24 @@ module _ (p : PlanView) (sound : Sound p) (apart : KeysApart (chunks_alone p)) (
             stays a b key bytes (inr (inl (put, is, made, promised))) holds unmade steady = absurd (unmade made)
             stays a b key bytes (inr (inr (put, is, among))) holds unmade steady = is ∙ (sym (steady put among) ∙ holds)
 
-        halted_of : (o : Outcome) → IsDecided p now.state o → (key : List ℕ) (got want : ℕ) → o ≡ outcome.BadChunk key got want → IsHaltOf p yard (shown_by last) (fault.BadChunk key got want)
-        halted_of o decided key got want is =
-            subst (λ (q : PlanView). IsHaltOf q yard (shown_by last) (fault.BadChunk key got want)) plan
-            (ran.cause (fault.BadChunk key got want) (subst (λ (x : Outcome). IsDecided p now.state x) is decided))
+        pub shared_bad : Fits yard last → (o : Outcome) → IsDecided p now.state o → IfBadChunk o (IsBadChunk p new)
+        shared_bad own outcome.Complete decided = tt
+        shared_bad own (outcome.Broken op task) decided = tt
+        shared_bad own outcome.Lacked decided = tt
+        shared_bad own (outcome.BadChunk key got want) decided =
+            let cause = subst (λ (q : PlanView). IsCauseOf q last (fault.BadChunk key got want)) plan (ran.cause (fault.BadChunk key got want) decided) in
+            let bad = bad_of_input p yard last key got want own cause in
+            let r = cause.0 in
+            (r.op, r.task, r.cell, r.is.operation, r.is.number, r.read, r.key_is, r.want_is, r.other, (input_of mid.held refl shared.tells key got want bad).0)
 
-        pub shared_bad : (o : Outcome) → IsDecided p now.state o → IfBadChunk o (IsBadChunk p new)
-        shared_bad outcome.Complete decided = tt
-        shared_bad (outcome.Broken op task) decided = tt
-        shared_bad outcome.Lacked decided = tt
-        shared_bad (outcome.BadChunk key got want) decided =
-            let halt = halted_of (outcome.BadChunk key got want) decided key got want refl in
-            let (k, task, c, first, number, listed, is_key, is_want, differ, long) = halt.0 in
-            (k, task, c, first, number, listed, is_key, is_want, differ, (input_of mid.held refl shared.tells key got want halt.1).0)
-
-        pub shared_input : (o : Outcome) → IsDecided p now.state o → (env : Elements) → IsLeft r env start → IfBadChunk o (λ key got want. IsInputKey p key)
-        shared_input outcome.Complete decided env left = tt
-        shared_input (outcome.Broken op task) decided env left = tt
-        shared_input outcome.Lacked decided env left = tt
-        shared_input (outcome.BadChunk key got want) decided env left =
-            let halt = halted_of (outcome.BadChunk key got want) decided key got want refl in
+        pub shared_input : Fits yard last → (o : Outcome) → IsDecided p now.state o → (env : Elements) → IsLeft r env start → IfBadChunk o (λ key got want. IsInputKey p key)
+        shared_input own outcome.Complete decided env left = tt
+        shared_input own (outcome.Broken op task) decided env left = tt
+        shared_input own outcome.Lacked decided env left = tt
+        shared_input own (outcome.BadChunk key got want) decided env left =
+            let cause = subst (λ (q : PlanView). IsCauseOf q last (fault.BadChunk key got want)) plan (ran.cause (fault.BadChunk key got want) decided) in
             let (held, told) = told_later (OrLate NoChange start.late) start.held mid.held left.held share.lands left.told in
-            (input_of mid.held refl shared.tells key got want halt.1).1 held told
+            (input_of mid.held refl shared.tells key got want (bad_of_input p yard last key got want own cause)).1 held told
 
         pub shared_lacked : (o : Outcome) → IsDecided p now.state o → IfLacked o (IsTrue wants)
         shared_lacked outcome.Complete decided = tt
@@ -332,15 +339,14 @@ pub lent_is : (p : PlanView) (h : Option Contents) (specs : List Spec) (writes :
     → lent_of p h ≡ record { specs = specs; promise = bytes_under writes }
 lent_is p h specs writes is named = rw (is, named) refl
 
-undone_at : (n k : ℕ) → (slice_index_or (map opened (replicate n false)) k no_task).done ≡ false
-undone_at zero k = refl
-undone_at (suc n) zero = refl
-undone_at (suc n) (suc k) = undone_at n k
+-- a list that names no task names none whose chunks aren't held
+unnamed : (n k : ℕ) → slice_index_or (replicate n false) k false ≡ false
+unnamed zero k = refl
+unnamed (suc n) zero = refl
+unnamed (suc n) (suc k) = unnamed n k
 
--- no task is done at first, so none was to be seen
-pub none_seen : (p : PlanView) (m : Machine) (seen : List ℕ → Bool) → m ≡ opening (none_done p) → HasSeenDone p m seen
-none_seen p m seen fresh op task is done =
-    absurd (true_false (sym done ∙ ap (λ (x : Machine). (slice_index_or x.tasks (task_number p op task) no_task).done) fresh ∙ undone_at (task_count p) (task_number p op task)))
-  where
-    true_false : true ≡ false → ⊥
-    true_false e = cc
+pub none_found : (p : PlanView) (held : Contents) → IsFound p held (none_done p)
+none_found p held = record {
+  tasks = length-replicate (task_count p) false;
+  stored = λ op task is named. absurd (true≢false (sym named ∙ unnamed (task_count p) (task_number p op task)));
+}

@@ -185,7 +185,7 @@ abbrev is_told : Option Contents → Bool
 is_told None = false
 is_told (Some x) = true
 
-bad_told : (p : PlanView) (promise entries : Option Contents) (e : Contents) (key : List ℕ) (got want : ℕ) → IsTold promise entries → entries ≡ Some e
+pub bad_told : (p : PlanView) (promise entries : Option Contents) (e : Contents) (key : List ℕ) (got want : ℕ) → IsTold promise entries → entries ≡ Some e
     → IsBadOfInput p promise entries (fault.BadChunk key got want) → IsBadEntry p e key got want
 bad_told p (Some x) (Some y) e key got want told is (c, chunk, given, key_is, want_is, other, (bytes, held, long)) = record {
   cell = c;
@@ -201,17 +201,21 @@ bad_told p (Some x) None e key got want told is bad = absurd told
 bad_told p None (Some y) e key got want told is bad = absurd told
 bad_told p None None e key got want told is bad = absurd (true≢false (sym (ap is_told is)))
 
-may_by : (p : PlanView) (op task : ℕ) (r : Result (Unit {0}) TaskFault) (old new : Known) (yard : Served) → Fits yard new → OnOk r (HasSeenOutputs p op task new.seen)
+may_by : (p : PlanView) (op task : ℕ) (r : Result (Unit {0}) TaskFault) (old new : Known) (yard : Served) → IsTask p op task → Fits yard new → OnOk r (HasSeenOutputs p op task new.seen)
     → IfErr r (IsTaskFault (shown_by old) (shown_by new) p op task) → IfErr r (IsBadOfInput p yard.promise yard.entries) → MayReport p op task r new
-may_by p op task (Ok u) old new yard fits seen cause bad = seen
-may_by p op task (Err fault.Store) old new yard fits seen cause bad = omega (arith, cause)
-may_by p op task (Err (fault.BadChunk key got want)) old new yard fits seen cause bad = λ e told.
-    bad_told p yard.promise new.entries e key got want fits.told told
-    (subst (λ (x : Option Contents). IsBadOfInput p yard.promise x (fault.BadChunk key got want)) fits.entries bad)
-may_by p op task (Err fault.NoMemory) old new yard fits seen cause bad = cause
+may_by p op task (Ok u) old new yard is fits seen cause bad = seen
+may_by p op task (Err fault.Store) old new yard is fits seen cause bad = omega (arith, cause)
+may_by p op task (Err (fault.BadChunk key got want)) old new yard is fits seen cause bad =
+    let (c, listed, key_is, want_is, other, long) = cause in (
+      record { op = op; task = task; is = is; cell = c; read = listed; key_is = key_is; want_is = want_is; other = other },
+      λ e told. bad_told p yard.promise new.entries e key got want fits.told told
+          (subst (λ (x : Option Contents). IsBadOfInput p yard.promise x (fault.BadChunk key got want)) fits.entries bad),
+    )
+may_by p op task (Err fault.NoMemory) old new yard is fits seen cause bad = cause
 
-pub may_report : (p : PlanView) (op task : ℕ) (r : Result (Unit {0}) TaskFault) (ks : Known × Known) (yard : Served) → Fits yard ks.1 → Tried p op task yard ks r → MayReport p op task r ks.1
-may_report p op task r ks yard fits tried = may_by p op task r ks.0 ks.1 yard fits tried.seen tried.cause tried.bad
+pub may_report : (p : PlanView) (op task : ℕ) (r : Result (Unit {0}) TaskFault) (ks : Known × Known) (yard : Served) → IsTask p op task → Fits yard ks.1 → Tried p op task yard ks r
+    → MayReport p op task r ks.1
+may_report p op task r ks yard is fits tried = may_by p op task r ks.0 ks.1 yard is fits tried.seen tried.cause tried.bad
 
 -- ---- a pass from the first claim on
 

@@ -1,6 +1,6 @@
 -- The memory that tasks are lent, in bytes and in words of 64 bits: an operation's projection less what is reserved, a word
 -- counted as eight bytes. This project's own rule.
-use Rattle.std.specs.Prelude.{ℕ, ◌+◌, ◌*◌, List, map}
+use Rattle.std.specs.Prelude.{ℕ, ◌+◌, ◌*◌, ◌≤◌, List, All, map}
 use Rattle.cu_op.specs.declared.layout.ArrayInfo.{ArrayInfo}
 use Rattle.cu_op.specs.declared.operation.Op.{Op}
 use Rattle.cu_op.specs.PlanView.{PlanView}
@@ -22,3 +22,11 @@ pub record RoomSizes : Type 0 where
 -- the most that any task of the plan is lent of each
 abbrev pub rooms_of : PlanView → RoomSizes
 rooms_of p = record { bytes = largest (map (λ o. task_bytes p.arrays o.op) p.ops); words = largest (map (λ o. task_words o.op) p.ops) }
+
+-- the bytes of both
+abbrev pub buffer_bytes : RoomSizes → ℕ
+buffer_bytes r = r.bytes + 8 * r.words
+
+-- the memory of each operation's tasks is within this, and its kernel has at most so many instructions
+abbrev pub AreLentWithin : PlanView → ℕ → ℕ → Type 0
+AreLentWithin p room instructions = All (λ o. (o.projected ≤ room) × (instruction_count o.op ≤ instructions)) p.ops

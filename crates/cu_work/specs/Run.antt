@@ -1,12 +1,16 @@
 -- What is stored of a plan, in its order: its record, its metadata, its chunks (this project's own rule).
-use Rattle.std.specs.Prelude.{◌≡◌, ◌⊎◌, ℕ, ◌<◌, IsTrue, List, [], ◌∷◌, length}
+use Rattle.std.specs.Prelude.{◌≡◌, ◌⊎◌, ℕ, ◌<◌, IsTrue, List, [], ◌∷◌, length, Option}
 use Rattle.cu_store.specs.Faults.{Rose}
-use Rattle.cu_store.specs.Steps.{Shown, Changes, PutOf, Steps}
+use Rattle.cu_store.specs.Held.{Contents}
+use Rattle.cu_store.specs.Steps.{Shown, Changes, NoChange, PutOf, Steps}
 use Rattle.cu_store.specs.declared.faults.DepotFault.{DepotFault}
 use Rattle.cu_store.specs.declared.faults.DepotFault.TheVariants as depot
 use Rattle.cu_op.specs.PlanView.{PlanView}
 use Rattle.cu_op.specs.Value.{Elements}
 use Rattle.cu_state.specs.Pieces.{PlanRun, Text, text_at, HoldsPiece}
+use Rattle.cu_work.specs.Order.{IsHeldIn}
+use Rattle.cu_work.specs.declared.run.HeldTexts.{HeldTexts}
+use Rattle.cu_work.specs.declared.run.HeldTexts.TheVariants.{Neither, Record, Both}
 use Rattle.cu_work.specs.declared.run.Texts.{Texts}
 use Rattle.cu_work.specs.declared.run.RunFault.{RunFault}
 use Rattle.cu_work.specs.declared.run.RunFault.TheVariants.{TextFailed, ShareFailed, NoMemory}
@@ -18,6 +22,24 @@ run_of p t = record { plan = p; texts = (t.record_key, t.record.now) ∷ (t.meta
 -- a put of one of the texts
 abbrev pub PutOfText : Texts → Changes
 PutOfText t key value = PutOf t.record_key t.record.now key value ⊎ PutOf t.metadata_key t.metadata.now key value
+
+-- a put of one that is to be stored, where these are held
+abbrev pub PutOfMissing : HeldTexts → Texts → Changes
+PutOfMissing Neither t = PutOfText t
+PutOfMissing Record t = PutOf t.metadata_key t.metadata.now
+PutOfMissing Both t = NoChange
+
+-- the key of such a one
+abbrev pub IsMissingKey : HeldTexts → Texts → List ℕ → Type 0
+IsMissingKey Neither t key = (key ≡ t.record_key) ⊎ (key ≡ t.metadata_key)
+IsMissingKey Record t key = key ≡ t.metadata_key
+IsMissingKey Both t key = ⊥
+
+-- where contents are told, these texts are held
+abbrev pub AreTextsHeld : HeldTexts → Texts → Option Contents → Type 0
+AreTextsHeld Neither t held = Unit {0}
+AreTextsHeld Record t held = IsHeldIn held t.record_key
+AreTextsHeld Both t held = IsHeldIn held t.record_key × IsHeldIn held t.metadata_key
 
 -- Of the plan nothing but the record was put, or the record is held.
 abbrev pub IsRecordFirst : PlanRun → Elements → ℕ → Shown → Shown → Type 0
@@ -35,11 +57,11 @@ IsUnstored r env tries old new (TextFailed key) =
 IsUnstored r env tries old new ShareFailed = HoldsTexts r env new
 IsUnstored r env tries old new NoMemory = IsRecordFirst r env tries old new
 
--- why no task was run: all calls for one text or to share failed, the count risen in each, or the depot lacks memory
-abbrev pub IsRunFault : ℕ → Texts → Shown → Shown → RunFault → Type 0
-IsRunFault tries t old new (TextFailed key) = ((key ≡ t.record_key) ⊎ (key ≡ t.metadata_key)) × Rose tries old.faults new.faults
-IsRunFault tries t old new ShareFailed = Rose tries old.faults new.faults
-IsRunFault tries t old new NoMemory = IsTrue new.lacks
+-- why no task was run: all calls for one text that was to be stored or to share failed, the count risen in each, or the depot lacks memory
+abbrev pub IsRunFault : HeldTexts → ℕ → Texts → Shown → Shown → RunFault → Type 0
+IsRunFault held tries t old new (TextFailed key) = IsMissingKey held t key × Rose tries old.faults new.faults
+IsRunFault held tries t old new ShareFailed = Rose tries old.faults new.faults
+IsRunFault held tries t old new NoMemory = IsTrue new.lacks
 
 -- the same of one text
 abbrev pub IsTextPutFault : ℕ → List ℕ → Shown → Shown → RunFault → Type 0

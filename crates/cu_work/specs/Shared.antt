@@ -1,5 +1,5 @@
 -- What a run of a plan shares of a depot, what it wants of it, and what its tasks have come to. This project's own rules.
-use Rattle.std.specs.Prelude.{◌≡◌, ℕ, zero, suc, Bool, false, List, [], ◌∷◌, ◌++◌, length, map, replicate, Option, Some, None, is_some}
+use Rattle.std.specs.Prelude.{◌≡◌, ℕ, ◌+◌, ◌≤◌, zero, suc, Bool, false, List, [], ◌∷◌, ◌++◌, length, map, replicate, Option, Some, None, is_some}
 use Rattle.cu_store.specs.Faults.{Rose}
 use Rattle.cu_store.specs.Held.{Contents, Write}
 use Rattle.cu_store.specs.Steps.{Shown}
@@ -7,7 +7,7 @@ use Rattle.cu_store.specs.Share.{Lent}
 use Rattle.cu_store.specs.Yard.{bytes_under}
 use Rattle.cu_store.specs.declared.yard.Spec.{Spec}
 use Rattle.cu_grid.specs.Grid.{coordinate_of}
-use Rattle.cu_history.specs.History.{is_failed, count_kind}
+use Rattle.cu_history.specs.History.{is_start, is_failed, count_kind}
 use Rattle.cu_op.specs.declared.cells.Cell.{Cell}
 use Rattle.cu_op.specs.declared.layout.ArrayInfo.{ArrayInfo}
 use Rattle.cu_op.specs.Arrays.{array_at, grid_at, maker_at, chunk_room, array_chunk_count}
@@ -20,10 +20,11 @@ use Rattle.cu_state.specs.Pieces.{PlanRun, HoldsTask}
 use Rattle.cu_table.specs.Machine.{Machine, IsDone, opening}
 use Rattle.cu_table.specs.Numbers.{IsTask, task_count}
 use Rattle.cu_table.specs.Step.{Replays}
-use Rattle.cu_table.specs.Table.{TableView}
+use Rattle.cu_table.specs.Table.{TableView, undone_among}
 use Rattle.cu_work.specs.Alone.{IsDecided}
 use Rattle.cu_work.specs.Rooms.{rooms_of}
 use Rattle.cu_work.specs.declared.memory.RunMemory.{RunMemory}
+use Rattle.cu_work.specs.declared.options.RunOptions.{RunOptions}
 use Rattle.cu_work.specs.declared.outcome.Outcome.{Outcome}
 use Rattle.cu_work.specs.declared.outcome.Outcome.TheVariants as outcome
 
@@ -91,11 +92,20 @@ IsOpen r shown = IsOpenAs r shown.held shown
 abbrev pub none_done : PlanView → List Bool
 none_done p = replicate (task_count p) false
 
--- the memory for a run of the plan that has not begun
-pub record IsMemoryFor (p : PlanView) (retries : ℕ) (m : RunMemory) : Type 0 where
-  pub rooms : m.rooms ≡ rooms_of p
+-- the table of a run that has not begun, of which these tasks are done
+abbrev pub opened_table : PlanView → RunOptions → List Bool → TableView
+opened_table p o done = record {
+  settings = record { plan = p; retries = o.retries; backups = o.backups };
+  done = done;
+  history = [];
+  state = opening done;
+}
+
+-- the memory for such a run: that of each worker, the keys and the table
+pub record IsMemoryFor (p : PlanView) (o : RunOptions) (done : List Bool) (m : RunMemory) : Type 0 where
+  pub rooms : m.rooms.items ≡ replicate o.workers (rooms_of p)
   pub specs : m.specs.items ≡ specs_of p
-  pub table : m.table ≡ record { settings = record { plan = p; retries = retries; backups = false }; done = none_done p; history = []; state = opening (none_done p) }
+  pub table : m.table ≡ opened_table p o done
 
 -- ---- what the tasks came to
 
@@ -108,6 +118,13 @@ pub record HasDriven (first now : TableView) (old new : Shown) (o : Outcome) : T
   pub resting : now.state.copies ≡ []
   pub decided : IsDecided first.settings.plan now.state o
   pub rose : Rose (count_kind is_failed now.history) old.faults new.faults
+
+-- Once all tasks are done they were started as often as they failed and once more each that wasn't done at first; with second
+-- copies of tasks at least so often.
+abbrev pub AreCounted : TableView → TableView → Type 0
+AreCounted first now =
+    (count_kind is_failed now.history + undone_among first.state.tasks ≤ count_kind is_start now.history)
+    × (first.settings.backups ≡ false → count_kind is_start now.history ≡ count_kind is_failed now.history + undone_among first.state.tasks)
 
 -- each task that is done holds its chunks
 abbrev pub HoldsDone : PlanRun → Elements → Machine → Shown → Type 0

@@ -1,17 +1,22 @@
 -- What a worker keeps, what it knows at the end, and all workers of a run. This project's own rules.
-use Rattle.std.specs.Prelude.{◌≡◌, ℕ, ◌+◌, ◌<◌, min, ◌||◌, true, false, List, length, sum_by, All, slice_index_or, []}
+use Rattle.std.specs.Prelude.{◌≡◌, ℕ, ◌+◌, ◌<◌, min, ◌||◌, true, false, List, length, sum_by, All, Some, slice_index_or, []}
 use Rattle.std.specs.List.{list_any}
 use Rattle.atomic_table.specs.Seated.{TableId}
-use Rattle.cu_store.specs.Faults.{last_count}
-use Rattle.cu_store.specs.Yard.{Known, IsOfOneYard}
+use Rattle.cu_store.specs.Faults.{last_count, Rose}
+use Rattle.cu_store.specs.Yard.{Served, Known, IsOfOneYard}
+use Rattle.cu_store.specs.declared.faults.TaskFault.{TaskFault}
 use Rattle.cu_store.specs.declared.faults.TaskFault.TheVariants as fault
+use Rattle.cu_history.specs.History.{is_failed, count_kind}
 use Rattle.cu_op.specs.PlanView.{PlanView}
+use Rattle.cu_region.specs.Passes.{IsLaterIn}
+use Rattle.cu_table.specs.declared.state.Ending.TheVariants.{Halted}
+use Rattle.cu_table.specs.Step.{Replays}
 use Rattle.cu_table.specs.Table.{TableView}
 use Rattle.cu_turn.specs.declared.view.SeatView.{SeatView}
 use Rattle.cu_turn.specs.declared.view.KnownFront.{KnownFront}
 use Rattle.cu_board.specs.Board.{IsLegal, IsSameJob, IsResting, IsCauseOf, halted_fault}
 use Rattle.cu_board.specs.Views.{SeatAt, IsSeatOf}
-use Rattle.cu_work.specs.Alone.{IsDecided}
+use Rattle.cu_work.specs.Alone.{IsDecided, HasSeenDone}
 use Rattle.cu_work.specs.Rooms.{rooms_of}
 use Rattle.cu_work.specs.declared.outcome.Outcome.{Outcome}
 use Rattle.cu_work.specs.declared.outcome.Outcome.TheVariants.{BadChunk, Lacked}
@@ -71,3 +76,18 @@ pub record TookIn (ks : List Known) (old new : Known) : Type 0 where
 -- what a seat knows of the history
 abbrev pub front_of : SeatAt → KnownFront
 front_of s = record { number = s.view.number; front = s.view.front; fault = s.view.fault }
+
+-- ---- what one worker or several have come to
+
+-- From one moment to another tasks were run: of the table only the history and the state changed, and no copy runs; the
+-- pass has seen each chunk of each task that is done, and its count of faults has risen by each failure at least. The fault
+-- that ended the machine has its cause.
+pub record HasWorked (yard : Served) (first now : TableView) (old new : Known) : Type 0 where
+  pub settings : now.settings ≡ first.settings
+  pub done : now.done ≡ first.done
+  pub legal : Replays now.settings now.done now.history now.state
+  pub resting : now.state.copies ≡ []
+  pub seen : HasSeenDone first.settings.plan now.state new.seen
+  pub later : IsLaterIn yard.specs old new
+  pub rose : Rose (count_kind is_failed now.history) old.faults new.faults
+  pub cause : (f : TaskFault) → now.state.ended ≡ Some (Halted f) → IsCauseOf first.settings.plan new f

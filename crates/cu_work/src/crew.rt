@@ -13,12 +13,12 @@ use crate::outcome::Outcome;
 use crate::rooms::Rooms;
 use crate::worker::Worker;
 use cu_board::{Board, BoardSeat};
-use cu_store::{NoMemory, Yard};
+use cu_store::Yard;
 use cu_table::Table;
 use std::alloc::Global;
 
 /// A worker for each of the rooms, numbered from 0, with a seat of its own and a pass that knows as much as this one, with a count
-/// of 0. The Err is want of memory.
+/// of 0. The Err is want of memory, and hands the rooms back.
 pub fn hire<Y: Yard>(
     alloc: Global,
     board: &Board<Y>,
@@ -26,7 +26,7 @@ pub fn hire<Y: Yard>(
     yard: &Y,
     pass: &mut Y::Pass,
     rooms: Vec<Rooms>,
-) -> Result<Vec<Worker<Y>>, NoMemory>
+) -> Result<Vec<Worker<Y>>, Vec<Rooms>>
     requires few { vec_len rooms < 2 ^ 32 }
     requires root { root.old ≡ record { board = board.now.board; view = first_root } }
     requires own { Y.owns yard.now pass.old }
@@ -36,11 +36,11 @@ pub fn hire<Y: Yard>(
         × IsRootOf board.now.board (vec_len rooms) root.new) }
     ensures numbers { IfOk result (λ ws. AreNumbered ws.items) }
     ensures passes { IfOk result (λ ws. All (λ w. Y.knows w.pass ≡ uncounted (Y.knows pass.old)) ws.items) }
-    ensures refused { IfErr result (λ e. root.new ≡ root.old) }
+    ensures refused { IfErr result (λ rest. (rest ≡ rooms) × (root.new ≡ root.old)) }
     ensures rooms { (p : PlanView) → All (λ r. r ≡ rooms_of p) rooms.items → IfOk result (λ ws. HaveRooms p ws.items) }
 {
     let Ok(mut workers) = Vec::with_capacity(alloc, rooms.len()) else {
-        return Err(NoMemory);
+        return Err(rooms);
     };
     let mut number = 0;
     for room in rooms {

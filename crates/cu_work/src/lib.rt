@@ -1,5 +1,5 @@
-//! Running the tasks of a plan: the keys in the way, the memory that a run takes, one worker by a task table over a yard that a depot
-//! shares, and the law of every schedule.
+//! Running the tasks of a plan: the keys in the way, the memory that a run takes, its workers over a yard that a depot shares, and the
+//! law of every schedule.
 #![tactic(auto)]
 
 mod alone;
@@ -9,11 +9,13 @@ mod crew;
 mod ends;
 mod find;
 mod memory;
+mod options;
 mod outcome;
 mod removal;
 mod rooms;
 mod run;
 mod shared;
+mod together;
 mod turns;
 mod way;
 mod worker;
@@ -25,11 +27,12 @@ pub use counts::{failures, starts};
 pub use crew::{dismiss, hire};
 pub use ends::outcome_law;
 pub use find::{FindFault, find_done};
-pub use memory::RunMemory;
-pub use outcome::Outcome;
+pub use memory::{RunMemory, none_done};
+pub use options::RunOptions;
+pub use outcome::{Outcome, RunEnd};
 pub use removal::{RemoveFault, remove_plan};
 pub use rooms::Rooms;
-pub use run::{RunFault, Texts, run_plan};
+pub use run::{HeldTexts, RunFault, Texts, run_plan};
 pub use shared::run_tasks;
 pub use turns::drive;
 pub use way::{WayFault, ask_keys};

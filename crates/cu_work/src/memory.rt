@@ -1,9 +1,14 @@
 //! The memory that a run takes before it stores anything.
-ghost use Rattle.std.specs.Prelude.{◌≡◌, ◌+◌, ◌<◌, ◌++◌, IfOk, length, map, replicate, false};
+ghost use Rattle.std.specs.Prelude.{◌≡◌, ℕ, ◌+◌, ◌*◌, ◌<◌, ◌≤◌, ◌++◌, IfOk, length, map, replicate, sum_by, false};
+ghost use Rattle.cu_store.specs.Held.{Contents};
 ghost use Rattle.cu_op.specs.Arrays.{array_at, array_chunk_count, chunk_room};
 ghost use Rattle.cu_op.specs.Cells.{IsChunk};
+ghost use Rattle.cu_table.specs.Numbers.{task_count};
+ghost use Rattle.cu_work.specs.Rooms.{rooms_of, buffer_bytes, AreLentWithin};
 ghost use Rattle.cu_work.specs.Shared.{spec_of, specs_of, chunks_below, none_done, IsMemoryFor};
+ghost use Rattle.cu_work.specs.World.{IsFound};
 
+use crate::options::RunOptions;
 use crate::rooms::Rooms;
 use crate::way::key_of;
 use cu_num::size;
@@ -15,9 +20,9 @@ use std::alloc::Global;
 /// The memory that a run of a plan takes before it stores anything. Only the yard's is taken later, and before the first task.
 #[derive(Drop)]
 pub struct RunMemory {
-    /// The memory that tasks are lent.
-    pub rooms: Rooms,
-    /// The table of the plan's tasks, none of which is done, and its history.
+    /// The memory that tasks are lent, for each worker.
+    pub rooms: Vec<Rooms>,
+    /// The table of the plan's tasks, which has no history yet.
     pub table: Table,
     /// The keys that the run shares.
     pub specs: Vec<Spec>,
@@ -90,7 +95,7 @@ fn push_undone(done: &mut Vec<bool>, count: u32) -> Result<(), NoMemory>
 }
 
 /// For each task of the plan that it isn't done.
-fn none_done(alloc: Global, plan: &Plan) -> Result<Vec<bool>, NoMemory>
+fn undone_list(alloc: Global, plan: &Plan) -> Result<Vec<bool>, NoMemory>
     ensures { IfOk result (λ done. done.items ≡ none_done plan.now) }
 {
     let mut done = Vec::new(alloc);
@@ -100,15 +105,50 @@ fn none_done(alloc: Global, plan: &Plan) -> Result<Vec<bool>, NoMemory>
     Ok(done)
 }
 
+/// The list of a run that begins: for each task of the plan that it isn't done. The Err is want of memory.
+pub fn none_done(alloc: Global, plan: &Plan) -> Result<Vec<bool>, NoMemory>
+    ensures none { IfOk result (λ done. done.items ≡ none_done plan.now) }
+    ensures tasks { IfOk result (λ done. length done.items ≡ task_count plan.now) }
+    ensures found { (held : Contents) → IfOk result (λ done. IsFound plan.now held done.items) }
+{
+    undone_list(alloc, plan)
+}
+
+/// The memory for the tasks of so many workers.
+fn make_rooms(alloc: Global, plan: &Plan, workers: u32) -> Result<Vec<Rooms>, NoMemory>
+    ensures { IfOk result (λ rooms. rooms.items ≡ replicate workers (rooms_of plan.now)) }
+{
+    let mut rooms = Vec::new(alloc);
+    for _ in 0..workers {
+        let room = Rooms::make(alloc, plan)?;
+        if rooms.push(room).is_err() {
+            return Err(NoMemory);
+        }
+    }
+    Ok(rooms)
+}
+
 impl RunMemory {
-    /// The memory for a run of the plan by one worker, of which no task is done; a task that the store fails is tried again `retries`
-    /// times.
-    pub fn make(alloc: Global, plan: &Plan, retries: u32) -> Result<RunMemory, NoMemory>
-        ensures { IfOk result (IsMemoryFor plan.now retries) }
+    /// The memory for a run of the plan, of which these tasks are done, those of all operations in order. Each worker has the most
+    /// bytes and words that any task is lent: no more than an operation's memory and 512 bytes for each instruction of a kernel. The
+    /// Err is want of memory.
+    pub fn make(
+        alloc: Global,
+        plan: &Plan,
+        options: &RunOptions,
+        done: &[bool],
+    ) -> Result<RunMemory, NoMemory>
+        requires { length done.now ≡ task_count plan.now }
+        ensures memory { IfOk result (IsMemoryFor plan.now options.now done.now) }
+        ensures buffers { IfOk result (λ memory. sum_by buffer_bytes memory.rooms.items
+            ≡ options.now.workers * buffer_bytes (rooms_of plan.now)) }
+        ensures room { (room instructions : ℕ) → AreLentWithin plan.now room instructions → IfOk result (λ memory.
+            sum_by buffer_bytes memory.rooms.items ≤ options.now.workers * (room + 512 * instructions)) }
     {
-        let rooms = Rooms::make(alloc, plan)?;
-        let done = none_done(alloc, plan)?;
-        let table = Table::begin(alloc, plan, retries, false, &done)?;
+        // that the plan is sound is told by the plan alone
+        let _ops = plan.ops();
+        let rooms = make_rooms(alloc, plan, options.workers)?;
+        let table = Table::begin(alloc, plan, options.retries, options.backups, done)?;
         let specs = make_specs(alloc, plan)?;
         Ok(RunMemory {
             rooms,

@@ -1,4 +1,5 @@
 use cu_store::Key;
+use cu_table::Table;
 
 /// How a run of a plan's tasks ended.
 #[derive(Clone, Copy, Debug, PartialEq, Eq)]
@@ -23,4 +24,13 @@ pub enum Outcome {
     },
     /// The store lacked memory.
     Lacked,
+}
+
+/// A run of a plan's tasks that has ended: how, and its table, which has the history.
+#[derive(Drop)]
+pub struct RunEnd {
+    /// The outcome, which is that of the history's deciding event.
+    pub outcome: Outcome,
+    /// The table.
+    pub table: Table,
 }

@@ -1,22 +1,27 @@
 //! Storing what a plan makes: its texts, and then its chunks.
-ghost use Rattle.std.specs.Prelude.{◌≡◌, ℕ, ◌+◌, ◌*◌, ◌≤◌, IsTrue, OnOk, OnErr, IfOk, IfErr};
+ghost use Rattle.std.specs.Prelude.{◌≡◌, ℕ, ◌+◌, ◌*◌, ◌<◌, ◌≤◌, IsTrue, Some, OnOk, OnErr, IfOk, IfErr};
 ghost use Rattle.cu_store.specs.Faults.{last_count};
-ghost use Rattle.cu_store.specs.Held.{Holds};
+ghost use Rattle.cu_store.specs.Held.{Contents, Holds};
 ghost use Rattle.cu_store.specs.Steps.{PutOf, Steps};
 ghost use Rattle.cu_history.specs.History.{is_start, count_kind};
 ghost use Rattle.cu_op.specs.Value.{Elements};
 ghost use Rattle.cu_state.specs.Left.{IsLeft, RunChange};
 ghost use Rattle.cu_state.specs.Pieces.{KeysApart, InputsApart, IsComplete};
 ghost use Rattle.cu_work.specs.Drive.{IsBadChunk, IsInputKey, IsTaskMost};
-ghost use Rattle.cu_work.specs.Run.{run_of, fault_of, PutOfText, IsRecordFirst, HoldsTexts, IsRunFault, IsTextPutFault, IsUnstored};
-ghost use Rattle.cu_work.specs.Shared.{IsOpen, IsMemoryFor, HasDriven, HoldsDone, IfBadChunk, IfComplete, IfLacked};
+ghost use Rattle.cu_work.specs.declared.run.HeldTexts.TheVariants.{Neither};
+ghost use Rattle.cu_work.specs.Run.{run_of, fault_of, PutOfText, PutOfMissing, AreTextsHeld, IsRecordFirst, HoldsTexts, IsRunFault, IsTextPutFault, IsUnstored};
+ghost use Rattle.cu_work.specs.Shared.{IsOpen, IsMemoryFor, HasDriven, HoldsDone, AreCounted, IfBadChunk, IfComplete, IfLacked};
+ghost use Rattle.cu_work.specs.World.{IsFound};
 
 use crate::memory::RunMemory;
-use crate::outcome::Outcome;
+use crate::options::RunOptions;
+use crate::outcome::RunEnd;
 use crate::shared::run_tasks;
 use cu_op::Plan;
-use cu_store::{Depot, DepotFault, Key, Share, put_tries};
+use cu_store::{Depot, DepotFault, Gate, Key, Share, put_tries};
 use std::alloc::Global;
+use std::sync::Wait;
+use std::thread::Threads;
 
 /// The texts that are stored before the first chunk of a plan.
 #[derive(Clone, Copy)]
@@ -29,6 +34,17 @@ pub struct Texts<'a> {
     pub metadata_key: Key,
     /// The metadata.
     pub metadata: &'a [u8],
+}
+
+/// Which of the texts are held already, so that they aren't stored.
+#[derive(Clone, Copy, Debug, PartialEq, Eq)]
+pub enum HeldTexts {
+    /// None: the run begins.
+    Neither,
+    /// The record: the run goes on.
+    Record,
+    /// The record and the metadata: the run goes on.
+    Both,
 }
 
 /// Why no task was run.
@@ -56,7 +72,7 @@ fn put_text<D: Depot>(depot: &mut D, key: &Key, text: &[u8], retries: u32) -> Re
 }
 
 /// Stores the texts of the plan, the record first.
-fn put_texts<D: Depot>(
+fn put_both<D: Depot>(
     plan: &Plan,
     depot: &mut D,
     texts: &Texts<'_>,
@@ -67,12 +83,35 @@ fn put_texts<D: Depot>(
     ensures stored { (env : Elements) → IsLeft (run_of plan.now texts.now) env (D.shown depot.old) → OnOk result (HoldsTexts (run_of plan.now texts.now) env (D.shown depot.new)) }
     ensures unstored { (env : Elements) → IsLeft (run_of plan.now texts.now) env (D.shown depot.old)
         → IfErr result (IsUnstored (run_of plan.now texts.now) env (retries + 1) (D.shown depot.old) (D.shown depot.new)) }
-    ensures cause { IfErr result (IsRunFault (retries + 1) texts.now (D.shown depot.old) (D.shown depot.new)) }
+    ensures cause { IfErr result (IsRunFault Neither (retries + 1) texts.now (D.shown depot.old) (D.shown depot.new)) }
 {
     if let Err(fault) = put_text(depot, &texts.record_key, texts.record, retries) {
         return Err(fault);
     }
     put_text(depot, &texts.metadata_key, texts.metadata, retries)
+}
+
+/// Stores the texts of the plan that aren't held, the record first.
+fn put_texts<D: Depot>(
+    plan: &Plan,
+    depot: &mut D,
+    texts: &Texts<'_>,
+    held: HeldTexts,
+    retries: u32,
+) -> Result<(), RunFault>
+    requires { AreTextsHeld held texts.now (D.shown depot.old).held }
+    ensures step { Steps (RunChange (run_of plan.now texts.now) (D.shown depot.old)) 0 (2 * (retries + 1)) (D.shown depot.old) (D.shown depot.new) }
+    ensures own { Steps (PutOfMissing held texts.now) 0 (2 * (retries + 1)) (D.shown depot.old) (D.shown depot.new) }
+    ensures stored { (env : Elements) → IsLeft (run_of plan.now texts.now) env (D.shown depot.old) → OnOk result (HoldsTexts (run_of plan.now texts.now) env (D.shown depot.new)) }
+    ensures unstored { (env : Elements) → IsLeft (run_of plan.now texts.now) env (D.shown depot.old)
+        → IfErr result (IsUnstored (run_of plan.now texts.now) env (retries + 1) (D.shown depot.old) (D.shown depot.new)) }
+    ensures cause { IfErr result (IsRunFault held (retries + 1) texts.now (D.shown depot.old) (D.shown depot.new)) }
+{
+    match held {
+        HeldTexts::Neither => put_both(plan, depot, texts, retries),
+        HeldTexts::Record => put_text(depot, &texts.metadata_key, texts.metadata, retries),
+        HeldTexts::Both => Ok(()),
+    }
 }
 
 /// Why no task was run, where sharing ended so.
@@ -85,52 +124,62 @@ fn fault_of(fault: DepotFault) -> RunFault
     }
 }
 
-/// Stores the texts of the plan, the record first, shares the keys of its chunks and of its inputs, runs its tasks in the yard, and
-/// gives the keys back. Each call for a text, sharing and each task is tried again where the store failed, at most `retries` times.
+/// Stores the texts of the plan that aren't held, the record first, shares the keys of its chunks and of its inputs, runs its tasks in
+/// the yard, and gives the keys back. Each call for a text, sharing and each task is tried again where the store failed, at most
+/// `retries` times. One worker alone starts no thread and waits for nobody.
+///
+/// Where contents are told, the texts are held that are said to be, and all chunks of the tasks that the table calls done.
 ///
 /// Where the contents are told and were left so at first, each text and each chunk of the plan is absent or holds its value at any
-/// end, and each holds it after `Complete`. Nothing is stored before the record is, and no chunk before both texts are. The memory says
-/// how it ended: its table has the history, and each chunk of a task that is done there is held.
+/// end, and each holds it after `Complete`. Nothing is stored before the record is, and no chunk before both texts are. The table
+/// has the history, and each chunk of a task that is done there is held.
 ///
 /// `TextFailed`: all calls for this text failed. `ShareFailed`: all calls to share failed; the texts are held. The answers of `Ok` are
 /// those of `run_tasks`.
-pub fn run_plan<D: Share>(
+pub fn run_plan<H: Threads + Wait + Sync, D: Share, G: Gate>(
+    rt: &H,
     alloc: Global,
     plan: &Plan,
     depot: &mut D,
     texts: &Texts<'_>,
-    memory: &mut RunMemory,
-    retries: u32,
-) -> Result<Outcome, RunFault>
+    held: HeldTexts,
+    memory: RunMemory,
+    options: &RunOptions,
+    gate: &G,
+) -> Result<RunEnd, RunFault>
     requires apart { KeysApart (run_of plan.now texts.now) }
     requires inputs { InputsApart (run_of plan.now texts.now) }
     requires open { IsOpen (run_of plan.now texts.now) (D.shown depot.old) }
-    requires memory { IsMemoryFor plan.now retries memory.old }
+    requires held { AreTextsHeld held texts.now (D.shown depot.old).held }
+    requires workers { 0 < options.now.workers }
+    requires memory { IsMemoryFor plan.now options.now memory.table.done memory }
+    requires found { (held : Contents) → (D.shown depot.old).held ≡ Some held → IsFound plan.now held memory.table.done }
     ensures step { Steps (RunChange (run_of plan.now texts.now) (D.shown depot.old)) 0 last_count (D.shown depot.old) (D.shown depot.new) }
     ensures texts { (env : Elements) → IsLeft (run_of plan.now texts.now) env (D.shown depot.old) → OnOk result (HoldsTexts (run_of plan.now texts.now) env (D.shown depot.new)) }
     ensures record { (env : Elements) → IsLeft (run_of plan.now texts.now) env (D.shown depot.old)
         → IsRecordFirst (run_of plan.now texts.now) env last_count (D.shown depot.old) (D.shown depot.new) }
     ensures unstored { (env : Elements) → IsLeft (run_of plan.now texts.now) env (D.shown depot.old)
-        → IfErr result (IsUnstored (run_of plan.now texts.now) env (retries + 1) (D.shown depot.old) (D.shown depot.new)) }
-    ensures refused { OnErr result (Steps (PutOfText texts.now) 0 (3 * (retries + 1)) (D.shown depot.old) (D.shown depot.new)) }
-    ensures cause { IfErr result (IsRunFault (retries + 1) texts.now (D.shown depot.old) (D.shown depot.new)) }
-    ensures driven { IfOk result (HasDriven memory.old.table memory.new.table (D.shown depot.old) (D.shown depot.new)) }
+        → IfErr result (IsUnstored (run_of plan.now texts.now) env (options.now.retries + 1) (D.shown depot.old) (D.shown depot.new)) }
+    ensures refused { OnErr result (Steps (PutOfMissing held texts.now) 0 (3 * (options.now.retries + 1)) (D.shown depot.old) (D.shown depot.new)) }
+    ensures cause { IfErr result (IsRunFault held (options.now.retries + 1) texts.now (D.shown depot.old) (D.shown depot.new)) }
+    ensures driven { IfOk result (λ end. HasDriven memory.table end.table (D.shown depot.old) (D.shown depot.new) end.outcome) }
+    ensures counts { IfOk result (λ end. IfComplete end.outcome (AreCounted memory.table end.table)) }
     ensures done { (env : Elements) → IsLeft (run_of plan.now texts.now) env (D.shown depot.old)
-        → IfOk result (λ _. HoldsDone (run_of plan.now texts.now) env memory.new.table.state (D.shown depot.new)) }
+        → IfOk result (λ end. HoldsDone (run_of plan.now texts.now) env end.table.state (D.shown depot.new)) }
     ensures complete { (env : Elements) → IsLeft (run_of plan.now texts.now) env (D.shown depot.old)
-        → IfOk result (λ outcome. IfComplete outcome (IsComplete (run_of plan.now texts.now) env (D.shown depot.new))) }
-    ensures bad { IfOk result (λ outcome. IfBadChunk outcome (IsBadChunk plan.now (D.shown depot.new))) }
+        → IfOk result (λ end. IfComplete end.outcome (IsComplete (run_of plan.now texts.now) env (D.shown depot.new))) }
+    ensures bad { IfOk result (λ end. IfBadChunk end.outcome (IsBadChunk plan.now (D.shown depot.new))) }
     ensures input { (env : Elements) → IsLeft (run_of plan.now texts.now) env (D.shown depot.old)
-        → IfOk result (λ outcome. IfBadChunk outcome (λ key got want. IsInputKey plan.now key)) }
-    ensures lacked { IfOk result (λ outcome. IfLacked outcome (IsTrue (D.yards_lack depot.new))) }
-    ensures tries { (m : ℕ) → IsTaskMost plan.now m → (D.shown depot.new).calls
-        ≤ (D.shown depot.old).calls + 3 * (retries + 1) + count_kind is_start memory.new.table.history * m }
+        → IfOk result (λ end. IfBadChunk end.outcome (λ key got want. IsInputKey plan.now key)) }
+    ensures lacked { IfOk result (λ end. IfLacked end.outcome (IsTrue (D.yards_lack depot.new))) }
+    ensures tries { options.now.workers ≡ 1 → (m : ℕ) → IsTaskMost plan.now m → IfOk result (λ end. (D.shown depot.new).calls
+        ≤ (D.shown depot.old).calls + 3 * (options.now.retries + 1) + count_kind is_start end.table.history * m) }
 {
-    if let Err(fault) = put_texts(plan, depot, texts, retries) {
+    if let Err(fault) = put_texts(plan, depot, texts, held, options.retries) {
         return Err(fault);
     }
-    match run_tasks(alloc, plan, depot, memory, retries) {
-        Ok(outcome) => Ok(outcome),
+    match run_tasks(rt, alloc, plan, depot, memory, options, gate) {
+        Ok(end) => Ok(end),
         Err(fault) => Err(fault_of(fault)),
     }
 }

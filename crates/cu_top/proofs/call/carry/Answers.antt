@@ -6,6 +6,15 @@ run_command-requires-clause-options g c κs within = rw c.in-Run.is at c.in-Aske
 pub run_command-requires-clause-quiet : goal.run_command-requires-clause-quiet
 run_command-requires-clause-quiet g c κs within = λ text next read. c.requires.quiet c.in-Run.options text next (rw c.in-Run.is at c.in-Asked.ensures.answer.0) read
 
+pub resume_command-requires-clause-options : goal.resume_command-requires-clause-options
+resume_command-requires-clause-options g c κs within = rw c.in-Resume.is at c.in-Asked.ensures.answer.1
+
+pub resume_command-requires-clause-left : goal.resume_command-requires-clause-left
+resume_command-requires-clause-left g c κs within = λ text next read. c.requires.left c.in-Resume.options text next (rw c.in-Resume.is at c.in-Asked.ensures.answer.0) read
+
+pub drop_command-requires : goal.drop_command-requires
+drop_command-requires g c = record { options = rw c.in-Drop.is at c.in-Asked.ensures.answer.1 }
+
 pub key_of_name-requires : goal.key_of_name-requires
 key_of_name-requires g c = rw c.in-Print.is at c.in-Asked.ensures.answer.1
 

@@ -2,10 +2,12 @@ use Rattle.std.proofs.Common.{Bool, IsTrue, ◌+◌, ap, sym, ◌∙◌, subst}
 use Rattle.cu_store.specs.Share.{Lent, KeysDiffer, MayShare, IsShared, MayGiveBack, PutPromised, HoldsSeen}
 use Rattle.cu_store.specs.Steps.{Steps}
 use Rattle.cu_state.specs.Pieces.{chunks_alone}
+use Rattle.cu_table.specs.Machine.{Machine}
 use Rattle.cu_table.specs.Table.{TableView}
+use Rattle.cu_work.specs.Alone.{HasSeenDone}
 use Rattle.cu_work.specs.Shared.{IfLacked}
 use Rattle.cu_work.proofs.PlanChunks.{chunks_apart, specs_differ}
-use Rattle.cu_work.proofs.SharedRuns.{lent_is, may_share, serves, none_seen, may_give_back, shared_step, shared_done, shared_bad, shared_input, shared_lacked}
+use Rattle.cu_work.proofs.SharedRuns.{lent_is, may_share, serves, seen_first, may_give_back, shared_step, shared_done, shared_bad, shared_input, shared_lacked}
 use Rattle.cu_work.proofs.shared.run_promised.Goals as goal
 
 pub share_tries-requires-clause-apart : goal.share_tries-requires-clause-apart
@@ -19,21 +21,31 @@ share_tries-requires-clause-may g c κs within =
     (lent_is c.args.plan.now start.held c.deref.result.now c.make-promise.result.map (c.deref.ensures.value ∙ c.requires.memory.specs) (c.make-promise.ensures ∙ c.requires.names))
     (may_share c.args.plan.now c.ops-sound.ensures.sound c.requires.apart c.requires.inputs start c.requires.open)
 
-pub drive_alone-outcome-requires-clause-serves : goal.drive_alone-outcome-requires-clause-serves
-drive_alone-outcome-requires-clause-serves g c κs within =
+pub work-end-requires-clause-serves : goal.work-end-requires-clause-serves
+work-end-requires-clause-serves g c κs within =
     let start = g.D.Depot.shown c.args.depot.now in
     let mid = g.D.Depot.shown c.share_tries.new.depot in
     let yard = g.D.Yard.Yard.serves c.in-Ok.yard in
     let first = g.D.Yard.Yard.knows c.in-Ok.pass in
     let wants = g.D.Share.yards_lack c.args.depot.now in
-    serves c.args.plan.now c.ops-sound.ensures.sound c.requires.apart c.requires.inputs start c.requires.open (c.args.retries + 1) mid c.share_tries.ensures.step wants yard first
+    serves c.args.plan.now c.ops-sound.ensures.sound c.requires.apart c.requires.inputs start c.requires.open (c.args.options.now.retries + 1) mid c.share_tries.ensures.step wants yard first
     (subst (λ (l : Lent). IsShared l wants mid yard first)
     (sym (lent_is c.args.plan.now start.held c.deref.result.now c.make-promise.result.map (c.deref.ensures.value ∙ c.requires.memory.specs) (c.make-promise.ensures ∙ c.requires.names)))
     c.in-Ok.ensures.shared)
 
-pub drive_alone-outcome-requires-clause-seen : goal.drive_alone-outcome-requires-clause-seen
-drive_alone-outcome-requires-clause-seen g c κs within =
-    none_seen c.args.plan.now c.args.memory.now.table.state (g.D.Yard.Yard.knows c.in-Ok.pass).seen (ap (λ (t : TableView). t.state) c.requires.memory.table)
+pub work-end-requires-clause-seen : goal.work-end-requires-clause-seen
+work-end-requires-clause-seen g c κs within =
+    let start = g.D.Depot.shown c.args.depot.now in
+    let mid = g.D.Depot.shown c.share_tries.new.depot in
+    let yard = g.D.Yard.Yard.serves c.in-Ok.yard in
+    let first = g.D.Yard.Yard.knows c.in-Ok.pass in
+    let wants = g.D.Share.yards_lack c.args.depot.now in
+    subst (λ (m : Machine). HasSeenDone c.args.plan.now m first.seen) (sym (ap (λ (t : TableView). t.state) c.requires.memory.table))
+    (seen_first c.args.plan.now c.ops-sound.ensures.sound c.requires.apart c.requires.inputs start c.requires.open (c.args.options.now.retries + 1) mid c.share_tries.ensures.step wants yard first
+    (subst (λ (l : Lent). IsShared l wants mid yard first)
+    (sym (lent_is c.args.plan.now start.held c.deref.result.now c.make-promise.result.map (c.deref.ensures.value ∙ c.requires.memory.specs) (c.make-promise.ensures ∙ c.requires.names)))
+    c.in-Ok.ensures.shared)
+    c.args.memory.table.done c.requires.found)
 
 pub unshare-requires-clause-may : goal.unshare-requires-clause-may
 unshare-requires-clause-may g c =
@@ -41,13 +53,13 @@ unshare-requires-clause-may g c =
     let mid = g.D.Depot.shown c.share_tries.new.depot in
     let yard = g.D.Yard.Yard.serves c.in-Ok.yard in
     let first = g.D.Yard.Yard.knows c.in-Ok.pass in
-    let last = g.D.Yard.Yard.knows c.drive_alone-outcome.new.pass in
+    let last = g.D.Yard.Yard.knows c.work-end.new.pass in
     let wants = g.D.Share.yards_lack c.args.depot.now in
     let same = lent_is c.args.plan.now start.held c.deref.result.now c.make-promise.result.map (c.deref.ensures.value ∙ c.requires.memory.specs) (c.make-promise.ensures ∙ c.requires.names) in
     subst (λ (l : Lent). MayGiveBack l mid yard last) (same ∙ sym c.in-Ok.ensures.lent)
-    (may_give_back c.args.plan.now c.ops-sound.ensures.sound c.requires.apart c.requires.inputs start c.requires.open (c.args.retries + 1) mid c.share_tries.ensures.step wants yard first
+    (may_give_back c.args.plan.now c.ops-sound.ensures.sound c.requires.apart c.requires.inputs start c.requires.open (c.args.options.now.retries + 1) mid c.share_tries.ensures.step wants yard first
     (subst (λ (l : Lent). IsShared l wants mid yard first) (sym same) c.in-Ok.ensures.shared)
-    c.args.memory.now.table c.drive_alone-outcome.new.table last (ap (λ (t : TableView). t.settings.plan) c.requires.memory.table) c.drive_alone-outcome.ensures.ran)
+    c.args.memory.table c.work-end.result.table last (ap (λ (t : TableView). t.settings.plan) c.requires.memory.table) c.work-end.ensures.worked)
 
 pub returns-in-Ok-clause-step : goal.returns-in-Ok-clause-step
 returns-in-Ok-clause-step g c =
@@ -56,13 +68,13 @@ returns-in-Ok-clause-step g c =
     let new = g.D.Depot.shown c.unshare.new.self in
     let yard = g.D.Yard.Yard.serves c.in-Ok.yard in
     let first = g.D.Yard.Yard.knows c.in-Ok.pass in
-    let last = g.D.Yard.Yard.knows c.drive_alone-outcome.new.pass in
+    let last = g.D.Yard.Yard.knows c.work-end.new.pass in
     let wants = g.D.Share.yards_lack c.args.depot.now in
     let same = lent_is c.args.plan.now start.held c.deref.result.now c.make-promise.result.map (c.deref.ensures.value ∙ c.requires.memory.specs) (c.make-promise.ensures ∙ c.requires.names) in
     let lent = c.in-Ok.ensures.lent ∙ sym same in
-    shared_step c.args.plan.now c.ops-sound.ensures.sound c.requires.apart c.requires.inputs start c.requires.open (c.args.retries + 1) mid c.share_tries.ensures.step wants yard first
+    shared_step c.args.plan.now c.ops-sound.ensures.sound c.requires.apart c.requires.inputs start c.requires.open (c.args.options.now.retries + 1) mid c.share_tries.ensures.step wants yard first
     (subst (λ (l : Lent). IsShared l wants mid yard first) (sym same) c.in-Ok.ensures.shared)
-    c.args.memory.now.table c.drive_alone-outcome.new.table last (ap (λ (t : TableView). t.settings.plan) c.requires.memory.table) c.drive_alone-outcome.ensures.ran new
+    c.args.memory.table c.work-end.result.table last (ap (λ (t : TableView). t.settings.plan) c.requires.memory.table) c.work-end.ensures.worked new
     (subst (λ (l : Lent). Steps (PutPromised l) 0 last.calls mid new) lent c.unshare.ensures.step) (subst (λ (l : Lent). HoldsSeen l last.seen new.held) lent c.unshare.ensures.held) c.unshare.ensures.counts
 
 pub returns-in-Ok-clause-done : goal.returns-in-Ok-clause-done
@@ -72,15 +84,15 @@ returns-in-Ok-clause-done g c =
     let new = g.D.Depot.shown c.unshare.new.self in
     let yard = g.D.Yard.Yard.serves c.in-Ok.yard in
     let first = g.D.Yard.Yard.knows c.in-Ok.pass in
-    let last = g.D.Yard.Yard.knows c.drive_alone-outcome.new.pass in
+    let last = g.D.Yard.Yard.knows c.work-end.new.pass in
     let wants = g.D.Share.yards_lack c.args.depot.now in
     let same = lent_is c.args.plan.now start.held c.deref.result.now c.make-promise.result.map (c.deref.ensures.value ∙ c.requires.memory.specs) (c.make-promise.ensures ∙ c.requires.names) in
     let lent = c.in-Ok.ensures.lent ∙ sym same in
-    shared_done c.args.plan.now c.ops-sound.ensures.sound c.requires.apart c.requires.inputs start c.requires.open (c.args.retries + 1) mid c.share_tries.ensures.step wants yard first
+    shared_done c.args.plan.now c.ops-sound.ensures.sound c.requires.apart c.requires.inputs start c.requires.open (c.args.options.now.retries + 1) mid c.share_tries.ensures.step wants yard first
     (subst (λ (l : Lent). IsShared l wants mid yard first) (sym same) c.in-Ok.ensures.shared)
-    c.args.memory.now.table c.drive_alone-outcome.new.table last (ap (λ (t : TableView). t.settings.plan) c.requires.memory.table) c.drive_alone-outcome.ensures.ran new
+    c.args.memory.table c.work-end.result.table last (ap (λ (t : TableView). t.settings.plan) c.requires.memory.table) c.work-end.ensures.worked new
     (subst (λ (l : Lent). Steps (PutPromised l) 0 last.calls mid new) lent c.unshare.ensures.step) (subst (λ (l : Lent). HoldsSeen l last.seen new.held) lent c.unshare.ensures.held) c.unshare.ensures.counts
-    (g.D.Yard.Yard.laws.fits c.in-Ok.yard c.drive_alone-outcome.new.pass c.drive_alone-outcome.ensures.own)
+    (g.D.Yard.Yard.laws.fits c.in-Ok.yard c.work-end.new.pass c.work-end.ensures.own)
 
 pub returns-in-Ok-clause-bad : goal.returns-in-Ok-clause-bad
 returns-in-Ok-clause-bad g c =
@@ -89,14 +101,14 @@ returns-in-Ok-clause-bad g c =
     let new = g.D.Depot.shown c.unshare.new.self in
     let yard = g.D.Yard.Yard.serves c.in-Ok.yard in
     let first = g.D.Yard.Yard.knows c.in-Ok.pass in
-    let last = g.D.Yard.Yard.knows c.drive_alone-outcome.new.pass in
+    let last = g.D.Yard.Yard.knows c.work-end.new.pass in
     let wants = g.D.Share.yards_lack c.args.depot.now in
     let same = lent_is c.args.plan.now start.held c.deref.result.now c.make-promise.result.map (c.deref.ensures.value ∙ c.requires.memory.specs) (c.make-promise.ensures ∙ c.requires.names) in
     let lent = c.in-Ok.ensures.lent ∙ sym same in
-    shared_bad c.args.plan.now c.ops-sound.ensures.sound c.requires.apart c.requires.inputs start c.requires.open (c.args.retries + 1) mid c.share_tries.ensures.step wants yard first
+    shared_bad c.args.plan.now c.ops-sound.ensures.sound c.requires.apart c.requires.inputs start c.requires.open (c.args.options.now.retries + 1) mid c.share_tries.ensures.step wants yard first
     (subst (λ (l : Lent). IsShared l wants mid yard first) (sym same) c.in-Ok.ensures.shared)
-    c.args.memory.now.table c.drive_alone-outcome.new.table last (ap (λ (t : TableView). t.settings.plan) c.requires.memory.table) c.drive_alone-outcome.ensures.ran new
-    (subst (λ (l : Lent). Steps (PutPromised l) 0 last.calls mid new) lent c.unshare.ensures.step) (subst (λ (l : Lent). HoldsSeen l last.seen new.held) lent c.unshare.ensures.held) c.unshare.ensures.counts c.drive_alone-outcome.result c.drive_alone-outcome.ensures.decided
+    c.args.memory.table c.work-end.result.table last (ap (λ (t : TableView). t.settings.plan) c.requires.memory.table) c.work-end.ensures.worked new
+    (subst (λ (l : Lent). Steps (PutPromised l) 0 last.calls mid new) lent c.unshare.ensures.step) (subst (λ (l : Lent). HoldsSeen l last.seen new.held) lent c.unshare.ensures.held) c.unshare.ensures.counts (g.D.Yard.Yard.laws.fits c.in-Ok.yard c.work-end.new.pass c.work-end.ensures.own) c.work-end.result.outcome c.work-end.ensures.decided
 
 pub returns-in-Ok-clause-input : goal.returns-in-Ok-clause-input
 returns-in-Ok-clause-input g c =
@@ -105,14 +117,14 @@ returns-in-Ok-clause-input g c =
     let new = g.D.Depot.shown c.unshare.new.self in
     let yard = g.D.Yard.Yard.serves c.in-Ok.yard in
     let first = g.D.Yard.Yard.knows c.in-Ok.pass in
-    let last = g.D.Yard.Yard.knows c.drive_alone-outcome.new.pass in
+    let last = g.D.Yard.Yard.knows c.work-end.new.pass in
     let wants = g.D.Share.yards_lack c.args.depot.now in
     let same = lent_is c.args.plan.now start.held c.deref.result.now c.make-promise.result.map (c.deref.ensures.value ∙ c.requires.memory.specs) (c.make-promise.ensures ∙ c.requires.names) in
     let lent = c.in-Ok.ensures.lent ∙ sym same in
-    shared_input c.args.plan.now c.ops-sound.ensures.sound c.requires.apart c.requires.inputs start c.requires.open (c.args.retries + 1) mid c.share_tries.ensures.step wants yard first
+    shared_input c.args.plan.now c.ops-sound.ensures.sound c.requires.apart c.requires.inputs start c.requires.open (c.args.options.now.retries + 1) mid c.share_tries.ensures.step wants yard first
     (subst (λ (l : Lent). IsShared l wants mid yard first) (sym same) c.in-Ok.ensures.shared)
-    c.args.memory.now.table c.drive_alone-outcome.new.table last (ap (λ (t : TableView). t.settings.plan) c.requires.memory.table) c.drive_alone-outcome.ensures.ran new
-    (subst (λ (l : Lent). Steps (PutPromised l) 0 last.calls mid new) lent c.unshare.ensures.step) (subst (λ (l : Lent). HoldsSeen l last.seen new.held) lent c.unshare.ensures.held) c.unshare.ensures.counts c.drive_alone-outcome.result c.drive_alone-outcome.ensures.decided
+    c.args.memory.table c.work-end.result.table last (ap (λ (t : TableView). t.settings.plan) c.requires.memory.table) c.work-end.ensures.worked new
+    (subst (λ (l : Lent). Steps (PutPromised l) 0 last.calls mid new) lent c.unshare.ensures.step) (subst (λ (l : Lent). HoldsSeen l last.seen new.held) lent c.unshare.ensures.held) c.unshare.ensures.counts (g.D.Yard.Yard.laws.fits c.in-Ok.yard c.work-end.new.pass c.work-end.ensures.own) c.work-end.result.outcome c.work-end.ensures.decided
 
 pub returns-in-Ok-clause-lacked : goal.returns-in-Ok-clause-lacked
 returns-in-Ok-clause-lacked g c =
@@ -121,12 +133,12 @@ returns-in-Ok-clause-lacked g c =
     let new = g.D.Depot.shown c.unshare.new.self in
     let yard = g.D.Yard.Yard.serves c.in-Ok.yard in
     let first = g.D.Yard.Yard.knows c.in-Ok.pass in
-    let last = g.D.Yard.Yard.knows c.drive_alone-outcome.new.pass in
+    let last = g.D.Yard.Yard.knows c.work-end.new.pass in
     let wants = g.D.Share.yards_lack c.args.depot.now in
     let same = lent_is c.args.plan.now start.held c.deref.result.now c.make-promise.result.map (c.deref.ensures.value ∙ c.requires.memory.specs) (c.make-promise.ensures ∙ c.requires.names) in
     let lent = c.in-Ok.ensures.lent ∙ sym same in
-    subst (λ (b : Bool). IfLacked c.drive_alone-outcome.result (IsTrue b)) (sym (c.unshare.ensures.lack ∙ c.share_tries.ensures.lack))
-    (shared_lacked c.args.plan.now c.ops-sound.ensures.sound c.requires.apart c.requires.inputs start c.requires.open (c.args.retries + 1) mid c.share_tries.ensures.step wants yard first
+    subst (λ (b : Bool). IfLacked c.work-end.result.outcome (IsTrue b)) (sym (c.unshare.ensures.lack ∙ c.share_tries.ensures.lack))
+    (shared_lacked c.args.plan.now c.ops-sound.ensures.sound c.requires.apart c.requires.inputs start c.requires.open (c.args.options.now.retries + 1) mid c.share_tries.ensures.step wants yard first
     (subst (λ (l : Lent). IsShared l wants mid yard first) (sym same) c.in-Ok.ensures.shared)
-    c.args.memory.now.table c.drive_alone-outcome.new.table last (ap (λ (t : TableView). t.settings.plan) c.requires.memory.table) c.drive_alone-outcome.ensures.ran new
-    (subst (λ (l : Lent). Steps (PutPromised l) 0 last.calls mid new) lent c.unshare.ensures.step) (subst (λ (l : Lent). HoldsSeen l last.seen new.held) lent c.unshare.ensures.held) c.unshare.ensures.counts c.drive_alone-outcome.result c.drive_alone-outcome.ensures.decided)
+    c.args.memory.table c.work-end.result.table last (ap (λ (t : TableView). t.settings.plan) c.requires.memory.table) c.work-end.ensures.worked new
+    (subst (λ (l : Lent). Steps (PutPromised l) 0 last.calls mid new) lent c.unshare.ensures.step) (subst (λ (l : Lent). HoldsSeen l last.seen new.held) lent c.unshare.ensures.held) c.unshare.ensures.counts c.work-end.result.outcome c.work-end.ensures.decided)

@@ -6,7 +6,7 @@ use Rattle.cu_op.specs.PlanView.{PlanView}
 use Rattle.cu_op.specs.Schedule.{op_of}
 use Rattle.cu_table.specs.Numbers.{first_task}
 use Rattle.cu_table.proofs.Numbers.{first_more}
-use Rattle.cu_work.proofs.memory.none_done.Goals as goal
+use Rattle.cu_work.proofs.memory.undone_list.Goals as goal
 
 -- the tasks of one operation more
 more : (p : PlanView) (op count : ℕ) (old new : List Bool) → op < length p.ops → old ≡ replicate (first_task p op) false → count ≡ tasks_of p.arrays (op_of p op) → new ≡ old ++ replicate count false

@@ -1,0 +1,91 @@
+-- What each command of a plan is to the depot.
+use Rattle.std.proofs.Common.{◌⊎◌, inl, inr, ℕ, Bool, arith}
+use Rattle.cu_store.specs.Steps.{Shown}
+use Rattle.cu_op.specs.Sound.{Sound}
+use Rattle.cu_state.specs.Left.{RunChange}
+use Rattle.cu_state.specs.Pieces.{PlanRun}
+use Rattle.cu_work.specs.Commands.{CommandChange, IsCommand}
+use Rattle.cu_work.specs.Removal.{RemovalIn}
+use Rattle.cu_command.specs.Seen.{Stepped}
+use Rattle.cu_command.proofs.SeenLemmas.{stepped_wider, stepped_none}
+use Rattle.cu_command.specs.declared.job.Job.{Job}
+use Rattle.cu_command.specs.declared.status.Status.{Status}
+use Rattle.cu_command.specs.declared.status.Status.TheVariants.{Done, BadExpr, BadType, OverMemory, OverLimit, BadMeta, NoArray, Exists}
+use Rattle.cu_command.specs.declared.status.Status.TheVariants.{TaskFailed, WriteFault, BadChunk, OtherPlan, NoPlan, DepotFailed, NoMemory}
+use Rattle.cu_top.proofs.DropLemmas.{removal_within}
+use Rattle.cu_top.specs.Drop.{dropped_keys, IsDropping, Dropped}
+use Rattle.cu_top.specs.Held.{IsNotReopened}
+use Rattle.cu_top.specs.Laws.{IsOfPlan}
+use Rattle.cu_top.specs.Resume.{IsResumed, WasResumed}
+use Rattle.cu_top.specs.Run.{RunCase, job_run, IsSpared, IsStarted, WasRefused, Ran}
+
+of_step : (r : PlanRun) (old new : Shown) → Stepped (CommandChange r old) old new → IsCommand r old new
+of_step r old new step = (0, step.calls, step.step)
+
+pub spared_command : (r : PlanRun) (c : RunCase) → IsSpared c → IsCommand r c.old.depot c.new.depot
+spared_command r c spared = of_step r c.old.depot c.new.depot (stepped_none spared)
+
+module _ (c : RunCase) where
+  put_command : (job : Job) → Stepped (RunChange (job_run c job) c.old.depot) c.old.depot c.new.depot → IsCommand (job_run c job) c.old.depot c.new.depot
+  put_command job step = of_step (job_run c job) c.old.depot c.new.depot (stepped_wider (λ key value change. inl change) step)
+
+  started_command : (job : Job) → IsStarted c job → IsOfPlan c
+  started_command job started = inr (job, started.accepted, put_command job started.step)
+
+  resumed_command : (job : Job) → IsResumed c job → IsOfPlan c
+  resumed_command job resumed = inr (job, resumed.reopened.accepted, put_command job resumed.step)
+
+  dropped_command : (job : Job) → IsDropping c job → IsOfPlan c
+  dropped_command job dropping =
+      inr (job, dropping.reopened.accepted, of_step (job_run c job) c.old.depot c.new.depot (stepped_wider (removal_within c job dropping.reopened.sound c.old.depot) dropping.step))
+
+  refused_command : (status : Status) → WasRefused c status → IsOfPlan c
+  refused_command (BadExpr code node) why = inl why.0
+  refused_command (BadType code node) why = inl why.0
+  refused_command (OverMemory node need allowed) why = inl why.0
+  refused_command (OverLimit which count) why = inl why.0
+  refused_command (BadMeta name code) why = inl why.0
+  refused_command (NoArray name) why = inl why.0
+  refused_command status why = absurd why
+
+  pub run_is_command : (lack : Bool) (status : Status) → Ran lack c status → IsOfPlan c
+  run_is_command lack Done (job, started, rest) = started_command job started
+  run_is_command lack WriteFault (rose, (job, started, rest)) = started_command job started
+  run_is_command lack (TaskFailed op task) (rose, (job, started, rest)) = started_command job started
+  run_is_command lack (BadChunk key got want) (job, started, rest) = started_command job started
+  run_is_command lack (DepotFailed key) (rose, inl unread) = inl unread.0
+  run_is_command lack (DepotFailed key) (rose, inr (inl unasked)) = inl unasked.0
+  run_is_command lack (DepotFailed key) (rose, inr (inr (job, started, rest))) = started_command job started
+  run_is_command lack (Exists key) blocked = inl blocked.0
+  run_is_command lack NoMemory (inl spared) = inl spared
+  run_is_command lack NoMemory (inr (job, started, rest)) = started_command job started
+  run_is_command lack status why = refused_command status why
+
+  unopened_command : (status : Status) → IsNotReopened c status → IsOfPlan c
+  unopened_command (OtherPlan place) why = inl why.0
+  unopened_command NoPlan why = inl why.0
+  unopened_command (DepotFailed key) (rose, inl unread) = inl unread.0
+  unopened_command (DepotFailed key) (rose, inr unasked) = inl unasked.0
+  unopened_command NoMemory why = inl why
+  unopened_command status why = refused_command status why
+
+  pub resume_is_command : (lack : Bool) (status : Status) → WasResumed lack c status → IsOfPlan c
+  resume_is_command lack Done (job, resumed, rest) = resumed_command job resumed
+  resume_is_command lack WriteFault (rose, (job, resumed, rest)) = resumed_command job resumed
+  resume_is_command lack (TaskFailed op task) (rose, (job, resumed, rest)) = resumed_command job resumed
+  resume_is_command lack (BadChunk key got want) (job, resumed, rest) = resumed_command job resumed
+  resume_is_command lack (DepotFailed key) (inl why) = unopened_command (DepotFailed key) why
+  resume_is_command lack (DepotFailed key) (inr (rose, inl unasked)) = inl unasked.0
+  resume_is_command lack (DepotFailed key) (inr (rose, inr (job, resumed, rest))) = resumed_command job resumed
+  resume_is_command lack NoMemory (inl spared) = inl spared
+  resume_is_command lack NoMemory (inr (job, resumed, rest)) = resumed_command job resumed
+  resume_is_command lack status why = unopened_command status why
+
+  pub drop_is_command : (status : Status) → Dropped c status → IsOfPlan c
+  drop_is_command Done (job, dropping, rest) = dropped_command job dropping
+  drop_is_command WriteFault (rose, (job, dropping, rest)) = dropped_command job dropping
+  drop_is_command (DepotFailed key) (inl why) = unopened_command (DepotFailed key) why
+  drop_is_command (DepotFailed key) (inr (rose, (job, dropping, rest))) = dropped_command job dropping
+  drop_is_command NoMemory (inl spared) = inl spared
+  drop_is_command NoMemory (inr (job, dropping, rest)) = dropped_command job dropping
+  drop_is_command status why = unopened_command status why

@@ -1,0 +1,6 @@
+-- Both texts agree so far.
+use Rattle.std.proofs.Common.{◌≡◌, take}
+use Rattle.cu_top.proofs.held.first_difference.Given as goal
+
+abbrev pub invariant-loop-place : goal.invariant-loop-place
+invariant-loop-place l = take l.place l.a ≡ take l.place l.b

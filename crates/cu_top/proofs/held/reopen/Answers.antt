@@ -1,0 +1,49 @@
+use Rattle.std.proofs.Common.{rules, ◌∙◌, ap, sym, subst}
+use Rattle.cu_command.proofs.SeenLemmas.{stepped}
+use Rattle.cu_command.specs.Job.{IsJob}
+use Rattle.cu_command.specs.declared.job.Job.{Job}
+use Rattle.cu_top.proofs.HeldLemmas.{refused_reopened, record_refused, own_refused, found_again}
+use Rattle.cu_top.specs.Prepare.{HasPlan}
+use Rattle.cu_top.specs.Run.{scene, case}
+use Rattle.cu_top.proofs.held.reopen.Goals as goal
+
+pub returns-in-Err-clause-refused : goal.returns-in-Err-clause-refused
+returns-in-Err-clause-refused g c = λ source next sink after.
+    refused_reopened (case c.args.options.now c.args.text.now (scene source sink (g.D.Depot.shown c.args.depot.now)) (scene next after (g.D.Depot.shown c.plan_job.new.depot))) c.in-Err.status
+    (c.in-Err.ensures.refused source next sink after)
+
+pub make_ready-requires-clause-plain : goal.make_ready-requires-clause-plain
+make_ready-requires-clause-plain g c = c.plain_law.ensures c.args.text.now c.in-Ok.prepared.job.expr _ c.in-Ok.ensures.job.said c.in-Ok.ensures.job.value
+
+pub returns-in-Err-ask_record-clause-refused : goal.returns-in-Err-ask_record-clause-refused
+returns-in-Err-ask_record-clause-refused g c = λ source next sink after.
+    let old = g.D.Depot.shown c.args.depot.now in
+    let job = c.in-Ok-make_ready.ready.job in
+    let same = sym c.in-Ok-make_ready.ensures.job in
+    let accepted = subst (λ (j : Job). IsJob old c.args.text.now j) same c.in-Ok.ensures.job in
+    let planned = subst (λ (j : Job). HasPlan c.args.options.now j) same c.in-Ok.ensures.planned in
+    record_refused (case c.args.options.now c.args.text.now (scene source sink old) (scene next after (g.D.Depot.shown c.ask_record.new.depot))) job (g.D.Depot.shown c.plan_job.new.depot) accepted planned
+    c.plan_job.ensures.step (stepped c.ask_record.ensures.step) c.text_keys-key.result.record c.deref.result.now c.in-Err-ask_record.fault c.record_answer.result c.text_keys-key.ensures.record
+    (c.deref.ensures.value ∙ c.in-Ok-make_ready.ensures.ready.record_is) c.record_answer.ensures c.in-Err-ask_record.ensures.fault
+
+pub returns-then-is_own_input-clause-refused : goal.returns-then-is_own_input-clause-refused
+returns-then-is_own_input-clause-refused g c = λ source next sink after.
+    let old = g.D.Depot.shown c.args.depot.now in
+    let job = c.in-Ok-make_ready.ready.job in
+    let same = sym c.in-Ok-make_ready.ensures.job in
+    let accepted = subst (λ (j : Job). IsJob old c.args.text.now j) same c.in-Ok.ensures.job in
+    let planned = subst (λ (j : Job). HasPlan c.args.options.now j) same c.in-Ok.ensures.planned in
+    own_refused (case c.args.options.now c.args.text.now (scene source sink old) (scene next after (g.D.Depot.shown c.ask_record.new.depot))) job (g.D.Depot.shown c.plan_job.new.depot) accepted planned
+    c.plan_job.ensures.step (stepped c.ask_record.ensures.step) c.text_keys-key.result.record c.deref.result.now c.text_keys-key.ensures.record
+    (c.deref.ensures.value ∙ c.in-Ok-make_ready.ensures.ready.record_is) (search rules) (sym c.is_own_input.ensures ∙ c.if-is_own_input.true)
+
+pub returns-clause-found : goal.returns-clause-found
+returns-clause-found g c =
+    let old = g.D.Depot.shown c.args.depot.now in
+    let job = c.in-Ok-make_ready.ready.job in
+    let same = sym c.in-Ok-make_ready.ensures.job in
+    let accepted = subst (λ (j : Job). IsJob old c.args.text.now j) same c.in-Ok.ensures.job in
+    let planned = subst (λ (j : Job). HasPlan c.args.options.now j) same c.in-Ok.ensures.planned in
+    found_again c.args.options.now c.args.text.now old (g.D.Depot.shown c.plan_job.new.depot) (g.D.Depot.shown c.ask_record.new.depot) job c.text_keys-key.result.record c.deref.result.now accepted planned
+    c.plan_job.ensures.step (stepped c.ask_record.ensures.step) c.text_keys-key.ensures.record (c.deref.ensures.value ∙ c.in-Ok-make_ready.ensures.ready.record_is) (search rules)
+    (sym c.is_own_input.ensures ∙ c.if-is_own_input.false)

@@ -1,0 +1,134 @@
+use Rattle.std.proofs.Common.{◌≡◌, ◌+◌, None, subst, sym, arith, Result}
+use Rattle.cu_command.specs.Seen.{stream}
+use Rattle.cu_command.specs.declared.status.Status.{Status}
+use Rattle.cu_command.proofs.SeenLemmas.{stepped_then}
+use Rattle.cu_top.proofs.DriveLemmas.{PlanLaws, HistoryLaws, apart_run, apart_inputs, open_start}
+use Rattle.cu_top.proofs.PlanLemmas.{meant}
+use Rattle.cu_top.proofs.ReopenLemmas.{ResumeLaws, opens, reopened, record_in, rest_refused, resume_ended, names_later}
+use Rattle.cu_top.specs.Prepare.{out_metadata}
+use Rattle.cu_top.specs.Record.{record_text}
+use Rattle.cu_top.specs.Resume.{ResumeEnded}
+use Rattle.cu_top.specs.Run.{scene, case, plan_in}
+use Rattle.cu_top.specs.declared.report.RunCounts.{RunCounts}
+use Rattle.cu_top.proofs.resume.go_on.Goals as goal
+
+pub find_rest-requires-clause-known : goal.find_rest-requires-clause-known
+find_rest-requires-clause-known g c =
+    let (text, old, found, premise) = c.requires.left in
+    let out = stream None 0 in
+    record_in (case c.args.options.now text (scene out out old) (scene out out old)) c.args.ready.now.job (g.D.Depot.shown c.args.depot.now) found premise
+
+pub returns-in-Err : goal.returns-in-Err
+returns-in-Err g c = record {
+  ended = λ text old source next sink after found premise.
+      rest_refused (case c.args.options.now text (scene source sink old) (scene next after (g.D.Depot.shown c.find_rest.new.depot))) c.args.ready.now.job (g.D.Share.yards_lack c.find_rest.new.depot)
+      (g.D.Depot.shown c.args.depot.now) c.in-Err.status found.accepted found.planned found.spared c.find_rest.ensures.step c.in-Err.ensures.fault;
+}
+
+pub drive_plan-requires-clause-apart : goal.drive_plan-requires-clause-apart
+drive_plan-requires-clause-apart g c κs within =
+    let (text, old, found, premise) = c.requires.left in
+    let start = g.D.Depot.shown c.args.depot.now in
+    let now = g.D.Depot.shown c.find_rest.new.depot in
+    let options = c.args.options.now in
+    let out = stream None 0 in
+    let run = case options text (scene out out old) (scene out out now) in
+    let job = c.args.ready.now.job in
+    let sound = c.merged_plan_law.ensures.sound job.expr job.types job.inputs.items options found.planned in
+    let laws : PlanLaws run job = record {
+      sound = sound;
+      needs = λ j below.
+          let most = c.merged_plan_law.ensures.needs job.expr job.types job.inputs.items options j found.planned below in
+          let memory = c.merged_plan_law.ensures.memory job.expr job.types job.inputs.items options in
+          omega (arith, most, memory);
+      names = λ differ. c.merged_plan_law.ensures.names job.expr job.types job.inputs.items options (record_text options job) (out_metadata job) found.planned differ;
+      left = c.left_law.ensures;
+      meant = meant run job found.planned c.merged_plan_law.ensures.inputs c.merged_plan_law.ensures.output c.merged_plan_law.ensures.equal c.complete_law.ensures.elements;
+    } in
+    apart_run run job laws found.own
+
+pub drive_plan-requires-clause-inputs : goal.drive_plan-requires-clause-inputs
+drive_plan-requires-clause-inputs g c κs within =
+    let (text, old, found, premise) = c.requires.left in
+    let start = g.D.Depot.shown c.args.depot.now in
+    let now = g.D.Depot.shown c.find_rest.new.depot in
+    let options = c.args.options.now in
+    let out = stream None 0 in
+    let run = case options text (scene out out old) (scene out out now) in
+    let job = c.args.ready.now.job in
+    let sound = c.merged_plan_law.ensures.sound job.expr job.types job.inputs.items options found.planned in
+    let laws : PlanLaws run job = record {
+      sound = sound;
+      needs = λ j below.
+          let most = c.merged_plan_law.ensures.needs job.expr job.types job.inputs.items options j found.planned below in
+          let memory = c.merged_plan_law.ensures.memory job.expr job.types job.inputs.items options in
+          omega (arith, most, memory);
+      names = λ differ. c.merged_plan_law.ensures.names job.expr job.types job.inputs.items options (record_text options job) (out_metadata job) found.planned differ;
+      left = c.left_law.ensures;
+      meant = meant run job found.planned c.merged_plan_law.ensures.inputs c.merged_plan_law.ensures.output c.merged_plan_law.ensures.equal c.complete_law.ensures.elements;
+    } in
+    apart_inputs run job laws found.own
+
+pub drive_plan-requires-clause-open : goal.drive_plan-requires-clause-open
+drive_plan-requires-clause-open g c κs within =
+    let (text, old, found, premise) = c.requires.left in
+    let start = g.D.Depot.shown c.args.depot.now in
+    let now = g.D.Depot.shown c.find_rest.new.depot in
+    let options = c.args.options.now in
+    let out = stream None 0 in
+    let run = case options text (scene out out old) (scene out out now) in
+    let job = c.args.ready.now.job in
+    let sound = c.merged_plan_law.ensures.sound job.expr job.types job.inputs.items options found.planned in
+    let laws : PlanLaws run job = record {
+      sound = sound;
+      needs = λ j below.
+          let most = c.merged_plan_law.ensures.needs job.expr job.types job.inputs.items options j found.planned below in
+          let memory = c.merged_plan_law.ensures.memory job.expr job.types job.inputs.items options in
+          omega (arith, most, memory);
+      names = λ differ. c.merged_plan_law.ensures.names job.expr job.types job.inputs.items options (record_text options job) (out_metadata job) found.planned differ;
+      left = c.left_law.ensures;
+      meant = meant run job found.planned c.merged_plan_law.ensures.inputs c.merged_plan_law.ensures.output c.merged_plan_law.ensures.equal c.complete_law.ensures.elements;
+    } in
+    open_start run job laws now (stepped_then found.spared c.find_rest.ensures.step) (opens run job start found premise)
+
+pub returns : goal.returns
+returns g c = record {
+  ended = λ text old source next sink after found premise.
+      let start = g.D.Depot.shown c.args.depot.now in
+      let now = g.D.Depot.shown c.find_rest.new.depot in
+      let new = g.D.Depot.shown c.drive_plan.new.depot in
+      let lack = g.D.Share.yards_lack c.drive_plan.new.depot in
+      let options = c.args.options.now in
+      let run = case options text (scene source sink old) (scene next after new) in
+      let job = c.args.ready.now.job in
+      let sound = c.merged_plan_law.ensures.sound job.expr job.types job.inputs.items options found.planned in
+      let laws : PlanLaws run job = record {
+        sound = sound;
+        needs = λ j below.
+            let most = c.merged_plan_law.ensures.needs job.expr job.types job.inputs.items options j found.planned below in
+            let memory = c.merged_plan_law.ensures.memory job.expr job.types job.inputs.items options in
+            omega (arith, most, memory);
+        names = λ differ. c.merged_plan_law.ensures.names job.expr job.types job.inputs.items options (record_text options job) (out_metadata job) found.planned differ;
+        left = c.left_law.ensures;
+        meant = meant run job found.planned c.merged_plan_law.ensures.inputs c.merged_plan_law.ensures.output c.merged_plan_law.ensures.equal c.complete_law.ensures.elements;
+      } in
+      let histories : HistoryLaws = record {
+        task = c.broken_law.ensures.task;
+        exactly = λ s done history m op task legal is ended. (c.broken_law.ensures.exactly s done history m op task legal is).0 ended;
+        undone = λ s done history m op task legal ended. (c.broken_law.ensures.undone s done history m op task legal ended).0;
+      } in
+      let goes : ResumeLaws = record {
+        stays = c.resume_law.ensures.stays;
+        opened = c.resume_law.ensures.opened;
+        unstarted = c.resume_law.ensures.unstarted;
+        remains = c.done_law.ensures.stays;
+        undone = λ s done history m op task legal ended. (c.broken_law.ensures.undone s done history m op task legal ended).1;
+      } in
+      let spared = stepped_then found.spared c.find_rest.ensures.step in
+      let done = c.in-Ok.rest.memory.table.done in
+      let back = reopened run job start found laws in
+      let (result, driven, answer) = c.drive_plan.ensures in
+      subst (λ (r : Result RunCounts Status). ResumeEnded lack run job r) (sym answer)
+      (resume_ended run job laws now spared back (opens run job start found premise) c.in-Ok.rest.held c.in-Ok.ensures.has done lack goes histories c.in-Ok.ensures.texts c.in-Ok.ensures.found
+      (names_later (plan_in run job) old start done found.spared c.in-Ok.ensures.named) result driven);
+}

@@ -1,0 +1,40 @@
+use Rattle.std.proofs.Common.{ℕ, ◌≤◌, length, subst}
+use Rattle.cu_command.specs.Seen.{stream}
+use Rattle.cu_command.specs.Streams.{WroteFront}
+use Rattle.cu_op.specs.PlanView.{PlanView}
+use Rattle.cu_top.proofs.ReopenLemmas.{not_reopened, resume_done, resume_unreported}
+use Rattle.cu_top.specs.Report.{report_line}
+use Rattle.cu_top.specs.Run.{scene, case}
+use Rattle.cu_top.proofs.resume.resume.Goals as goal
+
+pub go_on-requires-clause-left : goal.go_on-requires-clause-left
+go_on-requires-clause-left g c κs within = (c.args.text.now, g.D.Depot.shown c.args.depot.now, c.in-Ok.ensures.found, c.requires.left)
+
+pub returns-in-Err-clause-answer : goal.returns-in-Err-clause-answer
+returns-in-Err-clause-answer g c = λ source next.
+    let out = stream (g.W.Sink.written c.args.out.now) (g.W.Sink.faults c.args.out.now) in
+    not_reopened (g.D.Share.yards_lack c.reopen.new.depot) (case c.args.options.now c.args.text.now (scene source out (g.D.Depot.shown c.args.depot.now)) (scene next out (g.D.Depot.shown c.reopen.new.depot))) c.in-Err.status
+    (c.in-Err.ensures.refused source next out out)
+
+pub returns-in-Ok-report-clause-answer : goal.returns-in-Ok-report-clause-answer
+returns-in-Ok-report-clause-answer g c = λ source next.
+    let start = g.D.Depot.shown c.args.depot.now in
+    let now = g.D.Depot.shown c.go_on.new.depot in
+    let out = stream (g.W.Sink.written c.args.out.now) (g.W.Sink.faults c.args.out.now) in
+    let after = stream (g.W.Sink.written c.report.new.out) (g.W.Sink.faults c.report.new.out) in
+    let counts = c.in-Ok-go_on.counts in
+    resume_done (g.D.Share.yards_lack c.go_on.new.depot) (case c.args.options.now c.args.text.now (scene source out start) (scene next after now)) c.in-Ok.ready.job counts
+    (c.in-Ok-go_on.ensures.ended c.args.text.now start source next out after c.in-Ok.ensures.found c.requires.left)
+    (subst (λ (p : PlanView). WroteFront out.told after.told (report_line p counts) (length (report_line p counts))) c.in-Ok.ensures.ready.plan_is c.in-Ok-report.ensures.all)
+
+pub returns-in-Ok-go_on-clause-answer : goal.returns-in-Ok-go_on-clause-answer
+returns-in-Ok-go_on-clause-answer g c = λ source next.
+    let start = g.D.Depot.shown c.args.depot.now in
+    let now = g.D.Depot.shown c.go_on.new.depot in
+    let out = stream (g.W.Sink.written c.args.out.now) (g.W.Sink.faults c.args.out.now) in
+    let after = stream (g.W.Sink.written c.report.new.out) (g.W.Sink.faults c.report.new.out) in
+    let counts = c.in-Ok-go_on.counts in
+    resume_unreported (g.D.Share.yards_lack c.go_on.new.depot) (case c.args.options.now c.args.text.now (scene source out start) (scene next after now)) c.in-Ok.ready.job counts
+    (c.in-Ok-go_on.ensures.ended c.args.text.now start source next out after c.in-Ok.ensures.found c.requires.left) c.in-Err-report.ensures.cause
+    (subst (λ (p : PlanView). (n : ℕ) × (n ≤ length (report_line p counts)) × WroteFront out.told after.told (report_line p counts) n) c.in-Ok.ensures.ready.plan_is
+    c.in-Err-report.ensures.front)

@@ -1,0 +1,149 @@
+//! The tasks of an accepted plan: the texts in front of its chunks, their run, and what it answers.
+ghost use Rattle.std.specs.Prelude.{◌≡◌, ◌<◌, IfOk, Some, false};
+ghost use Rattle.serde_json.specs.View.{view};
+ghost use Rattle.serde_json.specs.Written.{has_float};
+ghost use Rattle.cu_store.specs.Held.{Contents};
+ghost use Rattle.cu_state.specs.Pieces.{KeysApart, InputsApart};
+ghost use Rattle.cu_work.specs.Shared.{IsOpen, IsMemoryFor};
+ghost use Rattle.cu_work.specs.World.{IsFound};
+ghost use Rattle.cu_top.specs.Driven.{AreHeld, IsReady, WasDriven, counts_in, drive_answer};
+ghost use Rattle.cu_top.specs.Driven.{drive_case, fault_answer, outcome_answer, run_options};
+ghost use Rattle.cu_top.specs.Prepare.{job_plan, HasPlan};
+ghost use Rattle.cu_top.specs.Quiet.{run_of_job};
+
+use crate::ask::text_keys;
+use crate::prepare::Prepared;
+use crate::record::record_text;
+use crate::report::{RunCounts, counts_of};
+use cu_command::{Job, Status};
+use cu_lower::Options;
+use cu_meta::write_meta;
+use cu_op::Plan;
+use cu_plan::merged_plan_law;
+use cu_store::{Gate, Key, NoMemory, Share};
+use cu_work::{HeldTexts, Outcome, RunEnd, RunFault, RunMemory, RunOptions, Texts, run_plan};
+use std::alloc::Global;
+use std::sync::Wait;
+use std::thread::Threads;
+
+/// A job with its plan, and the texts that are stored in front of its chunks.
+#[derive(Drop)]
+pub struct Ready {
+    pub job: Job,
+    pub plan: Plan,
+    /// The record of the plan.
+    pub record_text: Vec<u8>,
+    /// The metadata of the output.
+    pub metadata_text: Vec<u8>,
+}
+
+/// The texts of an accepted plan.
+pub fn make_ready(alloc: Global, options: &Options, prepared: Prepared) -> Result<Ready, NoMemory>
+    requires planned { HasPlan options.now prepared.job }
+    requires plan { prepared.plan ≡ job_plan options.now prepared.job }
+    requires plain { has_float (view prepared.job.value) ≡ false }
+    ensures job { IfOk result (λ r. r.job ≡ prepared.job) }
+    ensures ready { IfOk result (IsReady options.now) }
+{
+    merged_plan_law();
+    let Prepared { job, plan } = prepared;
+    let record_text = record_text(alloc, options, &job)?;
+    let metadata_text = write_meta(alloc, &plan.array(plan.out()).layout)?;
+    Ok(Ready {
+        job,
+        plan,
+        record_text,
+        metadata_text,
+    })
+}
+
+/// How the tasks are run.
+pub fn run_options(options: &Options) -> RunOptions
+    ensures { result ≡ run_options options.now }
+{
+    RunOptions {
+        workers: options.workers,
+        retries: options.retries,
+        backups: options.backups,
+    }
+}
+
+/// The counts, where all tasks are done; else what is answered.
+fn outcome_answer(outcome: Outcome, counts: RunCounts) -> Result<RunCounts, Status>
+    ensures { result ≡ outcome_answer outcome counts }
+{
+    match outcome {
+        Outcome::Complete => Ok(counts),
+        Outcome::Broken { op, task } => Err(Status::TaskFailed { op, task }),
+        Outcome::BadChunk { key, got, want } => Err(Status::BadChunk { key, got, want }),
+        Outcome::Lacked => Err(Status::NoMemory),
+    }
+}
+
+/// What is answered where no task was run and the record has this key.
+fn fault_answer(of_record: &Key, fault: RunFault) -> Status
+    ensures { result ≡ fault_answer of_record.now fault }
+{
+    match fault {
+        RunFault::TextFailed(key) => Status::DepotFailed { key },
+        RunFault::ShareFailed => Status::DepotFailed { key: *of_record },
+        RunFault::NoMemory => Status::NoMemory,
+    }
+}
+
+/// What is answered where the run of the tasks ended so.
+fn drive_answer(of_record: &Key, ended: Result<RunEnd, RunFault>) -> Result<RunCounts, Status>
+    ensures { result ≡ drive_answer of_record.now ended }
+{
+    match ended {
+        Ok(end) => outcome_answer(end.outcome, counts_of(end.table.history())),
+        Err(fault) => Err(fault_answer(of_record, fault)),
+    }
+}
+
+/// Stores the texts that aren't held, runs the tasks that aren't done, and says how often tasks were
+/// started and failed.
+pub fn drive_plan<H: Threads + Wait + Sync, D: Share, G: Gate>(
+    rt: &H,
+    alloc: Global,
+    options: &Options,
+    ready: &Ready,
+    held: HeldTexts,
+    memory: RunMemory,
+    depot: &mut D,
+    gate: &G,
+) -> Result<RunCounts, Status>
+    requires ready { IsReady options.now ready.now }
+    requires workers { 0 < options.now.workers }
+    requires apart { KeysApart (run_of_job options.now ready.now.job) }
+    requires inputs { InputsApart (run_of_job options.now ready.now.job) }
+    requires open { IsOpen (run_of_job options.now ready.now.job) (D.shown depot.old) }
+    requires held { AreHeld held (run_of_job options.now ready.now.job) (D.shown depot.old).held }
+    requires memory { IsMemoryFor (job_plan options.now ready.now.job) (run_options options.now)
+        memory.table.done memory }
+    requires found { (held : Contents) → (D.shown depot.old).held ≡ Some held
+        → IsFound (job_plan options.now ready.now.job) held memory.table.done }
+    ensures { WasDriven (drive_case options.now (run_of_job options.now ready.now.job) held
+        memory.table.done (D.yards_lack depot.new) (D.shown depot.old, D.shown depot.new)) result }
+{
+    let keys = text_keys(&ready.job.expr);
+    let texts = Texts {
+        record_key: keys.record,
+        record: &ready.record_text,
+        metadata_key: keys.metadata,
+        metadata: &ready.metadata_text,
+    };
+    let how = run_options(options);
+    let ended = run_plan(
+        rt,
+        alloc,
+        &ready.plan,
+        depot,
+        &texts,
+        held,
+        memory,
+        &how,
+        gate,
+    );
+    drive_answer(&keys.record, ended)
+}

@@ -1,0 +1,28 @@
+use Rattle.std.proofs.Common.{◌+◌}
+use Rattle.cu_work.proofs.Running.{record_step, texts_step, texts_own, texts_stored, metadata_unstored}
+use Rattle.cu_work.proofs.run.put_both.Goals as goal
+
+pub returns-in-Err-clause-step : goal.returns-in-Err-clause-step
+returns-in-Err-clause-step g c = record_step c.args.plan.now c.args.texts.now (c.args.retries + 1) (g.D.Depot.shown c.args.depot.now) (g.D.Depot.shown c.put_text.new.depot) c.put_text.ensures.step
+
+pub returns-clause-step : goal.returns-clause-step
+returns-clause-step g c =
+    texts_step c.args.plan.now c.args.texts.now (c.args.retries + 1) (g.D.Depot.shown c.args.depot.now) (g.D.Depot.shown c.put_text.new.depot) c.put_text.ensures.step c.in_default.ensures.stored
+    (g.D.Depot.shown c.put_text-2.new.depot) c.put_text-2.ensures.step
+
+pub returns-clause-own : goal.returns-clause-own
+returns-clause-own g c =
+    texts_own c.args.plan.now c.args.texts.now (c.args.retries + 1) (g.D.Depot.shown c.args.depot.now) (g.D.Depot.shown c.put_text.new.depot) c.put_text.ensures.step c.in_default.ensures.stored
+    (g.D.Depot.shown c.put_text-2.new.depot) c.put_text-2.ensures.step
+
+pub returns-clause-stored : goal.returns-clause-stored
+returns-clause-stored g c =
+    texts_stored c.args.plan.now c.args.texts.now (c.args.retries + 1) (g.D.Depot.shown c.args.depot.now) (g.D.Depot.shown c.put_text.new.depot) c.put_text.ensures.step c.in_default.ensures.stored
+    (g.D.Depot.shown c.put_text-2.new.depot) c.put_text-2.ensures.step
+    c.put_text-2.result c.put_text-2.ensures.stored
+
+pub returns-clause-unstored : goal.returns-clause-unstored
+returns-clause-unstored g c =
+    metadata_unstored c.args.plan.now c.args.texts.now (c.args.retries + 1) (g.D.Depot.shown c.args.depot.now) (g.D.Depot.shown c.put_text.new.depot) c.put_text.ensures.step c.in_default.ensures.stored
+    (g.D.Depot.shown c.put_text-2.new.depot) c.put_text-2.ensures.step
+    c.put_text-2.result c.put_text-2.ensures.cause

@@ -1,0 +1,96 @@
+use Rattle.std.proofs.Common.{◌≡◌, ℕ, ◌<◌, List, length, ap, sym, ◌∙◌, subst, rules, arith}
+use Rattle.std.specs.Prelude.{slice_index_or}
+use Rattle.cu_store.specs.Yard.{Known}
+use Rattle.cu_op.specs.PlanView.{PlanView}
+use Rattle.cu_table.specs.Table.{TableView}
+use Rattle.cu_turn.specs.Rule.{AllBelow, IsKnownFront}
+use Rattle.cu_board.specs.Board.{IsLegal, halted_fault}
+use Rattle.cu_board.specs.Views.{SeatAt}
+use Rattle.cu_work.specs.Alone.{IsDecided}
+use Rattle.cu_work.specs.Workers.{AreWorkersOf, AreNumbered, HaveRooms, HasWorked, front_of}
+use Rattle.cu_work.specs.declared.worker.Worker.{Worker}
+use Rattle.cu_work.proofs.Worked.{written_back, nobody_left, first_decides, board_worked, untouched}
+use Rattle.cu_work.proofs.together.work_at_board.Goals as goal
+
+pub returns-in-Err-hire-clause-refused : goal.returns-in-Err-hire-clause-refused
+returns-in-Err-hire-clause-refused g c =
+    let ok = c.in-Ok.ensures.ok in
+    let e = c.in-Err-hire.ensures in
+    let t = c.close-table.result.0 in
+    let root : c.hire.new.root ≡ _ = e.refused.1 ∙ ok.2 in (
+      untouched g.Y.Yard.knows g.Y.Yard.owns c.in-Ok.made.0.table c.in-Ok.made.0.pass t c.close-table.result.1 c.close-table.ensures.state
+          (subst IsLegal (sym ok.0) c.history-history.ensures.legal) (ap (λ (x : TableView). x.history) ok.0 ∙ c.requires.fresh)
+          (subst (λ (s : SeatAt). AllBelow s.view.number t.history) root c.close-table.ensures.below)
+          ∙ ok.0,
+      e.refused.0,
+      e.same ∙ c.split-first.ensures.first,
+    )
+
+pub drive-outcome-requires-clause-workers : goal.drive-outcome-requires-clause-workers
+drive-outcome-requires-clause-workers g c κs within =
+    subst (AreWorkersOf g.Y.Yard.owns c.args.yard.now c.in-Ok.made.0.board) (sym c.deref_mut.ensures.value) c.in-Ok-hire.ensures.workers.0
+
+pub drive-outcome-requires-clause-numbers : goal.drive-outcome-requires-clause-numbers
+drive-outcome-requires-clause-numbers g c κs within = subst AreNumbered (sym c.deref_mut.ensures.value) c.in-Ok-hire.ensures.numbers
+
+pub drive-outcome-requires-clause-rooms : goal.drive-outcome-requires-clause-rooms
+drive-outcome-requires-clause-rooms g c κs within =
+    subst (HaveRooms c.args.plan.now) (sym c.deref_mut.ensures.value) (c.in-Ok-hire.ensures.rooms c.args.plan.now c.requires.rooms)
+
+pub dismiss-table-requires-clause-workers : goal.dismiss-table-requires-clause-workers
+dismiss-table-requires-clause-workers g c κs within =
+    let ws = c.drive-outcome.new.workers in
+    let items = c.in-Ok-hire.workers.items in
+    let len : length items ≡ c.in-Ok-hire.workers.len = search rules in
+    subst (AreWorkersOf g.Y.Yard.owns c.args.yard.now c.in-Ok.made.0.board)
+    (sym (written_back ws items c.in-Ok-hire.workers.len (c.drive-outcome.ensures.count ∙ ap length c.deref_mut.ensures.value) (sym len)))
+    c.drive-outcome.ensures.workers
+
+pub join-requires : goal.join-requires
+join-requires g c =
+    (c.dismiss-table.ensures.own, c.dismiss-table.ensures.state.yard c.args.yard.now (subst (g.Y.Yard.owns c.args.yard.now) (sym c.in-Ok.ensures.ok.1) c.split-first.ensures.own.1))
+
+pub returns-clause-worked : goal.returns-clause-worked
+returns-clause-worked g c =
+    let ok = c.in-Ok.ensures.ok in
+    let d = c.dismiss-table.ensures in
+    let t = c.dismiss-table.result.0 in
+    let last = c.dismiss-table.result.1 in
+    let ws = c.drive-outcome.new.workers in
+    let items = c.in-Ok-hire.workers.items in
+    let len : length items ≡ c.in-Ok-hire.workers.len = search rules in
+    let count : length ws ≡ length items = c.drive-outcome.ensures.count ∙ ap length c.deref_mut.ensures.value in
+    let same = written_back ws items c.in-Ok-hire.workers.len count (sym len) in
+    let fronts : (i : ℕ) (v : Worker g.row.Y.Denot g.row.Y-Pass.Denot) → i < length ws → IsKnownFront t.history (halted_fault t.state.ended) (front_of (slice_index_or ws i v).seat) =
+    λ i v low. subst (λ (l : List (Worker g.row.Y.Denot g.row.Y-Pass.Denot)). IsKnownFront t.history (halted_fault t.state.ended) (front_of (slice_index_or l i v).seat)) same
+    (d.fronts i v (subst (λ (k : ℕ). i < k) (count ∙ len) low)) in
+    let resting = nobody_left g.Y.Yard.owns c.args.yard.now c.in-Ok.made.0.board ws c.drive-outcome.ensures.workers t fronts (subst (λ (k : ℕ). AllBelow k t.history) (sym (count ∙ len)) d.below)
+    (λ w. c.own_law.ensures.running t.settings t.done t.history t.state w d.state.legal) in
+    let owned = d.state.yard c.args.yard.now (subst (g.Y.Yard.owns c.args.yard.now) (sym ok.1) c.split-first.ensures.own.1) in
+    let one = g.Y.Yard.laws.same last c.join.new.pass (g.Y.Yard.laws.one_yard c.args.yard.now last c.join.new.pass owned c.join.ensures.own) in
+    subst (λ (x : TableView × Known). HasWorked (g.Y.Yard.serves c.args.yard.now) x.0 t x.1 (g.Y.Yard.knows c.join.new.pass))
+    (λ i. (ok.0 i, (c.in-Ok-hire.ensures.same ∙ c.split-first.ensures.first) i))
+    (board_worked g.Y.Yard.knows g.Y.Yard.owns c.in-Ok.made.0.table c.in-Ok.made.0.pass t last d.state (g.Y.Yard.serves c.args.yard.now) _ (g.Y.Yard.knows c.hire.new.pass)
+    (g.Y.Yard.knows c.dismiss-table.new.pass) (g.Y.Yard.knows c.join.new.pass) d.took c.join.ensures.joined one resting)
+
+pub returns-clause-decided : goal.returns-clause-decided
+returns-clause-decided g c =
+    let ok = c.in-Ok.ensures.ok in
+    let d = c.dismiss-table.ensures in
+    let t = c.dismiss-table.result.0 in
+    let ws = c.drive-outcome.new.workers in
+    let items = c.in-Ok-hire.workers.items in
+    let len : length items ≡ c.in-Ok-hire.workers.len = search rules in
+    let count : length ws ≡ length items = c.drive-outcome.ensures.count ∙ ap length c.deref_mut.ensures.value in
+    let same = written_back ws items c.in-Ok-hire.workers.len count (sym len) in
+    let fronts : (i : ℕ) (v : Worker g.row.Y.Denot g.row.Y-Pass.Denot) → i < length ws → IsKnownFront t.history (halted_fault t.state.ended) (front_of (slice_index_or ws i v).seat) =
+    λ i v low. subst (λ (l : List (Worker g.row.Y.Denot g.row.Y-Pass.Denot)). IsKnownFront t.history (halted_fault t.state.ended) (front_of (slice_index_or l i v).seat)) same
+    (d.fronts i v (subst (λ (k : ℕ). i < k) (count ∙ len) low)) in
+    let some : 0 < length ws =
+    let many = c.in-Ok-hire.ensures.workers.1 in
+    let any = c.requires.some in
+    omega (arith, count, many, any) in
+    subst (λ (p : PlanView). IsDecided p t.state c.drive-outcome.result) (ap (λ (x : TableView). x.settings.plan) ok.0 ∙ c.requires.plan)
+    (subst (λ (p : PlanView). IsDecided p t.state c.drive-outcome.result) (ap (λ s. s.plan) d.state.same.0)
+    (first_decides g.Y.Yard.owns c.args.yard.now c.in-Ok.made.0.board ws c.drive-outcome.ensures.workers t fronts g.Y.Yard.knows c.in-Ok.made.0.table c.drive-outcome.result some
+    c.outcome_law.ensures (λ i v low. c.drive-outcome.ensures.ended i v (subst (λ (k : ℕ). i < k) c.drive-outcome.ensures.count low)) c.drive-outcome.ensures.answer d.state.same d.state.legal))
