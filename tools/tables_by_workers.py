@@ -51,7 +51,7 @@ def write_tables(folder, count):
         cases = [one for one in (by_workers(case, count) for case in table["cases"]) if one is not None]
         if shared is None or not cases:
             continue
-        text = json.dumps({"kind": table["kind"], "shared": shared, "cases": cases})
+        text = json.dumps({**table, "shared": shared, "cases": cases})
         if '"--workers"' not in text:
             continue
         with open(f"{folder}/{file}", "w", encoding="utf-8") as written:
