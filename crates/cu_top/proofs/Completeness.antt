@@ -58,7 +58,7 @@ key_before late entry (Some now) key lands settled free told (bytes, there) = at
     at v (inr (inr (b, now, among))) is = settled b among
 
 -- the length of what an input's chunk holds is what it was
-length_before : (W : List ℕ → Option (List ℕ) → Type 0) (late : List Write) (entry : Contents) (new : Option Contents) (key : List ℕ) (got : ℕ) → Lands (OrLate W late) (Some entry) new
+pub length_before : (W : List ℕ → Option (List ℕ) → Type 0) (late : List Write) (entry : Contents) (new : Option Contents) (key : List ℕ) (got : ℕ) → Lands (OrLate W late) (Some entry) new
     → ((value : Option (List ℕ)) → W key value → ⊥) → ((bytes : List ℕ) → IsAmong late key bytes → entry key ≡ Some bytes) → HoldsLength new key got → new ≢ None
     → (bytes : List ℕ) × (entry key ≡ Some bytes) × (length bytes ≡ got)
 length_before W late entry None key got lands own calm holds told = absurd (told refl)
@@ -69,7 +69,7 @@ length_before W late entry (Some now) key got lands own calm (bytes, there, long
     at v (inr (inl change)) is = absurd (own v change)
     at v (inr (inr (b, now, among))) is = calm b among ∙ sym now ∙ is
 
-lands_told : (W : List ℕ → Option (List ℕ) → Type 0) (entry : Contents) (new : Option Contents) → Lands W (Some entry) new → new ≢ None
+pub lands_told : (W : List ℕ → Option (List ℕ) → Type 0) (entry : Contents) (new : Option Contents) → Lands W (Some entry) new → new ≢ None
 lands_told W entry None lands e = lands
 lands_told W entry (Some now) lands e = cc
 

@@ -12,5 +12,6 @@ mod PrepareLemmas
 mod RecordExample
 mod RecordLemmas
 mod ReopenLemmas
+mod ResumeServed
 mod RunLemmas
 mod WordsExample

@@ -6,17 +6,22 @@ use Rattle.cu_op.specs.declared.cells.Cell.{Cell}
 use Rattle.cu_op.specs.Arrays.{chunk_room}
 use Rattle.cu_op.specs.PlanView.{PlanView}
 use Rattle.cu_op.specs.Schedule.{key_of}
+use Rattle.cu_op.specs.Value.{stored_inputs}
+use Rattle.cu_name.specs.Keys.{record_key_of}
+use Rattle.cu_state.specs.Left.{IsLeft}
 use Rattle.cu_state.specs.Pieces.{IsInputChunk}
 use Rattle.cu_work.specs.Drive.{IsInputKey}
 use Rattle.cu_work.specs.Order.{IsFree}
 use Rattle.cu_command.specs.Job.{IsJob, IsTypable}
 use Rattle.cu_command.specs.declared.job.Job.{Job}
 use Rattle.cu_command.specs.declared.status.Status.{Status}
-use Rattle.cu_command.specs.declared.status.Status.TheVariants.{Done, NoMemory}
+use Rattle.cu_command.specs.declared.status.Status.TheVariants.{Done, TaskFailed, ReadFault, WriteFault, BadChunk, DepotFailed, NoMemory}
 use Rattle.cu_lower.specs.declared.options.Options.{Options}
 use Rattle.cu_plan.specs.Refusal.{refusal_of}
 use Rattle.cu_top.specs.Prepare.{job_plan, keys_of, HasNoOwnInput}
-use Rattle.cu_top.specs.Words.{command_of, plan, run}
+use Rattle.cu_top.specs.Quiet.{run_of_job}
+use Rattle.cu_top.specs.Record.{record_text}
+use Rattle.cu_top.specs.Words.{command_of, plan, resume, run}
 
 -- each chunk of an input is absent or whole
 abbrev pub AreWhole : PlanView → Contents → Type 0
@@ -52,3 +57,37 @@ abbrev pub IsServed : Status → Type 0
 IsServed Done = Unit {0}
 IsServed NoMemory = Unit {0}
 IsServed status = ⊥
+
+-- ---- a run that goes on
+
+-- The job has a plan, and its output is no input. Its record is held, and the contents are what the
+-- plan left.
+pub record IsLeftRecorded (options : Options) (job : Job) (entry : Contents) (old : Shown) : Type 0 where
+  pub planned : refusal_of options job.expr job.types ≡ None
+  pub own : HasNoOwnInput job.expr
+  pub left : IsLeft (run_of_job options job) (stored_inputs (job_plan options job).arrays entry) old
+  pub recorded : entry (record_key_of job.expr.store_as) ≡ Some (record_text options job)
+
+-- The words are accepted, the text has a job, its inputs and types accepted, and a run of it goes on
+-- from its record.
+pub record IsResumable (words : List (List ℕ)) (text : List ℕ) (entry : Contents) (old : Shown) : Type 0 where
+  pub options : Options
+  pub words_give : command_of words ≡ Ok (resume options)
+  pub typable : IsTypable old text
+  pub rest : (job : Job) → IsJob old text job → IsLeftRecorded options job entry old
+
+-- each chunk of an input of such a run is absent or whole
+abbrev pub HasWholeInputs : Options → List ℕ → Contents → Shown → Type 0
+HasWholeInputs options text entry old = (job : Job) → IsJob old text job → AreWhole (job_plan options job) entry
+
+-- a run that goes on fails by one of these alone: a task or a chunk, the source, the sink, the depot
+-- or want of memory
+abbrev pub IsResumeCause : Status → Type 0
+IsResumeCause Done = Unit {0}
+IsResumeCause (TaskFailed op task) = Unit {0}
+IsResumeCause ReadFault = Unit {0}
+IsResumeCause WriteFault = Unit {0}
+IsResumeCause (BadChunk key got want) = Unit {0}
+IsResumeCause (DepotFailed key) = Unit {0}
+IsResumeCause NoMemory = Unit {0}
+IsResumeCause status = ⊥

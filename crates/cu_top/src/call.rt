@@ -12,7 +12,7 @@ ghost use Rattle.cu_load.specs.Load.{Loaded};
 ghost use Rattle.cu_lower.specs.declared.options.Options.{Options};
 ghost use Rattle.cu_print.specs.Print.{Printed};
 ghost use Rattle.cu_top.specs.Call.{CameToRun, DidNothing, IsReadFault, IsShort, IsRefusedText, IsWordsRefused, RunTells};
-ghost use Rattle.cu_top.specs.Complete.{IsPlannable, IsServable, IsServed};
+ghost use Rattle.cu_top.specs.Complete.{HasWholeInputs, IsPlannable, IsResumable, IsResumeCause, IsServable, IsServed};
 ghost use Rattle.cu_top.specs.Planned.{IsPrinted, PlanTells};
 ghost use Rattle.cu_top.specs.Quiet.{IsCalm};
 ghost use Rattle.cu_top.specs.Run.{scene, IsDone, IsUnreported, IsTaskFailed, IsBadInput, IsDepotFailed, HasNoPlan, IsBlocked, IsMissing, IsRefused, IsBadExpr, IsBadType, PrintsOnly};
@@ -115,11 +115,17 @@ pub fn top<H: Threads + Wait + Sync, R: Source, W: Sink, D: Share, G: Gate>(
     // Where a run is accepted, nothing is in the way and no count of faults rises, it is carried out, or memory is wanted.
     ensures complete { (text : List ℕ) (entry : Contents) → R.left src.old ≡ Some text → (D.shown depot.old).held ≡ Some entry → IsServable (map string_bytes words.now) text entry (D.shown depot.old)
         → StoodStill (R.faults src.old) (R.faults src.new) → StoodStill (W.faults out.old) (W.faults out.new) → StoodStill (D.shown depot.old).faults (D.shown depot.new).faults → IsServed result }
-    // What `resume` answers: all of it, and where a run that goes on is accepted and no count of faults rises, it is carried out, or
-    // memory is wanted.
+    // What `resume` answers: all of it.
     ensures resumes { (options : Options) → command_of (map string_bytes words.now) ≡ Ok (resume options) → ResumeTells (D.yards_lack depot.new) options (scene (stream (R.left src.old) (R.faults src.old)) (stream (W.written out.old) (W.faults out.old)) (D.shown depot.old))
         (scene (stream (R.left src.new) (R.faults src.new)) (stream (W.written out.new) (W.faults out.new)) (D.shown depot.new)) result }
     ensures resume_prints { (options : Options) → command_of (map string_bytes words.now) ≡ Ok (resume options) → PrintsOnly result (W.written out.old) (W.written out.new) }
+    // From its record and what its plan left, a run that goes on fails by its causes alone; and where no count of faults rises, and
+    // each chunk of an input is absent or whole, it is carried out, or memory is wanted.
+    ensures resume_causes { (text : List ℕ) (entry : Contents) → R.left src.old ≡ Some text → (D.shown depot.old).held ≡ Some entry → IsResumable (map string_bytes words.now) text entry (D.shown depot.old)
+        → IsResumeCause result }
+    ensures resume_complete { (text : List ℕ) (entry : Contents) → R.left src.old ≡ Some text → (D.shown depot.old).held ≡ Some entry → (premise : IsResumable (map string_bytes words.now) text entry (D.shown depot.old))
+        → HasWholeInputs premise.options text entry (D.shown depot.old) → StoodStill (R.faults src.old) (R.faults src.new) → StoodStill (W.faults out.old) (W.faults out.new)
+        → StoodStill (D.shown depot.old).faults (D.shown depot.new).faults → IsServed result }
     // What `drop` answers.
     ensures drops { (options : Options) → command_of (map string_bytes words.now) ≡ Ok (drop options) → DropTells options (scene (stream (R.left src.old) (R.faults src.old)) (stream (W.written out.old) (W.faults out.old)) (D.shown depot.old))
         (scene (stream (R.left src.new) (R.faults src.new)) (stream (W.written out.new) (W.faults out.new)) (D.shown depot.new)) result }
