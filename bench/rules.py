@@ -269,9 +269,12 @@ def part_of(value, needs):
     return value["name"], value.get("configuration", {})
 
 
-def meta_of(name, data):
-    """Returns the array that metadata describes, or refuses it with 7."""
-    array = meta_or_code(data)
+def meta_of(name, held):
+    """Returns the array that the first metadata that is held of this name describes, of version 3 or of version 2, or refuses it."""
+    written, zarray = held(f"{name}/zarr.json"), held(f"{name}/.zarray")
+    if written is None and zarray is None:
+        refuse(8, name=name)
+    array = zarray_or_code(zarray) if written is None else meta_or_code(written)
     if type(array) is int:
         refuse(7, name=name, code=array)
     return array
@@ -335,6 +338,54 @@ def others_code(told, array):
         return 3
     others = set(told) - set(REQUIRED) - {"attributes", "dimension_names", "storage_transformers"}
     return 9 if any(type(told[name]) is not dict or told[name].get("must_understand") is not False for name in others) else 0
+
+
+def zarray_or_code(data):
+    """Returns the array that a `.zarray` describes, or the code of its first fault."""
+    if len(data) > MOST_TEXT:
+        return 30
+    try:
+        told = json_of(data)
+    except (ValueError, RecursionError):
+        return 21
+    if type(told) is not dict:
+        return 21
+    if type(told.get("zarr_format")) is not int or told["zarr_format"] != 2:
+        return 22
+    if any(name not in told for name in ("shape", "chunks", "dtype", "compressor", "fill_value", "order", "filters")):
+        return 23
+    dtype = dtype_of_v2(told["dtype"])
+    if dtype is None:
+        return 24
+    if not is_grid(told["shape"], ("regular", {"chunk_shape": told["chunks"]}), SIZES[dtype]):
+        return 25
+    if told["compressor"] is not None or told["filters"] not in (None, []):
+        return 28
+    if told["order"] != "C":
+        return 29
+    fill, separator = fill_of_v2(dtype, told["fill_value"]), told.get("dimension_separator", ".")
+    if fill is None:
+        return 27
+    if separator not in ("/", "."):
+        return 26
+    endian = "big" if told["dtype"][0] == ">" and SIZES[dtype] > 1 else "little"
+    return Array(dtype, told["shape"], told["chunks"], fill, endian, "v2", separator)
+
+
+def dtype_of_v2(text):
+    """Returns the type that a text of version 2 names, or nothing."""
+    codes = {f"{name[0]}{size}": name for name, size in SIZES.items()}
+    dtype = codes.get(text[1:]) if type(text) is str else None
+    return dtype if dtype and text[0] in ("<>|" if SIZES[dtype] == 1 else "<>") else None
+
+
+def fill_of_v2(dtype, value):
+    """Returns the element that a fill value of version 2 stands for, or nothing."""
+    if value is None:
+        return 0
+    if dtype == "bool" and FLAG(value):
+        return int(value)
+    return value if whole(*limits(dtype))(value) else None
 
 
 # Types and shapes
@@ -577,12 +628,15 @@ class Plan:
             found.append((arg, tuple(place[rest + at] if size == shape[rest + at] else 0 for at, size in enumerate(sizes))))
         return found
 
+    def made_keys(self):
+        """Returns the keys of the chunks that are made, by operation, task and chunk."""
+        return [self.part_key(k, at, which, place) for k, steps in self.steps.items() for at, step in enumerate(steps)
+                for task in step.places() for which, place in step.written(task)]
+
     def keys_in_the_way(self):
         """Returns the keys that are asked for, in order."""
         name = self.expr["store_as"]
-        made = [self.part_key(k, at, which, place) for k, steps in self.steps.items() for at, step in enumerate(steps)
-                for task in step.places() for which, place in step.written(task)]
-        return [f"_cubed/{name}/plan.json", f"{name}/zarr.json", *made]
+        return [f"_cubed/{name}/plan.json", f"{name}/zarr.json", f"{name}/.zarray", *self.made_keys()]
 
     def record(self):
         names = sorted({node["name"] for node in self.expr["nodes"] if node["op"] == "input"})
@@ -600,10 +654,7 @@ def typed_plan(data, held, allowed=DEFAULT, reserved=0, split_every=SPLIT_EVERY)
     metas = {}
     for node in expr["nodes"]:
         if node["op"] == "input":
-            metadata = held(f"{node['name']}/zarr.json")
-            if metadata is None:
-                refuse(8, name=node["name"])
-            metas[node["name"]] = meta_of(node["name"], metadata)
+            metas[node["name"]] = meta_of(node["name"], held)
     return Plan(expr, metas, typed(expr, metas), allowed, reserved, split_every)
 
 

@@ -142,7 +142,7 @@ def addition():
         {"holds": held(a__c__1={"hex": "05"}, b__c__0={"hex": "05"}), "line": "error 13 key=a/c/1 got=1 want=16"}]}
     other = metadata("int64", [6], [4])
     yield {"name": "metadata that is absent, refused or of another type or shape", "rows": [
-        {"holds": held(a__zarr_json=None), "line": "error 8 name=a", "calls": 1},
+        {"holds": held(a__zarr_json=None), "line": "error 8 name=a", "calls": 2},
         {"holds": held(b__zarr_json="{"), "line": "error 7 name=b code=1", "calls": 2},
         {"holds": held(y__zarr_json=None), "line": "error 8 name=y", "calls": 3},
         {"holds": held(y__zarr_json={"zarr_format": 2}), "line": "error 7 name=y code=2", "calls": 3},

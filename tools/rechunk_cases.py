@@ -151,7 +151,7 @@ def stored_rows():
     rows = [ran({"a": array}, text), ran({"a": array}, text, 16), ran({"a": array}, text, 33, 5),
             refused("run", {"a": array}, text, "error 5 node=0 need=16 allowed=15", 15), ran({"a": number(-3)}, text), ran({"a": counted("int8", [4, 4], [4, 1])}, text, 8)]
     both = a_and_b()
-    return rows + [ran(both, expression(ADDED, "b"), calls=12), ran(both, expression([*inputs_of("a", "b"), node("n", "negative", "b")], "a"), 33),
+    return rows + [ran(both, expression(ADDED, "b"), calls=13), ran(both, expression([*inputs_of("a", "b"), node("n", "negative", "b")], "a"), 33),
                    refused("run", both, expression(ADDED, "b", "b"), "error 9 key=b/zarr.json"), refused("run", both, expression(ADDED, "a"), None, 31)]
 
 
@@ -195,7 +195,7 @@ def mixed_rows():
     nodes = [*inputs_of("a"), node("p", "permute_dims", "a", axes=[1, 0]), node("q", "permute_dims", "p", axes=[1, 0]), node("r", "rechunk", "q", chunk=[3, 3]), node("s", "add", "a", "r"),
              node("m", "sum", "s", axes=[1]), node("x", "rechunk", "m", chunk=[3]), node("y", "argmax", "x")]
     dead = [*inputs_of("a"), node("r", "rechunk", "a", chunk=[1, 1]), node("s", "square", "a"), node("t", "rechunk", "s", chunk=[4, 1])]
-    return [ran(array, expression(nodes)), ran(array, expression(nodes), None, 0, 2), ran(array, expression(dead, "s"), calls=17), ran(array, expression(dead, "t"), 1220),
+    return [ran(array, expression(nodes)), ran(array, expression(nodes), None, 0, 2), ran(array, expression(dead, "s"), calls=18), ran(array, expression(dead, "t"), 1220),
             ran(a_and_b(), expression([*inputs_of("a"), node("n", "negative", "a"), node("m", "max", "n"), node("r", "rechunk", "m", chunk=[])])),
             ran({}, expression([node("f", "full", shape=[6], dtype="int32", value=1, chunk=[4]), node("n", "rechunk", "f", chunk=[6]), node("m", "negative", "n")])),
             ran(other, expression([*inputs_of("a", "b"), node("d", "add", "a", "b"), node("n", "flip", "a"), node("m", "matmul", "n", "b")])),
@@ -434,7 +434,7 @@ def fault_of_plan_rows():
         row(both, "11", source_fails_at=0), row(both, "11", no_text, source_fails_at=1, calls=0), row(both, "3 code=1 node=0", '{"nodes":[', calls=0),
         row(both, "3 code=4 node=0", expression([node("s", "sort", "a")]), calls=0), row(both, "3 code=3 node=3", no_text, faults=failing("a/zarr.json"), calls=0),
         row(both, "16 key=a/zarr.json", faults=failing("a/zarr.json"), calls=3), {**planned(both, text, 1600), "faults": failing("a/zarr.json", 2), "calls": 4},
-        row({"b": bad}, "16 key=a/zarr.json", faults=failing("a/zarr.json"), calls=3), row({"b": bad}, "8 name=a", calls=1), row({"a": both["a"]}, "8 name=b", calls=2),
+        row({"b": bad}, "16 key=a/zarr.json", faults=failing("a/zarr.json"), calls=3), row({"b": bad}, "8 name=a", calls=2), row({"a": both["a"]}, "8 name=b", calls=3),
         row({"a": both["a"], "b": bad}, "7 name=b code=8", calls=2), row({"a": bad, "b": both["b"]}, "7 name=a code=8", faults=failing("b/zarr.json"), calls=1),
         row(odd, "4 code=2 node=2"), row(odd, "4 code=2 node=2", allowed=0), row(both, "5 node=2 need=1600 allowed=1599", allowed=1599),
         row(askew, "5 node=2 need=8000 allowed=7999", allowed=7999), row(both, "5 node=0 need=1601 allowed=1600", allowed=1600, reserved=1601),

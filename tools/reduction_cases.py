@@ -36,7 +36,7 @@ def made_by(plan, arrays):
     parts = {part: (rules.Array(*info), compare.part_elements(plan, part, info, elements)) for *part, info in plan.parts() for part in [tuple(part)]}
     found = {plan.part_key(*part, place): tables.spelled(array, compare.bytes_of(array, compare.whole_chunk(array, values, place)))
              for part, (array, values) in parts.items() for place in compare.chunks_of(array)}
-    return [[key, found[key]] for key in plan.keys_in_the_way()[2:]]
+    return [[key, found[key]] for key in plan.made_keys()]
 
 
 def ran(arrays, text, allowed=None, split_every=rules.SPLIT_EVERY, **more):

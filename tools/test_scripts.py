@@ -131,6 +131,7 @@ class Zarr(InFolder):
         put(f"{self.top}/a/.zarray", json.dumps(told).encode())
         put(f"{self.top}/a/.zattrs", b'{"_ARRAY_DIMENSIONS":["x"],"units":"K","scale_factor":0.1}')
         put(f"{self.top}/a/0", b"\0\1\0\2")
+        self.assertEqual(self.zarr("read", "a", "--raw", "-"), b"\1\0\2\0\0\0")
         self.zarr("adopt", "a")
         self.assertEqual(self.zarr("read", "a", "--raw", "-"), b"\1\0\2\0\0\0")
         with open(f"{self.top}/a/zarr.json", encoding="ascii") as file:

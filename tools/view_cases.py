@@ -182,7 +182,7 @@ def chain_rows():
 def absent_rows():
     """A chunk that no element comes from isn't read, so it may be of another length."""
     array = counted("int32", [6], [2], raw={(2,): {"hex": "01"}})
-    front = ran({"a": array}, expression([*inputs_of("a"), node("v", "index", "a", index=[{"stop": 3}])]), calls=11)
+    front = ran({"a": array}, expression([*inputs_of("a"), node("v", "index", "a", index=[{"stop": 3}])]), calls=12)
     bad = expression([*inputs_of("a"), node("v", "flip", "a")])
     row = refused({"a": array}, bad, "error 13 key=a/c/2 got=1 want=8")
     return [front, {**row, "leaves": ran({"a": array}, bad)["leaves"][:2]}]
@@ -191,7 +191,7 @@ def absent_rows():
 def large_row():
     """One chunk's worth of an array of 65,536 chunks, of which none is held: each other call of the depot would be one too many."""
     array = stored("int8", [65536], [1], [0] * 65536, absent={(at,) for at in range(65536)})
-    return ran({"a": array}, expression([*inputs_of("a"), node("v", "index", "a", index=[{"start": 40000, "stop": 40001}])]), calls=8)
+    return ran({"a": array}, expression([*inputs_of("a"), node("v", "index", "a", index=[{"start": 40000, "stop": 40001}])]), calls=9)
 
 
 def memory_rows():

@@ -212,12 +212,15 @@ class Stored:
 
     def layout(self):
         """Its layout, or why the program doesn't read it."""
-        text = os.path.join(self.path, "zarr.json")
-        if not os.path.exists(text):
-            if os.path.exists(os.path.join(self.path, ".zarray")):
-                raise Unread("it is of version 2: tools/zarr DIR adopt NAME makes it readable")
+        text, zarray = os.path.join(self.path, "zarr.json"), os.path.join(self.path, ".zarray")
+        if os.path.exists(text):
+            return layout_of(json_of(text))
+        if not os.path.exists(zarray):
             raise Unread("it has no zarr.json")
-        return layout_of(json_of(text))
+        told = json_of(zarray)
+        if isinstance(told, dict) and told.get("order") != "C":
+            raise Unread("its chunks aren't said to be in row-major order: write it with order='C'")
+        return layout_of_v2(told)
 
     def chunk_path(self, layout, coordinate):
         return os.path.join(self.path, layout.key(coordinate))

@@ -1,21 +1,22 @@
 -- Why a text's arrays aren't compared: what the parts that read metadata say of the answer.
-use Rattle.std.proofs.Common.{◌≡◌, ℕ, ◌≤◌, List, [], ◌∷◌, ◌++◌, All, Ok, sym, ap, ◌∙◌, subst, inl, inr, append_assoc}
+use Rattle.std.proofs.Common.{◌≡◌, ◌⊎◌, ℕ, ◌≤◌, List, All, Ok, sym, subst, inl, inr, arith}
 use Rattle.cu_form.specs.Expression.{Expression}
 use Rattle.cu_expr.specs.declared.inputs.InputInfo.{InputInfo}
 use Rattle.cu_read.specs.Read.{expression_of}
 use Rattle.cu_store.specs.Steps.{Shown, NoChange, Steps}
 use Rattle.cu_zarr.specs.Key.{metadata_key_of}
-use Rattle.cu_command.proofs.InputLemmas.{read_at, fault_at}
-use Rattle.cu_command.specs.Inputs.{names_in, names_of, IsReadAt, IsTurn, IsInputFault}
+use Rattle.cu_command.proofs.InputLemmas.{such_then}
+use Rattle.cu_command.proofs.SeenLemmas.{stepped, gone_before}
+use Rattle.cu_command.specs.Inputs.{names_in, names_of, IsReadAt, IsWrittenAt, IsInputFault}
 use Rattle.cu_command.specs.Job.{IsUnread, IsUntyped, IsJob, status_of}
 use Rattle.cu_command.specs.Seen.{Seen}
-use Rattle.cu_command.specs.Stored.{IsArrayLayout, HoldsLayout, IsMetadataFault}
+use Rattle.cu_command.specs.Stored.{IsArrayLayout, IsMetadata, IsRefusedText, HoldsLayout, IsMetadataFault}
 use Rattle.cu_command.specs.declared.job.Job.{Job}
 use Rattle.cu_command.specs.declared.job.JobFault.{JobFault}
 use Rattle.cu_command.specs.declared.job.JobFault.TheVariants as fault
 use Rattle.cu_command.specs.declared.status.Status.{Status}
 use Rattle.cu_command.specs.declared.status.Status.TheVariants.{OverLimit, BadMeta}
-use Rattle.cu_check.specs.Check.{compared_names, IsOutputRead, IsMisfit, Compares}
+use Rattle.cu_check.specs.Check.{AreInputsRead, IsOutputRead, IsOutputFault, IsMisfit, Compares}
 
 -- ---- the text
 
@@ -26,51 +27,49 @@ unread_ends tries text old new f h = absurd h
 
 -- ---- metadata
 
--- a turn among the inputs' names is one among these and the output's
-wider_turn : (names : List (List ℕ)) (last : List ℕ) (entry : Shown) (name : List ℕ) → IsTurn names entry name → IsTurn (names ++ last ∷ []) entry name
-wider_turn names last entry name turn = record {
-  before = turn.before;
-  behind = turn.behind ++ last ∷ [];
-  place = ap (λ (ns : List (List ℕ)). ns ++ last ∷ []) turn.place ∙ append_assoc (names_of turn.before) (name ∷ turn.behind) (last ∷ []);
-  read = turn.read;
-}
-
-wider : (tries : ℕ) (names : List (List ℕ)) (last : List ℕ) (entry now : Shown) (f : JobFault) → IsInputFault tries names entry now f → IsInputFault tries (names ++ last ∷ []) entry now f
-wider tries names last entry now (fault.DepotFailed key) (name, is, turn, rose) = (name, is, wider_turn names last entry name turn, rose)
-wider tries names last entry now (fault.NoArray name) (turn, gone) = (wider_turn names last entry name turn, gone)
-wider tries names last entry now (fault.BadMeta name code) (turn, refused) = (wider_turn names last entry name turn, refused)
-wider tries names last entry now fault.NoMemory h = tt
-wider tries names last entry now f h = absurd h
-
--- reading the metadata of one of the names ended so
-pub metadata_ends : (tries : ℕ) (text : List ℕ) (e : Expression) (old new : Seen) (f : JobFault) → expression_of text ≡ Ok e → IsInputFault tries (compared_names e) old.depot new.depot f
-    → Compares tries text old new (status_of f)
-metadata_ends tries text e old new (fault.DepotFailed key) said h = (h.3, inl (e, said, h))
+-- reading the metadata of an input, or of the output, ended so
+metadata_ends : (tries : ℕ) (text : List ℕ) (e : Expression) (old new : Seen) (f : JobFault) → expression_of text ≡ Ok e
+    → IsInputFault tries (names_in e) old.depot new.depot f ⊎ IsOutputFault tries e old.depot new.depot f → Compares tries text old new (status_of f)
+metadata_ends tries text e old new (fault.DepotFailed key) said (inl h) = (h.3, inl (e, said, inl h))
+metadata_ends tries text e old new (fault.DepotFailed key) said (inr h) = (h.2, inl (e, said, inr h))
 metadata_ends tries text e old new (fault.NoArray name) said h = (e, said, h)
 metadata_ends tries text e old new (fault.BadMeta name code) said h = inl (e, said, h)
 metadata_ends tries text e old new fault.NoMemory said h = tt
-metadata_ends tries text e old new f said h = absurd h
+metadata_ends tries text e old new f said (inl h) = absurd h
+metadata_ends tries text e old new f said (inr h) = absurd h
 
 pub inputs_end : (tries : ℕ) (text : List ℕ) (e : Expression) (old new : Seen) (f : JobFault) → expression_of text ≡ Ok e → IsInputFault tries (names_in e) old.depot new.depot f
     → Compares tries text old new (status_of f)
-inputs_end tries text e old new f said h = metadata_ends tries text e old new f said (wider tries (names_in e) e.store_as old.depot new.depot f h)
+inputs_end tries text e old new f said h = metadata_ends tries text e old new f said (inl h)
 
--- the output's turn comes behind all inputs
-last_turn : (e : Expression) (entry : Shown) (inputs : List InputInfo) → names_of inputs ≡ names_in e → All (IsReadAt entry) inputs → IsTurn (compared_names e) entry e.store_as
-last_turn e entry inputs names read = record { before = inputs; behind = []; place = ap (λ (ns : List (List ℕ)). ns ++ e.store_as ∷ []) (sym names); read = read }
+output_fault : {l m : ℕ} (tries : ℕ) (e : Expression) (entry mid now : Shown) (f : JobFault) → AreInputsRead entry e → entry.faults ≤ mid.faults → Steps NoChange l m entry now
+    → IsMetadataFault tries mid.faults now.faults now.held e.store_as (status_of f) → IsOutputFault tries e entry now f
+output_fault tries e entry mid now (fault.DepotFailed key) read count step h = (h.0, read, omega (arith, h.1, count))
+output_fault tries e entry mid now (fault.NoArray name) read count step h = (h.0, read, gone_before entry now (metadata_key_of e.store_as) (stepped step) h.1)
+output_fault tries e entry mid now (fault.BadMeta name code) read count step h =
+    (h.0, read, h.1, λ calm. such_then entry.late entry.held now.held (metadata_key_of e.store_as) (λ text. IsRefusedText text code) step.lands calm h.1)
+output_fault tries e entry mid now fault.NoMemory read count step h = tt
+output_fault tries e entry mid now f read count step h = absurd h
 
 pub output_ends : {l m : ℕ} (tries : ℕ) (text : List ℕ) (e : Expression) (inputs : List InputInfo) (old new : Seen) (mid : Shown) (f : JobFault) → expression_of text ≡ Ok e
     → names_of inputs ≡ names_in e → All (IsReadAt old.depot) inputs → old.depot.faults ≤ mid.faults → Steps NoChange l m old.depot new.depot
     → IsMetadataFault tries mid.faults new.depot.faults new.depot.held e.store_as (status_of f) → Compares tries text old new (status_of f)
 output_ends tries text e inputs old new mid f said names read count step h =
     metadata_ends tries text e old new f said
-    (fault_at tries (compared_names e) old.depot mid new.depot e.store_as f (last_turn e old.depot inputs names read) count step h)
+    (inr (output_fault tries e old.depot mid new.depot f (record { inputs = inputs; names = names; read = read }) count step h))
+
+written_at : {l m : ℕ} (entry now : Shown) (output : InputInfo) → Steps NoChange l m entry now → IsArrayLayout output.layout → HoldsLayout now.held (metadata_key_of output.name) output.layout
+    → IsWrittenAt entry output
+written_at entry now output step layout holds = record {
+  layout = layout;
+  held = λ calm. such_then entry.late entry.held now.held (metadata_key_of output.name) (IsMetadata output.layout) step.lands calm holds;
+}
 
 pub is_output : {l m : ℕ} (e : Expression) (entry now : Shown) (output : InputInfo) → Steps NoChange l m entry now → output.name ≡ e.store_as → IsArrayLayout output.layout
     → HoldsLayout now.held (metadata_key_of e.store_as) output.layout → IsOutputRead entry e output
 is_output e entry now output step name layout found = record {
   name = name;
-  read = read_at entry now output step layout (subst (λ (n : List ℕ). HoldsLayout now.held (metadata_key_of n) output.layout) (sym name) found);
+  read = written_at entry now output step layout (subst (λ (n : List ℕ). HoldsLayout now.held (metadata_key_of n) output.layout) (sym name) found);
 }
 
 -- ---- types, and what is compared

@@ -10,14 +10,16 @@ use Rattle.cu_meaning.specs.Meaning.{meaning_of}
 use Rattle.cu_meaning.specs.Typed.{type_of_node}
 use Rattle.cu_op.specs.Layout.{layout_view}
 use Rattle.cu_store.specs.Faults.{Rose}
-use Rattle.cu_store.specs.Held.{Contents}
+use Rattle.cu_store.specs.Held.{Contents, IsGone}
 use Rattle.cu_store.specs.Steps.{Shown, NoChange}
+use Rattle.cu_zarr.specs.Key.{metadata_key_of}
 use Rattle.cu_zarr.specs.Stored.{stored_element}
 use Rattle.cu_region.specs.Reading.{bytes_of}
 use Rattle.cu_region.specs.Steady.{HoldsLength}
-use Rattle.cu_command.specs.Inputs.{names_in, IsReadAt, IsInputFault}
+use Rattle.cu_command.specs.Inputs.{names_in, names_of, IsCalmAt, IsReadAt, IsWrittenAt, IsInputFault}
 use Rattle.cu_command.specs.Job.{IsJob, IsIllTyped}
 use Rattle.cu_command.specs.Seen.{Stream, Seen, Stepped}
+use Rattle.cu_command.specs.Stored.{HoldsRefused}
 use Rattle.cu_command.specs.Streams.{ReadsAll, WroteFront}
 use Rattle.cu_command.specs.declared.job.Job.{Job}
 use Rattle.cu_command.specs.declared.job.JobFault.{JobFault}
@@ -30,18 +32,29 @@ use Rattle.cu_check.specs.declared.metadata.Compared.{Compared}
 
 -- ---- metadata
 
--- the names whose metadata is read: those of the inputs, and then the output's
-abbrev pub compared_names : Expression → List (List ℕ)
-compared_names e = names_in e ++ e.store_as ∷ []
-
 -- what was read of the output's metadata
 pub record IsOutputRead (entry : Shown) (e : Expression) (output : InputInfo) : Type 0 where
   pub name : output.name ≡ e.store_as
-  pub read : IsReadAt entry output
+  pub read : IsWrittenAt entry output
 
--- reading the metadata ended so
+-- the metadata of all inputs was read and accepted
+pub record AreInputsRead (entry : Shown) (e : Expression) : Type 0 where
+  pub inputs : List InputInfo
+  pub names : names_of inputs ≡ names_in e
+  pub read : All (IsReadAt entry) inputs
+
+-- Why reading the output's metadata ends, behind those of all inputs. The one key is that of version 3.
+abbrev pub IsOutputFault : ℕ → Expression → Shown → Shown → JobFault → Type 0
+IsOutputFault tries e entry now (fault.DepotFailed key) = (key ≡ metadata_key_of e.store_as) × AreInputsRead entry e × Rose tries entry.faults now.faults
+IsOutputFault tries e entry now (fault.NoArray name) = (name ≡ e.store_as) × AreInputsRead entry e × IsGone entry.held (metadata_key_of e.store_as)
+IsOutputFault tries e entry now (fault.BadMeta name code) = (name ≡ e.store_as) × AreInputsRead entry e × HoldsRefused now.held (metadata_key_of e.store_as) code
+    × (IsCalmAt entry (metadata_key_of e.store_as) → HoldsRefused entry.held (metadata_key_of e.store_as) code)
+IsOutputFault tries e entry now fault.NoMemory = Unit {0}
+IsOutputFault tries e entry now f = ⊥
+
+-- reading the metadata of an input, or of the output, ended so
 abbrev pub IsUnreadable : ℕ → List ℕ → Shown → Shown → JobFault → Type 0
-IsUnreadable tries text entry now f = (e : Expression) × (expression_of text ≡ Ok e) × IsInputFault tries (compared_names e) entry now f
+IsUnreadable tries text entry now f = (e : Expression) × (expression_of text ≡ Ok e) × (IsInputFault tries (names_in e) entry now f ⊎ IsOutputFault tries e entry now f)
 
 -- the expression has no types, and the output's metadata was read and accepted
 abbrev pub IsMistyped : List ℕ → Shown → ℕ → ℕ → Type 0

@@ -100,7 +100,8 @@ fn check_text<W: Sink, D: Depot>(
 /// writes `equal N`, where N counts the output's elements. The expression is read from the source as JSON.
 ///
 /// The faults come in this order. `ReadFault`: the source failed. `BadExpr`: the text is no expression. `DepotFailed`, `NoArray` and
-/// `BadMeta` with codes 1 to 10: the metadata of an input, in node order, or then of the output isn't read. `BadType`: the expression has
+/// `BadMeta` with codes 1 to 10 or 21 to 30: the metadata of an input, in node order, isn't read, of version 3 or where that is absent
+/// of version 2; the same, with codes 1 to 10, for the output, of version 3 alone. `BadType`: the expression has
 /// no types. `BadMeta` with code 11: the output has another type or shape than the expression. `OverLimit` with which 3: the nodes have
 /// more than 4,194,304 elements together, an axis of size 0 counting as 0. `DepotFailed` and `BadChunk`: a chunk of an input node's
 /// array, in node order, or then of the output isn't read, which each chunk is with at most `retries + 1` calls. `Unequal`: at this

@@ -9,7 +9,7 @@ ghost use Rattle.cu_command.specs.Stored.{IsArrayLayout, HoldsLayout, IsMetadata
 ghost use Rattle.cu_check.specs.Check.{IsOutputRead, IsLikeStoredNode, IsMisfit, elements_in_all, Compares};
 
 use cu_command::{
-    Job, JobFault, Status, metadata_room, read_input, read_inputs, said_in, types_in,
+    Job, JobFault, Status, metadata_room, read_inputs, read_written, said_in, types_in,
 };
 use cu_expr::{Expr, InputInfo, NodeInfo, Types, typing_law};
 use cu_op::Layout;
@@ -30,7 +30,7 @@ pub struct Compared {
     pub output: InputInfo,
 }
 
-/// Reads the metadata of the output.
+/// Reads the metadata of the output, of version 3 alone, as which it is stored.
 fn read_output<D: Depot>(
     alloc: Global,
     depot: &mut D,
@@ -46,7 +46,7 @@ fn read_output<D: Depot>(
     let Ok(mut room) = metadata_room(alloc) else {
         return Err(JobFault::NoMemory);
     };
-    read_input(alloc, depot, expr.store_as(), retries, &mut room)
+    read_written(alloc, depot, expr.store_as(), retries, &mut room)
 }
 
 /// Reads the expression of a text, the metadata of its inputs and then of its output, and types it.

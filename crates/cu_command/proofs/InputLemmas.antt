@@ -11,11 +11,11 @@ use Rattle.cu_op.specs.declared.layout.Layout.{Layout}
 use Rattle.cu_store.specs.Held.{Contents, Write, Holds, IsAmong, IsGone}
 use Rattle.cu_store.specs.Steps.{Shown, NoChange, OrLate, IsChangedBy, Lands, Steps}
 use Rattle.cu_store.proofs.Steps.{steps_same, steps_then, steps_wider}
-use Rattle.cu_zarr.specs.Key.{metadata_key_of}
+use Rattle.cu_zarr.specs.Key.{metadata_key_of, zarray_key_of}
 use Rattle.cu_command.proofs.SeenLemmas.{stepped, gone_before}
-use Rattle.cu_command.specs.Inputs.{name_before, used_names, others_once, names_from, names_of, IsReadAt, IsTurn, IsRefusedAt, IsInputFault, HasRead, IsMetadataStatus}
+use Rattle.cu_command.specs.Inputs.{name_before, used_names, others_once, names_from, names_of, AreCalmAt, IsReadAt, IsTurn, IsRefusedAt, IsInputFault, HasRead, IsMetadataStatus}
 use Rattle.cu_command.specs.Job.{status_of}
-use Rattle.cu_command.specs.Stored.{IsArrayLayout, HoldsLayout, HoldsRefused, IsMetadataFault}
+use Rattle.cu_command.specs.Stored.{IsArrayLayout, HoldsSuch, IsMetadata, IsZarrayOf, IsRefusedText, IsRefusedZarray, FindsLayout, FindsRefused, StoresLayout, StoresRefused, HasNoMetadata, IsMetadataAsked, IsMetadataFault, IsFindFault}
 use Rattle.cu_command.specs.declared.status.Status.{Status}
 use Rattle.cu_command.specs.declared.status.Status.TheVariants as status
 use Rattle.cu_command.specs.declared.job.JobFault.{JobFault}
@@ -73,28 +73,50 @@ held_then late a b key (inl same) calm = same
 held_then late a b key (inr (inl none)) calm = absurd none
 held_then late a b key (inr (inr (bytes, is, among))) calm = is ∙ sym (calm bytes among)
 
-layout_then : (late : List Write) (a b : Option Contents) (key : List ℕ) (l : Layout) → Lands (OrLate NoChange late) a b → ((bytes : List ℕ) → IsAmong late key bytes → Holds a key bytes)
-    → HoldsLayout b key l → HoldsLayout a key l
-layout_then late None b key l lands calm holds = tt
-layout_then late (Some a) None key l lands calm holds = absurd lands
-layout_then late (Some a) (Some b) key l lands calm (text, there, says) = (text, sym (held_then late a b key (lands key) calm) ∙ there, says)
+-- what a calm key holds was held there
+pub such_then : (late : List Write) (a b : Option Contents) (key : List ℕ) (fact : List ℕ → Type 0) → Lands (OrLate NoChange late) a b
+    → ((bytes : List ℕ) → IsAmong late key bytes → Holds a key bytes) → HoldsSuch b key fact → HoldsSuch a key fact
+such_then late None b key fact lands calm holds = tt
+such_then late (Some a) None key fact lands calm holds = absurd lands
+such_then late (Some a) (Some b) key fact lands calm (text, there, says) = (text, sym (held_then late a b key (lands key) calm) ∙ there, says)
 
-refused_then : (late : List Write) (a b : Option Contents) (key : List ℕ) (code : ℕ) → Lands (OrLate NoChange late) a b → ((bytes : List ℕ) → IsAmong late key bytes → Holds a key bytes)
-    → HoldsRefused b key code → HoldsRefused a key code
-refused_then late None b key code lands calm holds = tt
-refused_then late (Some a) None key code lands calm holds = absurd lands
-refused_then late (Some a) (Some b) key code lands calm (text, reason, there, says, is_code) = (text, reason, sym (held_then late a b key (lands key) calm) ∙ there, says, is_code)
+module _ {l m : ℕ} (entry now : Shown) (name : List ℕ) (step : Steps NoChange l m entry now) (calm : AreCalmAt entry name) where
+  -- what was found from then on, where both keys are calm, was held then
+  pub layout_then : (layout : Layout) → FindsLayout entry.held now.held name layout → StoresLayout entry.held name layout
+  layout_then layout (inl holds) = inl (such_then entry.late entry.held now.held (metadata_key_of name) (IsMetadata layout) step.lands calm.0 holds)
+  layout_then layout (inr (gone, holds)) = inr (gone, such_then entry.late entry.held now.held (zarray_key_of name) (IsZarrayOf layout) step.lands calm.1 holds)
 
-pub read_at : {l m : ℕ} (entry now : Shown) (i : InputInfo) → Steps NoChange l m entry now → IsArrayLayout i.layout → HoldsLayout now.held (metadata_key_of i.name) i.layout → IsReadAt entry i
-read_at entry now i step layout holds = record {
+  refused_then : (code : ℕ) → FindsRefused entry.held now.held name code → StoresRefused entry.held name code
+  refused_then code (inl holds) = inl (such_then entry.late entry.held now.held (metadata_key_of name) (λ text. IsRefusedText text code) step.lands calm.0 holds)
+  refused_then code (inr (gone, holds)) = inr (gone, such_then entry.late entry.held now.held (zarray_key_of name) (λ text. IsRefusedZarray text code) step.lands calm.1 holds)
+
+-- what was found since a moment was found since an earlier one
+module _ {l m : ℕ} (entry mid now : Shown) (name : List ℕ) (earlier : Steps NoChange l m entry mid) where
+  gone_at_entry : IsGone mid.held (metadata_key_of name) → IsGone entry.held (metadata_key_of name)
+  gone_at_entry gone = gone_before entry mid (metadata_key_of name) (stepped earlier) gone
+
+  finds_layout : (layout : Layout) → FindsLayout mid.held now.held name layout → FindsLayout entry.held now.held name layout
+  finds_layout layout (inl holds) = inl holds
+  finds_layout layout (inr (gone, holds)) = inr (gone_at_entry gone, holds)
+
+  finds_refused : (code : ℕ) → FindsRefused mid.held now.held name code → FindsRefused entry.held now.held name code
+  finds_refused code (inl holds) = inl holds
+  finds_refused code (inr (gone, holds)) = inr (gone_at_entry gone, holds)
+
+  asked_at_entry : (key : List ℕ) → IsMetadataAsked mid.held name key → IsMetadataAsked entry.held name key
+  asked_at_entry key (inl first) = inl first
+  asked_at_entry key (inr (second, gone)) = inr (second, gone_at_entry gone)
+
+read_at : {l m : ℕ} (entry now : Shown) (i : InputInfo) → Steps NoChange l m entry now → IsArrayLayout i.layout → FindsLayout entry.held now.held i.name i.layout → IsReadAt entry i
+read_at entry now i step layout found = record {
   layout = layout;
-  held = λ calm. layout_then entry.late entry.held now.held (metadata_key_of i.name) i.layout step.lands calm holds;
+  held = λ calm. layout_then entry now i.name step calm i.layout found;
 }
 
-refused_at : {l m : ℕ} (entry now : Shown) (key : List ℕ) (code : ℕ) → Steps NoChange l m entry now → HoldsRefused now.held key code → IsRefusedAt entry now key code
-refused_at entry now key code step holds = record {
-  now = holds;
-  entry = λ calm. refused_then entry.late entry.held now.held key code step.lands calm holds;
+refused_at : {l m : ℕ} (entry now : Shown) (name : List ℕ) (code : ℕ) → Steps NoChange l m entry now → FindsRefused entry.held now.held name code → IsRefusedAt entry now name code
+refused_at entry now name code step found = record {
+  now = found;
+  entry = λ calm. refused_then entry now name step calm code found;
 }
 
 -- ---- calls
@@ -120,23 +142,26 @@ pub read_none : {tries : ℕ} {entry : Shown} → HasRead tries entry entry []
 read_none {tries = tries} {entry = entry} = record { read = All-nil (IsReadAt entry); step = no_step (tries * 0) }
 
 pub read_more : {tries : ℕ} (entry mid now : Shown) (old new : List InputInfo) (i : InputInfo) → HasRead tries entry mid old → new ≡ old ++ i ∷ [] → IsArrayLayout i.layout
-    → HoldsLayout now.held (metadata_key_of i.name) i.layout → Steps NoChange 0 tries mid now → HasRead tries entry now new
-read_more {tries = tries} entry mid now old new i so_far pushed layout holds step =
+    → FindsLayout mid.held now.held i.name i.layout → Steps NoChange 0 tries mid now → HasRead tries entry now new
+read_more {tries = tries} entry mid now old new i so_far pushed layout found step =
     let whole : Steps NoChange 0 (tries * (length old + 1)) entry now = step_more (length old) (length old + 1) (omega arith) so_far.step step in
     subst (λ (is : List InputInfo). HasRead tries entry now is) (sym pushed) (record {
-      read = All-push (IsReadAt entry) old i so_far.read (read_at entry now i whole layout holds);
+      read = All-push (IsReadAt entry) old i so_far.read (read_at entry now i whole layout (finds_layout entry mid now i.name so_far.step i.layout found));
       step = rw length-append whole;
     })
 
 -- ---- faults
 
-pub fault_at : {l m : ℕ} (tries : ℕ) (names : List (List ℕ)) (entry mid now : Shown) (name : List ℕ) (fault : JobFault) → IsTurn names entry name → entry.faults ≤ mid.faults
-    → Steps NoChange l m entry now → IsMetadataFault tries mid.faults now.faults now.held name (status_of fault) → IsInputFault tries names entry now fault
-fault_at tries names entry mid now name (DepotFailed key) turn earlier step h = (name, h.0, turn, omega (arith, h.1, earlier))
+-- from `mid` on, no metadata was found for the name, whose turn it was then
+pub fault_at : {l m n k : ℕ} (tries : ℕ) (names : List (List ℕ)) (entry mid now : Shown) (name : List ℕ) (fault : JobFault) → IsTurn names entry name → Steps NoChange l m entry mid
+    → Steps NoChange n k entry now → IsFindFault tries mid now name (status_of fault) → IsInputFault tries names entry now fault
+fault_at tries names entry mid now name (DepotFailed key) turn earlier step h = (name, asked_at_entry entry mid now name earlier key h.0, turn, omega (arith, h.1, earlier.count))
 fault_at tries names entry mid now name (NoArray missing) turn earlier step h =
-    subst (λ (n : List ℕ). IsTurn names entry n × IsGone entry.held (metadata_key_of n)) (sym h.0) (turn, gone_before entry now (metadata_key_of name) (stepped step) h.1)
+    subst (λ (n : List ℕ). IsTurn names entry n × HasNoMetadata entry.held n) (sym h.0)
+    (turn, (gone_before entry mid (metadata_key_of name) (stepped earlier) h.1.0, gone_before entry mid (zarray_key_of name) (stepped earlier) h.1.1))
 fault_at tries names entry mid now name (BadMeta refused code) turn earlier step h =
-    subst (λ (n : List ℕ). IsTurn names entry n × IsRefusedAt entry now (metadata_key_of n) code) (sym h.0) (turn, refused_at entry now (metadata_key_of name) code step h.1)
+    subst (λ (n : List ℕ). IsTurn names entry n × IsRefusedAt entry now n code) (sym h.0)
+    (turn, refused_at entry now name code step (finds_refused entry mid now name earlier code h.1))
 fault_at tries names entry mid now name NoMemory turn earlier step h = tt
 fault_at tries names entry mid now name fault turn earlier step h = absurd h
 
@@ -146,3 +171,10 @@ metadata_status tries before after held name (status.BadMeta refused code) h = t
 metadata_status tries before after held name (status.NoArray missing) h = tt
 metadata_status tries before after held name status.NoMemory h = tt
 metadata_status tries before after held name other h = absurd h
+
+pub find_status : (tries : ℕ) (old new : Shown) (name : List ℕ) (status : Status) → IsFindFault tries old new name status → IsMetadataStatus status
+find_status tries old new name (status.DepotFailed key) h = tt
+find_status tries old new name (status.BadMeta refused code) h = tt
+find_status tries old new name (status.NoArray missing) h = tt
+find_status tries old new name status.NoMemory h = tt
+find_status tries old new name other h = absurd h

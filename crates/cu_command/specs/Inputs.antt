@@ -6,10 +6,10 @@ use Rattle.cu_form.specs.Expression.{Expression}
 use Rattle.cu_form.specs.declared.expr.Node.{Node}
 use Rattle.cu_form.specs.declared.form.Form.{Form}
 use Rattle.cu_store.specs.Faults.{Rose}
-use Rattle.cu_store.specs.Held.{Holds, IsAmong, IsGone}
+use Rattle.cu_store.specs.Held.{Holds, IsAmong}
 use Rattle.cu_store.specs.Steps.{NoChange, Shown, Steps}
-use Rattle.cu_zarr.specs.Key.{metadata_key_of}
-use Rattle.cu_command.specs.Stored.{IsArrayLayout, HoldsLayout, HoldsRefused}
+use Rattle.cu_zarr.specs.Key.{metadata_key_of, zarray_key_of}
+use Rattle.cu_command.specs.Stored.{IsArrayLayout, HoldsLayout, FindsRefused, StoresLayout, StoresRefused, HasNoMetadata, IsMetadataAsked}
 use Rattle.cu_command.specs.declared.job.JobFault.{JobFault}
 use Rattle.cu_command.specs.declared.job.JobFault.TheVariants.{DepotFailed, NoArray, BadMeta, NoMemory}
 use Rattle.cu_command.specs.declared.status.Status.{Status}
@@ -58,8 +58,18 @@ names_of inputs = map (λ i. i.name) inputs
 abbrev pub IsCalmAt : Shown → List ℕ → Type 0
 IsCalmAt shown key = (bytes : List ℕ) → IsAmong shown.late key bytes → Holds shown.held key bytes
 
--- What was read for an input: a layout of a stored array, and, where no other metadata was late, the one that was held at this moment.
+-- the same on both keys of metadata of the array with this name
+abbrev pub AreCalmAt : Shown → List ℕ → Type 0
+AreCalmAt shown name = IsCalmAt shown (metadata_key_of name) × IsCalmAt shown (zarray_key_of name)
+
+-- What was read for an input: a layout of a stored array, and, where no other metadata was late, the one that was held at this moment,
+-- of version 3 or of version 2.
 pub record IsReadAt (entry : Shown) (i : InputInfo) : Type 0 where
+  pub layout : IsArrayLayout i.layout
+  pub held : AreCalmAt entry i.name → StoresLayout entry.held i.name i.layout
+
+-- What was read for an array by its metadata of version 3 alone, in the same way.
+pub record IsWrittenAt (entry : Shown) (i : InputInfo) : Type 0 where
   pub layout : IsArrayLayout i.layout
   pub held : IsCalmAt entry (metadata_key_of i.name) → HoldsLayout entry.held (metadata_key_of i.name) i.layout
 
@@ -70,16 +80,17 @@ pub record IsTurn (names : List (List ℕ)) (entry : Shown) (name : List ℕ) : 
   pub place : names ≡ names_of before ++ name ∷ behind
   pub read : All (IsReadAt entry) before
 
--- the key holds bytes that are refused as metadata with this code, and held such where no other metadata was late
-pub record IsRefusedAt (old new : Shown) (key : List ℕ) (code : ℕ) : Type 0 where
-  pub now : HoldsRefused new.held key code
-  pub entry : IsCalmAt old key → HoldsRefused old.held key code
+-- what is held for this name is refused as metadata with this code, and was at entry where no other metadata was late
+pub record IsRefusedAt (old new : Shown) (name : List ℕ) (code : ℕ) : Type 0 where
+  pub now : FindsRefused old.held new.held name code
+  pub entry : AreCalmAt old name → StoresRefused old.held name code
 
 -- Why reading the metadata of the arrays of these names ends, from what the depot showed at its beginning and shows at its end.
 abbrev pub IsInputFault : ℕ → List (List ℕ) → Shown → Shown → JobFault → Type 0
-IsInputFault tries names entry now (DepotFailed key) = (name : List ℕ) × (key ≡ metadata_key_of name) × IsTurn names entry name × Rose tries entry.faults now.faults
-IsInputFault tries names entry now (NoArray name) = IsTurn names entry name × IsGone entry.held (metadata_key_of name)
-IsInputFault tries names entry now (BadMeta name code) = IsTurn names entry name × IsRefusedAt entry now (metadata_key_of name) code
+IsInputFault tries names entry now (DepotFailed key) =
+    (name : List ℕ) × IsMetadataAsked entry.held name key × IsTurn names entry name × Rose tries entry.faults now.faults
+IsInputFault tries names entry now (NoArray name) = IsTurn names entry name × HasNoMetadata entry.held name
+IsInputFault tries names entry now (BadMeta name code) = IsTurn names entry name × IsRefusedAt entry now name code
 IsInputFault tries names entry now NoMemory = Unit {0}
 IsInputFault tries names entry now fault = ⊥
 

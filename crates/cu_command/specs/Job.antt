@@ -11,9 +11,8 @@ use Rattle.cu_read.specs.declared.faults.ReadFault.{ReadFault}
 use Rattle.cu_store.specs.Faults.{last_count}
 use Rattle.cu_store.specs.Held.{Contents}
 use Rattle.cu_store.specs.Steps.{Shown}
-use Rattle.cu_zarr.specs.Key.{metadata_key_of}
-use Rattle.cu_command.specs.Inputs.{names_in, names_of, IsCalmAt, IsReadAt, IsInputFault}
-use Rattle.cu_command.specs.Stored.{HoldsLayout}
+use Rattle.cu_command.specs.Inputs.{names_in, names_of, AreCalmAt, IsReadAt, IsInputFault}
+use Rattle.cu_command.specs.Stored.{StoresLayout}
 use Rattle.cu_command.specs.declared.job.Job.{Job}
 use Rattle.cu_command.specs.declared.job.JobFault.{JobFault}
 use Rattle.cu_command.specs.declared.job.JobFault.TheVariants as fault
@@ -87,7 +86,7 @@ pub record IsTypable (entry : Shown) (text : List ℕ) : Type 0 where
   pub said : expression_of text ≡ Ok expr
   pub inputs : List InputInfo
   pub names : names_of inputs ≡ names_in expr
-  pub held : All (λ i. HoldsLayout entry.held (metadata_key_of i.name) i.layout) inputs
-  pub calm : All (λ i. IsCalmAt entry (metadata_key_of i.name)) inputs
+  pub held : All (λ i. StoresLayout entry.held i.name i.layout) inputs
+  pub calm : All (λ i. AreCalmAt entry i.name) inputs
   pub types : List NodeInfo
   pub accepted : typed inputs expr ≡ Ok types

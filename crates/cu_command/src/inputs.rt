@@ -7,11 +7,11 @@ ghost use Rattle.cu_store.specs.Steps.{NoChange, Shown, Steps};
 ghost use Rattle.cu_zarr.specs.Key.{metadata_key_of};
 ghost use Rattle.cu_command.specs.Inputs.{name_before, names_in, names_of, names_from, IsReadAt, IsInputFault, HasRead, IsMetadataStatus};
 ghost use Rattle.cu_command.specs.Job.{status_of};
-ghost use Rattle.cu_command.specs.Stored.{IsArrayLayout, HoldsLayout, IsMetadataFault};
+ghost use Rattle.cu_command.specs.Stored.{IsArrayLayout, HoldsLayout, FindsLayout, IsMetadataFault, IsFindFault};
 
 use crate::Status;
 use crate::job::JobFault;
-use crate::stored::{metadata_room, read_layout};
+use crate::stored::{find_layout, metadata_room, read_layout};
 use cu_expr::{Expr, Form, InputInfo};
 use cu_name::{IdText, key_of_name};
 use cu_store::Depot;
@@ -38,9 +38,36 @@ fn metadata_fault(status: Status) -> JobFault
     }
 }
 
-/// Reads the metadata of the array with this name, with at most `retries + 1` calls. `room` has the bytes of the longest text of metadata
-/// and one more.
+/// Reads the metadata of the array with this name, of either version: with at most `retries + 1` calls for each of its two keys.
+/// `room` has the bytes of the longest text of metadata and one more.
 pub fn read_input<D: Depot>(
+    alloc: Global,
+    depot: &mut D,
+    name: &IdText,
+    retries: u32,
+    room: &mut [u8],
+) -> Result<InputInfo, JobFault>
+    requires name { is_name name.now ≡ true }
+    requires room { length room.old ≡ 1048577 }
+    ensures room { length room.new ≡ 1048577 }
+    ensures name { IfOk result (λ i. i.name ≡ name.now) }
+    ensures layout { IfOk result (λ i. IsArrayLayout i.layout) }
+    ensures found { IfOk result (λ i. FindsLayout (D.shown depot.old).held (D.shown depot.new).held name.now i.layout) }
+    ensures step { Steps NoChange 0 (2 * (retries + 1)) (D.shown depot.old) (D.shown depot.new) }
+    ensures cause { IfErr result (λ fault. IsFindFault (retries + 1) (D.shown depot.old) (D.shown depot.new) name.now (status_of fault)) }
+{
+    match find_layout(alloc, depot, &key_of_name(name), retries, room) {
+        Ok(layout) => Ok(InputInfo {
+            name: *name,
+            layout,
+        }),
+        Err(status) => Err(metadata_fault(status)),
+    }
+}
+
+/// Reads the metadata of the array with this name by its metadata of version 3 alone, as an array is stored here, with at most
+/// `retries + 1` calls. `room` has the bytes of the longest text of metadata and one more.
+pub fn read_written<D: Depot>(
     alloc: Global,
     depot: &mut D,
     name: &IdText,
@@ -78,11 +105,11 @@ fn read_next<D: Depot>(
     requires room { length room.old ≡ 1048577 }
     ensures room { length room.new ≡ 1048577 }
     ensures names { OnOk result ((rest : List (List ℕ)) → names_from (names_of inputs.new.items) rest ≡ names_from (names_of inputs.old.items) (name_before form.now rest)) }
-    ensures read { OnOk result ((entry : Shown) → HasRead (retries + 1) entry (D.shown depot.old) inputs.old.items → HasRead (retries + 1) entry (D.shown depot.new) inputs.new.items) }
-    ensures cause { (entry : Shown) (rest : List (List ℕ)) → HasRead (retries + 1) entry (D.shown depot.old) inputs.old.items
+    ensures read { OnOk result ((entry : Shown) → HasRead (2 * (retries + 1)) entry (D.shown depot.old) inputs.old.items → HasRead (2 * (retries + 1)) entry (D.shown depot.new) inputs.new.items) }
+    ensures cause { (entry : Shown) (rest : List (List ℕ)) → HasRead (2 * (retries + 1)) entry (D.shown depot.old) inputs.old.items
         → IfErr result (IsInputFault (retries + 1) (names_from (names_of inputs.old.items) (name_before form.now rest)) entry (D.shown depot.new)) }
-    ensures step { (entry : Shown) (rest : List (List ℕ)) → HasRead (retries + 1) entry (D.shown depot.old) inputs.old.items
-        → OnErr result (Steps NoChange 0 ((retries + 1) * length (names_from (names_of inputs.old.items) (name_before form.now rest))) entry (D.shown depot.new)) }
+    ensures step { (entry : Shown) (rest : List (List ℕ)) → HasRead (2 * (retries + 1)) entry (D.shown depot.old) inputs.old.items
+        → OnErr result (Steps NoChange 0 (2 * (retries + 1) * length (names_from (names_of inputs.old.items) (name_before form.now rest))) entry (D.shown depot.new)) }
 {
     let Form::Input { name } = form else {
         return Ok(());
@@ -110,7 +137,7 @@ pub fn read_inputs<D: Depot>(
 ) -> Result<Vec<InputInfo>, JobFault>
     ensures names { IfOk result (λ inputs. names_of inputs.items ≡ names_in expr.now) }
     ensures read { IfOk result (λ inputs. All (IsReadAt (D.shown depot.old)) inputs.items) }
-    ensures step { Steps NoChange 0 ((retries + 1) * length (names_in expr.now)) (D.shown depot.old) (D.shown depot.new) }
+    ensures step { Steps NoChange 0 (2 * (retries + 1) * length (names_in expr.now)) (D.shown depot.old) (D.shown depot.new) }
     ensures cause { IfErr result (IsInputFault (retries + 1) (names_in expr.now) (D.shown depot.old) (D.shown depot.new)) }
 {
     let Ok(mut room) = metadata_room(alloc) else {

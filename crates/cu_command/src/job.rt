@@ -38,7 +38,7 @@ pub enum JobFault {
     DepotFailed { key: Key },
     /// The metadata of the array with this name is absent.
     NoArray { name: IdText },
-    /// The metadata of the array with this name isn't accepted, for the reason with this code (1 to 10).
+    /// The metadata of the array with this name isn't accepted, for the reason with this code (1 to 10, and 21 to 30 in version 2).
     BadMeta { name: IdText, code: u8 },
     /// The node with this number has no type, for the reason with this code (1 to 9).
     Typing { code: u8, node: u32 },
@@ -98,8 +98,8 @@ pub fn types_in(alloc: Global, expr: &Expr, inputs: &[InputInfo]) -> Result<Type
 
 /// Reads the expression of a text, and then the metadata of the arrays that it uses, and types it. The faults come in this order:
 /// the text's; then, for the names of the input nodes in node order, each name at the first node that uses it, that all tries of
-/// a call for its metadata failed, that the metadata is absent, or that it isn't accepted; and then the types'. Each name's
-/// metadata is read once.
+/// a call for its metadata failed, that the metadata of both versions is absent, or that it isn't accepted; and then the types'.
+/// Each name's metadata is read once, that of version 2 where that of version 3 is absent.
 pub fn read_job<D: Depot>(
     alloc: Global,
     depot: &mut D,
@@ -107,7 +107,7 @@ pub fn read_job<D: Depot>(
     retries: u32,
 ) -> Result<Job, JobFault>
     ensures job { IfOk result (IsJob (D.shown depot.old) text.now) }
-    ensures step { Steps NoChange 0 ((retries + 1) * length (names_said text.now)) (D.shown depot.old) (D.shown depot.new) }
+    ensures step { Steps NoChange 0 (2 * (retries + 1) * length (names_said text.now)) (D.shown depot.old) (D.shown depot.new) }
     ensures cause { IfErr result (IsJobFault (retries + 1) text.now (D.shown depot.old) (D.shown depot.new)) }
     ensures complete { IsTypable (D.shown depot.old) text.now → StoodStill (D.shown depot.old).faults (D.shown depot.new).faults → IfErr result (λ fault. fault ≡ JobFault.NoMemory) }
 {

@@ -12,11 +12,11 @@ mod status;
 mod stored;
 mod streams;
 
-pub use inputs::{read_input, read_inputs};
+pub use inputs::{read_input, read_inputs, read_written};
 pub use job::{Job, JobFault, read_job, said_in, types_in};
 pub use keys::{ask_key, put_value};
 pub use laws::{names_law, stored_law};
 pub use name::name_at;
 pub use status::{LineText, Status, number, push_field, status_line};
-pub use stored::{metadata_room, read_layout, zeros};
+pub use stored::{find_layout, metadata_room, read_layout, zeros};
 pub use streams::{ReadRefused, read_all, write_all};

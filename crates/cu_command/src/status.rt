@@ -37,7 +37,8 @@ pub enum Status {
         which: u8,
         count: u64,
     },
-    /// 7: the metadata of this array isn't accepted, for the reason with this code (1 to 10, in the order of `MetaFault`).
+    /// 7: the metadata of this array isn't accepted, for the reason with this code (1 to 10, in the order of `MetaFault`, and 21 to 30
+    /// in that of `V2Fault`).
     BadMeta {
         name: IdText,
         code: u8,

@@ -1,11 +1,17 @@
 -- Keys that were found absent, and why asking ends.
-use Rattle.std.proofs.Common.{ℕ, ◌≤◌, List, Option, Result, Ok, Err, IfErr, arith}
+use Rattle.std.proofs.Common.{ℕ, ◌≤◌, List, Option, Result, Ok, Err, IfErr, inl, inr, arith}
 use Rattle.std.specs.Prelude.{OnOk}
 use Rattle.cu_store.specs.Faults.{Rose}
-use Rattle.cu_store.specs.Held.{Contents}
+use Rattle.cu_store.specs.Held.{Contents, IsGone}
+use Rattle.cu_store.specs.Steps.{Shown, NoChange}
+use Rattle.cu_name.specs.Keys.{record_key_of}
+use Rattle.cu_zarr.specs.Key.{metadata_key_of, zarray_key_of}
+use Rattle.cu_command.proofs.SeenLemmas.{gone_before}
+use Rattle.cu_command.specs.Seen.{Stepped}
+use Rattle.cu_command.specs.Stored.{HasNoMetadata, IsMetadataAsked}
 use Rattle.cu_command.specs.declared.status.Status.{Status}
 use Rattle.cu_command.specs.declared.status.Status.TheVariants.{Exists, DepotFailed, NoMemory}
-use Rattle.cu_load.specs.Keys.{IsAskFault}
+use Rattle.cu_load.specs.Keys.{IsAskedFor, AreFree, IsAskFault}
 
 module _ {T E : Type 0} where
   pub on_ok : {P Q : Type 0} (r : Result T E) → (P → Q) → OnOk r P → OnOk r Q
@@ -30,3 +36,29 @@ ask_fault_more tries asked other before later after held (Exists key) more earli
 ask_fault_more tries asked other before later after held (DepotFailed key) more earlier fault = (more key fault.0, rose_earlier tries before later after earlier fault.1)
 ask_fault_more tries asked other before later after held NoMemory more earlier fault = tt
 ask_fault_more tries asked other before later after held status more earlier fault = fault
+
+-- the record was absent, and then the metadata is asked for
+module _ (old mid : Shown) (name : List ℕ) (first : Stepped NoChange old mid) (gone : IsGone mid.held (record_key_of name)) where
+  record_absent : IsGone old.held (record_key_of name)
+  record_absent = gone_before old mid (record_key_of name) first gone
+
+  written_absent : IsGone mid.held (metadata_key_of name) → IsGone old.held (metadata_key_of name)
+  written_absent absent = gone_before old mid (metadata_key_of name) first absent
+
+  all_absent : HasNoMetadata mid.held name → AreFree name old.held
+  all_absent none = (record_absent, (written_absent none.0, gone_before old mid (zarray_key_of name) first none.1))
+
+  metadata_asked : (key : List ℕ) → IsMetadataAsked mid.held name key → IsAskedFor name old.held key
+  metadata_asked key (inl written) = inr (inl written, record_absent)
+  metadata_asked key (inr (zarray, absent)) = inr (inr (zarray, written_absent absent), record_absent)
+
+module _ {T : Type 0} where
+  pub all_free : (old mid : Shown) (name : List ℕ) (r : Result T Status) → Stepped NoChange old mid → IsGone mid.held (record_key_of name)
+      → OnOk r (HasNoMetadata mid.held name) → OnOk r (AreFree name old.held)
+  all_free old mid name r first gone free = on_ok r (all_absent old mid name first gone) free
+
+  pub asked_behind : (tries : ℕ) (old mid new : Shown) (name : List ℕ) (r : Result T Status) → old.faults ≤ mid.faults → Stepped NoChange old mid → IsGone mid.held (record_key_of name)
+      → IfErr r (IsAskFault tries (IsMetadataAsked mid.held name) mid.faults new.faults new.held) → IfErr r (IsAskFault tries (IsAskedFor name old.held) old.faults new.faults new.held)
+  asked_behind tries old mid new name r count first gone refused =
+      if_err r (λ status fault. ask_fault_more tries (IsMetadataAsked mid.held name) (IsAskedFor name old.held) old.faults mid.faults new.faults new.held status
+      (metadata_asked old mid name first gone) count fault) refused

@@ -88,7 +88,7 @@ StoresGiven a (Some held) = (held (metadata_key_of a.name) ≡ Some (metadata_te
 abbrev pub IsArrayCalm : GivenArray → List Write → Type 0
 IsArrayCalm a late = (key bytes : List ℕ) → IsAmong late key bytes → IsArrayKey a key → ArrayPut a key (Some bytes)
 
--- Both keys that are asked for were absent, and nothing but the array's values and puts that were late has landed. The metadata is held,
+-- The keys that are asked for were absent, and nothing but the array's values and puts that were late has landed. The metadata is held,
 -- and where the premise holds, the array is stored.
 pub record IsArrayStored (a : GivenArray) (old new : Shown) : Type 0 where
   pub free : AreFree a.name old.held

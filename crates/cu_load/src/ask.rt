@@ -3,10 +3,11 @@ ghost use Rattle.std.specs.Prelude.{◌≡◌, ◌+◌, IfErr, OnOk};
 ghost use Rattle.cu_store.specs.Held.{IsGone};
 ghost use Rattle.cu_store.specs.Steps.{NoChange, Steps};
 ghost use Rattle.cu_command.specs.Seen.{Stepped};
+ghost use Rattle.cu_command.specs.Stored.{HasNoMetadata, IsMetadataAsked};
 ghost use Rattle.cu_name.specs.Name.{IsArrayName};
 ghost use Rattle.cu_load.specs.Keys.{IsAskedFor, AreFree, IsAskFault};
 
-use cu_codec::metadata_key;
+use cu_codec::{metadata_key, zarray_key};
 use cu_command::{Status, ask_key};
 use cu_name::record_key;
 use cu_store::{Depot, Key};
@@ -29,7 +30,22 @@ fn refuse_held<D: Depot>(depot: &mut D, key: &Key, retries: u32) -> Result<(), S
     }
 }
 
-/// Asks for the key of the record of the plan that stores the array with this name, and then for that of its metadata, and
+/// Asks for the two keys of metadata of the array with this name, first that of version 3, and refuses the first that is held.
+fn ask_metadata<D: Depot>(depot: &mut D, name: &Key, retries: u32) -> Result<(), Status>
+    requires { IsArrayName name.now }
+    ensures free { OnOk result (HasNoMetadata (D.shown depot.old).held name.now) }
+    ensures refused { IfErr result (IsAskFault (retries + 1) (IsMetadataAsked (D.shown depot.old).held name.now) (D.shown depot.old).faults (D.shown depot.new).faults (D.shown depot.new).held) }
+    ensures step { Stepped NoChange (D.shown depot.old) (D.shown depot.new) }
+{
+    let metadata = metadata_key(name);
+    if let Err(status) = refuse_held(depot, &metadata, retries) {
+        return Err(status);
+    }
+    let zarray = zarray_key(name);
+    refuse_held(depot, &zarray, retries)
+}
+
+/// Asks for the key of the record of the plan that stores the array with this name, and then for those of its metadata, and
 /// refuses the first that is held.
 pub(crate) fn ask_keys<D: Depot>(depot: &mut D, name: &Key, retries: u32) -> Result<(), Status>
     requires { IsArrayName name.now }
@@ -41,6 +57,5 @@ pub(crate) fn ask_keys<D: Depot>(depot: &mut D, name: &Key, retries: u32) -> Res
     if let Err(status) = refuse_held(depot, &record, retries) {
         return Err(status);
     }
-    let metadata = metadata_key(name);
-    refuse_held(depot, &metadata, retries)
+    ask_metadata(depot, name, retries)
 }

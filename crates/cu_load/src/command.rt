@@ -18,7 +18,7 @@ use std::alloc::Global;
 /// The text is all that the source has left, of at most 1,048,576 bytes. The chunks are stored in row-major order, each
 /// whole, and the metadata last; a call of the depot that fails is tried again, up to `retries` times. The answers are `Done`; `ReadFault` where
 /// the source failed; `BadLoad` where the text says no array, with the code of the reason; `Exists` where the record of a plan
-/// that stores the array, or its metadata, is held already; `DepotFailed` where all calls for a key failed; `WriteFault` where
+/// that stores the array, or metadata of its name, of either version, is held already; `DepotFailed` where all calls for a key failed; `WriteFault` where
 /// the sink failed, with the array stored; and `NoMemory`. On `ReadFault`, `BadLoad` and `Exists` nothing is stored.
 pub fn load<R: Source, W: Sink, D: Depot>(
     alloc: Global,

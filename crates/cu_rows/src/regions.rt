@@ -6,10 +6,11 @@ use crate::bytes::key_of;
 use crate::findings::{Findings, Place};
 use crate::members::{Said, list_of, number_of, refuse_others, text_of};
 use anyhow::{Result, bail};
-use cu_codec::chunk_key;
+use cu_codec::{chunk_key, metadata_key, zarray_key};
 use cu_grid::{Grid, Region};
 use cu_num::{Encoding, Sep};
 use cu_shape::Dims;
+use cu_store::Key;
 use serde_json::Value;
 use std::alloc::Global;
 
@@ -74,20 +75,24 @@ fn is_region(shape: &[u64], lo: &[u64], hi: &[u64]) -> bool
     }
 }
 
-/// Runs rows of an array's name, the encoding of its keys, the separator, a chunk's coordinates and its key.
+/// Runs rows of an array's name, the encoding of its keys, the separator, a chunk's coordinates and its key, or of an array's name, the
+/// file of its metadata and its key.
 pub fn run_keys(alloc: Global, said: &Said<'_>, name: &str, findings: &mut Findings) -> Result<()> {
     refuse_others(said.case, &["name", "rows"])?;
     for (at, row) in said.list("rows")?.iter().enumerate() {
-        let [array, encoding, separator, coord, want] = list_of(row)? else {
-            bail!("a row has a name, an encoding, a separator, coordinates and a key");
+        let (key, want) = match list_of(row)? {
+            [array, file, want] => (metadata_key_said(text_of(array)?, text_of(file)?)?, want),
+            [array, encoding, separator, coord, want] => {
+                let encoding = encoding_of(text_of(encoding)?, text_of(separator)?)?;
+                (
+                    chunk_key_said(alloc, text_of(array)?, encoding, coord)?,
+                    want,
+                )
+            }
+            _ => bail!(
+                "a row has a name, an encoding, a separator, coordinates and a key, or a name, a file and a key"
+            ),
         };
-        let encoding = encoding_of(text_of(encoding)?, text_of(separator)?)?;
-        let array = key_of(text_of(array)?)?;
-        let coord = numbers_of(alloc, coord)?;
-        if array.text().len() > 45 || !are_coordinates(&coord) {
-            bail!("no chunk of an array");
-        }
-        let key = chunk_key(&array, encoding, &dims_of(&coord)?);
         findings.made();
         findings.expect(
             &Place::row(name, at),
@@ -97,6 +102,29 @@ pub fn run_keys(alloc: Global, said: &Said<'_>, name: &str, findings: &mut Findi
         )?;
     }
     Ok(())
+}
+
+/// The key of a chunk of the array with this name.
+fn chunk_key_said(alloc: Global, array: &str, encoding: Encoding, coord: &Value) -> Result<Key> {
+    let array = key_of(array)?;
+    let coord = numbers_of(alloc, coord)?;
+    if array.text().len() > 45 || !are_coordinates(&coord) {
+        bail!("no chunk of an array");
+    }
+    Ok(chunk_key(&array, encoding, &dims_of(&coord)?))
+}
+
+/// The key of this file of metadata of the array with this name.
+fn metadata_key_said(array: &str, file: &str) -> Result<Key> {
+    let array = key_of(array)?;
+    if array.text().len() > 45 {
+        bail!("no name of an array");
+    }
+    match file {
+        "zarr.json" => Ok(metadata_key(&array)),
+        ".zarray" => Ok(zarray_key(&array)),
+        _ => bail!("no file of metadata"),
+    }
 }
 
 /// Whether each coordinate is below 1,048,576.

@@ -28,7 +28,7 @@ use Rattle.cu_top.proofs.RunLemmas.{piece_listed}
 use Rattle.cu_top.specs.Ask.{IsInWay}
 use Rattle.cu_top.specs.Call.{CameToRun, RunTells}
 use Rattle.cu_top.specs.Complete.{IsServable, IsAtRest, IsServed}
-use Rattle.cu_top.specs.Prepare.{is_own_input, keys_of}
+use Rattle.cu_top.specs.Prepare.{is_own_input, asked_keys}
 use Rattle.cu_top.specs.Run.{Scene, RunCase, case, job_run, plan_in, IsQuietEntry, IsStarted, IsSpared, HasNoJob, Ran}
 use Rattle.cu_top.specs.Words.{command_of, run}
 
@@ -82,13 +82,13 @@ module _ (c : RunCase) (entry : Contents) (told : c.old.depot.held ≡ Some entr
   lands_spared spared = subst (λ (h : Option Contents). Lands (OrLate NoChange c.old.depot.late) h c.new.depot.held) told spared.step.lands
 
   module _ (job : Job) (rest : IsAtRest c.options job entry c.old.depot) where
-    late_on_none : (key : List ℕ) → Contains (keys_of c.options job) key → (bytes : List ℕ) → IsAmong c.old.depot.late key bytes → ⊥
-    late_on_none key listed = All-contains (λ (k : List ℕ). (bytes : List ℕ) → IsAmong c.old.depot.late k bytes → ⊥) (keys_of c.options job) key rest.settled listed
+    late_on_none : (key : List ℕ) → Contains (asked_keys c.options job) key → (bytes : List ℕ) → IsAmong c.old.depot.late key bytes → ⊥
+    late_on_none key listed = All-contains (λ (k : List ℕ). (bytes : List ℕ) → IsAmong c.old.depot.late k bytes → ⊥) (asked_keys c.options job) key rest.settled listed
 
-    not_in_way : (key : List ℕ) → IsSpared c → Contains (keys_of c.options job) key → IsInWay job.expr c.new.depot key → ⊥
+    not_in_way : (key : List ℕ) → IsSpared c → Contains (asked_keys c.options job) key → IsInWay job.expr c.new.depot key → ⊥
     not_in_way key spared listed (inl held) =
         key_before c.old.depot.late entry c.new.depot.held key (lands_spared spared) (late_on_none key listed)
-        (All-contains (IsFree entry) (keys_of c.options job) key rest.free listed) (lands_told (OrLate NoChange c.old.depot.late) entry c.new.depot.held (lands_spared spared)) held
+        (All-contains (IsFree entry) (asked_keys c.options job) key rest.free listed) (lands_told (OrLate NoChange c.old.depot.late) entry c.new.depot.held (lands_spared spared)) held
     not_in_way key spared listed (inr (is, own)) = true_or_false (is_own_input job.expr) own rest.own
 
     module _ (started : IsStarted c job) where

@@ -14,4 +14,5 @@ mod RecordLemmas
 mod ReopenLemmas
 mod ResumeServed
 mod RunLemmas
+mod VersionLemmas
 mod WordsExample

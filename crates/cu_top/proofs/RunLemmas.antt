@@ -8,7 +8,7 @@ use Rattle.std.proofs.lemmas.List.Elements.{All-weaker, All-contains, Contains-a
 use Rattle.cu_store.specs.Faults.{last_count, Rose}
 use Rattle.cu_store.specs.Held.{Contents, IsAmong}
 use Rattle.cu_store.specs.Steps.{Shown, NoChange, OrLate, Lands, Steps}
-use Rattle.cu_zarr.specs.Key.{metadata_key_of}
+use Rattle.cu_zarr.specs.Key.{metadata_key_of, zarray_key_of}
 use Rattle.cu_name.specs.Keys.{record_key_of}
 use Rattle.cu_op.specs.declared.cells.Cell.{Cell}
 use Rattle.cu_op.specs.Cells.{tasks_of}
@@ -41,7 +41,7 @@ use Rattle.cu_command.specs.declared.status.Status.{Status}
 use Rattle.cu_command.specs.declared.status.Status.TheVariants.{Done, WriteFault}
 use Rattle.cu_top.specs.Ask.{IsFirstOf, IsAskEnd, answer_of}
 use Rattle.cu_top.specs.Driven.{Driven, HasEnded, IsUnrun, counts_in, outcome_answer, fault_answer, drive_answer}
-use Rattle.cu_top.specs.Prepare.{HasPlan, keys_of}
+use Rattle.cu_top.specs.Prepare.{HasPlan, asked_keys}
 use Rattle.cu_top.specs.Quiet.{IsCalm, IsCalmFor}
 use Rattle.cu_top.specs.Run.{RunCase, job_run, plan_in, env_of, IsAccepted, IsStarted, IsCleared, WhereQuiet, WroteTo, IsCounted, TextPut, Ran, Ended, PrintsOnly}
 use Rattle.cu_top.specs.Report.{report_line}
@@ -81,12 +81,12 @@ first_of old new keys key step first = (first.0, λ held told. first_free old ne
 
 -- asking for the keys ended
 pub ask_refused : (lack : Bool) (c : RunCase) (job : Job) (between : Shown) (f : WayFault) → IsAccepted c job → HasPlan c.options job
-    → Stepped NoChange c.old.depot between → Stepped NoChange between c.new.depot → IsAskEnd (c.options.retries + 1) job.expr (keys_of c.options job) between c.new.depot f → Ran lack c (answer_of f)
+    → Stepped NoChange c.old.depot between → Stepped NoChange between c.new.depot → IsAskEnd (c.options.retries + 1) job.expr (asked_keys c.options job) between c.new.depot f → Ran lack c (answer_of f)
 ask_refused lack c job between (way.Held key) accepted planned first second fault =
-    (stepped_then first second, (job, accepted, (planned, (first_of c.old.depot between (keys_of c.options job) key first fault.0, fault.1, fault.2))))
+    (stepped_then first second, (job, accepted, (planned, (first_of c.old.depot between (asked_keys c.options job) key first fault.0, fault.1, fault.2))))
 ask_refused lack c job between (way.Failed key) accepted planned first second fault = (
   (let earlier = first.step.count in let rose = fault.1 in omega (arith, rose, earlier)),
-  inr (inl (stepped_then first second, (job, accepted, (planned, (first_of c.old.depot between (keys_of c.options job) key first fault.0, fault.2))))),
+  inr (inl (stepped_then first second, (job, accepted, (planned, (first_of c.old.depot between (asked_keys c.options job) key first fault.0, fault.2))))),
 )
 ask_refused lack c job between way.NoMemory accepted planned first second fault = inl (stepped_then first second)
 
@@ -120,13 +120,16 @@ behind x xs key (i, below, e) = (suc i, omega (arith, below), e)
 
 -- the key of a chunk that a task writes
 pub written_key : (c : RunCase) (job : Job) (op task : ℕ) (k : Cell) → op < length (plan_in c job).ops → task < tasks_of (plan_in c job).arrays (op_of (plan_in c job) op)
-    → Contains (written_chunks (plan_in c job).arrays (op_of (plan_in c job) op) task) k → Contains (keys_of c.options job) (key_of (plan_in c job).arrays k)
+    → Contains (written_chunks (plan_in c job).arrays (op_of (plan_in c job) op) task) k → Contains (asked_keys c.options job) (key_of (plan_in c job).arrays k)
 written_key c job op task k first number listed =
-    behind (record_key_of job.expr.store_as) (metadata_key_of job.expr.store_as ∷ plan_keys (plan_in c job) (length (plan_in c job).ops)) (key_of (plan_in c job).arrays k)
-    (behind (metadata_key_of job.expr.store_as) (plan_keys (plan_in c job) (length (plan_in c job).ops)) (key_of (plan_in c job).arrays k) (in_plan (plan_in c job) op task (length (plan_in c job).ops) k first number listed))
+    let chunks = plan_keys (plan_in c job) (length (plan_in c job).ops) in
+    let zarray = zarray_key_of job.expr.store_as in
+    behind (record_key_of job.expr.store_as) (metadata_key_of job.expr.store_as ∷ zarray ∷ chunks) (key_of (plan_in c job).arrays k)
+    (behind (metadata_key_of job.expr.store_as) (zarray ∷ chunks) (key_of (plan_in c job).arrays k)
+    (behind zarray chunks (key_of (plan_in c job).arrays k) (in_plan (plan_in c job) op task (length (plan_in c job).ops) k first number listed)))
 
 -- the key of a piece is one of them
-pub piece_listed : (c : RunCase) (job : Job) (q : Piece) → Sound (plan_in c job) → IsPiece (job_run c job) q → Contains (keys_of c.options job) (piece_key (job_run c job) q)
+pub piece_listed : (c : RunCase) (job : Job) (q : Piece) → Sound (plan_in c job) → IsPiece (job_run c job) q → Contains (asked_keys c.options job) (piece_key (job_run c job) q)
 piece_listed c job (Text zero) sound piece = (zero, omega arith, refl)
 piece_listed c job (Text (suc zero)) sound piece = (suc zero, omega arith, refl)
 piece_listed c job (Text (suc (suc n))) sound piece = absurd (omega arith)
@@ -150,7 +153,7 @@ module _ (c : RunCase) (job : Job) (laws : PlanLaws c job) (start : Shown) (clea
   left_old : WhereQuiet c job (λ env. IsLeft (job_run c job) env c.old.depot)
   left_old entry told calm =
       laws.left (job_run c job) c.old.depot entry laws.sound keys told
-      (λ q piece. All-contains (IsFree entry) (keys_of c.options job) (piece_key (job_run c job) q) (cleared.free entry told) (piece_listed c job q laws.sound piece)) calm
+      (λ q piece. All-contains (IsFree entry) (asked_keys c.options job) (piece_key (job_run c job) q) (cleared.free entry told) (piece_listed c job q laws.sound piece)) calm
 
   -- the store is open for the run, where nothing wrong was late when it began
   pub open_cleared : IsCalm c.options c.text c.old.depot → IsOpen (job_run c job) start
@@ -210,7 +213,7 @@ module _ (c : RunCase) (job : Job) (laws : PlanLaws c job) (start : Shown) (clea
               (
                 is.operation,
                 is.number,
-                λ entry k held listed. All-contains (IsFree entry) (keys_of c.options job) (key_of (plan_in c job).arrays k) (cleared.free entry held) (written_key c job op task k is.operation is.number listed),
+                λ entry k held listed. All-contains (IsFree entry) (asked_keys c.options job) (key_of (plan_in c job).arrays k) (cleared.free entry held) (written_key c job op task k is.operation is.number listed),
                 λ entry held calm. ends.texts (env_of c job entry) (left_start c job laws start cleared.spared entry held calm),
                 (
                   t.history,

@@ -4,7 +4,7 @@ use Rattle.cu_form.specs.Expression.{Expression}
 use Rattle.cu_store.specs.Faults.{Rose}
 use Rattle.cu_store.specs.Held.{Contents}
 use Rattle.cu_store.specs.Steps.{Shown}
-use Rattle.cu_zarr.specs.Key.{metadata_key_of}
+use Rattle.cu_zarr.specs.Key.{metadata_key_of, zarray_key_of}
 use Rattle.cu_name.specs.Keys.{record_key_of}
 use Rattle.cu_work.specs.Order.{IsFirst, IsHeldIn}
 use Rattle.cu_work.specs.declared.way.WayFault.{WayFault}
@@ -17,13 +17,13 @@ use Rattle.cu_top.specs.Prepare.{is_own_input}
 abbrev pub IsFirstOf : Shown → List (List ℕ) → List ℕ → Type 0
 IsFirstOf old keys key = Contains keys key × ((entry : Contents) → old.held ≡ Some entry → IsFirst entry keys key)
 
--- The key is held. The metadata of an output that is also an input counts as held.
+-- The key is held. An output that is also an input has metadata: where that of version 3 isn't held, that of version 2 counts as held.
 abbrev pub IsInWay : Expression → Shown → List ℕ → Type 0
-IsInWay e new key = IsHeldIn new.held key ⊎ ((key ≡ metadata_key_of e.store_as) × (is_own_input e ≡ true))
+IsInWay e new key = IsHeldIn new.held key ⊎ ((key ≡ zarray_key_of e.store_as) × (is_own_input e ≡ true))
 
--- where the output is an input, the key in the way is the record's or its metadata's
+-- where the output is an input, the key in the way is the record's or one of its metadata's
 abbrev pub IsOwnFirst : Expression → List ℕ → Type 0
-IsOwnFirst e key = is_own_input e ≡ true → (key ≡ record_key_of e.store_as) ⊎ (key ≡ metadata_key_of e.store_as)
+IsOwnFirst e key = is_own_input e ≡ true → (key ≡ record_key_of e.store_as) ⊎ ((key ≡ metadata_key_of e.store_as) ⊎ (key ≡ zarray_key_of e.store_as))
 
 -- why asking for the keys of the plan ended
 abbrev pub IsAskEnd : ℕ → Expression → List (List ℕ) → Shown → Shown → WayFault → Type 0

@@ -18,7 +18,7 @@ use Rattle.cu_command.specs.declared.status.Status.{Status}
 use Rattle.cu_command.specs.declared.status.Status.TheVariants.{Done, TaskFailed, ReadFault, WriteFault, BadChunk, DepotFailed, NoMemory}
 use Rattle.cu_lower.specs.declared.options.Options.{Options}
 use Rattle.cu_plan.specs.Refusal.{refusal_of}
-use Rattle.cu_top.specs.Prepare.{job_plan, keys_of, HasNoOwnInput}
+use Rattle.cu_top.specs.Prepare.{job_plan, asked_keys, HasNoOwnInput}
 use Rattle.cu_top.specs.Quiet.{run_of_job}
 use Rattle.cu_top.specs.Record.{record_text}
 use Rattle.cu_top.specs.Words.{command_of, plan, resume, run}
@@ -27,14 +27,15 @@ use Rattle.cu_top.specs.Words.{command_of, plan, resume, run}
 abbrev pub AreWhole : PlanView → Contents → Type 0
 AreWhole p entry = (k : Cell) (bytes : List ℕ) → IsInputChunk p.arrays k → entry (key_of p.arrays k) ≡ Some bytes → length bytes ≡ chunk_room p.arrays k.array
 
--- No live node needs more than is allowed, and the counts keep their limits. The output is no input, and no key of the plan is held. No
--- put is late on a key of the plan, and each that is late on a chunk of an input carries what is held there. Each chunk of an input is
--- absent or whole.
+-- No live node needs more than is allowed, and the counts keep their limits. The output is no input.
+-- No key of the plan is held, nor the output's metadata of version 2. No put is late on one of these
+-- keys, and each that is late on a chunk of an input carries what is held there. Each chunk of an
+-- input is absent or whole.
 pub record IsAtRest (options : Options) (job : Job) (entry : Contents) (old : Shown) : Type 0 where
   pub planned : refusal_of options job.expr job.types ≡ None
   pub own : HasNoOwnInput job.expr
-  pub free : All (IsFree entry) (keys_of options job)
-  pub settled : All (λ key. (bytes : List ℕ) → IsAmong old.late key bytes → ⊥) (keys_of options job)
+  pub free : All (IsFree entry) (asked_keys options job)
+  pub settled : All (λ key. (bytes : List ℕ) → IsAmong old.late key bytes → ⊥) (asked_keys options job)
   pub calm : (key bytes : List ℕ) → IsAmong old.late key bytes → IsInputKey (job_plan options job) key → entry key ≡ Some bytes
   pub whole : AreWhole (job_plan options job) entry
 

@@ -12,4 +12,5 @@ pub mod Record
 pub mod Report
 pub mod Resume
 pub mod Run
+pub mod Versions
 pub mod Words

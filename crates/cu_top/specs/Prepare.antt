@@ -16,7 +16,7 @@ use Rattle.cu_plan.specs.Plan.{merged_plan_of}
 use Rattle.cu_plan.specs.Refusal.{refusal_of}
 use Rattle.cu_plan.specs.declared.fault.PlanFault.{PlanFault}
 use Rattle.cu_plan.specs.declared.fault.PlanFault.TheVariants as fault
-use Rattle.cu_zarr.specs.Key.{metadata_key_of}
+use Rattle.cu_zarr.specs.Key.{metadata_key_of, zarray_key_of}
 use Rattle.cu_zarr.specs.Metadata.{metadata_text}
 use Rattle.cu_work.specs.Order.{plan_keys}
 use Rattle.cu_command.specs.declared.job.Job.{Job}
@@ -29,9 +29,16 @@ use Rattle.cu_command.specs.declared.status.Status.TheVariants.{OverMemory, Over
 abbrev pub job_plan : Options → Job → PlanView
 job_plan options job = merged_plan_of job.expr job.types job.inputs.items options
 
--- the keys of the plan in the order in which they are asked for: its record's, the output's metadata's, and those of its chunks
+-- the keys of the plan: its record's, the output's metadata's, and those of its chunks
 abbrev pub keys_of : Options → Job → List (List ℕ)
 keys_of options job = record_key_of job.expr.store_as ∷ metadata_key_of job.expr.store_as ∷ plan_keys (job_plan options job) (length (job_plan options job).ops)
+
+-- The keys that a run asks for, in this order. Metadata of version 2 of the output, which the plan doesn't store, is among them, so that no
+-- array of version 2 is hidden.
+abbrev pub asked_keys : Options → Job → List (List ℕ)
+asked_keys options job =
+    record_key_of job.expr.store_as ∷ metadata_key_of job.expr.store_as ∷ zarray_key_of job.expr.store_as
+    ∷ plan_keys (job_plan options job) (length (job_plan options job).ops)
 
 -- the layout of the output: the type, shape and chunk shape of the stored node
 abbrev pub out_layout : Job → Layout

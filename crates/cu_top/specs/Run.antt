@@ -42,7 +42,7 @@ use Rattle.cu_command.specs.declared.job.JobFault.TheVariants as fault
 use Rattle.cu_command.specs.declared.status.Status.{Status}
 use Rattle.cu_command.specs.declared.status.Status.TheVariants.{Done, BadExpr, BadType, OverMemory, OverLimit, BadMeta, NoArray, Exists, TaskFailed, WriteFault, BadChunk, DepotFailed, NoMemory}
 use Rattle.cu_top.specs.Ask.{IsFirstOf, IsInWay, IsOwnFirst}
-use Rattle.cu_top.specs.Prepare.{job_plan, keys_of, out_layout, out_metadata, HasPlan, IsUnplanned, HasNoOwnInput, IsLentWithin}
+use Rattle.cu_top.specs.Prepare.{job_plan, asked_keys, out_layout, out_metadata, HasPlan, IsUnplanned, HasNoOwnInput, IsLentWithin}
 use Rattle.cu_top.specs.Record.{record_text}
 use Rattle.cu_top.specs.Quiet.{run_of_job}
 use Rattle.cu_top.specs.Report.{report_line}
@@ -120,7 +120,7 @@ RecordPut c job = PutOf (record_key_of job.expr.store_as) (record_text c.options
 abbrev pub IsRecordHeldFirst : RunCase → Job → Elements → Type 0
 IsRecordHeldFirst c job env = HoldsPiece (job_run c job) env (Text 0) c.new.depot ⊎ Stepped (RecordPut c job) c.old.depot c.new.depot
 
--- It was accepted and has a plan, and its output is no input. No key of the plan was held, nothing but values was put
+-- It was accepted and has a plan, and its output is no input. No key that is asked for was held, nothing but values was put
 -- under these keys, and each of them is absent or holds its one value.
 pub record IsStarted (c : RunCase) (job : Job) : Type 0 where
   pub accepted : IsAccepted c job
@@ -129,7 +129,7 @@ pub record IsStarted (c : RunCase) (job : Job) : Type 0 where
   pub room : IsLentWithin (plan_in c job)
   pub own : HasNoOwnInput job.expr
   pub apart : KeysApart (job_run c job)
-  pub free : (entry : Contents) → c.old.depot.held ≡ Some entry → All (IsFree entry) (keys_of c.options job)
+  pub free : (entry : Contents) → c.old.depot.held ≡ Some entry → All (IsFree entry) (asked_keys c.options job)
   pub step : Stepped (RunChange (job_run c job) c.old.depot) c.old.depot c.new.depot
   pub opens : WhereQuiet c job (λ env. IsLeft (job_run c job) env c.old.depot)
   pub left : WhereLeft c job (λ env. IsLeft (job_run c job) env c.new.depot)
@@ -264,7 +264,7 @@ IsRefused c name code = HasNoJob c (fault.BadMeta name code)
 -- the others were found absent; or the run was started, and the key is that of one of its texts.
 abbrev pub IsDepotFailed : RunCase → List ℕ → Type 0
 IsDepotFailed c key = Rose (c.options.retries + 1) c.old.depot.faults c.new.depot.faults
-    × (HasNoJob c (fault.DepotFailed key) ⊎ ((IsSpared c × OfPlanned c (λ job. IsFirstOf c.old.depot (keys_of c.options job) key × IsOwnFirst job.expr key)) ⊎ Started c (λ job. IsTextFailed c job key)))
+    × (HasNoJob c (fault.DepotFailed key) ⊎ ((IsSpared c × OfPlanned c (λ job. IsFirstOf c.old.depot (asked_keys c.options job) key × IsOwnFirst job.expr key)) ⊎ Started c (λ job. IsTextFailed c job key)))
 
 -- 5 and 6: the job has no plan
 abbrev pub HasNoPlan : RunCase → Status → Type 0
@@ -272,7 +272,7 @@ HasNoPlan c status = IsSpared c × OfJob c (λ job. IsUnplanned c.options job st
 
 -- 9: this key of the plan is the first that is in the way
 abbrev pub IsBlocked : RunCase → List ℕ → Type 0
-IsBlocked c key = IsSpared c × OfPlanned c (λ job. IsFirstOf c.old.depot (keys_of c.options job) key × IsInWay job.expr c.new.depot key × IsOwnFirst job.expr key)
+IsBlocked c key = IsSpared c × OfPlanned c (λ job. IsFirstOf c.old.depot (asked_keys c.options job) key × IsInWay job.expr c.new.depot key × IsOwnFirst job.expr key)
 
 -- 70: nothing was stored; or the run was started, and no chunk was put unless the depot's yards lack memory
 abbrev pub IsWanting : Bool → RunCase → Type 0
@@ -307,13 +307,13 @@ PrintsOnly status old new = new ≡ old
 
 -- ---- what the parts of a run rest on
 
--- The way is free: the job was accepted and has a plan, its output is no input, no key of the plan is held, and nothing
+-- The way is free: the job was accepted and has a plan, its output is no input, no key that is asked for is held, and nothing
 -- was stored so far.
 pub record IsCleared (options : Options) (text : List ℕ) (old start : Shown) (job : Job) : Type 0 where
   pub accepted : IsJob old text job
   pub planned : HasPlan options job
   pub own : HasNoOwnInput job.expr
-  pub free : (entry : Contents) → old.held ≡ Some entry → All (IsFree entry) (keys_of options job)
+  pub free : (entry : Contents) → old.held ≡ Some entry → All (IsFree entry) (asked_keys options job)
   pub spared : Stepped NoChange old start
 
 -- what storing comes to: the counts of a run whose output is complete, or what the run answers

@@ -15,8 +15,10 @@ mod record;
 mod report;
 mod resume;
 mod run;
+mod versions;
 mod words;
 
 pub use call::top;
 pub use cu_command::{LineText, Status, number, status_line};
 pub use laws::list_law;
+pub use versions::versions_law;

@@ -21,7 +21,7 @@ returns-in-Err-clause-step g c =
     let all : names_in c.args.expr.now ≡ names_from (names_of c.loop-node.inputs.items) (name_before c.node-item.result.form rest) =
     ap (λ (ns : List Node). names_from [] (used_names ns)) (sym c.nodes-node-items.ensures.nodes)
     ∙ next_names (names_from [] (used_names nodes)) nodes c.loop-node.node-index c.node-item.result c.loop-node.inputs.items c.loop-node-test.true c.node-item.is c.loop-node.invariant.whole in
-    subst (λ (names : List (List ℕ)). Steps NoChange 0 ((c.args.retries + 1) * length names) (g.D.Depot.shown c.args.depot.now) (g.D.Depot.shown c.read_next.new.depot)) (sym all)
+    subst (λ (names : List (List ℕ)). Steps NoChange 0 (2 * (c.args.retries + 1) * length names) (g.D.Depot.shown c.args.depot.now) (g.D.Depot.shown c.read_next.new.depot)) (sym all)
     (c.in-Err.ensures.step (g.D.Depot.shown c.args.depot.now) rest c.loop-node.invariant.read)
 
 pub returns-in-Err-clause-cause : goal.returns-in-Err-clause-cause

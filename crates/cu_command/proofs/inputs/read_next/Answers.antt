@@ -1,7 +1,6 @@
 use Rattle.std.proofs.Common.{◌≡◌, ℕ, ◌+◌, ◌*◌, List, ◌∷◌, length, true, false, sym, subst, arith}
 use Rattle.cu_store.specs.Steps.{NoChange, Steps}
-use Rattle.cu_zarr.specs.Key.{metadata_key_of}
-use Rattle.cu_command.specs.Stored.{HoldsLayout}
+use Rattle.cu_command.specs.Stored.{FindsLayout}
 use Rattle.cu_command.specs.Inputs.{names_of, names_from, IsInputFault}
 use Rattle.cu_command.proofs.InputLemmas.{was_named, of_form, seen_name, pushed_name, turn_of, step_more, count_of, read_more, fault_at}
 use Rattle.cu_command.proofs.inputs.read_next.Goals as goal
@@ -17,17 +16,17 @@ returns-in-Err-clause-cause g c entry rest so_far =
     let old = c.args.inputs.now.items in
     let name = c.in-Input.name in
     let fresh = was_named name old c.deref.result.now c.has_name.result false c.deref.ensures.value c.has_name.ensures c.if-has_name.false in
-    let step : Steps NoChange 0 ((c.args.retries + 1) * (length old + 1)) entry (g.D.Depot.shown c.read_input.new.depot) = step_more (length old) (length old + 1) (omega arith) so_far.step c.read_input.ensures.step in
+    let step : Steps NoChange 0 (2 * (c.args.retries + 1) * (length old + 1)) entry (g.D.Depot.shown c.read_input.new.depot) = step_more (length old) (length old + 1) (omega arith) so_far.step c.read_input.ensures.step in
     of_form (λ names. IsInputFault (c.args.retries + 1) (names_from (names_of old) names) entry (g.D.Depot.shown c.read_input.new.depot) c.in-Err.fault) c.args.form.now name rest c.in-Input.is
     (fault_at (c.args.retries + 1) (names_from (names_of old) (name ∷ rest)) entry (g.D.Depot.shown c.args.depot.now) (g.D.Depot.shown c.read_input.new.depot) name c.in-Err.fault
-    (turn_of entry old name rest so_far.read fresh) so_far.step.count step c.in-Err.ensures.cause)
+    (turn_of entry old name rest so_far.read fresh) so_far.step step c.in-Err.ensures.cause)
 
 pub returns-in-Err-clause-step : goal.returns-in-Err-clause-step
 returns-in-Err-clause-step g c entry rest so_far =
     let old = c.args.inputs.now.items in
     let name = c.in-Input.name in
     let fresh = was_named name old c.deref.result.now c.has_name.result false c.deref.ensures.value c.has_name.ensures c.if-has_name.false in
-    of_form (λ names. Steps NoChange 0 ((c.args.retries + 1) * length (names_from (names_of old) names)) entry (g.D.Depot.shown c.read_input.new.depot)) c.args.form.now name rest c.in-Input.is
+    of_form (λ names. Steps NoChange 0 (2 * (c.args.retries + 1) * length (names_from (names_of old) names)) entry (g.D.Depot.shown c.read_input.new.depot)) c.args.form.now name rest c.in-Input.is
     (step_more (length old) (length (names_from (names_of old) (name ∷ rest))) (count_of old name rest fresh) so_far.step c.read_input.ensures.step)
 
 pub returns-in-Err-push-clause-step : goal.returns-in-Err-push-clause-step
@@ -35,7 +34,7 @@ returns-in-Err-push-clause-step g c entry rest so_far =
     let old = c.args.inputs.now.items in
     let name = c.in-Input.name in
     let fresh = was_named name old c.deref.result.now c.has_name.result false c.deref.ensures.value c.has_name.ensures c.if-has_name.false in
-    of_form (λ names. Steps NoChange 0 ((c.args.retries + 1) * length (names_from (names_of old) names)) entry (g.D.Depot.shown c.read_input.new.depot)) c.args.form.now name rest c.in-Input.is
+    of_form (λ names. Steps NoChange 0 (2 * (c.args.retries + 1) * length (names_from (names_of old) names)) entry (g.D.Depot.shown c.read_input.new.depot)) c.args.form.now name rest c.in-Input.is
     (step_more (length old) (length (names_from (names_of old) (name ∷ rest))) (count_of old name rest fresh) so_far.step c.read_input.ensures.step)
 
 pub returns-in-Ok-push-clause-names : goal.returns-in-Ok-push-clause-names
@@ -48,6 +47,6 @@ returns-in-Ok-push-clause-names g c rest =
 
 pub returns-in-Ok-push-clause-read : goal.returns-in-Ok-push-clause-read
 returns-in-Ok-push-clause-read g c entry so_far =
-    let holds = subst (λ (n : List ℕ). HoldsLayout (g.D.Depot.shown c.read_input.new.depot).held (metadata_key_of n) c.in-Ok.input.layout) (sym c.in-Ok.ensures.name) c.in-Ok.ensures.found in
+    let holds = subst (λ (n : List ℕ). FindsLayout (g.D.Depot.shown c.args.depot.now).held (g.D.Depot.shown c.read_input.new.depot).held n c.in-Ok.input.layout) (sym c.in-Ok.ensures.name) c.in-Ok.ensures.found in
     read_more entry (g.D.Depot.shown c.args.depot.now) (g.D.Depot.shown c.read_input.new.depot) c.args.inputs.now.items c.push.new.self.items c.in-Ok.input so_far c.in-Ok-push.ensures.items
     c.in-Ok.ensures.layout holds c.read_input.ensures.step

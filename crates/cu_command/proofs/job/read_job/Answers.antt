@@ -13,7 +13,7 @@ pub returns-in-Err-clause-cause : goal.returns-in-Err-clause-cause
 returns-in-Err-clause-cause g c = unread g c
 
 pub returns-in-Err-clause-step : goal.returns-in-Err-clause-step
-returns-in-Err-clause-step g c = no_step ((c.args.retries + 1) * length (names_said c.args.text.now))
+returns-in-Err-clause-step g c = no_step (2 * (c.args.retries + 1) * length (names_said c.args.text.now))
 
 pub returns-in-Err-clause-complete : goal.returns-in-Err-clause-complete
 returns-in-Err-clause-complete g c typable still =
@@ -29,7 +29,7 @@ returns-in-Err-read_inputs-clause-cause g c = unheld g c
 
 pub returns-in-Err-read_inputs-clause-step : goal.returns-in-Err-read_inputs-clause-step
 returns-in-Err-read_inputs-clause-step g c =
-    said_step (c.args.retries + 1) c.args.text.now c.in-Ok.said.expr (g.D.Depot.shown c.args.depot.now) (g.D.Depot.shown c.read_inputs.new.depot) c.in-Ok.ensures.said c.read_inputs.ensures.step
+    said_step (2 * (c.args.retries + 1)) c.args.text.now c.in-Ok.said.expr (g.D.Depot.shown c.args.depot.now) (g.D.Depot.shown c.read_inputs.new.depot) c.in-Ok.ensures.said c.read_inputs.ensures.step
 
 pub returns-in-Err-read_inputs-clause-complete : goal.returns-in-Err-read_inputs-clause-complete
 returns-in-Err-read_inputs-clause-complete g c typable still =
@@ -46,7 +46,7 @@ returns-in-Err-types_in-clause-cause g c = untyped g c
 
 pub returns-in-Err-types_in-clause-step : goal.returns-in-Err-types_in-clause-step
 returns-in-Err-types_in-clause-step g c =
-    said_step (c.args.retries + 1) c.args.text.now c.in-Ok.said.expr (g.D.Depot.shown c.args.depot.now) (g.D.Depot.shown c.read_inputs.new.depot) c.in-Ok.ensures.said c.read_inputs.ensures.step
+    said_step (2 * (c.args.retries + 1)) c.args.text.now c.in-Ok.said.expr (g.D.Depot.shown c.args.depot.now) (g.D.Depot.shown c.read_inputs.new.depot) c.in-Ok.ensures.said c.read_inputs.ensures.step
 
 pub returns-in-Err-types_in-clause-complete : goal.returns-in-Err-types_in-clause-complete
 returns-in-Err-types_in-clause-complete g c typable still =
@@ -66,4 +66,4 @@ returns-clause-job g c = record {
 
 pub returns-clause-step : goal.returns-clause-step
 returns-clause-step g c =
-    said_step (c.args.retries + 1) c.args.text.now c.in-Ok.said.expr (g.D.Depot.shown c.args.depot.now) (g.D.Depot.shown c.read_inputs.new.depot) c.in-Ok.ensures.said c.read_inputs.ensures.step
+    said_step (2 * (c.args.retries + 1)) c.args.text.now c.in-Ok.said.expr (g.D.Depot.shown c.args.depot.now) (g.D.Depot.shown c.read_inputs.new.depot) c.in-Ok.ensures.said c.read_inputs.ensures.step

@@ -1,28 +1,22 @@
-use Rattle.std.proofs.Common.{◌∙◌, inr, subst, List, ℕ}
+use Rattle.std.proofs.Common.{subst, List, ℕ}
 use Rattle.cu_store.specs.Held.{IsGone}
-use Rattle.cu_name.specs.Keys.{record_key_of}
-use Rattle.cu_zarr.specs.Key.{metadata_key_of}
-use Rattle.cu_command.proofs.SeenLemmas.{stepped, stepped_then, gone_before}
-use Rattle.cu_load.proofs.AskLemmas.{on_ok, if_err, ask_fault_more}
+use Rattle.cu_command.proofs.SeenLemmas.{stepped, stepped_then}
+use Rattle.cu_load.proofs.AskLemmas.{all_free, asked_behind}
 use Rattle.cu_load.proofs.ask.ask_keys.Goals as goal
 
 pub returns-clause-free : goal.returns-clause-free
 returns-clause-free g c =
-    let both = stepped_then (stepped c.refuse_held.ensures.step) (stepped c.refuse_held-2.ensures.step) in
-    on_ok c.refuse_held-2.result (λ gone. (
-      gone_before (g.D.Depot.shown c.args.depot.now) (g.D.Depot.shown c.refuse_held.new.depot) (record_key_of c.args.name.now) (stepped c.refuse_held.ensures.step) (subst (λ (k : List ℕ). IsGone (g.D.Depot.shown c.refuse_held.new.depot).held k) c.record_key-record.ensures c.in_default.ensures.gone),
-      gone_before (g.D.Depot.shown c.args.depot.now) (g.D.Depot.shown c.refuse_held-2.new.depot) (metadata_key_of c.args.name.now) both (subst (λ (k : List ℕ). IsGone (g.D.Depot.shown c.refuse_held-2.new.depot).held k) c.metadata_key-metadata.ensures gone),
-    )) c.refuse_held-2.ensures.gone
+    all_free (g.D.Depot.shown c.args.depot.now) (g.D.Depot.shown c.refuse_held.new.depot) c.args.name.now c.ask_metadata.result (stepped c.refuse_held.ensures.step)
+    (subst (λ (k : List ℕ). IsGone (g.D.Depot.shown c.refuse_held.new.depot).held k) c.record_key-record.ensures c.in_default.ensures.gone) c.ask_metadata.ensures.free
 
 pub returns-clause-refused : goal.returns-clause-refused
 returns-clause-refused g c =
-    let record_gone : IsGone (g.D.Depot.shown c.args.depot.now).held (record_key_of c.args.name.now) =
-    gone_before (g.D.Depot.shown c.args.depot.now) (g.D.Depot.shown c.refuse_held.new.depot) (record_key_of c.args.name.now) (stepped c.refuse_held.ensures.step) (subst (λ (k : List ℕ). IsGone (g.D.Depot.shown c.refuse_held.new.depot).held k) c.record_key-record.ensures c.in_default.ensures.gone) in
-    if_err c.refuse_held-2.result (λ status fault.
-    ask_fault_more _ _ _ _ _ _ _ status (λ key same. inr (same ∙ c.metadata_key-metadata.ensures, record_gone)) c.refuse_held.ensures.step.count fault) c.refuse_held-2.ensures.refused
+    asked_behind _ (g.D.Depot.shown c.args.depot.now) (g.D.Depot.shown c.refuse_held.new.depot) (g.D.Depot.shown c.ask_metadata.new.depot) c.args.name.now c.ask_metadata.result
+    c.refuse_held.ensures.step.count (stepped c.refuse_held.ensures.step)
+    (subst (λ (k : List ℕ). IsGone (g.D.Depot.shown c.refuse_held.new.depot).held k) c.record_key-record.ensures c.in_default.ensures.gone) c.ask_metadata.ensures.refused
 
 pub returns-clause-step : goal.returns-clause-step
-returns-clause-step g c = stepped_then (stepped c.refuse_held.ensures.step) (stepped c.refuse_held-2.ensures.step)
+returns-clause-step g c = stepped_then (stepped c.refuse_held.ensures.step) c.ask_metadata.ensures.step
 
 pub returns-in-Err-clause-step : goal.returns-in-Err-clause-step
 returns-in-Err-clause-step g c = stepped c.refuse_held.ensures.step

@@ -1,17 +1,18 @@
 use Rattle.std.proofs.Common.{◌+◌, ◌∷◌, ◌∙◌, length, ap, sym}
 use Rattle.cu_name.specs.Keys.{record_key_of}
-use Rattle.cu_zarr.specs.Key.{metadata_key_of}
+use Rattle.cu_zarr.specs.Key.{metadata_key_of, zarray_key_of}
 use Rattle.cu_command.proofs.SeenLemmas.{stepped}
 use Rattle.cu_op.specs.PlanView.{PlanView}
 use Rattle.cu_work.specs.Order.{plan_keys}
 use Rattle.cu_top.proofs.AskLemmas.{plan_asked}
-use Rattle.cu_top.specs.Prepare.{keys_of}
+use Rattle.cu_top.specs.Prepare.{asked_keys}
 use Rattle.cu_top.proofs.ask.ask_plan.Goals as goal
 
 pub returns-clause-refused : goal.returns-clause-refused
 returns-clause-refused g c = λ options same.
-    plan_asked (c.args.retries + 1) c.args.job.now.expr _ (keys_of options c.args.job.now) (g.D.Depot.shown c.args.depot.now) (g.D.Depot.shown c.ask_keys.new.depot) c.ask_keys.result
-    (rw (c.text_keys-keys.ensures.record, c.text_keys-keys.ensures.metadata) (ap (λ (p : PlanView). record_key_of c.args.job.now.expr.store_as ∷ metadata_key_of c.args.job.now.expr.store_as ∷ plan_keys p (length p.ops)) same)) c.ask_keys.ensures
+    plan_asked (c.args.retries + 1) c.args.job.now.expr _ (asked_keys options c.args.job.now) (g.D.Depot.shown c.args.depot.now) (g.D.Depot.shown c.ask_keys.new.depot) c.ask_keys.result
+    (rw (c.text_keys-keys.ensures.record, c.text_keys-keys.ensures.metadata, c.zarray_of-zarray.ensures)
+    (ap (λ (p : PlanView). record_key_of c.args.job.now.expr.store_as ∷ metadata_key_of c.args.job.now.expr.store_as ∷ zarray_key_of c.args.job.now.expr.store_as ∷ plan_keys p (length p.ops)) same)) c.ask_keys.ensures
     (sym c.is_own_input.ensures ∙ c.if-is_own_input.false)
 
 pub returns-then-is_own_input-clause-step : goal.returns-then-is_own_input-clause-step

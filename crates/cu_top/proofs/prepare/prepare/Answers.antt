@@ -3,7 +3,7 @@ use Rattle.cu_command.specs.declared.status.Status.{Status}
 use Rattle.cu_command.proofs.SeenLemmas.{stepped_then}
 use Rattle.cu_top.proofs.PlannedLemmas.{refused_ran}
 use Rattle.cu_top.proofs.RunLemmas.{ask_refused, all_free}
-use Rattle.cu_top.specs.Prepare.{keys_of}
+use Rattle.cu_top.specs.Prepare.{asked_keys}
 use Rattle.cu_top.specs.Run.{scene, case, Ran}
 use Rattle.cu_top.proofs.prepare.prepare.Goals as goal
 
@@ -18,7 +18,7 @@ returns-in-Ok-ask_plan-clause-cleared g c = record {
   planned = c.in-Ok.ensures.planned;
   own = c.in-Ok-ask_plan.ensures.apart;
   free = λ entry told.
-      all_free (g.D.Depot.shown c.args.depot.now) (g.D.Depot.shown c.plan_job.new.depot) c.plan_job.ensures.step entry told (keys_of c.args.options.now c.in-Ok.prepared.job)
+      all_free (g.D.Depot.shown c.args.depot.now) (g.D.Depot.shown c.plan_job.new.depot) c.plan_job.ensures.step entry told (asked_keys c.args.options.now c.in-Ok.prepared.job)
       (λ now is. c.in-Ok-ask_plan.ensures.free c.args.options.now now c.in-Ok.ensures.plan is);
   spared = stepped_then c.plan_job.ensures.step c.ask_plan.ensures.step;
 }

@@ -1,0 +1,21 @@
+use Rattle.std.proofs.Common.{ℕ, ◌+◌, List, take, subst}
+use Rattle.cu_command.specs.Stored.{HoldsFront}
+use Rattle.cu_command.proofs.StoredLemmas.{are_zarray_inputs, are_held_zarray, are_refused_zarray}
+use Rattle.cu_command.proofs.stored.read_layout_of_v2.Goals as goal
+
+pub returns-in-Ok-clause-input : goal.returns-in-Ok-clause-input
+returns-in-Ok-clause-input g c = are_zarray_inputs _ c.zarray_in.result c.zarray_in.ensures.ok
+
+pub returns-in-Ok-clause-found : goal.returns-in-Ok-clause-found
+returns-in-Ok-clause-found g c =
+    let held = (g.D.Depot.shown c.read_text.new.depot).held in
+    are_held_zarray held _ _ c.zarray_in.result
+    (subst (λ (k : List ℕ). HoldsFront held k (take c.in-Ok.len c.read_text.new.buf)) c.zarray_key.ensures c.in-Ok.ensures.found)
+    c.zarray_in.ensures.ok
+
+pub returns-in-Ok-clause-cause : goal.returns-in-Ok-clause-cause
+returns-in-Ok-clause-cause g c =
+    let new = g.D.Depot.shown c.read_text.new.depot in
+    are_refused_zarray (c.args.retries + 1) (g.D.Depot.shown c.args.depot.now) new c.args.name.now _ c.zarray_in.result
+    (subst (λ (k : List ℕ). HoldsFront new.held k (take c.in-Ok.len c.read_text.new.buf)) c.zarray_key.ensures c.in-Ok.ensures.found)
+    c.zarray_in.ensures.refused
