@@ -13,12 +13,12 @@ import sys
 
 # Each option: the least and the most number, the number where it isn't given, and the commands that take it.
 OPTIONS = {
-    "allowed-mem": (0, 2**40, 200_000_000, ("plan", "run", "resume", "drop")),
-    "reserved-mem": (0, 2**40, 0, ("plan", "run", "resume", "drop")),
-    "split-every": (2, 64, 4, ("plan", "run", "resume", "drop")),
-    "workers": (1, 64, 1, ("run", "resume")),
-    "retries": (0, 8, 2, ("run", "resume", "drop", "load", "check", "print")),
-    "backups": (0, 1, 0, ("run", "resume")),
+    "allowed-mem": (0, 2**40, 200_000_000, ("plan", "run", "resume", "drop", "demo")),
+    "reserved-mem": (0, 2**40, 0, ("plan", "run", "resume", "drop", "demo")),
+    "split-every": (2, 64, 4, ("plan", "run", "resume", "drop", "demo")),
+    "workers": (1, 64, 1, ("run", "resume", "demo")),
+    "retries": (0, 8, 2, ("run", "resume", "drop", "load", "check", "print", "demo")),
+    "backups": (0, 1, 0, ("run", "resume", "demo")),
 }
 ACCEPTED = {
     "run": "error 3 code=1 node=0",
@@ -65,16 +65,29 @@ def is_accepted(command, given):
 
 def answer(words):
     """Returns the line of the answer to these words."""
-    if not words or words[0] not in (*ACCEPTED, "print"):
+    if not words or words[0] not in (*ACCEPTED, "print", "demo"):
         return "error 2 code=1"
     found = parts(words[1:])
     if found is None or not is_accepted(words[0], found[0]):
         return "error 2 code=2"
-    if len(found[1]) != (words[0] == "print"):
+    if len(found[1]) != (words[0] in ("print", "demo")):
         return "error 2 code=2"
+    if words[0] == "demo":
+        return demo_answer(found)
     if words[0] != "print":
         return ACCEPTED[words[0]]
     return f"error 8 name={found[1][0]}" if NAME.match(found[1][0]) else "error 2 code=3"
+
+
+def demo_answer(found):
+    """The answer of a demonstration, of which more is set aside than is allowed."""
+    given, (size,) = found
+    if not NUMBER.match(size) or not 1 <= int(size) <= 2048:
+        return "error 2 code=2"
+    told = {name: int(value) for name, value in given}
+    allowed, reserved = (told.get(name, OPTIONS[name][2]) for name in ("allowed-mem", "reserved-mem"))
+    assert reserved > allowed, "this case would run"
+    return f"error 5 node=0 need={reserved} allowed={allowed}"
 
 
 def both(name, value):
@@ -84,7 +97,7 @@ def both(name, value):
 
 def commands():
     yield "no command, and words that are none", [
-        [], [""], ["fly"], ["Run"], ["run "], ["--"], ["-"], ["--retries", "2", "run"], ["demo", "4"],
+        [], [""], ["fly"], ["Run"], ["run "], ["--"], ["-"], ["--retries", "2", "run"], ["demos", "4"],
         ["help"], ["--help"], ["-h"], ["--version"], ["ru"], ["run\n"], ["läuft"]]
     yield "commands alone, and with help and version", [
         [command, *more] for command in (*ACCEPTED, "print")
@@ -150,8 +163,21 @@ def positionals():
             ["y", "--allowed-mem", "2"], ["y", "--retries", "2", "--retries=2"], ["--retries", "2", "--retries", "y"], [])]
 
 
+def demonstrations():
+    much = "--reserved-mem=1099511627776"
+    yield "sizes of a demonstration", [
+        ["demo", size, much] for size in ("1", "2", "4", "64", "65", "2047", "2048", "+4", "004", "0", "2049", "-1", "", " 4", "4.0", "0x4", "18446744073709551616", "-", "x")]
+    yield "a size before and behind options and their end", [
+        ["demo", *words] for words in ([much, "4"], ["4", much], [much, "--", "4"], ["4", much, "--"], [much], ["4", "4", much], ["--", "4", much], ["4", much, "--", "4"], ["4", much, much])]
+    yield "the options of a demonstration", [
+        ["demo", "4", *([] if name == "reserved-mem" else [much]), *form]
+        for name, (least, most, _, takers) in OPTIONS.items() if "demo" in takers
+        for value in dict.fromkeys((*([] if name == "reserved-mem" else [least]), *([] if name == "allowed-mem" else [most]), most + 1))
+        for form in both(name, str(value))]
+
+
 def main(over_folder):
-    cases = [*commands(), *ends(), *numbers(), *forms(), *positionals()]
+    cases = [*commands(), *ends(), *numbers(), *forms(), *positionals(), *demonstrations()]
     members = "steps" if over_folder else "rows"
     lines = []
     for name, rows in cases:

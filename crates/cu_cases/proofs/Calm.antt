@@ -7,6 +7,8 @@ use Rattle.cu_command.specs.declared.job.Job.{Job}
 use Rattle.cu_lower.specs.declared.options.Options.{Options}
 use Rattle.cu_state.specs.Left.{IsQuiet}
 use Rattle.cu_state.specs.Pieces.{PlanRun}
+use Rattle.cu_store.specs.Held.{IsAmong}
+use Rattle.cu_top.specs.Demo.{IsDemoCalm, WhereTold}
 use Rattle.cu_top.specs.Held.{IsLeftBy, IsLeftEntry}
 use Rattle.cu_top.specs.Prepare.{HasNoOwnInput}
 use Rattle.cu_top.specs.Quiet.{IsCalmFor, IsCalm, run_of_job}
@@ -17,7 +19,7 @@ use Rattle.cu_words.specs.Words.{GivenLine, line_after, line_given, line_in, lin
 use Rattle.cu_words.specs.declared.line.Numbers.{Numbers}
 use Rattle.cu_words.specs.declared.options.CommandName.{CommandName}
 use Rattle.cu_words.specs.declared.options.CommandName.TheVariants as name
-use Rattle.cu_top.specs.Words.{Command, command_by, command_of, command_with, options_among, print, print_of, resume}
+use Rattle.cu_top.specs.Words.{Command, command_by, command_of, command_with, options_among, print, print_of, demo_of, demo_sized, resume}
 use Rattle.cu_cases.specs.Late.{GoesOnNowhere, MayCall, is_resume}
 
 calm_run : (r : PlanRun) (words : List (List ℕ)) (held : Option Contents) (late : List Write) → MayCall words held late → IsCalmFor r held late
@@ -37,26 +39,43 @@ left_run r own words options shown (Some held) (none, nowhere) asks = absurd (no
 pub may_resume : (words : List (List ℕ)) (options : Options) (text : List ℕ) (shown : Shown) → MayCall words shown.held shown.late → command_of words ≡ Ok (resume options) → IsLeftEntry options text shown
 may_resume words options text shown may asks = λ job is planned. left_run (run_of_job options job) (HasNoOwnInput job.expr) words options shown shown.held may asks
 
+calm_demo : (words : List (List ℕ)) (options : Options) (n : ℕ) (shown : Shown) (held : Option Contents) → MayCall words held shown.late → WhereTold held (IsDemoCalm options n shown)
+calm_demo words options n shown None may = tt
+calm_demo words options n shown (Some held) (none, nowhere) = record {
+  inputs = (λ key bytes among is. absurd (nothing key bytes among), λ key bytes among is. absurd (nothing key bytes among));
+  plan = λ later job stores is planned. record {
+    pieces = λ q bytes piece among. absurd (nothing _ bytes among);
+    inputs = λ c bytes input among. absurd (nothing _ bytes among);
+  };
+}
+  where
+    nothing : (key bytes : List ℕ) → IsAmong shown.late key bytes → ⊥
+    nothing key bytes among = subst (λ (l : List Write). IsAmong l key bytes) none among
+
+pub may_demo : (words : List (List ℕ)) (options : Options) (n : ℕ) (shown : Shown) → MayCall words shown.held shown.late → WhereTold shown.held (IsDemoCalm options n shown)
+may_demo words options n shown may = calm_demo words options n shown shown.held may
+
 -- ---- words of another command
 
 abbrev IsLineOf : CommandName → Result GivenLine ℕ → Type 0
 IsLineOf command (Ok l) = l.command ≡ command
 IsLineOf command (Err code) = Unit {0}
 
-is_run_on : (a b c d e f h : Bool) → (if a then Some name.Run else if b then Some name.Resume else if c then Some name.Drop else if d then Some name.Plan else if e then Some name.Load
-    else if f then Some name.Check else if h then Some name.Print else None) ≡ Some name.Resume → b ≡ true
-is_run_on true b c d e f h is = cc
-is_run_on false true c d e f h is = refl
-is_run_on false false true d e f h is = cc
-is_run_on false false false true e f h is = cc
-is_run_on false false false false true f h is = cc
-is_run_on false false false false false true h is = cc
-is_run_on false false false false false false true is = cc
-is_run_on false false false false false false false is = cc
+is_run_on : (a b c d e f h i : Bool) → (if a then Some name.Run else if b then Some name.Resume else if c then Some name.Drop else if d then Some name.Plan else if e then Some name.Load
+    else if f then Some name.Check else if h then Some name.Print else if i then Some name.Demo else None) ≡ Some name.Resume → b ≡ true
+is_run_on true b c d e f h i is = cc
+is_run_on false true c d e f h i is = refl
+is_run_on false false true d e f h i is = cc
+is_run_on false false false true e f h i is = cc
+is_run_on false false false false true f h i is = cc
+is_run_on false false false false false true h i is = cc
+is_run_on false false false false false false true i is = cc
+is_run_on false false false false false false false true is = cc
+is_run_on false false false false false false false false is = cc
 
 named_only : (word : List ℕ) → command_named word ≡ Some name.Resume → bytes_eq word (codes "resume") ≡ true
 named_only word is = is_run_on (bytes_eq word (codes "run")) (bytes_eq word (codes "resume")) (bytes_eq word (codes "drop")) (bytes_eq word (codes "plan")) (bytes_eq word (codes "load")) (bytes_eq word (codes "check"))
-    (bytes_eq word (codes "print")) is
+    (bytes_eq word (codes "print")) (bytes_eq word (codes "demo")) is
 
 print_never : (words : List (List ℕ)) (retries : ℕ) (options : Options) → print_of words retries ≡ Ok (resume options) → ⊥
 print_never [] retries options is = cc
@@ -67,6 +86,15 @@ print_never (word ∷ []) retries options is = at (is_name word) is
     at false e = cc
 print_never (word ∷ more ∷ rest) retries options is = cc
 
+demo_never : (words : List (List ℕ)) (o options : Options) → demo_of words o ≡ Ok (resume options) → ⊥
+demo_never [] o options is = cc
+demo_never (word ∷ []) o options is = at (demo_size word) is
+  where
+    at : (size : Option ℕ) → demo_sized size o ≡ Ok (resume options) → ⊥
+    at (Some size) e = cc
+    at None e = cc
+demo_never (word ∷ more ∷ rest) o options is = cc
+
 with_only : (command : CommandName) (o options : Options) (words : List (List ℕ)) → command_with command o words ≡ Ok (resume options) → command ≡ name.Resume
 with_only name.Run o options words is = cc
 with_only name.Resume o options words is = refl
@@ -75,6 +103,7 @@ with_only name.Plan o options words is = cc
 with_only name.Load o options words is = cc
 with_only name.Check o options words is = cc
 with_only name.Print o options words is = absurd (print_never words o.retries options is)
+with_only name.Demo o options words is = absurd (demo_never words o options is)
 
 by_only : (command : CommandName) (line : Result GivenLine ℕ) (options : Options) → IsLineOf command line → command_by line ≡ Ok (resume options) → command ≡ name.Resume
 by_only command (Ok l) options of is = sym of ∙ with_only l.command (options_among l.numbers) options l.positionals is

@@ -208,7 +208,7 @@ impl<'a> Case<'a> {
     }
 
     /// Makes the call.
-    #[tactic(auto, using(crate::proofs::Calm::may_run, crate::proofs::Calm::may_resume))]
+    #[tactic(auto, using(crate::proofs::Calm::may_run, crate::proofs::Calm::may_resume, crate::proofs::Calm::may_demo))]
     fn ask<D: Share>(
         &self,
         threads: &(impl Threads + Wait + Sync),

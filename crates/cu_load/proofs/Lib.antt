@@ -1,6 +1,6 @@
-mod AskLemmas
+pub mod AskLemmas
 mod ChunkLemmas
 mod LoadExample
 mod LoadLemmas
-mod StoreLemmas
-mod CommandLemmas
+pub mod StoreLemmas
+pub mod CommandLemmas

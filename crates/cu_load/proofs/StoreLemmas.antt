@@ -68,7 +68,7 @@ one_value a key v w ok (inr (k, below, (bytes, value, put))) (inl there) = absur
 one_value a key v w ok (inr (j, small_j, (x, value_j, put_j))) (inr (k, small_k, (y, value_k, put_k))) =
     put_j.1 ∙ chunk_value_once a j k x y (same_chunk_number a j k ok small_j small_k (sym put_j.0 ∙ put_k.0)) value_j value_k ∙ sym put_k.1
 
-array_put_key : (a : GivenArray) (key : List ℕ) (value : Option (List ℕ)) → ArrayPut a key value → IsArrayKey a key
+pub array_put_key : (a : GivenArray) (key : List ℕ) (value : Option (List ℕ)) → ArrayPut a key value → IsArrayKey a key
 array_put_key a key value (inl here) = inl here.0
 array_put_key a key value (inr (k, below, (bytes, is, put))) = inr (k, below, put.0)
 

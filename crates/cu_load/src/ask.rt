@@ -47,7 +47,7 @@ fn ask_metadata<D: Depot>(depot: &mut D, name: &Key, retries: u32) -> Result<(),
 
 /// Asks for the key of the record of the plan that stores the array with this name, and then for those of its metadata, and
 /// refuses the first that is held.
-pub(crate) fn ask_keys<D: Depot>(depot: &mut D, name: &Key, retries: u32) -> Result<(), Status>
+pub fn ask_keys<D: Depot>(depot: &mut D, name: &Key, retries: u32) -> Result<(), Status>
     requires { IsArrayName name.now }
     ensures free { OnOk result (AreFree name.now (D.shown depot.old).held) }
     ensures refused { IfErr result (IsAskFault (retries + 1) (IsAskedFor name.now (D.shown depot.old).held) (D.shown depot.old).faults (D.shown depot.new).faults (D.shown depot.new).held) }

@@ -9,4 +9,8 @@ mod report;
 mod room;
 mod store;
 
+pub use ask::ask_keys;
 pub use command::load;
+pub use load_form::LoadForm;
+pub use room::{Room, take_room};
+pub use store::store_array;

@@ -56,15 +56,15 @@ struct Head {
     layout: Layout,
 }
 
-/// An array that is given by a text.
+/// An array that is given by a text, or else made to be stored.
 #[derive(Drop)]
-pub(crate) struct LoadForm {
+pub struct LoadForm {
     /// The name under which the array is stored.
-    pub(crate) name: IdText,
+    pub name: IdText,
     /// How it is stored: keys as `c/0`, the lower bytes first, and fill value 0.
-    pub(crate) layout: Layout,
+    pub layout: Layout,
     /// Its elements in row-major order.
-    pub(crate) elements: Vec<i128>,
+    pub elements: Vec<i128>,
 }
 
 /// Why a text gave no array.

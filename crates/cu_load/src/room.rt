@@ -15,13 +15,13 @@ use std::alloc::Global;
 
 /// The bytes that storing an array takes.
 #[derive(Drop)]
-pub(crate) struct Room {
+pub struct Room {
     /// Those of the elements.
-    pub(crate) input: Vec<u8>,
+    pub input: Vec<u8>,
     /// Those of the metadata.
-    pub(crate) metadata: Vec<u8>,
+    pub metadata: Vec<u8>,
     /// The room of a chunk.
-    pub(crate) chunk: Vec<u8>,
+    pub chunk: Vec<u8>,
 }
 
 /// The bytes of a chunk.
@@ -35,7 +35,8 @@ fn chunk_bytes(form: &LoadForm) -> usize
     }
 }
 
-pub(crate) fn take_room(alloc: Global, form: &LoadForm) -> Result<Room, NoMemory>
+/// Takes the memory that storing this array takes.
+pub fn take_room(alloc: Global, form: &LoadForm) -> Result<Room, NoMemory>
     requires { IsGivenArray (given_by form.now) }
     ensures input { IfOk result (λ room. HasBytes form.now.layout.dtype form.now.elements.items room.input.items) }
     ensures metadata { IfOk result (λ room. room.metadata.items ≡ metadata_text (given_by form.now).layout) }

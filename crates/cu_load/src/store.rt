@@ -67,8 +67,9 @@ fn store_chunks<D: Depot>(
     Ok(())
 }
 
-/// Stores the array: its chunks in order, and then its metadata, which is given as its text.
-pub(crate) fn store_array<D: Depot>(
+/// Stores the array: its chunks in order, and then its metadata, which is given as its text. A call of the depot that fails is tried
+/// again, up to `retries` times. Where all calls for a key failed, the answer names it, and only the chunks up to that one were stored.
+pub fn store_array<D: Depot>(
     depot: &mut D,
     form: &LoadForm,
     input: &[u8],

@@ -2,6 +2,13 @@ mod AskLemmas
 mod CallLemmas
 mod CheckLemmas
 mod Completeness
+mod DemoFound
+mod DemoInputs
+mod DemoKeys
+mod DemoLemmas
+mod DemoRead
+mod DemoStores
+mod DemoWay
 mod DriveLemmas
 mod DropLemmas
 mod HeldLemmas

@@ -1,5 +1,5 @@
 -- A run: what clears its way, what it keeps once it is started, and how it ends.
-use Rattle.std.proofs.Common.{◌≡◌, ◌⊎◌, inl, inr, ℕ, zero, suc, ◌+◌, ◌<◌, ◌≤◌, List, [], ◌∷◌, length, map, All, Contains, Option, Some, None, Result, Ok, Err, refl, sym, ap, ◌∙◌, subst, arith}
+use Rattle.std.proofs.Common.{◌≡◌, ◌⊎◌, inl, inr, ℕ, zero, suc, ◌+◌, ◌<◌, ◌≤◌, List, [], ◌∷◌, length, map, All, Contains, Option, Some, None, Result, Ok, Err, IfErr, refl, sym, ap, ◌∙◌, subst, arith}
 use Rattle.std.specs.Prelude.{Bool, false}
 use Rattle.std.proofs.Common.{replicate}
 use Rattle.std.proofs.lemmas.List.{get_or-replicate, length-replicate}
@@ -43,7 +43,7 @@ use Rattle.cu_top.specs.Ask.{IsFirstOf, IsAskEnd, answer_of}
 use Rattle.cu_top.specs.Driven.{Driven, HasEnded, IsUnrun, counts_in, outcome_answer, fault_answer, drive_answer}
 use Rattle.cu_top.specs.Prepare.{HasPlan, asked_keys}
 use Rattle.cu_top.specs.Quiet.{IsCalm, IsCalmFor}
-use Rattle.cu_top.specs.Run.{RunCase, job_run, plan_in, env_of, IsAccepted, IsStarted, IsCleared, WhereQuiet, WroteTo, IsCounted, TextPut, Ran, Ended, PrintsOnly}
+use Rattle.cu_top.specs.Run.{RunCase, job_run, plan_in, env_of, IsAccepted, IsStarted, IsCleared, WhereQuiet, WroteTo, IsCounted, IsStop, TextPut, Ran, Ended, PrintsOnly}
 use Rattle.cu_top.specs.Report.{report_line}
 use Rattle.cu_top.specs.declared.report.RunCounts.{RunCounts}
 use Rattle.cu_top.proofs.DriveLemmas.{HistoryLaws, PlanLaws, apart_run, open_start, left_start, rose_since, started_case, run_step, left_end, stored}
@@ -291,3 +291,16 @@ pub prints_nothing : (status : Status) (written : Option (List ℕ)) → PrintsO
 prints_nothing Done written = tt
 prints_nothing WriteFault written = tt
 prints_nothing status written = refl
+
+-- a run that was started and isn't complete ends by one of four answers
+pub stopped_of : (key : List ℕ) (result : Result RunEnd RunFault) → IfErr (drive_answer key result) IsStop
+stopped_of key (Ok e) = by_outcome e.outcome (counts_in e.table.history)
+  where
+    by_outcome : (o : Outcome) (counts : RunCounts) → IfErr (outcome_answer o counts) IsStop
+    by_outcome ended.Complete counts = tt
+    by_outcome (ended.Broken op task) counts = tt
+    by_outcome (ended.BadChunk key got want) counts = tt
+    by_outcome ended.Lacked counts = tt
+stopped_of key (Err (text.TextFailed other)) = tt
+stopped_of key (Err text.ShareFailed) = tt
+stopped_of key (Err text.NoMemory) = tt

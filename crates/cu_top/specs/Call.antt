@@ -1,5 +1,5 @@
 -- What the call answers to the command `run`, from the text on. This project's own rules.
-use Rattle.std.specs.Prelude.{◌≡◌, ◌⊎◌, Bool, ℕ, List, true, Result, Ok, Err}
+use Rattle.std.specs.Prelude.{◌≡◌, ◌≤◌, ◌⊎◌, Bool, ℕ, List, true, Result, Ok, Err}
 use Rattle.cu_name.specs.Name.{is_name}
 use Rattle.cu_words.specs.declared.line.LineFault.{LineFault}
 use Rattle.cu_words.specs.declared.line.LineFault.TheVariants.{Refused, NoMemory as Wanting}
@@ -12,7 +12,7 @@ use Rattle.cu_command.specs.declared.status.Status.{Status}
 use Rattle.cu_command.specs.declared.status.Status.TheVariants.{BadWords, BadExpr, ReadFault, NoMemory}
 use Rattle.cu_lower.specs.declared.options.Options.{Options}
 use Rattle.cu_top.specs.Run.{Scene, RunCase, case, IsWanting, Ran}
-use Rattle.cu_top.specs.Words.{Command, IsInRange, run, resume, drop, load, check, print, plan}
+use Rattle.cu_top.specs.Words.{Command, IsInRange, run, resume, drop, load, check, print, plan, demo}
 use Rattle.cu_top.specs.declared.words.Asked.{Asked}
 use Rattle.cu_top.specs.declared.words.Asked.TheVariants as asked
 use Rattle.cu_top.specs.declared.words.Reading.{Reading}
@@ -27,6 +27,7 @@ command_view (asked.Plan options) = plan options
 command_view (asked.Load retries) = load retries
 command_view (asked.Check retries) = check retries
 command_view (asked.Print name retries) = print name retries
+command_view (asked.Demo size options) = demo size options
 
 -- the words were read, they are refused with this code, or memory was wanted
 abbrev pub IsAsked : Result Command ℕ → Result Asked LineFault → Type 0
@@ -34,13 +35,14 @@ IsAsked command (Ok a) = command ≡ Ok (command_view a)
 IsAsked command (Err (Refused code)) = command ≡ Err code
 IsAsked command (Err Wanting) = Unit {0}
 
--- options are in their ranges, and a name is one
+-- options are in their ranges, a name is one, and a size is one of a demonstration
 abbrev pub IsSound : Asked → Type 0
 IsSound (asked.Run options) = IsInRange options
 IsSound (asked.Resume options) = IsInRange options
 IsSound (asked.Drop options) = IsInRange options
 IsSound (asked.Plan options) = IsInRange options
 IsSound (asked.Print name retries) = is_name name ≡ true
+IsSound (asked.Demo size options) = IsInRange options × (1 ≤ size) × (size ≤ 2048)
 IsSound a = Unit {0}
 
 -- what came of reading words that ask for this command

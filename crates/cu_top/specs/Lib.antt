@@ -1,6 +1,7 @@
 pub mod Ask
 pub mod Call
 pub mod Complete
+pub mod Demo
 pub mod Driven
 pub mod Drop
 pub mod Held

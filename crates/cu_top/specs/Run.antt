@@ -320,3 +320,11 @@ pub record IsCleared (options : Options) (text : List ℕ) (old start : Shown) (
 abbrev pub Ended : Bool → RunCase → Job → Result RunCounts Status → Type 0
 Ended lack c job (Ok n) = IsStarted c job × HoldsAll c job × IsCounted c job n
 Ended lack c job (Err status) = Ran lack c status
+
+-- the answers of a run that was started and isn't complete
+abbrev pub IsStop : Status → Type 0
+IsStop (TaskFailed op task) = Unit {0}
+IsStop (BadChunk key got want) = Unit {0}
+IsStop (DepotFailed key) = Unit {0}
+IsStop NoMemory = Unit {0}
+IsStop status = ⊥

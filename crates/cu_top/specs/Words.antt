@@ -3,11 +3,12 @@ use Rattle.std.specs.Prelude.{◌≡◌, ◌≤◌, ◌==◌, ℕ, List, [], ◌
 use Rattle.cu_name.specs.Name.{is_name}
 use Rattle.cu_lower.specs.Parts.{AreOptions}
 use Rattle.cu_lower.specs.declared.options.Options.{Options}
-use Rattle.cu_words.specs.Words.{GivenLine, line_given}
+use Rattle.std.specs.Prelude.{Option, Some, None}
+use Rattle.cu_words.specs.Words.{GivenLine, demo_size, line_given}
 use Rattle.cu_words.specs.declared.line.Numbers.{Numbers}
 use Rattle.cu_words.specs.declared.options.CommandName.{CommandName}
 use Rattle.cu_words.specs.declared.options.CommandName.TheVariants.{Run, Resume, Drop, Plan, Print}
-use Rattle.cu_words.specs.declared.options.CommandName.TheVariants.{Load, Check}
+use Rattle.cu_words.specs.declared.options.CommandName.TheVariants.{Demo, Load, Check}
 
 -- each option is in its range, those that plans go by too
 pub record IsInRange (o : Options) : Type 0 where
@@ -28,8 +29,8 @@ options_among n = record {
 }
 
 -- what the words ask for: a run, a run that goes on, the removal of a plan's keys, what a plan does,
--- a text that gives an array, the comparison of a stored output, or the print of an array with this
--- name
+-- a text that gives an array, the comparison of a stored output, the print of an array with this
+-- name, or the demonstration of this size
 pub data Command : Type 0 where
   run : Options → Command
   resume : Options → Command
@@ -38,11 +39,21 @@ pub data Command : Type 0 where
   load : ℕ → Command
   check : ℕ → Command
   print : List ℕ → ℕ → Command
+  demo : ℕ → Options → Command
 
 -- the print of the array that the positional names. Code 3: it is no name.
 abbrev pub print_of : List (List ℕ) → ℕ → Result Command ℕ
 print_of (word ∷ []) retries = if is_name word then Ok (print word retries) else Err 3
 print_of words retries = Err 2
+
+-- the demonstration whose size the positional gives
+abbrev pub demo_sized : Option ℕ → Options → Result Command ℕ
+demo_sized (Some size) options = Ok (demo size options)
+demo_sized None options = Err 2
+
+abbrev pub demo_of : List (List ℕ) → Options → Result Command ℕ
+demo_of (word ∷ []) options = demo_sized (demo_size word) options
+demo_of words options = Err 2
 
 -- the command with these options and positionals
 abbrev pub command_with : CommandName → Options → List (List ℕ) → Result Command ℕ
@@ -53,12 +64,13 @@ command_with Plan options words = Ok (plan options)
 command_with Load options words = Ok (load options.retries)
 command_with Check options words = Ok (check options.retries)
 command_with Print options words = print_of words options.retries
+command_with Demo options words = demo_of words options
 
 abbrev pub command_by : Result GivenLine ℕ → Result Command ℕ
 command_by (Ok line) = command_with line.command (options_among line.numbers) line.positionals
 command_by (Err code) = Err code
 
 -- What the words ask for. Code 1: the command is missing or unknown. Code 2: its options are wrong,
--- or its count of positionals. Code 3: a name is none.
+-- its size, or its count of positionals. Code 3: a name is none.
 unfoldable pub command_of : List (List ℕ) → Result Command ℕ
 command_of words = command_by (line_given words)

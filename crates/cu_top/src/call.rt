@@ -16,12 +16,14 @@ ghost use Rattle.cu_top.specs.Complete.{HasWholeInputs, IsPlannable, IsResumable
 ghost use Rattle.cu_top.specs.Planned.{IsPrinted, PlanTells};
 ghost use Rattle.cu_top.specs.Quiet.{IsCalm};
 ghost use Rattle.cu_top.specs.Run.{scene, IsDone, IsUnreported, IsTaskFailed, IsBadInput, IsDepotFailed, HasNoPlan, IsBlocked, IsMissing, IsRefused, IsBadExpr, IsBadType, PrintsOnly};
+ghost use Rattle.cu_top.specs.Demo.{DemoTells, IsDemoCalm, IsDemoDone, WhereTold, demo_case};
 ghost use Rattle.cu_top.specs.Drop.{DropTells};
 ghost use Rattle.cu_top.specs.Held.{IsLeftEntry};
 ghost use Rattle.cu_top.specs.Resume.{ResumeTells};
-ghost use Rattle.cu_top.specs.Words.{run, resume, drop, plan, load, check, print, command_of};
+ghost use Rattle.cu_top.specs.Words.{run, resume, drop, plan, load, check, print, demo, command_of};
 ghost use Rattle.cu_top.specs.Words.{IsInRange};
 
+use crate::demo::demo;
 use crate::drop::drop_plan;
 use crate::planned::print_plan;
 use crate::resume::resume;
@@ -40,7 +42,8 @@ use std::thread::Threads;
 
 /// Carries out the command that the words give. `run` reads an expression from the source, stores the array that it makes in the depot,
 /// and writes the report to the sink. `resume` goes on with a run that was stopped, and `drop` removes all keys of a plan. `plan` reads an expression and writes what its plan does; it stores nothing. `load` reads an array from the source and stores it. `check` reads an expression from the source and
-/// compares its stored output with what it means. `print` writes a stored array to the sink.
+/// compares its stored output with what it means. `print` writes a stored array to the sink. `demo` stores two inputs that it makes,
+/// computes an expression over them, and writes its one element and the report.
 pub fn top<H: Threads + Wait + Sync, R: Source, W: Sink, D: Share, G: Gate>(
     rt: &H,
     alloc: Global,
@@ -51,9 +54,11 @@ pub fn top<H: Threads + Wait + Sync, R: Source, W: Sink, D: Share, G: Gate>(
     gate: &G,
 ) -> Status
     // Where the depot tells its contents, no put that is late when a run begins carries another value of its plan, or another content of an
-    // input.
+    // input; for a demonstration, whose inputs are made, another value of an input.
     requires quiet { (options : Options) (text : List ℕ) (next : Option (List ℕ)) → command_of (map string_bytes words.now) ≡ Ok (run options)
         → ReadsAll (R.left src.old) next text → IsCalm options text (D.shown depot.old) }
+    requires demo_quiet { (size : ℕ) (options : Options) → command_of (map string_bytes words.now) ≡ Ok (demo size options)
+        → WhereTold (D.shown depot.old).held (IsDemoCalm options size (D.shown depot.old)) }
     // Where the depot tells its contents and the record of the plan is held, or a put of it is late, when a run goes on, the
     // contents are what the plan left.
     requires left { (options : Options) (text : List ℕ) (next : Option (List ℕ))
@@ -156,6 +161,12 @@ pub fn top<H: Threads + Wait + Sync, R: Source, W: Sink, D: Share, G: Gate>(
         (λ text. IsFoundEqual text (seen (stream (W.written out.old) (W.faults out.old)) (D.shown depot.old)) (seen (stream (W.written out.new) (W.faults out.new)) (D.shown depot.new))) }
     ensures unequal { (retries place : ℕ) (stored plain : ℤ) → command_of (map string_bytes words.now) ≡ Ok (check retries) → result ≡ Status.Unequal place stored plain
         → ReadsText (stream (R.left src.old) (R.faults src.old)) (stream (R.left src.new) (R.faults src.new)) (λ text. IsUnequal text (D.shown depot.old) place stored plain) }
+    // What `demo` answers: all of it, and of 0 alone. It reads nothing of the source.
+    ensures demos { (size : ℕ) (options : Options) → command_of (map string_bytes words.now) ≡ Ok (demo size options) → DemoTells (D.yards_lack depot.new)
+        (demo_case options size (seen (stream (W.written out.old) (W.faults out.old)) (D.shown depot.old)) (seen (stream (W.written out.new) (W.faults out.new)) (D.shown depot.new))) result }
+    ensures demo_kept { (size : ℕ) (options : Options) → command_of (map string_bytes words.now) ≡ Ok (demo size options) → R.left src.new ≡ R.left src.old }
+    ensures demonstrated { (size : ℕ) (options : Options) → command_of (map string_bytes words.now) ≡ Ok (demo size options) → result ≡ Status.Done
+        → IsDemoDone (demo_case options size (seen (stream (W.written out.old) (W.faults out.old)) (D.shown depot.old)) (seen (stream (W.written out.new) (W.faults out.new)) (D.shown depot.new))) }
 {
     carry(rt, alloc, words, src, out, depot, gate)
 }
@@ -172,6 +183,8 @@ fn carry<H: Threads + Wait + Sync, R: Source, W: Sink, D: Share, G: Gate>(
 ) -> Status
     requires quiet { (options : Options) (text : List ℕ) (next : Option (List ℕ)) → command_of (map string_bytes words.now) ≡ Ok (run options)
         → ReadsAll (R.left src.old) next text → IsCalm options text (D.shown depot.old) }
+    requires demo_quiet { (size : ℕ) (options : Options) → command_of (map string_bytes words.now) ≡ Ok (demo size options)
+        → WhereTold (D.shown depot.old).held (IsDemoCalm options size (D.shown depot.old)) }
     requires left { (options : Options) (text : List ℕ) (next : Option (List ℕ))
         → command_of (map string_bytes words.now) ≡ Ok (resume options) → ReadsAll (R.left src.old) next text → IsLeftEntry options text (D.shown depot.old) }
     ensures unknown { command_of (map string_bytes words.now) ≡ Err 1 → result ≡ Status.BadWords 1 }
@@ -196,6 +209,9 @@ fn carry<H: Threads + Wait + Sync, R: Source, W: Sink, D: Share, G: Gate>(
         → Printed retries name (seen (stream (W.written out.old) (W.faults out.old)) (D.shown depot.old)) (seen (stream (W.written out.new) (W.faults out.new)) (D.shown depot.new)) result }
     ensures checks { (retries : ℕ) → command_of (map string_bytes words.now) ≡ Ok (check retries) → Checked retries (stream (R.left src.old) (R.faults src.old)) (stream (R.left src.new) (R.faults src.new))
         (seen (stream (W.written out.old) (W.faults out.old)) (D.shown depot.old)) (seen (stream (W.written out.new) (W.faults out.new)) (D.shown depot.new)) result }
+    ensures demos { (size : ℕ) (options : Options) → command_of (map string_bytes words.now) ≡ Ok (demo size options) → DemoTells (D.yards_lack depot.new)
+        (demo_case options size (seen (stream (W.written out.old) (W.faults out.old)) (D.shown depot.old)) (seen (stream (W.written out.new) (W.faults out.new)) (D.shown depot.new))) result }
+    ensures demo_kept { (size : ℕ) (options : Options) → command_of (map string_bytes words.now) ≡ Ok (demo size options) → R.left src.new ≡ R.left src.old }
 {
     let asked = match read_words(alloc, words) {
         Reading::Asked(asked) => asked,
@@ -210,6 +226,7 @@ fn carry<H: Threads + Wait + Sync, R: Source, W: Sink, D: Share, G: Gate>(
         Asked::Load { retries } => load(alloc, *retries, src, out, depot),
         Asked::Check { retries } => check(alloc, *retries, src, out, depot),
         Asked::Print { name, retries } => { print(alloc, *retries, &key_of_name(name), out, depot) }
+        Asked::Demo { size, options } => demo(rt, alloc, options, *size, out, depot, gate),
     }
 }
 

@@ -5,6 +5,7 @@
 
 mod ask;
 mod call;
+mod demo;
 mod drive;
 mod drop;
 mod held;

@@ -25,7 +25,7 @@ pub struct Prepared {
 }
 
 /// What a command answers where the plan was refused.
-fn unplanned_status(fault: PlanFault) -> Status
+pub fn unplanned_status(fault: PlanFault) -> Status
     ensures { result ≡ unplanned_status fault }
 {
     match fault {

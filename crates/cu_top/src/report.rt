@@ -32,7 +32,7 @@ pub fn counts_of(history: &[Entry]) -> RunCounts
 
 /// The line that reports a run of the plan whose tasks were started and failed so often.
 #[tactic(auto, unfolding(crate::specs::Report::report_line))]
-fn report_text(plan: &Plan, counts: &RunCounts) -> LineText
+pub fn report_text(plan: &Plan, counts: &RunCounts) -> LineText
     ensures { result.bytes ≡ report_line plan.now counts.now }
 {
     let mut line = LineText::new();

@@ -1,11 +1,11 @@
 //! A run: what is stored, once the job was accepted and nothing is in the way.
-ghost use Rattle.std.specs.Prelude.{◌≡◌, ℕ, List};
+ghost use Rattle.std.specs.Prelude.{◌≡◌, ℕ, List, IfErr};
 ghost use Rattle.cu_store.specs.Steps.{Shown};
 ghost use Rattle.cu_command.specs.Seen.{Stream, stream};
 ghost use Rattle.cu_top.specs.Driven.{IsReady};
 ghost use Rattle.cu_top.specs.Prepare.{HasPlan};
 ghost use Rattle.cu_top.specs.Quiet.{IsCalm};
-ghost use Rattle.cu_top.specs.Run.{scene, case, Ran, PrintsOnly, IsCleared, Ended};
+ghost use Rattle.cu_top.specs.Run.{scene, case, Ran, PrintsOnly, IsCleared, IsStop, Ended};
 ghost use Rattle.cu_top.specs.Words.{IsInRange};
 
 use crate::drive::{Ready, drive_plan, make_ready, run_options};
@@ -25,7 +25,7 @@ use std::thread::Threads;
 
 /// Takes the memory of the tasks, and stores what the plan makes. Says how often tasks were started and
 /// failed.
-fn store_plan<H: Threads + Wait + Sync, D: Share, G: Gate>(
+pub fn store_plan<H: Threads + Wait + Sync, D: Share, G: Gate>(
     rt: &H,
     alloc: Global,
     options: &Options,
@@ -42,6 +42,7 @@ fn store_plan<H: Threads + Wait + Sync, D: Share, G: Gate>(
         → IsCleared options.now text old (D.shown depot.old) ready.now.job
         → Ended (D.yards_lack depot.new) (case options.now text (scene source sink old)
         (scene next after (D.shown depot.new))) ready.now.job result }
+    ensures stopped { IfErr result IsStop }
 {
     left_law();
     complete_law();

@@ -1,13 +1,13 @@
 //! What the words of the command line ask for.
 ghost use Rattle.std.specs.Prelude.{◌≡◌, Err, IfOk, map, string_bytes};
 ghost use Rattle.cu_top.specs.Call.{IsAsked, IsReading, IsSound};
-ghost use Rattle.cu_top.specs.Words.{command_by, command_of, options_among, print_of};
+ghost use Rattle.cu_top.specs.Words.{command_by, command_of, demo_of, options_among, print_of};
 ghost use Rattle.cu_top.specs.Words.{IsInRange};
 ghost use Rattle.cu_words.specs.Words.{AreInRange, line_view, positionals_held};
 
 use cu_lower::Options;
 use cu_name::{IdText, is_name};
-use cu_words::{CommandLine, CommandName, LineFault, Numbers, read_line};
+use cu_words::{CommandLine, CommandName, LineFault, Numbers, demo_size, read_line};
 use std::alloc::Global;
 
 /// What the words ask for.
@@ -27,6 +27,8 @@ pub enum Asked {
     Check { retries: u32 },
     /// `print`: the array with this name is printed.
     Print { name: IdText, retries: u32 },
+    /// `demo`: an expression is computed over inputs of this size that are made first.
+    Demo { size: u64, options: Options },
 }
 
 /// What came of reading the words.
@@ -40,10 +42,10 @@ pub enum Reading {
     NoMemory,
 }
 
-/// The command, which is the first word, with its options and, for `print`, a name. A refusal is 1
-/// where the command is missing or unknown; 2 where an option is unknown, has no value or is given
-/// twice, where a value is no number of its option's range, and where there are too few or too many
-/// words; and 3 where the name isn't one and all else is accepted.
+/// The command, which is the first word, with its options and, for `print`, a name or, for `demo`, a
+/// size. A refusal is 1 where the command is missing or unknown; 2 where an option is unknown, has no
+/// value or is given twice, where a value is no number of its option's range or the size none from 1
+/// to 2,048, and where there are too few or too many words; and 3 where the name isn't one and all else is accepted.
 pub fn read_words(alloc: Global, words: &[String]) -> Reading
     ensures answer { IsReading (command_of (map string_bytes words.now)) result }
     // Memory isn't wanted where the command is missing or unknown.
@@ -91,6 +93,7 @@ fn asked_by(line: &CommandLine) -> Result<Asked, LineFault>
             retries: options.retries,
         }),
         CommandName::Print => print_asked(line.name, options.retries),
+        CommandName::Demo => demo_asked(line.name, options),
     }
 }
 
@@ -124,5 +127,20 @@ fn print_asked(name: Option<&str>, retries: u32) -> Result<Asked, LineFault>
     match IdText::make(word) {
         Some(name) => Ok(Asked::Print { name, retries }),
         None => unreachable!(),
+    }
+}
+
+/// The demonstration whose size the positional gives.
+fn demo_asked(size: Option<&str>, options: Options) -> Result<Asked, LineFault>
+    requires options { IsInRange options }
+    ensures answer { IsAsked (demo_of (positionals_held size.entry) options) result }
+    ensures sound { IfOk result IsSound }
+{
+    let Some(word) = size else {
+        return Err(LineFault::Refused { code: 2 });
+    };
+    match demo_size(word) {
+        Some(size) => Ok(Asked::Demo { size, options }),
+        None => Err(LineFault::Refused { code: 2 }),
     }
 }

@@ -22,7 +22,7 @@ use Rattle.cu_words.specs.declared.line.LineFault.{LineFault}
 use Rattle.cu_words.specs.declared.line.LineFault.TheVariants.{Refused, NoMemory}
 use Rattle.cu_words.specs.Reader.{IsFaultOf, IsMatched, IsParted, positional_name, told, values_found}
 use Rattle.cu_words.specs.declared.options.CommandName.{CommandName}
-use Rattle.cu_words.specs.declared.options.CommandName.TheVariants.{Run, Resume, Drop, Plan, Load, Check, Print}
+use Rattle.cu_words.specs.declared.options.CommandName.TheVariants.{Run, Resume, Drop, Plan, Load, Check, Print, Demo}
 use Rattle.cu_words.specs.declared.options.OptionName.{OptionName}
 use Rattle.cu_words.specs.declared.options.OptionName.TheVariants.{AllowedMem, ReservedMem, SplitEvery, Workers, Retries, Backups}
 use Rattle.cu_words.proofs.Walks.{Agrees, EndsWell, else_left, else_right, is_known_part, row_with, rows_with, rules, same_text, equal_text, shape, total, walk_agrees, walk_at}
@@ -109,6 +109,7 @@ built_is Plan = refl
 built_is Load = refl
 built_is Check = refl
 built_is Print = refl
+built_is Demo = refl
 
 pub told_simple : (command : CommandName) → is_simple_and_free (told (option_names command)) ≡ true
 told_simple Run = refl
@@ -118,6 +119,7 @@ told_simple Plan = refl
 told_simple Load = refl
 told_simple Check = refl
 told_simple Print = refl
+told_simple Demo = refl
 
 no_positional_option : (command : CommandName) → is_option_name (option_names command) positional_name ≡ false
 no_positional_option Run = refl
@@ -127,6 +129,7 @@ no_positional_option Plan = refl
 no_positional_option Load = refl
 no_positional_option Check = refl
 no_positional_option Print = refl
+no_positional_option Demo = refl
 
 option_apart : (o : OptionName) → bytes_eq positional_name (option_row o).name ≡ false
 option_apart AllowedMem = refl

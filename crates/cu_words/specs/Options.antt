@@ -4,7 +4,7 @@ use Rattle.std.specs.Prelude.{ℕ, ◌^◌, List, [], ◌∷◌, map, codes, byt
 use Rattle.std.specs.Prelude.{if◌then◌else◌}
 use Rattle.cu_words.specs.declared.options.CommandName.{CommandName}
 use Rattle.cu_words.specs.declared.options.CommandName.TheVariants.{Run, Resume, Drop, Plan, Print}
-use Rattle.cu_words.specs.declared.options.CommandName.TheVariants.{Load, Check}
+use Rattle.cu_words.specs.declared.options.CommandName.TheVariants.{Demo, Load, Check}
 use Rattle.cu_words.specs.declared.options.OptionName.{OptionName}
 use Rattle.cu_words.specs.declared.options.OptionName.TheVariants.{AllowedMem, ReservedMem}
 use Rattle.cu_words.specs.declared.options.OptionName.TheVariants.{SplitEvery, Workers, Retries}
@@ -32,6 +32,7 @@ option_row Backups = record { name = codes "backups"; least = 0; most = 1; defau
 -- the options that a command takes
 abbrev pub options_of : CommandName → List OptionName
 options_of Run = AllowedMem ∷ ReservedMem ∷ SplitEvery ∷ Workers ∷ Retries ∷ Backups ∷ []
+options_of Demo = AllowedMem ∷ ReservedMem ∷ SplitEvery ∷ Workers ∷ Retries ∷ Backups ∷ []
 options_of Resume = AllowedMem ∷ ReservedMem ∷ SplitEvery ∷ Workers ∷ Retries ∷ Backups ∷ []
 options_of Drop = AllowedMem ∷ ReservedMem ∷ SplitEvery ∷ Retries ∷ []
 options_of Plan = AllowedMem ∷ ReservedMem ∷ SplitEvery ∷ []
@@ -40,9 +41,10 @@ options_of command = Retries ∷ []
 abbrev pub option_names : CommandName → List (List ℕ)
 option_names command = map (λ o. (option_row o).name) (options_of command)
 
--- how many positionals follow a command: the name of an array behind `print`
+-- how many positionals follow a command: the name of an array behind `print`, a size behind `demo`
 abbrev pub positional_count : CommandName → ℕ
 positional_count Print = 1
+positional_count Demo = 1
 positional_count command = 0
 
 -- the command that a word names
@@ -55,6 +57,7 @@ command_named word =
     else if bytes_eq word (codes "load") then Some Load
     else if bytes_eq word (codes "check") then Some Check
     else if bytes_eq word (codes "print") then Some Print
+    else if bytes_eq word (codes "demo") then Some Demo
     else None
 
 -- the row as the code holds it

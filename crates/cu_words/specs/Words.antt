@@ -40,6 +40,10 @@ number_by row [] = Some row.default
 number_by row (text ∷ []) = number_between row.least row.most text
 number_by row (a ∷ b ∷ more) = None
 
+-- the size of a demonstration: from 1 to 2,048
+abbrev pub demo_size : List ℕ → Option ℕ
+demo_size text = number_between 1 2048 text
+
 -- ---- options; `given` has the values of each
 
 abbrev pub number_given : (OptionName → List (List ℕ)) → OptionName → Option ℕ

@@ -5,5 +5,5 @@
 mod line;
 mod options;
 
-pub use line::{CommandLine, LineFault, Numbers, read_line};
+pub use line::{CommandLine, LineFault, Numbers, demo_size, read_line};
 pub use options::{CommandName, OptionName, TableRow};

@@ -5,7 +5,7 @@ ghost use Rattle.cu_words.specs.Line.{has_stray, is_stray, line_parts};
 ghost use Rattle.cu_words.specs.Options.{option_names, option_row};
 ghost use Rattle.cu_words.specs.Reader.{IsFaultOf, IsParted, options_found, positional_name, told, values_found};
 ghost use Rattle.cu_words.specs.Words.{AreInRange, IsInRow, IsLineRead, line_given, line_with};
-ghost use Rattle.cu_words.specs.Words.{number_between, number_by, numbers_given};
+ghost use Rattle.cu_words.specs.Words.{demo_size, number_between, number_by, numbers_given};
 
 use crate::options::{CommandName, OptionName};
 use clap::error::ErrorKind;
@@ -120,6 +120,14 @@ fn number_found(matches: &ArgMatches, option: OptionName) -> Option<u64>
         Some([text]) => number_between(row.least, row.most, text),
         Some([_, _, ..]) => None,
     }
+}
+
+/// The size that the positional of `demo` gives: from 1 to 2,048.
+pub fn demo_size(text: &str) -> Option<u64>
+    ensures size { result ≡ demo_size text.now }
+    ensures range { IfSome result (λ n. (1 ≤ n) × (n ≤ 2048)) }
+{
+    number_between(1, 2048, text)
 }
 
 /// The number of a text, where it is one from `least` to `most`.

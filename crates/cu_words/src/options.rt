@@ -13,6 +13,7 @@ pub enum CommandName {
     Load,
     Check,
     Print,
+    Demo,
 }
 
 /// An option of the command line.
@@ -102,6 +103,7 @@ impl CommandName {
             "load" => Some(CommandName::Load),
             "check" => Some(CommandName::Check),
             "print" => Some(CommandName::Print),
+            "demo" => Some(CommandName::Demo),
             _ => None,
         }
     }
@@ -111,7 +113,7 @@ impl CommandName {
         ensures { result ≡ positional_count self }
     {
         match self {
-            CommandName::Print => 1,
+            CommandName::Print | CommandName::Demo => 1,
             _ => 0,
         }
     }
@@ -121,7 +123,7 @@ impl CommandName {
         ensures { result.now ≡ options_of self }
     {
         match self {
-            CommandName::Run | CommandName::Resume => RUN.as_slice(),
+            CommandName::Run | CommandName::Resume | CommandName::Demo => RUN.as_slice(),
             CommandName::Drop => DROP.as_slice(),
             CommandName::Plan => PLAN.as_slice(),
             CommandName::Load | CommandName::Check | CommandName::Print => OTHERS.as_slice(),

@@ -20,3 +20,15 @@ key_of_name-requires g c = rw c.in-Print.is at c.in-Asked.ensures.answer.1
 
 pub plan_command-requires : goal.plan_command-requires
 plan_command-requires g c = record { options = rw c.in-Plan.is at c.in-Asked.ensures.answer.1 }
+
+pub demo-requires-clause-options : goal.demo-requires-clause-options
+demo-requires-clause-options g c κs within = (rw c.in-Demo.is at c.in-Asked.ensures.answer.1).0
+
+pub demo-requires-clause-some : goal.demo-requires-clause-some
+demo-requires-clause-some g c κs within = (rw c.in-Demo.is at c.in-Asked.ensures.answer.1).1
+
+pub demo-requires-clause-few : goal.demo-requires-clause-few
+demo-requires-clause-few g c κs within = (rw c.in-Demo.is at c.in-Asked.ensures.answer.1).2
+
+pub demo-requires-clause-quiet : goal.demo-requires-clause-quiet
+demo-requires-clause-quiet g c κs within = c.requires.demo_quiet c.in-Demo.size c.in-Demo.options (rw c.in-Demo.is at c.in-Asked.ensures.answer.0)

@@ -2,8 +2,10 @@ use Rattle.cu_command.specs.Seen.{stream, seen}
 use Rattle.cu_top.proofs.CallLemmas.{refused_text}
 use Rattle.cu_top.proofs.CheckLemmas.{found_equal, found_unequal}
 use Rattle.cu_top.proofs.Completeness.{served}
+use Rattle.cu_top.proofs.DemoLemmas.{was_demonstrated}
 use Rattle.cu_top.proofs.ResumeServed.{caused, went_on}
 use Rattle.cu_top.proofs.PlannedLemmas.{plan_printed, plan_spared, plan_refused_text, plan_served}
+use Rattle.cu_top.specs.Demo.{demo_case}
 use Rattle.cu_top.specs.Run.{scene}
 use Rattle.cu_top.proofs.call.top.Goals as goal
 
@@ -62,3 +64,9 @@ pub returns-clause-resume_complete : goal.returns-clause-resume_complete
 returns-clause-resume_complete g c = λ text entry told_left told premise whole source sink depot.
     went_on _ text entry (scene (stream (g.R.Source.left c.args.src.now) (g.R.Source.faults c.args.src.now)) (stream (g.W.Sink.written c.args.out.now) (g.W.Sink.faults c.args.out.now)) (g.D.Depot.shown c.args.depot.now))
     (scene (stream (g.R.Source.left c.carry.new.src) (g.R.Source.faults c.carry.new.src)) (stream (g.W.Sink.written c.carry.new.out) (g.W.Sink.faults c.carry.new.out)) (g.D.Depot.shown c.carry.new.depot)) told_left told premise whole source sink depot (g.D.Share.yards_lack c.carry.new.depot) c.carry.result c.carry.ensures.resumes
+
+pub returns-clause-demonstrated : goal.returns-clause-demonstrated
+returns-clause-demonstrated g c = λ size options words done.
+    was_demonstrated (g.D.Share.yards_lack c.carry.new.depot)
+    (demo_case options size (seen (stream (g.W.Sink.written c.args.out.now) (g.W.Sink.faults c.args.out.now)) (g.D.Depot.shown c.args.depot.now))
+    (seen (stream (g.W.Sink.written c.carry.new.out) (g.W.Sink.faults c.carry.new.out)) (g.D.Depot.shown c.carry.new.depot))) c.carry.result (c.carry.ensures.demos size options words) done

@@ -1,4 +1,4 @@
-use Rattle.std.proofs.Common.{◌≡◌, ◌+◌, ◌∙◌, List, Bool, ℕ, None, ap, subst, sym, arith, Result}
+use Rattle.std.proofs.Common.{◌≡◌, ◌+◌, ◌∙◌, List, Bool, ℕ, None, ap, subst, sym, arith, Result, IfErr}
 use Rattle.cu_command.specs.Seen.{stream}
 use Rattle.cu_command.specs.declared.status.Status.{Status}
 use Rattle.cu_op.specs.PlanView.{PlanView}
@@ -6,11 +6,11 @@ use Rattle.cu_table.specs.Table.{TableView}
 use Rattle.cu_work.specs.World.{IsFound}
 use Rattle.cu_top.proofs.DriveLemmas.{PlanLaws, HistoryLaws, apart_run, apart_inputs, started_case}
 use Rattle.cu_top.proofs.PlanLemmas.{meant}
-use Rattle.cu_top.proofs.RunLemmas.{run_ended, open_cleared}
+use Rattle.cu_top.proofs.RunLemmas.{run_ended, open_cleared, stopped_of}
 use Rattle.cu_top.specs.Driven.{WasDriven, drive_case}
 use Rattle.cu_top.specs.Prepare.{job_plan, out_metadata}
 use Rattle.cu_top.specs.Record.{record_text}
-use Rattle.cu_top.specs.Run.{scene, case, Ended, job_run}
+use Rattle.cu_top.specs.Run.{scene, case, Ended, IsStop, job_run}
 use Rattle.cu_top.specs.declared.report.RunCounts.{RunCounts}
 use Rattle.cu_work.specs.Shared.{none_done}
 use Rattle.cu_work.specs.declared.run.HeldTexts.TheVariants.{Neither}
@@ -114,4 +114,7 @@ returns g c = record {
       ap (λ (t : TableView). t.done) c.in-Ok-make.ensures.memory.table ∙ c.deref.ensures.value ∙ c.in-Ok.ensures.none ∙ ap none_done c.requires.ready.plan_is in
       let (result, driven, answer) = subst (λ (done : List Bool). WasDriven (drive_case options (job_run run job) Neither done lack (start, now)) c.drive_plan.result) none c.drive_plan.ensures in
       subst (λ (r : Result RunCounts Status). Ended lack run job r) (sym answer) (run_ended run job laws start cleared lack histories c.count_law.ensures.fresh result driven);
+  stopped =
+      let (result, driven, answer) = c.drive_plan.ensures in
+      subst (λ (r : Result RunCounts Status). IfErr r IsStop) (sym answer) (stopped_of _ result);
 }

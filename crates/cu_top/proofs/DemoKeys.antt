@@ -1,0 +1,147 @@
+-- The keys of a demonstration: those of its inputs, and those of its plan, which are others.
+use Rattle.std.proofs.Common.{◌≡◌, ◌≢◌, ◌⊎◌, ◌∙◌, inl, inr, ℕ, zero, suc, ◌+◌, ◌<◌, ◌≤◌, Bool, true, false, true≢false}
+use Rattle.std.proofs.Common.{List, [], ◌∷◌, ◌++◌, length, map, codes, All, Contains, Option, Some, None, refl, sym, ap, subst, arith}
+use Rattle.std.specs.Prelude.{◌==◌, ◌&&◌, ◌||◌}
+use Rattle.std.proofs.lemmas.Bool.{and_parts, eqb-true}
+use Rattle.std.proofs.lemmas.List.Elements.{All-from_recursion, Contains-append_cases}
+use Rattle.cu_name.specs.Name.{IsArrayName}
+use Rattle.cu_op.specs.declared.cells.Cell.{Cell}
+use Rattle.cu_op.specs.Cells.{tasks_of}
+use Rattle.cu_op.specs.PlanView.{PlanView}
+use Rattle.cu_op.specs.Schedule.{op_of, key_of, WritesCell}
+use Rattle.cu_op.specs.Sound.{Sound, IsCell}
+use Rattle.cu_op.specs.Walks.{written_chunks}
+use Rattle.cu_op.proofs.TaskCells.{written_cell}
+use Rattle.cu_state.specs.Names.{HasPlanNames}
+use Rattle.cu_state.specs.Pieces.{PlanRun, Piece, Text, Chunk, IsPiece, piece_key}
+use Rattle.cu_state.proofs.PlanNames.{other_names}
+use Rattle.cu_work.specs.Order.{plan_keys, operation_keys, task_keys}
+use Rattle.cu_command.specs.declared.job.Job.{Job}
+use Rattle.cu_load.specs.Load.{IsArrayKey}
+use Rattle.cu_load.proofs.StoreLemmas.{array_put_key}
+use Rattle.cu_demo.specs.declared.input.DemoInput.{DemoInput}
+use Rattle.cu_demo.specs.declared.input.DemoInput.TheVariants.{Rows, Columns}
+use Rattle.cu_lower.specs.declared.options.Options.{Options}
+use Rattle.cu_top.specs.Demo.{InputsPut, demo_array}
+use Rattle.cu_top.specs.Prepare.{job_plan, keys_of, out_metadata}
+use Rattle.cu_top.specs.Quiet.{run_of_job}
+use Rattle.cu_top.specs.Record.{record_text}
+
+-- ---- the keys of the inputs
+
+-- the key begins with these bytes
+abbrev pub starts : List ℕ → List ℕ → Bool
+starts [] key = true
+starts (c ∷ cs) [] = false
+starts (c ∷ cs) (k ∷ ks) = c == k && starts cs ks
+
+starts_rest : (front key : List ℕ) → starts front key ≡ true → (rest : List ℕ) × (key ≡ front ++ rest)
+starts_rest [] key is = (key, refl)
+starts_rest (c ∷ cs) [] is = absurd (true≢false (sym is))
+starts_rest (c ∷ cs) (k ∷ ks) is =
+    let both = and_parts (c == k) (starts cs ks) is in
+    let (rest, same) = starts_rest cs ks both.1 in
+    let first : c ≡ k = eqb-true c k both.0 in
+    (rest, λ i. sym first i ∷ same i)
+
+-- the key lies below the name of an input
+abbrev pub is_inputs : List ℕ → Bool
+is_inputs key = starts (codes "demo_a/") key || starts (codes "demo_b/") key
+
+pub of_array : (input : DemoInput) (n : ℕ) (key : List ℕ) → IsArrayKey (demo_array input n) key → is_inputs key ≡ true
+of_array Rows n key (inl same) = ap is_inputs same
+of_array Rows n key (inr (k, below, same)) = ap is_inputs same
+of_array Columns n key (inl same) = ap is_inputs same
+of_array Columns n key (inr (k, below, same)) = ap is_inputs same
+
+pub put_key : (n : ℕ) (key : List ℕ) (value : Option (List ℕ)) → InputsPut n key value → is_inputs key ≡ true
+put_key n key value (inl put) = of_array Rows n key (array_put_key (demo_array Rows n) key value put)
+put_key n key value (inr put) = of_array Columns n key (array_put_key (demo_array Columns n) key value put)
+
+pub below_rows : (n : ℕ) (key : List ℕ) → IsArrayKey (demo_array Rows n) key → starts (codes "demo_a/") key ≡ true
+below_rows n key (inl same) = ap (starts (codes "demo_a/")) same
+below_rows n key (inr (k, below, same)) = ap (starts (codes "demo_a/")) same
+
+pub not_below_rows : (n : ℕ) (key : List ℕ) → IsArrayKey (demo_array Columns n) key → starts (codes "demo_a/") key ≡ false
+not_below_rows n key (inl same) = ap (starts (codes "demo_a/")) same
+not_below_rows n key (inr (k, below, same)) = ap (starts (codes "demo_a/")) same
+
+named_rows : IsArrayName (codes "demo_a")
+named_rows = record {
+  plain = All-from_recursion (λ (b : ℕ). b ≢ 47) (codes "demo_a") (λ e. cc, λ e. cc, λ e. cc, λ e. cc, λ e. cc, λ e. cc, tt);
+  short = omega arith;
+  first = λ e. cc;
+}
+
+named_columns : IsArrayName (codes "demo_b")
+named_columns = record {
+  plain = All-from_recursion (λ (b : ℕ). b ≢ 47) (codes "demo_b") (λ e. cc, λ e. cc, λ e. cc, λ e. cc, λ e. cc, λ e. cc, tt);
+  short = omega arith;
+  first = λ e. cc;
+}
+
+-- ---- the keys of the plan
+
+in_map : (f : Cell → List ℕ) (cs : List Cell) (key : List ℕ) → Contains (map f cs) key → (c : Cell) × Contains cs c × (f c ≡ key)
+in_map f [] key (i, below, e) = absurd (omega arith)
+in_map f (c ∷ cs) key (zero, below, e) = (c, (zero, omega arith, refl), e)
+in_map f (c ∷ cs) key (suc i, below, e) = let (d, (j, within, is), same) = in_map f cs key (i, omega arith, e) in (d, (suc j, omega (arith, within), is), same)
+
+module _ (p : PlanView) (sound : Sound p) where
+  abbrev IsMadeKey : List ℕ → Type 0
+  IsMadeKey key = (c : Cell) × IsCell p.arrays c.array c.coord × (key_of p.arrays c ≡ key)
+
+  of_task : (op task : ℕ) (key : List ℕ) → op < length p.ops → task < tasks_of p.arrays (op_of p op) → Contains (task_keys p op task) key → IsMadeKey key
+  of_task op task key first number listed =
+      let (c, within, same) = in_map (key_of p.arrays) (written_chunks p.arrays (op_of p op) task) key listed in
+      let writes : WritesCell p op task c.array c.coord = record { operation = first; number = number; cell = within } in
+      (c, written_cell p sound op task c.array c.coord writes, same)
+
+  of_operation : (op n : ℕ) (key : List ℕ) → op < length p.ops → n ≤ tasks_of p.arrays (op_of p op) → Contains (operation_keys p op n) key → IsMadeKey key
+  of_operation op zero key first few (i, below, e) = absurd (omega arith)
+  of_operation op (suc n) key first few listed =
+      elim (Contains-append_cases (operation_keys p op n) (task_keys p op n) key listed) [
+        | inl earlier ↦ of_operation op n key first (omega (arith, few)) earlier
+        | inr own ↦ of_task op n key first (omega (arith, few)) own
+      ]
+
+  of_plan : (n : ℕ) (key : List ℕ) → n ≤ length p.ops → Contains (plan_keys p n) key → IsMadeKey key
+  of_plan zero key few (i, below, e) = absurd (omega arith)
+  of_plan (suc n) key few listed =
+      elim (Contains-append_cases (plan_keys p n) (operation_keys p n (tasks_of p.arrays (op_of p n))) key listed) [
+        | inl earlier ↦ of_plan n key (omega (arith, few)) earlier
+        | inr own ↦ of_operation n (tasks_of p.arrays (op_of p n)) key (omega (arith, few)) (omega arith) own
+      ]
+
+module _ (options : Options) (job : Job) (name : job.expr.store_as ≡ codes "demo_y") (sound : Sound (job_plan options job))
+    (names : HasPlanNames (run_of_job options job) job.expr.store_as (record_text options job) (out_metadata job)) where
+  -- a key that is asked for is that of a piece
+  pub listed_piece : (key : List ℕ) → Contains (keys_of options job) key → (q : Piece) × IsPiece (run_of_job options job) q × (piece_key (run_of_job options job) q ≡ key)
+  listed_piece key (zero, below, e) = (Text 0, omega arith, e)
+  listed_piece key (suc zero, below, e) = (Text 1, omega arith, e)
+  listed_piece key (suc (suc i), below, e) =
+      let (c, is, same) = of_plan (job_plan options job) sound (length (job_plan options job).ops) key (omega arith) (i, omega (arith, below), e) in (Chunk c, is, same)
+
+  other_rows : job.expr.store_as ≡ codes "demo_a" → ⊥
+  other_rows same = true≢false (ap (starts (codes "demo_y")) (sym name ∙ same))
+
+  other_columns : job.expr.store_as ≡ codes "demo_b" → ⊥
+  other_columns same = true≢false (ap (starts (codes "demo_y")) (sym name ∙ same))
+
+  not_below : (q : Piece) (a b : Bool) → IsPiece (run_of_job options job) q → starts (codes "demo_a/") (piece_key (run_of_job options job) q) ≡ a
+      → starts (codes "demo_b/") (piece_key (run_of_job options job) q) ≡ b → a || b ≡ false
+  not_below q true b piece rows columns =
+      let (rest, same) = starts_rest (codes "demo_a/") (piece_key (run_of_job options job) q) rows in
+      absurd (other_names (run_of_job options job) job.expr.store_as (record_text options job) (out_metadata job) sound names q (codes "demo_a") rest piece named_rows (λ e. other_rows (sym e)) same)
+  not_below q false true piece rows columns =
+      let (rest, same) = starts_rest (codes "demo_b/") (piece_key (run_of_job options job) q) columns in
+      absurd (other_names (run_of_job options job) job.expr.store_as (record_text options job) (out_metadata job) sound names q (codes "demo_b") rest piece named_columns (λ e. other_columns (sym e)) same)
+  not_below q false false piece rows columns = refl
+
+  -- the key of a piece isn't one of an input
+  pub piece_apart : (q : Piece) → IsPiece (run_of_job options job) q → is_inputs (piece_key (run_of_job options job) q) ≡ false
+  piece_apart q piece =
+      not_below q (starts (codes "demo_a/") (piece_key (run_of_job options job) q)) (starts (codes "demo_b/") (piece_key (run_of_job options job) q)) piece refl refl
+
+  pub listed_apart : (key : List ℕ) → Contains (keys_of options job) key → is_inputs key ≡ false
+  listed_apart key listed = let (q, piece, same) = listed_piece key listed in ap is_inputs (sym same) ∙ piece_apart q piece
