@@ -15,7 +15,7 @@ use Rattle.cu_top.specs.Quiet.{IsCalmFor, IsCalm, run_of_job}
 use Rattle.cu_name.specs.Name.{is_name}
 use Rattle.cu_words.specs.Line.{LinePart, line_parts, positionals_given}
 use Rattle.cu_words.specs.Options.{command_named, option_names, positional_count}
-use Rattle.cu_words.specs.Words.{GivenLine, line_after, line_given, line_in, line_with, numbers_given, option_values}
+use Rattle.cu_words.specs.Words.{GivenLine, demo_size, line_after, line_given, line_in, line_with, numbers_given, option_values}
 use Rattle.cu_words.specs.declared.line.Numbers.{Numbers}
 use Rattle.cu_words.specs.declared.options.CommandName.{CommandName}
 use Rattle.cu_words.specs.declared.options.CommandName.TheVariants as name
