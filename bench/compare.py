@@ -2,7 +2,7 @@
 """Computes small random expressions with the program and with NumPy, and compares each byte of what is stored, and the lines of `plan`.
 
   compare.py [--program FILE] [--dir FOLDER] [--cases N] [--seed N] [--first N] [--only run|views|reductions|copies|any|check]
-             [--workers N,N..]
+             [--workers N,N..] [--version-2]
 
 A case has up to three stored arrays of any type, up to four axes (of copies six), any chunk shape, either byte order, either encoding of
 keys with either separator, members of the metadata in any order, any fill value, chunks that are absent, any bytes past the edge, and
@@ -17,8 +17,8 @@ an argument, metadata, a chunk, a key in the way, memory, counts. Some arrays ar
 in five is checked by `check`. In one case of nine NumPy stores the output of an expression of every operator, now and then with one
 element changed, and the program checks it. With `--workers` each expression is also run with each of these numbers of workers, every
 time in a copy of the folder and with `--backups` 0 or 1: what is stored and printed must be the same bytes, but for the starts, of which
-there may be up to two a task where slow tasks are run twice. Prints how often each answer came, and ends with 1 at the first case that
-differs, whose folder is kept; `--first` goes on at that case.
+there may be up to two a task where slow tasks are run twice. With `--version-2` half of the arrays have metadata of Zarr version 2.
+Prints how often each answer came, and ends with 1 at the first case that differs, whose folder is kept; `--first` goes on at that case.
 """
 import argparse
 import collections
@@ -108,11 +108,14 @@ def put(folder, key, data):
 class Input:
     """A stored array: its elements, its members of metadata, and the keys of the chunks that are held."""
 
-    def __init__(self, pick, folder, name, array):
+    def __init__(self, pick, folder, name, array, may_be_old=False):
         self.name, self.array, self.keys = name, array, []
         self.elements = draws.random_elements(pick, array.dtype, array.shape)
-        self.members = draws.metadata_of(pick, array)
-        put(folder, f"{name}/zarr.json", json.dumps(self.members, indent=pick.choice([None, 1])).encode())
+        self.is_old = may_be_old and pick.random() < 0.5
+        if self.is_old:
+            array.encoding = "v2"
+        self.members = draws.zarray_of(pick, array) if self.is_old else draws.metadata_of(pick, array)
+        put(folder, self.metadata_key(), json.dumps(self.members, indent=pick.choice([None, 1])).encode())
         for index in chunks_of(array):
             if pick.random() < 0.2:
                 self.elements[place_of(index, array)] = array.fill
@@ -124,14 +127,17 @@ class Input:
             put(folder, array.key(name, index), data)
             self.keys.append(array.key(name, index))
 
+    def metadata_key(self):
+        return f"{self.name}/{'.zarray' if self.is_old else 'zarr.json'}"
+
 
 class Case:
     """What the program is given: a folder, a text, and words."""
 
-    def __init__(self, pick, folder, mix):
+    def __init__(self, pick, folder, mix, may_be_old=False):
         self.pick, self.folder = pick, folder
         arrays = draws.arrays_for(pick, mix)
-        self.inputs = [Input(pick, folder, name, array) for name, array in zip("abc", arrays)]
+        self.inputs = [Input(pick, folder, name, array, may_be_old) for name, array in zip("abc", arrays)]
         self.text = draws.spelled(pick, draws.random_expression(pick, self.inputs, mix.narrowed(pick)))
         self.allowed, self.reserved = ALLOWED, pick.choice([0, 0, 0, 7, 4096])
         self.split_every = pick.choice([rules.SPLIT_EVERY, rules.SPLIT_EVERY, 2, 3, 5, 64])
@@ -195,10 +201,17 @@ class Case:
 
     def damage_metadata(self):
         entry = self.pick.choice(self.inputs)
-        put(self.folder, f"{entry.name}/zarr.json", draws.damaged_metadata(self.pick, entry.members).encode())
+        if not entry.is_old:
+            put(self.folder, entry.metadata_key(), draws.damaged_metadata(self.pick, entry.members).encode())
+            return
+        text = draws.damaged_zarray(self.pick, entry.members).encode()
+        told = rules.zarray_or_code(text)
+        # Another layout that is accepted would give the array other elements.
+        if type(told) is int or vars(told) == vars(entry.array):
+            put(self.folder, entry.metadata_key(), text)
 
     def damage_absent(self):
-        os.remove(os.path.join(self.folder, self.pick.choice(self.inputs).name, "zarr.json"))
+        os.remove(os.path.join(self.folder, self.pick.choice(self.inputs).metadata_key()))
 
     def damage_chunk(self):
         entry = self.pick.choice(self.inputs)
@@ -386,10 +399,10 @@ def wrong_files(case, before, stored, is_whole):
     return f"{missing} are missing" if is_whole and missing else None
 
 
-def run_case(pick, program, folder, counts, only, workers=()):
+def run_case(pick, program, folder, counts, only, workers=(), may_be_old=False):
     """Runs one case, and tells why it is wrong, or nothing."""
     kind = only or pick.choice(["run", "run", "reductions", "views", "copies", "copies", "any", "any", "check"])
-    case = Case(pick, folder, MIXES[kind])
+    case = Case(pick, folder, MIXES[kind], may_be_old)
     if pick.random() < 0.1:
         wrong = next(filter(None, (printed_wrong(program, folder, entry) for entry in case.inputs)), None) or loaded_wrong(pick, program, folder)
         if wrong:
@@ -604,11 +617,12 @@ def main():
     words.add_argument("--first", type=int, default=0)
     words.add_argument("--only", choices=list(MIXES))
     words.add_argument("--workers", type=lambda told: [int(count) for count in told.split(",")], default=[])
+    words.add_argument("--version-2", action="store_true")
     given = words.parse_args()
     counts = collections.Counter()
     for number in range(given.first, given.cases):
         folder = tempfile.mkdtemp(dir=given.dir, prefix="cubed-compare-")
-        wrong = run_case(random.Random(f"{given.seed} {number}"), os.path.abspath(given.program), folder, counts, given.only, given.workers)
+        wrong = run_case(random.Random(f"{given.seed} {number}"), os.path.abspath(given.program), folder, counts, given.only, given.workers, given.version_2)
         if wrong:
             print(f"case {number} of seed {given.seed} in {folder}: {wrong}")
             return 1

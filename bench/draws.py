@@ -43,6 +43,23 @@ def metadata_of(pick, array):
     return {name: members[name] for name in order}
 
 
+def zarray_of(pick, array):
+    """Returns the members of version 2 of an array, in any order and with members that say nothing."""
+    size = rules.SIZES[array.dtype]
+    mark = pick.choice("<>|") if size == 1 else ">" if array.endian == "big" else "<"
+    members = {"zarr_format": 2, "shape": array.shape, "chunks": array.chunk, "dtype": mark + array.dtype[0] + str(size), "compressor": None,
+               "filters": pick.choice([None, []]), "order": "C", "fill_value": pick.choice([array.fill, bool(array.fill)]) if array.dtype == "bool" else array.fill}
+    if array.fill == 0 and pick.random() < 0.3:
+        members["fill_value"] = None
+    if array.separator == "/" or pick.random() < 0.3:
+        members["dimension_separator"] = array.separator
+    if pick.random() < 0.3:
+        members["_later"] = 1
+    order = list(members)
+    pick.shuffle(order)
+    return {name: members[name] for name in order}
+
+
 # Random expressions
 
 def sides(pick, count):
@@ -404,6 +421,22 @@ def damaged_metadata(pick, members):
         members["chunk_key_encoding"] = pick.choice(["v3", {"name": "v2", "configuration": {"separator": "-"}}])
     else:
         return pick.choice(["{", "[]", "", "3"])
+    return json.dumps(members)
+
+
+def damaged_zarray(pick, members):
+    """Returns the text of metadata of version 2 with a fault, or with one that is none."""
+    members = json.loads(json.dumps(members))
+    kind = pick.choice(["lost", "dtype", "fill_value", "compressor", "filters", "order", "shape", "chunks", "dimension_separator", "zarr_format", "text"])
+    if kind == "lost":
+        del members[pick.choice(list(members))]
+    elif kind == "text":
+        return pick.choice(["{", "[]", "", "3"])
+    else:
+        members[kind] = pick.choice({"dtype": ["<f4", "|i2", "<i16", ">u4", "|b1", "i4", 3, ["<i4"]], "fill_value": [None, 1.5, 2**64, "0", -(2**63) - 1, True, 1],
+                                     "compressor": [{"id": "blosc"}, {}, False], "filters": [[], {}, [{"id": "delta"}], False], "order": ["F", "c", None],
+                                     "shape": [[1] * 7, [-1], 6, []], "chunks": [[0], [1] * 7, "C", []], "dimension_separator": ["/", ".", "-", None],
+                                     "zarr_format": [3, "2", 2.0, None]}[kind])
     return json.dumps(members)
 
 

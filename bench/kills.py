@@ -50,7 +50,7 @@ class Job:
         self.case, self.program, self.workers, self.pick = case, program, workers, case.pick
         self.plan = case.plan()
         self.stored = compare.must_be_stored(case, self.plan)
-        self.keys = self.plan.keys_in_the_way()
+        self.keys = [key for key in self.plan.keys_in_the_way() if not key.endswith("/.zarray")]
         self.before = {key: case.held(key) for key in compare.files_in(case.folder)}
         self.tasks = [[self.plan.part_key(k, at, which, where) for which, where in step.written(place)]
                       for k, steps in self.plan.steps.items() for at, step in enumerate(steps) for place in step.places()]

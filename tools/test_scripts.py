@@ -132,15 +132,18 @@ class Zarr(InFolder):
         put(f"{self.top}/a/.zattrs", b'{"_ARRAY_DIMENSIONS":["x"],"units":"K","scale_factor":0.1}')
         put(f"{self.top}/a/0", b"\0\1\0\2")
         self.assertEqual(self.zarr("read", "a", "--raw", "-"), b"\1\0\2\0\0\0")
+        self.assertIn("1 of 2", self.cubed("status"))
         self.zarr("adopt", "a")
         self.assertEqual(self.zarr("read", "a", "--raw", "-"), b"\1\0\2\0\0\0")
         with open(f"{self.top}/a/zarr.json", encoding="ascii") as file:
             members = json.load(file)
         self.assertEqual((members["dimension_names"], members["attributes"]), (["x"], {"units": "K", "scale_factor": 0.1}))
         self.zarr("adopt", "a", status=1)
-        for name, value in (("compressor", {"id": "zstd"}), ("filters", [{"id": "delta"}]), ("dtype", "<f4"), ("zarr_format", 3)):
+        for name, value in (("compressor", {"id": "zstd"}), ("filters", [{"id": "delta"}]), ("dtype", "<f4"), ("dtype", "|i2"), ("order", "F"),
+                            ("fill_value", 40000), ("dimension_separator", "-"), ("zarr_format", 3)):
             put(f"{self.top}/b/.zarray", json.dumps({**told, name: value}).encode())
             self.zarr("adopt", "b", status=1)
+            self.zarr("read", "b", "--raw", "-", status=1)
 
     @unittest.skipIf(numpy is None, "NumPy can't be imported")
     def test_files_of_numpy(self):

@@ -23,6 +23,7 @@ GROUP = "it is a group, whose folder can be given as DIR"
 METADATA = ("zarr.json", ".zarray", ".zattrs")
 MEMBERS = {"zarr_format", "node_type", "shape", "data_type", "chunk_grid", "chunk_key_encoding", "fill_value", "codecs",
            "attributes", "dimension_names", "storage_transformers"}
+MEMBERS_V2 = {"shape", "chunks", "dtype", "compressor", "fill_value", "order", "filters"}
 # The limits of the program: axes, elements, chunks of an array, and bytes of a chunk.
 RANK, ELEMENTS, CHUNKS, CHUNK_BYTES = 6, 2**40, 65536, 2**28
 # How much of a mapped file may stay in memory while it is copied.
@@ -171,7 +172,9 @@ def layout_of_v2(told):
     """The layout that metadata of version 2 says, where the array's bytes can be read as they lie."""
     if not isinstance(told, dict) or told.get("zarr_format") != 2:
         raise Unread("its .zarray isn't that of version 2")
-    if told.get("compressor") is not None or told.get("filters"):
+    if not MEMBERS_V2 <= set(told):
+        raise Unread(f"its .zarray has no {', '.join(sorted(MEMBERS_V2 - set(told)))}")
+    if told["compressor"] is not None or told["filters"] not in (None, []):
         raise Unread("it is compressed or filtered: write it with compressor=None")
     kinds = {"b1": "bool", **{f"{sign}{item_bytes(name)}": name for name in TYPES if name != "bool"
                               for sign in ("u" if name.startswith("u") else "i",)}}
@@ -181,13 +184,17 @@ def layout_of_v2(told):
     shape, chunk = told.get("shape"), told.get("chunks")
     if not is_sizes(shape) or not is_sizes(chunk):
         raise Unread("its shape or its chunks aren't read")
-    if told.get("order", "C") != "C" and sum(side > 1 for side in chunk) > 1:
+    name, fill, separator = kinds[dtype[1:]], told.get("fill_value"), told.get("dimension_separator", ".")
+    if dtype[0] == "|" and item_bytes(name) > 1:
+        raise Unread("its byte order isn't told")
+    if told.get("order") != "C":
         raise Unread("its chunks are in column-major order: write it with order='C'")
-    name, fill = kinds[dtype[1:]], told.get("fill_value")
-    fill = (False if name == "bool" else 0) if fill is None else fill
+    fill = bool(fill) if name == "bool" and not isinstance(fill, float) and fill in (None, 0, 1) else 0 if fill is None else fill
     if not is_of(name, fill):
         raise Unread(f"its fill value isn't one of {name}")
-    return Layout(name, shape, chunk, fill, "big" if dtype[0] == ">" else "little", "v2", told.get("dimension_separator", "."))
+    if separator not in (".", "/"):
+        raise Unread("the separator of its keys isn't read")
+    return Layout(name, shape, chunk, fill, "big" if dtype[0] == ">" and item_bytes(name) > 1 else "little", "v2", separator)
 
 
 def json_of(path):
@@ -212,15 +219,11 @@ class Stored:
 
     def layout(self):
         """Its layout, or why the program doesn't read it."""
-        text, zarray = os.path.join(self.path, "zarr.json"), os.path.join(self.path, ".zarray")
-        if os.path.exists(text):
-            return layout_of(json_of(text))
-        if not os.path.exists(zarray):
-            raise Unread("it has no zarr.json")
-        told = json_of(zarray)
-        if isinstance(told, dict) and told.get("order") != "C":
-            raise Unread("its chunks aren't said to be in row-major order: write it with order='C'")
-        return layout_of_v2(told)
+        for metadata, read in (("zarr.json", layout_of), (".zarray", layout_of_v2)):
+            path = os.path.join(self.path, metadata)
+            if os.path.exists(path):
+                return read(json_of(path))
+        raise Unread("it has no zarr.json")
 
     def chunk_path(self, layout, coordinate):
         return os.path.join(self.path, layout.key(coordinate))

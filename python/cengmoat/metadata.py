@@ -1,4 +1,4 @@
-"""Zarr v3 metadata: what is read, and the one text that is written."""
+"""Zarr metadata of both versions: what is read, and the one text of version 3 that is written."""
 from __future__ import annotations
 
 import json
@@ -14,6 +14,9 @@ from .shapes import MOST_AXES, MOST_CHUNK_BYTES, MOST_CHUNKS, MOST_ELEMENTS, Sha
 MOST_TEXT = 1_048_576
 REQUIRED = ("zarr_format", "node_type", "shape", "data_type", "chunk_grid", "chunk_key_encoding", "fill_value", "codecs")
 OPTIONAL = ("attributes", "dimension_names", "storage_transformers")
+# Of version 2.
+REQUIRED_V2 = ("shape", "chunks", "dtype", "compressor", "fill_value", "order", "filters")
+KINDS_V2 = {"b1": "bool", **{f"{sign[0]}{bits // 8}": f"{sign}{bits}" for sign in ("int", "uint") for bits in (8, 16, 32, 64)}}
 
 
 @dataclass(frozen=True)
@@ -114,6 +117,16 @@ class _Reader:
         if not holds:
             raise BadMetadata(name=self.name, code=code)
 
+    def members(self, text: bytes, too_long: int, code: int) -> dict[str, Any]:
+        """Return the members of a text, refused with these codes."""
+        self.need(len(text) <= MOST_TEXT, too_long)
+        try:
+            members = json.loads(text.decode("utf-8"), parse_constant=_constant, parse_int=_number)
+        except (ValueError, RecursionError):
+            raise BadMetadata(name=self.name, code=code) from None
+        self.need(isinstance(members, dict), code)
+        return members
+
     def part(self, value: Any, code: int) -> tuple[str, dict[str, Any]]:
         """Return the name and the configuration of a part."""
         if isinstance(value, str):
@@ -125,22 +138,26 @@ class _Reader:
         self.need(isinstance(configuration, dict), code)
         return value["name"], configuration
 
-    def sizes(self, value: Any, low: int) -> Shape:
+    def sizes(self, value: Any, low: int, code: int) -> Shape:
         """Return a list of sizes from `low` on, at most one for each of six axes."""
-        self.need(isinstance(value, list) and len(value) <= MOST_AXES, 5)
-        self.need(all(_is_int(size) and low <= size < 2**64 for size in value), 5)
+        self.need(isinstance(value, list) and len(value) <= MOST_AXES, code)
+        self.need(all(_is_int(size) and low <= size < 2**64 for size in value), code)
         return tuple(value)
+
+    def need_limits(self, shape: Shape, chunks: Shape, dtype: DType, code: int) -> None:
+        """Refuse a grid that exceeds a limit."""
+        self.need(len(chunks) == len(shape), code)
+        self.need(product(max(1, size) for size in shape) <= MOST_ELEMENTS, code)
+        self.need(product(chunks) * dtype.itemsize <= MOST_CHUNK_BYTES, code)
+        self.need(product(max(1, count) for count in numblocks(shape, chunks)) <= MOST_CHUNKS, code)
 
     def grid(self, members: dict[str, Any], dtype: DType) -> tuple[Shape, Shape]:
         """Return the shape and the chunk shape, within the limits."""
-        shape = self.sizes(members["shape"], 0)
+        shape = self.sizes(members["shape"], 0, 5)
         name, configuration = self.part(members["chunk_grid"], 5)
         self.need(name == "regular" and set(configuration) == {"chunk_shape"}, 5)
-        chunks = self.sizes(configuration["chunk_shape"], 1)
-        self.need(len(chunks) == len(shape), 5)
-        self.need(product(max(1, size) for size in shape) <= MOST_ELEMENTS, 5)
-        self.need(product(chunks) * dtype.itemsize <= MOST_CHUNK_BYTES, 5)
-        self.need(product(max(1, count) for count in numblocks(shape, chunks)) <= MOST_CHUNKS, 5)
+        chunks = self.sizes(configuration["chunk_shape"], 1, 5)
+        self.need_limits(shape, chunks, dtype, 5)
         return shape, chunks
 
     def encoding(self, value: Any) -> tuple[str, str]:
@@ -198,12 +215,7 @@ def read_metadata(name: str, text: bytes) -> Metadata:
         Where the text isn't metadata that the program accepts.
     """
     reader = _Reader(name)
-    reader.need(len(text) <= MOST_TEXT, 10)
-    try:
-        members = json.loads(text.decode("utf-8"), parse_constant=_constant, parse_int=_number)
-    except (ValueError, RecursionError):
-        raise BadMetadata(name=name, code=1) from None
-    reader.need(isinstance(members, dict), 1)
+    members = reader.members(text, 10, 1)
     reader.need(_is_int(members.get("zarr_format")) and members["zarr_format"] == 3 and members.get("node_type") == "array", 2)
     reader.need(all(member in members for member in REQUIRED), 3)
     kind, configuration = reader.part(members["data_type"], 4)
@@ -215,3 +227,40 @@ def read_metadata(name: str, text: bytes) -> Metadata:
     is_big = reader.is_big(members["codecs"], dtype)
     dimensions = reader.others(members, len(shape))
     return Metadata(dtype, shape, chunks, fill, is_big, encoding, separator, dimensions)
+
+
+def read_zarray(name: str, text: bytes) -> Metadata:
+    """Return the layout that a metadata text of version 2 says.
+
+    Parameters
+    ----------
+    name : str
+        The array's name, for the refusal.
+    text : bytes
+        The content of its `.zarray`.
+
+    Raises
+    ------
+    BadMetadata
+        Where the text isn't metadata that the program accepts.
+    """
+    reader = _Reader(name)
+    members = reader.members(text, 30, 21)
+    reader.need(_is_int(members.get("zarr_format")) and members["zarr_format"] == 2, 22)
+    reader.need(all(member in members for member in REQUIRED_V2), 23)
+    said = members["dtype"]
+    reader.need(isinstance(said, str) and len(said) == 3 and said[0] in "<>|" and said[1:] in KINDS_V2, 24)
+    dtype = np.dtype(KINDS_V2[said[1:]])
+    reader.need(said[0] != "|" or dtype.itemsize == 1, 24)
+    shape, chunks = reader.sizes(members["shape"], 0, 25), reader.sizes(members["chunks"], 1, 25)
+    reader.need_limits(shape, chunks, dtype, 25)
+    reader.need(members["compressor"] is None and members["filters"] in (None, []), 28)
+    reader.need(members["order"] == "C", 29)
+    value = members["fill_value"]
+    if dtype == BOOL:
+        reader.need(value is None or isinstance(value, int) and value in (0, 1), 27)
+    else:
+        reader.need(value is None or _is_int(value) and least(dtype) <= value <= greatest(dtype), 27)
+    separator = members.get("dimension_separator", ".")
+    reader.need(separator in (".", "/"), 26)
+    return Metadata(dtype, shape, chunks, int(value or 0), said[0] == ">" and dtype.itemsize > 1, "v2", separator)

@@ -35,6 +35,11 @@ def metadata_key(name: str) -> str:
     return f"{name}/zarr.json"
 
 
+def zarray_key(name: str) -> str:
+    """Return the key of an array's metadata of version 2, which is read where there is none of version 3."""
+    return f"{name}/.zarray"
+
+
 def record_key(name: str) -> str:
     """Return the key of the record of the plan that makes an array."""
     return f"_cubed/{name}/plan.json"

@@ -11,13 +11,13 @@ from .dtypes import NDArray
 from .errors import Exists
 from .files import chunk_slices, whole_chunk, write_file
 from .metadata import Metadata
-from .names import metadata_key, record_key
+from .names import metadata_key, record_key, zarray_key
 from .shapes import Shape
 
 
 def check_absent(folder: str, name: str) -> None:
     """Refuse a name under which there is an array, or the record of a plan that makes one, by Exists."""
-    for key in (record_key(name), metadata_key(name)):
+    for key in (record_key(name), metadata_key(name), zarray_key(name)):
         if os.path.lexists(os.path.join(folder, key)):
             raise Exists(key=key)
 

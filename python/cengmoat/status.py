@@ -9,8 +9,8 @@ from .dtypes import DType
 from .errors import CengmoatError, Unfinished
 from .files import read_file, stored_chunks
 from .locks import is_locked
-from .metadata import Metadata, read_metadata
-from .names import is_name, metadata_key, record_key
+from .metadata import Metadata, read_metadata, read_zarray
+from .names import is_name, metadata_key, record_key, zarray_key
 from .shapes import Shape
 from .show import table_html, table_text
 from .sizes import bytes_text
@@ -88,8 +88,11 @@ class Status(Sequence[ArrayStatus]):
 
 def metadata_of(folder: str, name: str) -> Optional[Metadata]:
     """Return the layout of a stored array, or None where it has no metadata; a BadMetadata where that isn't accepted."""
-    text = read_file(os.path.join(folder, metadata_key(name)))
-    return None if text is None else read_metadata(name, text)
+    for key, read in ((metadata_key(name), read_metadata), (zarray_key(name), read_zarray)):
+        text = read_file(os.path.join(folder, key))
+        if text is not None:
+            return read(name, text)
+    return None
 
 
 def has_record(folder: str, name: str) -> bool:
@@ -120,7 +123,8 @@ def _entries(folder: str) -> list[str]:
 
 def array_names(folder: str) -> list[str]:
     """Return the names of the arrays of a folder that have metadata."""
-    return sorted(name for name in _entries(folder) if os.path.isfile(os.path.join(folder, metadata_key(name))))
+    return sorted(name for name in _entries(folder)
+                  if any(os.path.isfile(os.path.join(folder, key)) for key in (metadata_key(name), zarray_key(name))))
 
 
 def all_names(folder: str) -> list[str]:

@@ -11,6 +11,7 @@ from typing import Any
 from .support import TOP, TYPES, Case, cengmoat, np, xp
 
 TABLE = os.path.join(TOP, "crates", "cu_cases", "data", "metadata.json")
+TABLE_V2 = os.path.join(TOP, "crates", "cu_cases", "data", "zarray.json")
 
 
 class Saving(Case):
@@ -101,19 +102,32 @@ class Saving(Case):
         self.assertEqual(cengmoat.from_zarr(folder, "v").chunks, (1, 2))
         self.assertEqual(cengmoat.Store(folder).status()["v"].stored, 1)
 
-    def test_metadata_as_the_program_reads_it(self) -> None:
-        if not os.path.isfile(TABLE):
-            self.skipTest("the table of cases lies in the repository")
-        with open(TABLE, encoding="utf-8") as file:
-            table = json.load(file)
-        count = 0
-        for case in table["cases"]:
-            for row in case.get("rows", [case]):
-                found = self.read_case({**table.get("shared", {}), **case, **row}, table.get("texts", {}))
-                count += found
-        self.assertGreater(count, 20)
+    def test_version_2_is_read_where_there_is_no_version_3(self) -> None:
+        folder = os.path.join(self.folder, "older")
+        os.makedirs(os.path.join(folder, "x"))
+        with open(os.path.join(folder, "x", ".zarray"), "w", encoding="utf-8") as file:
+            file.write('{"chunks":[2],"compressor":null,"dtype":">i2","fill_value":-1,"filters":null,"order":"C","shape":[4],"zarr_format":2}')
+        with open(os.path.join(folder, "x", "0"), "wb") as file:
+            file.write(bytes([1, 2, 255, 254]))
+        store = cengmoat.Store(folder)
+        self.same(store.read("x"), np.array([258, -2, -1, -1], "int16"))
+        self.assertEqual((store.names(), store.status()["x"].stored), (["x"], 1))
+        with self.assertRaises(cengmoat.Exists):
+            store.save("x", np.zeros(4, "int8"))
 
-    def read_case(self, case: Any, texts: Any) -> int:
+    def test_metadata_as_the_program_reads_it(self) -> None:
+        for path, read in ((TABLE, cengmoat.metadata.read_metadata), (TABLE_V2, cengmoat.metadata.read_zarray)):
+            if not os.path.isfile(path):
+                self.skipTest("the table of cases lies in the repository")
+            with open(path, encoding="utf-8") as file:
+                table = json.load(file)
+            count = 0
+            for case in table["cases"]:
+                for row in case.get("rows", [case]):
+                    count += self.read_case({**table.get("shared", {}), **case, **row}, table.get("texts", {}), read)
+            self.assertGreater(count, 20)
+
+    def read_case(self, case: Any, texts: Any, read: Any) -> int:
         text = case.get("text")
         if isinstance(text, dict) and "named" in text:
             text = texts.get(text["named"])
@@ -121,10 +135,10 @@ class Saving(Case):
             return 0
         data = text.encode() if isinstance(text, str) else json.dumps(text).encode()
         if "refused" not in case:
-            cengmoat.metadata.read_metadata("a", data)
+            read("a", data)
             return 1
         with self.assertRaises(cengmoat.BadMetadata, msg=data) as found:
-            cengmoat.metadata.read_metadata("a", data)
+            read("a", data)
         # (a number, and now and then the member's name)
         self.assertEqual(found.exception.code, int(str(case["refused"]).split()[0]), data)
         return 1
