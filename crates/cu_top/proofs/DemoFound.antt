@@ -46,7 +46,7 @@ use Rattle.cu_demo.specs.declared.input.DemoInput.TheVariants.{Rows, Columns}
 use Rattle.cu_lower.specs.declared.options.Options.{Options}
 use Rattle.cu_top.proofs.DemoKeys.{is_inputs, put_key, piece_apart, listed_apart}
 use Rattle.cu_top.specs.Demo.{AreInputsCalm, InputsPut, IsDemoCalm, IsFound, StoresInputs, WhereTold, demo_array}
-use Rattle.cu_top.specs.Prepare.{job_plan, keys_of, out_metadata, HasNoOwnInput, HasPlan}
+use Rattle.cu_top.specs.Prepare.{job_plan, asked_keys, out_metadata, HasNoOwnInput, HasPlan}
 use Rattle.cu_top.specs.Quiet.{IsCalm, IsCalmFor, run_of_job}
 use Rattle.cu_top.specs.Record.{record_text}
 use Rattle.cu_top.specs.Run.{IsCleared}
@@ -314,28 +314,28 @@ module _ (options : Options) (n : ℕ) (some : 1 ≤ n) (few : n ≤ 2048) (read
   free_at was now key is free = overlay_false was now key is ∙ free
 
   module _ (job : Job) (is : IsDemoJob n job) (planned : HasPlan options job) (own : HasNoOwnInput job.expr)
-      (free : (entry : Contents) → old.held ≡ Some entry → All (IsFree entry) (keys_of options job)) where
+      (free : (entry : Contents) → old.held ≡ Some entry → All (IsFree entry) (asked_keys options job)) where
     name : job.expr.store_as ≡ codes "demo_y"
     name = ap (λ (e : Expression). e.store_as) is.expr
 
     untold : (entry : Contents) → ◌≡◌ {A = Option Contents} None (Some entry) → ⊥
     untold entry told = cc
 
-    found_free : (a b : Option Contents) (entry : Contents) → a ≡ old.held → overlay_held a b ≡ Some entry → All (IsFree entry) (keys_of options job)
+    found_free : (a b : Option Contents) (entry : Contents) → a ≡ old.held → overlay_held a b ≡ Some entry → All (IsFree entry) (asked_keys options job)
     found_free None b entry was told = absurd (untold entry told)
     found_free (Some a) None entry was told = absurd (untold entry told)
     found_free (Some a) (Some b) entry was told =
         let same : overlay a b ≡ entry = some_contents (overlay a b) entry told in
-        subst (λ (h : Contents). All (IsFree h) (keys_of options job)) same
+        subst (λ (h : Contents). All (IsFree h) (asked_keys options job)) same
         (all_free a b (free a (sym was)))
       where
         some_contents : (x y : Contents) → ◌≡◌ {A = Option Contents} (Some x) (Some y) → x ≡ y
         some_contents x y e = cc
 
-        all_free : (a b : Contents) → All (IsFree a) (keys_of options job) → All (IsFree (overlay a b)) (keys_of options job)
+        all_free : (a b : Contents) → All (IsFree a) (asked_keys options job) → All (IsFree (overlay a b)) (asked_keys options job)
         all_free a b frees k d below =
-            free_at a b (get_or (keys_of options job) k d) (listed_apart options job name (laws.sound job planned) (laws.names job planned own) (get_or (keys_of options job) k d)
-            (Contains-get_or (keys_of options job) k d below)) (frees k d below)
+            free_at a b (get_or (asked_keys options job) k d) (listed_apart options job name (laws.sound job planned) (laws.names job planned own) (get_or (asked_keys options job) k d)
+            (Contains-get_or (asked_keys options job) k d below)) (frees k d below)
 
     pub found_cleared : IsCleared options demo_text found start job
     found_cleared = record {

@@ -28,7 +28,7 @@ use Rattle.cu_command.proofs.SeenLemmas.{stepped_none, stepped_same, stepped_the
 use Rattle.cu_load.proofs.AskLemmas.{rose_earlier}
 use Rattle.cu_demo.specs.Expression.{IsDemoJob, demo_text}
 use Rattle.cu_top.specs.Demo.{DemoCase, DemoTells, IsDemoDone, InputsPut, AreInputsFree, IsDemoAskEnd, IsDemoRefused, IsDemoStarted, IsInputsFault, IsResultFault, IsUnread, KeepsInputs, ResultTells, demo_case, demo_run, result_key, result_layout, result_line}
-use Rattle.cu_top.specs.Prepare.{keys_of, out_layout}
+use Rattle.cu_top.specs.Prepare.{asked_keys, out_layout}
 use Rattle.cu_top.specs.Quiet.{IsCalm, IsCalmFor}
 use Rattle.cu_top.specs.Report.{report_line}
 use Rattle.cu_top.specs.Run.{RunCase, case, scene, job_run, plan_in, env_of, IsStarted, HoldsAll, IsCounted, IsMeant, IsQuietEntry, IsStop, Ran, Ended, WhereLeft}
@@ -49,7 +49,7 @@ refused_plan lack options n s status (job, is, why) = absurd why
 module _ (lack : Bool) (c : DemoCase) where
   -- asking for the keys ended
   pub asked : (job : Job) (status : Status) → IsDemoJob c.size job → WroteNothing c.old c.new
-      → IsDemoAskEnd (c.options.retries + 1) (keys_of c.options job) c.old.depot c.new.depot status → DemoTells lack c status
+      → IsDemoAskEnd (c.options.retries + 1) (asked_keys c.options job) c.old.depot c.new.depot status → DemoTells lack c status
   asked job (Exists key) is quiet end = (quiet, (job, is, end))
   asked job (DepotFailed key) is quiet end = inl (quiet, (job, is, end))
   asked job NoMemory is quiet end = inl quiet

@@ -18,7 +18,7 @@ use Rattle.cu_top.proofs.DemoKeys.{is_inputs, piece_apart}
 use Rattle.cu_top.proofs.DemoLemmas.{run_to}
 use Rattle.cu_top.proofs.DemoStores.{calm_found, inputs_kept}
 use Rattle.cu_top.specs.Demo.{AreInputsCalm, AreInputsFree, InputsPut, IsDemoCalm, IsFound, StoresInputs, WhereTold}
-use Rattle.cu_top.specs.Prepare.{HasNoOwnInput, HasPlan, keys_of}
+use Rattle.cu_top.specs.Prepare.{HasNoOwnInput, HasPlan, asked_keys}
 use Rattle.cu_top.specs.Quiet.{IsCalm}
 use Rattle.cu_top.specs.Run.{IsCleared, IsStarted, job_run}
 
@@ -36,7 +36,7 @@ pub record Way (options : Options) (n : ℕ) (job : Job) (old asked start : Show
   pub planned : HasPlan options job
   pub own : HasNoOwnInput job.expr
   pub inputs : AreInputsFree old.held
-  pub free : (entry : Contents) → old.held ≡ Some entry → All (IsFree entry) (keys_of options job)
+  pub free : (entry : Contents) → old.held ≡ Some entry → All (IsFree entry) (asked_keys options job)
 
 module _ (options : Options) (n : ℕ) (job : Job) (old asked start : Shown) (way : Way options n job old asked start) where
   pub both : Stepped (InputsPut n) old start

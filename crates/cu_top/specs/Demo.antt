@@ -33,7 +33,7 @@ use Rattle.cu_demo.specs.Input.{demo_elements, demo_layout, demo_name}
 use Rattle.cu_demo.specs.declared.input.DemoInput.{DemoInput}
 use Rattle.cu_demo.specs.declared.input.DemoInput.TheVariants.{Rows, Columns}
 use Rattle.cu_top.specs.Ask.{IsFirstOf}
-use Rattle.cu_top.specs.Prepare.{job_plan, keys_of, HasPlan, IsUnplanned}
+use Rattle.cu_top.specs.Prepare.{job_plan, asked_keys, HasPlan, IsUnplanned}
 use Rattle.cu_top.specs.Quiet.{run_of_job}
 use Rattle.cu_top.specs.Report.{report_line}
 use Rattle.cu_top.specs.Run.{RunCase, scene, case, plan_in, IsStarted, HoldsAll, IsCounted, Ran}
@@ -151,7 +151,7 @@ pub record IsFound (n : ℕ) (old found : Shown) : Type 0 where
 pub record IsDemoStarted (c : DemoCase) (job : Job) (found : Shown) : Type 0 where
   pub accepted : IsDemoJob c.size job
   pub inputs : AreInputsFree c.old.depot.held
-  pub keys : (entry : Contents) → c.old.depot.held ≡ Some entry → All (IsFree entry) (keys_of c.options job)
+  pub keys : (entry : Contents) → c.old.depot.held ≡ Some entry → All (IsFree entry) (asked_keys c.options job)
   pub entry : IsFound c.size c.old.depot found
 
 -- the run from what it found to what is seen at the end
@@ -239,7 +239,7 @@ IsDemoUnplanned c status = WroteNothing c.old c.new × OfDemo c (λ job. IsUnpla
 -- asking for the keys ended so, and nothing was stored
 abbrev pub IsDemoAsked : DemoCase → Status → Type 0
 IsDemoAsked c status = WroteNothing c.old c.new
-    × OfDemo c (λ job. IsDemoAskEnd (c.options.retries + 1) (keys_of c.options job) c.old.depot c.new.depot status)
+    × OfDemo c (λ job. IsDemoAskEnd (c.options.retries + 1) (asked_keys c.options job) c.old.depot c.new.depot status)
 
 -- storing the inputs ended so: of all keys only theirs have changed, each to its value
 abbrev pub IsDemoUnstored : DemoCase → Status → Type 0

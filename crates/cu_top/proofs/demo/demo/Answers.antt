@@ -10,7 +10,7 @@ use Rattle.cu_top.proofs.DemoLemmas.{MeantLaw, asked, refused_plan, run_to, stop
 use Rattle.cu_top.proofs.DemoWay.{Way, way_calm, way_cleared, way_found, way_keeps}
 use Rattle.cu_top.proofs.PlanLemmas.{differs, meant}
 use Rattle.cu_top.specs.Demo.{IsDemoStarted, ResultTells, demo_case, result_line}
-use Rattle.cu_top.specs.Prepare.{keys_of, out_metadata, HasNoOwnInput, HasPlan}
+use Rattle.cu_top.specs.Prepare.{asked_keys, out_metadata, HasNoOwnInput, HasPlan}
 use Rattle.cu_top.specs.Record.{record_text}
 use Rattle.cu_top.specs.Report.{report_line}
 use Rattle.cu_top.proofs.demo.demo.Goals as goal
@@ -69,7 +69,7 @@ store_plan-requires-clause-quiet g c κs within =
       planned = subst (HasPlan options) (sym same) c.in-Ok.ensures.planned;
       own = subst (λ (j : Job). HasNoOwnInput j.expr) (sym same) c.in_default.ensures.own;
       inputs = c.in_default.ensures.inputs;
-      free = λ entry is. subst (λ (j : Job). All (IsFree entry) (keys_of options j)) (sym same) (c.in_default.ensures.keys options entry c.in-Ok.ensures.plan is);
+      free = λ entry is. subst (λ (j : Job). All (IsFree entry) (asked_keys options j)) (sym same) (c.in_default.ensures.keys options entry c.in-Ok.ensures.plan is);
     } in
     (demo_text, found_of old start, way_cleared options c.args.size job old mid start way, way_calm options c.args.size job old mid start way)
 
@@ -104,7 +104,7 @@ returns-in-Ok-store_plan g c =
       planned = subst (HasPlan options) (sym same) c.in-Ok.ensures.planned;
       own = subst (λ (j : Job). HasNoOwnInput j.expr) (sym same) c.in_default.ensures.own;
       inputs = c.in_default.ensures.inputs;
-      free = λ entry is. subst (λ (j : Job). All (IsFree entry) (keys_of options j)) (sym same) (c.in_default.ensures.keys options entry c.in-Ok.ensures.plan is);
+      free = λ entry is. subst (λ (j : Job). All (IsFree entry) (asked_keys options j)) (sym same) (c.in_default.ensures.keys options entry c.in-Ok.ensures.plan is);
     } in
     let found = found_of old start in
     let seen_by = demo_case options n (seen before old) (seen after now) in
@@ -155,7 +155,7 @@ returns g c =
       planned = subst (HasPlan options) (sym same) c.in-Ok.ensures.planned;
       own = subst (λ (j : Job). HasNoOwnInput j.expr) (sym same) c.in_default.ensures.own;
       inputs = c.in_default.ensures.inputs;
-      free = λ entry is. subst (λ (j : Job). All (IsFree entry) (keys_of options j)) (sym same) (c.in_default.ensures.keys options entry c.in-Ok.ensures.plan is);
+      free = λ entry is. subst (λ (j : Job). All (IsFree entry) (asked_keys options j)) (sym same) (c.in_default.ensures.keys options entry c.in-Ok.ensures.plan is);
     } in
     let found = found_of old start in
     let seen_by = demo_case options n (seen out old) (seen out now) in
