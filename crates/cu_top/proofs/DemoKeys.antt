@@ -20,6 +20,7 @@ use Rattle.cu_work.specs.Order.{plan_keys, operation_keys, task_keys}
 use Rattle.cu_command.specs.declared.job.Job.{Job}
 use Rattle.cu_load.specs.Load.{IsArrayKey}
 use Rattle.cu_load.proofs.StoreLemmas.{array_put_key}
+use Rattle.cu_demo.specs.Input.{demo_name}
 use Rattle.cu_demo.specs.declared.input.DemoInput.{DemoInput}
 use Rattle.cu_demo.specs.declared.input.DemoInput.TheVariants.{Rows, Columns}
 use Rattle.cu_lower.specs.declared.options.Options.{Options}
@@ -66,6 +67,26 @@ below_rows n key (inr (k, below, same)) = ap (starts (codes "demo_a/")) same
 pub not_below_rows : (n : ℕ) (key : List ℕ) → IsArrayKey (demo_array Columns n) key → starts (codes "demo_a/") key ≡ false
 not_below_rows n key (inl same) = ap (starts (codes "demo_a/")) same
 not_below_rows n key (inr (k, below, same)) = ap (starts (codes "demo_a/")) same
+
+-- the key isn't one that is put: metadata of version 2 of an input
+abbrev is_hidden : List ℕ → Bool
+is_hidden key = starts (codes "demo_a/.") key || starts (codes "demo_b/.") key
+
+not_hidden : (input : DemoInput) (n : ℕ) (key : List ℕ) → IsArrayKey (demo_array input n) key → is_hidden key ≡ false
+not_hidden Rows n key (inl same) = ap is_hidden same
+not_hidden Rows n key (inr (k, below, same)) = ap is_hidden same
+not_hidden Columns n key (inl same) = ap is_hidden same
+not_hidden Columns n key (inr (k, below, same)) = ap is_hidden same
+
+hidden_zarray : (input : DemoInput) → is_hidden (zarray_key_of (demo_name input)) ≡ true
+hidden_zarray Rows = refl
+hidden_zarray Columns = refl
+
+pub no_zarray_put : (input : DemoInput) (n : ℕ) (value : Option (List ℕ)) → InputsPut n (zarray_key_of (demo_name input)) value → ⊥
+no_zarray_put input n value (inl put) =
+    true≢false (sym (hidden_zarray input) ∙ not_hidden Rows n (zarray_key_of (demo_name input)) (array_put_key (demo_array Rows n) (zarray_key_of (demo_name input)) value put))
+no_zarray_put input n value (inr put) =
+    true≢false (sym (hidden_zarray input) ∙ not_hidden Columns n (zarray_key_of (demo_name input)) (array_put_key (demo_array Columns n) (zarray_key_of (demo_name input)) value put))
 
 named_rows : IsArrayName (codes "demo_a")
 named_rows = record {

@@ -5,9 +5,9 @@ use Rattle.std.specs.Fmt.{signed_decimal}
 use Rattle.cu_num.specs.declared.types.Dtype.TheVariants.{Int64}
 use Rattle.cu_node.specs.Info.{info_of}
 use Rattle.cu_store.specs.Faults.{Rose}
-use Rattle.cu_store.specs.Held.{Contents, Write}
+use Rattle.cu_store.specs.Held.{Contents, Write, IsAmong}
 use Rattle.cu_store.specs.Steps.{Shown, Changes, NoChange, OrLate, Lands, AllLateIn}
-use Rattle.cu_zarr.specs.Key.{chunk_key_of}
+use Rattle.cu_zarr.specs.Key.{chunk_key_of, zarray_key_of}
 use Rattle.cu_zarr.specs.Stored.{stored_element}
 use Rattle.cu_op.specs.Layout.{layout_view}
 use Rattle.cu_op.specs.Value.{stored_inputs}
@@ -71,9 +71,14 @@ AreInputsFree held = AreFree (demo_name Rows) held × AreFree (demo_name Columns
 
 -- ---- the premise
 
+-- no put on the key of metadata of version 2 of an input is late, since none is made for it
+abbrev pub HidesNone : List Write → Type 0
+HidesNone late = (input : DemoInput) (bytes : List ℕ) → IsAmong late (zarray_key_of (demo_name input)) bytes → ⊥
+
 -- No put that is late when the call begins carries another value of an input, or of the plan over the inputs.
 pub record IsDemoCalm (options : Options) (n : ℕ) (old : Shown) : Type 0 where
   pub inputs : AreInputsCalm n old.late
+  pub hidden : HidesNone old.late
   pub plan : (held : Contents) (job : Job) → StoresInputs n (Some held) → IsDemoJob n job → HasPlan options job
       → IsQuiet (run_of_job options job) (stored_inputs (job_plan options job).arrays held) held old.late
 
