@@ -44,7 +44,9 @@ use Rattle.cu_demo.specs.Input.{demo_layout, demo_name}
 use Rattle.cu_demo.specs.declared.input.DemoInput.{DemoInput}
 use Rattle.cu_demo.specs.declared.input.DemoInput.TheVariants.{Rows, Columns}
 use Rattle.cu_lower.specs.declared.options.Options.{Options}
+use Rattle.cu_top.proofs.DemoWhole.{OnlyInputs, demo_whole}
 use Rattle.cu_top.proofs.DemoKeys.{is_inputs, put_key, piece_apart, listed_apart, no_zarray_put}
+use Rattle.cu_top.specs.Complete.{AreWhole}
 use Rattle.cu_top.specs.Demo.{AreInputsCalm, HidesNone, InputsPut, IsDemoCalm, IsFound, StoresInputs, WhereTold, demo_array}
 use Rattle.cu_top.specs.Prepare.{job_plan, asked_keys, out_metadata, HasNoOwnInput, HasPlan}
 use Rattle.cu_top.specs.Quiet.{IsCalm, IsCalmFor, run_of_job}
@@ -196,6 +198,12 @@ some_same v a b one other = cc
 not_gone : (v : Option (List ℕ)) (a : List ℕ) → v ≡ None → v ≡ Some a → ⊥
 not_gone v a none some = cc
 
+untold_held : (entry : Contents) → ◌≡◌ {A = Option Contents} None (Some entry) → ⊥
+untold_held entry told = cc
+
+same_held : (x y : Contents) → ◌≡◌ {A = Option Contents} (Some x) (Some y) → x ≡ y
+same_held x y e = cc
+
 none_of_two : (a : List ℕ) (rest : List (List ℕ)) → ◌≡◌ {A = List (List ℕ)} [] (a ∷ rest) → ⊥
 none_of_two a rest e = cc
 
@@ -309,6 +317,7 @@ module _ (options : Options) (n : ℕ) (some : 1 ≤ n) (few : n ≤ 2048) (read
 pub record DemoLaws (options : Options) : Type 0 where
   pub sound : (job : Job) → HasPlan options job → Sound (job_plan options job)
   pub names : (job : Job) → HasPlan options job → HasNoOwnInput job.expr → HasPlanNames (run_of_job options job) job.expr.store_as (record_text options job) (out_metadata job)
+  pub only : (job : Job) → HasPlan options job → OnlyInputs options job
 
 module _ (options : Options) (n : ℕ) (some : 1 ≤ n) (few : n ≤ 2048) (read_back : ReadBack) (rows : IsArrayLayout (demo_layout Rows n)) (columns : IsArrayLayout (demo_layout Columns n))
     (laws : DemoLaws options) (old start : Shown) (both : Stepped (InputsPut n) old start) (stores : AreInputsCalm n old.late → StoresInputs n start.held)
@@ -332,20 +341,14 @@ module _ (options : Options) (n : ℕ) (some : 1 ≤ n) (few : n ≤ 2048) (read
     name : job.expr.store_as ≡ codes "demo_y"
     name = ap (λ (e : Expression). e.store_as) is.expr
 
-    untold : (entry : Contents) → ◌≡◌ {A = Option Contents} None (Some entry) → ⊥
-    untold entry told = cc
-
     found_free : (a b : Option Contents) (entry : Contents) → a ≡ old.held → overlay_held a b ≡ Some entry → All (IsFree entry) (asked_keys options job)
-    found_free None b entry was told = absurd (untold entry told)
-    found_free (Some a) None entry was told = absurd (untold entry told)
+    found_free None b entry was told = absurd (untold_held entry told)
+    found_free (Some a) None entry was told = absurd (untold_held entry told)
     found_free (Some a) (Some b) entry was told =
-        let same : overlay a b ≡ entry = some_contents (overlay a b) entry told in
+        let same : overlay a b ≡ entry = same_held (overlay a b) entry told in
         subst (λ (h : Contents). All (IsFree h) (asked_keys options job)) same
         (all_free a b (free a (sym was)))
       where
-        some_contents : (x y : Contents) → ◌≡◌ {A = Option Contents} (Some x) (Some y) → x ≡ y
-        some_contents x y e = cc
-
         all_free : (a b : Contents) → All (IsFree a) (asked_keys options job) → All (IsFree (overlay a b)) (asked_keys options job)
         all_free a b frees k d below =
             free_at a b (get_or (asked_keys options job) k d) (listed_apart options job name (laws.sound job planned) (laws.names job planned own) (get_or (asked_keys options job) k d)
@@ -413,17 +416,39 @@ module _ (options : Options) (n : ℕ) (some : 1 ≤ n) (few : n ≤ 2048) (read
       not_later (inl put) = no_zarray_put input n (Some bytes) put
       not_later (inr (other, same, first)) = hidden input other first
 
+  -- the run has no other job, and no other inputs
+  job_of : (a b : Contents) → ◌≡◌ {A = Option Contents} (Some a) old.held → ◌≡◌ {A = Option Contents} (Some b) start.held → (job : Job) → IsJob found demo_text job
+      → IsDemoCalm options n old × StoresInputs n (Some (overlay a b)) × IsDemoJob n job
+  job_of a b was now job is =
+      let calm : IsDemoCalm options n old = subst (λ (h : Option Contents). WhereTold h (IsDemoCalm options n old)) (sym was) quiet in
+      let stored : StoresInputs n (Some (overlay a b)) = told_calm (Some a) (Some b) was now calm in
+      let told : found.held ≡ Some (overlay a b) = λ i. overlay_held (sym was i) (sym now i) in
+      (
+        calm,
+        stored,
+        only_job options n some few read_back rows columns found found_stored (overlay a b) told stored (settled_in (overlay a b) calm.inputs stored) (hides_none calm.hidden) job is,
+      )
+
   calm_of : (a b : Option Contents) → a ≡ old.held → b ≡ start.held → (job : Job) → IsJob found demo_text job → HasPlan options job
       → IsCalmFor (run_of_job options job) (overlay_held a b) (old.late ++ start.late)
   calm_of None b was now job is planned = tt
   calm_of (Some a) None was now job is planned = tt
   calm_of (Some a) (Some b) was now job is planned =
-      let calm : IsDemoCalm options n old = subst (λ (h : Option Contents). WhereTold h (IsDemoCalm options n old)) (sym was) quiet in
-      let stored : StoresInputs n (Some (overlay a b)) = told_calm (Some a) (Some b) was now calm in
-      let told : found.held ≡ Some (overlay a b) = λ i. overlay_held (sym was i) (sym now i) in
-      let demo = only_job options n some few read_back rows columns found found_stored (overlay a b) told stored (settled_in (overlay a b) calm.inputs stored) (hides_none calm.hidden) job is in
+      let (calm, stored, demo) = job_of a b was now job is in
       let own : HasNoOwnInput job.expr = subst HasNoOwnInput (sym demo.expr) refl in
       found_quiet (overlay a b) job planned demo calm.inputs stored (calm.plan (overlay a b) job stored demo planned) own
 
   pub found_calm : IsCalm options demo_text found
   found_calm job is planned = calm_of old.held start.held refl refl job is planned
+
+  -- each chunk of an input that it finds is whole
+  whole_of : (a b : Option Contents) → a ≡ old.held → b ≡ start.held → (entry : Contents) → overlay_held a b ≡ Some entry → (job : Job) → IsJob found demo_text job → HasPlan options job
+      → AreWhole (job_plan options job) entry
+  whole_of None b was now entry told job is planned = absurd (untold_held entry told)
+  whole_of (Some a) None was now entry told job is planned = absurd (untold_held entry told)
+  whole_of (Some a) (Some b) was now entry told job is planned =
+      let (calm, stored, demo) = job_of a b was now job is in
+      subst (AreWhole (job_plan options job)) (same_held (overlay a b) entry told) (demo_whole options n job demo (laws.only job planned) (overlay a b) stored)
+
+  pub found_whole : (entry : Contents) → found.held ≡ Some entry → (job : Job) → IsJob found demo_text job → HasPlan options job → AreWhole (job_plan options job) entry
+  found_whole entry told job is planned = whole_of old.held start.held refl refl entry told job is planned

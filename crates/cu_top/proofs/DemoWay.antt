@@ -13,9 +13,9 @@ use Rattle.cu_lower.specs.declared.options.Options.{Options}
 use Rattle.cu_form.specs.Expression.{Expression}
 use Rattle.cu_read.specs.Read.{expression_of}
 use Rattle.cu_state.specs.Left.{RunChange}
-use Rattle.cu_top.proofs.DemoFound.{DemoLaws, ReadBack, found_calm, found_cleared, found_of, is_found, ok_expression, still_inputs}
+use Rattle.cu_top.proofs.DemoFound.{DemoLaws, ReadBack, found_calm, found_cleared, found_of, found_whole, is_found, ok_expression, still_inputs}
 use Rattle.cu_top.proofs.DemoKeys.{is_inputs, piece_apart}
-use Rattle.cu_top.proofs.DemoLemmas.{run_to}
+use Rattle.cu_top.proofs.DemoLemmas.{WholeLaw, run_to}
 use Rattle.cu_top.proofs.DemoStores.{calm_found, inputs_kept}
 use Rattle.cu_top.specs.Demo.{AreInputsCalm, AreInputsFree, InputsPut, IsDemoCalm, IsFound, StoresInputs, WhereTold}
 use Rattle.cu_top.specs.Prepare.{HasNoOwnInput, HasPlan, asked_keys}
@@ -53,6 +53,10 @@ module _ (options : Options) (n : ℕ) (job : Job) (old asked start : Shown) (wa
   pub way_calm : IsCalm options demo_text (found_of old start)
   way_calm =
       found_calm options n way.some way.few way.read_back (demo_storable Rows n way.some way.few) (demo_storable Columns n way.some way.few) way.laws old start both stored way.quiet
+
+  pub way_whole : WholeLaw options (found_of old start)
+  way_whole =
+      found_whole options n way.some way.few way.read_back (demo_storable Rows n way.some way.few) (demo_storable Columns n way.some way.few) way.laws old start both stored way.quiet
 
   pub way_found : IsFound n old (found_of old start)
   way_found = is_found n old start both stored

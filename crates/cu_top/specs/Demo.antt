@@ -1,13 +1,14 @@
 -- What the command `demo` answers, and what it leaves. This project's own rules.
 use Rattle.std.specs.Prelude.{◌≡◌, ◌≢◌, ◌⊎◌, Bool, ℕ, ◌+◌, ◌≤◌, ℤ, List, [], ◌∷◌, ◌++◌}
-use Rattle.std.specs.Prelude.{length, codes, decimal, All, Option, Some, None}
+use Rattle.std.specs.Prelude.{length, codes, decimal, All, Contains, Option, Some, None}
 use Rattle.std.specs.Fmt.{signed_decimal}
 use Rattle.cu_num.specs.declared.types.Dtype.TheVariants.{Int64}
 use Rattle.cu_node.specs.Info.{info_of}
 use Rattle.cu_store.specs.Faults.{Rose}
 use Rattle.cu_store.specs.Held.{Contents, Write, IsAmong}
 use Rattle.cu_store.specs.Steps.{Shown, Changes, NoChange, OrLate, Lands, AllLateIn}
-use Rattle.cu_zarr.specs.Key.{chunk_key_of, zarray_key_of}
+use Rattle.cu_name.specs.Keys.{record_key_of}
+use Rattle.cu_zarr.specs.Key.{chunk_key_of, metadata_key_of, zarray_key_of}
 use Rattle.cu_zarr.specs.Stored.{stored_element}
 use Rattle.cu_op.specs.Layout.{layout_view}
 use Rattle.cu_op.specs.Value.{stored_inputs}
@@ -15,6 +16,7 @@ use Rattle.cu_op.specs.declared.layout.Layout.{Layout}
 use Rattle.cu_state.specs.Left.{IsQuiet}
 use Rattle.cu_lower.specs.Parts.{made_layout}
 use Rattle.cu_lower.specs.declared.options.Options.{Options}
+use Rattle.cu_plan.specs.Refusal.{refusal_of}
 use Rattle.cu_work.specs.Order.{IsFree}
 use Rattle.cu_region.specs.Steady.{HoldsLength}
 use Rattle.cu_command.specs.Keys.{IsHeldIn}
@@ -196,13 +198,6 @@ IsUnread tries old new (BadChunk key got want) = (key ≡ result_key) × (want �
 IsUnread tries old new NoMemory = Unit {0}
 IsUnread tries old new status = ⊥
 
--- the same, where the output is complete: the chunk has another length only where the contents aren't told
-abbrev pub IsResultFault : ℕ → Shown → Shown → Status → Type 0
-IsResultFault tries old new (DepotFailed key) = (key ≡ result_key) × Rose tries old.faults new.faults
-IsResultFault tries old new (BadChunk key got want) = (key ≡ result_key) × (want ≡ 8) × (got ≢ want) × (new.held ≡ None)
-IsResultFault tries old new NoMemory = Unit {0}
-IsResultFault tries old new status = ⊥
-
 -- what reading the element and writing its text answers
 abbrev pub ResultTells : ℕ → (ℤ → List ℕ) → Seen → Seen → Status → Type 0
 ResultTells tries text old new Done = (x : ℤ) × IsResult new.depot.held x × WroteFront old.out.told new.out.told (text x) (length (text x))
@@ -257,7 +252,11 @@ IsDemoStopped lack c status = IsSilent c × DemoRan c (λ r job. Ran lack r stat
 
 -- the output is complete, and reading its chunk ended so
 abbrev pub IsDemoUnread : DemoCase → Status → Type 0
-IsDemoUnread c status = IsSilent c × IsDemoComplete c (λ r job n. IsResultFault (c.options.retries + 1) c.old.depot c.new.depot status)
+IsDemoUnread c status = IsSilent c × IsDemoComplete c (λ r job n. IsUnread (c.options.retries + 1) c.old.depot c.new.depot status)
+
+-- 13: a chunk of an input or of the output has another length, which is so only where the contents aren't told
+abbrev pub IsDemoBadChunk : Bool → DemoCase → List ℕ → ℕ → ℕ → Type 0
+IsDemoBadChunk lack c key got want = (c.new.depot.held ≡ None) × (IsDemoStopped lack c (BadChunk key got want) ⊎ IsDemoUnread c (BadChunk key got want))
 
 -- what the command answers, of a depot whose yards lack memory or don't
 abbrev pub DemoTells : Bool → DemoCase → Status → Type 0
@@ -267,8 +266,25 @@ DemoTells lack c (OverMemory node need allowed) = IsDemoUnplanned c (OverMemory 
 DemoTells lack c (OverLimit which count) = IsDemoUnplanned c (OverLimit which count)
 DemoTells lack c (Exists key) = IsDemoAsked c (Exists key)
 DemoTells lack c (TaskFailed op task) = KeepsInputs c × IsDemoStopped lack c (TaskFailed op task)
-DemoTells lack c (BadChunk key got want) = IsDemoStopped lack c (BadChunk key got want) ⊎ IsDemoUnread c (BadChunk key got want)
+DemoTells lack c (BadChunk key got want) = IsDemoBadChunk lack c key got want
 DemoTells lack c (DepotFailed key) = IsDemoAsked c (DepotFailed key) ⊎ IsDemoUnstored c (DepotFailed key)
     ⊎ IsDemoStopped lack c (DepotFailed key) ⊎ IsDemoUnread c (DepotFailed key)
 DemoTells lack c NoMemory = WroteNothing c.old c.new ⊎ IsDemoUnstored c NoMemory ⊎ IsDemoStopped lack c NoMemory ⊎ IsDemoUnread c NoMemory
 DemoTells lack c status = ⊥
+
+-- ---- when a demonstration is served
+
+-- the keys that are asked for of an array that is made
+abbrev pub array_keys : List ℕ → List (List ℕ)
+array_keys name = record_key_of name ∷ metadata_key_of name ∷ zarray_key_of name ∷ []
+
+-- the key is one of those that the demonstration asks for
+abbrev pub IsDemoAskedKey : Options → Job → List ℕ → Type 0
+IsDemoAskedKey options job key =
+    Contains (array_keys (demo_name Rows)) key ⊎ Contains (array_keys (demo_name Columns)) key ⊎ Contains (asked_keys options job) key
+
+-- No live node needs more than is allowed, and the counts keep their limits. No key that is asked for is held, and no put on one is late.
+pub record IsDemoAtRest (options : Options) (n : ℕ) (entry : Contents) (old : Shown) : Type 0 where
+  pub planned : (job : Job) → IsDemoJob n job → refusal_of options job.expr job.types ≡ None
+  pub free : (job : Job) (key : List ℕ) → IsDemoJob n job → IsDemoAskedKey options job key → entry key ≡ None
+  pub settled : (job : Job) (key bytes : List ℕ) → IsDemoJob n job → IsDemoAskedKey options job key → IsAmong old.late key bytes → ⊥

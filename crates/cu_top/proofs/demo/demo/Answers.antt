@@ -7,7 +7,7 @@ use Rattle.cu_demo.specs.Expression.{IsDemoJob, demo_text}
 use Rattle.cu_work.specs.Order.{IsFree}
 use Rattle.cu_top.proofs.DemoFound.{found_of}
 use Rattle.cu_top.proofs.DemoLemmas.{MeantLaw, asked, refused_plan, run_to, stopped, told, unstored}
-use Rattle.cu_top.proofs.DemoWay.{Way, way_calm, way_cleared, way_found, way_keeps}
+use Rattle.cu_top.proofs.DemoWay.{Way, way_calm, way_cleared, way_found, way_keeps, way_whole}
 use Rattle.cu_top.proofs.PlanLemmas.{differs, meant}
 use Rattle.cu_top.specs.Demo.{IsDemoStarted, ResultTells, demo_case, result_line}
 use Rattle.cu_top.specs.Prepare.{asked_keys, out_metadata, HasNoOwnInput, HasPlan}
@@ -60,6 +60,7 @@ store_plan-requires-clause-quiet g c κs within =
       laws = record {
         sound = λ job planned. c.merged_plan_law.ensures.sound job.expr job.types job.inputs.items options planned;
         names = λ job planned own. c.merged_plan_law.ensures.names job.expr job.types job.inputs.items options (record_text options job) (out_metadata job) planned (differs job.expr own);
+        only = λ job planned a below given. c.merged_plan_law.ensures.only job.expr job.types job.inputs.items options a planned below given;
       };
       first = c.ask_demo.ensures.step;
       second = c.store_inputs.ensures.step;
@@ -95,6 +96,7 @@ returns-in-Ok-store_plan g c =
       laws = record {
         sound = λ job planned. c.merged_plan_law.ensures.sound job.expr job.types job.inputs.items options planned;
         names = λ job planned own. c.merged_plan_law.ensures.names job.expr job.types job.inputs.items options (record_text options job) (out_metadata job) planned (differs job.expr own);
+        only = λ job planned a below given. c.merged_plan_law.ensures.only job.expr job.types job.inputs.items options a planned below given;
       };
       first = c.ask_demo.ensures.step;
       second = c.store_inputs.ensures.step;
@@ -146,6 +148,7 @@ returns g c =
       laws = record {
         sound = λ job planned. c.merged_plan_law.ensures.sound job.expr job.types job.inputs.items options planned;
         names = λ job planned own. c.merged_plan_law.ensures.names job.expr job.types job.inputs.items options (record_text options job) (out_metadata job) planned (differs job.expr own);
+        only = λ job planned a below given. c.merged_plan_law.ensures.only job.expr job.types job.inputs.items options a planned below given;
       };
       first = c.ask_demo.ensures.step;
       second = c.store_inputs.ensures.step;
@@ -166,6 +169,6 @@ returns g c =
       entry = way_found options n job old mid start way;
     } in
     record {
-      answer = stopped lack seen_by job found c.in-Err-store_plan.status refl begun (λ other s. way_keeps options n job old mid start way now other s) c.in-Err-store_plan.ensures.stopped
+      answer = stopped lack seen_by found (way_calm options n job old mid start way) (way_whole options n job old mid start way) job c.in-Err-store_plan.status refl begun (λ other s. way_keeps options n job old mid start way now other s) c.in-Err-store_plan.ensures.stopped
           (c.in-Err-store_plan.ensures.ended demo_text found (stream None 0) (stream None 0) (stream None 0) (stream None 0) (way_cleared options n job old mid start way));
     }
