@@ -47,7 +47,7 @@ use Rattle.cu_lower.specs.declared.options.Options.{Options}
 use Rattle.cu_top.proofs.DemoWhole.{OnlyInputs, demo_whole}
 use Rattle.cu_top.proofs.DemoKeys.{is_inputs, put_key, piece_apart, listed_apart, no_zarray_put}
 use Rattle.cu_top.specs.Complete.{AreWhole}
-use Rattle.cu_top.specs.Demo.{AreInputsCalm, HidesNone, InputsPut, IsDemoCalm, IsFound, StoresInputs, WhereTold, demo_array}
+use Rattle.cu_top.specs.Demo.{AreInputsCalm, HidesNone, InputsPut, IsDemoCalm, FoundByDemo, StoresInputs, WhereTold, demo_array}
 use Rattle.cu_top.specs.Prepare.{job_plan, asked_keys, out_metadata, HasNoOwnInput, HasPlan}
 use Rattle.cu_top.specs.Quiet.{IsCalm, IsCalmFor, run_of_job}
 use Rattle.cu_top.specs.Record.{record_text}
@@ -149,7 +149,7 @@ module _ (n : ℕ) (old start : Shown) (both : Stepped (InputsPut n) old start) 
   stores_found (Some a) None stores = (tt, tt)
   stores_found (Some a) (Some b) stores = stores
 
-  pub is_found : (AreInputsCalm n old.late → StoresInputs n start.held) → IsFound n old (found_of old start)
+  pub is_found : (AreInputsCalm n old.late → StoresInputs n start.held) → FoundByDemo n old (found_of old start)
   is_found stores = record {
     lands = lands_until old.held start.held both.step.lands;
     late = late_found;

@@ -17,7 +17,7 @@ use Rattle.cu_top.proofs.DemoFound.{DemoLaws, ReadBack, found_calm, found_cleare
 use Rattle.cu_top.proofs.DemoKeys.{is_inputs, piece_apart}
 use Rattle.cu_top.proofs.DemoLemmas.{WholeLaw, run_to}
 use Rattle.cu_top.proofs.DemoStores.{calm_found, inputs_kept}
-use Rattle.cu_top.specs.Demo.{AreInputsCalm, AreInputsFree, InputsPut, IsDemoCalm, IsFound, StoresInputs, WhereTold}
+use Rattle.cu_top.specs.Demo.{AreInputsCalm, AreInputsFree, InputsPut, IsDemoCalm, FoundByDemo, StoresInputs, WhereTold}
 use Rattle.cu_top.specs.Prepare.{HasNoOwnInput, HasPlan, asked_keys}
 use Rattle.cu_top.specs.Quiet.{IsCalm}
 use Rattle.cu_top.specs.Run.{IsCleared, IsStarted, job_run}
@@ -58,7 +58,7 @@ module _ (options : Options) (n : ℕ) (job : Job) (old asked start : Shown) (wa
   way_whole =
       found_whole options n way.some way.few way.read_back (demo_storable Rows n way.some way.few) (demo_storable Columns n way.some way.few) way.laws old start both stored way.quiet
 
-  pub way_found : IsFound n old (found_of old start)
+  pub way_found : FoundByDemo n old (found_of old start)
   way_found = is_found n old start both stored
 
   -- the inputs stay stored while the plan's keys are put

@@ -19,7 +19,6 @@ use Rattle.cu_lower.specs.declared.options.Options.{Options}
 use Rattle.cu_plan.specs.Refusal.{refusal_of}
 use Rattle.cu_work.specs.Order.{IsFree}
 use Rattle.cu_region.specs.Steady.{HoldsLength}
-use Rattle.cu_command.specs.Keys.{IsHeldIn}
 use Rattle.cu_command.specs.Seen.{Seen, Stepped, WroteNothing, stream}
 use Rattle.cu_command.specs.Streams.{WroteFront}
 use Rattle.cu_command.specs.declared.job.Job.{Job}
@@ -27,7 +26,7 @@ use Rattle.cu_command.specs.declared.status.Status.{Status}
 use Rattle.cu_command.specs.declared.status.Status.TheVariants.{Done, OverMemory, OverLimit}
 use Rattle.cu_command.specs.declared.status.Status.TheVariants.{Exists, TaskFailed, WriteFault}
 use Rattle.cu_command.specs.declared.status.Status.TheVariants.{BadChunk, DepotFailed, NoMemory}
-use Rattle.cu_load.specs.Keys.{AreFree, IsAskedFor}
+use Rattle.cu_load.specs.Keys.{AreFree, IsAskedFor, IsAskFault}
 use Rattle.cu_load.specs.Load.{ArrayPut, IsArrayCalm, IsArrayKey, StoresGiven}
 use Rattle.cu_load.specs.LoadForm.{GivenArray}
 use Rattle.cu_demo.specs.Expression.{IsDemoJob, demo_text}
@@ -126,29 +125,27 @@ IsDemoKey keys old key = IsAskedFor (demo_name Rows) old.held key
 
 -- why asking for them ended
 abbrev pub IsDemoAskEnd : ℕ → List (List ℕ) → Shown → Shown → Status → Type 0
-IsDemoAskEnd tries keys old new (Exists key) = IsDemoKey keys old key × IsHeldIn new.held key
-IsDemoAskEnd tries keys old new (DepotFailed key) = IsDemoKey keys old key × Rose tries old.faults new.faults
-IsDemoAskEnd tries keys old new NoMemory = Unit {0}
-IsDemoAskEnd tries keys old new status = ⊥
+IsDemoAskEnd tries keys old new status = IsAskFault tries (IsDemoKey keys old) old.faults new.faults new.held status
 
 -- ---- storing the inputs
 
--- why storing one ended: all calls for one of its keys failed, or memory was wanted
-abbrev pub IsInputFault : ℕ → GivenArray → Shown → Shown → Status → Type 0
-IsInputFault tries a old new (DepotFailed key) = Rose tries old.faults new.faults × IsArrayKey a key
-IsInputFault tries a old new NoMemory = Unit {0}
-IsInputFault tries a old new status = ⊥
+-- why storing under such keys ended: all calls for one of them failed, or memory was wanted
+abbrev pub IsPutEnd : ℕ → (List ℕ → Type 0) → Shown → Shown → Status → Type 0
+IsPutEnd tries listed old new (DepotFailed key) = Rose tries old.faults new.faults × listed key
+IsPutEnd tries listed old new NoMemory = Unit {0}
+IsPutEnd tries listed old new status = ⊥
 
--- the same of both
+-- the keys of one input, and those of both
+abbrev pub IsInputFault : ℕ → GivenArray → Shown → Shown → Status → Type 0
+IsInputFault tries a old new status = IsPutEnd tries (IsArrayKey a) old new status
+
 abbrev pub IsInputsFault : ℕ → ℕ → Shown → Shown → Status → Type 0
-IsInputsFault tries n old new (DepotFailed key) = Rose tries old.faults new.faults × IsInputsKey n key
-IsInputsFault tries n old new NoMemory = Unit {0}
-IsInputsFault tries n old new status = ⊥
+IsInputsFault tries n old new status = IsPutEnd tries (IsInputsKey n) old new status
 
 -- ---- the run
 
 -- What its run finds: nothing has changed since the call began but that the inputs were stored.
-pub record IsFound (n : ℕ) (old found : Shown) : Type 0 where
+pub record FoundByDemo (n : ℕ) (old found : Shown) : Type 0 where
   pub lands : Lands (OrLate (InputsPut n) old.late) old.held found.held
   pub late : AllLateIn found.late (OrLate (InputsPut n) old.late)
   pub stored : AreInputsCalm n old.late → StoresInputs n found.held
@@ -159,7 +156,7 @@ pub record IsDemoStarted (c : DemoCase) (job : Job) (found : Shown) : Type 0 whe
   pub accepted : IsDemoJob c.size job
   pub inputs : AreInputsFree c.old.depot.held
   pub keys : (entry : Contents) → c.old.depot.held ≡ Some entry → All (IsFree entry) (asked_keys c.options job)
-  pub entry : IsFound c.size c.old.depot found
+  pub entry : FoundByDemo c.size c.old.depot found
 
 -- the run from what it found to what is seen at the end
 abbrev pub demo_run : DemoCase → Shown → RunCase
