@@ -12,6 +12,7 @@ use Rattle.cu_num.specs.declared.types.Dtype.TheVariants.{Int32}
 use Rattle.cu_shape.specs.Index.{indices_of, index_at, product}
 use Rattle.cu_name.specs.Name.{is_name}
 use Rattle.cu_name.specs.Keys.{record_key_of}
+use Rattle.cu_zarr.specs.Key.{metadata_key_of, zarray_key_of}
 use Rattle.cu_store.specs.Held.{Contents}
 use Rattle.cu_store.specs.Steps.{Shown, NoChange}
 use Rattle.cu_op.specs.Layout.{IsLayout, layout_view}
@@ -111,7 +112,9 @@ module _ (tries : ℕ) (keys : List (List ℕ)) where
 
   asked_before : (old mid : Shown) (name key : List ℕ) → Stepped NoChange old mid → IsAskedFor name mid.held key → IsAskedFor name old.held key
   asked_before old mid name key step (inl is) = inl is
-  asked_before old mid name key step (inr (is, gone)) = inr (is, gone_before old mid (record_key_of name) step gone)
+  asked_before old mid name key step (inr (inl is, gone)) = inr (inl is, gone_before old mid (record_key_of name) step gone)
+  asked_before old mid name key step (inr (inr (is, absent), gone)) =
+      inr (inr (is, gone_before old mid (metadata_key_of name) step absent), gone_before old mid (record_key_of name) step gone)
 
   -- for those of the second, where the first's were absent
   pub columns_end : (old mid new : Shown) (name : List ℕ) (status : Status) → name ≡ demo_name Columns → AreFree (demo_name Rows) old.held → Stepped NoChange old mid
@@ -138,7 +141,10 @@ module _ (tries : ℕ) (keys : List (List ℕ)) where
   plan_end old mid new e way.NoMemory own free step end = tt
 
 pub free_before : (old mid : Shown) (name : List ℕ) → Stepped NoChange old mid → AreFree name mid.held → AreFree name old.held
-free_before old mid name step free = (gone_before old mid (record_key_of name) step free.0, gone_before old mid _ step free.1)
+free_before old mid name step free = (
+  gone_before old mid (record_key_of name) step free.0,
+  (gone_before old mid (metadata_key_of name) step free.1.0, gone_before old mid (zarray_key_of name) step free.1.1),
+)
 
 -- ---- storing
 
