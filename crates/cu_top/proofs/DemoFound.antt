@@ -322,7 +322,7 @@ pub record DemoLaws (options : Options) : Type 0 where
 module _ (options : Options) (n : ℕ) (some : 1 ≤ n) (few : n ≤ 2048) (read_back : ReadBack) (rows : IsArrayLayout (demo_layout Rows n)) (columns : IsArrayLayout (demo_layout Columns n))
     (laws : DemoLaws options) (old start : Shown) (both : Stepped (InputsPut n) old start) (stores : AreInputsCalm n old.late → StoresInputs n start.held)
     (quiet : WhereTold old.held (IsDemoCalm options n old)) where
-  found : Shown
+  abbrev pub found : Shown
   found = found_of old start
 
   told_calm : (a b : Option Contents) → a ≡ old.held → b ≡ start.held → WhereTold a (IsDemoCalm options n old) → WhereTold (overlay_held a b) (StoresInputs n (overlay_held a b))

@@ -129,13 +129,13 @@ module _ (tries : ℕ) (keys : List (List ℕ)) where
   columns_end old mid new name status same free step fault = absurd fault
 
   not_own : (e : Expression) (b : Bool) → is_own_input e ≡ false → is_own_input e ≡ true → ⊥
-  not_own e b no yes = true≢false (sym yes ∙ no)
+  not_own e b fails holds = true≢false (sym holds ∙ fails)
 
   -- for those of the plan, where all of these were absent
   pub plan_end : (old mid new : Shown) (e : Expression) (f : WayFault) → is_own_input e ≡ false → AreInputsFree old.held → Stepped NoChange old mid
       → IsAskEnd tries e keys mid new f → IsDemoAskEnd tries keys old new (answer_of f)
   plan_end old mid new e (way.Held key) own free step (first, inl held, rest) = (inr (inr (free, first_of old mid keys key step first)), held_same new.held key held)
-  plan_end old mid new e (way.Held key) own free step (first, inr (is, yes), rest) = absurd (not_own e true own yes)
+  plan_end old mid new e (way.Held key) own free step (first, inr (is, holds), rest) = absurd (not_own e true own holds)
   plan_end old mid new e (way.Failed key) own free step (first, rose, rest) =
       (inr (inr (free, first_of old mid keys key step first)), rose_earlier tries old.faults mid.faults new.faults step.step.count rose)
   plan_end old mid new e way.NoMemory own free step end = tt
@@ -159,8 +159,8 @@ store_step tries a old new NoMemory (key, fault) = put_step tries a old new key 
 store_step tries a old new status fault = absurd fault
 
 pub store_end : (tries : ℕ) (a : GivenArray) (old new : Shown) (status : Status) → IsStoreFault tries a old new status → IsInputFault tries a old new status
-store_end tries a old new (DepotFailed key) (rose, inl (k, below, same, rest)) = (rose, inr (k, below, same))
-store_end tries a old new (DepotFailed key) (rose, inr (same, rest)) = (rose, inl same)
+store_end tries a old new (DepotFailed key) (rose, inl (k, below, same, step, before)) = (rose, inr (k, below, same))
+store_end tries a old new (DepotFailed key) (rose, inr (same, step, before)) = (rose, inl same)
 store_end tries a old new NoMemory fault = tt
 store_end tries a old new status fault = absurd fault
 

@@ -13,6 +13,7 @@ use Rattle.cu_op.specs.Schedule.{op_of, key_of, WritesCell}
 use Rattle.cu_op.specs.Sound.{Sound, IsCell}
 use Rattle.cu_op.specs.Walks.{written_chunks}
 use Rattle.cu_op.proofs.TaskCells.{written_cell}
+use Rattle.cu_lower.proofs.Names.{array_name}
 use Rattle.cu_state.specs.Names.{HasPlanNames}
 use Rattle.cu_state.specs.Pieces.{PlanRun, Piece, Text, Chunk, IsPiece, piece_key}
 use Rattle.cu_state.proofs.PlanNames.{other_names}
@@ -89,18 +90,10 @@ no_zarray_put input n value (inr put) =
     true≢false (sym (hidden_zarray input) ∙ not_hidden Columns n (zarray_key_of (demo_name input)) (array_put_key (demo_array Columns n) (zarray_key_of (demo_name input)) value put))
 
 named_rows : IsArrayName (codes "demo_a")
-named_rows = record {
-  plain = All-from_recursion (λ (b : ℕ). b ≢ 47) (codes "demo_a") (λ e. cc, λ e. cc, λ e. cc, λ e. cc, λ e. cc, λ e. cc, tt);
-  short = omega arith;
-  first = λ e. cc;
-}
+named_rows = array_name (codes "demo_a") refl
 
 named_columns : IsArrayName (codes "demo_b")
-named_columns = record {
-  plain = All-from_recursion (λ (b : ℕ). b ≢ 47) (codes "demo_b") (λ e. cc, λ e. cc, λ e. cc, λ e. cc, λ e. cc, λ e. cc, tt);
-  short = omega arith;
-  first = λ e. cc;
-}
+named_columns = array_name (codes "demo_b") refl
 
 -- ---- the keys of the plan
 

@@ -67,5 +67,5 @@ module _ (options : Options) (n : ℕ) (job : Job) (old asked start : Shown) (wa
       let found = found_of old start in
       let name : other.expr.store_as ≡ codes "demo_y" = ap (λ (e : Expression). e.store_as) (ok_expression (expression_of demo_text) other.expr demo_expression s.accepted.said demo_said) in
       inputs_kept n way.some way.few (RunChange (job_run (run_to options found new) other) found)
-      (λ key value change. let (q, bytes, piece, at, rest) = change in ap is_inputs at ∙ piece_apart options other name s.sound (way.laws.names other s.planned s.own) q piece)
+      (λ key value change. let (q, bytes, piece, at, is, valued) = change in ap is_inputs at ∙ piece_apart options other name s.sound (way.laws.names other s.planned s.own) q piece)
       found new s.step (calm_found n way.some way.few old start both calm) (way_found.stored calm)

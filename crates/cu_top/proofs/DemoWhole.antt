@@ -67,7 +67,7 @@ called : (k : ℕ) (name : List ℕ) (live : IsLiveInput demo_expression k name)
 called k name live = sym (ap name_of live.form) ∙ sym (ap name_at live.at)
 
 not_input : (k : ℕ) (name : List ℕ) (live : IsLiveInput demo_expression k name) → is_input_at (slice_get demo_expression.nodes k) ≡ false → ⊥
-not_input k name live no = true≢false (sym (ap is_input live.form) ∙ sym (ap is_input_at live.at) ∙ no)
+not_input k name live other = true≢false (sym (ap is_input live.form) ∙ sym (ap is_input_at live.at) ∙ other)
 
 no_later : (k : ℕ) → is_input_at (slice_get demo_expression.nodes (suc (suc k))) ≡ false
 no_later zero = refl
