@@ -76,7 +76,7 @@ fn seats(
         workers.push(Seated {
             seat,
             pass,
-            word: u64::from(number),
+            word: u64::from(number) + 1,
             tries: 0,
         })?;
     }

@@ -30,7 +30,7 @@ from stored import GNU_TIME, MIB, PROGRAM, can_import, folders, link_as_version_
 ONE, MANY, DASK = "one worker", "workers", "Dask"
 # By how many times the workers are to be faster than one worker, than one with small tasks, and than Dask.
 AIM, SMALL_AIM, DASK_AIM = 3.2, 2.0, 0.9
-TYPES = {"int32": "<i4"}
+TYPES = {"int32": "<i4", "int64": "<i8"}
 
 
 def node(name, op, *args, **members):
@@ -40,8 +40,9 @@ def node(name, op, *args, **members):
 class Work:
     """What is computed: the inputs' shape and chunk shape, the nodes over them, and the same by Dask's arrays."""
 
-    def __init__(self, inputs, shape, chunk, nodes, by_dask, words=()):
-        self.inputs, self.shape, self.chunk, self.nodes, self.by_dask, self.words = inputs, shape, chunk, nodes, by_dask, list(words)
+    def __init__(self, inputs, shape, chunk, nodes, by_dask, words=(), dtype="int32"):
+        self.inputs, self.shape, self.chunk, self.dtype = inputs, shape, chunk, dtype
+        self.nodes, self.by_dask, self.words = nodes, by_dask, list(words)
 
     def expression(self):
         given = [{"id": name, "op": "input", "name": name} for name in self.inputs]
@@ -52,7 +53,7 @@ def works(mebibytes):
     """The works over arrays of so many MiB (256 make the sizes that were meant; the memory of the copy goes with them)."""
     elements = mebibytes * MIB // 4
     side = 1 << (elements.bit_length() - 1) // 2
-    strip, block = side // 32, max(64, side // 16)
+    strip, block = side // 32, max(64, 3 * side // 64)
     return {
         "addition": Work("ab", [elements], [MIB // 4], [node("s", "add", "a", "b")], lambda a, b: a + b),
         "(a*2 + b) > c": Work("abc", [elements], [MIB], [node("d", "multiply", "a", 2), node("s", "add", "d", "b"), node("g", "greater", "s", "c")],
@@ -60,7 +61,7 @@ def works(mebibytes):
         "sum over the first axis": Work("a", [side, side], [side // 8] * 2, [node("s", "sum", "a", axes=[0])], lambda a: a.sum(axis=0)),
         "columns to rows": Work("a", [side, side], [side, strip], [node("r", "rechunk", "a", chunk=[strip, side])],
                                 lambda a: a.rechunk((strip, side)), ["--allowed-mem", str(side * side)]),
-        "product of matrices": Work("ab", [4 * block] * 2, [block] * 2, [node("p", "matmul", "a", "b")], lambda a, b: a @ b)}
+        "product of matrices": Work("ab", [4 * block] * 2, [block] * 2, [node("p", "matmul", "a", "b")], lambda a, b: a @ b, dtype="int64")}
 
 
 def make_inputs(folder, work):
@@ -68,12 +69,12 @@ def make_inputs(folder, work):
     import numpy
     counts = [-(-length // part) for length, part in zip(work.shape, work.chunk)]
     rng = numpy.random.default_rng(1)
-    cells = rng.integers(-2**31, 2**31, functools.reduce(int.__mul__, work.chunk), dtype="int32")
+    cells = rng.integers(-2**31, 2**31, functools.reduce(int.__mul__, work.chunk), dtype=work.dtype)
     for turn, name in enumerate(work.inputs):
-        put(os.path.join(folder, name, "zarr.json"), metadata("int32", work.shape, work.chunk).encode())
+        put(os.path.join(folder, name, "zarr.json"), metadata(work.dtype, work.shape, work.chunk).encode())
         for number, place in enumerate(itertools.product(*map(range, counts))):
             put(os.path.join(folder, name, "c", *map(str, place)), numpy.roll(cells, 4099 * number + 131 * turn).tobytes())
-        link_as_version_2(folder, name, TYPES["int32"], work.shape, work.chunk)
+        link_as_version_2(folder, name, TYPES[work.dtype], work.shape, work.chunk)
 
 
 def by_dask(folder, work, workers):
