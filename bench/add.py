@@ -14,30 +14,21 @@ import array
 import json
 import os
 import shutil
-import subprocess
 import sys
 import tempfile
 import time
 
+from small import measure_small
+from stored import PROGRAM, has_numpy, metadata, see_that_it_is_built, store, timed
+
 ELEMENTS, CHUNK = 1 << 24, 1 << 18
 CHUNKS, CHUNK_BYTES = ELEMENTS // CHUNK, 4 * CHUNK
-SMALL_TASKS, SMALL = 1 << 14, 1 << 8
-HERE = os.path.dirname(os.path.abspath(__file__))
-# As ./cubed has it: large buffers lie in huge pages where the system gives them on demand, as NumPy's do.
-os.environ.setdefault("GLIBC_TUNABLES", "glibc.malloc.hugetlb=1")
-GNU_TIME = "/usr/bin/time"
 OUTPUTS = {"cubed": "y", "numpy": "z"}
-PROGRAM = os.path.join(HERE, "..", "crates", "cu_bin", "out", "cu_bin")
 EXPRESSION = json.dumps({
     "nodes": [{"id": "a", "op": "input", "name": "a"}, {"id": "b", "op": "input", "name": "b"},
               {"id": "s", "op": "add", "args": ["a", "b"]}],
     "out": "s", "store_as": "y"})
-METADATA = json.dumps({
-    "zarr_format": 3, "node_type": "array", "data_type": "int32", "shape": [ELEMENTS], "fill_value": 0,
-    "chunk_grid": {"name": "regular", "configuration": {"chunk_shape": [CHUNK]}},
-    "chunk_key_encoding": {"name": "default", "configuration": {"separator": "/"}},
-    "codecs": [{"name": "bytes", "configuration": {"endian": "little"}}],
-}, sort_keys=True, separators=(",", ":"))
+METADATA = metadata("int32", [ELEMENTS], [CHUNK])
 
 
 def make_inputs(folder):
@@ -51,15 +42,6 @@ def make_inputs(folder):
             words = array.array("I", ((place * step) & 0xFFFFFFFF for place in range(low, low + CHUNK)))
             with open(os.path.join(folder, name, "c", str(number)), "wb") as file:
                 words.tofile(file)
-
-
-def store(path, data, sync):
-    with open(path + ".new", "wb") as file:
-        file.write(data)
-        if sync:
-            file.flush()
-            os.fdatasync(file.fileno())
-    os.rename(path + ".new", path)
 
 
 def add_by_numpy(folder, name, sync):
@@ -89,33 +71,6 @@ def write_only(folder, name, sync):
     return time.perf_counter() - start
 
 
-def timed(words, text=""):
-    """Runs a command: its seconds by the clock, what it printed, and what GNU time says of it: the seconds of the
-    processor in it and in the system, and the greatest resident memory in KiB. (That of a child which this Python
-    makes itself would never be less than Python's own.)"""
-    with tempfile.NamedTemporaryFile("r") as told:
-        measured = [GNU_TIME, "-f", "%U %S %M", "-o", told.name, *words] if os.access(GNU_TIME, os.X_OK) else words
-        start = time.perf_counter()
-        ran = subprocess.run(measured, input=text, stdout=subprocess.PIPE, text=True)
-        taken = time.perf_counter() - start
-        if ran.returncode:
-            raise SystemExit(f"{words[0]} ended with status {ran.returncode}")
-        return taken, ran.stdout.strip(), told.read().split()
-
-
-def tell(name, runs):
-    """Prints the least times of the program and of NumPy, which tells its own without its start, and the program's resident memory."""
-    best, _, told = min(runs["cubed"])
-    inside = min(float(said) for _, said, _ in runs["numpy"])
-    memory = f", resident {int(told[2]) / 1024:.1f} MiB" if told else ""
-    print(f"{name}: cubed {best:.3f} s{memory}, NumPy {inside:.3f} s without its start, ratio {best / inside:.2f}", flush=True)
-
-
-def see_that_it_is_built(program):
-    if not os.access(program, os.X_OK):
-        raise SystemExit(f"{program} isn't built yet: run ./cubed at the top of the repository once")
-
-
 def same(folder, one, other):
     for number in range(CHUNKS):
         paths = [os.path.join(folder, name, "c", str(number)) for name in (one, other)]
@@ -123,10 +78,6 @@ def same(folder, one, other):
             if left.read() != right.read():
                 return False
     return True
-
-
-def has_numpy():
-    return subprocess.run([sys.executable, "-c", "import numpy"], stderr=subprocess.DEVNULL).returncode == 0
 
 
 def show(name, runs):
@@ -173,37 +124,13 @@ def measure_sync(folder, rounds):
     print(f"  {CHUNKS} chunks written alone: {least[True]:.3f} s with the sync, {least[False]:.3f} s without")
 
 
-def measure_small(program, parent, rounds):
-    """What a small task costs: its time in the program and in the system."""
-    with tempfile.TemporaryDirectory(dir=parent, prefix="cubed-bench-") as folder:
-        for name, number in (("a", 1), ("b", 10)):
-            os.makedirs(os.path.join(folder, name, "c"))
-            with open(os.path.join(folder, name, "zarr.json"), "w") as file:
-                file.write(METADATA.replace(str(ELEMENTS), str(SMALL_TASKS * SMALL)).replace(str(CHUNK), str(SMALL)))
-            for chunk in range(SMALL_TASKS):
-                with open(os.path.join(folder, name, "c", str(chunk)), "wb") as file:
-                    file.write(array.array("I", [number] * SMALL).tobytes())
-        runs = []
-        for _ in range(rounds):
-            for made in ("y", "_cubed"):
-                shutil.rmtree(os.path.join(folder, made), ignore_errors=True)
-            os.sync()
-            runs.append(timed([program, folder, "run"], EXPRESSION))
-        taken, said, told = min(runs)
-        print(f"  {SMALL_TASKS} tasks of {4 * SMALL} bytes: {taken:.3f} s, {1e6 * taken / SMALL_TASKS:.1f} us a task", end="")
-        if told:
-            user, system = (1e6 * float(part) / SMALL_TASKS for part in told[:2])
-            print(f" (processor: {user:.1f} us in the program, {system:.1f} us in the system)", end="")
-        print(f": {said}")
-
-
 def measure_in(parent, program, rounds):
     with tempfile.TemporaryDirectory(dir=parent, prefix="cubed-bench-") as folder:
         make_inputs(folder)
         print(f"in {os.path.dirname(folder)}, load {os.getloadavg()[0]:.1f}:")
         measure(program, folder, rounds)
         measure_sync(folder, rounds)
-    measure_small(program, parent, min(rounds, 3))
+    measure_small(program, parent, min(rounds, 3), [1])
 
 
 def main():

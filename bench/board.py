@@ -4,9 +4,10 @@
   board.py [--keep FOLDER] [--runs N]
 
 First 65,536 tasks that take no time, by 1, 2, 4 and 64 workers, each in a thread of its own: the nanoseconds of a claim and
-its report, the best and the mean of the rounds. Then tasks that take 1 ms of a processor, by 4 and 64 workers: many tasks at
-once, and one at a time, which fails and is tried again while the others wait. Of these it prints the processor time as a
-multiple of what the tries alone need. No chunk is read or written.
+its report, the best and the mean of the rounds. Then tasks that take 1 ms of a processor, by 4 and 64 workers: many at once, and
+one, two and half as many as there are workers, each of which fails and is tried again while the other workers wait. Of these it
+prints the processor time as a multiple of what the tries need, which one worker's run tells: a task is a number of steps, so it
+needs the same whether the processors have other work or not. Last it says which aims were missed. No chunk is read or written.
 
 The program that claims and reports is written into a copy of the crates that it needs, and `rt run` proves and builds it
 there, which takes some minutes. With --keep it is kept in that folder, by the sum of its sources, and a later run over the
@@ -24,10 +25,12 @@ import region  # region.py, in this folder
 
 NAME = "board_bench"
 NEEDS = "cu_num cu_shape cu_grid cu_store cu_history cu_turn cu_op cu_table cu_board arrayvec anyhow".split()
-MILLISECOND = 1_000_000
+TASKS, SOME = 65536, 2000
+# At most so many nanoseconds a pair, and so many times the needed processor time with so many workers.
+PAIR_AIM, WAIT_AIMS = 1000, {4: 1.2, 64: 1.8}
 
-# The program: `board_bench WORKERS TASKS TRIES NANOS` prints the nanoseconds of all claims and reports. Each try takes so long;
-# with no tries each task is done at its first, else every try fails, and the first task that fails once more ends the run.
+# The program: `board_bench WORKERS TASKS TRIES STEPS` prints the nanoseconds of all claims and reports, the tries, and a word that is
+# made of all steps. Each try takes so many steps; with no tries each task is done at its first, else every try fails, and the first task that fails once more ends the run.
 SOURCES = {}
 SOURCES["src/main.rt"] = """\
 //! Workers claim and report the tasks of one board, and the nanoseconds are printed.
@@ -70,7 +73,12 @@ fn seats(
     for number in 0..count {
         let seat = board.split(root, number);
         let pass = IdlePass { faults: 0 };
-        workers.push(Seated { seat, pass })?;
+        workers.push(Seated {
+            seat,
+            pass,
+            word: u64::from(number) + 1,
+            tries: 0,
+        })?;
     }
     Ok(workers)
 }
@@ -80,7 +88,7 @@ fn timed<H: Threads + Wait + Clock + Sync>(
     rt: &H,
     board: &Board<IdleYard>,
     workers: &mut [Seated],
-    nanos: u64,
+    steps: u64,
     fails: bool,
 ) -> Result<u128>
     requires workers { All (λ w. IsSeatOf board.now.board false w.seat × IsResting w.seat.view.number w.seat.view.front) workers.old }
@@ -92,7 +100,7 @@ fn timed<H: Threads + Wait + Clock + Sync>(
     let start = Instant::now(rt)?;
     let turns = |_: usize, worker: &mut Seated|
         requires { IsSeatOf board.now.board false worker.now.seat × IsResting worker.now.seat.view.number worker.now.seat.view.front }
-    { work(rt, board, worker, nanos, fails) };
+    { work(rt, board, worker, steps, fails) };
     thread::for_each_mut(rt, workers, count, &turns);
     Ok(start.elapsed(rt)?.as_nanos())
 }
@@ -120,11 +128,21 @@ fn table(alloc: Global, plan: &Plan, tries: u32) -> Result<Table>
     }
 }
 
-/// `board_bench WORKERS TASKS TRIES NANOS`: each try takes so many nanoseconds; with no tries a task is done at once, else each
-/// try fails.
+/// How many tasks all have tried, and what they have computed, so that nobody can leave it out.
+fn told_of(workers: &[Seated]) -> (u64, u64) {
+    let (mut tries, mut word) = (0u64, 0);
+    for worker in workers {
+        tries = tries.wrapping_add(worker.tries);
+        word ^= worker.word;
+    }
+    (tries, word)
+}
+
+/// `board_bench WORKERS TASKS TRIES STEPS`: each try takes so many steps; with no tries a task is done at once, else each try
+/// fails.
 fn main(rt: HostRuntime) -> Result<()> {
     let mut words = env::args(&rt)?.skip(1);
-    let (Some(workers), Some(tasks), Some(tries), Some(nanos)) = (
+    let (Some(workers), Some(tasks), Some(tries), Some(steps)) = (
         words.next(),
         words.next(),
         words.next(),
@@ -135,14 +153,16 @@ fn main(rt: HostRuntime) -> Result<()> {
     let workers = workers.as_str().parse::<u32>().unwrap_or(1);
     let tasks = tasks.as_str().parse::<u64>().unwrap_or(1);
     let tries = tries.as_str().parse::<u32>().unwrap_or(0);
-    let nanos = nanos.as_str().parse::<u64>().unwrap_or(0);
+    let steps = steps.as_str().parse::<u64>().unwrap_or(0);
     let plan = plan::plan(rt.alloc(), tasks)?;
     let table = table(rt.alloc(), &plan, tries)?;
     let Ok((board, mut root)) = Board::make(rt.alloc(), table, IdlePass { faults: 0 }) else {
         bail!("no memory");
     };
     let mut seats = seats(rt.alloc(), &board, &mut root, workers)?;
-    println!(rt; "{}", timed(&rt, &board, &mut seats, nanos, tries > 0)?)?;
+    let nanos = timed(&rt, &board, &mut seats, steps, tries > 0)?;
+    let (tries, word) = told_of(&seats);
+    println!(rt; "{nanos} {tries} {word}")?;
     Ok(())
 }
 """
@@ -318,45 +338,35 @@ use cu_board::{Board, BoardSeat};
 use cu_store::TaskFault;
 use cu_table::Claim;
 use std::sync::Wait;
-use std::time::{Clock, Instant};
 
-/// A seat and a pass.
+/// A seat and a pass, the word that its tasks compute, and how many of them it has tried.
 #[derive(Drop)]
 pub struct Seated {
     pub seat: BoardSeat,
     pub pass: IdlePass,
+    pub word: u64,
+    pub tries: u64,
 }
 
-/// Takes so many nanoseconds of a processor.
-fn spin(clock: &impl Clock, nanos: u64) {
-    if nanos == 0 {
-        return;
+/// So many steps from a word, each of which wants the one before.
+fn stepped(word: u64, steps: u64) -> u64 {
+    let mut word = word;
+    for _ in 0..steps {
+        word = (word ^ (word >> 29)).wrapping_mul(0x9E37_79B9_7F4A_7C15);
     }
-    let Ok(start) = Instant::now(clock) else {
-        return;
-    };
-    for _ in 0..u64::MAX {
-        match start.elapsed(clock) {
-            Ok(taken) => {
-                if taken.as_nanos() >= u128::from(nanos) {
-                    return;
-                }
-            }
-            Err(_) => return,
-        }
-    }
+    word
 }
 
-/// A try of a task, which takes so long and does nothing.
+/// A try of a task, which takes so many steps.
 fn try_task(
-    clock: &impl Clock,
+    word: &mut u64,
     pass: &mut IdlePass,
-    nanos: u64,
+    steps: u64,
     fails: bool,
 ) -> Result<(), TaskFault>
     ensures { (p : PlanView) (op task : _) → MayReport p op task result (idle_known pass.new) }
 {
-    spin(clock, nanos);
+    *word = stepped(*word, steps);
     if fails {
         fail(pass);
         return Err(TaskFault::Store);
@@ -365,11 +375,11 @@ fn try_task(
 }
 
 /// Claims and reports until the machine has ended.
-pub fn work<H: Wait + Clock>(
+pub fn work<H: Wait>(
     rt: &H,
     board: &Board<IdleYard>,
     worker: &mut Seated,
-    nanos: u64,
+    steps: u64,
     fails: bool,
 )
     requires seat { IsSeatOf board.now.board false worker.old.seat }
@@ -379,7 +389,8 @@ pub fn work<H: Wait + Clock>(
     for _ in rt.forever() {
         match board.claim(rt, &mut worker.seat, &yard, &mut worker.pass) {
             Claim::Run { op, task, copy: _ } => {
-                let ended = try_task(rt, &mut worker.pass, nanos, fails);
+                worker.tries = worker.tries.wrapping_add(1);
+                let ended = try_task(&mut worker.word, &mut worker.pass, steps, fails);
                 board.report(
                     rt,
                     &mut worker.seat,
@@ -603,25 +614,40 @@ pub mod Idle
 
 
 def run(program, *words):
-    """The nanoseconds from the first claim to the last report, and the seconds of all processors."""
+    """The nanoseconds from the first claim to the last report, how many tasks were tried, and the seconds of all processors."""
     before = resource.getrusage(resource.RUSAGE_CHILDREN)
     ran = subprocess.run([program, *map(str, words)], stdout=subprocess.PIPE, text=True, check=True)
     after = resource.getrusage(resource.RUSAGE_CHILDREN)
-    return int(ran.stdout), after.ru_utime + after.ru_stime - before.ru_utime - before.ru_stime
+    nanos, tries, _ = map(int, ran.stdout.split())
+    return nanos, tries, after.ru_utime + after.ru_stime - before.ru_utime - before.ru_stime
 
 
 def claims(program, workers, runs):
-    """The nanoseconds of each claim with its report, where tasks take no time."""
-    each = [run(program, workers, 65536, 0, 0)[0] / 65536 for _ in range(runs)]
-    print(f"  {workers} workers: {min(each):.0f} ns a claim and a report (mean {sum(each) / len(each):.0f})", flush=True)
+    """Prints the nanoseconds of each claim with its report, where tasks take no time. Returns the aim if it was missed."""
+    told = [run(program, workers, TASKS, 0, 0) for _ in range(runs)]
+    each = [nanos / TASKS for nanos, _, _ in told]
+    spent = min(seconds for _, _, seconds in told) * 1e9 / TASKS
+    print(f"  {workers} workers: {min(each):.0f} ns a claim and a report (mean {sum(each) / len(each):.0f}; {spent:.0f} ns of all processors)", flush=True)
+    return [f"{workers} workers: {min(each):.0f} ns for {PAIR_AIM}"] if min(each) > PAIR_AIM else []
 
 
-def waits(program, workers, tasks, tries, runs):
-    """The processor time beside what the tries need."""
-    needed = (tasks * tries or tasks) / 1000
-    ratios = [run(program, workers, tasks, max(tries - 1, 0), MILLISECOND)[1] / needed for _ in range(runs)]
-    name = "one task at a time" if tries else f"{tasks} tasks at once"
-    print(f"  {workers} workers, {name}: {min(ratios):.2f} times the needed time (mean {sum(ratios) / len(ratios):.2f})", flush=True)
+def steps_of(program, runs):
+    """How many steps take a millisecond of a processor, and what a task of these takes: one worker does them."""
+    def taken(steps):
+        return min(run(program, 1, SOME, 0, steps)[2] for _ in range(runs)) / SOME
+    steps = int(1e-3 * 200_000 / taken(200_000))
+    return steps, taken(steps)
+
+
+def waits(program, workers, at_once, steps, task, runs):
+    """Prints the processor time beside what the tries need: of many tasks at once, or of so few, each of which fails and is tried again
+    and again while the others wait. Returns the aim if it was missed."""
+    tries = SOME // at_once if at_once < SOME else 0
+    told = [run(program, workers, at_once, max(tries - 1, 0), steps) for _ in range(runs)]
+    ratios = [seconds / (tried * task) for _, tried, seconds in told]
+    print(f"  {workers} workers, {at_once} task{'s' * (at_once > 1)} at once: {min(ratios):.2f} times the needed time (mean {sum(ratios) / len(ratios):.2f};"
+          f" aim {WAIT_AIMS[workers]})", flush=True)
+    return [f"{workers} workers, {at_once} at once: {min(ratios):.2f} for {WAIT_AIMS[workers]}"] if min(ratios) > WAIT_AIMS[workers] else []
 
 
 def main():
@@ -631,13 +657,12 @@ def main():
     given = words.parse_args()
     with tempfile.TemporaryDirectory(prefix="cubed-program-") as spare:
         program = region.program_in(given.keep or spare, NAME, NEEDS, SOURCES)
-        print(f"65,536 tasks that take no time, load {os.getloadavg()[0]:.1f}")
-        for workers in (1, 2, 4, 64):
-            claims(program, workers, given.runs)
-        print("tasks that take 1 ms")
-        for workers in (4, 64):
-            waits(program, workers, 4000, 0, given.runs)
-            waits(program, workers, 1, 1000, given.runs)
+        print(f"{TASKS} tasks that take no time, {os.cpu_count()} processors, load {os.getloadavg()[0]:.1f}", flush=True)
+        missed = [one for workers in (1, 2, 4, 64) for one in claims(program, workers, given.runs)]
+        steps, task = steps_of(program, given.runs)
+        print(f"tasks of {steps} steps, {1e3 * task:.3f} ms of a processor", flush=True)
+        missed += [one for workers in WAIT_AIMS for at_once in sorted({1, 2, workers // 2, SOME}) for one in waits(program, workers, at_once, steps, task, given.runs)]
+        print("missed: " + "; ".join(missed) if missed else "no aim was missed")
 
 
 if __name__ == "__main__":

@@ -21,7 +21,7 @@ import time
 
 sys.dont_write_bytecode = True
 import region  # region.py, in this folder
-from add import has_numpy
+from stored import has_numpy
 
 NAME = "box_bench"
 NEEDS = "cu_num cu_shape cu_box cu_grid cu_codec".split()

@@ -1,11 +1,12 @@
 #!/usr/bin/env python3
-"""Measures a put and a get of 1 MiB: in shared cells beside a plain copy, and through a folder's yard beside its depot.
+"""Measures a put and a get: in shared cells beside a plain copy, and through a folder's yard beside its depot.
 
   cells.py [--keep FOLDER] [--dir FOLDER] [--size BYTES] [--rounds N]
 
-The cells are those that a depot in memory shares, new ones in each round, so that each put stores its words. The yard is that of
-a folder below --dir, which is /dev/shm where there is one, so that no disk is measured. Of each call it prints the median of the
-rounds and the best one, and the medians' ratios.
+The cells are those that a depot in memory shares, new ones in each round, so that each put stores its words of 1 MiB. The yard is
+that of a folder below --dir, which is /dev/shm where there is one, so that no disk is measured: with values of 1 MiB, and of 1 KiB.
+Of each call it prints the median of the rounds and the best one, and the medians' ratios. What a task asks of a store is two gets and a
+put. By strace it counts the system's calls of each way. Last it says which aims were missed.
 
 The program that puts and gets is written into a copy of the crates that it needs, and `rt run` proves and builds it there, which
 takes some minutes. With --keep it is kept in that folder, by the sum of its sources, and a later run over the same sources
@@ -13,6 +14,7 @@ builds nothing.
 """
 import argparse
 import os
+import shutil
 import statistics
 import subprocess
 import sys
@@ -23,9 +25,12 @@ import region  # region.py, in this folder
 
 NAME = "cells_bench"
 NEEDS = "cu_store cu_mem cu_dir cu_watch cu_threads anyhow".split()
+# At most so many times a plain copy, and so many times the depot's time.
+COPY_AIM, DEPOT_AIM = 3, 1.03
 
-# The program: `cells_bench FOLDER SIZE ROUNDS` prints nanoseconds, a line for each round. Over a folder: of a put by the depot, a
-# put through the yard, and the two gets. Where FOLDER is `-`, over cells: of a put, a get and a plain copy.
+# The program: `cells_bench FOLDER SIZE ROUNDS WAY` prints nanoseconds, a line for each round. Over a folder: of a put by the depot, a
+# put through the yard, and the two gets. WAY is `both`, or `depot` or `yard`, so that one of them alone is done (0 stands for the other).
+# Where FOLDER is `-`, over cells: of a put, a get and a plain copy.
 SOURCES = {}
 SOURCES["proofs/Lib.antt"] = """\
 pub mod Lone
@@ -190,26 +195,48 @@ fn over_cells(rt: &HostRuntime, key: &Key, size: usize, rounds: u32) -> Result<(
     Ok(())
 }
 
-/// Rounds over a folder, through its yard and by the depot itself.
-fn over_folder(rt: &HostRuntime, folder: &str, key: &Key, size: usize, rounds: u32) -> Result<()> {
+/// The nanoseconds of what isn't done.
+fn none() -> Nanos {
+    Nanos { put: 0, get: 0 }
+}
+
+/// Rounds over a folder, through its yard and by the depot itself, or by one of them alone.
+fn over_folder(
+    rt: &HostRuntime,
+    folder: &str,
+    key: &Key,
+    size: usize,
+    rounds: u32,
+    way: &str,
+) -> Result<()> {
     let bytes = filled(rt.alloc(), size)?;
     let mut buf = filled(rt.alloc(), size)?;
     let Ok(mut depot) = DirDepot::make(rt, rt.alloc(), folder) else {
         bail!("no memory");
     };
     for _ in 0..rounds {
-        let own = plain(rt, &mut depot, key, &bytes, &mut buf)?;
-        let yard = timed(rt, rt.alloc(), &mut depot, key, &bytes, &mut buf)?;
+        let own = match way {
+            "yard" => none(),
+            _ => plain(rt, &mut depot, key, &bytes, &mut buf)?,
+        };
+        let yard = match way {
+            "depot" => none(),
+            _ => timed(rt, rt.alloc(), &mut depot, key, &bytes, &mut buf)?,
+        };
         println!(rt; "{} {} {} {}", own.put, yard.put, own.get, yard.get)?;
     }
     Ok(())
 }
 
-/// `cells_bench FOLDER SIZE ROUNDS`: over this folder, or over cells where it is `-`.
+/// `cells_bench FOLDER SIZE ROUNDS WAY`: over this folder, or over cells where it is `-`.
 fn main(rt: HostRuntime) -> Result<()> {
     let mut words = env::args(&rt)?.skip(1);
-    let (Some(folder), Some(size), Some(rounds)) = (words.next(), words.next(), words.next())
-    else {
+    let (Some(folder), Some(size), Some(rounds), Some(way)) = (
+        words.next(),
+        words.next(),
+        words.next(),
+        words.next(),
+    ) else {
         return Ok(());
     };
     let size = size.as_str().parse::<usize>().unwrap_or(1);
@@ -219,7 +246,7 @@ fn main(rt: HostRuntime) -> Result<()> {
     };
     match folder.as_str() {
         "-" => over_cells(&rt, &key, size, rounds),
-        folder => over_folder(&rt, folder, &key, size, rounds),
+        folder => over_folder(&rt, folder, &key, size, rounds, way.as_str()),
     }
 }
 """
@@ -305,49 +332,80 @@ pub(crate) fn timed<D: Share, H: Clock>(
 """
 
 
-
-def rounds_of(program, folder, size, rounds):
+def rounds_of(program, folder, size, rounds, way="both"):
     """The nanoseconds of each call, a list for each kind of call."""
-    words = [program, folder, str(size), str(rounds)]
+    words = [program, folder, str(size), str(rounds), way]
     ran = subprocess.run(words, stdout=subprocess.PIPE, text=True, check=True)
     return list(zip(*([int(word) for word in line.split()] for line in ran.stdout.splitlines())))
 
 
 def show(name, nanos):
-    print(f"  {name}: {statistics.median(nanos) / 1000:.0f} us (best {min(nanos) / 1000:.0f})", flush=True)
+    print(f"  {name}: {statistics.median(nanos) / 1000:.1f} us (best {min(nanos) / 1000:.1f})", flush=True)
 
 
-def ratio(name, nanos, beside):
-    print(f"  {name}: {statistics.median(nanos) / statistics.median(beside):.3f}", flush=True)
+def ratio(name, nanos, beside, aim):
+    """Prints the medians' ratio. Returns the aim if it was missed."""
+    times = statistics.median(nanos) / statistics.median(beside)
+    print(f"  {name}: {times:.3f} (aim {aim})", flush=True)
+    return [f"{name}: {times:.3f} for {aim}"] if times > aim else []
+
+
+def in_cells(program, size, rounds):
+    put, get, copy = rounds_of(program, "-", size, rounds)
+    print(f"in cells, {size} bytes")
+    for name, nanos in (("a put", put), ("a get", get), ("a plain copy", copy)):
+        show(name, nanos)
+    return ratio("a put beside a copy", put, copy, COPY_AIM) + ratio("a get beside a copy", get, copy, COPY_AIM)
+
+
+def in_folder(program, folder, size, rounds):
+    own_put, put, own_get, get = rounds_of(program, folder, size, rounds)
+    print(f"in a folder below {os.path.dirname(folder)}, {size} bytes")
+    for name, nanos in (("a put by the depot", own_put), ("a put through the yard", put), ("a get by the depot", own_get), ("a get through the yard", get)):
+        show(name, nanos)
+    own_task, task = ([p + 2 * g for p, g in zip(puts, gets)] for puts, gets in ((own_put, own_get), (put, get)))
+    return [one for name, nanos, beside in (("a put", put, own_put), ("a get", get, own_get), ("two gets and a put", task, own_task))
+            for one in ratio(f"{name} of {size} bytes through the yard beside the depot", nanos, beside, DEPOT_AIM)]
+
+
+def calls_of(program, folder, size, rounds, way):
+    """How often a way calls each call of the system, in so many rounds."""
+    with tempfile.NamedTemporaryFile("r") as told:
+        subprocess.run(["strace", "-f", "-c", "-o", told.name, program, folder, str(size), str(rounds), way], stdout=subprocess.DEVNULL, check=True)
+        rows = [line.split() for line in told.read().splitlines()]
+    return {row[-1]: int(row[3]) for row in rows if len(row) >= 5 and row[3].isdigit() and row[-1] != "total"}
+
+
+def count_calls(program, folder, size):
+    """Prints the system's calls of a put and a get, by each way: the difference of two runs. Returns the aim if it was missed."""
+    counts = []
+    for way in ("depot", "yard"):
+        few, many = (calls_of(program, folder, size, rounds, way) for rounds in (100, 200))
+        each = {call: (many[call] - few.get(call, 0)) / 100 for call in many if many[call] - few.get(call, 0) >= 50}
+        print(f"  calls of the system in a put and a get, by the {way}: " + ", ".join(f"{call} {count:g}" for call, count in sorted(each.items())), flush=True)
+        counts.append(each)
+    return [] if counts[0] == counts[1] else ["the yard's calls of the system aren't the depot's"]
 
 
 def main():
     words = argparse.ArgumentParser(description=__doc__, formatter_class=argparse.RawDescriptionHelpFormatter)
     words.add_argument("--keep", help="the folder where the built program is kept")
     words.add_argument("--dir", help="where the folder of the yard is made")
-    words.add_argument("--size", type=int, default=1 << 20, help="how many bytes a value has")
-    words.add_argument("--rounds", type=int, default=101, help="how many rounds")
+    words.add_argument("--size", type=int, help="how many bytes a value has, in place of 1 MiB and 1 KiB")
+    words.add_argument("--rounds", type=int, default=101, help="how many rounds; ten times as many of small values")
     given = words.parse_args()
     place = given.dir or ("/dev/shm" if os.path.isdir("/dev/shm") else None)
     with tempfile.TemporaryDirectory(prefix="cubed-program-") as spare, \
             tempfile.TemporaryDirectory(prefix="cubed-cells-", dir=place) as folder:
         program = region.program_in(given.keep or spare, NAME, NEEDS, SOURCES)
-        print(f"values of {given.size} bytes, {given.rounds} rounds, load {os.getloadavg()[0]:.1f}")
-        put, get, copy = rounds_of(program, "-", given.size, given.rounds)
-        print("in cells")
-        show("a put", put)
-        show("a get", get)
-        show("a plain copy", copy)
-        ratio("a put beside a copy", put, copy)
-        ratio("a get beside a copy", get, copy)
-        own_put, put, own_get, get = rounds_of(program, folder, given.size, given.rounds)
-        print(f"in a folder below {place or tempfile.gettempdir()}")
-        show("a put by the depot", own_put)
-        show("a put through the yard", put)
-        show("a get by the depot", own_get)
-        show("a get through the yard", get)
-        ratio("a put through the yard beside one by the depot", put, own_put)
-        ratio("a get through the yard beside one by the depot", get, own_get)
+        print(f"{given.rounds} rounds, {os.cpu_count()} processors, load {os.getloadavg()[0]:.1f}", flush=True)
+        sizes = [given.size] if given.size else [1 << 20, 1 << 10]
+        missed = in_cells(program, sizes[0], given.rounds)
+        for size in sizes:
+            missed += in_folder(program, folder, size, given.rounds if size > 1 << 16 else 10 * given.rounds)
+        if shutil.which("strace"):
+            missed += count_calls(program, folder, sizes[-1])
+        print("missed: " + "; ".join(missed) if missed else "no aim was missed")
 
 
 if __name__ == "__main__":

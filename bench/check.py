@@ -19,9 +19,9 @@ import time
 import numpy
 
 import rules
-from add import PROGRAM, timed
 from compare import bytes_of, chunks_of, place_of, put, whole_chunk
 from rules import Array, compact
+from stored import PROGRAM, timed
 
 CASES = {
     "addition": ("add", {"a": ("int32", [1333333], [100000]), "b": ("int32", [1333333], [100000])}, {}),

@@ -20,7 +20,7 @@ import sys
 import tempfile
 import time
 
-from add import GNU_TIME, PROGRAM, see_that_it_is_built, store, timed
+from stored import GNU_TIME, PROGRAM, can_import, link_as_version_2, metadata, see_that_it_is_built, store, timed
 
 CHUNK = 1 << 20
 CHUNK_BYTES = 4 * CHUNK
@@ -32,21 +32,12 @@ EXPRESSION = json.dumps({"nodes": NODES, "out": "g", "store_as": "y"})
 PEERS = {"numpy": "NumPy, storing each array", "once": "NumPy, storing the result alone", "dask": "Dask with zarr, one thread"}
 
 
-def metadata(dtype, count, chunk=CHUNK):
-    codec = {"name": "bytes"} if dtype == "bool" else {"name": "bytes", "configuration": {"endian": "little"}}
-    return json.dumps({
-        "zarr_format": 3, "node_type": "array", "data_type": dtype, "shape": [count], "fill_value": False if dtype == "bool" else 0,
-        "chunk_grid": {"name": "regular", "configuration": {"chunk_shape": [chunk]}},
-        "chunk_key_encoding": {"name": "default", "configuration": {"separator": "/"}}, "codecs": [codec],
-    }, sort_keys=True, separators=(",", ":"))
-
-
 def make_inputs(folder, chunks):
     """Stores three arrays, of which the chunks differ and sums wrap here and there."""
     for name, (step, shift) in INPUTS.items():
         os.makedirs(os.path.join(folder, name, "c"))
         with open(os.path.join(folder, name, "zarr.json"), "w") as file:
-            file.write(metadata("int32", chunks * CHUNK))
+            file.write(metadata("int32", [chunks * CHUNK], [CHUNK]))
         words = array.array("I", ((place * step * 101 + shift) & 0xFFFFFFFF for place in range(CHUNK)))
         for number in range(chunks):
             turned = words[number * 4099 % CHUNK:] + words[:number * 4099 % CHUNK]
@@ -77,7 +68,7 @@ def by_numpy(folder, is_each):
 
     for name in (("numpy", "numpy_d", "numpy_s") if is_each else ("once",)):
         os.makedirs(os.path.join(folder, name, "c"))
-    store(os.path.join(folder, "numpy" if is_each else "once", "zarr.json"), metadata("bool", chunks * CHUNK).encode(), True)
+    store(os.path.join(folder, "numpy" if is_each else "once", "zarr.json"), metadata("bool", [chunks * CHUNK], [CHUNK]).encode(), True)
     if is_each:
         for number in range(chunks):
             numpy.multiply(read("a", number, room["left"]), numpy.int32(2), out=room["made"])
@@ -97,26 +88,13 @@ def by_numpy(folder, is_each):
     return time.perf_counter() - start
 
 
-def linked(folder, name, chunks):
-    """Returns a folder of version 2 whose chunks are the very files of an array, for a zarr that doesn't read version 3."""
-    top = os.path.join(folder, f"{name}_v2")
-    if not os.path.isdir(top):
-        os.makedirs(top)
-        told = {"zarr_format": 2, "shape": [chunks * CHUNK], "chunks": [CHUNK], "dtype": "<i4", "compressor": None, "fill_value": 0, "order": "C", "filters": None}
-        with open(os.path.join(top, ".zarray"), "w") as file:
-            json.dump(told, file)
-        for number in range(chunks):
-            os.link(os.path.join(folder, name, "c", str(number)), os.path.join(top, str(number)))
-    return top
-
-
 def by_dask(folder):
     """The peer over the same files: zarr opens and stores the arrays, Dask goes over the chunks with one thread."""
     import dask
     import dask.array
     import zarr
     chunks, is_new = chunks_in(folder, "a"), int(zarr.__version__.split(".")[0]) >= 3
-    paths = [os.path.join(folder, name) if is_new else linked(folder, name, chunks) for name in INPUTS]
+    paths = [os.path.join(folder, name) if is_new else link_as_version_2(folder, name, "<i4", [chunks * CHUNK], [CHUNK]) for name in INPUTS]
     start = time.perf_counter()
     a, b, c = (dask.array.from_zarr(path) for path in paths)
     target = os.path.join(folder, "dask")
@@ -132,10 +110,6 @@ def by_dask(folder):
         for number in range(chunks):
             os.link(os.path.join(target, str(number)), os.path.join(target, "c", str(number)))
     return taken
-
-
-def can_import(python, *names):
-    return subprocess.run([python, "-c", "import " + ", ".join(names)], stderr=subprocess.DEVNULL, check=False).returncode == 0
 
 
 def same(folder, one, other):
@@ -219,7 +193,7 @@ def measure_nodes(program, parent, rounds):
     with tempfile.TemporaryDirectory(dir=parent, prefix="cubed-bench-") as folder:
         os.makedirs(os.path.join(folder, "a", "c"))
         with open(os.path.join(folder, "a", "zarr.json"), "w") as file:
-            file.write(metadata("int32", 4, 4))
+            file.write(metadata("int32", [4], [4]))
         with open(os.path.join(folder, "a", "c", "0"), "wb") as file:
             file.write(array.array("I", [1, 2, 3, 4]).tobytes())
         for count in (2, 256):

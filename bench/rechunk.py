@@ -19,40 +19,22 @@ import sys
 import tempfile
 import time
 
-from add import GNU_TIME, PROGRAM, see_that_it_is_built, timed
-from elementwise import can_import
+from stored import GNU_TIME, MIB, PROGRAM, can_import, link_as_version_2, metadata, put, same_as_version_2, see_that_it_is_built, timed
 
-MIB = 1 << 20
 ALLOWED = (64, 16)
 PEERS = {"dask": "Dask, one thread", "threads": "Dask, its threads"}
-
-
-def metadata(shape, chunk):
-    return json.dumps({
-        "zarr_format": 3, "node_type": "array", "data_type": "int32", "shape": shape, "fill_value": 0,
-        "chunk_grid": {"name": "regular", "configuration": {"chunk_shape": chunk}},
-        "chunk_key_encoding": {"name": "default", "configuration": {"separator": "/"}},
-        "codecs": [{"name": "bytes", "configuration": {"endian": "little"}}]}, sort_keys=True, separators=(",", ":"))
-
-
-def put(path, data):
-    os.makedirs(os.path.dirname(path), exist_ok=True)
-    with open(path, "wb") as file:
-        file.write(data)
 
 
 def make_input(folder, side, strip):
     """Stores the array `x`, whose chunks are strips of columns: as version 3, and the same files as version 2 for a zarr that doesn't read
     version 3."""
     import numpy
-    put(os.path.join(folder, "x", "zarr.json"), metadata([side, side], [side, strip]).encode())
-    told = {"zarr_format": 2, "shape": [side, side], "chunks": [side, strip], "dtype": "<i4", "compressor": None, "fill_value": 0, "order": "C", "filters": None}
-    put(os.path.join(folder, "x_v2", ".zarray"), json.dumps(told).encode())
+    put(os.path.join(folder, "x", "zarr.json"), metadata("int32", [side, side], [side, strip]).encode())
     rows = numpy.arange(side, dtype="int32")[:, None] * numpy.int32(65537)
     for number in range(side // strip):
         columns = numpy.arange(number * strip, (number + 1) * strip, dtype="int32")[None, :]
         put(os.path.join(folder, "x", "c", "0", str(number)), (rows ^ columns * numpy.int32(40503)).tobytes())
-        os.link(os.path.join(folder, "x", "c", "0", str(number)), os.path.join(folder, "x_v2", f"0.{number}"))
+    link_as_version_2(folder, "x", "<i4", [side, side], [side, strip])
 
 
 def by_dask(folder, strip, is_alone):
@@ -67,15 +49,6 @@ def by_dask(folder, strip, is_alone):
     with dask.config.set(scheduler="synchronous" if is_alone else "threads"):
         source.rechunk((strip, side)).to_zarr(target)
     return time.perf_counter() - start
-
-
-def differ(folder, count):
-    for number in range(count):
-        paths = os.path.join(folder, "y", "c", str(number), "0"), os.path.join(folder, "dask", f"{number}.0")
-        with open(paths[0], "rb") as left, open(paths[1], "rb") as right:
-            if left.read() != right.read():
-                return True
-    return False
 
 
 def written(folder, *names):
@@ -128,7 +101,7 @@ def measure(given, folder):
                 told[way].report = run[1]
             else:
                 told[way].inside.append(float(run[1]))
-            if os.path.isdir(os.path.join(folder, "y")) and os.path.isdir(os.path.join(folder, "dask")) and differ(folder, 32):
+            if os.path.isdir(os.path.join(folder, "y")) and os.path.isdir(os.path.join(folder, "dask")) and not same_as_version_2(folder, "y", "dask"):
                 raise SystemExit("the chunks of Dask and of the program differ")
     return told
 
@@ -165,7 +138,7 @@ PLANS = {
 def measure_plans(given):
     with tempfile.TemporaryDirectory(dir=given.dir[0], prefix="cubed-bench-") as folder:
         for name, size, chunk in (("a", 4, 4), ("b", 4, 3), ("wide", 256, 1), ("long", 1024, 1)):
-            put(os.path.join(folder, name, "zarr.json"), metadata([size], [chunk]).encode())
+            put(os.path.join(folder, name, "zarr.json"), metadata("int32", [size], [chunk]).encode())
         for what, (array, op) in PLANS.items():
             nodes = chain(256, op)
             nodes[0]["name"] = array

@@ -24,7 +24,7 @@ import tempfile
 import time
 
 sys.dont_write_bytecode = True
-from add import has_numpy, timed  # add.py, in this folder
+from stored import has_numpy, timed  # stored.py, in this folder
 
 SIDE, CHUNK_SIDE, LOW, HIGH = 4096, 2048, 1024, 3072
 CHUNK_BYTES, REGION_BYTES = 4 * CHUNK_SIDE**2, 4 * (HIGH - LOW) ** 2

@@ -19,8 +19,8 @@ import time
 
 import numpy
 
-from add import PROGRAM, store, tell, timed
-from views import metadata, same_files
+from stored import PROGRAM, metadata, store, tell, timed
+from views import same_files
 
 SIDE, CHUNKS, BLOCK, BLOCKS = 1024, 8, 128, 4
 SUMS = {"sum over axis 0": ("sum", {"axes": [0]}), "sum over axis 1": ("sum", {"axes": [1]}), "sum of all": ("sum", {}),
@@ -102,7 +102,7 @@ def make_inputs(folder):
     for name, (side, count, dtype) in arrays.items():
         os.makedirs(os.path.join(folder, name))
         with open(os.path.join(folder, name, "zarr.json"), "w") as file:
-            file.write(metadata([side * count] * 2, [side] * 2).replace('"int32"', f'"{dtype}"'))
+            file.write(metadata(dtype, [side * count] * 2, [side] * 2, "."))
         for number, place in enumerate(itertools.product(range(count), repeat=2)):
             cells = numpy.roll(whole, number * 4099)[:side * side].astype(dtype)
             with open(os.path.join(folder, name, "c." + ".".join(map(str, place))), "wb") as file:

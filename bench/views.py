@@ -20,19 +20,11 @@ import time
 
 import numpy
 
-from add import PROGRAM, store, tell, timed
+from stored import PROGRAM, metadata, store, tell, timed
 
 SIDE = 1024
 CHUNK = SIDE * SIDE
 CHUNK_BYTES = 4 * CHUNK
-
-
-def metadata(shape, chunk):
-    return json.dumps({
-        "zarr_format": 3, "node_type": "array", "data_type": "int32", "shape": shape, "fill_value": 0,
-        "chunk_grid": {"name": "regular", "configuration": {"chunk_shape": chunk}},
-        "chunk_key_encoding": {"name": "default", "configuration": {"separator": "."}},
-        "codecs": [{"name": "bytes", "configuration": {"endian": "little"}}]}, sort_keys=True, separators=(",", ":"))
 
 
 class Peer:
@@ -137,7 +129,7 @@ def make_inputs(folder, chunks):
     for name, (shape, chunk) in shapes.items():
         os.makedirs(os.path.join(folder, name))
         with open(os.path.join(folder, name, "zarr.json"), "w") as file:
-            file.write(metadata(shape, chunk))
+            file.write(metadata("int32", shape, chunk, "."))
         for number, place in enumerate(itertools.product(*[range(size // sides) for size, sides in zip(shape, chunk)])):
             with open(os.path.join(folder, name, "c." + ".".join(map(str, place))), "wb") as file:
                 file.write(numpy.roll(whole, number * 4099).tobytes())

@@ -46,7 +46,7 @@ pair_promise : (a b bs : List ℕ) → IsPair a b bs → IsPromiseOf (pair_specs
 pair_promise a b bs pair =
     let P : Spec → Type 0 = λ s. IsTrue s.made → (bytes : List ℕ) → bytes_under (pair_map a b bs) s.key ≡ Some bytes → length bytes ≡ s.len in
     let each : (key bytes : List ℕ) → bytes_under (pair_map a b bs) key ≡ Some bytes → bs ≡ bytes =
-        λ key bytes is. one_value (bytes_eq a key) (bytes_eq b key) bs bytes is in
+    λ key bytes is. one_value (bytes_eq a key) (bytes_eq b key) bs bytes is in
     record {
       lengths = All-cons P (made_of a) (made_of b ∷ []) (λ made bytes is. ap length (sym (each a bytes is)) ∙ pair.long)
           (All-cons P (made_of b) [] (λ made bytes is. ap length (sym (each b bytes is)) ∙ pair.long) (All-nil P));

@@ -131,11 +131,7 @@ fn race<Y: Yard, R: Threads + Sync>(
 }
 
 /// Puts the first, and splits three passes, which have seen it. `None` where the put fails.
-fn begun<Y: Yard>(
-    yard: &Y,
-    root: &mut Y::Pass,
-    pair: &Pair,
-) -> Option<(Y::Pass, Y::Pass, Y::Pass)>
+fn begun<Y: Yard>(yard: &Y, root: &mut Y::Pass, pair: &Pair) -> Option<(Y::Pass, Y::Pass, Y::Pass)>
     requires own { Y.owns yard.now root.old }
     requires a { MayPut (Y.serves yard.now) pair.now.a pair.now.bytes }
     ensures own { Y.owns yard.now root.new }
@@ -164,12 +160,7 @@ fn joined<Y: Yard>(yard: &Y, pass: &mut Y::Pass, other: Y::Pass)
 }
 
 /// Joins three passes, of which the first has seen the second key.
-fn ended<Y: Yard>(
-    yard: &Y,
-    root: &mut Y::Pass,
-    passes: (Y::Pass, Y::Pass, Y::Pass),
-    pair: &Pair,
-)
+fn ended<Y: Yard>(yard: &Y, root: &mut Y::Pass, passes: (Y::Pass, Y::Pass, Y::Pass), pair: &Pair)
     requires root { Y.owns yard.now root.old }
     requires own { Y.owns yard.now passes.0 × Y.owns yard.now passes.1 × Y.owns yard.now passes.2 }
     requires b { IsTrue ((Y.knows passes.0).seen pair.now.b) }

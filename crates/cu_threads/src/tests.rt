@@ -34,9 +34,16 @@ fn three_threads_share_two_cells(rt: HostRuntime) -> Result<(), Fail> {
     assert!(rt; all, "each get gives the promised bytes");
     let calls = depot.calls().ok_or("memory for the calls")?;
     assert_eq!(rt; calls.len(), 5_003, "each call is written down");
-    assert_eq!(rt; depot.depot.calls(), 5_003, "the calls of each pass are counted");
+    assert_eq!(rt;
+        depot.depot.calls(),
+        5_003,
+        "the calls of each pass are counted"
+    );
     for key in [&pair.a, &pair.b] {
-        assert!(rt; depot.depot.lookup(key) == Some(&pair.bytes[..]), "it is given back");
+        assert!(rt;
+            depot.depot.lookup(key) == Some(&pair.bytes[..]),
+            "it is given back"
+        );
     }
     Ok(())
 }
@@ -51,7 +58,10 @@ fn three_threads_share_a_folder(rt: HostRuntime) -> Result<(), Fail> {
     assert_eq!(rt; depot.faults(), 0);
     for key in [&pair.a, &pair.b] {
         let mut buf = [0; 64];
-        assert!(rt; depot.get(key, &mut buf) == Ok(Got::Held(64)), "its file is there");
+        assert!(rt;
+            depot.get(key, &mut buf) == Ok(Got::Held(64)),
+            "its file is there"
+        );
         assert!(rt; buf == pair.bytes, "it has its bytes");
     }
     let names = format!(in rt.alloc(); "{folder}/x/c")?;

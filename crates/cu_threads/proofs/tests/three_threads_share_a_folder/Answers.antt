@@ -8,8 +8,8 @@ use Rattle.cu_threads.proofs.Crossing.{pass_send, yard_sync}
 use Rattle.cu_threads.proofs.tests.three_threads_share_a_folder.Goals as goal
 
 pub exchange-requires-send-D-Yard-Pass : goal.exchange-requires-send-D-Yard-Pass
-exchange-requires-send-D-Yard-Pass c κs = param_send _ _ (arg_send _ no _ pass_send)
+exchange-requires-send-D-Yard-Pass c κs κs' = param_send _ _ (arg_send _ no _ pass_send)
 
 pub exchange-requires-sync-D-Yard : goal.exchange-requires-sync-D-Yard
-exchange-requires-sync-D-Yard c κs =
+exchange-requires-sync-D-Yard c κs κs' =
     record { shared = (yard_sync Host.the_row File.the_row Names.the_row host.the_sync).shared }

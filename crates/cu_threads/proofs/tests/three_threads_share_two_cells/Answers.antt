@@ -4,7 +4,7 @@ use Rattle.cu_watch.proofs.Crossing.{watched_cells_sync, watched_pass_send}
 use Rattle.cu_threads.proofs.tests.three_threads_share_two_cells.Goals as goal
 
 pub exchange-requires-send-D-Yard-Pass : goal.exchange-requires-send-D-Yard-Pass
-exchange-requires-send-D-Yard-Pass c κs = param_send _ _ (arg_send _ no _ watched_pass_send)
+exchange-requires-send-D-Yard-Pass c κs κs' = param_send _ _ (arg_send _ no _ watched_pass_send)
 
 pub exchange-requires-sync-D-Yard : goal.exchange-requires-sync-D-Yard
-exchange-requires-sync-D-Yard c κs = record { shared = watched_cells_sync.shared }
+exchange-requires-sync-D-Yard c κs κs' = record { shared = watched_cells_sync.shared }

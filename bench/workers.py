@@ -1,0 +1,206 @@
+#!/usr/bin/env python3
+"""Computes with one worker, with several workers, and with Dask by as many threads over the same chunk files, in one run.
+
+  workers.py [--program FILE] [--dir FOLDER].. [--runs N] [--workers N] [--python FILE] [--mebibytes N] [--only WORD..]
+
+The works: an addition in chunks of 1 MiB, `(a*2 + b) > c` in chunks of 4 MiB, a sum over an axis, a change from columns to rows in
+64 MiB, and a product of matrices. Then additions in 16,384 chunks of 1 KiB with the program alone. The program syncs each file before its
+rename, Dask writes as zarr does, without a sync. Which comes first changes at each round, and what all store is compared byte by byte.
+
+It prints the least times and the greatest resident memory of each, how many times as fast several workers are as one and as Dask (whose
+time is without Python's start), by the least times and round by round, and last which of the aims were missed. It does so in memory,
+where there is such a folder, and on the disk. Dask and zarr must be in --python.
+"""
+import argparse
+import functools
+import itertools
+import json
+import os
+import shutil
+import statistics
+import subprocess
+import sys
+import tempfile
+import time
+
+sys.dont_write_bytecode = True
+import small  # small.py, in this folder
+from stored import GNU_TIME, MIB, PROGRAM, can_import, folders, link_as_version_2, metadata, put, same_as_version_2, see_that_it_is_built, timed
+
+ONE, MANY, DASK = "one worker", "workers", "Dask"
+# By how many times the workers are to be faster than one worker, than one with small tasks, and than Dask.
+AIM, SMALL_AIM, DASK_AIM = 3.2, 2.0, 0.9
+TYPES = {"int32": "<i4", "int64": "<i8"}
+
+
+def node(name, op, *args, **members):
+    return {"id": name, "op": op, "args": list(args), **members}
+
+
+class Work:
+    """What is computed: the inputs' shape and chunk shape, the nodes over them, and the same by Dask's arrays."""
+
+    def __init__(self, inputs, shape, chunk, nodes, by_dask, words=(), dtype="int32"):
+        self.inputs, self.shape, self.chunk, self.dtype = inputs, shape, chunk, dtype
+        self.nodes, self.by_dask, self.words = nodes, by_dask, list(words)
+
+    def expression(self):
+        given = [{"id": name, "op": "input", "name": name} for name in self.inputs]
+        return json.dumps({"nodes": given + self.nodes, "out": self.nodes[-1]["id"], "store_as": "y"})
+
+
+def works(mebibytes):
+    """The works over arrays of so many MiB (256 make the sizes that were meant; the memory of the copy goes with them)."""
+    elements = mebibytes * MIB // 4
+    side = 1 << (elements.bit_length() - 1) // 2
+    strip, block = side // 32, max(64, 3 * side // 64)
+    return {
+        "addition": Work("ab", [elements], [MIB // 4], [node("s", "add", "a", "b")], lambda a, b: a + b),
+        "(a*2 + b) > c": Work("abc", [elements], [MIB], [node("d", "multiply", "a", 2), node("s", "add", "d", "b"), node("g", "greater", "s", "c")],
+                              lambda a, b, c: (a * 2 + b) > c),
+        "sum over the first axis": Work("a", [side, side], [side // 8] * 2, [node("s", "sum", "a", axes=[0])], lambda a: a.sum(axis=0)),
+        "columns to rows": Work("a", [side, side], [side, strip], [node("r", "rechunk", "a", chunk=[strip, side])],
+                                lambda a: a.rechunk((strip, side)), ["--allowed-mem", str(side * side)]),
+        "product of matrices": Work("ab", [4 * block] * 2, [block] * 2, [node("p", "matmul", "a", "b")], lambda a, b: a @ b, dtype="int64")}
+
+
+def make_inputs(folder, work):
+    """Stores arrays of numbers that differ from chunk to chunk, and links them for a zarr that reads version 2 alone."""
+    import numpy
+    counts = [-(-length // part) for length, part in zip(work.shape, work.chunk)]
+    rng = numpy.random.default_rng(1)
+    cells = rng.integers(-2**31, 2**31, functools.reduce(int.__mul__, work.chunk), dtype=work.dtype)
+    for turn, name in enumerate(work.inputs):
+        put(os.path.join(folder, name, "zarr.json"), metadata(work.dtype, work.shape, work.chunk).encode())
+        for number, place in enumerate(itertools.product(*map(range, counts))):
+            put(os.path.join(folder, name, "c", *map(str, place)), numpy.roll(cells, 4099 * number + 131 * turn).tobytes())
+        link_as_version_2(folder, name, TYPES[work.dtype], work.shape, work.chunk)
+
+
+def by_dask(folder, work, workers):
+    """The peer: zarr opens and stores the arrays, Dask goes over the chunks with so many threads. The seconds that this takes."""
+    import dask
+    import dask.array
+    import zarr
+    start = time.perf_counter()
+    result = work.by_dask(*(dask.array.from_zarr(zarr.open(os.path.join(folder, f"{name}_v2"), mode="r")) for name in work.inputs))
+    target = zarr.open(os.path.join(folder, "dask"), mode="w", shape=result.shape, chunks=result.chunksize, dtype=result.dtype, compressor=None)
+    with dask.config.set(scheduler="threads", num_workers=workers):
+        dask.array.store(result, target, lock=False)
+    return time.perf_counter() - start
+
+
+class Told:
+    """What was measured of one way: its seconds round by round, its seconds with all that it starts, and GNU time's words of the best."""
+
+    def __init__(self):
+        self.seconds, self.whole, self.runs = [], [], []
+
+    def add(self, run, has_own_time):
+        self.seconds.append(float(run[1]) if has_own_time else run[0])
+        self.whole.append(run[0])
+        self.runs.append(run)
+
+    def row(self):
+        told = min(self.runs)[2]
+        memory = f", resident {int(told[2]) / 1024:.0f} MiB (processor: {told[0]} s in it, {told[1]} s in the system)" if told else ""
+        start = f" ({min(self.whole):.3f} s with Python's start)" if self.seconds != self.whole else ""
+        return f"{min(self.seconds):.3f} s{start}{memory}"
+
+
+def times_as_fast(fast, slow):
+    """How many times as fast the one way is as the other: by the least times, and the median of the rounds."""
+    return min(slow.seconds) / min(fast.seconds), statistics.median(b / a for a, b in zip(fast.seconds, slow.seconds))
+
+
+def ways_of(given, folder, name, work):
+    run = [given.program, folder, "run", *work.words]
+    ways = {ONE: run, MANY: [*run, "--workers", str(given.workers)]}
+    if given.has_dask:
+        peer = ["--peer", name, folder, "--workers", str(given.workers), "--mebibytes", str(given.mebibytes)]
+        ways[DASK] = [given.python, os.path.abspath(__file__), *peer]
+    return ways
+
+
+def measure(given, folder, name, work):
+    """Goes through the ways in turn, and compares what they store. Returns what was measured of each."""
+    make_inputs(folder, work)
+    ways = ways_of(given, folder, name, work)
+    told = {way: Told() for way in ways}
+    for number in range(given.runs):
+        for way in list(ways)[::1 if number % 2 == 0 else -1]:
+            for made in ("dask",) if way == DASK else ("y", "_cubed"):
+                shutil.rmtree(os.path.join(folder, made), ignore_errors=True)
+            os.sync()
+            told[way].add(timed(ways[way], work.expression()), way == DASK)
+            if os.path.isdir(os.path.join(folder, "y")) and os.path.isdir(os.path.join(folder, "dask")) and not same_as_version_2(folder, "y", "dask"):
+                raise SystemExit(f"{name}: the chunks of Dask and of the program differ")
+    return told
+
+
+def tell(given, name, told):
+    """Prints what was measured of one work. Returns the aims that it missed."""
+    print(f"  {name}:", flush=True)
+    for way, one in told.items():
+        print(f"    {f'{given.workers} workers' if way == MANY else f'{DASK}, {given.workers} threads' if way == DASK else way}: {one.row()}")
+    missed = []
+    for way, aim in ((ONE, AIM), (DASK, DASK_AIM)):
+        if way in told:
+            least, median = times_as_fast(told[MANY], told[way])
+            print(f"    {given.workers} workers beside {way}: {least:.2f} times as fast (median of the rounds {median:.2f}; aim {aim})", flush=True)
+            if least < aim:
+                missed.append(f"{name} beside {way}: {least:.2f} for {aim}")
+    return missed
+
+
+def measure_in(given, parent):
+    """Measures all works in a folder. Returns the aims that were missed."""
+    print(f"in {parent}, load {os.getloadavg()[0]:.1f}:", flush=True)
+    missed, beside_dask = [], []
+    for name, work in works(given.mebibytes).items():
+        if given.only and not any(word in name for word in given.only):
+            continue
+        with tempfile.TemporaryDirectory(dir=parent, prefix="cubed-bench-") as folder:
+            told = measure(given, folder, name, work)
+        missed += tell(given, name, told)
+        if DASK in told:
+            beside_dask.append(times_as_fast(told[MANY], told[DASK])[0] > 1)
+    if not given.only or "small" in given.only:
+        least = small.measure_small(given.program, parent, min(given.runs, 3), [1, given.workers])
+        times = least[1] / least[given.workers]
+        missed += [f"small tasks: {times:.2f} for {SMALL_AIM}"] if times < SMALL_AIM else []
+    if beside_dask:
+        print(f"  ahead of Dask in {sum(beside_dask)} of {len(beside_dask)} works")
+        missed += ["ahead of Dask in most"] if 2 * sum(beside_dask) <= len(beside_dask) else []
+    return [f"in {parent}: {one}" for one in missed]
+
+
+def main():
+    words = argparse.ArgumentParser(description=__doc__, formatter_class=argparse.RawDescriptionHelpFormatter)
+    words.add_argument("--program", default=PROGRAM, help="the built program")
+    words.add_argument("--dir", action="append", help="a folder to measure in, as often as wanted")
+    words.add_argument("--runs", type=int, default=5, help="how many rounds")
+    words.add_argument("--workers", type=int, default=4, help="how many workers, and threads of Dask")
+    words.add_argument("--python", default=sys.executable, help="the Python that has NumPy, Dask and zarr")
+    words.add_argument("--mebibytes", type=int, default=256, help="the size of each input")
+    words.add_argument("--only", nargs="*", help="the works whose names have one of these words, and `small`")
+    words.add_argument("--peer", nargs=2, help=argparse.SUPPRESS)
+    given = words.parse_args()
+    if given.peer:
+        name, folder = given.peer
+        print(by_dask(folder, works(given.mebibytes)[name], given.workers))
+        return
+    given.program = os.path.abspath(given.program)
+    see_that_it_is_built(given.program)
+    given.has_dask = can_import(given.python, "dask.array", "zarr")
+    if not given.has_dask:
+        print(f"{given.python} has no Dask and zarr, so the program is measured alone")
+    if not os.access(GNU_TIME, os.X_OK):
+        print(f"without {GNU_TIME} no memory is told")
+    print(f"{given.workers} workers on {os.cpu_count()} processors, inputs of {given.mebibytes} MiB, the least of {given.runs} runs")
+    missed = [one for parent in given.dir or folders() for one in measure_in(given, parent)]
+    print("missed: " + "; ".join(missed) if missed else "no aim was missed")
+
+
+if __name__ == "__main__":
+    main()
