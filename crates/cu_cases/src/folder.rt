@@ -3,6 +3,7 @@
 use crate::case::{Case, add_contents};
 use anyhow::{Result, bail};
 use cu_dir::DirDepot;
+use cu_failing::{Failing, Span};
 use cu_rows::{Findings, Place, Said, Texts, refuse_others};
 use std::fs;
 use std::rt::Files;
@@ -12,8 +13,26 @@ use std::thread::Threads;
 /// The folder, which is made beside the tables and removed behind the case.
 const FOLDER: &str = "folder_of_a_case";
 
+/// What a step may say.
+const MEMBERS: [&str; 13] = [
+    "holds",
+    "words",
+    "input",
+    "line",
+    "or_lines",
+    "output",
+    "or_outputs",
+    "leaves",
+    "may_leave",
+    "hold",
+    "until",
+    "fail_from",
+    "fail_times",
+];
+
 /// Makes the calls of a case one after another over an empty folder, and reads back by `get` what each has left. What a step holds is put
-/// or removed first, as if a run had been stopped there.
+/// or removed first, as if a run had been stopped there. Of the calls of the folder that a step makes, whichever worker makes them,
+/// those fail whose number lies from `fail_from` to below `fail_times` more, or all from there on.
 pub(crate) fn run_folder(
     rt: &HostRuntime,
     threads: &(impl Threads + Wait + Sync),
@@ -24,14 +43,12 @@ pub(crate) fn run_folder(
 ) -> Result<()> {
     refuse_others(said.case, &["name", "steps"])?;
     let _ = fs::remove_dir_all(rt, FOLDER);
-    let Ok(mut depot) = DirDepot::make(rt, texts.alloc, FOLDER) else {
+    let Ok(depot) = DirDepot::make(rt, texts.alloc, FOLDER) else {
         bail!("no memory");
     };
+    let mut depot = Failing::new(depot);
     for (at, row) in said.list("steps")?.iter().enumerate() {
-        refuse_others(
-            row,
-            &["holds", "words", "input", "line", "output", "leaves"],
-        )?;
+        refuse_others(row, &MEMBERS)?;
         let said = Said { row, ..*said };
         let mut held = Vec::new(texts.alloc);
         add_contents(&mut held, texts, said.list("holds")?, false)?;
@@ -43,6 +60,7 @@ pub(crate) fn run_folder(
             number: 0,
         };
         case.fill(&mut depot)?;
+        depot.set_span(span_of(&said)?);
         case.answer(
             threads,
             &mut depot,
@@ -51,8 +69,18 @@ pub(crate) fn run_folder(
             &place,
             findings,
         )?;
+        depot.set_span(Span::none());
         case.read_back(&mut depot, &place, findings)?;
     }
     fs::remove_dir_all(rt, FOLDER)?;
     Ok(())
+}
+
+/// The calls that fail.
+fn span_of(said: &Said<'_>) -> Result<Span> {
+    let times = said.number("fail_times")?.unwrap_or(u64::MAX);
+    Ok(match said.number("fail_from")? {
+        None => Span::none(),
+        Some(first) => Span { first, times },
+    })
 }

@@ -1,0 +1,294 @@
+#!/usr/bin/env python3
+"""Writes resume_stops.json and failing_calls.json in crates/cu_cases/data: runs over a folder that are stopped after each call, runs
+that go on from there and are stopped after each call too, and each call that fails once, by one worker and by four.
+
+usage: tools/stop_cases.py
+
+A folder tells nothing of its contents, so a run may go on there in a table. Its calls are numbered in the order of their making,
+whichever worker makes them. Keys, records and counts come from bench/rules.py, bytes from NumPy, the order of one worker's tasks from
+tools/worker.py. Of four workers the order is free, and each line that may come stands in the row. Nothing comes from the program.
+"""
+import os
+import sys
+
+TOP = os.path.dirname(os.path.dirname(os.path.realpath(__file__)))
+sys.path.insert(0, f"{TOP}/tools")
+import elementwise_cases as tables  # noqa: E402
+import reduction_cases  # noqa: E402
+import rules  # noqa: E402
+import worker  # noqa: E402
+from elementwise_cases import ADDED, a_and_b, expression, inputs_of, line_of, node  # noqa: E402
+from rechunk_cases import TWO_COPIES, small_grid  # noqa: E402
+from rechunk_cases import tasks_of as copy_tasks  # noqa: E402
+
+
+class Job:
+    """A text over arrays, its plan, and the calls by which it is carried out."""
+
+    def __init__(self, label, row, plan, tasks, arrays):
+        self.label, self.words, self.plan, self.tasks = label, row["words"][1:], plan, tasks
+        self.inputs = tables.holds_of(arrays)
+        self.names = [f"{entry['name']}/zarr.json" for entry in plan.expr["nodes"] if entry["op"] == "input"]
+        record, metadata, zarray, *chunks = plan.keys_in_the_way()
+        self.record, self.metadata, self.way, self.chunks = record, metadata, [record, metadata, zarray, *chunks], chunks
+        self.value = {key: {"named": f"{label} {key}"} for key, _ in row["leaves"]}
+        self.texts = {f"{label} {key}": value for key, value in row["leaves"]}
+        self.texts[label] = row["input"]
+        self.keys = [record, metadata, *chunks]
+
+    def report(self, starts, failed=0):
+        return f"ok ops={len(self.plan.operations())} tasks={len(self.tasks)} starts={starts} failed={failed} peak={self.plan.peak()}\n"
+
+    def called(self, command, workers=1):
+        words = [command, *(["--workers", str(workers)] if workers > 1 else []), *self.words]
+        return {"words": words, "input": {"named": self.label}}
+
+    def kept(self, held):
+        """Returns what each key of the plan holds where these are held."""
+        return [[key, self.value[key] if key in held else None] for key in self.keys]
+
+    def task_calls(self, held):
+        """Returns the calls of the tasks that aren't done, by one worker: the line if it fails for good, and the key if it is a put."""
+        found = [at for at, task in enumerate(self.tasks) if all(key in held for key in task.writes)]
+        calls = []
+        for task in worker.in_turn(self.tasks, found):
+            line = f"error 10 op={task.op} task={task.number}"
+            calls += [(line, None) for _ in task.reads] + [(line, key) for key in task.writes]
+        return calls, len(self.tasks) - len(found)
+
+    def run_calls(self):
+        """Returns the calls of a run before its tasks."""
+        return [(f"error 16 key={key}", None) for key in self.names + self.way] + [(f"error 16 key={key}", key) for key in (self.record, self.metadata)]
+
+    def resume_calls(self, held):
+        """Returns the calls of a run that goes on before its tasks."""
+        calls = [(f"error 16 key={key}", None) for key in [*self.names, self.record, self.metadata, *self.chunks]]
+        return calls + ([] if self.metadata in held else [(f"error 16 key={self.metadata}", self.metadata)])
+
+
+def after(calls, count, held):
+    """Returns the keys that are held if a run is stopped after so many of its calls."""
+    return set(held) | {key for _, key in calls[:count] if key}
+
+
+def addition():
+    arrays, text = a_and_b(), expression(ADDED)
+    plan = tables.plan_over(text, arrays, 1600)
+    return Job("addition", tables.ran(arrays, text, 1600), plan, tables.tasks_of(plan), arrays)
+
+
+def copies():
+    arrays = small_grid()
+    from rechunk_cases import plan_over, ran
+    plan = plan_over(arrays, TWO_COPIES, 16)
+    return Job("copies", ran(arrays, TWO_COPIES, 16), plan, copy_tasks(plan), arrays)
+
+
+def rounds():
+    arrays = {"a": line_of("int16", [3, 1, 1, 1, 2], 2)}
+    text = expression([*inputs_of("a"), node("r", "argmin", "a")])
+    plan = reduction_cases.plan_over(text, arrays, reduction_cases.AMPLE, 0, 2)
+    tasks = [worker.Task(at, task, reduction_cases.chunks_read(plan, 1, at, place), [plan.part_key(1, at, which, place) for which in range(len(step.arrays))])
+             for at, step in enumerate(plan.steps[1]) for task, place in enumerate(step.places())]
+    return Job("rounds", reduction_cases.ran(arrays, text, None, 2), plan, tasks, arrays)
+
+
+# One worker: each answer and each key is known
+
+def stopped(job, command, calls, count, held, starts):
+    """A call that is stopped after so many calls, from what is held."""
+    now = after(calls, count, held)
+    ended = {"line": calls[count][0]} if count < len(calls) else {"output": job.report(starts)}
+    return {**job.called(command), "fail_from": count, **ended, "leaves": job.kept(now)}, now
+
+
+def reset(job, held):
+    return [[key, None] for key in job.keys if key not in held]
+
+
+def without_record(job, count):
+    """A run that goes on where no record is held, stopped after so many calls."""
+    asked = [*job.names, job.record]
+    line = f"error 16 key={asked[count]}" if count < len(asked) else "error 15"
+    return {**job.called("resume"), "fail_from": count, "line": line, "leaves": job.kept(())}
+
+
+def pairs_after(job, count, each):
+    """A run that is stopped after so many calls. From there a run that goes on is stopped after each of its calls, and goes on from there
+    over a folder that no longer fails."""
+    before = job.run_calls()
+    calls, starts = job.task_calls(())
+    first, held = stopped(job, "run", before + calls, count, (), starts)
+    steps = [{"holds": job.inputs + reset(job, ()), **first}]
+    if not held:
+        steps += [without_record(job, at) for at in range(len(job.names) + 2)]
+        return steps + [{**job.called("resume"), "line": "error 15", "leaves": job.kept(())}]
+    calls, starts = job.task_calls(held)
+    calls = job.resume_calls(held) + calls
+    for at in [*range(len(calls) + 1)] if each else [len(calls)]:
+        second, then = stopped(job, "resume", calls, at, held, starts)
+        left = job.task_calls(then)[1]
+        steps += [{"holds": reset(job, held), **second}, {**job.called("resume"), "output": job.report(left), "leaves": job.kept(job.keys)}]
+    return steps
+
+
+def stop_cases(job, name, all_pairs):
+    """A case for each call after which the run is stopped. What a stop leaves is a front of the keys in their order, so where not all pairs
+    are tried, the second stops are tried once for each such front."""
+    before = job.run_calls()
+    calls = before + job.task_calls(())[0]
+    cases, seen = [], set()
+    for count in range(len(calls) + 1):
+        stored = len(after(calls, count, ()))
+        cases.append({"name": f"{name}, stopped after {count} calls, and again after each", "steps": pairs_after(job, count, all_pairs or stored not in seen)})
+        seen.add(stored)
+    return cases
+
+
+# Four workers: the order of the tasks' calls is free
+
+def lines_of(job):
+    return [f"error 10 op={task.op} task={task.number}" for task in job.tasks]
+
+
+def reports(job):
+    return [job.report(starts) for starts in range(len(job.tasks) + 1)]
+
+
+def loose(job):
+    """What may be left where tasks ran in any order."""
+    return {"leaves": [[key, job.value[key]] for key in (job.record, job.metadata)], "may_leave": [[key, job.value[key]] for key in job.chunks]}
+
+
+def finished(job):
+    """A run by four that goes on from any state, over a folder that doesn't fail."""
+    whole = reports(job)
+    return {**job.called("resume", 4), "output": whole[0], "or_outputs": whole[1:], "leaves": job.kept(job.keys)}
+
+
+def stopped_by_four(job, command, before, count, total):
+    """A call by four workers that is stopped after so many calls. The calls before the tasks have one order."""
+    step = {**job.called(command, 4), "fail_from": count}
+    if count < len(before):
+        return {**step, "line": before[count][0]}
+    return {**step, "line": "", "or_lines": lines_of(job), "output": "", "or_outputs": reports(job), **loose(job)}
+
+
+def four_after(job, count, stride):
+    before = job.run_calls()
+    total = len(before) + len(job.task_calls(())[0])
+    first = stopped_by_four(job, "run", before, count, total)
+    held = after(before, count, ())
+    if count < len(before):
+        first["leaves"] = job.kept(held)
+    elif count < total:
+        first.update(line=lines_of(job)[0], or_lines=lines_of(job)[1:], or_outputs=[])
+    else:
+        first.update(output=job.report(len(job.tasks)), or_lines=[], or_outputs=[], leaves=job.kept(job.keys), may_leave=[])
+    steps = [{"holds": job.inputs + reset(job, ()), **first}]
+    if not held:
+        return steps
+    asked = job.resume_calls(held)
+    most = len(asked) + total - len(before)
+    for at in range(0, most + 1, stride):
+        second = stopped_by_four(job, "resume", asked, at, most)
+        if at < len(asked):
+            second.update(loose(job))
+            if self_made(job, held):
+                second.update(leaves=[[job.record, job.value[job.record]], [job.metadata, None]])
+        # A run that goes on changes what a next one finds: so each begins from the stop before it.
+        steps += [{"holds": reset(job, held), **second}, finished(job)]
+    return steps
+
+
+def self_made(job, held):
+    return job.metadata not in held
+
+
+def four_cases(job, name, stride):
+    total = len(job.run_calls()) + len(job.task_calls(())[0])
+    return [{"name": f"{name} by four, stopped after {count} calls, and again", "steps": four_after(job, count, stride)} for count in range(total + 1)]
+
+
+# Each call failing once
+
+def once_by(job, workers):
+    """A run and a run that goes on, of each of which each call fails once: they end with 0."""
+    steps = []
+    before = job.run_calls()
+    total = len(before) + len(job.task_calls(())[0])
+    for count in range(total):
+        failed = int(count >= len(before))
+        steps.append({"holds": (job.inputs if not steps else []) + reset(job, ()), **job.called("run", workers), "fail_from": count, "fail_times": 1,
+                      "output": job.report(len(job.tasks) + failed, failed), "leaves": job.kept(job.keys)})
+    for held in ([job.record], job.keys[:3]):
+        asked = job.resume_calls(held)
+        calls, starts = job.task_calls(held)
+        for count in range(len(asked) + len(calls)):
+            failed = int(count >= len(asked))
+            steps.append({"holds": reset(job, held), **job.called("resume", workers), "fail_from": count, "fail_times": 1,
+                          "output": job.report(starts + failed, failed), "leaves": job.kept(job.keys)})
+    return steps
+
+
+def other_commands(job):
+    """The commands that have one worker: each call fails once, and from each call on all fail."""
+    loaded = {"name": "c", "data_type": "int32", "shape": [6], "chunk_shape": [4], "elements": [1, 2, 3, 4, 5, 6]}
+    a = dict((key, value) for key, value in job.inputs)
+    c = [["c/zarr.json", a["a/zarr.json"]], ["c/c/0", a["a/c/0"]], ["c/c/1", a["a/c/1"]]]
+    order = ["c/c/0", "c/c/1", "c/zarr.json"]
+    steps = [{"holds": job.inputs + reset(job, ()), **job.called("run"), "output": job.report(2), "leaves": job.kept(job.keys)}]
+    load = ["_cubed/c/plan.json", "c/zarr.json", "c/.zarray", *order]
+    for count, key in enumerate(load):
+        gone = [[key, None] for key, _ in c]
+        put = order[:max(0, count - 3)]
+        steps += [{"holds": gone, "words": ["load"], "input": loaded, "fail_from": count, "line": f"error 16 key={key}",
+                   "leaves": [[key, value if key in put else None] for key, value in c]},
+                  {"holds": gone, "words": ["load"], "input": loaded, "fail_from": count, "fail_times": 1, "output": "ok elements=6 chunks=2\n", "leaves": c}]
+    text = {"named": job.label}
+    read = [("print", ["print", "y"], None, ["y/zarr.json", "y/c/0", "y/c/1"], "int32 shape [6] chunk [4]\n11 22 33 44 55 66\n"),
+            ("check", ["check"], text, ["a/zarr.json", "b/zarr.json", "y/zarr.json", "a/c/0", "a/c/1", "b/c/0", "b/c/1", "y/c/0", "y/c/1"], "equal 6\n"),
+            ("plan", ["plan", *job.words], text, ["a/zarr.json", "b/zarr.json"], job.plan.lines())]
+    for _, words, told, keys, output in read:
+        for count, key in enumerate(keys):
+            call = {"words": words, **({"input": told} if told else {}), "fail_from": count}
+            fronts = [] if words[0] != "print" else ["int32 shape [6] chunk [4]\n", "int32 shape [6] chunk [4]\n11 22 33 44", "int32 shape [6] chunk [4]\n11 22 33 44 "]
+            steps += [{**call, "line": f"error 16 key={key}", "or_outputs": fronts if count else [], "leaves": job.kept(job.keys)},
+                      {**call, "fail_times": 1, "output": output, "leaves": job.kept(job.keys)}]
+    removed = [job.metadata, *job.chunks, job.record]
+    for count, key in enumerate([*job.names, job.record, *removed]):
+        gone = removed[:max(0, count - len(job.names) - 1)]
+        full = [[key, job.value[key]] for key in job.keys]
+        steps += [{"holds": full, **job.called("drop"), "fail_from": count, "line": f"error 16 key={key}", "leaves": job.kept([key for key in job.keys if key not in gone])},
+                  {"holds": full, **job.called("drop"), "fail_from": count, "fail_times": 1, "output": f"ok keys={len(job.keys)}\n", "leaves": job.kept(())}]
+    return steps
+
+
+# Writing
+
+def members(texts):
+    return "{\n" + ",\n".join(f"  {rules.json.dumps(name)}: {rules.json.dumps(value)}" for name, value in texts.items()) + "}"
+
+
+def write(file, jobs, cases):
+    texts = {name: value for job in jobs for name, value in job.texts.items()}
+    dumped = rules.json.dumps
+    lines = [f'{{"name": {dumped(case["name"])},\n "steps": {tables.joined(map(dumped, case["steps"]), "  ")}}}' for case in cases]
+    with open(f"{TOP}/crates/cu_cases/data/{file}", "w", encoding="ascii") as out:
+        out.write(f'{{\n"kind": "folder",\n"texts": {members(texts)},\n"cases": {tables.joined(lines, "")}\n}}\n')
+
+
+def main():
+    jobs = [addition(), copies(), rounds()]
+    add, copy, search = jobs
+    write("resume_stops.json", jobs, [
+        *stop_cases(add, "an addition", True), *stop_cases(copy, "two copies", False), *stop_cases(search, "a search in rounds", False),
+        *four_cases(add, "an addition", 1), *four_cases(copy, "two copies", 5), *four_cases(search, "a search in rounds", 5)])
+    write("failing_calls.json", jobs, [
+        *[{"name": f"{name} by {workers}, each call failing once", "steps": once_by(job, workers)}
+          for job, name in ((add, "an addition"), (copy, "two copies"), (search, "a search in rounds")) for workers in (1, 2, 4)],
+        {"name": "the other commands, each call failing once and for good", "steps": other_commands(add)}])
+
+
+if __name__ == "__main__":
+    main()
