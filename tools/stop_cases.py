@@ -13,6 +13,7 @@ import sys
 
 TOP = os.path.dirname(os.path.dirname(os.path.realpath(__file__)))
 sys.path.insert(0, f"{TOP}/tools")
+import demo_cases  # noqa: E402
 import elementwise_cases as tables  # noqa: E402
 import reduction_cases  # noqa: E402
 import rules  # noqa: E402
@@ -31,8 +32,8 @@ class Job:
         self.names = [f"{entry['name']}/zarr.json" for entry in plan.expr["nodes"] if entry["op"] == "input"]
         record, metadata, zarray, *chunks = plan.keys_in_the_way()
         self.record, self.metadata, self.way, self.chunks = record, metadata, [record, metadata, zarray, *chunks], chunks
-        self.value = {key: {"named": f"{label} {key}"} for key, _ in row["leaves"]}
-        self.texts = {f"{label} {key}": value for key, value in row["leaves"]}
+        self.value = {key: {"named": f"{label} {at}"} for at, (key, _) in enumerate(row["leaves"])}
+        self.texts = {f"{label} {at}": value for at, (_, value) in enumerate(row["leaves"])}
         self.texts[label] = row["input"]
         self.keys = [record, metadata, *chunks]
 
@@ -74,14 +75,14 @@ def after(calls, count, held):
 def addition():
     arrays, text = a_and_b(), expression(ADDED)
     plan = tables.plan_over(text, arrays, 1600)
-    return Job("addition", tables.ran(arrays, text, 1600), plan, tables.tasks_of(plan), arrays)
+    return Job("add", tables.ran(arrays, text, 1600), plan, tables.tasks_of(plan), arrays)
 
 
 def copies():
     arrays = small_grid()
     from rechunk_cases import plan_over, ran
     plan = plan_over(arrays, TWO_COPIES, 16)
-    return Job("copies", ran(arrays, TWO_COPIES, 16), plan, copy_tasks(plan), arrays)
+    return Job("copy", ran(arrays, TWO_COPIES, 16), plan, copy_tasks(plan), arrays)
 
 
 def rounds():
@@ -90,7 +91,7 @@ def rounds():
     plan = reduction_cases.plan_over(text, arrays, reduction_cases.AMPLE, 0, 2)
     tasks = [worker.Task(at, task, reduction_cases.chunks_read(plan, 1, at, place), [plan.part_key(1, at, which, place) for which in range(len(step.arrays))])
              for at, step in enumerate(plan.steps[1]) for task, place in enumerate(step.places())]
-    return Job("rounds", reduction_cases.ran(arrays, text, None, 2), plan, tasks, arrays)
+    return Job("place", reduction_cases.ran(arrays, text, None, 2), plan, tasks, arrays)
 
 
 # One worker: each answer and each key is known
@@ -264,16 +265,86 @@ def other_commands(job):
     return steps
 
 
+def place_of(text, other):
+    """Returns the first byte at which two texts differ, or at which one of them ends."""
+    return next((at for at, pair in enumerate(zip(text, other)) if pair[0] != pair[1]), min(len(text), len(other)))
+
+
+def others_of(record):
+    """Records that aren't this one: of another version, memory or metadata, cut off, and longer."""
+    text = rules.compact(record)
+    assert text.startswith('{"allowed":1600,"cubed":2,'), text
+    changed = [text.replace('"cubed":2', f'"cubed":{version}') for version in ("1", "3", "0", "20", "-2", "null")]
+    changed += [text.replace('"cubed":2,', ""), text.replace("1600", "1601", 1), text.replace("1600", "160", 1), text.replace('"reserved":0', '"reserved":1'),
+                text.replace('"split_every":4', '"split_every":40'), text.replace('"split_every":4', '"split_every":5'), text.replace('"fill_value":0', '"fill_value":1', 1),
+                text.replace('"add"', '"and"'), text.replace('"store_as":"y"', '"store_as":"z"'), text[:-1], text[:1], "", text + " ", text + text, "[" + text[1:]]
+    return [other for other in changed if other != text]
+
+
+def other_records(job):
+    """Both commands that look for the record find another one, named by its first byte that differs; nothing is changed."""
+    record = job.texts[job.value[job.record]["named"]]
+    text, steps = rules.compact(record), []
+    for other in others_of(record):
+        for words in (job.called("resume"), job.called("resume", 4), job.called("drop")):
+            place = place_of(text.encode(), other.encode())
+            steps.append({"holds": (job.inputs if not steps else []) + [[job.record, other]], **words, "line": f"error 14 place={place}",
+                          "leaves": [[job.record, other], *[[key, None] for key in job.keys[1:]]]})
+    assert steps[0]["line"] == "error 14 place=24" and any(step["line"] == "error 14 place=14" for step in steps)
+    return {"name": "records of other plans are refused at their place", "steps": steps}
+
+
+def streams_of(job, workers):
+    """A run that goes on whose source or sink fails: the text, its end, and the report. A third read isn't made, nor a second write."""
+    held = [job.record]
+    call = {"holds": reset(job, held), **job.called("resume", workers)}
+    whole = {"output": job.report(2), "leaves": job.kept(job.keys)}
+    return [*[{**call, "source_fails_at": at, "line": "error 11", "leaves": job.kept(held)} for at in (0, 1)], {**call, "source_fails_at": 2, **whole},
+            {**call, "sink_fails_at": 0, "line": "error 12", "leaves": job.kept(job.keys)}, {**call, "sink_room": 5, "line": "error 12", "output": "ok op", "leaves": job.kept(job.keys)}]
+
+
+def demonstrated(workers):
+    """A demonstration whose tasks follow one another: each call fails once, and from each call on all fail."""
+    demo = demo_cases.small()
+    keys = [key for key, _ in demo["leaves"]]
+    asked = [key for name in ("demo_a", "demo_b", "demo_y") for key in (f"_cubed/{name}/plan.json", f"{name}/zarr.json", f"{name}/.zarray")] + keys[6:]
+    calls = [(f"error 16 key={key}", None) for key in asked] + [(f"error 16 key={key}", key) for key in keys[:6]]
+    for op, reads in enumerate([1, 3, 1, 1]):
+        line = f"error 10 op={op} task=0"
+        calls += [(line, None)] * reads + [(line, keys[6 + op])]
+    calls.append(("error 16 key=demo_y/c", None))
+    steps = []
+    for at, (line, _) in enumerate(calls):
+        held = after(calls, at, ())
+        call = {"holds": [[key, None] for key in keys], "words": ["demo", "4", "--workers", str(workers)], "fail_from": at}
+        again = demo["output"].replace("starts=4 failed=0", "starts=5 failed=1") if "error 10" in line else demo["output"]
+        steps += [{**call, "line": line, "leaves": [[key, value if key in held else None] for key, value in demo["leaves"]]},
+                  {**call, "fail_times": 1, "output": again, "leaves": demo["leaves"]}]
+    return {"name": f"a demonstration by {workers}, each call failing once and for good", "steps": steps}
+
+
 # Writing
 
 def members(texts):
     return "{\n" + ",\n".join(f"  {rules.json.dumps(name)}: {rules.json.dumps(value)}" for name, value in texts.items()) + "}"
 
 
+def text_of_case(case, dumped):
+    """Returns a case as text, with a line for each step. What most steps say alike stands in the case."""
+    said = {}
+    for name in ("words", "input", "leaves"):
+        found = [dumped(step[name]) for step in case["steps"] if name in step]
+        if len(found) == len(case["steps"]):
+            said[name] = max(set(found), key=found.count)
+    steps = [{name: value for name, value in step.items() if said.get(name) != dumped(value)} for step in case["steps"]]
+    shared = "".join(f' {dumped(name)}: {value},\n' for name, value in said.items())
+    return f'{{"name": {dumped(case["name"])},\n{shared} "steps": {tables.joined(map(dumped, steps), "  ")}}}'
+
+
 def write(file, jobs, cases):
     texts = {name: value for job in jobs for name, value in job.texts.items()}
     dumped = rules.json.dumps
-    lines = [f'{{"name": {dumped(case["name"])},\n "steps": {tables.joined(map(dumped, case["steps"]), "  ")}}}' for case in cases]
+    lines = [text_of_case(case, dumped) for case in cases]
     with open(f"{TOP}/crates/cu_cases/data/{file}", "w", encoding="ascii") as out:
         out.write(f'{{\n"kind": "folder",\n"texts": {members(texts)},\n"cases": {tables.joined(lines, "")}\n}}\n')
 
@@ -282,11 +353,15 @@ def main():
     jobs = [addition(), copies(), rounds()]
     add, copy, search = jobs
     write("resume_stops.json", jobs, [
+        other_records(add),
         *stop_cases(add, "an addition", True), *stop_cases(copy, "two copies", False), *stop_cases(search, "a search in rounds", False),
         *four_cases(add, "an addition", 1), *four_cases(copy, "two copies", 5), *four_cases(search, "a search in rounds", 5)])
     write("failing_calls.json", jobs, [
         *[{"name": f"{name} by {workers}, each call failing once", "steps": once_by(job, workers)}
           for job, name in ((add, "an addition"), (copy, "two copies"), (search, "a search in rounds")) for workers in (1, 2, 4)],
+        {"name": "a source and a sink that fail where a run goes on", "steps": [{"holds": add.inputs + [[add.record, add.value[add.record]]], **add.called("plan"), "output": add.plan.lines(), "leaves": []},
+                                                                               *streams_of(add, 1), *streams_of(add, 4)]},
+        demonstrated(1), demonstrated(4),
         {"name": "the other commands, each call failing once and for good", "steps": other_commands(add)}])
 
 

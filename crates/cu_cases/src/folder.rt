@@ -13,11 +13,16 @@ use std::thread::Threads;
 /// The folder, which is made beside the tables and removed behind the case.
 const FOLDER: &str = "folder_of_a_case";
 
-/// What a step may say.
-const MEMBERS: [&str; 13] = [
+/// What a step may say, and a case of all its steps.
+const MEMBERS: [&str; 18] = [
+    "name",
+    "steps",
     "holds",
     "words",
     "input",
+    "source_fails_at",
+    "sink_room",
+    "sink_fails_at",
     "line",
     "or_lines",
     "output",
@@ -41,7 +46,7 @@ pub(crate) fn run_folder(
     name: &str,
     findings: &mut Findings,
 ) -> Result<()> {
-    refuse_others(said.case, &["name", "steps"])?;
+    refuse_others(said.case, &MEMBERS)?;
     let _ = fs::remove_dir_all(rt, FOLDER);
     let Ok(depot) = DirDepot::make(rt, texts.alloc, FOLDER) else {
         bail!("no memory");

@@ -1,5 +1,5 @@
 //! Which calls fail.
-ghost use Rattle.std.specs.Prelude.{◌≡◌};
+ghost use Rattle.std.specs.Prelude.{◌≡◌, ◌≤◌};
 ghost use Rattle.cu_failing.specs.Counts.{AddsFault, IsCountedFault};
 
 use cu_store::DepotFault;
@@ -25,7 +25,8 @@ impl Span {
 
 /// A call that fails, which is counted.
 pub(crate) fn refuse<A>(faults: &mut u64) -> Result<A, DepotFault>
-    ensures { IsCountedFault faults.old faults.new result }
+    ensures fault { IsCountedFault faults.old faults.new result }
+    ensures count { faults.old ≤ faults.new }
 {
     *faults = faults.saturating_add(1);
     Err(DepotFault::Failed)
@@ -35,6 +36,7 @@ pub(crate) fn refuse<A>(faults: &mut u64) -> Result<A, DepotFault>
 pub(crate) fn settle<A>(faults: &mut u64, answer: Result<A, DepotFault>) -> Result<A, DepotFault>
     ensures same { result ≡ answer }
     ensures counted { AddsFault faults.old faults.new answer }
+    ensures count { faults.old ≤ faults.new }
 {
     if let Err(DepotFault::Failed) = &answer {
         *faults = faults.saturating_add(1);

@@ -22,11 +22,9 @@ pub struct FailingPass<P: Send + Drop> {
     pub(crate) calls: u64,
 }
 
-impl<Y: Yard> FailingYard<Y> {
-    /// Numbers a call, and says whether it fails.
-    fn fails(&self) -> bool {
-        self.span.has(self.made.fetch_add(1, Ordering::SeqCst))
-    }
+/// Numbers a call, and says whether it fails.
+fn fails(span: Span, made: &AtomicU64) -> bool {
+    span.has(made.fetch_add(1, Ordering::SeqCst))
 }
 
 impl<Y: Yard> Yard for FailingYard<Y> {
@@ -49,7 +47,7 @@ impl<Y: Yard> Yard for FailingYard<Y> {
         buf: &mut [u8],
     ) -> Result<Got, DepotFault> {
         pass.calls = pass.calls.saturating_add(1);
-        if self.fails() {
+        if fails(self.span, &self.made) {
             return refuse(&mut pass.faults);
         }
         let answer = self.yard.get(&mut pass.pass, key, buf);
@@ -63,7 +61,7 @@ impl<Y: Yard> Yard for FailingYard<Y> {
         bytes: &[u8],
     ) -> Result<(), DepotFault> {
         pass.calls = pass.calls.saturating_add(1);
-        if self.fails() {
+        if fails(self.span, &self.made) {
             return refuse(&mut pass.faults);
         }
         let answer = self.yard.put(&mut pass.pass, key, bytes);
