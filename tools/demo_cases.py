@@ -62,6 +62,15 @@ def square(size, element):
     return chunk(4, [element(i, j) for i in range(size) for j in range(size)])
 
 
+def asked_keys(names):
+    """The keys that are asked for of arrays with these names, each array's in its turn."""
+    return [key for name in names for key in (f"_cubed/{name}/plan.json", f"{name}/zarr.json", f"{name}/.zarray")]
+
+
+# All keys that a demonstration of one chunk an array asks for, in their order.
+ASKED = [*asked_keys(["demo_a", "demo_b", "demo_y"]), "_cubed/demo_y/0/c/0/0", "_cubed/demo_y/1/c/0/0", "_cubed/demo_y/2/c/0", "demo_y/c"]
+
+
 def small():
     """A demonstration of one chunk an array, with all keys in the order in which they are stored."""
     size = 4
@@ -80,10 +89,8 @@ def small():
         ["_cubed/demo_y/2/c/0", chunk(8, sums)],
         ["demo_y/c", chunk(8, [place])],
     ]
-    asked = ["_cubed/demo_a/plan.json", "demo_a/zarr.json", "_cubed/demo_b/plan.json", "demo_b/zarr.json", "_cubed/demo_y/plan.json", "demo_y/zarr.json",
-             *(key for key, _ in leaves[6:])]
     again = "error 9 key=demo_a/zarr.json"
-    ends = [[f"error 16 key={key}", 0, ""] for key in asked]
+    ends = [[f"error 16 key={key}", 0, ""] for key in ASKED]
     ends += [[f"error 16 key={key}", at, again if at > 1 else ""] for at, (key, _) in enumerate(leaves[:6])]
     reads = [1, 3, 1, 1]
     for op, count in enumerate(reads):
@@ -104,10 +111,8 @@ def held(key):
 
 
 def in_the_way():
-    keys = ["_cubed/demo_a/plan.json", "demo_a/zarr.json", "_cubed/demo_b/plan.json", "demo_b/zarr.json", "_cubed/demo_y/plan.json", "demo_y/zarr.json",
-            "_cubed/demo_y/0/c/0/0", "_cubed/demo_y/1/c/0/0", "_cubed/demo_y/2/c/0", "demo_y/c"]
     return {"name": "a key in the way is named, and nothing is stored", "words": ["demo", "4"],
-            "rows": [{**held(key), "calls": at + 1} for at, key in enumerate(keys)]}
+            "rows": [{**held(key), "calls": at + 1} for at, key in enumerate(ASKED)]}
 
 
 def refused():

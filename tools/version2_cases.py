@@ -1,5 +1,5 @@
 #!/usr/bin/env python3
-"""Writes the table of cases of commands over arrays of Zarr version 2: version2.json in crates/cu_cases/data.
+"""Writes the tables of cases of commands over arrays of Zarr version 2: version2.json and version2_folder.json in crates/cu_cases/data.
 
 usage: tools/version2_cases.py
 
@@ -58,9 +58,10 @@ def inputs():
     again = {"nodes": [NEGATIVE["nodes"][0], {"id": "z", "op": "input", "name": "x"}, {"id": "s", "op": "add", "args": ["x", "z"]}], "out": "s", "store_as": "y"}
     both = {"nodes": [{"id": "a", "op": "input", "name": "a"}, NEGATIVE["nodes"][0], {"id": "s", "op": "add", "args": ["a", "x"]}], "out": "s", "store_as": "y"}
     mixed = [*held(), ["a/zarr.json", WRITTEN], ["a/1", X1]]
+    # An array that two nodes use is asked for its metadata once; a task reads its chunk for each of the two.
     return [{**ran(held(), minus), "calls": 13}, ran(held(BASE, ["x/1", X1]), ["fefe 0200", "fdff 0300"]), {**ran(other, minus), "calls": 12},
             ran(held(said(fill_value=None)), ["fefe 0200", "0000 0000"]), ran(held(said(fill_value=None, filters=[], attributes={"units": "m"})), ["fefe 0200", "0000 0000"]),
-            {**ran(held(), ["0402 fcff", "feff feff"], again), "calls": 13}, {**ran(mixed, ["0101 fdff", "0200 fcff"], both), "calls": 16}]
+            {**ran(held(), ["0402 fcff", "feff feff"], again), "calls": 15}, {**ran(mixed, ["0101 fdff", "0200 fcff"], both), "calls": 16}]
 
 
 def refusals():
@@ -114,13 +115,13 @@ def went_on():
     row = ran(held(BASE, ["x/1", X1]), ["fefe 0200", "fdff 0300"])
     stored, whole = row["leaves"], row["output"]
     one = whole.replace("starts=2", "starts=1")
-    steps = [{"words": ["run"], "output": whole, "leaves": stored},
+    steps = [{"holds": row["holds"], "words": ["run"], "output": whole, "leaves": stored},
              {"holds": [["y/c/1", None], ["y/.zarray", BASE]], "words": ["resume"], "output": one, "leaves": stored},
              {"words": ["drop"], "output": "ok keys=4\n", "leaves": [[key, None] for key, _ in stored]},
-             {"words": ["run"], "line": "error 9 key=y/.zarray"},
+             {"words": ["run"], "line": "error 9 key=y/.zarray", "leaves": [[stored[0][0], None]]},
              {"holds": [["y/.zarray", None], ["x/zarr.json", WRITTEN]], "words": ["run"], "output": whole, "leaves": stored},
              {"holds": [["x/zarr.json", None], ["y/c/0", None]], "words": ["resume"], "output": one, "leaves": stored}]
-    return {"name": "a run over an array of version 2 goes on, and is dropped", "holds": row["holds"], "input": NEGATIVE, "steps": steps}
+    return {"name": "a run over an array of version 2 goes on, and is dropped", "steps": [{**step, "input": NEGATIVE} for step in steps]}
 
 
 def checked():
@@ -138,14 +139,19 @@ def checked():
 
 def table():
     return [{"name": "arrays of version 2 are inputs", "rows": inputs()}, {"name": "metadata that is refused, and the key that decides", "rows": refusals()},
-            {"name": "metadata of version 2 of the output is in the way", "rows": ways()}, {"name": "arrays of version 2 are printed", "rows": printed()}, *looped(), went_on(),
+            {"name": "metadata of version 2 of the output is in the way", "rows": ways()}, {"name": "arrays of version 2 are printed", "rows": printed()}, *looped(),
             {"name": "the output that is compared is of version 3", "rows": checked()}]
 
 
+def write(file, kind, cases):
+    lines = ",\n".join(json.dumps(case) for case in cases)
+    with open(f"{TOP}/crates/cu_cases/data/{file}", "w", encoding="utf-8") as out:
+        out.write('{\n"kind": "' + kind + '",\n"cases": [\n' + lines + "\n]\n}\n")
+
+
 def main():
-    lines = ",\n".join(json.dumps(case) for case in table())
-    with open(f"{TOP}/crates/cu_cases/data/version2.json", "w", encoding="utf-8") as out:
-        out.write('{\n"kind": "calls",\n"cases": [\n' + lines + "\n]\n}\n")
+    write("version2.json", "calls", table())
+    write("version2_folder.json", "folder", [went_on()])
 
 
 if __name__ == "__main__":

@@ -43,6 +43,7 @@ calm_demo : (words : List (List ℕ)) (options : Options) (n : ℕ) (shown : Sho
 calm_demo words options n shown None may = tt
 calm_demo words options n shown (Some held) (none, nowhere) = record {
   inputs = (λ key bytes among is. absurd (nothing key bytes among), λ key bytes among is. absurd (nothing key bytes among));
+  hidden = λ input bytes among. nothing _ bytes among;
   plan = λ later job stores is planned. record {
     pieces = λ q bytes piece among. absurd (nothing _ bytes among);
     inputs = λ c bytes input among. absurd (nothing _ bytes among);

@@ -1,13 +1,14 @@
 -- Asking for the keys of a plan.
-use Rattle.std.proofs.Common.{◌≡◌, ◌⊎◌, inl, inr, true, false, Bool, ℕ, zero, suc, List, [], ◌∷◌, length, Contains, Result, Ok, Err, IfErr, refl, sym, subst, arith}
+use Rattle.std.proofs.Common.{◌≡◌, ◌⊎◌, inl, inr, true, false, Bool, ℕ, zero, suc, List, [], ◌∷◌, length, All, Contains, Some, Result, Ok, Err, IfErr, OnOk, refl, sym, subst, arith}
 use Rattle.cu_store.specs.Faults.{Rose}
+use Rattle.cu_store.specs.Held.{Contents}
 use Rattle.cu_store.specs.Steps.{Shown, Caused}
 use Rattle.cu_store.specs.declared.faults.DepotFault.{DepotFault}
 use Rattle.cu_store.specs.declared.faults.DepotFault.TheVariants as fault
 use Rattle.cu_zarr.specs.Key.{metadata_key_of, zarray_key_of}
 use Rattle.cu_name.specs.Keys.{record_key_of}
 use Rattle.cu_work.proofs.Asking.{asked_ended}
-use Rattle.cu_work.specs.Order.{plan_keys, IsAsked}
+use Rattle.cu_work.specs.Order.{plan_keys, IsAsked, IsFree}
 use Rattle.cu_work.specs.declared.way.WayFault.{WayFault}
 use Rattle.cu_work.specs.declared.way.WayFault.TheVariants.{Held, Failed, NoMemory}
 use Rattle.cu_form.specs.Expression.{Expression}
@@ -73,3 +74,7 @@ pub plan_asked : (tries : ℕ) (e : Expression) (keys all : List (List ℕ)) (ol
     → IfErr result (IsAskEnd tries e all old new)
 plan_asked tries e keys all old new (Ok x) same asked apart = tt
 plan_asked tries e keys all old new (Err f) same asked apart = asked_end tries e all old new f (subst (λ (ks : List (List ℕ)). IsAsked tries old new ks (Err f)) same asked) apart
+
+pub plan_free : (tries : ℕ) (keys all : List (List ℕ)) (old new : Shown) (result : Result (Unit {0}) WayFault) → keys ≡ all → IsAsked tries old new keys result → (entry : Contents)
+    → old.held ≡ Some entry → OnOk result (All (IsFree entry) all)
+plan_free tries keys all old new result same asked entry told = subst (λ (ks : List (List ℕ)). OnOk result (All (IsFree entry) ks)) same (asked.free entry told)

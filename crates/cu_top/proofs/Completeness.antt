@@ -27,7 +27,7 @@ use Rattle.cu_top.proofs.CallLemmas.{same_text}
 use Rattle.cu_top.proofs.RunLemmas.{piece_listed}
 use Rattle.cu_top.specs.Ask.{IsInWay}
 use Rattle.cu_top.specs.Call.{CameToRun, RunTells}
-use Rattle.cu_top.specs.Complete.{IsServable, IsAtRest, IsServed}
+use Rattle.cu_top.specs.Complete.{AreWhole, IsServable, IsAtRest, IsServed}
 use Rattle.cu_top.specs.Prepare.{is_own_input, asked_keys}
 use Rattle.cu_top.specs.Run.{Scene, RunCase, case, job_run, plan_in, IsQuietEntry, IsStarted, IsSpared, HasNoJob, Ran}
 use Rattle.cu_top.specs.Words.{command_of, run}
@@ -47,7 +47,7 @@ true_or_false : (b : Bool) → b ≡ true → b ≡ false → ⊥
 true_or_false b holds fails = cc
 
 -- what is held at a key on which no put is late was held at first
-key_before : (late : List Write) (entry : Contents) (new : Option Contents) (key : List ℕ) → Lands (OrLate NoChange late) (Some entry) new → ((bytes : List ℕ) → IsAmong late key bytes → ⊥)
+pub key_before : (late : List Write) (entry : Contents) (new : Option Contents) (key : List ℕ) → Lands (OrLate NoChange late) (Some entry) new → ((bytes : List ℕ) → IsAmong late key bytes → ⊥)
     → entry key ≡ None → new ≢ None → IsHeldIn new key → ⊥
 key_before late entry None key lands settled free told held = told refl
 key_before late entry (Some now) key lands settled free told (bytes, there) = at (now key) (lands key) there
@@ -72,6 +72,41 @@ length_before W late entry (Some now) key got lands own calm (bytes, there, long
 pub lands_told : (W : List ℕ → Option (List ℕ) → Type 0) (entry : Contents) (new : Option Contents) → Lands W (Some entry) new → new ≢ None
 lands_told W entry None lands e = lands
 lands_told W entry (Some now) lands e = cc
+
+-- ---- no chunk of an input is of another length
+
+module _ (c : RunCase) (entry : Contents) (told : c.old.depot.held ≡ Some entry) (job : Job) (started : IsStarted c job) (calm : IsQuietEntry c job entry)
+    (whole : AreWhole (plan_in c job) entry) where
+  lands : Lands (OrLate (RunChange (job_run c job) c.old.depot) c.old.depot.late) (Some entry) c.new.depot.held
+  lands = subst (λ (h : Option Contents). Lands (OrLate (RunChange (job_run c job) c.old.depot) c.old.depot.late) h c.new.depot.held) told started.step.step.lands
+
+  own : (k : Cell) → IsInputChunk (plan_in c job).arrays k → (value : Option (List ℕ)) → RunChange (job_run c job) c.old.depot (key_of (plan_in c job).arrays k) value → ⊥
+  own k input value (q, bytes, piece, at, is, valued) = started.apart.inputs q k piece input (sym at)
+
+  -- an input's chunk holds as many bytes as a chunk has, since it did
+  whole_input : (k : Cell) (key : List ℕ) (got want : ℕ) → IsInputChunk (plan_in c job).arrays k → key ≡ key_of (plan_in c job).arrays k → want ≡ chunk_room (plan_in c job).arrays k.array
+      → got ≢ want → HoldsLength c.new.depot.held key got → ⊥
+  whole_input k key got want input is_key is_want differ holds =
+      let (bytes, was, long) = length_before (RunChange (job_run c job) c.old.depot) c.old.depot.late entry c.new.depot.held (key_of (plan_in c job).arrays k) got lands (own k input)
+      (λ bytes among. calm.inputs k bytes input among) (subst (λ (x : List ℕ). HoldsLength c.new.depot.held x got) is_key holds)
+      (lands_told (OrLate (RunChange (job_run c job) c.old.depot) c.old.depot.late) entry c.new.depot.held lands) in
+      differ (sym long ∙ whole k bytes input was ∙ sym is_want)
+
+  -- a chunk that the plan makes has no key of an input's chunk
+  not_made : (k : Cell) (key : List ℕ) → IsPiece (job_run c job) (Chunk k) → key ≡ key_of (plan_in c job).arrays k → IsInputKey (plan_in c job) key → ⊥
+  not_made k key piece is_key (other, input, same) = started.apart.inputs (Chunk k) other piece input (sym is_key ∙ same)
+
+  pub not_bad : (key : List ℕ) (got want : ℕ) → IsBadChunk (plan_in c job) c.new.depot key got want → IsInputKey (plan_in c job) key → ⊥
+  not_bad key got want (op, task, k, first, number, listed, is_key, is_want, differ, holds) of_input =
+      let read = read_array (plan_in c job) started.sound op (op_of (plan_in c job) op) (fit_of (plan_in c job) started.sound op first) task k number listed in
+      by_maker (maker_at (plan_in c job).arrays k.array) refl read.1.0 read.1.1
+    where
+      by_maker : (m : Option ℕ) → maker_at (plan_in c job).arrays k.array ≡ m → (k.array < length (plan_in c job).arrays) → IsCoordinate (grid_at (plan_in c job).arrays k.array) k.coord → ⊥
+      by_maker None given within coordinate = whole_input k key got want (record { within = within; given = given; coordinate = coordinate }) is_key is_want differ holds
+      by_maker (Some n) made within coordinate =
+          not_made k key (record { within = within; made = λ none. none_or_some (maker_at (plan_in c job).arrays k.array) n none made; coordinate = coordinate }) is_key of_input
+
+-- ---- no other answer
 
 module _ (c : RunCase) (entry : Contents) (told : c.old.depot.held ≡ Some entry) (typable : IsTypable c.old.depot c.text)
     (depot : StoodStill c.old.depot.faults c.new.depot.faults) (sink : StoodStill c.old.sink.faults c.new.sink.faults) where
@@ -98,34 +133,8 @@ module _ (c : RunCase) (entry : Contents) (told : c.old.depot.held ≡ Some entr
         inputs = λ k bytes input among. rest.calm (key_of (plan_in c job).arrays k) bytes among (k, input, refl);
       }
 
-      lands : Lands (OrLate (RunChange (job_run c job) c.old.depot) c.old.depot.late) (Some entry) c.new.depot.held
-      lands = subst (λ (h : Option Contents). Lands (OrLate (RunChange (job_run c job) c.old.depot) c.old.depot.late) h c.new.depot.held) told started.step.step.lands
-
-      own : (k : Cell) → IsInputChunk (plan_in c job).arrays k → (value : Option (List ℕ)) → RunChange (job_run c job) c.old.depot (key_of (plan_in c job).arrays k) value → ⊥
-      own k input value (q, bytes, piece, at, is, valued) = started.apart.inputs q k piece input (sym at)
-
-      -- an input's chunk holds as many bytes as a chunk has, since it did
-      whole_input : (k : Cell) (key : List ℕ) (got want : ℕ) → IsInputChunk (plan_in c job).arrays k → key ≡ key_of (plan_in c job).arrays k → want ≡ chunk_room (plan_in c job).arrays k.array
-          → got ≢ want → HoldsLength c.new.depot.held key got → ⊥
-      whole_input k key got want input is_key is_want differ holds =
-          let (bytes, was, long) = length_before (RunChange (job_run c job) c.old.depot) c.old.depot.late entry c.new.depot.held (key_of (plan_in c job).arrays k) got lands (own k input)
-          (λ bytes among. rest.calm (key_of (plan_in c job).arrays k) bytes among (k, input, refl)) (subst (λ (x : List ℕ). HoldsLength c.new.depot.held x got) is_key holds)
-          (lands_told (OrLate (RunChange (job_run c job) c.old.depot) c.old.depot.late) entry c.new.depot.held lands) in
-          differ (sym long ∙ rest.whole k bytes input was ∙ sym is_want)
-
-      -- a chunk that the plan makes has no key of an input's chunk
-      not_made : (k : Cell) (key : List ℕ) → IsPiece (job_run c job) (Chunk k) → key ≡ key_of (plan_in c job).arrays k → IsInputKey (plan_in c job) key → ⊥
-      not_made k key piece is_key (other, input, same) = started.apart.inputs (Chunk k) other piece input (sym is_key ∙ same)
-
-      not_bad : (key : List ℕ) (got want : ℕ) → IsBadChunk (plan_in c job) c.new.depot key got want → IsInputKey (plan_in c job) key → ⊥
-      not_bad key got want (op, task, k, first, number, listed, is_key, is_want, differ, holds) of_input =
-          let read = read_array (plan_in c job) started.sound op (op_of (plan_in c job) op) (fit_of (plan_in c job) started.sound op first) task k number listed in
-          by_maker (maker_at (plan_in c job).arrays k.array) refl read.1.0 read.1.1
-        where
-          by_maker : (m : Option ℕ) → maker_at (plan_in c job).arrays k.array ≡ m → (k.array < length (plan_in c job).arrays) → IsCoordinate (grid_at (plan_in c job).arrays k.array) k.coord → ⊥
-          by_maker None given within coordinate = whole_input k key got want (record { within = within; given = given; coordinate = coordinate }) is_key is_want differ holds
-          by_maker (Some n) made within coordinate =
-              not_made k key (record { within = within; made = λ none. none_or_some (maker_at (plan_in c job).arrays k.array) n none made; coordinate = coordinate }) is_key of_input
+      no_bad : (key : List ℕ) (got want : ℕ) → IsBadChunk (plan_in c job) c.new.depot key got want → IsInputKey (plan_in c job) key → ⊥
+      no_bad key got want bad input = not_bad c entry told job started calm rest.whole key got want bad input
 
   module _ (rest : (job : Job) → IsJob c.old.depot c.text job → IsAtRest c.options job entry c.old.depot) where
     served_run : (lack : Bool) (status : Status) → Ran lack c status → IsServed status
@@ -143,7 +152,7 @@ module _ (c : RunCase) (entry : Contents) (told : c.old.depot.held ≡ Some entr
     served_run lack (Exists key) (spared, (job, accepted, (planned, (first, way, own)))) = not_in_way job (rest job accepted) key spared first.0 way
     served_run lack (BadChunk key got want) (job, started, (bad, texts, input)) =
         let at_rest = rest job started.accepted in
-        not_bad job at_rest started key got want bad (input entry told (started.opens entry told (calm job at_rest started)))
+        no_bad job at_rest started key got want bad (input entry told (started.opens entry told (calm job at_rest started)))
     served_run lack status ran = absurd ran
 
 -- ---- the call

@@ -9,7 +9,7 @@ use Rattle.serde_json.specs.View.{view}
 use Rattle.cu_grid.specs.Grid.{IsGrid}
 use Rattle.cu_store.specs.Held.{Contents, Write, IsAmong, Holds}
 use Rattle.cu_store.specs.Steps.{Shown, NoChange, OrLate, IsChangedBy, Lands, AllLateIn}
-use Rattle.cu_zarr.specs.Key.{metadata_key_of}
+use Rattle.cu_zarr.specs.Key.{metadata_key_of, zarray_key_of}
 use Rattle.cu_zarr.specs.Layout.{ArrayLayout}
 use Rattle.cu_zarr.specs.Metadata.{metadata_text}
 use Rattle.cu_meta.specs.Metadata.{read_metadata}
@@ -29,10 +29,10 @@ use Rattle.cu_form.specs.Expression.{Expression}
 use Rattle.cu_node.specs.declared.info.NodeInfo.{NodeInfo}
 use Rattle.cu_read.specs.Read.{expression_of}
 use Rattle.cu_work.specs.Order.{IsFree}
-use Rattle.cu_command.specs.Inputs.{IsCalmAt, IsReadAt, names_in, names_of}
+use Rattle.cu_command.specs.Inputs.{AreCalmAt, IsReadAt, names_in, names_of}
 use Rattle.cu_command.specs.Job.{IsJob}
 use Rattle.cu_command.specs.Seen.{Stepped}
-use Rattle.cu_command.specs.Stored.{IsArrayLayout, HoldsLayout, IsMetadata}
+use Rattle.cu_command.specs.Stored.{IsArrayLayout, HoldsLayout, StoresLayout}
 use Rattle.cu_command.specs.declared.job.Job.{Job}
 use Rattle.cu_command.proofs.SeenLemmas.{stepped_none, stepped_then}
 use Rattle.cu_load.specs.Load.{ArrayPut, IsArrayCalm, IsArrayKey, StoresGiven, HoldsChunks, chunks_in, given_chunk, key_of_chunk}
@@ -44,9 +44,11 @@ use Rattle.cu_demo.specs.Input.{demo_layout, demo_name}
 use Rattle.cu_demo.specs.declared.input.DemoInput.{DemoInput}
 use Rattle.cu_demo.specs.declared.input.DemoInput.TheVariants.{Rows, Columns}
 use Rattle.cu_lower.specs.declared.options.Options.{Options}
-use Rattle.cu_top.proofs.DemoKeys.{is_inputs, put_key, piece_apart, listed_apart}
-use Rattle.cu_top.specs.Demo.{AreInputsCalm, InputsPut, IsDemoCalm, IsFound, StoresInputs, WhereTold, demo_array}
-use Rattle.cu_top.specs.Prepare.{job_plan, keys_of, out_metadata, HasNoOwnInput, HasPlan}
+use Rattle.cu_top.proofs.DemoWhole.{OnlyInputs, demo_whole}
+use Rattle.cu_top.proofs.DemoKeys.{is_inputs, put_key, piece_apart, listed_apart, no_zarray_put}
+use Rattle.cu_top.specs.Complete.{AreWhole}
+use Rattle.cu_top.specs.Demo.{AreInputsCalm, HidesNone, InputsPut, IsDemoCalm, FoundByDemo, StoresInputs, WhereTold, demo_array}
+use Rattle.cu_top.specs.Prepare.{job_plan, asked_keys, out_metadata, HasNoOwnInput, HasPlan}
 use Rattle.cu_top.specs.Quiet.{IsCalm, IsCalmFor, run_of_job}
 use Rattle.cu_top.specs.Record.{record_text}
 use Rattle.cu_top.specs.Run.{IsCleared}
@@ -147,7 +149,7 @@ module _ (n : ℕ) (old start : Shown) (both : Stepped (InputsPut n) old start) 
   stores_found (Some a) None stores = (tt, tt)
   stores_found (Some a) (Some b) stores = stores
 
-  pub is_found : (AreInputsCalm n old.late → StoresInputs n start.held) → IsFound n old (found_of old start)
+  pub is_found : (AreInputsCalm n old.late → StoresInputs n start.held) → FoundByDemo n old (found_of old start)
   is_found stores = record {
     lands = lands_until old.held start.held both.step.lands;
     late = late_found;
@@ -193,6 +195,15 @@ ok_same r l m one other = cc
 some_same : (v : Option (List ℕ)) (a b : List ℕ) → v ≡ Some a → v ≡ Some b → a ≡ b
 some_same v a b one other = cc
 
+not_gone : (v : Option (List ℕ)) (a : List ℕ) → v ≡ None → v ≡ Some a → ⊥
+not_gone v a none some = cc
+
+untold_held : (entry : Contents) → ◌≡◌ {A = Option Contents} None (Some entry) → ⊥
+untold_held entry told = cc
+
+same_held : (x y : Contents) → ◌≡◌ {A = Option Contents} (Some x) (Some y) → x ≡ y
+same_held x y e = cc
+
 none_of_two : (a : List ℕ) (rest : List (List ℕ)) → ◌≡◌ {A = List (List ℕ)} [] (a ∷ rest) → ⊥
 none_of_two a rest e = cc
 
@@ -225,8 +236,8 @@ module _ (options : Options) (n : ℕ) (some : 1 ≤ n) (few : n ≤ 2048) (read
 
   all_read : All (IsReadAt found) (demo_inputs n)
   all_read =
-      All-cons (IsReadAt found) (demo_info Rows n) (demo_info Columns n ∷ []) (record { layout = rows; held = λ calm. read_rows found.held stored })
-      (All-cons (IsReadAt found) (demo_info Columns n) [] (record { layout = columns; held = λ calm. read_columns found.held stored }) (All-nil (IsReadAt found)))
+      All-cons (IsReadAt found) (demo_info Rows n) (demo_info Columns n ∷ []) (record { layout = rows; held = λ calm. inl (read_rows found.held stored) })
+      (All-cons (IsReadAt found) (demo_info Columns n) [] (record { layout = columns; held = λ calm. inl (read_columns found.held stored) }) (All-nil (IsReadAt found)))
 
   -- it is the job of the text
   pub demo_accepted : (job : Job) → IsDemoJob n job → IsJob found demo_text job
@@ -241,9 +252,13 @@ module _ (options : Options) (n : ℕ) (some : 1 ≤ n) (few : n ≤ 2048) (read
   -- ---- no other job is that of the text
 
   module _ (held : Contents) (told : found.held ≡ Some held) (stores : StoresInputs n (Some held))
-      (settled : (input : DemoInput) (bytes : List ℕ) → IsAmong found.late (metadata_key_of (demo_name input)) bytes → held (metadata_key_of (demo_name input)) ≡ Some bytes) where
-    calm_at : (input : DemoInput) → IsCalmAt found (metadata_key_of (demo_name input))
-    calm_at input bytes among = subst (λ (h : Option Contents). Holds h (metadata_key_of (demo_name input)) bytes) (sym told) (settled input bytes among)
+      (settled : (input : DemoInput) (bytes : List ℕ) → IsAmong found.late (metadata_key_of (demo_name input)) bytes → held (metadata_key_of (demo_name input)) ≡ Some bytes)
+      (hides : HidesNone found.late) where
+    calm_at : (input : DemoInput) → AreCalmAt found (demo_name input)
+    calm_at input = (
+      λ bytes among. subst (λ (h : Option Contents). Holds h (metadata_key_of (demo_name input)) bytes) (sym told) (settled input bytes among),
+      λ bytes among. absurd (hides input bytes among),
+    )
 
     layout_of : (input : DemoInput) → IsArrayLayout (demo_layout input n)
     layout_of Rows = rows
@@ -253,18 +268,25 @@ module _ (options : Options) (n : ℕ) (some : 1 ≤ n) (few : n ≤ 2048) (read
     text_of Rows = stores.0.0
     text_of Columns = stores.1.0
 
-    layout_is : (input : DemoInput) (l : Layout) → (IsCalmAt found (metadata_key_of (demo_name input)) → HoldsLayout found.held (metadata_key_of (demo_name input)) l) → l ≡ demo_layout input n
-    layout_is input l holds =
-        let (text, at, metadata) = subst (λ (h : Option Contents). HoldsLayout h (metadata_key_of (demo_name input)) l) told (holds (calm_at input)) in
+    written_is : (input : DemoInput) (l : Layout) → HoldsLayout (Some held) (metadata_key_of (demo_name input)) l → l ≡ demo_layout input n
+    written_is input l (text, at, metadata) =
         let same : text ≡ metadata_text (layout_view (demo_layout input n)) =
         some_same (held (metadata_key_of (demo_name input))) text (metadata_text (layout_view (demo_layout input n))) at (text_of input) in
         same_layout l (demo_layout input n) (ok_same (read_metadata text) (layout_view l) (layout_view (demo_layout input n)) metadata.reads
         (ap read_metadata same ∙ read_back (layout_view (demo_layout input n)) (layout_of input).storable))
 
+    stored_is : (input : DemoInput) (l : Layout) → StoresLayout (Some held) (demo_name input) l → l ≡ demo_layout input n
+    stored_is input l (inl written) = written_is input l written
+    stored_is input l (inr (gone, zarray)) =
+        absurd (not_gone (held (metadata_key_of (demo_name input))) (metadata_text (layout_view (demo_layout input n))) gone (text_of input))
+
+    layout_is : (input : DemoInput) (l : Layout) → (AreCalmAt found (demo_name input) → StoresLayout found.held (demo_name input) l) → l ≡ demo_layout input n
+    layout_is input l holds = stored_is input l (subst (λ (h : Option Contents). StoresLayout h (demo_name input) l) told (holds (calm_at input)))
+
     info_is : (input : DemoInput) (i : InputInfo) → i.name ≡ demo_name input → IsReadAt found i → i ≡ demo_info input n
     info_is input i called was =
         let l : i.layout ≡ demo_layout input n =
-        layout_is input i.layout (subst (λ (x : List ℕ). IsCalmAt found (metadata_key_of x) → HoldsLayout found.held (metadata_key_of x) i.layout) called was.held) in
+        layout_is input i.layout (subst (λ (x : List ℕ). AreCalmAt found x → StoresLayout found.held x i.layout) called was.held) in
         λ k. record { name = called k; layout = l k }
 
     inputs_are : (is : List InputInfo) → names_of is ≡ names_in demo_expression → All (IsReadAt found) is → is ≡ demo_inputs n
@@ -295,11 +317,12 @@ module _ (options : Options) (n : ℕ) (some : 1 ≤ n) (few : n ≤ 2048) (read
 pub record DemoLaws (options : Options) : Type 0 where
   pub sound : (job : Job) → HasPlan options job → Sound (job_plan options job)
   pub names : (job : Job) → HasPlan options job → HasNoOwnInput job.expr → HasPlanNames (run_of_job options job) job.expr.store_as (record_text options job) (out_metadata job)
+  pub only : (job : Job) → HasPlan options job → OnlyInputs options job
 
 module _ (options : Options) (n : ℕ) (some : 1 ≤ n) (few : n ≤ 2048) (read_back : ReadBack) (rows : IsArrayLayout (demo_layout Rows n)) (columns : IsArrayLayout (demo_layout Columns n))
     (laws : DemoLaws options) (old start : Shown) (both : Stepped (InputsPut n) old start) (stores : AreInputsCalm n old.late → StoresInputs n start.held)
     (quiet : WhereTold old.held (IsDemoCalm options n old)) where
-  found : Shown
+  abbrev pub found : Shown
   found = found_of old start
 
   told_calm : (a b : Option Contents) → a ≡ old.held → b ≡ start.held → WhereTold a (IsDemoCalm options n old) → WhereTold (overlay_held a b) (StoresInputs n (overlay_held a b))
@@ -314,28 +337,22 @@ module _ (options : Options) (n : ℕ) (some : 1 ≤ n) (few : n ≤ 2048) (read
   free_at was now key is free = overlay_false was now key is ∙ free
 
   module _ (job : Job) (is : IsDemoJob n job) (planned : HasPlan options job) (own : HasNoOwnInput job.expr)
-      (free : (entry : Contents) → old.held ≡ Some entry → All (IsFree entry) (keys_of options job)) where
+      (free : (entry : Contents) → old.held ≡ Some entry → All (IsFree entry) (asked_keys options job)) where
     name : job.expr.store_as ≡ codes "demo_y"
     name = ap (λ (e : Expression). e.store_as) is.expr
 
-    untold : (entry : Contents) → ◌≡◌ {A = Option Contents} None (Some entry) → ⊥
-    untold entry told = cc
-
-    found_free : (a b : Option Contents) (entry : Contents) → a ≡ old.held → overlay_held a b ≡ Some entry → All (IsFree entry) (keys_of options job)
-    found_free None b entry was told = absurd (untold entry told)
-    found_free (Some a) None entry was told = absurd (untold entry told)
+    found_free : (a b : Option Contents) (entry : Contents) → a ≡ old.held → overlay_held a b ≡ Some entry → All (IsFree entry) (asked_keys options job)
+    found_free None b entry was told = absurd (untold_held entry told)
+    found_free (Some a) None entry was told = absurd (untold_held entry told)
     found_free (Some a) (Some b) entry was told =
-        let same : overlay a b ≡ entry = some_contents (overlay a b) entry told in
-        subst (λ (h : Contents). All (IsFree h) (keys_of options job)) same
+        let same : overlay a b ≡ entry = same_held (overlay a b) entry told in
+        subst (λ (h : Contents). All (IsFree h) (asked_keys options job)) same
         (all_free a b (free a (sym was)))
       where
-        some_contents : (x y : Contents) → ◌≡◌ {A = Option Contents} (Some x) (Some y) → x ≡ y
-        some_contents x y e = cc
-
-        all_free : (a b : Contents) → All (IsFree a) (keys_of options job) → All (IsFree (overlay a b)) (keys_of options job)
+        all_free : (a b : Contents) → All (IsFree a) (asked_keys options job) → All (IsFree (overlay a b)) (asked_keys options job)
         all_free a b frees k d below =
-            free_at a b (get_or (keys_of options job) k d) (listed_apart options job name (laws.sound job planned) (laws.names job planned own) (get_or (keys_of options job) k d)
-            (Contains-get_or (keys_of options job) k d below)) (frees k d below)
+            free_at a b (get_or (asked_keys options job) k d) (listed_apart options job name (laws.sound job planned) (laws.names job planned own) (get_or (asked_keys options job) k d)
+            (Contains-get_or (asked_keys options job) k d below)) (frees k d below)
 
     pub found_cleared : IsCleared options demo_text found start job
     found_cleared = record {
@@ -389,17 +406,49 @@ module _ (options : Options) (n : ℕ) (some : 1 ≤ n) (few : n ≤ 2048) (read
       then_late input bytes (inl put) = held_input n held (metadata_key_of (demo_name input)) bytes stored put
       then_late input bytes (inr (other, same, first)) = held_input n held (metadata_key_of (demo_name input)) other stored (was_late input other first) ∙ sym same
 
+  hides_none : HidesNone old.late → HidesNone (old.late ++ start.late)
+  hides_none hidden input bytes among = elim (among_cases old.late start.late (zarray_key_of (demo_name input)) bytes among) [
+    | inl first ↦ hidden input bytes first
+    | inr second ↦ not_later (both.step.late (zarray_key_of (demo_name input)) bytes second)
+  ]
+    where
+      not_later : OrLate (InputsPut n) old.late (zarray_key_of (demo_name input)) (Some bytes) → ⊥
+      not_later (inl put) = no_zarray_put input n (Some bytes) put
+      not_later (inr (other, same, first)) = hidden input other first
+
+  -- the run has no other job, and no other inputs
+  job_of : (a b : Contents) → ◌≡◌ {A = Option Contents} (Some a) old.held → ◌≡◌ {A = Option Contents} (Some b) start.held → (job : Job) → IsJob found demo_text job
+      → IsDemoCalm options n old × StoresInputs n (Some (overlay a b)) × IsDemoJob n job
+  job_of a b was now job is =
+      let calm : IsDemoCalm options n old = subst (λ (h : Option Contents). WhereTold h (IsDemoCalm options n old)) (sym was) quiet in
+      let stored : StoresInputs n (Some (overlay a b)) = told_calm (Some a) (Some b) was now calm in
+      let told : found.held ≡ Some (overlay a b) = λ i. overlay_held (sym was i) (sym now i) in
+      (
+        calm,
+        stored,
+        only_job options n some few read_back rows columns found found_stored (overlay a b) told stored (settled_in (overlay a b) calm.inputs stored) (hides_none calm.hidden) job is,
+      )
+
   calm_of : (a b : Option Contents) → a ≡ old.held → b ≡ start.held → (job : Job) → IsJob found demo_text job → HasPlan options job
       → IsCalmFor (run_of_job options job) (overlay_held a b) (old.late ++ start.late)
   calm_of None b was now job is planned = tt
   calm_of (Some a) None was now job is planned = tt
   calm_of (Some a) (Some b) was now job is planned =
-      let calm : IsDemoCalm options n old = subst (λ (h : Option Contents). WhereTold h (IsDemoCalm options n old)) (sym was) quiet in
-      let stored : StoresInputs n (Some (overlay a b)) = told_calm (Some a) (Some b) was now calm in
-      let told : found.held ≡ Some (overlay a b) = λ i. overlay_held (sym was i) (sym now i) in
-      let demo = only_job options n some few read_back rows columns found found_stored (overlay a b) told stored (settled_in (overlay a b) calm.inputs stored) job is in
+      let (calm, stored, demo) = job_of a b was now job is in
       let own : HasNoOwnInput job.expr = subst HasNoOwnInput (sym demo.expr) refl in
       found_quiet (overlay a b) job planned demo calm.inputs stored (calm.plan (overlay a b) job stored demo planned) own
 
   pub found_calm : IsCalm options demo_text found
   found_calm job is planned = calm_of old.held start.held refl refl job is planned
+
+  -- each chunk of an input that it finds is whole
+  whole_of : (a b : Option Contents) → a ≡ old.held → b ≡ start.held → (entry : Contents) → overlay_held a b ≡ Some entry → (job : Job) → IsJob found demo_text job → HasPlan options job
+      → AreWhole (job_plan options job) entry
+  whole_of None b was now entry told job is planned = absurd (untold_held entry told)
+  whole_of (Some a) None was now entry told job is planned = absurd (untold_held entry told)
+  whole_of (Some a) (Some b) was now entry told job is planned =
+      let (calm, stored, demo) = job_of a b was now job is in
+      subst (AreWhole (job_plan options job)) (same_held (overlay a b) entry told) (demo_whole options n job demo (laws.only job planned) (overlay a b) stored)
+
+  pub found_whole : (entry : Contents) → found.held ≡ Some entry → (job : Job) → IsJob found demo_text job → HasPlan options job → AreWhole (job_plan options job) entry
+  found_whole entry told job is planned = whole_of old.held start.held refl refl entry told job is planned

@@ -12,6 +12,7 @@ use Rattle.cu_num.specs.declared.types.Dtype.TheVariants.{Int32}
 use Rattle.cu_shape.specs.Index.{indices_of, index_at, product}
 use Rattle.cu_name.specs.Name.{is_name}
 use Rattle.cu_name.specs.Keys.{record_key_of}
+use Rattle.cu_zarr.specs.Key.{metadata_key_of, zarray_key_of}
 use Rattle.cu_store.specs.Held.{Contents}
 use Rattle.cu_store.specs.Steps.{Shown, NoChange}
 use Rattle.cu_op.specs.Layout.{IsLayout, layout_view}
@@ -111,7 +112,9 @@ module _ (tries : ℕ) (keys : List (List ℕ)) where
 
   asked_before : (old mid : Shown) (name key : List ℕ) → Stepped NoChange old mid → IsAskedFor name mid.held key → IsAskedFor name old.held key
   asked_before old mid name key step (inl is) = inl is
-  asked_before old mid name key step (inr (is, gone)) = inr (is, gone_before old mid (record_key_of name) step gone)
+  asked_before old mid name key step (inr (inl is, gone)) = inr (inl is, gone_before old mid (record_key_of name) step gone)
+  asked_before old mid name key step (inr (inr (is, absent), gone)) =
+      inr (inr (is, gone_before old mid (metadata_key_of name) step absent), gone_before old mid (record_key_of name) step gone)
 
   -- for those of the second, where the first's were absent
   pub columns_end : (old mid new : Shown) (name : List ℕ) (status : Status) → name ≡ demo_name Columns → AreFree (demo_name Rows) old.held → Stepped NoChange old mid
@@ -126,19 +129,22 @@ module _ (tries : ℕ) (keys : List (List ℕ)) where
   columns_end old mid new name status same free step fault = absurd fault
 
   not_own : (e : Expression) (b : Bool) → is_own_input e ≡ false → is_own_input e ≡ true → ⊥
-  not_own e b no yes = true≢false (sym yes ∙ no)
+  not_own e b fails holds = true≢false (sym holds ∙ fails)
 
   -- for those of the plan, where all of these were absent
   pub plan_end : (old mid new : Shown) (e : Expression) (f : WayFault) → is_own_input e ≡ false → AreInputsFree old.held → Stepped NoChange old mid
       → IsAskEnd tries e keys mid new f → IsDemoAskEnd tries keys old new (answer_of f)
   plan_end old mid new e (way.Held key) own free step (first, inl held, rest) = (inr (inr (free, first_of old mid keys key step first)), held_same new.held key held)
-  plan_end old mid new e (way.Held key) own free step (first, inr (is, yes), rest) = absurd (not_own e true own yes)
+  plan_end old mid new e (way.Held key) own free step (first, inr (is, holds), rest) = absurd (not_own e true own holds)
   plan_end old mid new e (way.Failed key) own free step (first, rose, rest) =
       (inr (inr (free, first_of old mid keys key step first)), rose_earlier tries old.faults mid.faults new.faults step.step.count rose)
   plan_end old mid new e way.NoMemory own free step end = tt
 
 pub free_before : (old mid : Shown) (name : List ℕ) → Stepped NoChange old mid → AreFree name mid.held → AreFree name old.held
-free_before old mid name step free = (gone_before old mid (record_key_of name) step free.0, gone_before old mid _ step free.1)
+free_before old mid name step free = (
+  gone_before old mid (record_key_of name) step free.0,
+  (gone_before old mid (metadata_key_of name) step free.1.0, gone_before old mid (zarray_key_of name) step free.1.1),
+)
 
 -- ---- storing
 
@@ -153,8 +159,8 @@ store_step tries a old new NoMemory (key, fault) = put_step tries a old new key 
 store_step tries a old new status fault = absurd fault
 
 pub store_end : (tries : ℕ) (a : GivenArray) (old new : Shown) (status : Status) → IsStoreFault tries a old new status → IsInputFault tries a old new status
-store_end tries a old new (DepotFailed key) (rose, inl (k, below, same, rest)) = (rose, inr (k, below, same))
-store_end tries a old new (DepotFailed key) (rose, inr (same, rest)) = (rose, inl same)
+store_end tries a old new (DepotFailed key) (rose, inl (k, below, same, step, before)) = (rose, inr (k, below, same))
+store_end tries a old new (DepotFailed key) (rose, inr (same, step, before)) = (rose, inl same)
 store_end tries a old new NoMemory fault = tt
 store_end tries a old new status fault = absurd fault
 

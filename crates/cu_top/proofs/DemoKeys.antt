@@ -5,6 +5,7 @@ use Rattle.std.specs.Prelude.{◌==◌, ◌&&◌, ◌||◌}
 use Rattle.std.proofs.lemmas.Bool.{and_parts, eqb-true}
 use Rattle.std.proofs.lemmas.List.Elements.{All-from_recursion, Contains-append_cases}
 use Rattle.cu_name.specs.Name.{IsArrayName}
+use Rattle.cu_zarr.specs.Key.{zarray_key_of}
 use Rattle.cu_op.specs.declared.cells.Cell.{Cell}
 use Rattle.cu_op.specs.Cells.{tasks_of}
 use Rattle.cu_op.specs.PlanView.{PlanView}
@@ -12,6 +13,7 @@ use Rattle.cu_op.specs.Schedule.{op_of, key_of, WritesCell}
 use Rattle.cu_op.specs.Sound.{Sound, IsCell}
 use Rattle.cu_op.specs.Walks.{written_chunks}
 use Rattle.cu_op.proofs.TaskCells.{written_cell}
+use Rattle.cu_lower.proofs.Names.{array_name}
 use Rattle.cu_state.specs.Names.{HasPlanNames}
 use Rattle.cu_state.specs.Pieces.{PlanRun, Piece, Text, Chunk, IsPiece, piece_key}
 use Rattle.cu_state.proofs.PlanNames.{other_names}
@@ -19,11 +21,12 @@ use Rattle.cu_work.specs.Order.{plan_keys, operation_keys, task_keys}
 use Rattle.cu_command.specs.declared.job.Job.{Job}
 use Rattle.cu_load.specs.Load.{IsArrayKey}
 use Rattle.cu_load.proofs.StoreLemmas.{array_put_key}
+use Rattle.cu_demo.specs.Input.{demo_name}
 use Rattle.cu_demo.specs.declared.input.DemoInput.{DemoInput}
 use Rattle.cu_demo.specs.declared.input.DemoInput.TheVariants.{Rows, Columns}
 use Rattle.cu_lower.specs.declared.options.Options.{Options}
 use Rattle.cu_top.specs.Demo.{InputsPut, demo_array}
-use Rattle.cu_top.specs.Prepare.{job_plan, keys_of, out_metadata}
+use Rattle.cu_top.specs.Prepare.{job_plan, asked_keys, out_metadata}
 use Rattle.cu_top.specs.Quiet.{run_of_job}
 use Rattle.cu_top.specs.Record.{record_text}
 
@@ -66,19 +69,31 @@ pub not_below_rows : (n : ℕ) (key : List ℕ) → IsArrayKey (demo_array Colum
 not_below_rows n key (inl same) = ap (starts (codes "demo_a/")) same
 not_below_rows n key (inr (k, below, same)) = ap (starts (codes "demo_a/")) same
 
+-- the key isn't one that is put: metadata of version 2 of an input
+abbrev is_hidden : List ℕ → Bool
+is_hidden key = starts (codes "demo_a/.") key || starts (codes "demo_b/.") key
+
+not_hidden : (input : DemoInput) (n : ℕ) (key : List ℕ) → IsArrayKey (demo_array input n) key → is_hidden key ≡ false
+not_hidden Rows n key (inl same) = ap is_hidden same
+not_hidden Rows n key (inr (k, below, same)) = ap is_hidden same
+not_hidden Columns n key (inl same) = ap is_hidden same
+not_hidden Columns n key (inr (k, below, same)) = ap is_hidden same
+
+hidden_zarray : (input : DemoInput) → is_hidden (zarray_key_of (demo_name input)) ≡ true
+hidden_zarray Rows = refl
+hidden_zarray Columns = refl
+
+pub no_zarray_put : (input : DemoInput) (n : ℕ) (value : Option (List ℕ)) → InputsPut n (zarray_key_of (demo_name input)) value → ⊥
+no_zarray_put input n value (inl put) =
+    true≢false (sym (hidden_zarray input) ∙ not_hidden Rows n (zarray_key_of (demo_name input)) (array_put_key (demo_array Rows n) (zarray_key_of (demo_name input)) value put))
+no_zarray_put input n value (inr put) =
+    true≢false (sym (hidden_zarray input) ∙ not_hidden Columns n (zarray_key_of (demo_name input)) (array_put_key (demo_array Columns n) (zarray_key_of (demo_name input)) value put))
+
 named_rows : IsArrayName (codes "demo_a")
-named_rows = record {
-  plain = All-from_recursion (λ (b : ℕ). b ≢ 47) (codes "demo_a") (λ e. cc, λ e. cc, λ e. cc, λ e. cc, λ e. cc, λ e. cc, tt);
-  short = omega arith;
-  first = λ e. cc;
-}
+named_rows = array_name (codes "demo_a") refl
 
 named_columns : IsArrayName (codes "demo_b")
-named_columns = record {
-  plain = All-from_recursion (λ (b : ℕ). b ≢ 47) (codes "demo_b") (λ e. cc, λ e. cc, λ e. cc, λ e. cc, λ e. cc, λ e. cc, tt);
-  short = omega arith;
-  first = λ e. cc;
-}
+named_columns = array_name (codes "demo_b") refl
 
 -- ---- the keys of the plan
 
@@ -115,13 +130,6 @@ module _ (p : PlanView) (sound : Sound p) where
 
 module _ (options : Options) (job : Job) (name : job.expr.store_as ≡ codes "demo_y") (sound : Sound (job_plan options job))
     (names : HasPlanNames (run_of_job options job) job.expr.store_as (record_text options job) (out_metadata job)) where
-  -- a key that is asked for is that of a piece
-  pub listed_piece : (key : List ℕ) → Contains (keys_of options job) key → (q : Piece) × IsPiece (run_of_job options job) q × (piece_key (run_of_job options job) q ≡ key)
-  listed_piece key (zero, below, e) = (Text 0, omega arith, e)
-  listed_piece key (suc zero, below, e) = (Text 1, omega arith, e)
-  listed_piece key (suc (suc i), below, e) =
-      let (c, is, same) = of_plan (job_plan options job) sound (length (job_plan options job).ops) key (omega arith) (i, omega (arith, below), e) in (Chunk c, is, same)
-
   other_rows : job.expr.store_as ≡ codes "demo_a" → ⊥
   other_rows same = true≢false (ap (starts (codes "demo_y")) (sym name ∙ same))
 
@@ -143,5 +151,11 @@ module _ (options : Options) (job : Job) (name : job.expr.store_as ≡ codes "de
   piece_apart q piece =
       not_below q (starts (codes "demo_a/") (piece_key (run_of_job options job) q)) (starts (codes "demo_b/") (piece_key (run_of_job options job) q)) piece refl refl
 
-  pub listed_apart : (key : List ℕ) → Contains (keys_of options job) key → is_inputs key ≡ false
-  listed_apart key listed = let (q, piece, same) = listed_piece key listed in ap is_inputs (sym same) ∙ piece_apart q piece
+  -- nor is one that is asked for
+  pub listed_apart : (key : List ℕ) → Contains (asked_keys options job) key → is_inputs key ≡ false
+  listed_apart key (zero, below, e) = ap is_inputs (sym e) ∙ piece_apart (Text 0) (omega arith)
+  listed_apart key (suc zero, below, e) = ap is_inputs (sym e) ∙ piece_apart (Text 1) (omega arith)
+  listed_apart key (suc (suc zero), below, e) = ap is_inputs (sym e ∙ ap zarray_key_of name)
+  listed_apart key (suc (suc (suc i)), below, e) =
+      let (c, is, same) = of_plan (job_plan options job) sound (length (job_plan options job).ops) key (omega arith) (i, omega (arith, below), e) in
+      ap is_inputs (sym same) ∙ piece_apart (Chunk c) is

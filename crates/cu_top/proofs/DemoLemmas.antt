@@ -20,6 +20,7 @@ use Rattle.cu_state.proofs.Keeping.{left_kept, piece_stays}
 use Rattle.cu_lower.specs.Parts.{made_layout}
 use Rattle.cu_lower.specs.declared.options.Options.{Options}
 use Rattle.cu_meaning.specs.Argument.{shape_of_node}
+use Rattle.cu_command.specs.Job.{IsJob}
 use Rattle.cu_command.specs.Seen.{Seen, Stepped, WroteNothing, seen, stream}
 use Rattle.cu_command.specs.declared.job.Job.{Job}
 use Rattle.cu_command.specs.declared.status.Status.{Status}
@@ -27,12 +28,28 @@ use Rattle.cu_command.specs.declared.status.Status.TheVariants.{Done, OverMemory
 use Rattle.cu_command.proofs.SeenLemmas.{stepped_none, stepped_same, stepped_then}
 use Rattle.cu_load.proofs.AskLemmas.{rose_earlier}
 use Rattle.cu_demo.specs.Expression.{IsDemoJob, demo_text}
-use Rattle.cu_top.specs.Demo.{DemoCase, DemoTells, IsDemoDone, InputsPut, AreInputsFree, IsDemoAskEnd, IsDemoRefused, IsDemoStarted, IsInputsFault, IsResultFault, IsUnread, KeepsInputs, ResultTells, demo_case, demo_run, result_key, result_layout, result_line}
-use Rattle.cu_top.specs.Prepare.{keys_of, out_layout}
+use Rattle.cu_top.specs.Demo.{DemoCase, DemoTells, IsDemoDone, InputsPut, AreInputsFree, IsDemoAskEnd, IsDemoRefused, IsDemoStarted, IsInputsFault, IsUnread, KeepsInputs, ResultTells, demo_case, demo_run, result_key, result_layout, result_line}
+use Rattle.cu_top.proofs.Completeness.{not_bad}
+use Rattle.cu_top.specs.Complete.{AreWhole}
+use Rattle.cu_top.specs.Prepare.{HasPlan, asked_keys, job_plan, out_layout}
 use Rattle.cu_top.specs.Quiet.{IsCalm, IsCalmFor}
 use Rattle.cu_top.specs.Report.{report_line}
 use Rattle.cu_top.specs.Run.{RunCase, case, scene, job_run, plan_in, env_of, IsStarted, HoldsAll, IsCounted, IsMeant, IsQuietEntry, IsStop, Ran, Ended, WhereLeft}
 use Rattle.cu_top.specs.declared.report.RunCounts.{RunCounts}
+
+-- ---- what was told stays told
+
+untold : (now : Contents) → ◌≡◌ {A = Option Contents} None (Some now) → ⊥
+untold now told = cc
+
+told_before : (W : List ℕ → Option (List ℕ) → Type 0) (a b : Option Contents) (now : Contents) → Lands W a b → b ≡ Some now → (held : Contents) × (a ≡ Some held)
+told_before W None None now lands told = absurd (untold now told)
+told_before W None (Some b) now lands told = absurd lands
+told_before W (Some a) b now lands told = (a, refl)
+
+-- each chunk of an input that a run of the text finds is whole
+abbrev pub WholeLaw : Options → Shown → Type 0
+WholeLaw options found = (entry : Contents) → found.held ≡ Some entry → (job : Job) → IsJob found demo_text job → HasPlan options job → AreWhole (job_plan options job) entry
 
 -- ---- before anything is stored
 
@@ -49,7 +66,7 @@ refused_plan lack options n s status (job, is, why) = absurd why
 module _ (lack : Bool) (c : DemoCase) where
   -- asking for the keys ended
   pub asked : (job : Job) (status : Status) → IsDemoJob c.size job → WroteNothing c.old c.new
-      → IsDemoAskEnd (c.options.retries + 1) (keys_of c.options job) c.old.depot c.new.depot status → DemoTells lack c status
+      → IsDemoAskEnd (c.options.retries + 1) (asked_keys c.options job) c.old.depot c.new.depot status → DemoTells lack c status
   asked job (Exists key) is quiet end = (quiet, (job, is, end))
   asked job (DepotFailed key) is quiet end = inl (quiet, (job, is, end))
   asked job NoMemory is quiet end = inl quiet
@@ -63,14 +80,27 @@ module _ (lack : Bool) (c : DemoCase) where
   unstored mid NoMemory silent free earlier both fault = inr (inl (silent, free, both, tt))
   unstored mid status silent free earlier both fault = absurd fault
 
-  -- its run ended
-  pub stopped : (job : Job) (found : Shown) (status : Status) → c.new.out.told ≡ c.old.out.told → IsDemoStarted c job found
-      → ((other : Job) → IsStarted (demo_run c found) other → KeepsInputs c) → IsStop status → Ran lack (demo_run c found) status → DemoTells lack c status
-  stopped job found (TaskFailed op task) silent started keeps stop ran = (keeps ran.1.0 ran.1.1, (silent, (job, found, started, ran)))
-  stopped job found (BadChunk key got want) silent started keeps stop ran = inl (silent, (job, found, started, ran))
-  stopped job found (DepotFailed key) silent started keeps stop ran = inr (inr (inl (silent, (job, found, started, ran))))
-  stopped job found NoMemory silent started keeps stop ran = inr (inr (inl (silent, (job, found, started, ran))))
-  stopped job found status silent started keeps stop ran = absurd stop
+  module _ (found : Shown) (calm : IsCalm c.options demo_text found) (whole : WholeLaw c.options found) where
+    -- where the contents are told, no chunk of an input has another length
+    bad_untold : (key : List ℕ) (got want : ℕ) → Ran lack (demo_run c found) (BadChunk key got want) → c.new.depot.held ≡ None
+    bad_untold key got want (job, s, (bad, texts, input)) = go c.new.depot.held refl
+      where
+        go : (h : Option Contents) → c.new.depot.held ≡ h → h ≡ None
+        go None told = refl
+        go (Some now) told =
+            let (entry, at) = told_before (OrLate (RunChange (job_run (demo_run c found) job) found) found.late) found.held c.new.depot.held now s.step.step.lands told in
+            let quiet : IsQuietEntry (demo_run c found) job entry =
+            subst (λ (h : Option Contents). IsCalmFor (job_run (demo_run c found) job) h found.late) at (calm job s.accepted s.planned) in
+            absurd (not_bad (demo_run c found) entry at job s quiet (whole entry at job s.accepted s.planned) key got want bad (input entry at (s.opens entry at quiet)))
+
+    -- its run ended
+    pub stopped : (job : Job) (status : Status) → c.new.out.told ≡ c.old.out.told → IsDemoStarted c job found
+        → ((other : Job) → IsStarted (demo_run c found) other → KeepsInputs c) → IsStop status → Ran lack (demo_run c found) status → DemoTells lack c status
+    stopped job (TaskFailed op task) silent started keeps stop ran = (keeps ran.1.0 ran.1.1, (silent, (job, found, started, ran)))
+    stopped job (BadChunk key got want) silent started keeps stop ran = (bad_untold key got want ran, inl (silent, (job, found, started, ran)))
+    stopped job (DepotFailed key) silent started keeps stop ran = inr (inr (inl (silent, (job, found, started, ran))))
+    stopped job NoMemory silent started keeps stop ran = inr (inr (inl (silent, (job, found, started, ran))))
+    stopped job status silent started keeps stop ran = absurd stop
 
 none_or_some : {A : Type 0} (v : Option A) (x : A) → v ≡ None → v ≡ Some x → ⊥
 none_or_some v x none some = cc
@@ -121,10 +151,10 @@ module _ (options : Options) (job : Job) (found ran new : Shown) (step : Stepped
       )
 
   pub counted_later : (n : RunCounts) → IsCounted (run_to options found ran) job n → IsCounted (run_to options found new) job n
-  counted_later n ((history, m, h, fact), counts) =
+  counted_later n ((history, m, h, fact), least, exact, most) =
       let rose = h.rose in
       let more = step.step.count in
-      ((history, m, record { legal = h.legal; resting = h.resting; rose = omega (arith, rose, more) }, fact), counts)
+      ((history, m, record { legal = h.legal; resting = h.resting; rose = omega (arith, rose, more) }, fact), least, exact, most)
 
 -- ---- the result
 
@@ -135,11 +165,6 @@ module _ (options : Options) (n : ℕ) (job : Job) (is : IsDemoJob n job) (found
 
   layout_is : out_layout job ≡ result_layout
   layout_is = ap made_layout (result_info ∙ is.result)
-
-  told_before : (W : List ℕ → Option (List ℕ) → Type 0) (a b : Option Contents) (now : Contents) → Lands W a b → b ≡ Some now → (held : Contents) × (a ≡ Some held)
-  told_before W None None now lands told = cc
-  told_before W None (Some b) now lands told = absurd lands
-  told_before W (Some a) b now lands told = (a, refl)
 
   -- where the contents are told, the output's chunk isn't of another length
   other_length : (now : Contents) (bytes : List ℕ) (x : ℤ) → length bytes ≢ 8 → now result_key ≡ Some bytes → stored_element (layout_view result_layout) (codes "demo_y") now [] ≡ Some x → ⊥
@@ -186,19 +211,22 @@ module _ (lack : Bool) (c : DemoCase) (job : Job) (found ran : Shown) (n : RunCo
   counted : IsCounted (run_to c.options found c.new.depot) job n
   counted = counted_later c.options job found ran c.new.depot step meant ended.0 n ended.2
 
-  unread : (status : Status) → IsUnread (c.options.retries + 1) ran c.new.depot status → IsResultFault (c.options.retries + 1) c.old.depot c.new.depot status
+  unread : (status : Status) → IsUnread (c.options.retries + 1) ran c.new.depot status → IsUnread (c.options.retries + 1) c.old.depot c.new.depot status
   unread (DepotFailed key) fault = (fault.0, rose_earlier (c.options.retries + 1) c.old.depot.faults ran.faults c.new.depot.faults earlier fault.1)
-  unread (BadChunk key got want) (at, is_want, differ, long) = (at, is_want, differ, no_other_length c.options c.size job start.accepted found c.new.depot s all calm key got want at is_want differ long)
+  unread (BadChunk key got want) fault = fault
   unread NoMemory fault = tt
   unread status fault = absurd fault
 
   -- the result was read and told
   pub told : (status : Status) → ResultTells (c.options.retries + 1) (λ (x : ℤ). result_line c.size x ++ report_line (plan_in (run_to c.options found c.new.depot) job) n) (seen c.old.out ran) c.new status → DemoTells lack c status
-  told Done (x, result, wrote) = (keeps job s, job, found, start, (n, s, all, counted, (x, result, wrote)))
-  told WriteFault (rose, (x, result, (front, few, wrote))) = (rose, (keeps job s, job, found, start, (n, s, all, counted, (x, result, (front, few, wrote)))))
-  told (BadChunk key got want) (silent, fault) = inr (silent, (keeps job s, job, found, start, (n, s, all, counted, unread (BadChunk key got want) fault)))
-  told (DepotFailed key) (silent, fault) = inr (inr (inr (silent, (keeps job s, job, found, start, (n, s, all, counted, unread (DepotFailed key) fault)))))
-  told NoMemory silent = inr (inr (inr (silent, (keeps job s, job, found, start, (n, s, all, counted, tt)))))
+  told Done (x, result, wrote) = (keeps job s, (job, found, start, (n, s, all, counted, (x, result, wrote))))
+  told WriteFault (rose, (x, result, front, few, wrote)) = (rose, (keeps job s, (job, found, start, (n, s, all, counted, (x, result, front, few, wrote)))))
+  told (BadChunk key got want) (silent, (at, is_want, differ, long)) = (
+    no_other_length c.options c.size job start.accepted found c.new.depot s all calm key got want at is_want differ long,
+    inr (silent, (keeps job s, (job, found, start, (n, s, all, counted, (at, is_want, differ, long))))),
+  )
+  told (DepotFailed key) (silent, fault) = inr (inr (inr (silent, (keeps job s, (job, found, start, (n, s, all, counted, unread (DepotFailed key) fault))))))
+  told NoMemory silent = inr (inr (inr (silent, (keeps job s, (job, found, start, (n, s, all, counted, tt))))))
   told status tells = absurd tells
 
 -- one of its answers

@@ -13,12 +13,12 @@ use Rattle.cu_lower.specs.declared.options.Options.{Options}
 use Rattle.cu_form.specs.Expression.{Expression}
 use Rattle.cu_read.specs.Read.{expression_of}
 use Rattle.cu_state.specs.Left.{RunChange}
-use Rattle.cu_top.proofs.DemoFound.{DemoLaws, ReadBack, found_calm, found_cleared, found_of, is_found, ok_expression, still_inputs}
+use Rattle.cu_top.proofs.DemoFound.{DemoLaws, ReadBack, found_calm, found_cleared, found_of, found_whole, is_found, ok_expression, still_inputs}
 use Rattle.cu_top.proofs.DemoKeys.{is_inputs, piece_apart}
-use Rattle.cu_top.proofs.DemoLemmas.{run_to}
+use Rattle.cu_top.proofs.DemoLemmas.{WholeLaw, run_to}
 use Rattle.cu_top.proofs.DemoStores.{calm_found, inputs_kept}
-use Rattle.cu_top.specs.Demo.{AreInputsCalm, AreInputsFree, InputsPut, IsDemoCalm, IsFound, StoresInputs, WhereTold}
-use Rattle.cu_top.specs.Prepare.{HasNoOwnInput, HasPlan, keys_of}
+use Rattle.cu_top.specs.Demo.{AreInputsCalm, AreInputsFree, InputsPut, IsDemoCalm, FoundByDemo, StoresInputs, WhereTold}
+use Rattle.cu_top.specs.Prepare.{HasNoOwnInput, HasPlan, asked_keys}
 use Rattle.cu_top.specs.Quiet.{IsCalm}
 use Rattle.cu_top.specs.Run.{IsCleared, IsStarted, job_run}
 
@@ -36,7 +36,7 @@ pub record Way (options : Options) (n : ℕ) (job : Job) (old asked start : Show
   pub planned : HasPlan options job
   pub own : HasNoOwnInput job.expr
   pub inputs : AreInputsFree old.held
-  pub free : (entry : Contents) → old.held ≡ Some entry → All (IsFree entry) (keys_of options job)
+  pub free : (entry : Contents) → old.held ≡ Some entry → All (IsFree entry) (asked_keys options job)
 
 module _ (options : Options) (n : ℕ) (job : Job) (old asked start : Shown) (way : Way options n job old asked start) where
   pub both : Stepped (InputsPut n) old start
@@ -54,7 +54,11 @@ module _ (options : Options) (n : ℕ) (job : Job) (old asked start : Shown) (wa
   way_calm =
       found_calm options n way.some way.few way.read_back (demo_storable Rows n way.some way.few) (demo_storable Columns n way.some way.few) way.laws old start both stored way.quiet
 
-  pub way_found : IsFound n old (found_of old start)
+  pub way_whole : WholeLaw options (found_of old start)
+  way_whole =
+      found_whole options n way.some way.few way.read_back (demo_storable Rows n way.some way.few) (demo_storable Columns n way.some way.few) way.laws old start both stored way.quiet
+
+  pub way_found : FoundByDemo n old (found_of old start)
   way_found = is_found n old start both stored
 
   -- the inputs stay stored while the plan's keys are put
@@ -63,5 +67,5 @@ module _ (options : Options) (n : ℕ) (job : Job) (old asked start : Shown) (wa
       let found = found_of old start in
       let name : other.expr.store_as ≡ codes "demo_y" = ap (λ (e : Expression). e.store_as) (ok_expression (expression_of demo_text) other.expr demo_expression s.accepted.said demo_said) in
       inputs_kept n way.some way.few (RunChange (job_run (run_to options found new) other) found)
-      (λ key value change. let (q, bytes, piece, at, rest) = change in ap is_inputs at ∙ piece_apart options other name s.sound (way.laws.names other s.planned s.own) q piece)
+      (λ key value change. let (q, bytes, piece, at, is, valued) = change in ap is_inputs at ∙ piece_apart options other name s.sound (way.laws.names other s.planned s.own) q piece)
       found new s.step (calm_found n way.some way.few old start both calm) (way_found.stored calm)

@@ -7,8 +7,10 @@ mod DemoInputs
 mod DemoKeys
 mod DemoLemmas
 mod DemoRead
+mod DemoServed
 mod DemoStores
 mod DemoWay
+mod DemoWhole
 mod DriveLemmas
 mod DropLemmas
 mod HeldLemmas

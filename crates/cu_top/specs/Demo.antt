@@ -1,13 +1,14 @@
 -- What the command `demo` answers, and what it leaves. This project's own rules.
 use Rattle.std.specs.Prelude.{◌≡◌, ◌≢◌, ◌⊎◌, Bool, ℕ, ◌+◌, ◌≤◌, ℤ, List, [], ◌∷◌, ◌++◌}
-use Rattle.std.specs.Prelude.{length, codes, decimal, All, Option, Some, None}
+use Rattle.std.specs.Prelude.{length, codes, decimal, All, Contains, Option, Some, None}
 use Rattle.std.specs.Fmt.{signed_decimal}
 use Rattle.cu_num.specs.declared.types.Dtype.TheVariants.{Int64}
 use Rattle.cu_node.specs.Info.{info_of}
 use Rattle.cu_store.specs.Faults.{Rose}
-use Rattle.cu_store.specs.Held.{Contents, Write}
+use Rattle.cu_store.specs.Held.{Contents, Write, IsAmong}
 use Rattle.cu_store.specs.Steps.{Shown, Changes, NoChange, OrLate, Lands, AllLateIn}
-use Rattle.cu_zarr.specs.Key.{chunk_key_of}
+use Rattle.cu_name.specs.Keys.{record_key_of}
+use Rattle.cu_zarr.specs.Key.{chunk_key_of, metadata_key_of, zarray_key_of}
 use Rattle.cu_zarr.specs.Stored.{stored_element}
 use Rattle.cu_op.specs.Layout.{layout_view}
 use Rattle.cu_op.specs.Value.{stored_inputs}
@@ -15,9 +16,9 @@ use Rattle.cu_op.specs.declared.layout.Layout.{Layout}
 use Rattle.cu_state.specs.Left.{IsQuiet}
 use Rattle.cu_lower.specs.Parts.{made_layout}
 use Rattle.cu_lower.specs.declared.options.Options.{Options}
+use Rattle.cu_plan.specs.Refusal.{refusal_of}
 use Rattle.cu_work.specs.Order.{IsFree}
 use Rattle.cu_region.specs.Steady.{HoldsLength}
-use Rattle.cu_command.specs.Keys.{IsHeldIn}
 use Rattle.cu_command.specs.Seen.{Seen, Stepped, WroteNothing, stream}
 use Rattle.cu_command.specs.Streams.{WroteFront}
 use Rattle.cu_command.specs.declared.job.Job.{Job}
@@ -25,7 +26,7 @@ use Rattle.cu_command.specs.declared.status.Status.{Status}
 use Rattle.cu_command.specs.declared.status.Status.TheVariants.{Done, OverMemory, OverLimit}
 use Rattle.cu_command.specs.declared.status.Status.TheVariants.{Exists, TaskFailed, WriteFault}
 use Rattle.cu_command.specs.declared.status.Status.TheVariants.{BadChunk, DepotFailed, NoMemory}
-use Rattle.cu_load.specs.Keys.{AreFree, IsAskedFor}
+use Rattle.cu_load.specs.Keys.{AreFree, IsAskedFor, IsAskFault}
 use Rattle.cu_load.specs.Load.{ArrayPut, IsArrayCalm, IsArrayKey, StoresGiven}
 use Rattle.cu_load.specs.LoadForm.{GivenArray}
 use Rattle.cu_demo.specs.Expression.{IsDemoJob, demo_text}
@@ -33,7 +34,7 @@ use Rattle.cu_demo.specs.Input.{demo_elements, demo_layout, demo_name}
 use Rattle.cu_demo.specs.declared.input.DemoInput.{DemoInput}
 use Rattle.cu_demo.specs.declared.input.DemoInput.TheVariants.{Rows, Columns}
 use Rattle.cu_top.specs.Ask.{IsFirstOf}
-use Rattle.cu_top.specs.Prepare.{job_plan, keys_of, HasPlan, IsUnplanned}
+use Rattle.cu_top.specs.Prepare.{job_plan, asked_keys, HasPlan, IsUnplanned}
 use Rattle.cu_top.specs.Quiet.{run_of_job}
 use Rattle.cu_top.specs.Report.{report_line}
 use Rattle.cu_top.specs.Run.{RunCase, scene, case, plan_in, IsStarted, HoldsAll, IsCounted, Ran}
@@ -71,9 +72,14 @@ AreInputsFree held = AreFree (demo_name Rows) held × AreFree (demo_name Columns
 
 -- ---- the premise
 
+-- no put on the key of metadata of version 2 of an input is late, since none is made for it
+abbrev pub HidesNone : List Write → Type 0
+HidesNone late = (input : DemoInput) (bytes : List ℕ) → IsAmong late (zarray_key_of (demo_name input)) bytes → ⊥
+
 -- No put that is late when the call begins carries another value of an input, or of the plan over the inputs.
 pub record IsDemoCalm (options : Options) (n : ℕ) (old : Shown) : Type 0 where
   pub inputs : AreInputsCalm n old.late
+  pub hidden : HidesNone old.late
   pub plan : (held : Contents) (job : Job) → StoresInputs n (Some held) → IsDemoJob n job → HasPlan options job
       → IsQuiet (run_of_job options job) (stored_inputs (job_plan options job).arrays held) held old.late
 
@@ -119,29 +125,27 @@ IsDemoKey keys old key = IsAskedFor (demo_name Rows) old.held key
 
 -- why asking for them ended
 abbrev pub IsDemoAskEnd : ℕ → List (List ℕ) → Shown → Shown → Status → Type 0
-IsDemoAskEnd tries keys old new (Exists key) = IsDemoKey keys old key × IsHeldIn new.held key
-IsDemoAskEnd tries keys old new (DepotFailed key) = IsDemoKey keys old key × Rose tries old.faults new.faults
-IsDemoAskEnd tries keys old new NoMemory = Unit {0}
-IsDemoAskEnd tries keys old new status = ⊥
+IsDemoAskEnd tries keys old new status = IsAskFault tries (IsDemoKey keys old) old.faults new.faults new.held status
 
 -- ---- storing the inputs
 
--- why storing one ended: all calls for one of its keys failed, or memory was wanted
-abbrev pub IsInputFault : ℕ → GivenArray → Shown → Shown → Status → Type 0
-IsInputFault tries a old new (DepotFailed key) = Rose tries old.faults new.faults × IsArrayKey a key
-IsInputFault tries a old new NoMemory = Unit {0}
-IsInputFault tries a old new status = ⊥
+-- why storing under such keys ended: all calls for one of them failed, or memory was wanted
+abbrev pub IsPutEnd : ℕ → (List ℕ → Type 0) → Shown → Shown → Status → Type 0
+IsPutEnd tries listed old new (DepotFailed key) = Rose tries old.faults new.faults × listed key
+IsPutEnd tries listed old new NoMemory = Unit {0}
+IsPutEnd tries listed old new status = ⊥
 
--- the same of both
+-- the keys of one input, and those of both
+abbrev pub IsInputFault : ℕ → GivenArray → Shown → Shown → Status → Type 0
+IsInputFault tries a old new status = IsPutEnd tries (IsArrayKey a) old new status
+
 abbrev pub IsInputsFault : ℕ → ℕ → Shown → Shown → Status → Type 0
-IsInputsFault tries n old new (DepotFailed key) = Rose tries old.faults new.faults × IsInputsKey n key
-IsInputsFault tries n old new NoMemory = Unit {0}
-IsInputsFault tries n old new status = ⊥
+IsInputsFault tries n old new status = IsPutEnd tries (IsInputsKey n) old new status
 
 -- ---- the run
 
 -- What its run finds: nothing has changed since the call began but that the inputs were stored.
-pub record IsFound (n : ℕ) (old found : Shown) : Type 0 where
+pub record FoundByDemo (n : ℕ) (old found : Shown) : Type 0 where
   pub lands : Lands (OrLate (InputsPut n) old.late) old.held found.held
   pub late : AllLateIn found.late (OrLate (InputsPut n) old.late)
   pub stored : AreInputsCalm n old.late → StoresInputs n found.held
@@ -151,8 +155,8 @@ pub record IsFound (n : ℕ) (old found : Shown) : Type 0 where
 pub record IsDemoStarted (c : DemoCase) (job : Job) (found : Shown) : Type 0 where
   pub accepted : IsDemoJob c.size job
   pub inputs : AreInputsFree c.old.depot.held
-  pub keys : (entry : Contents) → c.old.depot.held ≡ Some entry → All (IsFree entry) (keys_of c.options job)
-  pub entry : IsFound c.size c.old.depot found
+  pub keys : (entry : Contents) → c.old.depot.held ≡ Some entry → All (IsFree entry) (asked_keys c.options job)
+  pub entry : FoundByDemo c.size c.old.depot found
 
 -- the run from what it found to what is seen at the end
 abbrev pub demo_run : DemoCase → Shown → RunCase
@@ -190,13 +194,6 @@ IsUnread tries old new (DepotFailed key) = (key ≡ result_key) × Rose tries ol
 IsUnread tries old new (BadChunk key got want) = (key ≡ result_key) × (want ≡ 8) × (got ≢ want) × HoldsLength new.held key got
 IsUnread tries old new NoMemory = Unit {0}
 IsUnread tries old new status = ⊥
-
--- the same, where the output is complete: the chunk has another length only where the contents aren't told
-abbrev pub IsResultFault : ℕ → Shown → Shown → Status → Type 0
-IsResultFault tries old new (DepotFailed key) = (key ≡ result_key) × Rose tries old.faults new.faults
-IsResultFault tries old new (BadChunk key got want) = (key ≡ result_key) × (want ≡ 8) × (got ≢ want) × (new.held ≡ None)
-IsResultFault tries old new NoMemory = Unit {0}
-IsResultFault tries old new status = ⊥
 
 -- what reading the element and writing its text answers
 abbrev pub ResultTells : ℕ → (ℤ → List ℕ) → Seen → Seen → Status → Type 0
@@ -239,7 +236,7 @@ IsDemoUnplanned c status = WroteNothing c.old c.new × OfDemo c (λ job. IsUnpla
 -- asking for the keys ended so, and nothing was stored
 abbrev pub IsDemoAsked : DemoCase → Status → Type 0
 IsDemoAsked c status = WroteNothing c.old c.new
-    × OfDemo c (λ job. IsDemoAskEnd (c.options.retries + 1) (keys_of c.options job) c.old.depot c.new.depot status)
+    × OfDemo c (λ job. IsDemoAskEnd (c.options.retries + 1) (asked_keys c.options job) c.old.depot c.new.depot status)
 
 -- storing the inputs ended so: of all keys only theirs have changed, each to its value
 abbrev pub IsDemoUnstored : DemoCase → Status → Type 0
@@ -252,7 +249,11 @@ IsDemoStopped lack c status = IsSilent c × DemoRan c (λ r job. Ran lack r stat
 
 -- the output is complete, and reading its chunk ended so
 abbrev pub IsDemoUnread : DemoCase → Status → Type 0
-IsDemoUnread c status = IsSilent c × IsDemoComplete c (λ r job n. IsResultFault (c.options.retries + 1) c.old.depot c.new.depot status)
+IsDemoUnread c status = IsSilent c × IsDemoComplete c (λ r job n. IsUnread (c.options.retries + 1) c.old.depot c.new.depot status)
+
+-- 13: a chunk of an input or of the output has another length, which is so only where the contents aren't told
+abbrev pub IsDemoBadChunk : Bool → DemoCase → List ℕ → ℕ → ℕ → Type 0
+IsDemoBadChunk lack c key got want = (c.new.depot.held ≡ None) × (IsDemoStopped lack c (BadChunk key got want) ⊎ IsDemoUnread c (BadChunk key got want))
 
 -- what the command answers, of a depot whose yards lack memory or don't
 abbrev pub DemoTells : Bool → DemoCase → Status → Type 0
@@ -262,8 +263,25 @@ DemoTells lack c (OverMemory node need allowed) = IsDemoUnplanned c (OverMemory 
 DemoTells lack c (OverLimit which count) = IsDemoUnplanned c (OverLimit which count)
 DemoTells lack c (Exists key) = IsDemoAsked c (Exists key)
 DemoTells lack c (TaskFailed op task) = KeepsInputs c × IsDemoStopped lack c (TaskFailed op task)
-DemoTells lack c (BadChunk key got want) = IsDemoStopped lack c (BadChunk key got want) ⊎ IsDemoUnread c (BadChunk key got want)
+DemoTells lack c (BadChunk key got want) = IsDemoBadChunk lack c key got want
 DemoTells lack c (DepotFailed key) = IsDemoAsked c (DepotFailed key) ⊎ IsDemoUnstored c (DepotFailed key)
     ⊎ IsDemoStopped lack c (DepotFailed key) ⊎ IsDemoUnread c (DepotFailed key)
 DemoTells lack c NoMemory = WroteNothing c.old c.new ⊎ IsDemoUnstored c NoMemory ⊎ IsDemoStopped lack c NoMemory ⊎ IsDemoUnread c NoMemory
 DemoTells lack c status = ⊥
+
+-- ---- when a demonstration is served
+
+-- the keys that are asked for of an array that is made
+abbrev pub array_keys : List ℕ → List (List ℕ)
+array_keys name = record_key_of name ∷ metadata_key_of name ∷ zarray_key_of name ∷ []
+
+-- the key is one of those that the demonstration asks for
+abbrev pub IsDemoAskedKey : Options → Job → List ℕ → Type 0
+IsDemoAskedKey options job key =
+    Contains (array_keys (demo_name Rows)) key ⊎ Contains (array_keys (demo_name Columns)) key ⊎ Contains (asked_keys options job) key
+
+-- No live node needs more than is allowed, and the counts keep their limits. No key that is asked for is held, and no put on one is late.
+pub record IsDemoAtRest (options : Options) (n : ℕ) (entry : Contents) (old : Shown) : Type 0 where
+  pub planned : (job : Job) → IsDemoJob n job → refusal_of options job.expr job.types ≡ None
+  pub free : (job : Job) (key : List ℕ) → IsDemoJob n job → IsDemoAskedKey options job key → entry key ≡ None
+  pub settled : (job : Job) (key bytes : List ℕ) → IsDemoJob n job → IsDemoAskedKey options job key → IsAmong old.late key bytes → ⊥

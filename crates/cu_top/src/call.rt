@@ -16,7 +16,7 @@ ghost use Rattle.cu_top.specs.Complete.{HasWholeInputs, IsPlannable, IsResumable
 ghost use Rattle.cu_top.specs.Planned.{IsPrinted, PlanTells};
 ghost use Rattle.cu_top.specs.Quiet.{IsCalm};
 ghost use Rattle.cu_top.specs.Run.{scene, IsDone, IsUnreported, IsTaskFailed, IsBadInput, IsDepotFailed, HasNoPlan, IsBlocked, IsMissing, IsRefused, IsBadExpr, IsBadType, PrintsOnly};
-ghost use Rattle.cu_top.specs.Demo.{DemoTells, IsDemoCalm, IsDemoDone, WhereTold, demo_case};
+ghost use Rattle.cu_top.specs.Demo.{DemoTells, IsDemoAtRest, IsDemoCalm, IsDemoDone, WhereTold, demo_case};
 ghost use Rattle.cu_top.specs.Drop.{DropTells};
 ghost use Rattle.cu_top.specs.Held.{IsLeftEntry};
 ghost use Rattle.cu_top.specs.Resume.{ResumeTells};
@@ -167,6 +167,9 @@ pub fn top<H: Threads + Wait + Sync, R: Source, W: Sink, D: Share, G: Gate>(
     ensures demo_kept { (size : ℕ) (options : Options) → command_of (map string_bytes words.now) ≡ Ok (demo size options) → R.left src.new ≡ R.left src.old }
     ensures demonstrated { (size : ℕ) (options : Options) → command_of (map string_bytes words.now) ≡ Ok (demo size options) → result ≡ Status.Done
         → IsDemoDone (demo_case options size (seen (stream (W.written out.old) (W.faults out.old)) (D.shown depot.old)) (seen (stream (W.written out.new) (W.faults out.new)) (D.shown depot.new))) }
+    // Where its plan is accepted, nothing is in the way and no count of faults rises, it is carried out, or memory is wanted.
+    ensures demo_complete { (size : ℕ) (options : Options) (entry : Contents) → command_of (map string_bytes words.now) ≡ Ok (demo size options) → (D.shown depot.old).held ≡ Some entry
+        → IsDemoAtRest options size entry (D.shown depot.old) → StoodStill (W.faults out.old) (W.faults out.new) → StoodStill (D.shown depot.old).faults (D.shown depot.new).faults → IsServed result }
 {
     carry(rt, alloc, words, src, out, depot, gate)
 }

@@ -15,7 +15,7 @@ ghost use Rattle.cu_top.specs.Demo.{IsDemoAskEnd, IsDemoCalm, IsInputsFault, IsR
 ghost use Rattle.cu_top.specs.Demo.{IsUnread, StoresInputs, WhereTold, demo_array, demo_case};
 ghost use Rattle.cu_top.specs.Demo.{IsDemoRefused, IsInputFault, ResultTells, result_key};
 ghost use Rattle.cu_top.specs.Demo.{result_line};
-ghost use Rattle.cu_top.specs.Prepare.{HasNoOwnInput, HasPlan, job_plan, keys_of};
+ghost use Rattle.cu_top.specs.Prepare.{HasNoOwnInput, HasPlan, job_plan, asked_keys};
 ghost use Rattle.cu_top.specs.Report.{report_line};
 ghost use Rattle.cu_top.specs.Words.{IsInRange};
 
@@ -69,11 +69,11 @@ fn ask_demo<D: Depot>(depot: &mut D, prepared: &Prepared, retries: u32) -> Resul
     requires { prepared.now.job.expr ≡ demo_expression }
     ensures inputs { OnOk result (AreInputsFree (D.shown depot.old).held) }
     ensures keys { (options : Options) (entry : Contents) → prepared.now.plan ≡ job_plan options prepared.now.job → (D.shown depot.old).held ≡ Some entry
-        → OnOk result (All (IsFree entry) (keys_of options prepared.now.job)) }
+        → OnOk result (All (IsFree entry) (asked_keys options prepared.now.job)) }
     ensures own { OnOk result (HasNoOwnInput prepared.now.job.expr) }
     ensures step { Stepped NoChange (D.shown depot.old) (D.shown depot.new) }
     ensures refused { (options : Options) → prepared.now.plan ≡ job_plan options prepared.now.job
-        → IfErr result (IsDemoAskEnd (retries + 1) (keys_of options prepared.now.job) (D.shown depot.old) (D.shown depot.new)) }
+        → IfErr result (IsDemoAskEnd (retries + 1) (asked_keys options prepared.now.job) (D.shown depot.old) (D.shown depot.new)) }
 {
     let rows = key_of_name(&demo_name(DemoInput::Rows));
     if let Err(status) = ask_keys(depot, &rows, retries) {

@@ -4,9 +4,16 @@ use Rattle.cu_zarr.specs.Key.{metadata_key_of, zarray_key_of}
 use Rattle.cu_command.proofs.SeenLemmas.{stepped}
 use Rattle.cu_op.specs.PlanView.{PlanView}
 use Rattle.cu_work.specs.Order.{plan_keys}
-use Rattle.cu_top.proofs.AskLemmas.{plan_asked}
+use Rattle.cu_top.proofs.AskLemmas.{plan_asked, plan_free}
 use Rattle.cu_top.specs.Prepare.{asked_keys}
 use Rattle.cu_top.proofs.ask.ask_plan.Goals as goal
+
+pub returns-clause-free : goal.returns-clause-free
+returns-clause-free g c = λ options entry same told.
+    plan_free (c.args.retries + 1) _ (asked_keys options c.args.job.now) (g.D.Depot.shown c.args.depot.now) (g.D.Depot.shown c.ask_keys.new.depot) c.ask_keys.result
+    (rw (c.text_keys-keys.ensures.record, c.text_keys-keys.ensures.metadata, c.zarray_of-zarray.ensures)
+    (ap (λ (p : PlanView). record_key_of c.args.job.now.expr.store_as ∷ metadata_key_of c.args.job.now.expr.store_as ∷ zarray_key_of c.args.job.now.expr.store_as ∷ plan_keys p (length p.ops)) same)) c.ask_keys.ensures
+    entry told
 
 pub returns-clause-refused : goal.returns-clause-refused
 returns-clause-refused g c = λ options same.

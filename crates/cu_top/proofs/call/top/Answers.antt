@@ -3,6 +3,7 @@ use Rattle.cu_top.proofs.CallLemmas.{refused_text}
 use Rattle.cu_top.proofs.CheckLemmas.{found_equal, found_unequal}
 use Rattle.cu_top.proofs.Completeness.{served}
 use Rattle.cu_top.proofs.DemoLemmas.{was_demonstrated}
+use Rattle.cu_top.proofs.DemoServed.{demo_served}
 use Rattle.cu_top.proofs.ResumeServed.{caused, went_on}
 use Rattle.cu_top.proofs.PlannedLemmas.{plan_printed, plan_spared, plan_refused_text, plan_served}
 use Rattle.cu_top.specs.Demo.{demo_case}
@@ -70,3 +71,10 @@ returns-clause-demonstrated g c = λ size options words done.
     was_demonstrated (g.D.Share.yards_lack c.carry.new.depot)
     (demo_case options size (seen (stream (g.W.Sink.written c.args.out.now) (g.W.Sink.faults c.args.out.now)) (g.D.Depot.shown c.args.depot.now))
     (seen (stream (g.W.Sink.written c.carry.new.out) (g.W.Sink.faults c.carry.new.out)) (g.D.Depot.shown c.carry.new.depot))) c.carry.result (c.carry.ensures.demos size options words) done
+
+pub returns-clause-demo_complete : goal.returns-clause-demo_complete
+returns-clause-demo_complete g c = λ size options entry words told rest sink depot.
+    demo_served
+    (demo_case options size (seen (stream (g.W.Sink.written c.args.out.now) (g.W.Sink.faults c.args.out.now)) (g.D.Depot.shown c.args.depot.now))
+    (seen (stream (g.W.Sink.written c.carry.new.out) (g.W.Sink.faults c.carry.new.out)) (g.D.Depot.shown c.carry.new.depot))) entry told rest sink depot
+    (g.D.Share.yards_lack c.carry.new.depot) c.carry.result (c.carry.ensures.demos size options words)

@@ -7,10 +7,10 @@ use Rattle.cu_demo.specs.Expression.{IsDemoJob, demo_text}
 use Rattle.cu_work.specs.Order.{IsFree}
 use Rattle.cu_top.proofs.DemoFound.{found_of}
 use Rattle.cu_top.proofs.DemoLemmas.{MeantLaw, asked, refused_plan, run_to, stopped, told, unstored}
-use Rattle.cu_top.proofs.DemoWay.{Way, way_calm, way_cleared, way_found, way_keeps}
+use Rattle.cu_top.proofs.DemoWay.{Way, way_calm, way_cleared, way_found, way_keeps, way_whole}
 use Rattle.cu_top.proofs.PlanLemmas.{differs, meant}
 use Rattle.cu_top.specs.Demo.{IsDemoStarted, ResultTells, demo_case, result_line}
-use Rattle.cu_top.specs.Prepare.{keys_of, out_metadata, HasNoOwnInput, HasPlan}
+use Rattle.cu_top.specs.Prepare.{asked_keys, out_metadata, HasNoOwnInput, HasPlan}
 use Rattle.cu_top.specs.Record.{record_text}
 use Rattle.cu_top.specs.Report.{report_line}
 use Rattle.cu_top.proofs.demo.demo.Goals as goal
@@ -40,7 +40,7 @@ returns-in-Err-store_inputs g c =
     }
 
 pub make_ready-requires-clause-plain : goal.make_ready-requires-clause-plain
-make_ready-requires-clause-plain g c κs within = c.plain_law.ensures demo_text c.in-Ok.prepared.job.expr _ c.in-Ok.ensures.job.said c.in-Ok.ensures.job.value
+make_ready-requires-clause-plain g c = c.plain_law.ensures demo_text c.in-Ok.prepared.job.expr _ c.in-Ok.ensures.job.said c.in-Ok.ensures.job.value
 
 pub store_plan-requires-clause-planned : goal.store_plan-requires-clause-planned
 store_plan-requires-clause-planned g c κs within = subst (HasPlan c.args.options.now) (sym c.in-Ok-make_ready.ensures.job) c.in-Ok.ensures.planned
@@ -60,6 +60,7 @@ store_plan-requires-clause-quiet g c κs within =
       laws = record {
         sound = λ job planned. c.merged_plan_law.ensures.sound job.expr job.types job.inputs.items options planned;
         names = λ job planned own. c.merged_plan_law.ensures.names job.expr job.types job.inputs.items options (record_text options job) (out_metadata job) planned (differs job.expr own);
+        only = λ job planned a below given. c.merged_plan_law.ensures.only job.expr job.types job.inputs.items options a planned below given;
       };
       first = c.ask_demo.ensures.step;
       second = c.store_inputs.ensures.step;
@@ -69,7 +70,7 @@ store_plan-requires-clause-quiet g c κs within =
       planned = subst (HasPlan options) (sym same) c.in-Ok.ensures.planned;
       own = subst (λ (j : Job). HasNoOwnInput j.expr) (sym same) c.in_default.ensures.own;
       inputs = c.in_default.ensures.inputs;
-      free = λ entry is. subst (λ (j : Job). All (IsFree entry) (keys_of options j)) (sym same) (c.in_default.ensures.keys options entry c.in-Ok.ensures.plan is);
+      free = λ entry is. subst (λ (j : Job). All (IsFree entry) (asked_keys options j)) (sym same) (c.in_default.ensures.keys options entry c.in-Ok.ensures.plan is);
     } in
     (demo_text, found_of old start, way_cleared options c.args.size job old mid start way, way_calm options c.args.size job old mid start way)
 
@@ -95,6 +96,7 @@ returns-in-Ok-store_plan g c =
       laws = record {
         sound = λ job planned. c.merged_plan_law.ensures.sound job.expr job.types job.inputs.items options planned;
         names = λ job planned own. c.merged_plan_law.ensures.names job.expr job.types job.inputs.items options (record_text options job) (out_metadata job) planned (differs job.expr own);
+        only = λ job planned a below given. c.merged_plan_law.ensures.only job.expr job.types job.inputs.items options a planned below given;
       };
       first = c.ask_demo.ensures.step;
       second = c.store_inputs.ensures.step;
@@ -104,7 +106,7 @@ returns-in-Ok-store_plan g c =
       planned = subst (HasPlan options) (sym same) c.in-Ok.ensures.planned;
       own = subst (λ (j : Job). HasNoOwnInput j.expr) (sym same) c.in_default.ensures.own;
       inputs = c.in_default.ensures.inputs;
-      free = λ entry is. subst (λ (j : Job). All (IsFree entry) (keys_of options j)) (sym same) (c.in_default.ensures.keys options entry c.in-Ok.ensures.plan is);
+      free = λ entry is. subst (λ (j : Job). All (IsFree entry) (asked_keys options j)) (sym same) (c.in_default.ensures.keys options entry c.in-Ok.ensures.plan is);
     } in
     let found = found_of old start in
     let seen_by = demo_case options n (seen before old) (seen after now) in
@@ -146,6 +148,7 @@ returns g c =
       laws = record {
         sound = λ job planned. c.merged_plan_law.ensures.sound job.expr job.types job.inputs.items options planned;
         names = λ job planned own. c.merged_plan_law.ensures.names job.expr job.types job.inputs.items options (record_text options job) (out_metadata job) planned (differs job.expr own);
+        only = λ job planned a below given. c.merged_plan_law.ensures.only job.expr job.types job.inputs.items options a planned below given;
       };
       first = c.ask_demo.ensures.step;
       second = c.store_inputs.ensures.step;
@@ -155,7 +158,7 @@ returns g c =
       planned = subst (HasPlan options) (sym same) c.in-Ok.ensures.planned;
       own = subst (λ (j : Job). HasNoOwnInput j.expr) (sym same) c.in_default.ensures.own;
       inputs = c.in_default.ensures.inputs;
-      free = λ entry is. subst (λ (j : Job). All (IsFree entry) (keys_of options j)) (sym same) (c.in_default.ensures.keys options entry c.in-Ok.ensures.plan is);
+      free = λ entry is. subst (λ (j : Job). All (IsFree entry) (asked_keys options j)) (sym same) (c.in_default.ensures.keys options entry c.in-Ok.ensures.plan is);
     } in
     let found = found_of old start in
     let seen_by = demo_case options n (seen out old) (seen out now) in
@@ -166,6 +169,6 @@ returns g c =
       entry = way_found options n job old mid start way;
     } in
     record {
-      answer = stopped lack seen_by job found c.in-Err-store_plan.status refl begun (λ other s. way_keeps options n job old mid start way now other s) c.in-Err-store_plan.ensures.stopped
+      answer = stopped lack seen_by found (way_calm options n job old mid start way) (way_whole options n job old mid start way) job c.in-Err-store_plan.status refl begun (λ other s. way_keeps options n job old mid start way now other s) c.in-Err-store_plan.ensures.stopped
           (c.in-Err-store_plan.ensures.ended demo_text found (stream None 0) (stream None 0) (stream None 0) (stream None 0) (way_cleared options n job old mid start way));
     }

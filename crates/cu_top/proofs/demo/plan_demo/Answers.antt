@@ -14,7 +14,7 @@ pub plan-requires-clause-layouts : goal.plan-requires-clause-layouts
 plan-requires-clause-layouts c =
     subst (All (λ (i : InputInfo). IsLayout i.layout)) (sym (c.deref.ensures.value ∙ c.in-Ok.ensures.inputs)) (both_layouts c.args.size c.requires.some c.requires.few)
 
-pub returns-clause-refused : goal.returns-clause-refused
-returns-clause-refused c =
+pub returns-in-Err-clause-refused : goal.returns-in-Err-clause-refused
+returns-in-Err-clause-refused c =
     subst (IsDemoRefused c.args.options.now c.args.size) (sym c.unplanned_status.ensures)
-    (no_plan c.args.options.now c.args.size c.in-Ok.job c.in-Err-plan.fault c.in-Ok.ensures c.in-Err-plan.ensures.refused)
+    (no_plan c.args.options.now c.args.size c.in-Ok.job c.in-Err.fault c.in-Ok.ensures c.in-Err.ensures.refused)

@@ -38,10 +38,8 @@ returns-in-Err-report-clause-answer g c =
       (
         c.in-Ok.element,
         c.in-Ok.ensures.element,
-        (
-          length line + n,
-          omega (arith, long, few),
-          wrote_front (g.W.Sink.written c.args.out.now) (g.W.Sink.written c.write_result.new.out) (g.W.Sink.written c.report.new.out) line told n first wrote,
-        ),
+        length line + n,
+        omega (arith, long, few),
+        wrote_front (g.W.Sink.written c.args.out.now) (g.W.Sink.written c.write_result.new.out) (g.W.Sink.written c.report.new.out) line told n first wrote,
       ),
     )
