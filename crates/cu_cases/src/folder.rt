@@ -55,30 +55,35 @@ pub(crate) fn run_folder(
     for (at, row) in said.list("steps")?.iter().enumerate() {
         refuse_others(row, &MEMBERS)?;
         let said = Said { row, ..*said };
-        let mut held = Vec::new(texts.alloc);
-        add_contents(&mut held, texts, said.list("holds")?, false)?;
-        let case = Case::read(texts, &said, held)?;
         let place = Place {
             case: name,
             row: at as u64,
             what: "call",
             number: 0,
         };
-        case.fill(&mut depot)?;
-        depot.set_span(span_of(&said)?);
-        case.answer(
-            threads,
-            &mut depot,
-            case.room,
-            &case.wanted(),
-            &place,
-            findings,
-        )?;
-        depot.set_span(Span::none());
-        case.read_back(&mut depot, &place, findings)?;
+        run_step(threads, texts, &said, &mut depot, &place, findings)?;
     }
     fs::remove_dir_all(rt, FOLDER)?;
     Ok(())
+}
+
+/// Makes a call over what a folder holds, of which some calls fail, and reads back what it has left.
+fn run_step(
+    threads: &(impl Threads + Wait + Sync),
+    texts: &Texts<'_>,
+    said: &Said<'_>,
+    depot: &mut Failing<DirDepot<HostRuntime>>,
+    place: &Place<'_>,
+    findings: &mut Findings,
+) -> Result<()> {
+    let mut held = Vec::new(texts.alloc);
+    add_contents(&mut held, texts, said.list("holds")?, false)?;
+    let case = Case::read(texts, said, held)?;
+    case.fill(depot)?;
+    depot.set_span(span_of(said)?);
+    case.answer(threads, depot, case.room, &case.wanted(), place, findings)?;
+    depot.set_span(Span::none());
+    case.read_back(depot, place, findings)
 }
 
 /// The calls that fail.

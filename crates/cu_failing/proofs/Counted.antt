@@ -1,5 +1,5 @@
 -- A step of a depot is one with other counts, of which that of the calls has risen by one.
-use Rattle.std.proofs.Common.{◌≡◌, ℕ, ◌+◌, ◌≤◌, min, refl, inr, sym, subst, arith}
+use Rattle.std.proofs.Common.{◌≡◌, ℕ, ◌+◌, ◌≤◌, min, refl, inr, arith}
 use Rattle.cu_store.specs.Faults.{last_count}
 use Rattle.cu_store.specs.Steps.{Shown, Changes, OrLate, MadeCalls, Steps}
 use Rattle.cu_store.proofs.Steps.{lands_same}

@@ -1,10 +1,10 @@
 -- Counts of a depot's own, in place of those of the depot in it. This project's own rule.
-use Rattle.std.specs.Prelude.{◌≡◌, ◌≤◌, ℕ, ◌+◌, min, Result, Ok, Err}
+use Rattle.std.specs.Prelude.{◌≡◌, ℕ, ◌+◌, min, Result, Err}
 use Rattle.cu_store.specs.Faults.{last_count}
 use Rattle.cu_store.specs.Steps.{Shown}
 use Rattle.cu_store.specs.Yard.{Known}
 use Rattle.cu_store.specs.declared.faults.DepotFault.{DepotFault}
-use Rattle.cu_store.specs.declared.faults.DepotFault.TheVariants.{Failed, NoMemory}
+use Rattle.cu_store.specs.declared.faults.DepotFault.TheVariants.{Failed}
 
 -- what is seen of a depot, with these counts
 abbrev pub counted : Shown → ℕ → ℕ → Shown

@@ -1,6 +1,5 @@
-use Rattle.std.proofs.Common.{◌≤◌, ap, sym, subst, ◌∙◌, arith}
-use Rattle.cu_store.specs.Steps.{RemovalOf, Steps, Shown}
-use Rattle.cu_failing.specs.Counts.{counted}
+use Rattle.std.proofs.Common.{arith}
+use Rattle.cu_store.specs.Steps.{RemovalOf}
 use Rattle.cu_failing.proofs.Counted.{kept_steps, made_steps}
 use Rattle.cu_failing.proofs.depot.FailingDepot.remove.Goals as goal
 
