@@ -2,7 +2,8 @@
 """Writes resume_stops.json and failing_calls.json in crates/cu_cases/data: runs over a folder that are stopped after each call, runs
 that go on from there and are stopped after each call too, and each call that fails once, by one worker and by four.
 
-usage: tools/stop_cases.py
+usage: tools/stop_cases.py            the tables of the gate: all pairs of stops of the addition, and some of the rest
+       tools/stop_cases.py FOLDER     all cases, some 3,500 calls; `tools/tables_by_stops.py` runs them
 
 A folder tells nothing of its contents, so a run may go on there in a table. Its calls are numbered in the order of their making,
 whichever worker makes them. Keys, records and counts come from bench/rules.py, bytes from NumPy, the order of one worker's tasks from
@@ -114,9 +115,9 @@ def without_record(job, count):
     return {**job.called("resume"), "fail_from": count, "line": line, "leaves": job.kept(())}
 
 
-def pairs_after(job, count, each):
-    """A run that is stopped after so many calls. From there a run that goes on is stopped after each of its calls, and goes on from there
-    over a folder that no longer fails."""
+def pairs_after(job, count, every):
+    """A run that is stopped after so many calls. From there a run that goes on is stopped after every so many of its calls, and goes on from
+    there over a folder that no longer fails; with 0 it isn't stopped."""
     before = job.run_calls()
     calls, starts = job.task_calls(())
     first, held = stopped(job, "run", before + calls, count, (), starts)
@@ -126,22 +127,23 @@ def pairs_after(job, count, each):
         return steps + [{**job.called("resume"), "line": "error 15", "leaves": job.kept(())}]
     calls, starts = job.task_calls(held)
     calls = job.resume_calls(held) + calls
-    for at in [*range(len(calls) + 1)] if each else [len(calls)]:
+    for at in [*range(0, len(calls), every), len(calls)] if every else [len(calls)]:
         second, then = stopped(job, "resume", calls, at, held, starts)
         left = job.task_calls(then)[1]
         steps += [{"holds": reset(job, held), **second}, {**job.called("resume"), "output": job.report(left), "leaves": job.kept(job.keys)}]
     return steps
 
 
-def stop_cases(job, name, all_pairs):
-    """A case for each call after which the run is stopped. What a stop leaves is a front of the keys in their order, so where not all pairs
-    are tried, the second stops are tried once for each such front."""
+def stop_cases(job, name, every=1, second=1):
+    """A case for every so many calls after which the run is stopped. What a stop leaves is a front of the keys in their order: so the second
+    stops are tried once for each such front, and for an addition each time."""
     before = job.run_calls()
     calls = before + job.task_calls(())[0]
     cases, seen = [], set()
-    for count in range(len(calls) + 1):
+    for count in range(0, len(calls) + 1, every):
         stored = len(after(calls, count, ()))
-        cases.append({"name": f"{name}, stopped after {count} calls, and again after each", "steps": pairs_after(job, count, all_pairs or stored not in seen)})
+        again = second if stored not in seen or len(job.tasks) == 2 else 0
+        cases.append({"name": f"{name}, stopped after {count} calls, and again", "steps": pairs_after(job, count, again)})
         seen.add(stored)
     return cases
 
@@ -206,26 +208,26 @@ def self_made(job, held):
     return job.metadata not in held
 
 
-def four_cases(job, name, stride):
+def four_cases(job, name, every=1, second=1):
     total = len(job.run_calls()) + len(job.task_calls(())[0])
-    return [{"name": f"{name} by four, stopped after {count} calls, and again", "steps": four_after(job, count, stride)} for count in range(total + 1)]
+    return [{"name": f"{name} by four, stopped after {count} calls, and again", "steps": four_after(job, count, second)} for count in range(0, total + 1, every)]
 
 
 # Each call failing once
 
-def once_by(job, workers):
-    """A run and a run that goes on, of each of which each call fails once: they end with 0."""
+def once_by(job, workers, every=1):
+    """A run and a run that goes on, of each of which every so many calls one fails once: they end with 0."""
     steps = []
     before = job.run_calls()
     total = len(before) + len(job.task_calls(())[0])
-    for count in range(total):
+    for count in range(0, total, every):
         failed = int(count >= len(before))
         steps.append({"holds": (job.inputs if not steps else []) + reset(job, ()), **job.called("run", workers), "fail_from": count, "fail_times": 1,
                       "output": job.report(len(job.tasks) + failed, failed), "leaves": job.kept(job.keys)})
     for held in ([job.record], job.keys[:3]):
         asked = job.resume_calls(held)
         calls, starts = job.task_calls(held)
-        for count in range(len(asked) + len(calls)):
+        for count in range(0, len(asked) + len(calls), every):
             failed = int(count >= len(asked))
             steps.append({"holds": reset(job, held), **job.called("resume", workers), "fail_from": count, "fail_times": 1,
                           "output": job.report(starts + failed, failed), "leaves": job.kept(job.keys)})
@@ -286,7 +288,7 @@ def other_records(job):
     record = job.texts[job.value[job.record]["named"]]
     text, steps = rules.compact(record), []
     for other in others_of(record):
-        for words in (job.called("resume"), job.called("resume", 4), job.called("drop")):
+        for words in (job.called("resume"), job.called("drop")):
             place = place_of(text.encode(), other.encode())
             steps.append({"holds": (job.inputs if not steps else []) + [[job.record, other]], **words, "line": f"error 14 place={place}",
                           "leaves": [[job.record, other], *[[key, None] for key in job.keys[1:]]]})
@@ -303,8 +305,8 @@ def streams_of(job, workers):
             {**call, "sink_fails_at": 0, "line": "error 12", "leaves": job.kept(job.keys)}, {**call, "sink_room": 5, "line": "error 12", "output": "ok op", "leaves": job.kept(job.keys)}]
 
 
-def demonstrated(workers):
-    """A demonstration whose tasks follow one another: each call fails once, and from each call on all fail."""
+def demonstrated(workers, every=1):
+    """A demonstration whose tasks follow one another: every so many calls one fails once, and from there on all fail."""
     demo = demo_cases.small()
     keys = [key for key, _ in demo["leaves"]]
     asked = [key for name in ("demo_a", "demo_b", "demo_y") for key in (f"_cubed/{name}/plan.json", f"{name}/zarr.json", f"{name}/.zarray")] + keys[6:]
@@ -314,8 +316,8 @@ def demonstrated(workers):
         calls += [(line, None)] * reads + [(line, keys[6 + op])]
     calls.append(("error 16 key=demo_y/c", None))
     steps = []
-    for at, (line, _) in enumerate(calls):
-        held = after(calls, at, ())
+    for at in range(0, len(calls), every):
+        line, held = calls[at][0], after(calls, at, ())
         call = {"holds": [[key, None] for key in keys], "words": ["demo", "4", "--workers", str(workers)], "fail_from": at}
         again = demo["output"].replace("starts=4 failed=0", "starts=5 failed=1") if "error 10" in line else demo["output"]
         steps += [{**call, "line": line, "leaves": [[key, value if key in held else None] for key, value in demo["leaves"]]},
@@ -341,28 +343,49 @@ def text_of_case(case, dumped):
     return f'{{"name": {dumped(case["name"])},\n{shared} "steps": {tables.joined(map(dumped, steps), "  ")}}}'
 
 
-def write(file, jobs, cases):
+def write(file, jobs, cases, folder=f"{TOP}/crates/cu_cases/data"):
     texts = {name: value for job in jobs for name, value in job.texts.items()}
-    dumped = rules.json.dumps
-    lines = [text_of_case(case, dumped) for case in cases]
-    with open(f"{TOP}/crates/cu_cases/data/{file}", "w", encoding="ascii") as out:
+    lines = [text_of_case(case, rules.json.dumps) for case in cases]
+    with open(f"{folder}/{file}", "w", encoding="ascii") as out:
         out.write(f'{{\n"kind": "folder",\n"texts": {members(texts)},\n"cases": {tables.joined(lines, "")}\n}}\n')
+
+
+def named_once(job, name, workers, every=1):
+    return {"name": f"{name} by {workers}, each call failing once", "steps": once_by(job, workers, every)}
+
+
+def streams(job):
+    steps = [{"holds": job.inputs + [[job.record, job.value[job.record]]], **job.called("plan"), "output": job.plan.lines(), "leaves": []}]
+    return {"name": "a source and a sink that fail where a run goes on", "steps": [*steps, *streams_of(job, 1), *streams_of(job, 4)]}
+
+
+def of_the_gate(add, copy, search):
+    """What a minute of the gate has room for: a folder syncs each file."""
+    stops = [other_records(add), *stop_cases(add, "an addition"), *stop_cases(copy, "two copies", 4, 11), *stop_cases(search, "a search in rounds", 5, 13),
+             *four_cases(add, "an addition", 1, 9), *four_cases(copy, "two copies", 7, 17), *four_cases(search, "a search in rounds", 10, 19)]
+    calls = [named_once(add, "an addition", 1), named_once(add, "an addition", 4), named_once(copy, "two copies", 4, 5), named_once(search, "a search in rounds", 4, 7),
+             streams(add), demonstrated(4, 3), {"name": "the other commands, each call failing once and for good", "steps": other_commands(add)}]
+    return stops, calls
+
+
+def of_all(add, copy, search):
+    jobs = ((add, "an addition"), (copy, "two copies"), (search, "a search in rounds"))
+    stops = [other_records(add)] + [case for job, name in jobs for case in stop_cases(job, name)]
+    stops += [case for (job, name), second in zip(jobs, (1, 5, 5)) for case in four_cases(job, name, 1, second)]
+    calls = [named_once(job, name, workers) for job, name in jobs for workers in (1, 2, 4)]
+    return stops, [*calls, streams(add), demonstrated(1), demonstrated(4), {"name": "the other commands, each call failing once and for good", "steps": other_commands(add)}]
 
 
 def main():
     jobs = [addition(), copies(), rounds()]
-    add, copy, search = jobs
-    write("resume_stops.json", jobs, [
-        other_records(add),
-        *stop_cases(add, "an addition", True), *stop_cases(copy, "two copies", False), *stop_cases(search, "a search in rounds", False),
-        *four_cases(add, "an addition", 1), *four_cases(copy, "two copies", 5), *four_cases(search, "a search in rounds", 5)])
-    write("failing_calls.json", jobs, [
-        *[{"name": f"{name} by {workers}, each call failing once", "steps": once_by(job, workers)}
-          for job, name in ((add, "an addition"), (copy, "two copies"), (search, "a search in rounds")) for workers in (1, 2, 4)],
-        {"name": "a source and a sink that fail where a run goes on", "steps": [{"holds": add.inputs + [[add.record, add.value[add.record]]], **add.called("plan"), "output": add.plan.lines(), "leaves": []},
-                                                                               *streams_of(add, 1), *streams_of(add, 4)]},
-        demonstrated(1), demonstrated(4),
-        {"name": "the other commands, each call failing once and for good", "steps": other_commands(add)}])
+    if len(sys.argv) > 1:
+        stops, calls = of_all(*jobs)
+        write("resume_stops.json", jobs, stops, sys.argv[1])
+        write("failing_calls.json", jobs, calls, sys.argv[1])
+    else:
+        stops, calls = of_the_gate(*jobs)
+        write("resume_stops.json", jobs, stops)
+        write("failing_calls.json", jobs, calls)
 
 
 if __name__ == "__main__":
