@@ -13,13 +13,14 @@ class Task:
         self.op, self.number, self.reads, self.writes, self.waits_for = op, number, reads, writes, waits_for
 
 
-def in_turn(tasks):
-    """Returns the tasks of a plan, which are given in its order, in the order in which one worker runs them where no call fails."""
+def in_turn(tasks, found=()):
+    """Returns the tasks of a plan, which are given in its order, in the order in which one worker runs them where no call fails. Those
+    whose places are among the found ones are done at first."""
     maker = {key: at for at, task in enumerate(tasks) for key in task.writes}
     of_op = {}
     for at, task in enumerate(tasks):
         of_op.setdefault(task.op, []).append(at)
-    done, ready, waiting, order = set(), [], {}, []
+    done, ready, waiting, order = set(found), [], {}, []
 
     def blocker(task):
         """Returns what keeps a task waiting: the last undone task that makes what it reads, or the first undone operation of a view."""
@@ -36,7 +37,8 @@ def in_turn(tasks):
             waiting.setdefault(thing, []).insert(0, at)
 
     for at in reversed(range(len(tasks))):
-        settle(at)
+        if at not in done:
+            settle(at)
     while ready:
         at = ready.pop()
         done.add(at)
@@ -45,7 +47,7 @@ def in_turn(tasks):
             woken = waiting.pop(thing, [])
             for other in woken:
                 settle(other)
-    assert len(order) == len(tasks)
+    assert len(order) == len(tasks) - len(set(found))
     return order
 
 

@@ -12,7 +12,7 @@ use std::sync::Wait;
 use std::thread::Threads;
 
 /// What a call may say. Only a case has rows.
-const MEMBERS: [&str; 18] = [
+const MEMBERS: [&str; 22] = [
     "name",
     "words",
     "input",
@@ -24,9 +24,13 @@ const MEMBERS: [&str; 18] = [
     "stop_after",
     "line",
     "output",
+    "or_lines",
+    "or_outputs",
     "front",
     "leaves",
     "may_leave",
+    "hold",
+    "until",
     "calls",
     "loops",
     "steps",

@@ -3,9 +3,10 @@ ghost use Rattle.std.specs.Prelude.{◌≡◌, map, string_bytes};
 ghost use Rattle.cu_cases.specs.Late.{MayCall, is_resume};
 
 use anyhow::{Result, bail};
+use cu_gates::{Awaited, Held, Meeting};
 use cu_mem::{MemDepot, MemSink, MemSource, Script};
-use cu_rows::{Findings, Place, Said, Texts, key_of, list_of, pair_of, text_of};
-use cu_store::{Depot, Got, Key, NoGate, Share};
+use cu_rows::{Findings, Place, Said, Texts, key_of, list_of, number_of, pair_of, text_of};
+use cu_store::{Depot, Got, Key, Share};
 use cu_top::{Status, number, status_line, top};
 use cu_watch::Watched;
 use serde_json::Value;
@@ -28,10 +29,40 @@ pub(crate) struct Wanted<'a> {
     /// The line of its status.
     pub(crate) line: &'a str,
     pub(crate) output: &'a [u8],
+    /// Other lines, of which each is right too.
+    pub(crate) or_lines: &'a [Value],
+    /// Other outputs, of which each is right too.
+    pub(crate) or_outputs: &'a [Value],
     /// Whether a front of the output is enough.
     pub(crate) is_front: bool,
     /// How many of the keys that the call leaves are then as it leaves them.
     pub(crate) stored: usize,
+}
+
+impl<'a> Wanted<'a> {
+    /// The line that this one must be: one of the other lines if it is the same, and else the first.
+    fn line_for(&self, text: &str) -> Result<&'a str> {
+        for other in self.or_lines {
+            if text_of(other)? == text {
+                return text_of(other);
+            }
+        }
+        Ok(self.line)
+    }
+
+    /// The output that this one must be: one of the other outputs if it is the same, and else the first, or a front of it.
+    fn output_for(&self, output: &[u8]) -> Result<&'a [u8]> {
+        for other in self.or_outputs {
+            let other = text_of(other)?.as_bytes();
+            if other == output {
+                return Ok(other);
+            }
+        }
+        if self.is_front {
+            return Ok(self.output.get(..output.len()).unwrap_or(self.output));
+        }
+        Ok(self.output)
+    }
 }
 
 /// A call: what it is given, and what must come of it.
@@ -49,7 +80,12 @@ pub(crate) struct Case<'a> {
     before: usize,
     pub(crate) line: &'a str,
     pub(crate) output: Vec<u8>,
+    or_lines: &'a [Value],
+    or_outputs: &'a [Value],
     pub(crate) is_front: bool,
+    /// Which tasks are held, and until which have come.
+    held: &'a [Value],
+    awaited: &'a [Value],
 }
 
 /// The room of a sink where the table doesn't say it.
@@ -84,7 +120,11 @@ impl<'a> Case<'a> {
             before,
             line: said.text("line")?,
             output,
+            or_lines: said.list("or_lines")?,
+            or_outputs: said.list("or_outputs")?,
             is_front: said.is_set("front")?,
+            held: said.list("hold")?,
+            awaited: said.list("until")?,
         })
     }
 
@@ -98,6 +138,8 @@ impl<'a> Case<'a> {
         Wanted {
             line: self.line,
             output: &self.output,
+            or_lines: self.or_lines,
+            or_outputs: self.or_outputs,
             is_front: self.is_front,
             stored: self.stored(),
         }
@@ -158,16 +200,15 @@ impl<'a> Case<'a> {
         let Ok(mut sink) = MemSink::make(self.alloc, room, self.sink_fails_at) else {
             bail!("no memory");
         };
-        let status = self.ask(threads, &mut sink, depot)?;
+        let gate = gate_of(self.alloc, self.held, self.awaited)?;
+        let status = self.ask(threads, &mut sink, depot, &gate)?;
         findings.made();
-        expect_status(self.alloc, &status, wanted.line, place, findings)?;
+        expect_status(self.alloc, &status, wanted, place, findings)?;
+        if gate.given_up() != 0 {
+            findings.differ(place, "the gate", "given up", "passed")?;
+        }
         let output = sink.text();
-        let must = if wanted.is_front {
-            wanted.output.get(..output.len()).unwrap_or(wanted.output)
-        } else {
-            wanted.output
-        };
-        findings.expect(place, "the output", output, must)
+        findings.expect(place, "the output", output, wanted.output_for(output)?)
     }
 
     /// Puts or removes what stands before the call.
@@ -198,6 +239,7 @@ impl<'a> Case<'a> {
             let key = content.key.text();
             match (&content.bytes, got) {
                 (None, Ok(Got::Absent)) => {}
+                (Some(_), Ok(Got::Absent)) if content.is_optional => {}
                 (Some(bytes), Ok(Got::Held(count))) if count == length as u64 => {
                     findings.expect(place, key, &buf, bytes)?;
                 }
@@ -214,6 +256,7 @@ impl<'a> Case<'a> {
         threads: &(impl Threads + Wait + Sync),
         sink: &mut MemSink,
         depot: &mut D,
+        gate: &Meeting,
     ) -> Result<Status>
         requires { MayCall (map string_bytes self.now.words.items) (D.shown depot.old).held (D.shown depot.old).late }
     {
@@ -226,7 +269,7 @@ impl<'a> Case<'a> {
             &mut source,
             sink,
             depot,
-            &NoGate,
+            gate,
         ))
     }
 
@@ -312,11 +355,12 @@ fn is_resume(words: &[String]) -> bool
 fn expect_status(
     alloc: Global,
     status: &Status,
-    line: &str,
+    wanted: &Wanted<'_>,
     place: &Place<'_>,
     findings: &mut Findings,
 ) -> Result<()> {
     let text = status_line(status);
+    let line = wanted.line_for(text.as_str())?;
     findings.expect(place, "the line", text.as_str().as_bytes(), line.as_bytes())?;
     let is = format!(in alloc; "{}", number(status))?;
     let must = line.split(' ').nth(1).unwrap_or("0");
@@ -344,6 +388,34 @@ pub(crate) fn add_contents(
         })?;
     }
     Ok(())
+}
+
+/// The gate that holds the tasks of a list, each an operation and a number, until those of another have come, each so often.
+fn gate_of(alloc: Global, held: &[Value], awaited: &[Value]) -> Result<Meeting> {
+    let mut holds = Vec::new(alloc);
+    for item in held {
+        let [op, task] = list_of(item)? else {
+            bail!("a task that is held has an operation and a number");
+        };
+        let (op, task) = (small(op)?, small(task)?);
+        holds.push(Held { op, task })?;
+    }
+    let mut awaits = Vec::new(alloc);
+    for item in awaited {
+        let [op, task, times] = list_of(item)? else {
+            bail!("a task that is awaited has an operation, a number and a count");
+        };
+        awaits.push(Awaited::new(small(op)?, small(task)?, number_of(times)?))?;
+    }
+    Ok(Meeting::new(holds, awaits))
+}
+
+/// A small number.
+fn small(value: &Value) -> Result<u32> {
+    match u32::try_from(number_of(value)?) {
+        Ok(number) => Ok(number),
+        Err(_) => bail!("a number is too large"),
+    }
 }
 
 /// The words of a list of texts.

@@ -123,6 +123,8 @@ impl Trial<'_> {
         let wanted = Wanted {
             line: text_of(line)?,
             output: if fronts { &self.case.output } else { &[] },
+            or_lines: &[],
+            or_outputs: &[],
             is_front: true,
             stored: count_of(stored)?,
         };
@@ -189,6 +191,8 @@ impl Trial<'_> {
                 } else {
                     &output
                 },
+                or_lines: &[],
+                or_outputs: &[],
                 is_front: false,
                 stored: self.case.stored(),
             };
@@ -280,6 +284,8 @@ impl Trial<'_> {
             let wanted = Wanted {
                 line: "error 12",
                 output: self.case.output.get(..room).unwrap_or(&[]),
+                or_lines: &[],
+                or_outputs: &[],
                 is_front: false,
                 stored: self.case.stored(),
             };
@@ -320,6 +326,8 @@ fn run_again(
         Wanted {
             line,
             output: &[],
+            or_lines: &[],
+            or_outputs: &[],
             is_front: false,
             stored: first.stored,
         }

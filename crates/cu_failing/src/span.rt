@@ -1,0 +1,45 @@
+//! Which calls fail.
+ghost use Rattle.std.specs.Prelude.{◌≡◌, ◌≤◌};
+ghost use Rattle.cu_failing.specs.Counts.{AddsFault, IsCountedFault};
+
+use cu_store::DepotFault;
+
+/// The calls that fail: the first, counted from 0, and how many.
+#[derive(Clone, Copy)]
+pub struct Span {
+    pub first: u64,
+    pub times: u64,
+}
+
+impl Span {
+    /// No call.
+    pub fn none() -> Span {
+        Span { first: 0, times: 0 }
+    }
+
+    /// Whether the call of this number fails.
+    pub(crate) fn has(&self, number: u64) -> bool {
+        number >= self.first && number - self.first < self.times
+    }
+}
+
+/// A call that fails, which is counted.
+pub(crate) fn refuse<A>(faults: &mut u64) -> Result<A, DepotFault>
+    ensures fault { IsCountedFault faults.old faults.new result }
+    ensures count { faults.old ≤ faults.new }
+{
+    *faults = faults.saturating_add(1);
+    Err(DepotFault::Failed)
+}
+
+/// Counts a call that failed.
+pub(crate) fn settle<A>(faults: &mut u64, answer: Result<A, DepotFault>) -> Result<A, DepotFault>
+    ensures same { result ≡ answer }
+    ensures counted { AddsFault faults.old faults.new answer }
+    ensures count { faults.old ≤ faults.new }
+{
+    if let Err(DepotFault::Failed) = &answer {
+        *faults = faults.saturating_add(1);
+    }
+    answer
+}
