@@ -4,7 +4,7 @@ come. So they show that tasks run at once, that a task starts before the operati
 
 usage: tools/gate_cases.py
 
-A gate that isn't opened gives up, and the case then fails. One thread that runs all tasks in turn opens none of them. Keys, records and counts
+A case fails if a task gives up at the gate, and if one that is awaited doesn't come. So one thread that runs all tasks in turn is found out. Keys, records and counts
 come from bench/rules.py, bytes from NumPy. Nothing comes from the program.
 """
 import os
@@ -71,12 +71,6 @@ def backup_rows():
     return rows
 
 
-def one_worker_rows():
-    """One worker, whose gate holds nothing that isn't there yet; it is called before each task."""
-    two = ran(a_and_b(), expression(ADDED), 1600)
-    return [by(1, two, [(0, 1)], [(0, 0), (0, 1)]), by(1, ran(a_and_b(), expression(DOUBLED), 1600), [(1, 1)], [(0, 0), (0, 1)])]
-
-
 def gone_on():
     """Over a folder: a run that goes on by several workers, whose two tasks meet; and one that overlaps."""
     job = stop_cases.addition()
@@ -95,8 +89,7 @@ def main():
     tables.write("gates.json", [
         {"name": "tasks that wait for one another meet", "rows": meeting_rows()},
         {"name": "a task starts before the operation before it is done", "rows": overlap_rows()},
-        {"name": "second copies", "rows": backup_rows()},
-        {"name": "one worker comes to the gate before each task", "rows": one_worker_rows()}])
+        {"name": "second copies", "rows": backup_rows()}])
     job, steps = gone_on()
     stop_cases.write("gates_folder.json", [job], [{"name": "tasks of a run that goes on in a folder meet", "steps": steps}])
 

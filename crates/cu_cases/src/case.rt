@@ -207,6 +207,9 @@ impl<'a> Case<'a> {
         if gate.given_up() != 0 {
             findings.differ(place, "the gate", "given up", "passed")?;
         }
+        if gate.come() != self.awaited.len() {
+            findings.differ(place, "the gate", "not reached", "passed")?;
+        }
         let output = sink.text();
         findings.expect(place, "the output", output, wanted.output_for(output)?)
     }
