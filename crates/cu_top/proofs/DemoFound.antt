@@ -422,8 +422,7 @@ module _ (options : Options) (n : ℕ) (some : 1 ≤ n) (few : n ≤ 2048) (read
   job_of a b was now job is =
       let calm : IsDemoCalm options n old = subst (λ (h : Option Contents). WhereTold h (IsDemoCalm options n old)) (sym was) quiet in
       let stored : StoresInputs n (Some (overlay a b)) = told_calm (Some a) (Some b) was now calm in
-      let told : found.held ≡ Some (overlay a b) = λ i. overlay_held (sym was i) (sym now i) in
-      (
+      let told : found.held ≡ Some (overlay a b) = λ i. overlay_held (sym was i) (sym now i) in (
         calm,
         stored,
         only_job options n some few read_back rows columns found found_stored (overlay a b) told stored (settled_in (overlay a b) calm.inputs stored) (hides_none calm.hidden) job is,

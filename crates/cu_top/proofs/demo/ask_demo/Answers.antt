@@ -55,8 +55,7 @@ returns-in-Err-ask_plan-clause-refused g c = λ options same.
     let new = g.D.Depot.shown c.ask_plan.new.depot in
     let own : is_own_input c.args.prepared.now.job.expr ≡ false = ap is_own_input c.requires in
     subst (IsDemoAskEnd (c.args.retries + 1) (asked_keys options c.args.prepared.now.job) old new) (sym c.answer_of.ensures)
-    (plan_end (c.args.retries + 1) (asked_keys options c.args.prepared.now.job) old asked new c.args.prepared.now.job.expr c.in-Err-ask_plan.fault own
-    (
+    (plan_end (c.args.retries + 1) (asked_keys options c.args.prepared.now.job) old asked new c.args.prepared.now.job.expr c.in-Err-ask_plan.fault own (
       subst (λ (n : List ℕ). AreFree n old.held) (c.key_of_name-rows.ensures.key ∙ c.demo_name.ensures.name) c.in_default.ensures.free,
       free_before old mid (demo_name Columns) c.ask_keys.ensures.step
           (subst (λ (n : List ℕ). AreFree n mid.held) (c.key_of_name-columns.ensures.key ∙ c.demo_name-2.ensures.name) c.in_default-ask_keys.ensures.free),
