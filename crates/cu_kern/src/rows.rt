@@ -1,6 +1,6 @@
 //! Steps of a kernel along a row of places: each leaves its results as elements in a row of bytes of its own, in the width of its own
 //! type. The types of the rows are guessed beforehand and tested at each step.
-ghost use Rattle.std.specs.Prelude.{◌≡◌, ◌≢◌, ◌+◌, ◌*◌, ◌^◌, ◌≤◌, ◌<◌, ℕ, ℤ, List, [], All, IsTrue, IsSome, IfSome, Some, Option, length, drop};
+ghost use Rattle.std.specs.Prelude.{◌≡◌, ◌≢◌, ◌+◌, ◌*◌, ◌^◌, ◌≤◌, ◌<◌, ℕ, ℤ, List, [], All, IsTrue, IfSome, Some, Option, length, drop};
 ghost use Rattle.std.specs.List.{slice_get};
 ghost use Rattle.cu_num.specs.Dtype.{InRange, size_of};
 ghost use Rattle.cu_num.specs.Element.{element_at};
@@ -468,7 +468,7 @@ pub(crate) fn leave_row(instr: Instr, row: Row, earlier: Earlier<'_>, rest: &mut
 
 /// `leave_row` of a region that is read where it lies.
 fn leave_in_place(j: u32, earlier: Earlier<'_>) -> Option<usize>
-    ensures there { IsSome result → j < length earlier.entry.plan.inputs.lays.now }
+    ensures there { IfSome result (λ used. j < length earlier.entry.plan.inputs.lays.now) }
     ensures none { IfSome result (λ used. used ≡ 0) }
 {
     if j as usize >= earlier.plan.inputs.lays.len() {

@@ -1,4 +1,4 @@
-use Rattle.std.proofs.Common.{length, refl, ap, ◌∙◌, subst, sym, ℕ, Some}
+use Rattle.std.proofs.Common.{rules, ◌≡◌, length, refl, ap, ◌∙◌, subst, sym, ℕ, Some}
 use Rattle.std.specs.List.{slice_get}
 use Rattle.cu_num.specs.Dtype.{size_of}
 use Rattle.cu_num.specs.declared.layout.Endian.TheVariants.{Little}
