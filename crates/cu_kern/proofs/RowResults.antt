@@ -1,14 +1,20 @@
 -- What a step over the rows of earlier steps reads and leaves.
-use Rattle.std.proofs.Common.{◌≡◌, ◌≢◌, ℕ, ◌-◌, ◌*◌, ◌/◌, ◌<◌, ◌≤◌, suc, List, length, drop, get_or, Option, Some, refl, ap, sym, ◌∙◌, subst, arith, ℤ, pos}
-use Rattle.std.specs.List.{slice_get, between}
+use Rattle.std.proofs.Common.{◌≡◌, ◌≢◌, ℕ, ◌+◌, ◌-◌, ◌*◌, ◌/◌, ◌<◌, ◌≤◌, suc, List, length, ◌++◌, drop, get_or, Option, None, Some, IfSome, IsTrue, Bool as Test, refl, ap, sym, ◌∙◌, subst, arith, ℤ, pos, length-append}
+use Rattle.std.specs.List.{slice_get}
 use Rattle.std.proofs.lemmas.Option.{slice_get-get_or}
 use Rattle.std.proofs.Math.Nat.{mul-le-mul_right}
 use Rattle.std.specs.Option.{option_map, option_and_then}
 use Rattle.cu_num.specs.Dtype.{size_of, InRange}
 use Rattle.cu_num.specs.Element.{element_at, element_bytes, bytes_at}
 use Rattle.cu_num.specs.Scalar.{op1, op2, result_type1, result_type2}
+use Rattle.cu_num.specs.Promotion.{promotion}
+use Rattle.cu_num.specs.Wrap.{wrapped}
+use Rattle.cu_num.proofs.ElementBytes.{InRange-element_at, element_at_own, element_at-element_bytes_in_range}
+use Rattle.cu_num.proofs.Promoted.{first_in_range}
 use Rattle.cu_num.proofs.ScalarRange.{InRange-op1, InRange-op2}
+use Rattle.cu_num.proofs.Wrapped.{wrapped_in_range}
 use Rattle.cu_num.specs.declared.functions.Fn1.{Fn1}
+use Rattle.cu_num.specs.declared.functions.Fn1.TheVariants.{Astype}
 use Rattle.cu_num.specs.declared.functions.Fn2.{Fn2}
 use Rattle.cu_num.specs.declared.types.Dtype.{Dtype}
 use Rattle.cu_num.specs.declared.layout.Endian.TheVariants.{Little}
@@ -18,50 +24,97 @@ use Rattle.cu_op.specs.Kernel.{selected}
 use Rattle.cu_kern.specs.declared.calls.Call.TheVariants as call
 use Rattle.cu_kern.specs.Lays.{HasValue}
 use Rattle.cu_kern.proofs.DirectValues.{value_in_range}
-use Rattle.cu_kern.specs.Rows.{Rows, StandsAt, HasStepResults}
-use Rattle.cu_kern.specs.Strips.{strip, strip_element, HasPlaces}
-use Rattle.cu_kern.proofs.Parts.{element_moved, size_most}
+use Rattle.cu_kern.specs.declared.rows.Row.{Row}
+use Rattle.cu_kern.specs.Rows.{Rows, Stands, HasElement, HasStepResults, HasResultsOf, HasSameElements}
+use Rattle.cu_kern.specs.Strips.{Strip, strip, strip_element, HasPlaces, HasResults}
+use Rattle.cu_kern.proofs.Parts.{size_most}
+use Rattle.cu_kern.proofs.RowSteps.{element_in_front}
 
 -- ---- what an argument reads
 
-pub result_there : (r : Rows) (k a : ℕ) (results : List ℤ) → HasStepResults r k results → a < r.number → slice_get results a ≡ Some (get_or results a (pos 0))
-result_there r k a results h b = let done = h.done in slice_get-get_or results a (pos 0) (omega arith)
+-- what holds of a value of which two clauses speak, and of which four do
+pub if_some : {T : Type 0} (o : Option T) (P Q S : T → Type 0) → ((x : T) → P x → Q x → S x) → IfSome o P → IfSome o Q → IfSome o S
+if_some None P Q S f p q = tt
+if_some (Some x) P Q S f p q = f x p q
 
-stands_in_row : (i : Instr) (t : Dtype) (row : List ℕ) (k : ℕ) (x : ℤ) → ((y : ℤ) → i ≢ Const y) → StandsAt i t row k x → element_at Little t row k ≡ x
-stands_in_row (Load j) t row k x other h = h.1
-stands_in_row (Const y) t row k x other h = absurd (other y refl)
-stands_in_row (One f s a) t row k x other h = h.1
-stands_in_row (Two f s a b) t row k x other h = h.1
-stands_in_row (Select c a b) t row k x other h = h.1
+pub if_some_of_four : {T : Type 0} (o : Option T) (P Q R U S : T → Type 0) → ((x : T) → P x → Q x → R x → U x → S x) → IfSome o P → IfSome o Q → IfSome o R → IfSome o U → IfSome o S
+if_some_of_four None P Q R U S f p q r u = tt
+if_some_of_four (Some x) P Q R U S f p q r u = f x p q r u
 
-pub literal_read : (r : Rows) (k a : ℕ) (results : List ℤ) (y : ℤ) (t : Dtype) → HasStepResults r k results → a < r.number → slice_get r.code a ≡ Some (Const y) → slice_get r.kinds a ≡ Some t → slice_get results a ≡ Some y
-literal_read r k a results y t h b code kinds =
-    let there = result_there r k a results h b in
-    there ∙ ap Some (h.each a (get_or results a (pos 0)) (Const y) t there code kinds)
+result_there : (r : Rows) (load : ℕ → Option ℤ) (k a : ℕ) (results : List ℤ) → HasStepResults r load k results → a < r.number → slice_get results a ≡ Some (get_or results a (pos 0))
+result_there r load k a results h b = let done = h.done in slice_get-get_or results a (pos 0) (omega arith)
 
-pub row_read : (r : Rows) (k a count : ℕ) (results : List ℤ) (i : Instr) (t : Dtype) → HasStepResults r k results → a < r.number → slice_get r.code a ≡ Some i → ((y : ℤ) → i ≢ Const y) → slice_get r.kinds a ≡ Some t
-    → a < length r.bytes / 1024 → count * size_of t ≤ 1024 → k < count → slice_get results a ≡ Some (strip_element t (strip (between (1024 * a) (length r.bytes) r.bytes) 1) k)
-row_read r k a count results i t h b code other kinds room fits below =
-    let there = result_there r k a results h b in
-    let x = get_or results a (pos 0) in
-    let is : element_at Little t (drop (1024 * a) r.bytes) k ≡ x = stands_in_row i t (drop (1024 * a) r.bytes) k x other (h.each a x i t there code kinds) in
-    let last : suc k * size_of t ≤ count * size_of t = mul-le-mul_right (size_of t) (let l : suc k ≤ count = omega arith in l) in
-    let once : 1 * k ≡ k = omega arith in
-    there ∙ ap Some (sym (ap (element_at Little t (between (1024 * a) (length r.bytes) r.bytes)) once
-    ∙ element_moved t r.bytes (1024 * a) 0 (1024 * a) (length r.bytes) k k (omega arith) (omega arith) (omega arith) ∙ is))
+in_row : (i : Instr) (kept : Test) (load : ℕ → Option ℤ) (x : ℤ) (InRow : Type 0) → ((y : ℤ) → i ≢ Const y) → ((j : ℕ) → i ≡ Load j → IsTrue kept) → Stands i kept load x InRow → InRow
+in_row (Load j) kept load x InRow other held h = h.1 (held j refl)
+in_row (Const y) kept load x InRow other held h = absurd (other y refl)
+in_row (One f s a) kept load x InRow other held h = h
+in_row (Two f s a b) kept load x InRow other held h = h
+in_row (Select c a b) kept load x InRow other held h = h
 
-pub row_places : (t : Dtype) (bytes : List ℕ) (a count : ℕ) → a < length bytes / 1024 → count * size_of t ≤ 1024 → length (between (1024 * a) (length bytes) bytes) ≡ length bytes - 1024 * a
-    → HasPlaces t (strip (between (1024 * a) (length bytes) bytes) 1) count
-row_places t bytes a count room fits long = record {
-  step = omega arith;
-  inside = λ k below.
-      let last : suc k * size_of t ≤ count * size_of t = mul-le-mul_right (size_of t) (let l : suc k ≤ count = omega arith in l) in
-      let once : 1 * k * size_of t ≡ k * size_of t = ap (λ j. j * size_of t) (let same : 1 * k ≡ k = omega arith in same) in
-      omega arith;
+pub row_results : (r : Rows) (loads : ℕ → ℕ → Option ℤ) (count a : ℕ) (i : Instr) (row : Row) (t : Dtype) (s : Strip) → a < r.number → slice_get r.code a ≡ Some i → slice_get r.rows a ≡ Some row → ((y : ℤ) → i ≢ Const y)
+    → ((j : ℕ) → i ≡ Load j → IsTrue row.kept) → HasPlaces t s count → ((k : ℕ) → k < count → strip_element t s k ≡ element_at Little row.dtype (drop row.at r.bytes) k) → HasResultsOf r loads count a t s
+row_results r loads count a i row t s b code own other held places same = record {
+  places = places;
+  elements = λ k results below stand.
+      let there = result_there r (loads k) k a results stand b in
+      let x = get_or results a (pos 0) in
+      let (inside, is) = in_row i row.kept (loads k) x (HasElement row.dtype row.at r.filled r.bytes k x) other held (stand.each a x i row there code own) in
+      there ∙ ap Some (sym (same k below ∙ is));
+}
+
+pub region_results : (r : Rows) (loads : ℕ → ℕ → Option ℤ) (count a j : ℕ) (row : Row) (t : Dtype) (s : Strip) → a < r.number → slice_get r.code a ≡ Some (Load j) → slice_get r.rows a ≡ Some row → HasPlaces t s count
+    → ((k : ℕ) → k < count → loads k j ≡ Some (strip_element t s k)) → HasResultsOf r loads count a t s
+region_results r loads count a j row t s b code own places same = record {
+  places = places;
+  elements = λ k results below stand.
+      let there = result_there r (loads k) k a results stand b in
+      there ∙ sym ((stand.each a (get_or results a (pos 0)) (Load j) row there code own).0) ∙ same k below;
 }
 
 pub literal_places : (t : Dtype) (bytes : List ℕ) (count : ℕ) → length bytes ≡ 8 → HasPlaces t (strip bytes 0) count
 literal_places t bytes count long = record { step = omega arith; inside = λ k below. let most = size_most t in omega arith }
+
+pub literal_results : (r : Rows) (loads : ℕ → ℕ → Option ℤ) (count a step : ℕ) (y : ℤ) (row : Row) (t : Dtype) (bytes literal : List ℕ) → a < r.number → slice_get r.code a ≡ Some (Const y) → slice_get r.rows a ≡ Some row
+    → bytes ≡ literal → step ≡ 0 → length literal ≡ 8 → element_at Little t literal 0 ≡ y → HasResultsOf r loads count a t (strip bytes step)
+literal_results r loads count a step y row t bytes literal b code own e none long is =
+    let P : List ℕ → Type 0 = λ bytes. HasResultsOf r loads count a t (strip bytes step) in
+    let Q : ℕ → Type 0 = λ step. HasResultsOf r loads count a t (strip literal step) in
+    subst P (sym e) (subst Q (sym none) record {
+      places = literal_places t literal count long;
+      elements = λ k results below stand.
+          let there = result_there r (loads k) k a results stand b in
+          let rests : 0 * k ≡ 0 = omega arith in
+          there ∙ ap Some (stand.each a (get_or results a (pos 0)) (Const y) row there code own ∙ sym (ap (element_at Little t literal) rests ∙ is));
+    })
+
+-- ---- an argument of another type
+
+-- what a conversion to a type leaves to which its argument's is promoted
+pub converted_same : (from t : Dtype) (x : Strip) (part more : List ℕ) (count : ℕ) → promotion from t ≡ Some t → length part ≡ count * size_of t → HasResults (call.One Astype from t) x x x part
+    → HasSameElements from x t (strip (part ++ more) 1) count
+converted_same from t x part more count p long results = record {
+  places = record {
+    step = omega arith;
+    inside = λ k below. let room = fits k below in let all = length-append part more in let once : 1 * k * size_of t ≡ k * size_of t = ap (λ j. j * size_of t) (single k) in omega arith;
+  };
+  same = λ k below.
+      let v = strip_element from x k in
+      let range : InRange t v = first_in_range from t t p v (InRange-element_at Little from x.bytes (x.step * k)) in
+      let read : element_at Little t part k ≡ wrapped t v =
+      element_at_own Little t part k ∙ ap (λ own. element_at Little t own 0) (results k (fits k below)) ∙ element_at-element_bytes_in_range Little t (wrapped t v) (InRange-op1 Astype t v) in
+      ap (element_at Little t (part ++ more)) (single k) ∙ element_in_front t part more 0 k (let room = fits k below in omega arith) ∙ read ∙ wrapped_in_range t v range;
+}
+  where
+    single : (k : ℕ) → 1 * k ≡ k
+    single k = omega arith
+
+    fits : (k : ℕ) → k < count → k * size_of t + size_of t ≤ length part
+    fits k below = let last : suc k * size_of t ≤ count * size_of t = mul-le-mul_right (size_of t) (let l : suc k ≤ count = omega arith in l) in omega arith
+
+pub own_type_same : (from t : Dtype) (x : Strip) (count : ℕ) → from ≡ t → HasPlaces from x count → HasSameElements from x t x count
+own_type_same from t x count e places =
+    let P : Dtype → Type 0 = λ t. HasSameElements from x t x count in
+    subst P e record { places = places; same = λ k below. refl }
 
 -- ---- what a step leaves
 

@@ -1,31 +1,34 @@
 -- A row of places, between two steps of a kernel.
-use Rattle.std.proofs.Common.{◌≡◌, ◌≢◌, ℕ, ◌+◌, ◌-◌, ◌*◌, ◌<◌, ◌≤◌, List, [], ◌∷◌, ◌++◌, length, take, drop, Option, None, Some, refl, ap, sym, ◌∙◌, subst, arith, ℤ, ⊎_elim, length-append}
+use Rattle.std.proofs.Common.{◌≡◌, ◌≢◌, ℕ, ◌+◌, ◌-◌, ◌*◌, ◌<◌, ◌≤◌, List, [], ◌∷◌, ◌++◌, length, take, drop, get_or, Option, None, Some, refl, ap, sym, ◌∙◌, subst, arith, ℤ, ⊎_elim, length-append, Bool as Test, false, IsTrue}
 use Rattle.std.specs.List.{slice_get}
 use Rattle.std.specs.Option.{option_map, option_and_then}
-use Rattle.std.proofs.lemmas.Option.{same_Some, slice_get_within}
+use Rattle.std.proofs.lemmas.Option.{same_Some, slice_get-get_or}
 use Rattle.std.proofs.lemmas.List.{drop-drop, take_at, drop_at}
 use Rattle.cu_num.specs.Dtype.{size_of}
 use Rattle.cu_num.specs.Element.{element_at}
 use Rattle.cu_num.proofs.ElementBytes.{element_at_same}
 use Rattle.cu_num.specs.declared.types.Dtype.{Dtype}
+use Rattle.cu_num.specs.declared.types.Dtype.TheVariants.{Bool}
 use Rattle.cu_num.specs.declared.layout.Endian.TheVariants.{Little}
 use Rattle.cu_op.specs.declared.kernel.Instr.{Instr}
 use Rattle.cu_op.specs.declared.kernel.Instr.TheVariants.{Load, Const, One, Two, Select}
 use Rattle.cu_op.specs.Kernel.{results_from, last_of, kernel_value, instruction_value}
 use Rattle.cu_kern.specs.Lays.{HasValue, lay_element, loaded_at}
+use Rattle.cu_kern.specs.declared.rows.Row.{Row}
+use Rattle.cu_shape.specs.Index.{index_at}
 use Rattle.cu_kern.specs.declared.lays.Lay.{Lay}
-use Rattle.cu_kern.specs.Rows.{Rows, step_rows, StandsAt, HasStepResults, RowsAt, Computes, Leaves}
+use Rattle.cu_kern.specs.Rows.{Rows, step_rows, rows_before, loads_along, Stands, HasElement, HasStepResults, RowsAt, Computes, Leaves}
 use Rattle.cu_kern.proofs.Parts.{part_inside, has_value_element}
 use Rattle.cu_kern.proofs.Running.{slice_get_push}
 
 -- ---- what stands in a row stands in another that begins alike
 
-stands_moved : (i : Instr) (t : Dtype) (old new : List ℕ) (k : ℕ) (x : ℤ) → (k * size_of t + size_of t ≤ 1024 → element_at Little t new k ≡ element_at Little t old k) → StandsAt i t old k x → StandsAt i t new k x
-stands_moved (Load j) t old new k x same h = (h.0, same h.0 ∙ h.1)
-stands_moved (Const y) t old new k x same h = h
-stands_moved (One f s a) t old new k x same h = (h.0, same h.0 ∙ h.1)
-stands_moved (Two f s a b) t old new k x same h = (h.0, same h.0 ∙ h.1)
-stands_moved (Select c a b) t old new k x same h = (h.0, same h.0 ∙ h.1)
+pub stands_there : (i : Instr) (kept : Test) (load : ℕ → Option ℤ) (x : ℤ) (A B : Type 0) → (A → B) → Stands i kept load x A → Stands i kept load x B
+stands_there (Load j) kept load x A B f h = (h.0, λ is. f (h.1 is))
+stands_there (Const y) kept load x A B f h = h
+stands_there (One g s a) kept load x A B f h = f h
+stands_there (Two g s a b) kept load x A B f h = f h
+stands_there (Select c a b) kept load x A B f h = f h
 
 -- an element that lies in the front of a list
 pub element_in_front : (t : Dtype) (front back : List ℕ) (j k : ℕ) → j + (k * size_of t + size_of t) ≤ length front → element_at Little t (drop j (front ++ back)) k ≡ element_at Little t (drop j front) k
@@ -37,59 +40,62 @@ element_in_front t front back j k h =
     ∙ ap (take (size_of t)) (sym (drop-drop (k * size_of t) j front)))
 
 -- the results of the first steps stand in their rows whatever lies behind
-rows_moved : (code : List Instr) (kinds : List Dtype) (old new : List ℕ) (number k : ℕ) (results : List ℤ)
-    → ((t : Dtype) (a : ℕ) → a < number → k * size_of t + size_of t ≤ 1024 → element_at Little t (drop (1024 * a) new) k ≡ element_at Little t (drop (1024 * a) old) k)
-    → HasStepResults (step_rows code kinds old number) k results → HasStepResults (step_rows code kinds new number) k results
-rows_moved code kinds old new number k results same h = record {
+pub rows_front : (code : List Instr) (rows : List Row) (front back : List ℕ) (number filled k : ℕ) (load : ℕ → Option ℤ) (results : List ℤ) → filled ≤ length front
+    → HasStepResults (step_rows code rows (front ++ back) number filled) load k results → HasStepResults (rows_before code rows front number) load k results
+rows_front code rows front back number filled k load results short h = record {
   done = h.done;
-  each = λ a x i t there is kind.
-      let done = h.done in
-      let b = slice_get_within results a x there in
-      stands_moved i t (drop (1024 * a) old) (drop (1024 * a) new) k x (same t a (omega arith)) (h.each a x i t there is kind);
+  each = λ a x i s there is row. stands_there i s.kept load x (HasElement s.dtype s.at filled (front ++ back) k x) (HasElement s.dtype s.at (length front) front k x)
+      (λ (inside, same). (omega arith, sym (element_in_front s.dtype front back s.at k (omega arith)) ∙ same)) (h.each a x i s there is row);
 }
 
-pub rows_front : (code : List Instr) (kinds : List Dtype) (front back : List ℕ) (number k : ℕ) (results : List ℤ) → length front ≡ 1024 * number → HasStepResults (step_rows code kinds (front ++ back) number) k results → HasStepResults (step_rows code kinds front number) k results
-rows_front code kinds front back number k results long h = rows_moved code kinds (front ++ back) front number k results (λ t a b fits. sym (element_in_front t front back (1024 * a) k (omega arith))) h
-
-pub rows_behind : (code : List Instr) (kinds : List Dtype) (front back : List ℕ) (number k : ℕ) (results : List ℤ) → length front ≡ 1024 * number → HasStepResults (step_rows code kinds front number) k results → HasStepResults (step_rows code kinds (front ++ back) number) k results
-rows_behind code kinds front back number k results long h = rows_moved code kinds front (front ++ back) number k results (λ t a b fits. element_in_front t front back (1024 * a) k (omega arith)) h
+pub rows_behind : (code : List Instr) (rows : List Row) (front back : List ℕ) (number filled k : ℕ) (load : ℕ → Option ℤ) (results : List ℤ) → length front ≤ filled
+    → HasStepResults (rows_before code rows front number) load k results → HasStepResults (step_rows code rows (front ++ back) number filled) load k results
+rows_behind code rows front back number filled k load results long h = record {
+  done = h.done;
+  each = λ a x i s there is row. stands_there i s.kept load x (HasElement s.dtype s.at (length front) front k x) (HasElement s.dtype s.at filled (front ++ back) k x)
+      (λ (inside, same). (omega arith, element_in_front s.dtype front back s.at k inside ∙ same)) (h.each a x i s there is row);
+}
 
 -- ---- one step more
 
-pub begin_rows : (code : List Instr) (kinds : List Dtype) (bytes : List ℕ) (load : ℕ → Option ℤ) (k : ℕ) → RowsAt (step_rows code kinds bytes 0) load k
-begin_rows code kinds bytes load k = record { results = []; stand = record { done = refl; each = λ a x i t e is kind. cc }; value = refl }
+pub begin_rows : (code : List Instr) (rows : List Row) (bytes : List ℕ) (load : ℕ → Option ℤ) (k : ℕ) → RowsAt (step_rows code rows bytes 0 0) load k
+begin_rows code rows bytes load k = record { results = []; stand = record { done = refl; each = λ a x i s e is row. cc }; value = refl }
 
-pub next_rows : (code : List Instr) (kinds : List Dtype) (bank front back row : List ℕ) (number count k : ℕ) (i : Instr) (t : Dtype) (loads : ℕ → ℕ → Option ℤ)
-    → bank ≡ front ++ back → length front ≡ 1024 * number → drop number code ≡ i ∷ drop (number + 1) code → slice_get code number ≡ Some i → slice_get kinds number ≡ Some t → k < count
-    → RowsAt (step_rows code kinds bank number) (loads k) k → Leaves i t (step_rows code kinds front number) loads count row → RowsAt (step_rows code kinds (front ++ row) (number + 1)) (loads k) k
-next_rows code kinds bank front back row number count k i t loads e long more here kind below at leaves =
+-- the row that a step leaves begins where the bytes before it end
+element_left : (t : Dtype) (front rest : List ℕ) (at used k : ℕ) (x : ℤ) → length front ≡ at → HasElement t 0 used rest k x → HasElement t at (at + used) (front ++ rest) k x
+element_left t front rest at used k x long (inside, same) = (omega arith, ap (λ bytes. element_at Little t bytes k) (drop_at front rest at long) ∙ same)
+
+pub next_rows : (code : List Instr) (rows : List Row) (bank front back rest : List ℕ) (number filled count used k : ℕ) (i : Instr) (s : Row) (loads : ℕ → ℕ → Option ℤ)
+    → bank ≡ front ++ back → length front ≡ s.at → filled ≤ s.at → drop number code ≡ i ∷ drop (number + 1) code → slice_get code number ≡ Some i → slice_get rows number ≡ Some s → k < count
+    → RowsAt (step_rows code rows bank number filled) (loads k) k → Leaves i s (rows_before code rows front number) loads count used rest → RowsAt (step_rows code rows (front ++ rest) (number + 1) (s.at + used)) (loads k) k
+next_rows code rows bank front back rest number filled count used k i s loads e long less more here own below at leaves =
     let results = at.results in
-    let P : List ℕ → Type 0 = λ bytes. HasStepResults (step_rows code kinds bytes number) k results in
-    let stand : HasStepResults (step_rows code kinds front number) k results = rows_front code kinds front back number k results long (subst P e at.stand) in
+    let load = loads k in
+    let P : List ℕ → Type 0 = λ bytes. HasStepResults (step_rows code rows bytes number filled) load k results in
+    let stand : HasStepResults (rows_before code rows front number) load k results = rows_front code rows front back number filled k load results (omega arith) (subst P e at.stand) in
     let (x, value, stands) = leaves k results below stand in
-    let old = rows_behind code kinds front row number k results long stand in
+    let old = rows_behind code rows front rest number (s.at + used) k load results (omega arith) stand in
     let done = stand.done in
-    let row_is : drop (1024 * number) (front ++ row) ≡ row = drop_at front row (1024 * number) long in
+    let new : Stands i s.kept load x (HasElement s.dtype s.at (s.at + used) (front ++ rest) k x) =
+    stands_there i s.kept load x (HasElement s.dtype 0 used rest k x) (HasElement s.dtype s.at (s.at + used) (front ++ rest) k x) (element_left s.dtype front rest s.at used k x long) stands in
     record {
       results = results ++ x ∷ [];
       stand = record {
         done = length-append results (x ∷ []) ∙ omega arith;
-        each = λ a y j s there is type. ⊎_elim
-            (λ before. old.each a y j s before is type)
+        each = λ a y j r there is row. ⊎_elim
+            (λ before. old.each a y j r before is row)
             (λ (last, same).
             let same_place : a ≡ number = last ∙ done in
             let same_step : i ≡ j = same_Some i j (sym here ∙ ap (slice_get code) (sym same_place) ∙ is) in
-            let same_type : t ≡ s = same_Some t s (sym kind ∙ ap (slice_get kinds) (sym same_place) ∙ type) in
-            let at_row : row ≡ drop (1024 * a) (front ++ row) = sym row_is ∙ ap (λ m. drop (1024 * m) (front ++ row)) (sym same_place) in
-            let A : Instr → Type 0 = λ j. StandsAt j s (drop (1024 * a) (front ++ row)) k y in
-            let B : Dtype → Type 0 = λ s. StandsAt i s (drop (1024 * a) (front ++ row)) k y in
-            let C : List ℕ → Type 0 = λ r. StandsAt i t r k y in
-            let D : ℤ → Type 0 = λ z. StandsAt i t row k z in
-            subst A same_step (subst B same_type (subst C at_row (subst D same stands))))
+            let same_row : s ≡ r = same_Some s r (sym own ∙ ap (slice_get rows) (sym same_place) ∙ row) in
+            let A : Instr → Type 0 = λ j. Stands j r.kept load y (HasElement r.dtype r.at (s.at + used) (front ++ rest) k y) in
+            let B : Row → Type 0 = λ r. Stands i r.kept load y (HasElement r.dtype r.at (s.at + used) (front ++ rest) k y) in
+            let C : ℤ → Type 0 = λ y. Stands i s.kept load y (HasElement s.dtype s.at (s.at + used) (front ++ rest) k y) in
+            subst A same_step (subst B same_row (subst C same new)))
             (slice_get_push results x y a there);
       };
-      value = at.value ∙ ap (λ is. option_and_then last_of (results_from is (loads k) results)) more
-          ∙ ap (λ o. option_and_then last_of (option_and_then (λ x. results_from (drop (number + 1) code) (loads k) (results ++ x ∷ [])) o)) value;
+      value = at.value ∙ ap (λ is. option_and_then last_of (results_from is load results)) more
+          ∙ ap (λ o. option_and_then last_of (option_and_then (λ x. results_from (drop (number + 1) code) load (results ++ x ∷ [])) o)) value;
     }
 
 -- ---- the last step
@@ -107,38 +113,56 @@ ends_with : (t : Dtype) (out : List ℕ) (k : ℕ) (results : List ℤ) (v : Opt
 ends_with t out k results None h = absurd h
 ends_with t out k results (Some x) h = let P : Option ℤ → Type 0 = HasValue t out k in subst P (sym (last_pushed results x)) h
 
-pub ended_rows : (code : List Instr) (kinds : List Dtype) (bank out : List ℕ) (last k : ℕ) (i : Instr) (t : Dtype) (loads : ℕ → ℕ → Option ℤ) → drop last code ≡ i ∷ [] → k * size_of t + size_of t ≤ length out
-    → RowsAt (step_rows code kinds bank last) (loads k) k → Computes i t (step_rows code kinds bank last) loads out → HasValue t out k (kernel_value code (loads k))
-ended_rows code kinds bank out last k i t loads e room at computes =
+pub ended_rows : (code : List Instr) (rows : List Row) (bank front back out : List ℕ) (last filled k : ℕ) (i : Instr) (t : Dtype) (loads : ℕ → ℕ → Option ℤ) → bank ≡ front ++ back → filled ≤ length front
+    → drop last code ≡ i ∷ [] → k * size_of t + size_of t ≤ length out → RowsAt (step_rows code rows bank last filled) (loads k) k → Computes i t (rows_before code rows front last) loads out → HasValue t out k (kernel_value code (loads k))
+ended_rows code rows bank front back out last filled k i t loads same short e room at computes =
     let P : Option ℤ → Type 0 = HasValue t out k in
-    subst P (sym (at.value ∙ ap (λ is. option_and_then last_of (results_from is (loads k) at.results)) e)) (ends_with t out k at.results (instruction_value i (loads k) at.results) (computes k at.results room at.stand))
+    let Q : List ℕ → Type 0 = λ bytes. HasStepResults (step_rows code rows bytes last filled) (loads k) k at.results in
+    let stand = rows_front code rows front back last filled k (loads k) at.results short (subst Q same at.stand) in
+    subst P (sym (at.value ∙ ap (λ is. option_and_then last_of (results_from is (loads k) at.results)) e)) (ends_with t out k at.results (instruction_value i (loads k) at.results) (computes k at.results room stand))
 
 -- ---- a step that leaves its row
 
-from_value : (i : Instr) (t : Dtype) (out more : List ℕ) (k : ℕ) (v : Option ℤ) → ((y : ℤ) → i ≢ Const y) → k * size_of t + size_of t ≤ length out → k * size_of t + size_of t ≤ 1024 → HasValue t out k v
-    → (x : ℤ) × (v ≡ Some x) × StandsAt i t (out ++ more) k x
-from_value i t out more k v other room short h =
-    let is = (has_value_element t out k v h).0 in
-    (element_at Little t out k, is, stands i other)
+from_value : (i : Instr) (kept : Test) (t : Dtype) (out more : List ℕ) (k used : ℕ) (load : ℕ → Option ℤ) (results : List ℤ) → ((y : ℤ) → i ≢ Const y) → k * size_of t + size_of t ≤ length out → length out ≤ used
+    → HasValue t out k (instruction_value i load results) → (x : ℤ) × (instruction_value i load results ≡ Some x) × Stands i kept load x (HasElement t 0 used (out ++ more) k x)
+from_value i kept t out more k used load results other room short h = (element_at Little t out k, is, stands i other is)
   where
-    same : element_at Little t (out ++ more) k ≡ element_at Little t out k
-    same = element_in_front t out more 0 k (omega arith)
+    is : instruction_value i load results ≡ Some (element_at Little t out k)
+    is = (has_value_element t out k (instruction_value i load results) h).0
 
-    stands : (i : Instr) → ((y : ℤ) → i ≢ Const y) → StandsAt i t (out ++ more) k (element_at Little t out k)
-    stands (Load j) other = (short, same)
-    stands (Const y) other = absurd (other y refl)
-    stands (One f s a) other = (short, same)
-    stands (Two f s a b) other = (short, same)
-    stands (Select c a b) other = (short, same)
+    row : HasElement t 0 used (out ++ more) k (element_at Little t out k)
+    row = (omega arith, element_in_front t out more 0 k (omega arith))
 
-pub left_of_computed : (i : Instr) (t : Dtype) (r : Rows) (loads : ℕ → ℕ → Option ℤ) (count : ℕ) (out more : List ℕ) → ((y : ℤ) → i ≢ Const y) → ((k : ℕ) → k < count → k * size_of t + size_of t ≤ length out)
-    → length out ≤ 1024 → Computes i t r loads out → Leaves i t r loads count (out ++ more)
-left_of_computed i t r loads count out more other room short computes k results below stand =
+    stands : (i : Instr) → ((y : ℤ) → i ≢ Const y) → instruction_value i load results ≡ Some (element_at Little t out k) → Stands i kept load (element_at Little t out k) (HasElement t 0 used (out ++ more) k (element_at Little t out k))
+    stands (Load j) other is = (is, λ b. row)
+    stands (Const y) other is = absurd (other y refl)
+    stands (One f s a) other is = row
+    stands (Two f s a b) other is = row
+    stands (Select c a b) other is = row
+
+pub left_of_computed : (i : Instr) (s : Row) (r : Rows) (loads : ℕ → ℕ → Option ℤ) (count used : ℕ) (out more : List ℕ) → ((y : ℤ) → i ≢ Const y)
+    → ((k : ℕ) → k < count → k * size_of s.dtype + size_of s.dtype ≤ length out) → length out ≤ used → Computes i s.dtype r loads out → Leaves i s r loads count used (out ++ more)
+left_of_computed i s r loads count used out more other room short computes k results below stand =
     let fits = room k below in
-    from_value i t out more k (instruction_value i (loads k) results) other fits (omega arith) (computes k results fits stand)
+    from_value i s.kept s.dtype out more k used (loads k) results other fits short (computes k results fits stand)
 
-pub left_of_literal : (y : ℤ) (t : Dtype) (r : Rows) (loads : ℕ → ℕ → Option ℤ) (count : ℕ) (row : List ℕ) → Leaves (Const y) t r loads count row
-left_of_literal y t r loads count row k results below stand = (y, refl, refl)
+pub left_of_literal : (y : ℤ) (s : Row) (r : Rows) (loads : ℕ → ℕ → Option ℤ) (count used : ℕ) (rest : List ℕ) → Leaves (Const y) s r loads count used rest
+left_of_literal y s r loads count used rest k results below stand = (y, refl, refl)
+
+-- what is loaded where no row is kept
+pub left_in_place : (j : ℕ) (s : Row) (r : Rows) (lays : List Lay) (ins dims : List ℕ) (from count used : ℕ) (rest : List ℕ) → s.kept ≡ false → j < length lays
+    → Leaves (Load j) s r (loads_along lays ins dims from) count used rest
+left_in_place j s r lays ins dims from count used rest none below k results less stand =
+    let l = get_or lays j d in
+    let there : slice_get lays j ≡ Some l = slice_get-get_or lays j d below in
+    let is = ap (option_map (λ l. lay_element l ins (index_at dims (from + k)))) there in
+    (lay_element l ins (index_at dims (from + k)), is, (is, λ said. absurd (tells said)))
+  where
+    d : Lay
+    d = record { at = 0; dtype = Bool; dims = [] }
+
+    tells : IsTrue s.kept → ⊥
+    tells said = subst (λ (b : Test). IsTrue b → ⊥) (sym none) (λ h. cc) said
 
 -- ---- a step that loads
 

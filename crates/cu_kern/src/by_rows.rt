@@ -1,109 +1,95 @@
 //! Kernels of several steps over whole regions, a row of places at a time.
-ghost use Rattle.std.specs.Prelude.{◌≡◌, ◌+◌, ◌*◌, ◌^◌, ◌≤◌, ◌<◌, ℕ, All, IsTrue, length};
+ghost use Rattle.std.specs.Prelude.{◌≡◌, ◌+◌, ◌*◌, ◌^◌, ◌≤◌, ◌<◌, ℕ, All, IsTrue, IfSome, length};
 ghost use Rattle.cu_num.specs.Dtype.{size_of};
 ghost use Rattle.cu_shape.specs.Index.{product};
 ghost use Rattle.cu_kern.specs.Lays.{LayFits, HasValue};
-ghost use Rattle.cu_kern.specs.Steps.{loaded_by_place, value_by_place};
-ghost use Rattle.cu_kern.specs.Rows.{step_rows, RowsAt};
+ghost use Rattle.cu_kern.specs.Steps.{value_by_place};
+ghost use Rattle.cu_kern.specs.Rows.{step_rows, loads_along, RowsAt};
 
 use crate::lays::Lay;
-use crate::rows::{Earlier, Span, WIDTH, is_literal, kind_at, leave_row, row_of_step, step_at};
+use crate::rows::{Earlier, Plan, Row, Span, is_literal, kind_at, leave_row, row_of_step, step_at};
 use crate::sources::Inputs;
-use cu_num::{Dtype, result1, result2, size};
+use cu_num::{Dtype, promote, result1, result2, size};
 use cu_op::Instr;
 
 /// The most steps of a kernel.
 const STEPS: usize = 32;
 
-/// The steps of a kernel, and the types that their rows are guessed to have.
-#[derive(Clone, Copy)]
-pub(crate) struct Plan<'a> {
-    pub(crate) code: &'a [Instr],
-    pub(crate) kinds: &'a [Dtype],
-}
+/// The bytes of the largest bank: with as many of the regions and the result they stay in the first cache.
+const BANK: usize = 24576;
 
-/// The rows of the first `last` steps; `false` where one isn't of its type or too short.
-fn leave_rows(plan: Plan<'_>, inputs: Inputs<'_>, span: Span, last: usize, bank: &mut [u8]) -> bool
+/// The most bytes of a row. Rows of 4,096 bytes were measured to be slower, since all then lie alike within a page.
+const WIDTH: usize = 3072;
+
+/// Rows begin at multiples of so many bytes.
+const LINE: usize = 64;
+
+/// The rows of the first `last` steps, and how many bytes of the bank they fill; none where one isn't of its type or has no room.
+fn leave_rows(plan: Plan<'_>, span: Span, last: usize, bank: &mut [u8]) -> Option<usize>
     requires steps { last ≤ length plan.code.now }
-    requires kinds { last ≤ length plan.kinds.now }
-    requires bank { 1024 * last ≤ length bank.old }
-    requires lays { All (LayFits inputs.dims.now (length inputs.ins.now)) inputs.lays.now }
-    requires small { product inputs.dims.now < 2 ^ 63 }
-    requires within { span.from + span.count ≤ product inputs.dims.now }
-    ensures { IsTrue result → (k : ℕ) → k < span.count → RowsAt (step_rows plan.entry.code.now plan.entry.kinds.now bank.new last)
-        (loaded_by_place inputs.entry.lays.now inputs.entry.ins.now inputs.entry.dims.now (span.from + k)) k }
+    requires rows { last ≤ length plan.rows.now }
+    requires lays { All (LayFits plan.inputs.dims.now (length plan.inputs.ins.now)) plan.inputs.lays.now }
+    requires small { product plan.inputs.dims.now < 2 ^ 63 }
+    requires within { span.from + span.count ≤ product plan.inputs.dims.now }
+    ensures stand { IfSome result (λ filled. (k : ℕ) → k < span.count → RowsAt (step_rows plan.entry.code.now plan.entry.rows.now bank.new last filled)
+        (loads_along plan.entry.inputs.lays.now plan.entry.inputs.ins.now plan.entry.inputs.dims.now span.from k) k) }
+    ensures room { IfSome result (λ filled. filled ≤ length bank.new) }
 {
+    let mut filled = 0;
     for number in 0..last {
-        let (before, rest) = bank.split_at_mut(WIDTH * number);
+        let row = plan.rows[number];
+        if row.at < filled || row.at > bank.len() {
+            return None;
+        }
+        let (before, rest) = bank.split_at_mut(row.at);
         let earlier = Earlier {
-            code: plan.code,
-            kinds: plan.kinds,
+            plan,
+            span,
             bytes: before,
             number,
         };
-        if !leave_row(
-            plan.code[number],
-            plan.kinds[number],
-            earlier,
-            inputs,
-            span,
-            rest,
-        ) {
-            return false;
-        }
+        let Some(used) = leave_row(plan.code[number], row, earlier, rest) else {
+            return None;
+        };
+        filled = row.at + used;
     }
-    true
+    Some(filled)
 }
 
 /// The elements of the kernel's result at a row of places; `false` where types differ.
-fn run_row(
-    plan: Plan<'_>,
-    t: Dtype,
-    inputs: Inputs<'_>,
-    span: Span,
-    bank: &mut [u8],
-    out: &mut [u8],
-) -> bool
+fn run_row(plan: Plan<'_>, t: Dtype, span: Span, bank: &mut [u8], out: &mut [u8]) -> bool
     requires some { 0 < length plan.code.now }
-    requires kinds { length plan.code.now ≤ length plan.kinds.now }
-    requires bank { 1024 * length plan.code.now ≤ length bank.old }
-    requires lays { All (LayFits inputs.dims.now (length inputs.ins.now)) inputs.lays.now }
-    requires small { product inputs.dims.now < 2 ^ 63 }
-    requires within { span.from + span.count ≤ product inputs.dims.now }
+    requires rows { length plan.code.now ≤ length plan.rows.now }
+    requires lays { All (LayFits plan.inputs.dims.now (length plan.inputs.ins.now)) plan.inputs.lays.now }
+    requires small { product plan.inputs.dims.now < 2 ^ 63 }
+    requires within { span.from + span.count ≤ product plan.inputs.dims.now }
     requires room { length out.old ≡ span.count * size_of t }
     ensures { IsTrue result → (k : ℕ) → k < span.count
-        → HasValue t out.new k (value_by_place plan.entry.code.now inputs.entry.lays.now inputs.entry.ins.now inputs.entry.dims.now (span.from + k)) }
+        → HasValue t out.new k (value_by_place plan.entry.code.now plan.entry.inputs.lays.now plan.entry.inputs.ins.now plan.entry.inputs.dims.now (span.from + k)) }
 {
     let last = plan.code.len() - 1;
-    if !leave_rows(plan, inputs, span, last, bank) {
+    let Some(filled) = leave_rows(plan, span, last, bank) else {
         return false;
-    }
+    };
+    let (before, spare) = bank.split_at_mut(filled);
     let earlier = Earlier {
-        code: plan.code,
-        kinds: plan.kinds,
-        bytes: bank,
+        plan,
+        span,
+        bytes: before,
         number: last,
     };
-    row_of_step(plan.code[last], t, earlier, inputs, span, out)
+    row_of_step(plan.code[last], t, earlier, out, spare)
 }
 
 /// The elements of the kernel's result, rows of at most `most` places at a time; `false` where types differ.
-fn run_each(
-    plan: Plan<'_>,
-    t: Dtype,
-    inputs: Inputs<'_>,
-    most: usize,
-    bank: &mut [u8],
-    out: &mut [u8],
-) -> bool
+fn run_each(plan: Plan<'_>, t: Dtype, most: usize, bank: &mut [u8], out: &mut [u8]) -> bool
     requires some { 0 < length plan.code.now }
     requires most { 0 < most }
-    requires kinds { length plan.code.now ≤ length plan.kinds.now }
-    requires bank { 1024 * length plan.code.now ≤ length bank.old }
-    requires lays { All (LayFits inputs.dims.now (length inputs.ins.now)) inputs.lays.now }
-    requires out { length out.old ≡ product inputs.dims.now * size_of t }
-    ensures { IsTrue result → (p : ℕ) → p < product inputs.entry.dims.now
-        → HasValue t out.new p (value_by_place plan.entry.code.now inputs.entry.lays.now inputs.entry.ins.now inputs.entry.dims.now p) }
+    requires rows { length plan.code.now ≤ length plan.rows.now }
+    requires lays { All (LayFits plan.inputs.dims.now (length plan.inputs.ins.now)) plan.inputs.lays.now }
+    requires out { length out.old ≡ product plan.inputs.dims.now * size_of t }
+    ensures { IsTrue result → (p : ℕ) → p < product plan.entry.inputs.dims.now
+        → HasValue t out.new p (value_by_place plan.entry.code.now plan.entry.inputs.lays.now plan.entry.inputs.ins.now plan.entry.inputs.dims.now p) }
 {
     let size = size(t) as usize;
     let all = out.len() / size;
@@ -115,7 +101,7 @@ fn run_each(
             count,
         };
         let part = &mut out[done * size..(done + count) * size];
-        if !run_row(plan, t, inputs, span, bank, part) {
+        if !run_row(plan, t, span, bank, part) {
             return false;
         }
         done += count;
@@ -123,7 +109,7 @@ fn run_each(
     true
 }
 
-/// The elements of a kernel whose steps take the types that earlier steps give; `false` where one takes another.
+/// The elements of a kernel of at most 32 steps; `false` where the rows weren't guessed right.
 #[inline(never)]
 pub(crate) fn run_by_rows(code: &[Instr], inputs: Inputs<'_>, t: Dtype, out: &mut [u8]) -> bool
     requires lays { All (LayFits inputs.dims.now (length inputs.ins.now)) inputs.lays.now }
@@ -134,57 +120,184 @@ pub(crate) fn run_by_rows(code: &[Instr], inputs: Inputs<'_>, t: Dtype, out: &mu
     if code.is_empty() || code.len() > STEPS {
         return false;
     }
-    let kinds = kinds_of(code, inputs.lays);
-    let most = places_of(&kinds);
-    let mut bank = [0; WIDTH * STEPS];
+    let mut rows = rows_of(code, inputs);
+    let most = places_of(code, &rows, out.len() / size(t) as usize);
+    let need = lay_out(code, most, &mut rows);
     let plan = Plan {
         code,
-        kinds: &kinds,
+        rows: &rows,
+        inputs,
     };
-    run_each(plan, t, inputs, most, &mut bank, out)
+    run_in_bank(plan, t, most, need, out)
 }
 
-/// The places for which rows of these types have room.
-fn places_of(kinds: &[Dtype; STEPS]) -> usize
-    ensures { 0 < result }
+/// `run_each` with a bank that has at least `need` bytes, where that is possible: what a small task doesn't use isn't zeroed.
+fn run_in_bank(plan: Plan<'_>, t: Dtype, most: usize, need: usize, out: &mut [u8]) -> bool
+    requires some { 0 < length plan.code.now }
+    requires most { 0 < most }
+    requires rows { length plan.code.now ≤ length plan.rows.now }
+    requires lays { All (LayFits plan.inputs.dims.now (length plan.inputs.ins.now)) plan.inputs.lays.now }
+    requires out { length out.old ≡ product plan.inputs.dims.now * size_of t }
+    ensures { IsTrue result → (p : ℕ) → p < product plan.entry.inputs.dims.now
+        → HasValue t out.new p (value_by_place plan.entry.code.now plan.entry.inputs.lays.now plan.entry.inputs.ins.now plan.entry.inputs.dims.now p) }
 {
-    let mut most = WIDTH;
-    for kind in kinds {
-        most = most.min(room_of(*kind));
+    if need <= 2048 {
+        let mut bank = [0; 2048];
+        run_each(plan, t, most, &mut bank, out)
+    } else if need <= 8192 {
+        let mut bank = [0; 8192];
+        run_each(plan, t, most, &mut bank, out)
+    } else {
+        let mut bank = [0; BANK];
+        run_each(plan, t, most, &mut bank, out)
     }
-    most
 }
 
-/// The elements of the type for which a row has room.
-fn room_of(kind: Dtype) -> usize
-    ensures { 0 < result }
-{
-    WIDTH / size(kind) as usize
-}
-
-/// The types that the rows of the steps are guessed to have.
-fn kinds_of(code: &[Instr], lays: &[Lay]) -> [Dtype; STEPS] {
-    let mut kinds = [Dtype::Bool; STEPS];
+/// The types that the rows of the steps are guessed to have, and whether they are kept.
+fn rows_of(code: &[Instr], inputs: Inputs<'_>) -> [Row; STEPS] {
+    let none = Row {
+        dtype: Dtype::Bool,
+        at: 0,
+        kept: true,
+    };
+    let mut rows = [none; STEPS];
     for number in 0..code.len().min(STEPS) {
-        kinds[number] = kind_of(code[number], code, lays, &kinds);
+        rows[number] = Row {
+            dtype: kind_of(code[number], code, inputs, &rows),
+            at: 0,
+            kept: is_kept(code[number], inputs),
+        };
     }
-    kinds
+    rows
+}
+
+/// Whether a row is kept of what the step loads: a region is read where it lies if it has as many elements as the result, or one.
+fn is_kept(instr: Instr, inputs: Inputs<'_>) -> bool {
+    let Instr::Load(j) = instr else {
+        return true;
+    };
+    if j as usize >= inputs.lays.len() {
+        return true;
+    }
+    match inputs.lays[j as usize].dims.elements() {
+        Some(own) => own != 1 && Some(own) != inputs.dims.elements(),
+        None => true,
+    }
+}
+
+/// Whether a step has bytes of the bank.
+fn has_bytes(instr: Instr, row: Row) -> bool {
+    row.kept && !is_literal(instr)
+}
+
+/// Whether an argument has the type, as a literal takes it.
+fn is_of(code: &[Instr], rows: &[Row; STEPS], a: u32, t: Dtype) -> bool {
+    is_literal(step_at(code, a)) || kind_at(rows, a) == t
+}
+
+/// The bytes of two elements where one of two arguments is converted to the type, else none.
+fn spare_for(t: Dtype, args: (u32, u32), code: &[Instr], rows: &[Row; STEPS]) -> usize {
+    let (a, b) = args;
+    if is_of(code, rows, a, t) && is_of(code, rows, b, t) {
+        return 0;
+    }
+    2 * size(t) as usize
+}
+
+/// The spare bytes of a step of this type for each place.
+fn spare_of(instr: Instr, own: Dtype, code: &[Instr], rows: &[Row; STEPS]) -> usize {
+    match instr {
+        Instr::Two(_, t, a, b) => spare_for(t, (a, b), code, rows),
+        Instr::Select(_, a, b) => spare_for(own, (a, b), code, rows),
+        _ => 0,
+    }
+}
+
+/// The most spare bytes of a step for each place.
+fn most_spare(code: &[Instr], rows: &[Row; STEPS]) -> usize {
+    let mut spare = 0;
+    for number in 0..code.len().min(STEPS) {
+        spare = spare_of(code[number], rows[number].dtype, code, rows).max(spare);
+    }
+    spare
+}
+
+/// The bytes of the rows of the steps before the last, for each place.
+fn bytes_of_rows(code: &[Instr], rows: &[Row; STEPS]) -> usize {
+    let mut bytes = 0usize;
+    for number in 0..code.len().saturating_sub(1).min(STEPS) {
+        if has_bytes(code[number], rows[number]) {
+            bytes = bytes.saturating_add(size(rows[number].dtype) as usize);
+        }
+    }
+    bytes
+}
+
+/// The places for which the bank and rows of so many bytes have room; all where no bytes are wanted.
+fn places_of(code: &[Instr], rows: &[Row; STEPS], all: usize) -> usize
+    ensures { 0 < result }
+{
+    let spare = most_spare(code, rows);
+    let each = bytes_of_rows(code, rows).saturating_add(spare);
+    if each == 0 {
+        return all.max(1);
+    }
+    let places = ((BANK - LINE * STEPS) / each).min(WIDTH / widest(code, rows, spare / 2).max(1)).min(all);
+    if places < LINE {
+        return places.max(1);
+    }
+    places / LINE * LINE
+}
+
+/// The bytes of the widest element of a row, and at least `least`.
+fn widest(code: &[Instr], rows: &[Row; STEPS], least: usize) -> usize {
+    let mut bytes = least;
+    for number in 0..code.len().min(STEPS) {
+        if has_bytes(code[number], rows[number]) {
+            bytes = bytes.max(size(rows[number].dtype) as usize);
+        }
+    }
+    bytes
+}
+
+/// Gives each row its place in the bank, and returns how many bytes are wanted.
+fn lay_out(code: &[Instr], most: usize, rows: &mut [Row; STEPS]) -> usize {
+    let mut at = 0usize;
+    for number in 0..code.len().min(STEPS) {
+        let row = rows[number];
+        rows[number] = Row { at, ..row };
+        if has_bytes(code[number], row) && number + 1 < code.len() {
+            let lines = most.saturating_mul(size(row.dtype) as usize) / LINE + 1;
+            at = at.saturating_add(lines.saturating_mul(LINE));
+        }
+    }
+    at.saturating_add(most.saturating_mul(most_spare(code, rows)))
 }
 
 /// The type of a step over steps of these types.
-fn kind_of(instr: Instr, code: &[Instr], lays: &[Lay], kinds: &[Dtype]) -> Dtype {
+fn kind_of(instr: Instr, code: &[Instr], inputs: Inputs<'_>, rows: &[Row]) -> Dtype {
     match instr {
-        Instr::Load(j) => kind_of_region(lays, j),
+        Instr::Load(j) => kind_of_region(inputs.lays, j),
         Instr::Const(_) => Dtype::Bool,
         Instr::One(f, t, _) => result1(f, t),
         Instr::Two(f, t, _, _) => result2(f, t),
         Instr::Select(_, a, b) => {
             if is_literal(step_at(code, a)) {
-                kind_at(kinds, b)
+                kind_at(rows, b)
+            } else if is_literal(step_at(code, b)) {
+                kind_at(rows, a)
             } else {
-                kind_at(kinds, a)
+                promoted(kind_at(rows, a), kind_at(rows, b))
             }
         }
+    }
+}
+
+/// The type to which two types are promoted, and the first where they aren't.
+fn promoted(a: Dtype, b: Dtype) -> Dtype {
+    match promote(a, b) {
+        Some(t) => t,
+        None => a,
     }
 }
 

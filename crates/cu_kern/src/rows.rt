@@ -1,9 +1,10 @@
-//! Steps of a kernel along a row of places: each leaves its results as elements in a row of bytes of its own. The types of the rows are
-//! guessed beforehand and tested at each step.
+//! Steps of a kernel along a row of places: each leaves its results as elements in a row of bytes of its own, in the width of its own
+//! type. The types of the rows are guessed beforehand and tested at each step.
 ghost use Rattle.std.specs.Prelude.{◌≡◌, ◌≢◌, ◌+◌, ◌*◌, ◌^◌, ◌≤◌, ◌<◌, ℕ, ℤ, List, [], All, IsTrue, IfSome, Some, Option, length, drop};
 ghost use Rattle.std.specs.List.{slice_get};
 ghost use Rattle.cu_num.specs.Dtype.{InRange, size_of};
 ghost use Rattle.cu_num.specs.Element.{element_at};
+ghost use Rattle.cu_num.specs.Promotion.{promotion};
 ghost use Rattle.cu_num.specs.Scalar.{result_type1, result_type2};
 ghost use Rattle.cu_num.specs.declared.layout.Endian.TheVariants.{Little};
 ghost use Rattle.cu_shape.specs.Index.{product, index_at};
@@ -11,26 +12,45 @@ ghost use Rattle.cu_op.specs.declared.kernel.Instr.TheVariants.{Load, Const, One
 ghost use Rattle.cu_op.specs.KernelTypes.{IsArgument};
 ghost use Rattle.cu_kern.specs.Lays.{LayFits, HasValue, lay_element};
 ghost use Rattle.cu_kern.specs.Strips.{strip, strip_element, HasPlaces};
-ghost use Rattle.cu_kern.specs.Steps.{loaded_by_place};
-ghost use Rattle.cu_kern.specs.Rows.{step_rows, Rows, HasStepResults, Computes, Leaves};
+ghost use Rattle.cu_kern.specs.Rows.{Rows, rows_before, loads_along, HasResultsOf, HasSameElements, Computes, Leaves};
 
 use crate::calls::Call;
-use crate::lays::{Lay, pace_of};
+use crate::lays::pace_of;
 use crate::sources::{Inputs, Source, left_in, spelled, strip_from};
 use crate::strip_functions::call_strips;
 use crate::strips::Strip;
-use cu_num::{Dtype, Fn1, Fn2, in_range, result1, result2, size};
+use cu_num::{Dtype, Fn1, Fn2, in_range, promote, result1, result2, size};
 use cu_op::Instr;
 use cu_shape::Dims;
 
-/// The bytes that a step has for its results.
-pub(crate) const WIDTH: usize = 1024;
+/// Where a step's results stand: elements of a type from a byte of the bank on. What is loaded has a row only where one is kept.
+#[derive(Clone, Copy)]
+pub(crate) struct Row {
+    pub(crate) dtype: Dtype,
+    pub(crate) at: usize,
+    pub(crate) kept: bool,
+}
 
-/// The steps of a kernel, the types of their rows, and the rows of the first `number` of them, one after another.
+/// The steps of a kernel, their rows, and what they load.
+#[derive(Clone, Copy)]
+pub(crate) struct Plan<'a> {
+    pub(crate) code: &'a [Instr],
+    pub(crate) rows: &'a [Row],
+    pub(crate) inputs: Inputs<'a>,
+}
+
+/// Places of the result: `count` from `from` on.
+#[derive(Clone, Copy)]
+pub(crate) struct Span {
+    pub(crate) from: u64,
+    pub(crate) count: usize,
+}
+
+/// The bytes of the rows of the first `number` steps, along some places.
 #[derive(Clone, Copy)]
 pub(crate) struct Earlier<'a> {
-    pub(crate) code: &'a [Instr],
-    pub(crate) kinds: &'a [Dtype],
+    pub(crate) plan: Plan<'a>,
+    pub(crate) span: Span,
     pub(crate) bytes: &'a [u8],
     pub(crate) number: usize,
 }
@@ -67,11 +87,11 @@ pub(crate) fn step_at(code: &[Instr], a: u32) -> Instr
 }
 
 /// The type of a step's row, and `Bool` where there is none.
-pub(crate) fn kind_at(kinds: &[Dtype], a: u32) -> Dtype {
-    if a as usize >= kinds.len() {
+pub(crate) fn kind_at(rows: &[Row], a: u32) -> Dtype {
+    if a as usize >= rows.len() {
         return Dtype::Bool;
     }
-    kinds[a as usize]
+    rows[a as usize].dtype
 }
 
 /// Whether a literal is a number of the type.
@@ -84,57 +104,152 @@ fn literal_fits(instr: Instr, t: Dtype) -> bool
     }
 }
 
-/// Whether so many elements of a row's type are of this type and have room in the row.
-fn fits_row(kind: Dtype, t: Dtype, count: usize) -> bool
-    ensures kind { IsTrue result → kind ≡ t }
-    ensures fits { IsTrue result → count * size_of t ≤ 1024 }
-{
-    if kind != t || count > WIDTH {
-        return false;
-    }
-    count * size(t) as usize <= WIDTH
+/// Elements along places, and their type.
+#[derive(Clone, Copy)]
+pub(crate) struct Typed<'a> {
+    pub(crate) strip: Strip<'a>,
+    pub(crate) dtype: Dtype,
 }
 
-/// The results of an earlier step as elements of the type; none where they are of another.
-fn argument<'a>(
+/// The elements of a row; none where it is too short.
+fn row_strip<'a>(bytes: &'a [u8], row: Row, count: usize) -> Option<Typed<'a>>
+    ensures places { IfSome result (λ s. HasPlaces s.dtype (strip s.strip.bytes.now s.strip.step) count) }
+    ensures elements { IfSome result (λ s. (k : ℕ) → k < count → strip_element s.dtype (strip s.strip.bytes.now s.strip.step) k ≡ element_at Little row.dtype (drop row.at bytes.now) k) }
+{
+    if row.at > bytes.len() {
+        return None;
+    }
+    let room = bytes.len() - row.at;
+    if room / (size(row.dtype) as usize) < count {
+        return None;
+    }
+    let strip = Strip {
+        bytes: &bytes[row.at..],
+        step: 1,
+    };
+    Some(Typed {
+        strip,
+        dtype: row.dtype,
+    })
+}
+
+/// The elements of a region at the places, where they lie; none where they lie in several runs.
+fn region_strip<'a>(inputs: Inputs<'a>, j: u32, span: Span) -> Option<Typed<'a>>
+    requires lays { All (LayFits inputs.dims.now (length inputs.ins.now)) inputs.lays.now }
+    requires small { product inputs.dims.now < 2 ^ 63 }
+    requires within { span.from + span.count ≤ product inputs.dims.now }
+    ensures places { IfSome result (λ s. HasPlaces s.dtype (strip s.strip.bytes.now s.strip.step) span.count) }
+    ensures elements { IfSome result (λ s. (k : ℕ) → k < span.count
+        → loads_along inputs.entry.lays.now inputs.entry.ins.now inputs.entry.dims.now span.from k j ≡ Some (strip_element s.dtype (strip s.strip.bytes.now s.strip.step) k)) }
+{
+    if j as usize >= inputs.lays.len() || span.count == 0 {
+        return None;
+    }
+    let lay = &inputs.lays[j as usize];
+    let pace = pace_of(&lay.dims, inputs.dims);
+    if span.from + span.count as u64 > pace.run {
+        return None;
+    }
+    let source = Source {
+        lay,
+        ins: inputs.ins,
+    };
+    Some(Typed {
+        strip: strip_from(source, pace, inputs.dims, span.from, span.count),
+        dtype: lay.dtype,
+    })
+}
+
+/// A literal as an element of the type, which `literal` has, for each place; none where it is none of the type.
+fn literal_strip<'a>(instr: Instr, t: Dtype, literal: &'a [u8; 8]) -> Option<Typed<'a>>
+    ensures range { IfSome result (λ s. (y : ℤ) → instr ≡ Const y → InRange t y) }
+    ensures dtype { IfSome result (λ s. s.dtype ≡ t) }
+    ensures bytes { IfSome result (λ s. s.strip.bytes.now ≡ literal.now) }
+    ensures step { IfSome result (λ s. s.strip.step ≡ 0) }
+{
+    if !literal_fits(instr, t) {
+        return None;
+    }
+    let strip = Strip {
+        bytes: literal,
+        step: 0,
+    };
+    Some(Typed { strip, dtype: t })
+}
+
+/// The results of an earlier step, of a literal as elements of the type; none where they aren't there.
+fn found<'a>(
     earlier: Earlier<'a>,
     a: u32,
     t: Dtype,
-    count: usize,
     literal: &'a [u8; 8],
-) -> Option<Strip<'a>>
-    requires literal { (y : ℤ) → slice_get earlier.code.now a ≡ Some (Const y) → InRange t y → element_at Little t literal.now 0 ≡ y }
-    ensures places { IfSome result (λ s. HasPlaces t (strip s.bytes.now s.step) count) }
-    ensures elements { IfSome result (λ s. (k : ℕ) (results : List ℤ) → k < count
-        → HasStepResults (step_rows earlier.entry.code.now earlier.entry.kinds.now earlier.entry.bytes.now earlier.entry.number) k results
-        → slice_get results a ≡ Some (strip_element t (strip s.bytes.now s.step) k)) }
+) -> Option<Typed<'a>>
+    requires lays { All (LayFits earlier.plan.inputs.dims.now (length earlier.plan.inputs.ins.now)) earlier.plan.inputs.lays.now }
+    requires small { product earlier.plan.inputs.dims.now < 2 ^ 63 }
+    requires within { earlier.span.from + earlier.span.count ≤ product earlier.plan.inputs.dims.now }
+    requires literal { (y : ℤ) → slice_get earlier.plan.code.now a ≡ Some (Const y) → InRange t y → element_at Little t literal.now 0 ≡ y }
+    ensures { IfSome result (λ s. HasResultsOf (rows_before earlier.entry.plan.code.now earlier.entry.plan.rows.now earlier.entry.bytes.now earlier.entry.number)
+        (loads_along earlier.entry.plan.inputs.lays.now earlier.entry.plan.inputs.ins.now earlier.entry.plan.inputs.dims.now earlier.entry.span.from) earlier.entry.span.count a s.dtype (strip s.strip.bytes.now s.strip.step)) }
 {
     let at = a as usize;
-    if at >= earlier.number || at >= earlier.code.len() || at >= earlier.kinds.len() {
+    if at >= earlier.number || at >= earlier.plan.code.len() || at >= earlier.plan.rows.len() {
         return None;
     }
-    if earlier.bytes.len() / WIDTH <= at {
-        return None;
+    let row = earlier.plan.rows[at];
+    match earlier.plan.code[at] {
+        Instr::Const(_) => literal_strip(earlier.plan.code[at], t, literal),
+        Instr::Load(j) => {
+            if row.kept {
+                row_strip(earlier.bytes, row, earlier.span.count)
+            } else {
+                region_strip(earlier.plan.inputs, j, earlier.span)
+            }
+        }
+        _ => row_strip(earlier.bytes, row, earlier.span.count),
     }
-    match earlier.code[at] {
-        Instr::Const(_) => {
-            if !literal_fits(earlier.code[at], t) {
-                return None;
-            }
-            Some(Strip {
-                bytes: literal,
-                step: 0,
-            })
-        }
-        _ => {
-            if !fits_row(earlier.kinds[at], t, count) {
-                return None;
-            }
-            Some(Strip {
-                bytes: &earlier.bytes[WIDTH * at..],
-                step: 1,
-            })
-        }
+}
+
+/// Writes elements as elements of a type to which theirs is promoted, where that is another; `false` where it isn't promoted to it.
+fn convert(x: Typed<'_>, t: Dtype, count: usize, out: &mut [u8]) -> bool
+    requires places { HasPlaces x.dtype (strip x.strip.bytes.now x.strip.step) count }
+    ensures { IsTrue result → x.entry.dtype ≢ t → HasSameElements x.entry.dtype (strip x.entry.strip.bytes.now x.entry.strip.step) t (strip out.new 1) count }
+{
+    if x.dtype == t {
+        return true;
+    }
+    match promote(x.dtype, t) {
+        Some(r) => r == t && convert_to(x, t, count, out),
+        None => false,
+    }
+}
+
+/// `convert` to another type.
+fn convert_to(x: Typed<'_>, t: Dtype, count: usize, out: &mut [u8]) -> bool
+    requires places { HasPlaces x.dtype (strip x.strip.bytes.now x.strip.step) count }
+    requires promoted { promotion x.dtype t ≡ Some t }
+    ensures { IsTrue result → HasSameElements x.entry.dtype (strip x.entry.strip.bytes.now x.entry.strip.step) t (strip out.new 1) count }
+{
+    let size = size(t) as usize;
+    if out.len() / size < count {
+        return false;
+    }
+    let part = &mut out[..count * size];
+    call_strips(Call::One(Fn1::Astype, x.dtype, t), x.strip, x.strip, x.strip, part);
+    true
+}
+
+/// The elements as elements of the type: their own, or those that `converted` has.
+fn in_type<'a>(x: Typed<'a>, t: Dtype, count: usize, converted: &'a [u8]) -> Strip<'a>
+    requires places { HasPlaces x.dtype (strip x.strip.bytes.now x.strip.step) count }
+    requires converted { x.dtype ≢ t → HasSameElements x.dtype (strip x.strip.bytes.now x.strip.step) t (strip converted.now 1) count }
+    ensures { HasSameElements x.entry.dtype (strip x.entry.strip.bytes.now x.entry.strip.step) t (strip result.bytes.now result.step) count }
+{
+    if x.dtype == t {
+        return x.strip;
+    }
+    Strip {
+        bytes: converted,
+        step: 1,
     }
 }
 
@@ -150,59 +265,105 @@ fn takes(f: Fn1, origin: Dtype, t: Dtype) -> bool
 
 /// A function of an earlier step; `false` where types differ.
 fn row_of_one(f: Fn1, t: Dtype, a: u32, earlier: Earlier<'_>, out: &mut [u8]) -> bool
-    ensures { IsTrue result → (loads : ℕ → ℕ → Option ℤ)
-        → Computes (One f t a) (result_type1 f t) (step_rows earlier.entry.code.now earlier.entry.kinds.now earlier.entry.bytes.now earlier.entry.number) loads out.new }
+    requires lays { All (LayFits earlier.plan.inputs.dims.now (length earlier.plan.inputs.ins.now)) earlier.plan.inputs.lays.now }
+    requires small { product earlier.plan.inputs.dims.now < 2 ^ 63 }
+    requires within { earlier.span.from + earlier.span.count ≤ product earlier.plan.inputs.dims.now }
+    requires room { length out.old ≡ earlier.span.count * size_of (result_type1 f t) }
+    ensures { IsTrue result → Computes (One f t a) (result_type1 f t) (rows_before earlier.entry.plan.code.now earlier.entry.plan.rows.now earlier.entry.bytes.now earlier.entry.number)
+        (loads_along earlier.entry.plan.inputs.lays.now earlier.entry.plan.inputs.ins.now earlier.entry.plan.inputs.dims.now earlier.entry.span.from) out.new }
 {
-    let origin = kind_at(earlier.kinds, a);
-    if !takes(f, origin, t) {
-        return false;
-    }
-    let count = out.len() / size(result1(f, t)) as usize;
-    let literal = literal_bytes(step_at(earlier.code, a), origin);
-    let Some(x) = argument(earlier, a, origin, count, &literal) else {
+    let literal = literal_bytes(step_at(earlier.plan.code, a), t);
+    let Some(x) = found(earlier, a, t, &literal) else {
         return false;
     };
-    call_strips(Call::One(f, origin, t), x, x, x, out);
+    if !takes(f, x.dtype, t) {
+        return false;
+    }
+    call_strips(Call::One(f, x.dtype, t), x.strip, x.strip, x.strip, out);
     true
 }
 
-/// A function of two earlier steps; `false` where types differ.
-fn row_of_two(f: Fn2, t: Dtype, a: u32, b: u32, earlier: Earlier<'_>, out: &mut [u8]) -> bool
-    ensures { IsTrue result → (loads : ℕ → ℕ → Option ℤ)
-        → Computes (Two f t a b) (result_type2 f t) (step_rows earlier.entry.code.now earlier.entry.kinds.now earlier.entry.bytes.now earlier.entry.number) loads out.new }
+/// A function of two earlier steps, over spare bytes for arguments of other types; `false` where types differ.
+fn row_of_two(
+    f: Fn2,
+    t: Dtype,
+    steps: (u32, u32),
+    earlier: Earlier<'_>,
+    out: &mut [u8],
+    spare: &mut [u8],
+) -> bool
+    requires lays { All (LayFits earlier.plan.inputs.dims.now (length earlier.plan.inputs.ins.now)) earlier.plan.inputs.lays.now }
+    requires small { product earlier.plan.inputs.dims.now < 2 ^ 63 }
+    requires within { earlier.span.from + earlier.span.count ≤ product earlier.plan.inputs.dims.now }
+    requires room { length out.old ≡ earlier.span.count * size_of (result_type2 f t) }
+    ensures { IsTrue result → Computes (Two f t steps.0 steps.1) (result_type2 f t) (rows_before earlier.entry.plan.code.now earlier.entry.plan.rows.now earlier.entry.bytes.now earlier.entry.number)
+        (loads_along earlier.entry.plan.inputs.lays.now earlier.entry.plan.inputs.ins.now earlier.entry.plan.inputs.dims.now earlier.entry.span.from) out.new }
 {
-    let count = out.len() / size(result2(f, t)) as usize;
-    let first_literal = literal_bytes(step_at(earlier.code, a), t);
-    let second_literal = literal_bytes(step_at(earlier.code, b), t);
-    let Some(x) = argument(earlier, a, t, count, &first_literal) else {
+    let (a, b) = steps;
+    let count = earlier.span.count;
+    let first_literal = literal_bytes(step_at(earlier.plan.code, a), t);
+    let second_literal = literal_bytes(step_at(earlier.plan.code, b), t);
+    let Some(first) = found(earlier, a, t, &first_literal) else {
         return false;
     };
-    let Some(y) = argument(earlier, b, t, count, &second_literal) else {
+    let Some(second) = found(earlier, b, t, &second_literal) else {
         return false;
     };
+    let (near, far) = spare.split_at_mut(spare.len() / 2);
+    if !convert(first, t, count, near) {
+        return false;
+    }
+    if !convert(second, t, count, far) {
+        return false;
+    }
+    let x = in_type(first, t, count, near);
+    let y = in_type(second, t, count, far);
     call_strips(Call::Two(f, t), x, y, y, out);
     true
 }
 
-/// A choice of two earlier steps by a third; `false` where types differ.
-fn row_of_select(c: u32, a: u32, b: u32, t: Dtype, earlier: Earlier<'_>, out: &mut [u8]) -> bool
-    ensures { IsTrue result → (loads : ℕ → ℕ → Option ℤ)
-        → Computes (Select c a b) t (step_rows earlier.entry.code.now earlier.entry.kinds.now earlier.entry.bytes.now earlier.entry.number) loads out.new }
+/// A choice of two earlier steps by a third, over spare bytes for arguments of other types; `false` where types differ.
+fn row_of_select(
+    steps: (u32, u32, u32),
+    t: Dtype,
+    earlier: Earlier<'_>,
+    out: &mut [u8],
+    spare: &mut [u8],
+) -> bool
+    requires lays { All (LayFits earlier.plan.inputs.dims.now (length earlier.plan.inputs.ins.now)) earlier.plan.inputs.lays.now }
+    requires small { product earlier.plan.inputs.dims.now < 2 ^ 63 }
+    requires within { earlier.span.from + earlier.span.count ≤ product earlier.plan.inputs.dims.now }
+    requires room { length out.old ≡ earlier.span.count * size_of t }
+    ensures { IsTrue result → Computes (Select steps.0 steps.1 steps.2) t (rows_before earlier.entry.plan.code.now earlier.entry.plan.rows.now earlier.entry.bytes.now earlier.entry.number)
+        (loads_along earlier.entry.plan.inputs.lays.now earlier.entry.plan.inputs.ins.now earlier.entry.plan.inputs.dims.now earlier.entry.span.from) out.new }
 {
-    let count = out.len() / size(t) as usize;
-    let choice_literal = literal_bytes(step_at(earlier.code, c), Dtype::Bool);
-    let first_literal = literal_bytes(step_at(earlier.code, a), t);
-    let second_literal = literal_bytes(step_at(earlier.code, b), t);
-    let Some(x) = argument(earlier, c, Dtype::Bool, count, &choice_literal) else {
+    let (c, a, b) = steps;
+    let count = earlier.span.count;
+    let choice_literal = literal_bytes(step_at(earlier.plan.code, c), Dtype::Bool);
+    let first_literal = literal_bytes(step_at(earlier.plan.code, a), t);
+    let second_literal = literal_bytes(step_at(earlier.plan.code, b), t);
+    let Some(choice) = found(earlier, c, Dtype::Bool, &choice_literal) else {
         return false;
     };
-    let Some(y) = argument(earlier, a, t, count, &first_literal) else {
+    let Some(first) = found(earlier, a, t, &first_literal) else {
         return false;
     };
-    let Some(z) = argument(earlier, b, t, count, &second_literal) else {
+    let Some(second) = found(earlier, b, t, &second_literal) else {
         return false;
     };
-    call_strips(Call::Select(t), x, y, z, out);
+    if choice.dtype != Dtype::Bool {
+        return false;
+    }
+    let (near, far) = spare.split_at_mut(spare.len() / 2);
+    if !convert(first, t, count, near) {
+        return false;
+    }
+    if !convert(second, t, count, far) {
+        return false;
+    }
+    let x = in_type(first, t, count, near);
+    let y = in_type(second, t, count, far);
+    call_strips(Call::Select(t), choice.strip, x, y, out);
     true
 }
 
@@ -231,20 +392,13 @@ fn row_of_region(source: Source<'_>, dims: &Dims, from: u64, all: usize, out: &m
     }
 }
 
-/// Places of the result: `count` from `from` on.
-#[derive(Clone, Copy)]
-pub(crate) struct Span {
-    pub(crate) from: u64,
-    pub(crate) count: usize,
-}
-
 /// A region along the places; `false` where its type is another.
 fn row_of_load(j: u32, t: Dtype, inputs: Inputs<'_>, span: Span, out: &mut [u8]) -> bool
     requires lays { All (LayFits inputs.dims.now (length inputs.ins.now)) inputs.lays.now }
     requires small { product inputs.dims.now < 2 ^ 63 }
     requires within { span.from + span.count ≤ product inputs.dims.now }
     requires room { length out.old ≡ span.count * size_of t }
-    ensures { IsTrue result → (r : Rows) → Computes (Load j) t r (λ k. loaded_by_place inputs.entry.lays.now inputs.entry.ins.now inputs.entry.dims.now (span.from + k)) out.new }
+    ensures { IsTrue result → (r : Rows) → Computes (Load j) t r (loads_along inputs.entry.lays.now inputs.entry.ins.now inputs.entry.dims.now span.from) out.new }
 {
     if j as usize >= inputs.lays.len() {
         return false;
@@ -261,28 +415,27 @@ fn row_of_load(j: u32, t: Dtype, inputs: Inputs<'_>, span: Span, out: &mut [u8])
     true
 }
 
-/// A step that computes or loads, along the places; `false` where types differ, and for a literal.
+/// A step that computes or loads, along the places, over spare bytes; `false` where types differ, and for a literal.
 pub(crate) fn row_of_step(
     instr: Instr,
     t: Dtype,
     earlier: Earlier<'_>,
-    inputs: Inputs<'_>,
-    span: Span,
     out: &mut [u8],
+    spare: &mut [u8],
 ) -> bool
-    requires lays { All (LayFits inputs.dims.now (length inputs.ins.now)) inputs.lays.now }
-    requires small { product inputs.dims.now < 2 ^ 63 }
-    requires within { span.from + span.count ≤ product inputs.dims.now }
-    requires room { length out.old ≡ span.count * size_of t }
-    ensures { IsTrue result → Computes instr t (step_rows earlier.entry.code.now earlier.entry.kinds.now earlier.entry.bytes.now earlier.entry.number)
-        (λ k. loaded_by_place inputs.entry.lays.now inputs.entry.ins.now inputs.entry.dims.now (span.from + k)) out.new }
+    requires lays { All (LayFits earlier.plan.inputs.dims.now (length earlier.plan.inputs.ins.now)) earlier.plan.inputs.lays.now }
+    requires small { product earlier.plan.inputs.dims.now < 2 ^ 63 }
+    requires within { earlier.span.from + earlier.span.count ≤ product earlier.plan.inputs.dims.now }
+    requires room { length out.old ≡ earlier.span.count * size_of t }
+    ensures { IsTrue result → Computes instr t (rows_before earlier.entry.plan.code.now earlier.entry.plan.rows.now earlier.entry.bytes.now earlier.entry.number)
+        (loads_along earlier.entry.plan.inputs.lays.now earlier.entry.plan.inputs.ins.now earlier.entry.plan.inputs.dims.now earlier.entry.span.from) out.new }
 {
     match instr {
-        Instr::Load(j) => row_of_load(j, t, inputs, span, out),
+        Instr::Load(j) => row_of_load(j, t, earlier.plan.inputs, earlier.span, out),
         Instr::Const(_) => false,
         Instr::One(f, s, a) => result1(f, s) == t && row_of_one(f, s, a, earlier, out),
-        Instr::Two(f, s, a, b) => result2(f, s) == t && row_of_two(f, s, a, b, earlier, out),
-        Instr::Select(c, a, b) => row_of_select(c, a, b, t, earlier, out),
+        Instr::Two(f, s, a, b) => result2(f, s) == t && row_of_two(f, s, (a, b), earlier, out, spare),
+        Instr::Select(c, a, b) => row_of_select((c, a, b), t, earlier, out, spare),
     }
 }
 
@@ -291,49 +444,57 @@ pub(crate) fn is_literal(instr: Instr) -> bool {
     matches!(instr, Instr::Const(_))
 }
 
-/// A step's row; `false` where types differ or the row is too short.
-pub(crate) fn leave_row(
-    instr: Instr,
-    t: Dtype,
-    earlier: Earlier<'_>,
-    inputs: Inputs<'_>,
-    span: Span,
-    row: &mut [u8],
-) -> bool
-    requires lays { All (LayFits inputs.dims.now (length inputs.ins.now)) inputs.lays.now }
-    requires small { product inputs.dims.now < 2 ^ 63 }
-    requires within { span.from + span.count ≤ product inputs.dims.now }
-    ensures { IsTrue result → Leaves instr t (step_rows earlier.entry.code.now earlier.entry.kinds.now earlier.entry.bytes.now earlier.entry.number)
-        (λ k. loaded_by_place inputs.entry.lays.now inputs.entry.ins.now inputs.entry.dims.now (span.from + k)) span.count row.new }
+/// A step's row at the beginning of `rest`, and its bytes there; none where types differ or there is no room.
+pub(crate) fn leave_row(instr: Instr, row: Row, earlier: Earlier<'_>, rest: &mut [u8]) -> Option<usize>
+    requires lays { All (LayFits earlier.plan.inputs.dims.now (length earlier.plan.inputs.ins.now)) earlier.plan.inputs.lays.now }
+    requires small { product earlier.plan.inputs.dims.now < 2 ^ 63 }
+    requires within { earlier.span.from + earlier.span.count ≤ product earlier.plan.inputs.dims.now }
+    ensures leaves { IfSome result (λ used. Leaves instr row (rows_before earlier.entry.plan.code.now earlier.entry.plan.rows.now earlier.entry.bytes.now earlier.entry.number)
+        (loads_along earlier.entry.plan.inputs.lays.now earlier.entry.plan.inputs.ins.now earlier.entry.plan.inputs.dims.now earlier.entry.span.from) earlier.entry.span.count used rest.new) }
+    ensures room { IfSome result (λ used. used ≤ length rest.old) }
 {
     match instr {
-        Instr::Const(_) => true,
-        _ => leave_computed(instr, t, earlier, inputs, span, row),
+        Instr::Const(_) => Some(0),
+        Instr::Load(j) => {
+            if row.kept {
+                leave_computed(instr, row, earlier, rest)
+            } else {
+                leave_in_place(j, earlier)
+            }
+        }
+        _ => leave_computed(instr, row, earlier, rest),
     }
 }
 
-/// `leave_row` of a step that is no literal.
-fn leave_computed(
-    instr: Instr,
-    t: Dtype,
-    earlier: Earlier<'_>,
-    inputs: Inputs<'_>,
-    span: Span,
-    row: &mut [u8],
-) -> bool
-    requires computes { (y : ℤ) → instr ≢ Const y }
-    requires lays { All (LayFits inputs.dims.now (length inputs.ins.now)) inputs.lays.now }
-    requires small { product inputs.dims.now < 2 ^ 63 }
-    requires within { span.from + span.count ≤ product inputs.dims.now }
-    ensures { IsTrue result → Leaves instr t (step_rows earlier.entry.code.now earlier.entry.kinds.now earlier.entry.bytes.now earlier.entry.number)
-        (λ k. loaded_by_place inputs.entry.lays.now inputs.entry.ins.now inputs.entry.dims.now (span.from + k)) span.count row.new }
+/// `leave_row` of a region that is read where it lies.
+fn leave_in_place(j: u32, earlier: Earlier<'_>) -> Option<usize>
+    ensures there { IfSome result (λ used. j < length earlier.entry.plan.inputs.lays.now) }
+    ensures none { IfSome result (λ used. used ≡ 0) }
 {
-    if !fits_row(t, t, span.count) {
-        return false;
+    if j as usize >= earlier.plan.inputs.lays.len() {
+        return None;
     }
-    let width = span.count * size(t) as usize;
-    if width > row.len() {
-        return false;
+    Some(0)
+}
+
+/// `leave_row` of a step that is no literal.
+fn leave_computed(instr: Instr, row: Row, earlier: Earlier<'_>, rest: &mut [u8]) -> Option<usize>
+    requires computes { (y : ℤ) → instr ≢ Const y }
+    requires lays { All (LayFits earlier.plan.inputs.dims.now (length earlier.plan.inputs.ins.now)) earlier.plan.inputs.lays.now }
+    requires small { product earlier.plan.inputs.dims.now < 2 ^ 63 }
+    requires within { earlier.span.from + earlier.span.count ≤ product earlier.plan.inputs.dims.now }
+    ensures leaves { IfSome result (λ used. Leaves instr row (rows_before earlier.entry.plan.code.now earlier.entry.plan.rows.now earlier.entry.bytes.now earlier.entry.number)
+        (loads_along earlier.entry.plan.inputs.lays.now earlier.entry.plan.inputs.ins.now earlier.entry.plan.inputs.dims.now earlier.entry.span.from) earlier.entry.span.count used rest.new) }
+    ensures room { IfSome result (λ used. used ≤ length rest.old) }
+{
+    let size = size(row.dtype) as usize;
+    if rest.len() / size < earlier.span.count {
+        return None;
     }
-    row_of_step(instr, t, earlier, inputs, span, &mut row[..width])
+    let used = earlier.span.count * size;
+    let (out, spare) = rest.split_at_mut(used);
+    if !row_of_step(instr, row.dtype, earlier, out, spare) {
+        return None;
+    }
+    Some(used)
 }
