@@ -242,7 +242,9 @@ fn places_of(code: &[Instr], rows: &[Row; STEPS], all: usize) -> usize
     if each == 0 {
         return all.max(1);
     }
-    let places = ((BANK - LINE * STEPS) / each).min(WIDTH / widest(code, rows, spare / 2).max(1)).min(all);
+    let places = ((BANK - LINE * STEPS) / each)
+        .min(WIDTH / widest(code, rows, spare / 2).max(1))
+        .min(all);
     if places < LINE {
         return places.max(1);
     }

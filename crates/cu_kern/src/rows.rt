@@ -178,12 +178,7 @@ fn literal_strip<'a>(instr: Instr, t: Dtype, literal: &'a [u8; 8]) -> Option<Typ
 }
 
 /// The results of an earlier step, of a literal as elements of the type; none where they aren't there.
-fn found<'a>(
-    earlier: Earlier<'a>,
-    a: u32,
-    t: Dtype,
-    literal: &'a [u8; 8],
-) -> Option<Typed<'a>>
+fn found<'a>(earlier: Earlier<'a>, a: u32, t: Dtype, literal: &'a [u8; 8]) -> Option<Typed<'a>>
     requires lays { All (LayFits earlier.plan.inputs.dims.now (length earlier.plan.inputs.ins.now)) earlier.plan.inputs.lays.now }
     requires small { product earlier.plan.inputs.dims.now < 2 ^ 63 }
     requires within { earlier.span.from + earlier.span.count ≤ product earlier.plan.inputs.dims.now }
@@ -234,7 +229,13 @@ fn convert_to(x: Typed<'_>, t: Dtype, count: usize, out: &mut [u8]) -> bool
         return false;
     }
     let part = &mut out[..count * size];
-    call_strips(Call::One(Fn1::Astype, x.dtype, t), x.strip, x.strip, x.strip, part);
+    call_strips(
+        Call::One(Fn1::Astype, x.dtype, t),
+        x.strip,
+        x.strip,
+        x.strip,
+        part,
+    );
     true
 }
 
@@ -434,7 +435,8 @@ pub(crate) fn row_of_step(
         Instr::Load(j) => row_of_load(j, t, earlier.plan.inputs, earlier.span, out),
         Instr::Const(_) => false,
         Instr::One(f, s, a) => result1(f, s) == t && row_of_one(f, s, a, earlier, out),
-        Instr::Two(f, s, a, b) => result2(f, s) == t && row_of_two(f, s, (a, b), earlier, out, spare),
+        Instr::Two(f, s, a, b) => result2(f, s) == t
+            && row_of_two(f, s, (a, b), earlier, out, spare),
         Instr::Select(c, a, b) => row_of_select((c, a, b), t, earlier, out, spare),
     }
 }
@@ -445,7 +447,12 @@ pub(crate) fn is_literal(instr: Instr) -> bool {
 }
 
 /// A step's row at the beginning of `rest`, and its bytes there; none where types differ or there is no room.
-pub(crate) fn leave_row(instr: Instr, row: Row, earlier: Earlier<'_>, rest: &mut [u8]) -> Option<usize>
+pub(crate) fn leave_row(
+    instr: Instr,
+    row: Row,
+    earlier: Earlier<'_>,
+    rest: &mut [u8],
+) -> Option<usize>
     requires lays { All (LayFits earlier.plan.inputs.dims.now (length earlier.plan.inputs.ins.now)) earlier.plan.inputs.lays.now }
     requires small { product earlier.plan.inputs.dims.now < 2 ^ 63 }
     requires within { earlier.span.from + earlier.span.count ≤ product earlier.plan.inputs.dims.now }
