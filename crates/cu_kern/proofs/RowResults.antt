@@ -1,5 +1,5 @@
 -- What a step over the rows of earlier steps reads and leaves.
-use Rattle.std.proofs.Common.{◌≡◌, ◌≢◌, ℕ, ◌+◌, ◌-◌, ◌*◌, ◌/◌, ◌<◌, ◌≤◌, suc, List, length, ◌++◌, drop, get_or, Option, None, Some, IfSome, IsTrue, Bool as Test, refl, ap, sym, ◌∙◌, subst, arith, ℤ, pos, length-append}
+use Rattle.std.proofs.Common.{◌≡◌, ◌≢◌, ℕ, ◌+◌, ◌*◌, ◌<◌, ◌≤◌, suc, List, length, ◌++◌, drop, get_or, Option, None, Some, IfSome, IsTrue, Bool as Test, refl, ap, sym, ◌∙◌, subst, arith, ℤ, pos, length-append}
 use Rattle.std.specs.List.{slice_get}
 use Rattle.std.proofs.lemmas.Option.{slice_get-get_or}
 use Rattle.std.proofs.Math.Nat.{mul-le-mul_right}

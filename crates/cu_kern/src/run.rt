@@ -46,8 +46,8 @@ pub fn run_kernel(
     run_places(code, lays, t, dims, ins, out, words);
 }
 
-/// `run_kernel`, place by place: from bytes to bytes where the kernel is one function, by rows of bytes where no types
-/// differ, else in blocks of words.
+/// `run_kernel`, place by place: from bytes to bytes where the kernel is one function, else along rows of bytes, and in blocks of
+/// words where the rows weren't guessed right.
 fn run_places(
     code: &[Instr],
     lays: &[Lay],

@@ -1,4 +1,4 @@
-use Rattle.std.proofs.Common.{rules, ◌+◌, length, refl, ap, sym, ◌∙◌, arith, length-append}
+use Rattle.std.proofs.Common.{◌+◌, length, refl, ap, sym, ◌∙◌, arith, length-append}
 use Rattle.std.proofs.lemmas.List.{drop_more}
 use Rattle.std.proofs.lemmas.Option.{slice_get-get_or}
 use Rattle.cu_op.specs.declared.kernel.Instr.TheVariants.{Load}

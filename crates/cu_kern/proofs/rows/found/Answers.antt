@@ -1,4 +1,4 @@
-use Rattle.std.proofs.Common.{◌≡◌, ◌<◌, ap, ◌∙◌, arith, length, true, Some}
+use Rattle.std.proofs.Common.{◌≡◌, ap, ◌∙◌, arith, true, Some}
 use Rattle.std.specs.List.{slice_get}
 use Rattle.std.proofs.lemmas.Option.{slice_get-get_or}
 use Rattle.cu_num.specs.Element.{element_at}

@@ -1,4 +1,4 @@
-use Rattle.std.proofs.Common.{length, refl, ap, ◌∙◌, arith, subst, sym, ℕ, ◌/◌}
+use Rattle.std.proofs.Common.{length, refl, ◌∙◌, subst, sym, ℕ}
 use Rattle.cu_num.specs.Dtype.{size_of}
 use Rattle.cu_num.specs.Scalar.{result_type1}
 use Rattle.cu_kern.specs.Strips.{strip, HasPlaces}
