@@ -9,18 +9,13 @@ use Rattle.std.specs.contracts.alloc.Global as Heap
 use Rattle.std.specs.contracts.impls.GlobalAllocator.TheImpl.{ghosts}
 use Rattle.std.specs.contracts.snapshot.Snapshot as Snapshot
 use Rattle.std.specs.contracts.string.String as String
-use Rattle.std.specs.contracts.vec.Vec as Vec
-use Rattle.cu_store.proofs.yard.Spec.TheSendSync as spec
 use Rattle.cu_store.specs.contracts.promise.Promise as Promise
-use Rattle.cu_store.specs.contracts.yard.Spec as Spec
+use Rattle.cu_dir.proofs.keys.Keys.TheSendSync as keys
 use Rattle.cu_dir.specs.contracts.yard.DirPass as DirPass
 use Rattle.cu_dir.specs.contracts.yard.DirYard as DirYard
 
 text_sync : IsSync (String.the_field Heap.the_row ghosts).row
 text_sync = search (sendable, crosses) depth 20
-
-specs_sync : IsSync (Vec.the_row Spec.the_row Heap.the_row ghosts)
-specs_sync = search (spec.the_sync, crosses)
 
 promise_sync : IsSync (Snapshot.the_row Promise.the_row)
 promise_sync = search crosses
@@ -28,7 +23,7 @@ promise_sync = search crosses
 pub yard_sync : (H File Dir : RattleType) → IsSync H → IsSync (DirYard.the_row H File Dir)
 yard_sync H File Dir host = recorded_sync (DirYard.the_field H File Dir).row _ _ (DirYard.the_type H File Dir).to_one
     (struct_sync (shape (DirYard.the_type H File Dir))
-    (host, (heap.the_field_sync, (text_sync, (specs_sync, (promise_sync, (search (crosses, sendable) depth 20, tt)))))))
+    (host, (heap.the_field_sync, (text_sync, (keys.the_sync, (promise_sync, (search (crosses, sendable) depth 20, tt)))))))
 
 count_send : IsSend u64
 count_send = search sendable depth 20
