@@ -168,7 +168,7 @@ class Job:
         if ended[0] == -9:
             self.look_at_files()
             return True
-        if ended != (0, f"ok keys={len(self.keys)}\n", ""):
+        if ended != (0, f"ok keys={len(self.stored)}\n", ""):
             raise Wrong(f"{' '.join(words)} ended with {ended}")
         if set(self.stored) & set(compare.files_in(self.case.folder)):
             raise Wrong("drop left a file of the plan")
