@@ -245,6 +245,8 @@ def main():
             return 1
         shutil.rmtree(folder)
         number += 1
+        if number % 10 == 0:
+            print(f"{sum(counts.values())} kills of {number - given.first} jobs", flush=True)
     print(f"{sum(counts.values())} kills of {number - given.first} jobs, and each job came to its right end: "
           + ", ".join(f"{count} {state}" for state, count in sorted(counts.items())))
     return 0
