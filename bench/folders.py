@@ -374,7 +374,7 @@ def of_resume_over_others():
     yield after("DIR is missing", instead("missing"), *error(8, name="a"))
     yield after("DIR is a file", instead("beside/chunk"), *error(16, key="a/zarr.json"), beside=True)
     yield after("`b` is missing", without("b"), *error(8, name="b"))
-    yield after("`a` has another fill value", ran(does("edit", "a/zarr.json", b'"fill_value": 0', b'"fill_value": 9')), 14, None)
+    yield after("`a` has another fill value", ran(does("edit", "a/zarr.json", b'"fill_value":0', b'"fill_value":9')), 14, None)
     yield after("a named pipe lies at `y/c/1`", ran(does("pipe", last)), *error(16, key=last))
     yield after("a named pipe lies at the chunk in between", ran(does("remove", last), does("pipe", made)), *error(16, key=made))
     yield after("a named pipe lies at the record", ran(does("pipe", RECORD)), *error(16, key=RECORD))
