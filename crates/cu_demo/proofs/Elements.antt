@@ -1,11 +1,11 @@
 -- The elements of an input of the demonstration, place by place.
-use Rattle.std.proofs.Common.{◌≡◌, ◌∙◌, ℕ, ◌+◌, ◌*◌, ◌/◌, ◌%◌, ◌<◌, ◌≤◌, List, [], ◌∷◌, ◌++◌, map}
+use Rattle.std.proofs.Common.{◌≡◌, ◌∙◌, ℕ, ◌+◌, ◌*◌, ◌/◌, ◌%◌, ◌≤◌, List, [], ◌∷◌, ◌++◌, map}
 use Rattle.std.proofs.Common.{ℤ, pos, refl, sym, ap, arith}
 use Rattle.std.specs.List.{range_with_len}
 use Rattle.std.proofs.lemmas.List.FromFn.{map-range_with_len_more}
 use Rattle.std.proofs.Math.Nat.{div-one}
 use Rattle.std.proofs.lemmas.Nat.{mul-le}
-use Rattle.cu_shape.specs.Index.{index_at, indices_of, product}
+use Rattle.cu_shape.specs.Index.{index_at}
 use Rattle.cu_demo.specs.Input.{demo_at, demo_element, demo_elements, demo_shape}
 use Rattle.cu_demo.specs.declared.input.DemoInput.{DemoInput}
 

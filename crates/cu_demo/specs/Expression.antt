@@ -1,5 +1,5 @@
 -- The expression of the demonstration: its text, its nodes, and its job over inputs of a size.
-use Rattle.std.specs.Prelude.{◌≡◌, ℕ, ℤ, pos, false, List, [], ◌∷◌, codes, Some, None, Ok}
+use Rattle.std.specs.Prelude.{◌≡◌, ℕ, pos, false, List, [], ◌∷◌, codes, Some, None, Ok}
 use Rattle.serde_json.specs.Read.{read}
 use Rattle.serde_json.specs.View.{view}
 use Rattle.cu_num.specs.declared.folds.FoldKind.TheVariants.{Sum}

@@ -1,12 +1,9 @@
 -- What the run of a demonstration finds, and that its way is clear.
-use Rattle.std.proofs.Common.{◌≡◌, ◌⊎◌, ◌∙◌, inl, inr, ℕ, zero, suc, ◌+◌, ◌<◌, ◌≤◌, ℤ, Bool, true, false, true≢false}
-use Rattle.std.proofs.Common.{List, [], ◌∷◌, ◌++◌, length, codes, map, All, Contains, Option, Some, None, Result, Ok, Err}
+use Rattle.std.proofs.Common.{◌≡◌, ◌⊎◌, ◌∙◌, inl, inr, ℕ, ◌≤◌, Bool, true, false, true≢false}
+use Rattle.std.proofs.Common.{List, [], ◌∷◌, ◌++◌, codes, All, Option, Some, None, Result, Ok}
 use Rattle.std.proofs.Common.{get_or, refl, sym, ap, subst, arith}
 use Rattle.std.specs.Prelude.{if◌then◌else◌}
 use Rattle.std.proofs.lemmas.List.Elements.{All-cons, All-nil, All-head, All-tail, Contains-get_or}
-use Rattle.serde_json.specs.Read.{read}
-use Rattle.serde_json.specs.View.{view}
-use Rattle.cu_grid.specs.Grid.{IsGrid}
 use Rattle.cu_store.specs.Held.{Contents, Write, IsAmong, Holds}
 use Rattle.cu_store.specs.Steps.{Shown, NoChange, OrLate, IsChangedBy, Lands, AllLateIn}
 use Rattle.cu_zarr.specs.Key.{metadata_key_of, zarray_key_of}
@@ -26,7 +23,6 @@ use Rattle.cu_state.specs.Pieces.{Piece, IsPiece, IsInputChunk, piece_key, piece
 use Rattle.cu_expr.specs.Typing.{typed}
 use Rattle.cu_expr.specs.declared.inputs.InputInfo.{InputInfo}
 use Rattle.cu_form.specs.Expression.{Expression}
-use Rattle.cu_node.specs.declared.info.NodeInfo.{NodeInfo}
 use Rattle.cu_read.specs.Read.{expression_of}
 use Rattle.cu_work.specs.Order.{IsFree}
 use Rattle.cu_command.specs.Inputs.{AreCalmAt, IsReadAt, names_in, names_of}
@@ -34,8 +30,7 @@ use Rattle.cu_command.specs.Job.{IsJob}
 use Rattle.cu_command.specs.Seen.{Stepped}
 use Rattle.cu_command.specs.Stored.{IsArrayLayout, HoldsLayout, StoresLayout}
 use Rattle.cu_command.specs.declared.job.Job.{Job}
-use Rattle.cu_command.proofs.SeenLemmas.{stepped_none, stepped_then}
-use Rattle.cu_load.specs.Load.{ArrayPut, IsArrayCalm, IsArrayKey, StoresGiven, HoldsChunks, chunks_in, given_chunk, key_of_chunk}
+use Rattle.cu_load.specs.Load.{ArrayPut, StoresGiven}
 use Rattle.cu_load.specs.LoadForm.{GivenArray}
 use Rattle.cu_load.proofs.CommandLemmas.{still_calm}
 use Rattle.cu_demo.proofs.Computed.{demo_number, demo_said}

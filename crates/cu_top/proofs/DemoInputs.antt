@@ -1,6 +1,6 @@
 -- The inputs of a demonstration: arrays that may be stored, and what storing them and asking for their keys comes to.
-use Rattle.std.proofs.Common.{◌≡◌, ◌⊎◌, ◌∙◌, inl, inr, ℕ, zero, suc, ◌+◌, ◌*◌, ◌<◌, ◌≤◌, ◌^◌, ℤ, pos, Bool, true, false, true≢false}
-use Rattle.std.proofs.Common.{List, [], ◌∷◌, length, map, codes, get_or, All, Option, Some, None, refl, sym, ap, subst, arith, Result, Ok, Err, IfErr}
+use Rattle.std.proofs.Common.{◌≡◌, ◌∙◌, inl, inr, ℕ, ◌+◌, ◌<◌, ◌≤◌, pos, Bool, true, false, true≢false}
+use Rattle.std.proofs.Common.{List, length, All, Option, Some, None, refl, sym, subst, arith, Result, Ok, Err, IfErr}
 use Rattle.std.proofs.lemmas.Int.{ints}
 use Rattle.std.specs.Prelude.{OnOk}
 use Rattle.std.specs.List.{range_with_len}
@@ -16,7 +16,6 @@ use Rattle.cu_zarr.specs.Key.{metadata_key_of, zarray_key_of}
 use Rattle.cu_store.specs.Held.{Contents}
 use Rattle.cu_store.specs.Steps.{Shown, NoChange}
 use Rattle.cu_op.specs.Layout.{IsLayout, layout_view}
-use Rattle.cu_op.specs.declared.layout.Layout.{Layout}
 use Rattle.cu_form.specs.Expression.{Expression}
 use Rattle.cu_expr.specs.declared.inputs.InputInfo.{InputInfo}
 use Rattle.cu_plan.specs.Refusal.{IsRefusal}
@@ -25,7 +24,7 @@ use Rattle.cu_plan.specs.declared.fault.PlanFault.TheVariants as plan
 use Rattle.cu_work.specs.Order.{IsHeldIn as IsHeldAt}
 use Rattle.cu_work.specs.declared.way.WayFault.{WayFault}
 use Rattle.cu_work.specs.declared.way.WayFault.TheVariants as way
-use Rattle.cu_command.proofs.SeenLemmas.{gone_before, stepped_none, stepped_then, stepped_wider}
+use Rattle.cu_command.proofs.SeenLemmas.{gone_before, stepped_wider}
 use Rattle.cu_command.specs.Keys.{IsHeldIn}
 use Rattle.cu_command.specs.Seen.{Stepped}
 use Rattle.cu_command.specs.Stored.{IsArrayLayout}
@@ -33,7 +32,7 @@ use Rattle.cu_command.specs.declared.job.Job.{Job}
 use Rattle.cu_command.specs.declared.status.Status.{Status}
 use Rattle.cu_command.specs.declared.status.Status.TheVariants.{Exists, DepotFailed, NoMemory}
 use Rattle.cu_load.specs.Keys.{AreFree, IsAskedFor, IsAskFault}
-use Rattle.cu_load.specs.Load.{ArrayPut, ChunksPut, IsArrayCalm, IsPutFault, IsStoreFault, StoresGiven, ValuesStay, chunks_in}
+use Rattle.cu_load.specs.Load.{ArrayPut, IsPutFault, IsStoreFault}
 use Rattle.cu_load.specs.LoadForm.{GivenArray, IsGivenArray, given_by}
 use Rattle.cu_load.specs.declared.load_form.LoadForm.{LoadForm}
 use Rattle.cu_load.proofs.AskLemmas.{rose_earlier}

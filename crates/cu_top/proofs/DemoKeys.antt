@@ -1,9 +1,9 @@
 -- The keys of a demonstration: those of its inputs, and those of its plan, which are others.
-use Rattle.std.proofs.Common.{◌≡◌, ◌≢◌, ◌⊎◌, ◌∙◌, inl, inr, ℕ, zero, suc, ◌+◌, ◌<◌, ◌≤◌, Bool, true, false, true≢false}
-use Rattle.std.proofs.Common.{List, [], ◌∷◌, ◌++◌, length, map, codes, All, Contains, Option, Some, None, refl, sym, ap, subst, arith}
+use Rattle.std.proofs.Common.{◌≡◌, ◌∙◌, inl, inr, ℕ, zero, suc, ◌<◌, ◌≤◌, Bool, true, false, true≢false}
+use Rattle.std.proofs.Common.{List, [], ◌∷◌, ◌++◌, length, map, codes, Contains, Option, refl, sym, ap, arith}
 use Rattle.std.specs.Prelude.{◌==◌, ◌&&◌, ◌||◌}
 use Rattle.std.proofs.lemmas.Bool.{and_parts, eqb-true}
-use Rattle.std.proofs.lemmas.List.Elements.{All-from_recursion, Contains-append_cases}
+use Rattle.std.proofs.lemmas.List.Elements.{Contains-append_cases}
 use Rattle.cu_name.specs.Name.{IsArrayName}
 use Rattle.cu_zarr.specs.Key.{zarray_key_of}
 use Rattle.cu_op.specs.declared.cells.Cell.{Cell}
@@ -15,7 +15,7 @@ use Rattle.cu_op.specs.Walks.{written_chunks}
 use Rattle.cu_op.proofs.TaskCells.{written_cell}
 use Rattle.cu_lower.proofs.Names.{array_name}
 use Rattle.cu_state.specs.Names.{HasPlanNames}
-use Rattle.cu_state.specs.Pieces.{PlanRun, Piece, Text, Chunk, IsPiece, piece_key}
+use Rattle.cu_state.specs.Pieces.{Piece, Text, Chunk, IsPiece, piece_key}
 use Rattle.cu_state.proofs.PlanNames.{other_names}
 use Rattle.cu_work.specs.Order.{plan_keys, operation_keys, task_keys}
 use Rattle.cu_command.specs.declared.job.Job.{Job}

@@ -1,11 +1,10 @@
 -- The result of a demonstration is read and told.
-use Rattle.std.proofs.Common.{◌≡◌, ◌∙◌, ℕ, ◌+◌, ◌≤◌, ℤ, pos, List, [], ◌++◌, length, take, codes, Option, Some, None, Ok, Err, refl, sym, ap, arith, true}
+use Rattle.std.proofs.Common.{◌≡◌, ◌∙◌, ℕ, ◌≤◌, ℤ, pos, List, [], ◌++◌, length, take, Option, Some, None, Ok, refl, sym, ap, arith, true}
 use Rattle.std.specs.Prelude.{◌==◌}
 use Rattle.std.proofs.lemmas.List.{take-append-le, take_all}
 use Rattle.cu_num.specs.Element.{element_at}
 use Rattle.cu_num.specs.declared.layout.Endian.TheVariants.{Little}
 use Rattle.cu_num.specs.declared.types.Dtype.TheVariants.{Int64}
-use Rattle.cu_store.specs.Faults.{Rose}
 use Rattle.cu_store.specs.Held.{Contents, Gets}
 use Rattle.cu_store.specs.Steps.{Shown}
 use Rattle.cu_store.specs.declared.depot.Got.TheVariants.{Absent, Held}
@@ -14,7 +13,7 @@ use Rattle.cu_op.specs.Layout.{layout_view}
 use Rattle.cu_command.specs.Seen.{Stream, seen}
 use Rattle.cu_command.specs.Streams.{WroteFront}
 use Rattle.cu_command.specs.declared.status.Status.{Status}
-use Rattle.cu_command.specs.declared.status.Status.TheVariants.{BadChunk, DepotFailed, NoMemory, WriteFault, Done}
+use Rattle.cu_command.specs.declared.status.Status.TheVariants.{BadChunk, DepotFailed, NoMemory}
 use Rattle.cu_region.specs.Steady.{HoldsLength}
 use Rattle.cu_top.specs.Demo.{IsResult, IsUnread, ResultTells, result_key, result_layout}
 

@@ -1,5 +1,5 @@
 -- Both inputs of a demonstration are stored, one after the other, and stay so.
-use Rattle.std.proofs.Common.{◌≡◌, ◌⊎◌, ◌∙◌, inl, inr, ℕ, ◌≤◌, List, Option, Some, None, true, false, true≢false}
+use Rattle.std.proofs.Common.{◌≡◌, ◌∙◌, inl, inr, ℕ, ◌≤◌, List, Option, Some, None, false, true≢false}
 use Rattle.std.proofs.Common.{refl, sym, subst}
 use Rattle.cu_grid.specs.Grid.{IsGrid}
 use Rattle.cu_store.specs.Held.{Contents, Write}

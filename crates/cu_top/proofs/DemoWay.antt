@@ -1,5 +1,5 @@
 -- The way from the call of a demonstration to its run.
-use Rattle.std.proofs.Common.{◌≡◌, ◌∙◌, ℕ, ◌≤◌, List, codes, All, Option, Some, Ok, ap, false}
+use Rattle.std.proofs.Common.{◌≡◌, ◌∙◌, ℕ, ◌≤◌, codes, All, Some, ap}
 use Rattle.cu_store.specs.Held.{Contents}
 use Rattle.cu_store.specs.Steps.{Shown, NoChange}
 use Rattle.cu_work.specs.Order.{IsFree}

@@ -1,5 +1,5 @@
 -- Each chunk of an input that the run of a demonstration finds is whole.
-use Rattle.std.proofs.Common.{◌≡◌, ◌∙◌, ℕ, zero, suc, ◌<◌, Bool, true, false, true≢false, List, [], length, codes, Option, Some, None, refl, sym, ap, subst}
+use Rattle.std.proofs.Common.{◌≡◌, ◌∙◌, ℕ, zero, suc, ◌<◌, Bool, true, false, true≢false, List, [], length, Option, Some, None, refl, sym, ap, subst}
 use Rattle.std.specs.Prelude.{slice_get}
 use Rattle.cu_shape.specs.Index.{IsInside, place_of}
 use Rattle.cu_shape.proofs.Places.{index-place, place-below}

@@ -1,6 +1,6 @@
 -- The run of an accepted plan's tasks, whatever is done and held when it starts.
-use Rattle.std.proofs.Common.{◌≡◌, ◌⊎◌, inl, inr, ℕ, zero, suc, ◌+◌, ◌*◌, ◌<◌, ◌≤◌, List, [], ◌∷◌, length, Contains}
-use Rattle.std.proofs.Common.{Option, Some, None, Result, Ok, Err, IfOk, IfErr, refl, sym, ap, ◌∙◌, subst, arith}
+use Rattle.std.proofs.Common.{◌≡◌, ℕ, ◌+◌, ◌*◌, ◌<◌, ◌≤◌, List, [], ◌∷◌, length}
+use Rattle.std.proofs.Common.{Option, Some, None, Result, Ok, Err, IfOk, IfErr, refl, sym, ◌∙◌, subst, arith}
 use Rattle.std.specs.Prelude.{Bool, true, false, ◌==◌, ◌&&◌, if◌then◌else◌, OnOk, OnErr, IsTrue}
 use Rattle.cu_store.specs.Faults.{last_count, Rose}
 use Rattle.cu_store.specs.Held.{Contents}
@@ -10,7 +10,7 @@ use Rattle.cu_op.specs.Sound.{Sound}
 use Rattle.cu_op.specs.Value.{Elements, stored_inputs}
 use Rattle.cu_history.specs.declared.entry.Entry.{Entry}
 use Rattle.cu_history.specs.declared.entry.EventKind.{EventKind}
-use Rattle.cu_history.specs.History.{is_start, is_done, is_failed, count_kind, count_of_task}
+use Rattle.cu_history.specs.History.{is_done, is_failed, count_kind, count_of_task}
 use Rattle.cu_lower.specs.Premises.{OutputDiffers}
 use Rattle.cu_state.specs.Left.{IsQuiet, IsLeft, RunChange}
 use Rattle.cu_state.specs.Names.{HasPlanNames}

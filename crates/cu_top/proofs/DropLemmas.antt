@@ -1,12 +1,10 @@
 -- The removal of a plan's keys: which they are, what it leaves, and how it ends.
-use Rattle.std.proofs.Common.{◌≡◌, ◌⊎◌, inl, inr, ℕ, zero, suc, ◌+◌, ◌*◌, ◌<◌, ◌≤◌, List, [], ◌∷◌, ◌++◌, length, All, Contains}
-use Rattle.std.proofs.Common.{Option, Some, None, Result, Ok, Err, refl, sym, ap, ◌∙◌, subst, arith}
-use Rattle.std.specs.Prelude.{OnErr}
+use Rattle.std.proofs.Common.{◌≡◌, ◌⊎◌, inl, inr, ℕ, zero, suc, ◌+◌, ◌*◌, ◌≤◌, List, [], ◌∷◌, length, All, Contains}
+use Rattle.std.proofs.Common.{Option, Some, None, Ok, Err, sym, ap, ◌∙◌, subst, arith}
 use Rattle.std.proofs.lemmas.List.Elements.{All-weaker, All-contains, All-contains_itself, Contains-append_left, Contains-append_right, Contains-append_cases}
 use Rattle.cu_store.specs.Faults.{Rose}
 use Rattle.cu_store.specs.Held.{Contents, Write, IsAmong}
 use Rattle.cu_store.specs.Steps.{Shown, NoChange, OrLate, AllLateIn, Within, Steps}
-use Rattle.cu_store.specs.declared.faults.DepotFault.TheVariants as depot
 use Rattle.cu_zarr.specs.Key.{metadata_key_of}
 use Rattle.cu_name.specs.Keys.{record_key_of}
 use Rattle.cu_op.specs.PlanView.{PlanView}
@@ -15,7 +13,6 @@ use Rattle.cu_op.specs.Value.{Elements}
 use Rattle.cu_state.specs.Left.{IsLeft}
 use Rattle.cu_state.specs.Pieces.{PlanRun, Piece, Text, Chunk, IsPiece, piece_key}
 use Rattle.cu_work.specs.Commands.{CommandChange}
-use Rattle.cu_work.specs.Ends.{EndsAt}
 use Rattle.cu_work.specs.Order.{plan_keys}
 use Rattle.cu_work.specs.Removal.{RemovalIn, IsGoneBut, AreRemoved, keys_before_record, removed_keys}
 use Rattle.cu_work.specs.declared.removal.RemoveFault.{RemoveFault}
@@ -26,7 +23,7 @@ use Rattle.cu_command.proofs.SeenLemmas.{stepped, stepped_then, stepped_wider, s
 use Rattle.cu_command.specs.declared.job.Job.{Job}
 use Rattle.cu_command.specs.declared.status.Status.{Status}
 use Rattle.cu_command.specs.declared.status.Status.TheVariants.{Done, WriteFault, DepotFailed, NoMemory}
-use Rattle.cu_top.specs.Drop.{dropped_keys, keys_first, removal_line, IsDropping, AreGone, IsStoppedAt, Dropped, remove_answer}
+use Rattle.cu_top.specs.Drop.{dropped_keys, keys_first, removal_line, IsDropping, AreGone, Dropped, remove_answer}
 use Rattle.cu_top.specs.Held.{IsNotReopened, IsReopened}
 use Rattle.cu_top.specs.Prepare.{keys_of}
 use Rattle.cu_top.specs.Run.{RunCase, plan_in, job_run, env_of, WroteTo}

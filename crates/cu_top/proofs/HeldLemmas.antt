@@ -1,12 +1,12 @@
 -- The record that is held, and a plan that is found again.
-use Rattle.std.proofs.Common.{◌≡◌, ◌≢◌, ◌⊎◌, inl, inr, ℕ, ◌+◌, ◌<◌, ◌≤◌, List, length, take, get_or}
+use Rattle.std.proofs.Common.{◌≡◌, ◌≢◌, ◌⊎◌, inl, inr, ℕ, ◌+◌, ◌<◌, List, length, take, get_or}
 use Rattle.std.proofs.Common.{Option, Some, None, Result, Ok, Err, refl, sym, ap, ◌∙◌, subst, arith}
 use Rattle.std.specs.Prelude.{min, slice_get, OnOk, IfErr, Bool, true, false}
 use Rattle.std.proofs.lemmas.Bool.{cases_lt}
 use Rattle.std.proofs.lemmas.List.{take_all, take-take, length-take, get_or-take}
 use Rattle.std.proofs.lemmas.Option.{slice_get-get_or, slice_get_past}
-use Rattle.cu_store.specs.Held.{Contents, Write, Holds, IsGone, IsAmong, Gets}
-use Rattle.cu_store.specs.Steps.{Shown, NoChange, OrLate, Lands, IsChangedBy}
+use Rattle.cu_store.specs.Held.{Contents, Holds, IsGone, IsAmong, Gets}
+use Rattle.cu_store.specs.Steps.{Shown, NoChange, OrLate, Lands}
 use Rattle.cu_store.specs.declared.depot.Got.TheVariants.{Held as Has}
 use Rattle.cu_name.specs.Keys.{record_key_of}
 use Rattle.cu_command.specs.Job.{IsJob}

@@ -1,11 +1,9 @@
 -- What each command of a plan is to the depot.
-use Rattle.std.proofs.Common.{◌⊎◌, inl, inr, ℕ, Bool, arith}
+use Rattle.std.proofs.Common.{inl, inr, Bool}
 use Rattle.cu_store.specs.Steps.{Shown}
-use Rattle.cu_op.specs.Sound.{Sound}
 use Rattle.cu_state.specs.Left.{RunChange}
 use Rattle.cu_state.specs.Pieces.{PlanRun}
 use Rattle.cu_work.specs.Commands.{CommandChange, IsCommand}
-use Rattle.cu_work.specs.Removal.{RemovalIn}
 use Rattle.cu_command.specs.Seen.{Stepped}
 use Rattle.cu_command.proofs.SeenLemmas.{stepped_wider, stepped_none}
 use Rattle.cu_command.specs.declared.job.Job.{Job}
@@ -13,7 +11,7 @@ use Rattle.cu_command.specs.declared.status.Status.{Status}
 use Rattle.cu_command.specs.declared.status.Status.TheVariants.{Done, BadExpr, BadType, OverMemory, OverLimit, BadMeta, NoArray, Exists}
 use Rattle.cu_command.specs.declared.status.Status.TheVariants.{TaskFailed, WriteFault, BadChunk, OtherPlan, NoPlan, DepotFailed, NoMemory}
 use Rattle.cu_top.proofs.DropLemmas.{removal_within}
-use Rattle.cu_top.specs.Drop.{dropped_keys, IsDropping, Dropped}
+use Rattle.cu_top.specs.Drop.{IsDropping, Dropped}
 use Rattle.cu_top.specs.Held.{IsNotReopened}
 use Rattle.cu_top.specs.Laws.{IsOfPlan}
 use Rattle.cu_top.specs.Resume.{IsResumed, WasResumed}

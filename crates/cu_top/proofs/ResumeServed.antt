@@ -1,6 +1,6 @@
 -- A run that goes on from its record: each other answer has a cause that isn't there.
-use Rattle.std.proofs.Common.{◌≡◌, ◌≢◌, ◌⊎◌, inl, inr, ℕ, zero, ◌+◌, ◌<◌, List, length, All, Contains, Option, Some, None, Ok, Bool, refl, sym, ap, ◌∙◌, subst, arith}
-use Rattle.std.specs.Prelude.{slice_get, take}
+use Rattle.std.proofs.Common.{◌≡◌, ◌≢◌, ◌⊎◌, inl, inr, ℕ, ◌+◌, ◌<◌, List, length, Option, Some, None, Ok, Bool, refl, sym, ap, ◌∙◌, subst, arith}
+use Rattle.std.specs.Prelude.{slice_get}
 use Rattle.std.proofs.lemmas.List.Elements.{All-weaker}
 use Rattle.cu_store.specs.Held.{Contents, IsAmong}
 use Rattle.cu_store.specs.Steps.{Shown, OrLate, Lands}
@@ -12,11 +12,10 @@ use Rattle.cu_op.specs.declared.cells.Cell.{Cell}
 use Rattle.cu_op.specs.Arrays.{chunk_room, grid_at, maker_at}
 use Rattle.cu_op.specs.Schedule.{op_of, key_of}
 use Rattle.cu_op.specs.Sound.{Sound}
-use Rattle.cu_op.specs.Value.{Elements, stored_inputs}
 use Rattle.cu_op.proofs.TaskCells.{fit_of, read_array}
 use Rattle.cu_region.specs.Steady.{HoldsLength}
-use Rattle.cu_state.specs.Left.{IsLeft, RunChange}
-use Rattle.cu_state.specs.Pieces.{PlanRun, Text, Chunk, IsInputChunk, IsPiece, piece_key, piece_value, KeysApart}
+use Rattle.cu_state.specs.Left.{RunChange}
+use Rattle.cu_state.specs.Pieces.{Text, Chunk, IsInputChunk, IsPiece, KeysApart}
 use Rattle.cu_state.proofs.Keeping.{left_kept}
 use Rattle.cu_work.specs.Drive.{IsBadChunk, IsInputKey}
 use Rattle.cu_command.proofs.JobLemmas.{only_memory}

@@ -6,7 +6,7 @@ use Rattle.std.proofs.lemmas.List.{get_or-replicate, length-replicate}
 use Rattle.std.proofs.lemmas.Bool.{cases_lt}
 use Rattle.std.proofs.lemmas.List.Elements.{All-weaker, All-contains, Contains-append_left, Contains-append_right}
 use Rattle.cu_store.specs.Faults.{last_count, Rose}
-use Rattle.cu_store.specs.Held.{Contents, IsAmong}
+use Rattle.cu_store.specs.Held.{Contents}
 use Rattle.cu_store.specs.Steps.{Shown, NoChange, OrLate, Lands, Steps}
 use Rattle.cu_zarr.specs.Key.{metadata_key_of, zarray_key_of}
 use Rattle.cu_name.specs.Keys.{record_key_of}

@@ -1,5 +1,5 @@
 -- Two jobs of one text, over depots that hold the same inputs.
-use Rattle.std.proofs.Common.{◌≡◌, ℕ, ◌<◌, ℤ, pos, List, Contains, Option, Some, None, Result, Ok, Err, refl, sym, ap, ◌∙◌, subst}
+use Rattle.std.proofs.Common.{◌≡◌, ℕ, pos, List, Contains, Option, Some, None, Result, Ok, refl, sym, ap, ◌∙◌, subst}
 use Rattle.std.specs.Prelude.{slice_get, unwrap_or}
 use Rattle.std.proofs.lemmas.List.Elements.{Contains-get_or}
 use Rattle.std.proofs.lemmas.Option.{slice_get_within, get_or_from_slice_get}
@@ -8,7 +8,6 @@ use Rattle.serde_json.specs.View.{view}
 use Rattle.serde_json.specs.Written.{compact_text}
 use Rattle.cu_expr.specs.Typing.{typed}
 use Rattle.cu_expr.specs.declared.inputs.InputInfo.{InputInfo}
-use Rattle.cu_expr.specs.declared.types.TypeFault.{TypeFault}
 use Rattle.cu_form.specs.Expression.{Expression}
 use Rattle.cu_form.specs.declared.expr.Node.{Node}
 use Rattle.cu_form.specs.declared.form.Form.{Form}
@@ -21,7 +20,6 @@ use Rattle.cu_node.specs.declared.info.NodeInfo.{NodeInfo}
 use Rattle.cu_op.specs.Layout.{layout_view}
 use Rattle.cu_plan.specs.Plan.{merged_plan_of}
 use Rattle.cu_read.specs.Read.{expression_of}
-use Rattle.cu_read.specs.declared.faults.ReadFault.{ReadFault}
 use Rattle.cu_state.specs.Pieces.{PlanRun}
 use Rattle.cu_store.specs.Held.{Contents}
 use Rattle.cu_store.specs.Steps.{Shown}
@@ -33,7 +31,7 @@ use Rattle.cu_command.specs.declared.job.Job.{Job}
 use Rattle.cu_top.specs.Quiet.{run_of_job}
 use Rattle.cu_top.specs.Record.{record_text, joined, inputs_text}
 use Rattle.cu_top.specs.Run.{elements_of, used_element, form_element}
-use Rattle.cu_top.specs.Versions.{StoresInputs, IsUsed, HoldSameChunks}
+use Rattle.cu_top.specs.Versions.{StoresInputs, HoldSameChunks}
 
 module _ (text : List ℕ) (a : Shown) (inputs : List InputInfo) (job : Job) (stores : StoresInputs a text inputs) (is_job : IsJob a text job) where
   same_inputs : inputs ≡ job.inputs.items

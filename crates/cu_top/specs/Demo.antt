@@ -6,7 +6,7 @@ use Rattle.cu_num.specs.declared.types.Dtype.TheVariants.{Int64}
 use Rattle.cu_node.specs.Info.{info_of}
 use Rattle.cu_store.specs.Faults.{Rose}
 use Rattle.cu_store.specs.Held.{Contents, Write, IsAmong}
-use Rattle.cu_store.specs.Steps.{Shown, Changes, NoChange, OrLate, Lands, AllLateIn}
+use Rattle.cu_store.specs.Steps.{Shown, Changes, OrLate, Lands, AllLateIn}
 use Rattle.cu_name.specs.Keys.{record_key_of}
 use Rattle.cu_zarr.specs.Key.{chunk_key_of, metadata_key_of, zarray_key_of}
 use Rattle.cu_zarr.specs.Stored.{stored_element}

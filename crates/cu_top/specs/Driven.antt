@@ -1,7 +1,7 @@
 -- The tasks of an accepted plan: what their run is given, what it tells, and what it answers.
 -- This project's own rules.
 use Rattle.std.specs.Prelude.{◌≡◌, ◌⊎◌, Bool, IsTrue, ℕ, ◌+◌, ◌*◌, List, Option}
-use Rattle.std.specs.Prelude.{Result, Ok, Err, OnErr, IfOk, IfErr}
+use Rattle.std.specs.Prelude.{Result, Ok, Err, IfOk, IfErr}
 use Rattle.cu_store.specs.Faults.{last_count, Rose}
 use Rattle.cu_store.specs.Held.{Contents}
 use Rattle.cu_store.specs.Steps.{Shown, Changes, NoChange, PutOf, Steps}

@@ -1,5 +1,5 @@
 -- The report of a run. This project's own line.
-use Rattle.std.specs.Prelude.{ℕ, ◌+◌, List, [], ◌∷◌, ◌++◌, length, codes}
+use Rattle.std.specs.Prelude.{ℕ, List, [], ◌∷◌, ◌++◌, length, codes}
 use Rattle.std.specs.Fmt.{decimal}
 use Rattle.cu_op.specs.PlanView.{PlanView}
 use Rattle.cu_work.specs.Drive.{task_count}

@@ -8,7 +8,7 @@ use Rattle.cu_zarr.specs.Key.{metadata_key_of}
 use Rattle.cu_name.specs.Keys.{record_key_of}
 use Rattle.cu_op.specs.Cells.{tasks_of}
 use Rattle.cu_op.specs.Schedule.{op_of}
-use Rattle.cu_history.specs.History.{is_start, is_failed, count_kind, count_of_task}
+use Rattle.cu_history.specs.History.{is_start, count_of_task}
 use Rattle.cu_history.specs.declared.entry.Entry.{Entry}
 use Rattle.cu_state.specs.Left.{IsLeft, RunChange}
 use Rattle.cu_state.specs.Pieces.{Text, HoldsPiece}

@@ -20,7 +20,6 @@ use Rattle.cu_form.specs.declared.form.Form.{Form}
 use Rattle.cu_meaning.specs.Argument.{NodeElements, shape_of_node}
 use Rattle.cu_meaning.specs.Meaning.{meaning_of}
 use Rattle.cu_lower.specs.Inputs.{layout_named}
-use Rattle.cu_lower.specs.Premises.{expression_run as plan_run}
 use Rattle.cu_lower.specs.declared.options.Options.{Options}
 use Rattle.cu_state.specs.Pieces.{PlanRun, Text, KeysApart, HoldsPiece, IsComplete}
 use Rattle.cu_state.specs.Left.{IsQuiet, IsLeft, RunChange}

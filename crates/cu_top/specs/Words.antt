@@ -1,5 +1,5 @@
 -- What the words of the command line ask for. This project's own rules.
-use Rattle.std.specs.Prelude.{◌≡◌, ◌≤◌, ◌==◌, ℕ, List, [], ◌∷◌, true, Result, Ok, Err, if◌then◌else◌}
+use Rattle.std.specs.Prelude.{◌≤◌, ◌==◌, ℕ, List, [], ◌∷◌, Result, Ok, Err, if◌then◌else◌}
 use Rattle.cu_name.specs.Name.{is_name}
 use Rattle.cu_lower.specs.Parts.{AreOptions}
 use Rattle.cu_lower.specs.declared.options.Options.{Options}

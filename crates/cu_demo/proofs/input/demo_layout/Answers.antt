@@ -1,4 +1,3 @@
-use Rattle.std.proofs.Common.{Some, None, Option}
 use Rattle.cu_demo.proofs.Computed.{demo_grid, grid_or_fault}
 use Rattle.cu_demo.proofs.input.demo_layout.Goals as goal
 

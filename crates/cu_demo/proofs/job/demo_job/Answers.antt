@@ -1,4 +1,4 @@
-use Rattle.std.proofs.Common.{◌≡◌, ◌∙◌, Ok, sym, ap}
+use Rattle.std.proofs.Common.{◌∙◌, sym, ap}
 use Rattle.cu_expr.specs.Typing.{typed}
 use Rattle.cu_demo.proofs.Computed.{demo_number}
 use Rattle.cu_demo.specs.Expression.{demo_inputs}

@@ -1,8 +1,6 @@
-use Rattle.std.proofs.Common.{sym, subst, List, ℕ}
+use Rattle.std.proofs.Common.{subst, List, ℕ}
 use Rattle.cu_command.specs.Job.{IsUnread}
 use Rattle.cu_demo.proofs.Computed.{only_expression, only_memory}
-use Rattle.cu_demo.specs.Expression.{demo_text}
-use Rattle.cu_read.specs.Read.{expression_of}
 use Rattle.cu_demo.proofs.job.said.Goals as goal
 
 pub memory_fault-requires : goal.memory_fault-requires

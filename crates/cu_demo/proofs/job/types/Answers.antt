@@ -1,9 +1,7 @@
-use Rattle.std.proofs.Common.{sym, subst, List, All}
-use Rattle.cu_command.specs.Job.{IsUntyped}
+use Rattle.std.proofs.Common.{sym, subst, All}
 use Rattle.cu_command.specs.Stored.{IsArrayLayout}
 use Rattle.cu_expr.specs.declared.inputs.InputInfo.{InputInfo}
 use Rattle.cu_demo.proofs.Computed.{both_storable, only_memory_typing}
-use Rattle.cu_demo.specs.Expression.{demo_inputs}
 use Rattle.cu_demo.proofs.job.types.Goals as goal
 
 pub types_in-requires : goal.types_in-requires

@@ -1,8 +1,7 @@
-use Rattle.std.proofs.Common.{◌≡◌, ◌+◌, ◌∙◌, subst, sym, refl, ap, false, ℕ, List}
+use Rattle.std.proofs.Common.{◌≡◌, ◌+◌, ◌∙◌, subst, sym, ap, false, ℕ, List}
 use Rattle.cu_command.proofs.SeenLemmas.{stepped_then}
-use Rattle.cu_command.specs.declared.status.Status.{Status}
 use Rattle.cu_demo.specs.Input.{demo_name}
-use Rattle.cu_demo.specs.declared.input.DemoInput.TheVariants.{Rows, Columns}
+use Rattle.cu_demo.specs.declared.input.DemoInput.TheVariants.{Columns}
 use Rattle.cu_load.specs.Keys.{AreFree}
 use Rattle.cu_top.proofs.DemoInputs.{columns_end, free_before, plan_end, rows_end}
 use Rattle.cu_top.proofs.RunLemmas.{all_free}

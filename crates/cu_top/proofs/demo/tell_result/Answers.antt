@@ -1,4 +1,4 @@
-use Rattle.std.proofs.Common.{◌+◌, ◌++◌, ℤ, List, ℕ, length, length-append, arith, rules}
+use Rattle.std.proofs.Common.{◌+◌, ◌++◌, ℤ, length, length-append, arith, rules}
 use Rattle.std.proofs.lemmas.Int.{to_z-of_z}
 use Rattle.std.specs.Int.{w128}
 use Rattle.std.specs.Prelude.{FitsSigned}

@@ -1,4 +1,4 @@
-use Rattle.std.proofs.Common.{◌≡◌, ◌+◌, ◌*◌, ◌≤◌, ℕ, List, Ok, Err, length, subst, sym, arith}
+use Rattle.std.proofs.Common.{◌+◌, ◌*◌, ◌≤◌, ℕ, List, Ok, Err, length, subst, sym, arith}
 use Rattle.cu_command.specs.Seen.{stream}
 use Rattle.cu_command.specs.Streams.{WroteFront}
 use Rattle.cu_command.specs.declared.status.Status.{Status}

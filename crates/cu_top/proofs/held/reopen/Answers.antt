@@ -1,4 +1,4 @@
-use Rattle.std.proofs.Common.{rules, ◌∙◌, ap, sym, subst}
+use Rattle.std.proofs.Common.{rules, ◌∙◌, sym, subst}
 use Rattle.cu_command.proofs.SeenLemmas.{stepped}
 use Rattle.cu_command.specs.Job.{IsJob}
 use Rattle.cu_command.specs.declared.job.Job.{Job}

@@ -1,14 +1,13 @@
-use Rattle.std.proofs.Common.{rules, ◌≡◌, ◌∙◌, ◌+◌, ap, sym, subst, List, Bool, ℕ, Contains, length}
+use Rattle.std.proofs.Common.{rules, ◌∙◌, ◌+◌, ap, sym, subst, List, Bool, length}
 use Rattle.cu_command.proofs.SeenLemmas.{stepped, stepped_then}
 use Rattle.cu_command.specs.declared.status.Status.{Status}
 use Rattle.cu_op.specs.PlanView.{PlanView}
 use Rattle.cu_table.specs.Table.{TableView}
 use Rattle.cu_work.specs.Order.{plan_keys}
-use Rattle.cu_work.specs.Search.{NamesStored, IsFindFault}
+use Rattle.cu_work.specs.Search.{NamesStored}
 use Rattle.cu_work.specs.World.{IsFound}
 use Rattle.cu_top.proofs.ReopenLemmas.{ask_refused, find_refused, names_later, metadata_listed, chunk_listed, texts_both, texts_record}
 use Rattle.cu_top.specs.Prepare.{job_plan, keys_of}
-use Rattle.cu_top.specs.Quiet.{run_of_job}
 use Rattle.cu_top.specs.Resume.{IsRestFault}
 use Rattle.cu_top.proofs.resume.find_rest.Goals.{in-Ok-true, in-Ok-false}
 use Rattle.cu_top.proofs.resume.find_rest.Goals as goal

@@ -1,4 +1,4 @@
-use Rattle.std.proofs.Common.{◌≡◌, ◌+◌, None, subst, sym, arith, Result}
+use Rattle.std.proofs.Common.{None, subst, sym, arith, Result}
 use Rattle.cu_command.specs.Seen.{stream}
 use Rattle.cu_command.specs.declared.status.Status.{Status}
 use Rattle.cu_command.proofs.SeenLemmas.{stepped_then}

@@ -1,10 +1,10 @@
-use Rattle.std.proofs.Common.{◌≡◌, ◌+◌, ◌∙◌, List, Bool, ℕ, None, ap, subst, sym, arith, Result, IfErr}
+use Rattle.std.proofs.Common.{◌≡◌, ◌∙◌, List, Bool, None, ap, subst, sym, arith, Result, IfErr}
 use Rattle.cu_command.specs.Seen.{stream}
 use Rattle.cu_command.specs.declared.status.Status.{Status}
 use Rattle.cu_op.specs.PlanView.{PlanView}
 use Rattle.cu_table.specs.Table.{TableView}
 use Rattle.cu_work.specs.World.{IsFound}
-use Rattle.cu_top.proofs.DriveLemmas.{PlanLaws, HistoryLaws, apart_run, apart_inputs, started_case}
+use Rattle.cu_top.proofs.DriveLemmas.{PlanLaws, HistoryLaws, apart_run, apart_inputs}
 use Rattle.cu_top.proofs.PlanLemmas.{meant}
 use Rattle.cu_top.proofs.RunLemmas.{run_ended, open_cleared, stopped_of}
 use Rattle.cu_top.specs.Driven.{WasDriven, drive_case}
