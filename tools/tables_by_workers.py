@@ -4,7 +4,7 @@
 usage: tools/tables_by_workers.py PROGRAM [N..]     PROGRAM is the built cu_cases; N is 2 and 4 if it isn't given
 
 Left out of a row are the count and the order of its calls and what is tried call by call, since these are those of one worker. A row
-whose store fails by a script is left out whole. The program compares each answer, each output and each chunk with the table's.
+whose store fails by a script is left out whole, and with a step the steps that go on from it. The program compares each answer, each output and each chunk with the table's.
 """
 import json
 import os
@@ -15,7 +15,7 @@ import tempfile
 TOP = os.path.dirname(os.path.dirname(os.path.realpath(__file__)))
 CRATE = f"{TOP}/crates/cu_cases"
 OF_ONE = ("calls", "loops", "ends", "once", "late", "sinks", "fronts")
-SCRIPTED = ("faults", "stop_after")
+SCRIPTED = ("faults", "stop_after", "fail_from")
 
 
 def is_run(words):
@@ -29,12 +29,12 @@ def by_workers(row, count):
     told = {name: value for name, value in row.items() if name not in OF_ONE}
     if is_run(told.get("words")):
         told["words"] = ["run", "--workers", str(count), *told["words"][1:]]
-    for name in ("rows", "steps"):
-        if name in told:
-            told[name] = [one for one in (by_workers(row, count) for row in told[name]) if one is not None]
-            if not told[name]:
-                return None
-    return told
+    if "rows" in told:
+        told["rows"] = [one for one in (by_workers(row, count) for row in told["rows"]) if one is not None]
+    if "steps" in told:
+        told["steps"] = [by_workers(step, count) for step in told["steps"]]
+    has_none = told.get("rows") == [] or None in told.get("steps", [])
+    return None if has_none else told
 
 
 def write_tables(folder, count):
