@@ -147,7 +147,12 @@ fn write_states(line: &mut String, depot: &ShakyDepot, known: &[Known]) -> Resul
 }
 
 /// Writes each key that is held and that the case doesn't name.
-fn write_others(line: &mut String, depot: &ShakyDepot, holds: &[Known], leaves: &[Known]) -> Result<()> {
+fn write_others(
+    line: &mut String,
+    depot: &ShakyDepot,
+    holds: &[Known],
+    leaves: &[Known],
+) -> Result<()> {
     for slot in depot.shelf().slots() {
         let is_known = holds.iter().any(|one| one.key.is(&slot.key))
             || leaves.iter().any(|one| one.key.is(&slot.key));
@@ -159,6 +164,7 @@ fn write_others(line: &mut String, depot: &ShakyDepot, holds: &[Known], leaves: 
 }
 
 /// What stays the same in all steps of a round.
+#[derive(Drop)]
 struct Round<'a> {
     alloc: Global,
     text: &'a [u8],
@@ -188,7 +194,13 @@ fn run_step(
     };
     let gate = SlowGate { turns: round.slow };
     let status = top(
-        threads, round.alloc, &words, &mut source, &mut sink, depot, &gate,
+        threads,
+        round.alloc,
+        &words,
+        &mut source,
+        &mut sink,
+        depot,
+        &gate,
     );
     let told = status_line(&status);
     for byte in sink.text() {
@@ -300,7 +312,9 @@ pub enum Lot {
 impl Dice {
     /// The sequence of a seed.
     pub fn make(seed: u64) -> Dice {
-        let mut dice = Dice { word: seed | 1 << 63 };
+        let mut dice = Dice {
+            word: seed | 1 << 63,
+        };
         for at in 0..8 {
             let _at = at;
             dice.next();
@@ -346,6 +360,8 @@ impl Dice {
 """
 SOURCES["src/shelf.rt"] = """\
 //! What a depot holds, and the puts that are late.
+ghost use Rattle.std.specs.Prelude.{◌≡◌, ◌≤◌};
+ghost use Rattle.faults_bench.specs.Shaky.{CountsFault};
 
 use crate::dice::{Dice, Lot, Odds};
 use cu_store::{DepotFault, Got, Key, NoMemory};
@@ -501,7 +517,11 @@ impl Shelf {
 }
 
 /// Counts a fault, where the answer is one.
-pub fn counted<A>(faults: &mut u64, answer: Result<A, DepotFault>) -> Result<A, DepotFault> {
+pub fn counted<A>(faults: &mut u64, answer: Result<A, DepotFault>) -> Result<A, DepotFault>
+    ensures same { result ≡ answer }
+    ensures counted { CountsFault faults.old faults.new result }
+    ensures count { faults.old ≤ faults.new }
+{
     if let Err(DepotFault::Failed) = &answer {
         *faults = faults.saturating_add(1);
     }
@@ -511,7 +531,9 @@ pub fn counted<A>(faults: &mut u64, answer: Result<A, DepotFault>) -> Result<A, 
 SOURCES["src/depot.rt"] = """\
 //! A depot in memory whose calls fail at random.
 ghost use Rattle.faults_bench.specs.Shaky.{shown_in, lent_in, note_of};
-ghost use Rattle.std.specs.Prelude.{◌≡◌, true, IfOk};
+ghost use Rattle.std.specs.Prelude.{◌≡◌, ◌+◌, min, true, IfOk};
+ghost use Rattle.cu_store.specs.Faults.{last_count};
+ghost use Rattle.cu_store.specs.Steps.{NoChange, Steps};
 ghost use Rattle.cu_store.specs.Yard.{bytes_under};
 
 use crate::dice::{Dice, Lot, Odds};
@@ -579,8 +601,22 @@ impl ShakyDepot {
         self.faults
     }
 
+    /// Adds the counts of calls that were made elsewhere.
+    fn add_counts(&mut self, faults: u64, calls: u64)
+        ensures faults { self.new.faults ≡ min (self.old.faults + faults) last_count }
+        ensures calls { self.new.calls ≡ min (self.old.calls + calls) last_count }
+        ensures lent { self.new.lent ≡ self.old.lent }
+        ensures step { Steps NoChange 0 calls (shown_in self.old) (shown_in self.new) }
+    {
+        self.faults = self.faults.saturating_add(faults);
+        self.calls = self.calls.saturating_add(calls);
+    }
+
     /// What becomes of the next call, which is counted.
-    fn begin(&mut self) -> Lot {
+    fn begin(&mut self) -> Lot
+        ensures calls { self.new.calls ≡ min (self.old.calls + 1) last_count }
+        ensures faults { self.new.faults ≡ self.old.faults }
+    {
         self.calls = self.calls.saturating_add(1);
         self.shelf.begin(&mut self.dice, &self.odds)
     }
@@ -669,8 +705,7 @@ impl Share for ShakyDepot {
     }
 
     fn unshare(&mut self, yard: ShakyYard, pass: ShakyPass) {
-        self.faults = self.faults.saturating_add(pass.faults());
-        self.calls = self.calls.saturating_add(pass.calls());
+        self.add_counts(pass.faults(), pass.calls());
         self.shelf = yard.into_shelf();
     }
 }
@@ -678,7 +713,7 @@ impl Share for ShakyDepot {
 SOURCES["src/yard.rt"] = """\
 //! A yard in memory whose calls fail at random.
 ghost use Rattle.std.specs.Prelude.{◌≡◌, IsTrue};
-ghost use Rattle.cu_store.specs.Yard.{bytes_under, is_made, uncounted};
+ghost use Rattle.cu_store.specs.Yard.{bytes_under, is_made, IsPresent, uncounted};
 ghost use Rattle.faults_bench.specs.Shaky.{served_in, known_by, IsOwnPass, AreOfOneYard};
 ghost use Rattle.faults_bench.specs.ShakyLaws.{shaky_laws};
 
@@ -783,7 +818,9 @@ fn locked_get(
     dice: &mut Dice,
     key: &Key,
     buf: &mut [u8],
-) -> Result<Got, DepotFault> {
+) -> Result<Got, DepotFault>
+    ensures present { IsTrue (is_made yard.now.specs.items key.now) → IsPresent result }
+{
     for at in 0..TRIES {
         let _at = at;
         if let Some(mut shelf) = yard.shelf.try_lock() {
@@ -889,14 +926,22 @@ pub mod ShakyLaws
 """
 SOURCES["specs/Shaky.antt"] = """\
 -- What a depot in memory that tells nothing shows, lends and serves, and what its passes know.
-use Rattle.std.specs.Prelude.{◌≡◌, ℕ, true, List, [], Option, Some, None}
+use Rattle.std.specs.Prelude.{◌≡◌, ℕ, ◌+◌, min, true, [], Option, Some, None, Result, Err}
+use Rattle.cu_store.specs.Faults.{last_count}
 use Rattle.cu_store.specs.Steps.{Shown}
 use Rattle.cu_store.specs.Share.{Lent}
 use Rattle.cu_store.specs.Yard.{bytes_under, Served, Known}
+use Rattle.cu_store.specs.declared.faults.DepotFault.{DepotFault}
+use Rattle.cu_store.specs.declared.faults.DepotFault.TheVariants.{Failed}
 use Rattle.faults_bench.specs.declared.depot.ShakyDepot.{ShakyDepot}
 use Rattle.faults_bench.specs.declared.depot.LentNote.{LentNote}
 use Rattle.faults_bench.specs.declared.yard.ShakyYard.{ShakyYard}
 use Rattle.faults_bench.specs.declared.yard.ShakyPass.{ShakyPass}
+
+-- a call that fails raises the count by one, and no other call does
+abbrev pub CountsFault : {A : Type 0} → ℕ → ℕ → Result A DepotFault → Type 0
+CountsFault before after (Err Failed) = after ≡ min (before + 1) last_count
+CountsFault before after answer = after ≡ before
 
 -- nothing of its contents, and its counts
 abbrev pub shown_in : ShakyDepot → Shown
@@ -932,7 +977,7 @@ AreOfOneYard p q = p.promise.value ≡ q.promise.value
 """
 SOURCES["specs/ShakyLaws.antt"] = """\
 -- The laws of a yard that tells nothing.
-use Rattle.std.proofs.Common.{◌≡◌, Option, Some, None, refl, sym, ◌∙◌, ap, inl}
+use Rattle.std.proofs.Common.{◌≡◌, Some, None, refl, sym, ◌∙◌, ap, inl}
 use Rattle.cu_store.specs.Held.{Contents}
 use Rattle.cu_store.specs.Yard.{bytes_under, YardLaws}
 use Rattle.faults_bench.specs.Shaky.{served_in, known_by, IsOwnPass, AreOfOneYard}
