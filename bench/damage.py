@@ -220,7 +220,14 @@ class Case:
         members = {"zarr_format": 2, "shape": array.shape, "chunks": array.chunk, "fill_value": self.pick.choice([array.fill, None]),
                    "dtype": ("|" if rules.SIZES[array.dtype] == 1 else ">" if array.endian == "big" else "<") + kind,
                    "compressor": self.pick.choice([None, None, {"id": "blosc"}]), "filters": None, "order": self.pick.choice("CCCF")}
+        if self.pick.random() < 0.5:
+            members["dimension_separator"] = self.pick.choice(["/", "/", ".", "-", None])
+        if self.pick.random() < 0.3:
+            spoil_version_2(self.pick, members)
         data = json.dumps(members).encode()
+        told = rules.zarray_or_code(data) if hasattr(rules, "zarray_or_code") else None
+        if told is not None and type(told) is not int and rules.size_of(told.shape) > 10**6:
+            return  # A large array takes long to print.
         self.put(f"{self.pick.choice([entry.name, entry.name, 'y'])}/.zarray", odd_bytes(self.pick, data) if self.pick.random() < 0.3 else data)
         if self.pick.random() < 0.6:
             os.remove(os.path.join(self.folder, entry.name, "zarr.json"))
@@ -240,7 +247,8 @@ class Case:
     def damage_way(self):
         """Puts a file where the plan wants a folder or a file of its own."""
         key = self.pick.choice(["y", "y/c", "_cubed", "_cubed/y", "_cubed/y/0", "y/zarr.json", "y/c/0", "y/c/0/0", "_cubed/y/0/c/0", "a/c", "demo_a/zarr.json",
-                                "_cubed/demo_y/plan.json", "demo_y/c/0"])
+                                "_cubed/demo_y/plan.json", "demo_y/c/0", "demo_y", "demo_b/zarr.json", "demo_y/zarr.json", "demo_a/.zarray", "demo_b/.zarray",
+                                "demo_y/.zarray", "y/.zarray", "_cubed/demo_y/0", "demo_a/c/0/0", "demo_b/c"])
         if not os.path.lexists(os.path.join(self.folder, key)) or self.pick.random() < 0.3:
             clear(os.path.join(self.folder, key))
             self.put(key, b"in the way")
@@ -342,6 +350,21 @@ class Case:
         if command in ("resume", "drop") and status in (0, 10, 12, 13) and self.record and before.get(f"{top}/_cubed/y/plan.json", ("", b""))[1] != self.record:
             return f"the status is {status}, and the record was another than the run wrote"
         return None
+
+
+def spoil_version_2(pick, members):
+    """Spoils a member of metadata of version 2, takes one away, or adds one."""
+    spoilt = {"zarr_format": [3, "2", None, 2.0], "shape": [[], [-1], [1] * 7, "3", [2**41], [1.5]], "chunks": [[], [0], [1] * 7, None, [2**29], [True]],
+              "dtype": ["<f4", "i4", "=i4", "|i4", ">b1", "|b1", "<i16", [["a", "<i4"]], 4, "<U4", "|u1"], "fill_value": ["0", 1.5, 2**64, -(2**63) - 1, True, [], "NaN"],
+              "compressor": [{"id": "zstd"}, {}, [], False], "filters": [[], [{"id": "delta"}], {}], "order": ["F", "c", None, 0], "dimension_separator": ["", "//", 1, ["/"]]}
+    member = pick.choice(sorted(spoilt))
+    kind = pick.choice(["other", "other", "other", "lost", "more"])
+    if kind == "lost":
+        members.pop(member, None)
+    elif kind == "more":
+        members["more"] = {"must_understand": True}
+    else:
+        members[member] = pick.choice(spoilt[member])
 
 
 def pick_size(pick):

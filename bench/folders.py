@@ -64,6 +64,13 @@ class Room:
     def cut(self, key, size):
         os.truncate(self.path(key), size)
 
+    def edit(self, key, old, new):
+        with open(self.path(key), "rb") as file:
+            data = file.read()
+        if old not in data:
+            raise SystemExit(f"{key} doesn't have {old}")
+        self.put(key, data.replace(old, new))
+
     def in_place(self, key, make):
         """Puts something else in the place of what lies there."""
         if os.path.lexists(self.path(key)):
@@ -174,7 +181,7 @@ class Row:
         changed = {key for key in set(before) | set(after) if before.get(key) != after.get(key)}
         if status != self.status or self.line is not None and line != self.line:
             return f"it ended with {status}: {line}"
-        if changed != self.changed:
+        if changed != self.changed and not getattr(self, "any_change", False):
             return f"other files are {sorted(changed)}"
         return None if self.beside or not touched else f"beside it {sorted(touched)} were touched"
 
@@ -307,27 +314,38 @@ def of_others():
     yield copy("`m/c/0/3` is missing", does("remove", "m/c/0/3"))
 
 
+BETWEEN = "_cubed/y/0/c"
+WHOLE = {*ALL, f"{BETWEEN}/0", f"{BETWEEN}/1"}
+
+
+def ran(*steps):
+    """A whole run of two functions, and then these steps."""
+    def prepare(room):
+        words = [room.program, room.dir, "run", "--allowed-mem", "1600"]
+        subprocess.run(words, input=json.dumps(TWO).encode(), check=True, capture_output=True)
+        for step in steps:
+            step(room)
+
+    return prepare
+
+
+def after(what, prepare, status, line, changed=None, command="resume", allowed="1600", **others):
+    words = (command, "--allowed-mem", allowed)
+    return Row(f"{command}: {what}", prepare, status, line, changed or set(), words, TWO, **others)
+
+
+def report(starts):
+    return 0, f"ok ops=2 tasks=4 starts={starts} failed=0 peak=1600"
+
+
+def without(*keys):
+    """What a run left but for these keys."""
+    return ran(*[does("remove", key) for key in keys])
+
+
 def of_resume():
     """Rows of `resume` and `drop`, behind a whole run of two functions, of which some files were taken away."""
-    between = "_cubed/y/0/c"
-
-    def ran(*steps):
-        def prepare(room):
-            words = [room.program, room.dir, "run", "--allowed-mem", "1600"]
-            subprocess.run(words, input=json.dumps(TWO).encode(), check=True, capture_output=True)
-            for step in steps:
-                step(room)
-
-        return prepare
-
-    def after(what, prepare, status, line, changed=None, command="resume", allowed="1600"):
-        words = (command, "--allowed-mem", allowed)
-        return Row(f"{command}: {what}", prepare, status, line, changed or set(), words, TWO)
-
-    def report(starts):
-        return 0, f"ok ops=2 tasks=4 starts={starts} failed=0 peak=1600"
-
-    whole = {*ALL, f"{between}/0", f"{between}/1"}
+    between, whole = BETWEEN, WHOLE
     yield after("there is no record", lambda room: None, *error(15))
     yield after("nothing is missing", ran(), *report(0))
     yield after("`y/c/1` is missing", ran(does("remove", "y/c/1")), *report(1), {"y/c/1"})
@@ -349,10 +367,151 @@ def of_resume():
     yield after("a folder lies at `y/c/1`", ran(does("folder", "y/c/1")), *error(16, key="y/c/1"), {"y/zarr.json", f"{between}/0", f"{between}/1", "y/c/0"}, "drop")
 
 
-def has_resume(program):
-    """Whether the program has the command `resume`."""
-    ended = subprocess.run([program, "nowhere", "resume", "--no-such"], capture_output=True, stdin=subprocess.DEVNULL, check=False)
+def of_resume_over_others():
+    """Rows of `resume` behind such a run, over what a run doesn't leave: other kinds of files, links, names alike, files of killed writes."""
+    last, made = "y/c/1", f"{BETWEEN}/1"
+    in_beside = lambda room: os.path.join(room.beside, "chunk")
+    yield after("DIR is missing", instead("missing"), *error(8, name="a"))
+    yield after("DIR is a file", instead("beside/chunk"), *error(16, key="a/zarr.json"), beside=True)
+    yield after("`b` is missing", without("b"), *error(8, name="b"))
+    yield after("`a` has another fill value", ran(does("edit", "a/zarr.json", b'"fill_value":0', b'"fill_value":9')), 14, None)
+    yield after("a named pipe lies at `y/c/1`", ran(does("pipe", last)), *error(16, key=last))
+    yield after("a named pipe lies at the chunk in between", ran(does("remove", last), does("pipe", made)), *error(16, key=made))
+    yield after("a named pipe lies at the record", ran(does("pipe", RECORD)), *error(16, key=RECORD))
+    yield after("a link at `y/c/1` leads nowhere", ran(does("link", last, "nowhere")), *report(1), {last})
+    yield after("a link at `y/c/1` leads to a file elsewhere", ran(lambda room: room.link(last, in_beside(room))), *report(0))
+    yield after("a link at `y/c/1` leads to itself", ran(does("link", last, "1")), *error(16, key=last))
+    yield after("a link at the record leads to a file elsewhere", ran(lambda room: room.link(RECORD, in_beside(room))), *error(14, place=0), beside=True)
+    yield after("8 GiB without blocks lie at `y/c/1`", ran(does("sparse", last)), *report(0))
+    yield after("`y/c/1` is missing, and 8 GiB without blocks lie in between", ran(does("remove", last), does("sparse", made)), *error(13, key=made, got=SPARSE, want=16))
+    yield after("8 GiB without blocks lie at the record", ran(does("sparse", RECORD)), 14, None)
+    yield after("`y/c/1` and the chunk in between are missing, and `a/c/1` is one byte short", ran(does("remove", last), does("remove", made), does("cut", "a/c/1", 15)), *error(13, key="a/c/1", got=15, want=16))
+    yield after("`y/c/1` is missing, and the chunk in between is empty", ran(does("remove", last), does("put", made, b"")), *error(13, key=made, got=0, want=16))
+    yield after("`y/c/1` is missing, and killed writes left files", ran(does("remove", last), does("put", "y/c/1.new17"), does("put", f"{RECORD}.new3"), does("put", "y/zarr.json.new0")), *report(1), {last})
+    yield after("`y/c/1` is missing, and folders lie at the names of its first thousand new files", ran(does("remove", last), lambda room: [room.folder(f"y/c/1.new{number}") for number in range(1000)]), *error(10, op=1, task=1))
+    yield after("`Y/c/1`, `Y/zarr.json` and `_cubed/Y/plan.json` are there, and `y/c/1` is missing", ran(does("remove", last), *[does("put", key) for key in ("Y/c/1", "Y/zarr.json", "_cubed/Y/plan.json")]), *report(1), {last})
+    yield after("a file lies at `y/c`", ran(does("remove", "y/c"), does("put", "y/c")), *error(16, key="y/c/0"))
+    yield after("a file lies at `_cubed/y/0`", ran(does("remove", "_cubed/y/0"), does("put", "_cubed/y/0")), *error(16, key=f"{BETWEEN}/0"))
+    yield after("`y/zarr.json` has other bytes", ran(does("put", "y/zarr.json", b"{}")), *report(0))
+    yield after("`y/c/1` is missing, and standard output is full", without(last), *error(12), {last}, streams=(FULL,))
+    yield after("standard input is a folder", without(last), *error(11), streams=(FOLDER_IN,))
+    yield after("standard input is closed", without(last), *error(11), streams=(CLOSED,))
+
+
+def of_drop_over_others():
+    """Rows of `drop` behind such a run."""
+    last = "y/c/1"
+    in_beside = lambda room: os.path.join(room.beside, "chunk")
+
+    def drops(what, prepare, status=0, line="ok keys=6", changed=None, **others):
+        return after(what, prepare, status, line, WHOLE if status == 0 and changed is None else changed, "drop", **others)
+
+    yield drops("DIR is missing", instead("missing"), *error(8, name="a"))
+    yield drops("`b` is missing", without("b"), *error(8, name="b"))
+    yield drops("a named pipe lies at `y/c/1`", ran(does("pipe", last)))
+    yield drops("a link at `y/c/1` leads to a file elsewhere", ran(lambda room: room.link(last, in_beside(room))))
+    yield drops("a link at `y/c/1` leads nowhere", ran(does("link", last, "nowhere")))
+    yield drops("a link at `y/c` leads to a folder elsewhere", ran(lambda room: room.link("y/c", os.path.join(room.beside, "far"))),
+                changed=WHOLE - {"y/c/0", last}, beside=True)
+    yield drops("8 GiB without blocks lie at `y/c/1`", ran(does("sparse", last)))
+    yield drops("the record is one byte short", ran(lambda room: room.cut(RECORD, os.path.getsize(room.path(RECORD)) - 1)), 14, None)
+    yield drops("the record is a named pipe", ran(does("pipe", RECORD)), *error(16, key=RECORD))
+    yield drops("a file lies at `y/c`", ran(does("remove", "y/c"), does("put", "y/c")), *error(16, key="y/c/0"), {"y/zarr.json", f"{BETWEEN}/0", f"{BETWEEN}/1"})
+    yield drops("`Y/c/1` and `_cubed/Y/plan.json` are there", ran(does("put", "Y/c/1"), does("put", "_cubed/Y/plan.json")))
+    yield drops("files that aren't of the plan lie beside", ran(*[does("put", key) for key in ("y/c/2", "y/note", "_cubed/y/1/c/0", "_cubed/y/0/c/2", "_cubed/y/note")]))
+    yield drops("standard output is full", ran(), *error(12), WHOLE, streams=(FULL,))
+    yield drops("standard input is a folder", ran(), *error(11), streams=(FOLDER_IN,))
+    yield drops("`y/zarr.json` is a folder", ran(does("folder", "y/zarr.json")), *error(16, key="y/zarr.json"), set())
+
+
+DEMO_RECORD = "_cubed/demo_y/plan.json"
+DEMO = {DEMO_RECORD, "demo_y/zarr.json", "demo_y/c", *[f"demo_{name}/{key}" for name in "ab" for key in ("zarr.json", "c/0/0")],
+        "_cubed/demo_y/0/c/0/0", "_cubed/demo_y/1/c/0/0", "_cubed/demo_y/2/c/0"}
+
+
+def of_demo():
+    """Rows of `demo 4`, which makes two inputs of one chunk and four operations."""
+
+    def demo(what, prepare, status=0, line="demo 4 result=3\nok ops=4 tasks=4 starts=4 failed=0 peak=3904", changed=None, words=("demo", "4"), **others):
+        return Row(f"demo: {what}", prepare, status, line, DEMO if status == 0 and changed is None else changed or set(), words, **others)
+
+    yield demo("nothing", lambda room: None)
+    yield demo("DIR is missing", instead("missing"), changed=set())
+    yield demo("DIR is a file", instead("beside/chunk"), *error(16, key="_cubed/demo_a/plan.json"), beside=True)
+    for key in ("_cubed/demo_a/plan.json", "demo_a/zarr.json", "demo_a/.zarray", "_cubed/demo_b/plan.json", "demo_b/zarr.json", "demo_b/.zarray",
+                DEMO_RECORD, "demo_y/zarr.json", "demo_y/.zarray", "_cubed/demo_y/0/c/0/0", "demo_y/c"):
+        yield demo(f"a file lies at `{key}`", does("put", key), *error(9, key=key))
+    yield demo("files lie at `demo_a/c/0/0` and `demo_b/c/0/0`", several(does("put", "demo_a/c/0/0"), does("put", "demo_b/c/0/0")))
+    yield demo("a file lies at `demo_a`", does("put", "demo_a"), *error(16, key="demo_a/zarr.json"))
+    yield demo("a file lies at `demo_a/c`", does("put", "demo_a/c"), *error(16, key="demo_a/c/0/0"))
+    yield demo("a file lies at `_cubed`", does("put", "_cubed"), *error(16, key="_cubed/demo_a/plan.json"))
+    yield demo("a file lies at `_cubed/demo_y/1`", does("put", "_cubed/demo_y/1"), *error(16, key="_cubed/demo_y/1/c/0/0"))
+    yield demo("a folder lies at `demo_y/c`", does("folder", "demo_y/c"), *error(16, key="demo_y/c"))
+    yield demo("a named pipe lies at `demo_b/c/0/0`", does("pipe", "demo_b/c/0/0"))
+    yield demo("a link at `demo_b/c/0/0` leads to a file elsewhere", lambda room: room.link("demo_b/c/0/0", os.path.join(room.beside, "chunk")))
+    yield demo("folders lie at the names of the first thousand new files of `demo_y/c`", lambda room: [room.folder(f"demo_y/c.new{number}") for number in range(1000)],
+               *error(10, op=3, task=0), DEMO - {"demo_y/c"})
+    yield demo("standard output is full", lambda room: None, *error(12), DEMO, streams=(FULL,))
+    yield demo("standard input is closed", lambda room: None, streams=(CLOSED,))
+    yield demo("100 bytes are allowed", lambda room: None, 5, None, words=("demo", "4", "--allowed-mem", "100"))
+    yield demo("killed writes left files", several(does("put", "demo_a/zarr.json.new1"), does("put", f"{DEMO_RECORD}.new2")))
+
+
+ZARRAY = b'{"chunks":[4],"compressor":null,"dtype":"<i4","fill_value":0,"filters":null,"order":"C","shape":[6],"zarr_format":2}'
+
+
+def of_version_2():
+    """Rows of `run` and `print` of the addition, of which `b` is of version 2."""
+    def older(*steps):
+        def prepare(room):
+            for number in "01":
+                os.rename(room.path(f"b/c/{number}"), room.path(f"b/{number}"))
+            room.remove("b/zarr.json")
+            room.put("b/.zarray", ZARRAY)
+            for step in steps:
+                step(room)
+
+        return prepare
+
+    def reads(what, prepare, *args, **others):
+        return Row(f"version 2: {what}", prepare, *args, **others)
+
+    yield reads("nothing", older())
+    yield reads("`b/.zarray` is missing", older(does("remove", "b/.zarray")), *error(8, name="b"))
+    yield reads("`b/.zarray` is a folder", older(does("folder", "b/.zarray")), *error(16, key="b/.zarray"))
+    yield reads("a named pipe lies at `b/.zarray`", older(does("pipe", "b/.zarray")), *error(16, key="b/.zarray"))
+    yield reads("8 GiB without blocks lie at `b/.zarray`", older(does("sparse", "b/.zarray")), 7, None)
+    yield reads("a link at `b/.zarray` leads nowhere", older(does("link", "b/.zarray", "nowhere")), *error(8, name="b"))
+    yield reads("`b/.zarray` isn't JSON", older(does("put", "b/.zarray", b"{")), 7, None)
+    yield reads("a compressor is named", older(does("edit", "b/.zarray", b'"compressor":null', b'"compressor":{"id":"blosc"}')), *error(7, name="b", code=28))
+    yield reads("the order is that of columns", older(does("edit", "b/.zarray", b'"order":"C"', b'"order":"F"')), *error(7, name="b", code=29))
+    yield reads("`b/zarr.json` is there too, and isn't JSON", older(does("put", "b/zarr.json", b"{")), *error(7, name="b", code=1))
+    yield reads("`b/zarr.json` is a folder", older(does("folder", "b/zarr.json")), *error(16, key="b/zarr.json"))
+    yield reads("`b/0` is one byte short", older(does("cut", "b/0", 15)), *error(13, key="b/0", got=15, want=16), TEXTS)
+    yield reads("`b/1` is missing", older(does("remove", "b/1")))
+    yield reads("8 GiB without blocks lie at `b/1`", older(does("sparse", "b/1")), *error(13, key="b/1", got=SPARSE, want=16), FIRST)
+    yield reads("a named pipe lies at `b/1`", older(does("pipe", "b/1")), *error(10, op=0, task=1), FIRST)
+    yield reads("a file lies at `y/.zarray`", older(does("put", "y/.zarray")), *error(9, key="y/.zarray"))
+    yield reads("a folder lies at `y/.zarray`", older(does("folder", "y/.zarray")), *error(16, key="y/.zarray"))
+    yield reads("print", older(), 0, "int32 shape [6] chunk [4]\n10 20 30 40 50 60", set(), ("print", "b"))
+    yield reads("print, and `b/0` is missing", older(does("remove", "b/0")), 0, "int32 shape [6] chunk [4]\n0 0 0 0 50 60", set(), ("print", "b"))
+    yield reads("load, and a file lies at `c/.zarray`", does("put", "c/.zarray"), *error(9, key="c/.zarray"), words=("load",),
+                text={"name": "c", "data_type": "int32", "shape": [1], "chunk_shape": [1], "elements": [1]})
+
+
+def has_command(program, command, *positional):
+    """Whether the program has this command."""
+    ended = subprocess.run([program, "nowhere", command, *positional, "--no-such"], capture_output=True, stdin=subprocess.DEVNULL, check=False)
     return ended.stderr != b"error 2 code=1\n"
+
+
+def reads_version_2(program):
+    """Whether the program reads metadata of version 2."""
+    with tempfile.TemporaryDirectory(prefix="cubed-folders-") as folder:
+        os.mkdir(os.path.join(folder, "z"))
+        with open(os.path.join(folder, "z", ".zarray"), "wb") as file:
+            file.write(ZARRAY)
+        return subprocess.run([program, folder, "print", "z"], capture_output=True, check=False).returncode == 0
 
 
 def of_users():
@@ -375,6 +534,21 @@ def of_users():
     yield runs("the user may not read `a/zarr.json`", owned(foreign("a/zarr.json", 0o600)), *error(16, key="a/zarr.json"), user=NOBODY)
     yield runs("the user may not enter DIR", owned(foreign(".", 0o700)), *error(16, key="a/zarr.json"), user=NOBODY)
     yield runs("the user may not read `b/c/1`", owned(foreign("b/c/1", 0o600)), *error(10, op=0, task=1), FIRST, user=NOBODY)
+
+    def ran_owned(*steps):
+        return several(ran(), owned(*steps))
+
+    def locked(*keys):
+        return [foreign(key, 0o755) for key in keys]
+
+    places = (".", "y", "y/c", "_cubed", "_cubed/y", "_cubed/y/0", BETWEEN)
+    yield after("the user may read but not write, and nothing is missing", ran_owned(*locked(*places)), *report(0), user=NOBODY)
+    yield after("the user may read but not write, and `y/c/1` is missing", ran_owned(does("remove", "y/c/1"), *locked(*places)), *error(10, op=1, task=1), user=NOBODY)
+    yield after("the user may read but not write, and `y/zarr.json` is missing", ran_owned(does("remove", "y/zarr.json"), *locked(*places)), *error(16, key="y/zarr.json"), user=NOBODY)
+    yield after("the user may not read the record", ran_owned(foreign(RECORD, 0o600)), *error(16, key=RECORD), user=NOBODY)
+    yield after("the user may read but not write", ran_owned(*locked(*places)), *error(16, key="y/zarr.json"), command="drop", user=NOBODY)
+    yield after("the user may not write in `y/c`", ran_owned(*locked("y/c")), *error(16, key="y/c/0"), {"y/zarr.json", f"{BETWEEN}/0", f"{BETWEEN}/1"}, "drop", user=NOBODY)
+    yield Row("demo: the user may read but not write", owned(foreign(".", 0o755)), *error(16, key="demo_a/c/0/0"), words=("demo", "4"), user=NOBODY)
 
 
 @contextlib.contextmanager
@@ -399,6 +573,28 @@ def of_disks():
     yield full(8, *error(10, op=0, task=0), TEXTS)
     yield full(9, *error(10, op=0, task=1), FIRST)
     yield full(10, 0, OK)
+
+    def filled(*steps):
+        """A whole run, some steps, and then a file that takes all that is left of the disk."""
+        def fill(room):
+            with contextlib.suppress(OSError), open(room.path("filler"), "wb", buffering=0) as file:
+                while file.write(bytes(4096)):
+                    pass
+
+        return ran(*steps, fill)
+
+    def on_small(what, command, prepare, status, line, changed=None):
+        row = after(f"{what}, and no block of the disk is left", prepare, status, line, changed, command)
+        row.pages = 64
+        return row
+
+    yield on_small("nothing is missing", "resume", filled(), *report(0))
+    yield on_small("`y/c/1` is missing", "resume", filled(does("remove", "y/c/1")), *error(10, op=1, task=1))
+    yield on_small("`y/zarr.json` is missing", "resume", filled(does("remove", "y/zarr.json")), *error(16, key="y/zarr.json"))
+    yield on_small("everything is there", "drop", filled(), 0, "ok keys=6", WHOLE)
+    demo = Row("demo: a disk with four blocks left", lambda room: None, 16, None, None, ("demo", "4"))
+    demo.pages, demo.any_change = 10, True
+    yield demo
 
 
 def stopped(act, after=3):
@@ -438,7 +634,7 @@ def large(room):
         room.put(f"a/c/{number}", bytes([1, 0, 0, 0]) * 4)
 
 
-def of_runs():
+def of_runs(commands=False):
     """Rows in which something happens while a run is at work: how it ends, and whether the first and the last chunk of the result are there
     with their numbers (True), with zeros (False), or not at all (None); and the record and the metadata."""
     text = {"nodes": [ADDITION["nodes"][0], {"id": "s", "op": "negative", "args": ["a"]}], "out": "s", "store_as": "y"}
@@ -450,6 +646,20 @@ def of_runs():
         row.left = first, end, record, metadata
         return row
 
+    def begun(room):
+        """A run that was stopped after its first chunks."""
+        large(room)
+        started = subprocess.Popen([room.program, room.dir, "run"], stdin=subprocess.PIPE, stdout=subprocess.PIPE, stderr=subprocess.PIPE)
+        started.stdin.write(json.dumps(text).encode())
+        started.stdin.close()
+        stopped(lambda room: started.kill())(room, started)
+        started.wait()
+
+    def gone_on(what, act, status=0, line=None, first=True, end=True, record=True, metadata=True):
+        row = Row(f"during a resume {what}", begun, status, line, set(), ("resume",), text, during=stopped(act, MANY // 8))
+        row.left = first, end, record, metadata
+        return row
+
     yield at_work("nothing happens", lambda room: None)
     yield at_work("the last chunk of the input is removed", does("remove", last), end=False)
     yield at_work("the last chunk of the input is cut", does("cut", last, 15), *error(13, key=last, got=15, want=16), end=None)
@@ -458,6 +668,12 @@ def of_runs():
     yield at_work("the result is removed", does("remove", "y"), line=None, first=None, metadata=None)
     yield at_work("DIR is removed", lambda room: shutil.rmtree(room.dir), line=None, first=None, end=False, record=None, metadata=None)
     yield at_work("a file is put in the place of DIR", several(lambda room: shutil.rmtree(room.dir), lambda room: open(room.dir, "wb").close()), 10, None, None, None, None, None)
+    if commands:
+        yield gone_on("nothing happens", lambda room: None)
+        yield gone_on("the last chunk of the input is cut", does("cut", last, 15), *error(13, key=last, got=15, want=16), end=None)
+        yield gone_on("the record is removed", does("remove", RECORD), record=None)
+        yield gone_on("DIR is removed", lambda room: shutil.rmtree(room.dir), first=None, end=False, record=None, metadata=None)
+        yield gone_on("the result is removed", does("remove", "y"), first=None, metadata=None)
 
 
 def try_row(row, given):
@@ -498,9 +714,14 @@ def main():
     words.add_argument("--only", default="")
     words.add_argument("--show", action="store_true")
     given = words.parse_args()
-    groups = [of_run, of_links, of_load, of_others, of_runs] + ([of_users, of_disks] if os.geteuid() == 0 else [])
-    groups += [of_resume] if has_resume(given.program) else []
+    commands = {command for command, positional in (("resume", []), ("drop", []), ("demo", ["4"])) if has_command(given.program, command, *positional)}
+    groups = [of_run, of_links, of_load, of_others, lambda: of_runs("resume" in commands)] + ([of_users, of_disks] if os.geteuid() == 0 else [])
+    groups += [of_resume, of_resume_over_others, of_drop_over_others] if {"resume", "drop"} <= commands else []
+    groups += [of_demo] if "demo" in commands else []
+    groups += [of_version_2] if reads_version_2(given.program) else []
     rows = [row for group in groups for row in group() if given.only in row.what]
+    wanted = {"resume": {"resume"}, "drop": {"resume", "drop"}, "demo": {"demo"}}
+    rows = [row for row in rows if wanted.get(row.words[0], set()) <= commands]
     wrong = 0
     for row in rows:
         found = try_row(row, given)

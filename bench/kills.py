@@ -168,7 +168,7 @@ class Job:
         if ended[0] == -9:
             self.look_at_files()
             return True
-        if ended != (0, f"ok keys={len(self.keys)}\n", ""):
+        if ended != (0, f"ok keys={len(self.stored)}\n", ""):
             raise Wrong(f"{' '.join(words)} ended with {ended}")
         if set(self.stored) & set(compare.files_in(self.case.folder)):
             raise Wrong("drop left a file of the plan")
@@ -245,6 +245,8 @@ def main():
             return 1
         shutil.rmtree(folder)
         number += 1
+        if number % 10 == 0:
+            print(f"{sum(counts.values())} kills of {number - given.first} jobs", flush=True)
     print(f"{sum(counts.values())} kills of {number - given.first} jobs, and each job came to its right end: "
           + ", ".join(f"{count} {state}" for state, count in sorted(counts.items())))
     return 0
