@@ -1,5 +1,6 @@
 -- What is known of an expression's inputs: their names and their stored metadata.
 use Rattle.std.specs.Prelude.{ℕ, List, [], ◌∷◌, Option, Some, None, bytes_eq, unwrap_or, if◌then◌else◌}
+use Rattle.cu_op.specs.Arrays.{no_array}
 use Rattle.cu_op.specs.declared.layout.Layout.{Layout}
 use Rattle.cu_node.specs.Info.{info_of, no_info}
 use Rattle.cu_node.specs.declared.info.NodeInfo.{NodeInfo}
@@ -19,3 +20,8 @@ named_input (i ∷ is) name = if bytes_eq name i.name then Some (layout_info i.l
 abbrev pub stored_of : (List ℕ → Option NodeInfo) → Form → NodeInfo
 stored_of known (Form.Input name) = unwrap_or (known name) no_info
 stored_of known form = no_info
+
+-- the layout of that input; where none has the name, that of an array that means nothing
+abbrev pub layout_named : List InputInfo → List ℕ → Layout
+layout_named [] name = no_array.layout
+layout_named (i ∷ is) name = if bytes_eq name i.name then i.layout else layout_named is name

@@ -11,7 +11,6 @@ use Rattle.cu_grid.specs.Grid.{RegularGrid}
 use Rattle.cu_op.specs.Arrays.{grid_at, type_at, chunk_room, grid_counts}
 use Rattle.cu_op.specs.KernelTypes.{KernelFits}
 use Rattle.cu_op.specs.Operation.{IsAligned, MapFits}
-use Rattle.cu_op.specs.Projection as room
 use Rattle.cu_op.specs.Projection.{projection}
 use Rattle.cu_op.proofs.Lists.{greatest_push}
 use Rattle.cu_op.specs.declared.kernel.Instr.{Instr}
@@ -31,7 +30,7 @@ use Rattle.cu_typing.specs.declared.argument.Argument.{Argument}
 use Rattle.cu_typing.specs.declared.argument.Argument.TheVariants.{Array, Written}
 use Rattle.cu_expr.specs.Typing.{argument_of}
 use Rattle.cu_copy.specs.Copies.{rechunked}
-use Rattle.cu_need.specs.Chunks.{aligned_bytes, arrays_in, chunk_bytes, largest}
+use Rattle.cu_need.specs.Chunks.{aligned_bytes, arrays_in, chunk_bytes}
 use Rattle.cu_need.specs.Need.{own_need}
 use Rattle.cu_need.specs.Operands.{in_aligned, operands_of}
 use Rattle.cu_num.specs.Dtype.{InRange}
@@ -55,12 +54,9 @@ use Rattle.cu_lower.specs.Parts.{array_places, instructions_of, copying, type_or
 use Rattle.cu_lower.proofs.Arguments.{Each, each_so, mapped_places, arrays_told}
 use Rattle.cu_lower.proofs.Behind.{behind_hold, own_known, read_known}
 use Rattle.cu_lower.proofs.StepLaws.{HaveLaws}
+use Rattle.cu_shape.specs.Counts.{largest}
 
 -- ---- sums and greatest numbers
-
-same_greatest : (ns : List ℕ) → largest ns ≡ room.largest ns
-same_greatest [] = refl
-same_greatest (n ∷ ns) = ap (max n) (same_greatest ns)
 
 sum_mapped : {A : Type 0} (f : A → ℕ) (xs : List A) → sum_by f xs ≡ sum_by (λ n. n) (map f xs)
 sum_mapped f [] = refl
@@ -109,12 +105,12 @@ module _ (arrays : List ArrayInfo) where
 
   -- the greatest chunk of the arrays that are read and of the one that is made
   greatest_of : (made : NodeInfo) (out : ℕ) (read rooms : List ℕ) → HasInfo arrays out made → map (chunk_room arrays) read ≡ rooms
-      → room.largest (map (chunk_room arrays) (read ++ out ∷ [])) ≡ largest (chunk_bytes made ∷ rooms)
+      → largest (map (chunk_room arrays) (read ++ out ∷ [])) ≡ largest (chunk_bytes made ∷ rooms)
   greatest_of made out read rooms own same =
-      ap room.largest (map_push (chunk_room arrays) read out)
+      ap largest (map_push (chunk_room arrays) read out)
       ∙ greatest_push (map (chunk_room arrays) read) (chunk_room arrays out)
-      ∙ ap (λ r. max r (room.largest (map (chunk_room arrays) read))) (room_of_known out made own)
-      ∙ ap (max (chunk_bytes made)) (ap room.largest same ∙ sym (same_greatest rooms))
+      ∙ ap (λ r. max r (largest (map (chunk_room arrays) read))) (room_of_known out made own)
+      ∙ ap (λ rooms. max (chunk_bytes made) (largest rooms)) same
 
   wanted_rooms : (made : NodeInfo) (read : List ℕ) (is : List NodeInfo) → HaveEach arrays read (wanted made is) → map (chunk_room arrays) read ≡ map (aligned_bytes made) is
   wanted_rooms made [] [] h = refl

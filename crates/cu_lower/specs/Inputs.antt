@@ -1,19 +1,13 @@
 -- The input arrays of a plan: one for each name that a live input node uses (this project's own rule).
 use Rattle.std.specs.Prelude.{ℕ, ◌+◌, Bool, List, [], ◌∷◌, ◌++◌, map, None, bytes_eq, if◌then◌else◌}
 use Rattle.std.specs.List.{list_any, position_or_len}
-use Rattle.cu_op.specs.Arrays.{no_array}
 use Rattle.cu_op.specs.declared.layout.ArrayInfo.{ArrayInfo}
-use Rattle.cu_op.specs.declared.layout.Layout.{Layout}
 use Rattle.cu_form.specs.Expression.{Expression}
 use Rattle.cu_form.specs.declared.expr.Node.{Node}
 use Rattle.cu_form.specs.declared.form.Form.{Form}
 use Rattle.cu_expr.specs.declared.inputs.InputInfo.{InputInfo}
 use Rattle.cu_need.specs.Live.{is_live}
-
--- of the first input with this name; where none has it, that of an array that means nothing
-abbrev pub layout_named : List InputInfo → List ℕ → Layout
-layout_named [] name = no_array.layout
-layout_named (i ∷ is) name = if bytes_eq name i.name then i.layout else layout_named is name
+use Rattle.cu_expr.specs.Inputs.{layout_named}
 
 abbrev pub input_array : List InputInfo → List ℕ → ArrayInfo
 input_array inputs name = record { prefix = name; layout = layout_named inputs name; maker = None }

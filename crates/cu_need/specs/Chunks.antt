@@ -1,5 +1,5 @@
 -- The chunks of a node's array and of an argument's that is aligned to it (this project's own rule).
-use Rattle.std.specs.Prelude.{ℕ, ◌*◌, Bool, List, [], ◌∷◌, max, bytes_eq}
+use Rattle.std.specs.Prelude.{ℕ, ◌*◌, Bool, List, [], ◌∷◌, bytes_eq}
 use Rattle.cu_form.specs.declared.args.Arg.{Arg}
 use Rattle.cu_node.specs.Info.{info_at}
 use Rattle.cu_node.specs.declared.info.NodeInfo.{NodeInfo}
@@ -21,8 +21,3 @@ aligned_bytes result i = product (aligned_chunk result.dims result.chunk i) * si
 -- an argument's array has the chunk to which it is aligned
 abbrev pub is_aligned : NodeInfo → NodeInfo → Bool
 is_aligned result i = bytes_eq i.chunk (aligned_chunk result.dims result.chunk i)
-
--- the greatest of some numbers; of none it is 0
-abbrev pub largest : List ℕ → ℕ
-largest [] = 0
-largest (x ∷ xs) = max x (largest xs)

@@ -1,6 +1,6 @@
 -- The memory of an operation's tasks, in bytes: what is reserved, scratch, the input regions and the output regions, and
 -- 512 for each kernel instruction, which is 64 words (this project's rule).
-use Rattle.std.specs.Prelude.{ℕ, ◌+◌, ◌*◌, ◌^◌, ◌≤◌, max, List, [], ◌∷◌, ◌++◌, length, sum_by, map}
+use Rattle.std.specs.Prelude.{ℕ, ◌+◌, ◌*◌, ◌^◌, ◌≤◌, List, ◌++◌, length, sum_by, map}
 use Rattle.cu_op.specs.declared.layout.ArrayInfo.{ArrayInfo}
 use Rattle.cu_op.specs.declared.operation.Op.{Op}
 use Rattle.cu_op.specs.declared.operation.Op.TheVariants.{Map, Pull, Copy, Fold, Merge, PairFold, PairMerge, Mul}
@@ -8,10 +8,7 @@ use Rattle.cu_num.specs.Dtype.{size_of}
 use Rattle.cu_shape.specs.Index.{product}
 use Rattle.cu_op.specs.Arrays.{grid_at, type_at, chunk_room}
 use Rattle.cu_op.specs.Operation.{reads_of, writes_of, target_of}
-
-abbrev pub largest : List ℕ → ℕ
-largest [] = 0
-largest (n ∷ ns) = max n (largest ns)
+use Rattle.cu_shape.specs.Counts.{largest}
 
 -- the greatest chunk of an array that the operation reads or writes
 abbrev pub scratch_room : List ArrayInfo → Op → ℕ

@@ -1,5 +1,5 @@
 -- How many tasks a plan has, how often each calls at most, and which chunks end a run of them. This project's own rules.
-use Rattle.std.specs.Prelude.{◌≡◌, ◌≢◌, ℕ, ◌<◌, ◌≤◌, List, length, sum_by, Contains}
+use Rattle.std.specs.Prelude.{◌≡◌, ◌≢◌, ℕ, ◌<◌, ◌≤◌, List, length, Contains}
 use Rattle.cu_store.specs.Steps.{Shown}
 use Rattle.cu_op.specs.declared.cells.Cell.{Cell}
 use Rattle.cu_op.specs.Arrays.{chunk_room}
@@ -14,10 +14,6 @@ use Rattle.cu_task.specs.Task.{calls_of}
 -- no task of the plan makes more calls than these at one try
 abbrev pub IsTaskMost : PlanView → ℕ → Type 0
 IsTaskMost p m = (k task : ℕ) → k < length p.ops → task < tasks_of p.arrays (op_of p k) → calls_of p k task ≤ m
-
--- how many tasks the plan has
-abbrev pub task_count : PlanView → ℕ
-task_count p = sum_by (λ o. tasks_of p.arrays o.op) p.ops
 
 -- the key is that of a chunk that a task of the plan reads, which holds `got` bytes and not those of a chunk
 abbrev pub IsBadChunk : PlanView → Shown → List ℕ → ℕ → ℕ → Type 0

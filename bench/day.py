@@ -1,0 +1,161 @@
+#!/usr/bin/env python3
+"""Computes a day's work on packed int16 data with one worker, and with Dask by one thread over the same chunk files, in one run.
+
+  day.py [--program FILE] [--dir FOLDER].. [--runs N] [--workers N] [--python FILE] [--days N] [--only WORD..]
+
+The data are days by latitudes by longitudes, [2920,180,360] in chunks of [365,180,90], with a base of [180,360]. The works: how often
+each place exceeds its base, counted by int32 and by int8; a sum over the days without what is missing; all of it scaled and rounded
+down; and what is left without the base. The program syncs each file before its rename, Dask writes as zarr does, without a sync. Which
+comes first changes at each round, and what both store is compared byte by byte.
+
+It prints the least times and the greatest resident memory of both, the ratio of the times (Dask's is without Python's start), and last
+which of the aims were missed. It does so in memory, where there is such a folder, and on the disk.
+"""
+import argparse
+import itertools
+import json
+import os
+import shutil
+import sys
+import tempfile
+import time
+
+sys.dont_write_bytecode = True
+from stored import GNU_TIME, PROGRAM, can_import, folders, link_as_version_2, metadata, put, same_as_version_2, see_that_it_is_built, timed
+from workers import Told, node
+
+DAYS_A_CHUNK, PLACES, PLACES_A_CHUNK = 365, [180, 360], [180, 90]
+MISSING = -32768
+CUBED, DASK = "cubed", "Dask, one thread"
+
+
+class Work:
+    """What is computed of `t` and `base`: the nodes, the same by Dask's arrays, and the aim: of how much of Dask's time."""
+
+    def __init__(self, nodes, by_dask, aim):
+        self.nodes, self.by_dask, self.aim = nodes, by_dask, aim
+
+    def expression(self):
+        named = {argument for one in self.nodes for argument in one["args"]}
+        given = [{"id": name, "op": "input", "name": name} for name in ("t", "base") if name in named]
+        return json.dumps({"nodes": given + self.nodes, "out": self.nodes[-1]["id"], "store_as": "y"})
+
+
+def exceedances(dtype, aim):
+    nodes = [node("g", "greater", "t", "base"), node("n", "astype", "g", dtype=dtype), node("s", "sum", "n", axes=[0])]
+    return Work(nodes, lambda t, base: (t > base).astype(dtype).sum(axis=0), aim)
+
+
+def masked_sum(t, base):
+    import dask.array
+    return dask.array.where(t != MISSING, t, 0).sum(axis=0)
+
+
+WORKS = {
+    "exceedances as int32": exceedances("int32", 1.0),
+    "exceedances as int8": exceedances("int8", 0.7),
+    "masked sum": Work([node("m", "not_equal", "t", MISSING), node("w", "where", "m", "t", 0), node("s", "sum", "w", axes=[0])], masked_sum, 1.0),
+    "scaled and rounded down": Work(
+        [node("i", "astype", "t", dtype="int32"), node("m", "multiply", "i", 9), node("d", "floor_divide", "m", 5), node("y", "add", "d", 320)],
+        lambda t, base: (t.astype("int32") * 9) // 5 + 320, 0.6),
+    "anomalies": Work([node("y", "subtract", "t", "base")], lambda t, base: t - base, 0.7)}
+
+
+def make_inputs(folder, days):
+    """Stores the days and the base, some of the days' numbers missing, and links them for a zarr that reads version 2 alone."""
+    import numpy
+    rng = numpy.random.default_rng(1)
+    cells = rng.integers(-4000, 4000, [DAYS_A_CHUNK, *PLACES_A_CHUNK], dtype="int16")
+    cells[rng.random(cells.shape) < 0.01] = MISSING
+    arrays = {"t": ([days, *PLACES], [DAYS_A_CHUNK, *PLACES_A_CHUNK], cells),
+              "base": (PLACES, PLACES_A_CHUNK, rng.integers(-500, 500, PLACES_A_CHUNK, dtype="int16"))}
+    for name, (shape, chunk, numbers) in arrays.items():
+        put(os.path.join(folder, name, "zarr.json"), metadata("int16", shape, chunk).encode())
+        counts = [-(-length // part) for length, part in zip(shape, chunk)]
+        for turn, place in enumerate(itertools.product(*map(range, counts))):
+            put(os.path.join(folder, name, "c", *map(str, place)), numpy.roll(numbers, 4099 * turn).tobytes())
+        link_as_version_2(folder, name, "<i2", shape, chunk)
+
+
+def by_dask(folder, work):
+    """The peer: zarr opens and stores the arrays, Dask goes over the chunks with one thread. The seconds that this takes."""
+    import dask
+    import dask.array
+    import zarr
+    start = time.perf_counter()
+    t, base = (dask.array.from_zarr(zarr.open(os.path.join(folder, f"{name}_v2"), mode="r")) for name in ("t", "base"))
+    result = work.by_dask(t, base)
+    target = zarr.open(os.path.join(folder, "dask"), mode="w", shape=result.shape, chunks=result.chunksize, dtype=result.dtype, compressor=None)
+    with dask.config.set(scheduler="synchronous"):
+        dask.array.store(result, target, lock=False)
+    return time.perf_counter() - start
+
+
+def measure(given, folder, name, work):
+    """Goes through both ways in turn, and compares what they store. Returns what was measured of each."""
+    ways = {CUBED: [given.program, folder, "run", "--workers", str(given.workers)]}
+    if given.has_dask:
+        ways[DASK] = [given.python, os.path.abspath(__file__), "--peer", name, folder]
+    told = {way: Told() for way in ways}
+    for number in range(given.runs):
+        for way in list(ways)[::1 if number % 2 == 0 else -1]:
+            for made in ("dask",) if way == DASK else ("y", "_cubed"):
+                shutil.rmtree(os.path.join(folder, made), ignore_errors=True)
+            os.sync()
+            told[way].add(timed(ways[way], work.expression()), way == DASK)
+            if all(os.path.isdir(os.path.join(folder, made)) for made in ("y", "dask")) and not same_as_version_2(folder, "y", "dask"):
+                raise SystemExit(f"{name}: the chunks of Dask and of the program differ")
+    return told
+
+
+def measure_in(given, parent):
+    """Measures all works in a folder. Returns the aims that were missed."""
+    print(f"in {parent}, load {os.getloadavg()[0]:.1f}:", flush=True)
+    missed = []
+    with tempfile.TemporaryDirectory(dir=parent, prefix="cubed-bench-") as folder:
+        make_inputs(folder, given.days)
+        for name, work in WORKS.items():
+            if given.only and not any(word in name for word in given.only):
+                continue
+            told = measure(given, folder, name, work)
+            print(f"  {name}:")
+            for way, one in told.items():
+                print(f"    {way}: {one.row()}", flush=True)
+            if DASK in told:
+                ratio = min(told[CUBED].seconds) / min(told[DASK].seconds)
+                print(f"    ratio {ratio:.2f} (aim {work.aim})", flush=True)
+                missed += [f"in {parent}: {name}: {ratio:.2f} for {work.aim}"] if ratio > work.aim else []
+            for made in ("y", "_cubed", "dask"):
+                shutil.rmtree(os.path.join(folder, made), ignore_errors=True)
+    return missed
+
+
+def main():
+    words = argparse.ArgumentParser(description=__doc__, formatter_class=argparse.RawDescriptionHelpFormatter)
+    words.add_argument("--program", default=PROGRAM, help="the built program")
+    words.add_argument("--dir", action="append", help="a folder to measure in, as often as wanted")
+    words.add_argument("--runs", type=int, default=5, help="how many rounds")
+    words.add_argument("--workers", type=int, default=1, help="how many workers the program has; Dask has one thread")
+    words.add_argument("--python", default=sys.executable, help="the Python that has NumPy, Dask and zarr")
+    words.add_argument("--days", type=int, default=2920, help="how many days there are")
+    words.add_argument("--only", nargs="*", help="the works whose names have one of these words")
+    words.add_argument("--peer", nargs=2, help=argparse.SUPPRESS)
+    given = words.parse_args()
+    if given.peer:
+        name, folder = given.peer
+        print(by_dask(folder, WORKS[name]))
+        return
+    given.program = os.path.abspath(given.program)
+    see_that_it_is_built(given.program)
+    given.has_dask = can_import(given.python, "dask.array", "zarr")
+    if not given.has_dask:
+        print(f"{given.python} has no Dask and zarr, so the program is measured alone")
+    if not os.access(GNU_TIME, os.X_OK):
+        print(f"without {GNU_TIME} no memory is told")
+    print(f"int16 {[given.days, *PLACES]} in chunks of {[DAYS_A_CHUNK, *PLACES_A_CHUNK]}, the least of {given.runs} runs")
+    missed = [one for parent in given.dir or folders() for one in measure_in(given, parent)]
+    print("missed: " + "; ".join(missed) if missed else "no aim was missed")
+
+
+if __name__ == "__main__":
+    main()
