@@ -15,7 +15,7 @@ ghost use Rattle.cu_mean.specs.Reductions.{kept_of, IsNone, IsFirstOrSingle, ele
 
 use crate::axes::is_named_in;
 use crate::digits::index_at;
-use crate::lines::{Line, line_of, on_line};
+use crate::lines::{EvenLine, line_of, on_line};
 use crate::plain::Plain;
 use crate::reading::source;
 use cu_form::Arg;
@@ -177,7 +177,7 @@ fn element_by_index(plains: &[Plain], args: &[Arg], start: &Dims, sizes: &Dims, 
 /// The element at a place among those over which is reduced, in row-major order; `line` has them where they lie evenly apart.
 #[inline]
 pub(crate) fn element_along(
-    line: Option<Line<'_>>,
+    line: Option<EvenLine<'_>>,
     plains: &[Plain],
     args: &[Arg],
     start: &Dims,

@@ -13,7 +13,7 @@ ghost use Rattle.cu_mem.specs.Memory.{contents, lent_by};
 ghost use Rattle.cu_mem.specs.Sharing.{lent_in, there_by, late_puts, room_at, IsFilled, GivesBack, HoldsFrom, PromisedIn};
 
 use crate::depot::MemDepot;
-use crate::entries::{Entry, Slot, bytes_of, fill_place, keep_place};
+use crate::entries::{Slot, StoredKey, bytes_of, fill_place, keep_place};
 use crate::late::Waiting;
 use cu_cells::{CellPass, Cells, LatePut, Running, Script};
 use cu_store::{DepotFault, NoMemory, Promise, Share, Spec};
@@ -249,7 +249,7 @@ fn take_over_one(late: &mut Vec<Waiting>, yard: &Cells, pass: &mut CellPass, roo
 {
     if let Some(put) = yard.hand_late(pass, room) {
         let LatePut { key, wait, bytes } = put;
-        let entry = Entry::of(key, bytes);
+        let entry = StoredKey::of(key, bytes);
         match late.push(Waiting { entry, wait }) {
             Ok(()) => {}
             Err(_) => unreachable!(),

@@ -17,10 +17,10 @@ use Rattle.cu_node.specs.declared.info.NodeInfo.{NodeInfo}
 use Rattle.cu_typing.specs.Accepted.{IsAcceptedReduction, IsAcceptedProduct}
 use Rattle.cu_typing.specs.Joined.{joined_shape}
 use Rattle.cu_typing.specs.Matmul.{left_summed, right_summed, leading_arrays, are_within, product_shape, product_chunk, product_type, product_lead, product_array, typed_matmul}
-use Rattle.cu_typing.specs.Reduction.{Rule, marks_of, reduced_sizes, kept_sizes, reduced}
+use Rattle.cu_typing.specs.Reduction.{ReductionRule, marks_of, reduced_sizes, kept_sizes, reduced}
 use Rattle.cu_typing.proofs.GoingInto.{joined_go_into}
 
-pub reduction_passed : (rule : Rule) (axes : Option (List ℤ)) (keepdims : Bool) (i r : NodeInfo) → reduced rule axes keepdims i ≡ Ok r → (marks : List Bool) × IsAcceptedReduction rule axes keepdims i marks r
+pub reduction_passed : (rule : ReductionRule) (axes : Option (List ℤ)) (keepdims : Bool) (i r : NodeInfo) → reduced rule axes keepdims i ≡ Ok r → (marks : List Bool) × IsAcceptedReduction rule axes keepdims i marks r
 reduction_passed rule axes keepdims i r h =
     let made : List Bool → Result NodeInfo NodeFault = λ marks. limited rule.dtype (kept_sizes keepdims i.dims marks) (kept_sizes keepdims i.chunk marks) in
     let filled : List Bool → Bool = λ marks. not (rule.needs_element && product (reduced_sizes i.dims marks) == 0) in
