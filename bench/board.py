@@ -422,10 +422,10 @@ use Rattle.cu_history.specs.History.{own, is_start}
 use Rattle.cu_table.specs.declared.claim.Claim.{Claim}
 use Rattle.cu_table.specs.declared.claim.Claim.TheVariants as claim
 use Rattle.cu_table.specs.Own.{left_running}
-use Rattle.cu_table.specs.Table.{TableView, start_of, end_of, report_kind, is_late}
+use Rattle.cu_table.specs.Table.{TableView, start_event, end_of, report_kind, is_late}
 use Rattle.cu_turn.specs.declared.view.SeatView.{SeatView}
 use Rattle.cu_turn.proofs.Fronts.{own-append}
-use Rattle.cu_board.specs.Board.{IsResting, IsRunning, IsTurnOf, IsLeftBy, IsClaimTurn, IsReportTurn}
+use Rattle.cu_board.specs.Board.{IsResting, IsRunning, IsTurnOf, IsTableLeft, IsClaimTurn, IsReportTurn}
 
 left-snoc : (now : Option (ℕ × ℕ)) (xs : List Entry) (e : Entry) → left_running now (xs ++ e ∷ []) ≡ cond (is_start e.kind) (Some (e.op, e.task)) None
 left-snoc now [] e = refl
@@ -438,7 +438,7 @@ own-snoc n xs e is = own-append n xs (e ∷ []) ∙ ap (λ (b : Bool). own n xs 
 left_by : (n : ℕ) (xs : List Entry) (e : Entry) → e.worker ≡ n → left_running None (own n (xs ++ e ∷ [])) ≡ cond (is_start e.kind) (Some (e.op, e.task)) None
 left_by n xs e is = ap (left_running None) (own-snoc n xs e is) ∙ left-snoc None (own n xs) e
 
-front_after : (made : TableView) (v : SeatView) (u : TableView) (w : SeatView) → IsLeftBy made v u w → w.front ≡ u.history
+front_after : (made : TableView) (v : SeatView) (u : TableView) (w : SeatView) → IsTableLeft made v u w → w.front ≡ u.history
 front_after made v u w left = ap (λ (x : SeatView). x.front) left.knows
 
 -- ---- after a claim
@@ -449,10 +449,10 @@ same_after made v w r k c = (ap (λ (x : SeatView). x.root) c.left.knows, ap (λ
 pub runs_after : (made : TableView) (v w : SeatView) (op task copy : ℕ) (k : Known) → IsClaimTurn made v (claim.Run op task copy) w k → IsRunning v.number op task w.front
 runs_after made v w op task copy k c =
     ap (λ (h : List Entry). left_running None (own v.number h)) (front_after made v c.after w c.left ∙ c.answer.0.history)
-    ∙ left_by v.number c.before.history (start_of c.before.settings.plan v.number op task) refl
+    ∙ left_by v.number c.before.history (start_event c.before.settings.plan v.number op task) refl
 
 -- a claim that changes nothing leaves the seat at rest
-still_rests : (made : TableView) (v w : SeatView) (t u : TableView) → IsTurnOf made v t → u ≡ t → IsLeftBy made v u w → IsResting v.number v.front → IsResting v.number w.front
+still_rests : (made : TableView) (v w : SeatView) (t u : TableView) → IsTurnOf made v t → u ≡ t → IsTableLeft made v u w → IsResting v.number v.front → IsResting v.number w.front
 still_rests made v w t u found is left rests =
     ap (λ (h : List Entry). left_running None (own v.number h)) (front_after made v u w left ∙ ap (λ (x : TableView). x.history) is) ∙ ap (left_running None) found.own ∙ rests
 

@@ -13,7 +13,7 @@ use Rattle.cu_table.specs.declared.state.Ending.TheVariants as ending
 use Rattle.cu_table.specs.Numbers.{IsTask}
 use Rattle.cu_table.specs.Machine.{Machine, IsDone}
 use Rattle.cu_table.specs.Step.{Settings, StepOf, ending_after}
-use Rattle.cu_table.specs.Table.{TableView, Goes, IsClaim, IsReported, start_of, end_of, report_kind, is_late}
+use Rattle.cu_table.specs.Table.{TableView, Goes, IsClaim, IsReported, start_event, end_of, report_kind, is_late}
 use Rattle.cu_board.specs.Board.{halted_fault, IsGrownBy, Reports}
 
 pub no_truth : false ≡ true → ⊥
@@ -60,7 +60,7 @@ grown_same n t u is = record {
 }
 
 pub claim_grown : (n : ℕ) (t : TableView) (r : Claim) (u : TableView) → IsClaim t n r u → IsHalted t → IsGrownBy n t u
-claim_grown n t (claim.Run op task copy) u (g, count) halted = grown_by n t u (start_of t.settings.plan n op task) refl g halted
+claim_grown n t (claim.Run op task copy) u (g, count) halted = grown_by n t u (start_event t.settings.plan n op task) refl g halted
 claim_grown n t claim.Idle u c halted = grown_same n t u c.0
 claim_grown n t claim.Finished u c halted = grown_same n t u c.0
 claim_grown n t (claim.Broken op task) u c halted = grown_same n t u c.0
@@ -91,7 +91,7 @@ claim_settings n t (claim.Halted f) u c = (ap (λ (x : TableView). x.settings) c
 
 pub claim_failed : (n : ℕ) (t : TableView) (r : Claim) (u : TableView) → IsClaim t n r u → count_kind is_failed u.history ≡ count_kind is_failed t.history
 claim_failed n t (claim.Run op task copy) u (g, count) =
-    ap (count_kind is_failed) g.history ∙ count-snoc is_failed t.history (start_of t.settings.plan n op task) ∙ omega arith
+    ap (count_kind is_failed) g.history ∙ count-snoc is_failed t.history (start_event t.settings.plan n op task) ∙ omega arith
 claim_failed n t claim.Idle u c = ap (λ (x : TableView). count_kind is_failed x.history) c.0
 claim_failed n t claim.Finished u c = ap (λ (x : TableView). count_kind is_failed x.history) c.0
 claim_failed n t (claim.Broken op task) u c = ap (λ (x : TableView). count_kind is_failed x.history) c.0
@@ -108,7 +108,7 @@ claim_ended n t (claim.Halted f) u c = ap (λ (x : TableView). x.state.ended) c.
 pub claim_done : (n : ℕ) (t : TableView) (r : Claim) (u : TableView) → IsClaim t n r u → DoneLaw t u → (op task : ℕ) → IsTask t.settings.plan op task
     → IsDone t.settings.plan u.state op task → IsDone t.settings.plan t.state op task
 claim_done n t (claim.Run o k copy) u (g, count) law op task is d =
-    ⊎_elim (λ was. was) (λ (made : (kind.Start ≡ kind.Done) × (o ≡ op) × (k ≡ task)). absurd (start_undone made.0)) (law (start_of t.settings.plan n o k) g op task is d)
+    ⊎_elim (λ was. was) (λ (made : (kind.Start ≡ kind.Done) × (o ≡ op) × (k ≡ task)). absurd (start_undone made.0)) (law (start_event t.settings.plan n o k) g op task is d)
 claim_done n t claim.Idle u c law op task is d = subst (λ (x : TableView). IsDone t.settings.plan x.state op task) c.0 d
 claim_done n t claim.Finished u c law op task is d = subst (λ (x : TableView). IsDone t.settings.plan x.state op task) c.0 d
 claim_done n t (claim.Broken o k) u c law op task is d = subst (λ (x : TableView). IsDone t.settings.plan x.state op task) c.0 d

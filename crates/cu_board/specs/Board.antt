@@ -129,7 +129,7 @@ pub record IsTurnOf (made : TableView) (old : SeatView) (t : TableView) : Type 0
   pub own : own old.number t.history ≡ own old.number old.front
 
 -- ... and the table that it left, whose whole history it knows
-pub record IsLeftBy (made : TableView) (old : SeatView) (u : TableView) (new : SeatView) : Type 0 where
+pub record IsTableLeft (made : TableView) (old : SeatView) (u : TableView) (new : SeatView) : Type 0 where
   pub same : IsSameJob made u
   pub legal : IsLegal u
   pub knows : new ≡ informed old false u.history (halted_fault u.state.ended)
@@ -159,7 +159,7 @@ pub record IsClaimTurn (made : TableView) (old : SeatView) (claim : Claim) (new 
   pub after : TableView
   pub found : IsTurnOf made old before
   pub answer : IsClaim before old.number claim after
-  pub left : IsLeftBy made old after new
+  pub left : IsTableLeft made old after new
   pub told : TellsClaim claim after k
 
 -- a report of a seat: at its turn the table recorded so
@@ -168,7 +168,7 @@ pub record IsReportTurn (made : TableView) (old : SeatView) (op task : ℕ) (end
   pub after : TableView
   pub found : IsTurnOf made old before
   pub reported : Reports before old.number op task ended after
-  pub left : IsLeftBy made old after new
+  pub left : IsTableLeft made old after new
 
 -- ---- what a report does to passes
 

@@ -6,7 +6,7 @@ use Rattle.cu_store.specs.Yard.{bytes_under, is_made}
 use Rattle.cu_store.specs.declared.yard.Spec.{Spec}
 use Rattle.cu_store.specs.Held.{Write}
 use Rattle.cu_cells.specs.Layout.{Laid, word_count, first_word, cell_size, named_at}
-use Rattle.cu_cells.specs.Cells.{place_in, has_cell_in, IsCell, IsFair}
+use Rattle.cu_cells.specs.Cells.{place_in, has_cell_in, IsLaidCell, IsFair}
 use Rattle.cu_cells.proofs.Found.{stands, made_at, made_from}
 use Rattle.cu_cells.proofs.Gets.{seen_cell, seen_promise}
 use Rattle.cu_cells.specs.Rule.{IsIn}
@@ -16,7 +16,7 @@ use Rattle.cu_cells.proofs.WordPlaces.{size_of_cell, value_of_cell, room_for}
 
 -- the cell of a made key with a promise
 pub record HasCell (l : Laid) (bytes : List ℕ) (c : ℕ) : Type 0 where
-  pub cell : (first : ℕ) → first ≡ first_word l c → IsCell l c first bytes
+  pub cell : (first : ℕ) → first ≡ first_word l c → IsLaidCell l c first bytes
   pub long : (s : Spec) → get_or l.specs c s ≡ s → length bytes ≡ s.len
 
 named_here : (ss : List Spec) (promise : List Write) (c : ℕ) (s : Spec) (bytes : List ℕ) → c < length ss → get_or ss c s ≡ s → s.made ≡ true → bytes_under promise s.key ≡ Some bytes → named_at promise ss c ≡ true

@@ -6,10 +6,10 @@ use Rattle.cu_store.specs.Yard.{bytes_under, is_made}
 use Rattle.cu_store.specs.declared.depot.Got.{Got}
 use Rattle.cu_store.specs.declared.yard.Spec.{Spec}
 use Rattle.cu_cells.specs.Layout.{Laid}
-use Rattle.cu_cells.specs.Cells.{place_in, has_place, has_cell_in, entry_at, entries_in, IsCopied, IsFair}
+use Rattle.cu_cells.specs.Cells.{place_in, is_seen_place, has_cell_in, entry_at, entries_in, IsEntryCopied, IsFair}
 use Rattle.cu_cells.proofs.Found.{made_at}
 
-pub gets_copied : (held : Contents) (key old new : List ℕ) (e : Option (List ℕ)) (result : Got) → held key ≡ e → IsCopied e old new result → Gets (Some held) key new (Ok result)
+pub gets_copied : (held : Contents) (key old new : List ℕ) (e : Option (List ℕ)) (result : Got) → held key ≡ e → IsEntryCopied e old new result → Gets (Some held) key new (Ok result)
 gets_copied held key old new None result is copied = subst (λ (r : Got). Gets (Some held) key new (Ok r)) (sym copied) is
 gets_copied held key old new (Some bytes) result is copied = subst (λ (r : Got). Gets (Some held) key new (Ok r)) (sym copied.0)
     (bytes, is, refl, copied.1 ∙ ap (λ (n : ℕ). take n bytes) (sym copied.2))
@@ -38,7 +38,7 @@ pub held_entry : (l pl : Laid) (seen : List ℕ) (key : List ℕ) (es : List (Op
 held_entry l pl seen key es c d s laid fair at there isnt less =
     let no_ = not_made l key c s fair at there isnt in
     ap (λ (x : Laid). if has_cell_in x seen key then bytes_under x.promise key else entries_in x es key) laid
-    ∙ (ap (λ b. if b && (is_some (bytes_under l.promise key) && has_place seen (place_in l.specs key)) then bytes_under l.promise key else (if b then None else entry_at es (place_in l.specs key))) no_
+    ∙ (ap (λ b. if b && (is_some (bytes_under l.promise key) && is_seen_place seen (place_in l.specs key)) then bytes_under l.promise key else (if b then None else entry_at es (place_in l.specs key))) no_
     ∙ (ap (entry_at es) at ∙ entry_is es c d less))
 
 none_at : (n : ℕ) (o : Option ℕ) → entry_at (replicate n None) o ≡ None

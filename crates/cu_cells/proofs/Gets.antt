@@ -7,7 +7,7 @@ use Rattle.std.specs.Option.{is_some}
 use Rattle.cu_store.specs.Yard.{bytes_under, is_made}
 use Rattle.cu_cells.specs.Layout.{Laid}
 use Rattle.cu_cells.specs.Rule.{IsIn}
-use Rattle.cu_cells.specs.Cells.{place_in, has_number, has_place, has_cell_in}
+use Rattle.cu_cells.specs.Cells.{place_in, has_number, is_seen_place, has_cell_in}
 use Rattle.std.proofs.lemmas.Nat.{le_bytes_8}
 use Rattle.std.specs.Int.{w64, from_le_bytes, to_le_bytes}
 
@@ -74,14 +74,14 @@ middle_true true false c h = h
 middle_true false b c h = let e : false ≡ true = h in cc
 
 pub seen_cell : (l : Laid) (seen : List ℕ) (key : List ℕ) (c : ℕ) → place_in l.specs key ≡ Some c → IsTrue (has_cell_in l seen key) → IsIn seen c
-seen_cell l seen key c at h = is_in seen c (subst (λ o. IsTrue (has_place seen o)) at (last_true (is_made l.specs key) (is_some (bytes_under l.promise key)) (has_place seen (place_in l.specs key)) h))
+seen_cell l seen key c at h = is_in seen c (subst (λ o. IsTrue (is_seen_place seen o)) at (last_true (is_made l.specs key) (is_some (bytes_under l.promise key)) (is_seen_place seen (place_in l.specs key)) h))
 
 some_of : (o : Option (List ℕ)) → IsTrue (is_some o) → (bytes : List ℕ) × (o ≡ Some bytes)
 some_of (Some bytes) h = (bytes, refl)
 some_of None h = let e : false ≡ true = h in cc
 
 pub seen_promise : (l : Laid) (seen : List ℕ) (key : List ℕ) → IsTrue (has_cell_in l seen key) → (bytes : List ℕ) × (bytes_under l.promise key ≡ Some bytes)
-seen_promise l seen key h = some_of (bytes_under l.promise key) (middle_true (is_made l.specs key) (is_some (bytes_under l.promise key)) (has_place seen (place_in l.specs key)) h)
+seen_promise l seen key h = some_of (bytes_under l.promise key) (middle_true (is_made l.specs key) (is_some (bytes_under l.promise key)) (is_seen_place seen (place_in l.specs key)) h)
 
 pub held_seen : (l pl : Laid) (seen : List ℕ) (key bytes : List ℕ) (e : Option (List ℕ)) → pl ≡ l → has_cell_in pl seen key ≡ true → bytes_under l.promise key ≡ Some bytes
     → (if has_cell_in pl seen key then bytes_under pl.promise key else e) ≡ Some bytes

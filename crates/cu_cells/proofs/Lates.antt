@@ -1,18 +1,18 @@
 -- Late puts of a pass, one more at a time.
 use Rattle.std.proofs.Common.{◌≡◌, ℕ, zero, suc, ◌+◌, ◌-◌, ◌<◌, ◌≤◌, Bool, true, false, IsTrue, nat_lt, ◌==◌, if◌then◌else◌, Some, List, [], ◌∷◌, ◌++◌, length, take, get_or, refl, inl, inr, sym, ap, ◌∙◌, subst, arith, append-nil}
 use Rattle.std.specs.List.{remove}
-use Rattle.cu_cells.specs.Layout.{Laid, cell_size, first_word, flag_count, is_named}
+use Rattle.cu_cells.specs.Layout.{Laid, cell_size, first_word, flag_count, is_named_cell}
 use Rattle.cu_cells.specs.Rule.{Viewed, IsIn, HasStored, both_views}
-use Rattle.cu_cells.specs.Late.{behind, waiting, landed_by, with_late, IsPutOff, AreStored}
+use Rattle.cu_cells.specs.Late.{behind, cells_waiting, landed_by, with_late, IsPutOff, AreStored}
 use Rattle.cu_cells.specs.declared.late.LateCell.{LateCell}
 
 behind_snoc : (l m : LateCell) (n : ℕ) (rest more : List LateCell) → rest ++ more ≡ rest ++ more → behind l n (rest ++ more) ≡ behind l n rest ++ more
 behind_snoc l m zero rest more e = refl
 behind_snoc l m (suc n) rest more e = refl
 
-pub waiting_snoc : (ls : List LateCell) (l : LateCell) → waiting (ls ++ l ∷ []) ≡ waiting ls ++ behind l l.wait []
+pub waiting_snoc : (ls : List LateCell) (l : LateCell) → cells_waiting (ls ++ l ∷ []) ≡ cells_waiting ls ++ behind l l.wait []
 waiting_snoc [] l = refl
-waiting_snoc (m ∷ ms) l = ap (behind m m.wait) (waiting_snoc ms l) ∙ behind_snoc m l m.wait (waiting ms) (behind l l.wait []) refl
+waiting_snoc (m ∷ ms) l = ap (behind m m.wait) (waiting_snoc ms l) ∙ behind_snoc m l m.wait (cells_waiting ms) (behind l l.wait []) refl
 
 pub behind_some : (l : LateCell) (n : ℕ) → 0 < n → behind l n [] ≡ record { cell = l.cell; wait = n - 1 } ∷ []
 behind_some l zero some_ = absurd (omega arith)
@@ -37,9 +37,9 @@ all_behind v l zero rest here all = all
 all_behind v l (suc n) rest here all = (record { cell = here.cell; stored = here.stored; named = here.named }, all)
 
 -- those that wait on are stored as they were
-pub still_stored : (v : Viewed) (ls : List LateCell) → AreStored v ls → AreStored v (waiting ls)
+pub still_stored : (v : Viewed) (ls : List LateCell) → AreStored v ls → AreStored v (cells_waiting ls)
 still_stored v [] all = all
-still_stored v (l ∷ ls) all = all_behind v l l.wait (waiting ls) all.0 (still_stored v ls all.1)
+still_stored v (l ∷ ls) all = all_behind v l l.wait (cells_waiting ls) all.0 (still_stored v ls all.1)
 
 -- a seat that knows more has them stored too
 pub stored_later : (v w : Viewed) (ls : List LateCell) → w.laid ≡ v.laid → ((n : ℕ) → IsIn v.stored n → IsIn w.stored n) → AreStored v ls → AreStored w ls
@@ -49,7 +49,7 @@ stored_later v w (l ∷ ls) laid more all =
       record {
         cell = subst (λ (x : Laid). l.cell < flag_count x) (sym laid) here.cell;
         stored = subst (λ (x : Laid). (k : ℕ) → k < cell_size x l.cell → IsIn w.stored (first_word x l.cell + k)) (sym laid) (λ k less. more _ (here.stored k less));
-        named = subst (λ (x : Laid). IsTrue (is_named x l.cell)) (sym laid) here.named;
+        named = subst (λ (x : Laid). IsTrue (is_named_cell x l.cell)) (sym laid) here.named;
       },
       stored_later v w ls laid more all.1,
     )
@@ -80,11 +80,11 @@ stored_at v (m ∷ ms) (suc i) d all less = stored_at v ms i d all.1 (omega arit
 pub stored_there : (v w : Viewed) (ls : List LateCell) (i : ℕ) (d : LateCell) → w.laid ≡ v.laid → w.stored ≡ v.stored → AreStored v ls → i < length ls → IsPutOff w (get_or ls i d)
 stored_there v w ls i d laid stored all less = stored_at w ls i d (stored_same v w ls laid stored all) less
 
-pub put_off_here : (v : Viewed) (l : Laid) (cell wait : ℕ) → v.laid ≡ l → cell < flag_count l → HasStored v cell → IsTrue (is_named l cell) → IsPutOff v (record { cell = cell; wait = wait })
+pub put_off_here : (v : Viewed) (l : Laid) (cell wait : ℕ) → v.laid ≡ l → cell < flag_count l → HasStored v cell → IsTrue (is_named_cell l cell) → IsPutOff v (record { cell = cell; wait = wait })
 put_off_here v l cell wait laid less stored named = record {
   cell = subst (λ (x : Laid). cell < flag_count x) (sym laid) less;
   stored = stored;
-  named = subst (λ (x : Laid). IsTrue (is_named x cell)) (sym laid) named;
+  named = subst (λ (x : Laid). IsTrue (is_named_cell x cell)) (sym laid) named;
 }
 
 in_left : (xs ys : List ℕ) (n : ℕ) → IsIn xs n → IsIn (xs ++ ys) n

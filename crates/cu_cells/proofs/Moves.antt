@@ -7,8 +7,8 @@ use native.Mathlib.Decide.{ℕ_discrete}
 use lib.ListN.{get_elem?}
 use Rattle.atomic_table.specs.Table.{State, Me, Step, step, keeps, opening, Allows, Splits, Joins}
 use Rattle.atomic_table.proofs.Lists.{at_set, at_snoc}
-use Rattle.cu_cells.specs.Layout.{Laid, flag_count, first_word, cell_size, value_at, word_total, is_named}
-use Rattle.cu_cells.specs.Rule.{IsIn, Viewed, IsWhole, IsThere, Knows, IsKept, first_view, spent_view, both_views, HasStored, StoresWord, SeesCell, LandsCell, LooksAt, ReadsWord}
+use Rattle.cu_cells.specs.Layout.{Laid, flag_count, first_word, cell_size, value_at, word_total, is_named_cell}
+use Rattle.cu_cells.specs.Rule.{IsIn, Viewed, IsWhole, IsThere, Knows, KeepsPromise, opening_view, spent_view, both_views, HasStored, StoresWord, SeesCell, LandsCell, LooksAt, ReadsWord}
 
 -- from one moment to another flags stay set, and promised words stay
 record Grows (l : Laid) (a b : List ℕ) : Type 0 where
@@ -83,20 +83,20 @@ zero_at zero w = refl
 zero_at (suc n) zero = refl
 zero_at (suc n) (suc w) = zero_at n w
 
-first_knows : (l : Laid) (ws : List ℕ) (id : ℕ) (v : Viewed) → get_elem? (first_view l ∷ []) id ≡ some v → Knows l ws v
+first_knows : (l : Laid) (ws : List ℕ) (id : ℕ) (v : Viewed) → get_elem? (opening_view l ∷ []) id ≡ some v → Knows l ws v
 first_knows l ws id v there = ⊎_elim
     (λ (none_ : get_elem? [] id ≡ some v). cc)
-    (λ (is : first_view l ≡ v). subst (λ (x : Viewed). Knows l ws x) is (record { laid = refl; seen = λ c had. absurd had; landed = λ c had. absurd had; stored = λ w had. absurd had }))
-    (at_snoc [] (first_view l) v id there)
+    (λ (is : opening_view l ≡ v). subst (λ (x : Viewed). Knows l ws x) is (record { laid = refl; seen = λ c had. absurd had; landed = λ c had. absurd had; stored = λ w had. absurd had }))
+    (at_snoc [] (opening_view l) v id there)
 
 module _ {S : Type 0} where
   -- A step keeps the rule where it lets the words grow, stores in data words nothing but promised values, sets no flag but of a whole
   -- cell, and where what the seat knows afterwards is so.
-  kept_after : (l : Laid) (s : State S Viewed) (ws : List ℕ) (id : ℕ) (v w : Viewed) → IsKept l s → Grows l s.words ws
+  kept_after : (l : Laid) (s : State S Viewed) (ws : List ℕ) (id : ℕ) (v w : Viewed) → KeepsPromise l s → Grows l s.words ws
       → ((i : ℕ) → flag_count l ≤ i → (get_or ws i 0 ≡ 0) ⊎ (get_or ws i 0 ≡ value_at l i))
       → ((c : ℕ) → c < flag_count l → get_or ws c 0 ≢ 0 → IsThere l ws c)
       → (w.live ≡ true → Knows l ws w)
-      → IsKept l (record { words = ws; homes = s.homes; views = set s.views id w })
+      → KeepsPromise l (record { words = ws; homes = s.homes; views = set s.views id w })
   kept_after l s ws id v w kept grows data_ whole known = record {
     size = grows.size ∙ kept.size;
     words = data_;
@@ -110,7 +110,7 @@ module _ {S : Type 0} where
   -- ---- a data word is stored with its promised value
 
   pub stores : (l : Laid) (slots id w : ℕ) (v : Viewed) (cs : List (ℕ × S)) → v.live ≡ true → flag_count l ≤ w → w < word_total l
-      → Allows (IsKept {S = S} l) slots id (v, cs) w (λ _. value_at l w) (λ _. StoresWord (step slots w (value_at l w) 0 mathlib.Core.Option.none) (v, cs) (value_at l w))
+      → Allows (KeepsPromise {S = S} l) slots id (v, cs) w (λ _. value_at l w) (λ _. StoresWord (step slots w (value_at l w) 0 mathlib.Core.Option.none) (v, cs) (value_at l w))
   stores l slots id w v cs live is_data within s kept sized there small =
       let inside : w < length s.words = omega (arith, kept.size) in
       let grows = stores_grows l s.words w is_data inside in
@@ -137,8 +137,8 @@ module _ {S : Type 0} where
   -- ---- the flag of a cell is set whose words the seat has stored
 
   -- the flag keeps the rule, whatever the seat knows of it
-  flag_kept : (l : Laid) (s : State S Viewed) (c id : ℕ) (v w : Viewed) → c < flag_count l → c < length s.words → HasStored v c → IsTrue (is_named l c) → IsKept l s → Knows l s.words v
-      → (w.live ≡ true → Knows l (set s.words c 1) w) → IsKept l (record { words = set s.words c 1; homes = s.homes; views = set s.views id w })
+  flag_kept : (l : Laid) (s : State S Viewed) (c id : ℕ) (v w : Viewed) → c < flag_count l → c < length s.words → HasStored v c → IsTrue (is_named_cell l c) → KeepsPromise l s → Knows l s.words v
+      → (w.live ≡ true → Knows l (set s.words c 1) w) → KeepsPromise l (record { words = set s.words c 1; homes = s.homes; views = set s.views id w })
   flag_kept l s c id v w flag inside all named kept knows known =
       let grows = sets_grows l s.words c flag inside in
       let mine : (k : ℕ) → k < cell_size l c → IsIn v.stored (first_word l c + k) = subst (λ (x : Laid). (k : ℕ) → k < cell_size x c → IsIn v.stored (first_word x c + k)) knows.laid all in
@@ -151,8 +151,8 @@ module _ {S : Type 0} where
       (kept.flags d is_flag (word_after s.words c d 1 (λ n. n ≢ 0 → get_or s.words d 0 ≢ 0) inside (λ e. absurd (ne e)) (λ _ same. same) set_))))
       known
 
-  pub sets_flag : (l : Laid) (slots id c : ℕ) (v : Viewed) (cs : List (ℕ × S)) → v.live ≡ true → c < flag_count l → HasStored v c → IsTrue (is_named l c)
-      → Allows (IsKept {S = S} l) slots id (v, cs) c (λ _. 1) (λ _. SeesCell (step slots c 1 0 mathlib.Core.Option.none) (v, cs) 1)
+  pub sets_flag : (l : Laid) (slots id c : ℕ) (v : Viewed) (cs : List (ℕ × S)) → v.live ≡ true → c < flag_count l → HasStored v c → IsTrue (is_named_cell l c)
+      → Allows (KeepsPromise {S = S} l) slots id (v, cs) c (λ _. 1) (λ _. SeesCell (step slots c 1 0 mathlib.Core.Option.none) (v, cs) 1)
   sets_flag l slots id c v cs live flag all named s kept sized there small =
       let inside : c < length s.words = omega (arith, kept.size) in
       let knows = kept.views id v there live in
@@ -172,8 +172,8 @@ module _ {S : Type 0} where
       )
 
   -- the same, of a failed put that lands
-  pub lands_flag : (l : Laid) (slots id c : ℕ) (v : Viewed) (cs : List (ℕ × S)) → v.live ≡ true → c < flag_count l → HasStored v c → IsTrue (is_named l c)
-      → Allows (IsKept {S = S} l) slots id (v, cs) c (λ _. 1) (λ _. LandsCell (step slots c 1 0 mathlib.Core.Option.none) (v, cs) 1)
+  pub lands_flag : (l : Laid) (slots id c : ℕ) (v : Viewed) (cs : List (ℕ × S)) → v.live ≡ true → c < flag_count l → HasStored v c → IsTrue (is_named_cell l c)
+      → Allows (KeepsPromise {S = S} l) slots id (v, cs) c (λ _. 1) (λ _. LandsCell (step slots c 1 0 mathlib.Core.Option.none) (v, cs) 1)
   lands_flag l slots id c v cs live flag all named s kept sized there small =
       let inside : c < length s.words = omega (arith, kept.size) in
       let knows = kept.views id v there live in
@@ -195,8 +195,8 @@ module _ {S : Type 0} where
   -- ---- loads
 
   -- a load keeps the rule, whatever new is known
-  loaded : (l : Laid) (s : State S Viewed) (i id : ℕ) (v w : Viewed) → i < length s.words → IsKept l s → (w.live ≡ true → Knows l (set s.words i (get_or s.words i 0)) w)
-      → IsKept l (record { words = set s.words i (get_or s.words i 0); homes = s.homes; views = set s.views id w })
+  loaded : (l : Laid) (s : State S Viewed) (i id : ℕ) (v w : Viewed) → i < length s.words → KeepsPromise l s → (w.live ≡ true → Knows l (set s.words i (get_or s.words i 0)) w)
+      → KeepsPromise l (record { words = set s.words i (get_or s.words i 0); homes = s.homes; views = set s.views id w })
   loaded l s i id v w inside kept known =
       let n = get_or s.words i 0 in
       let grows = loads_grows l s.words i inside in
@@ -207,7 +207,7 @@ module _ {S : Type 0} where
       known
 
   pub looks : (l : Laid) (slots id c : ℕ) (v : Viewed) (cs : List (ℕ × S)) → v.live ≡ true → v.laid ≡ l → c < flag_count l
-      → Allows (IsKept {S = S} l) slots id (v, cs) c (λ n. n) (LooksAt (step slots c 0 0 mathlib.Core.Option.none) (v, cs))
+      → Allows (KeepsPromise {S = S} l) slots id (v, cs) c (λ n. n) (LooksAt (step slots c 0 0 mathlib.Core.Option.none) (v, cs))
   looks l slots id c v cs live laid flag s kept sized there small =
       let inside : c < length s.words = omega (arith, kept.size) in
       let n = get_or s.words c 0 in
@@ -220,7 +220,7 @@ module _ {S : Type 0} where
       (λ none_. (v, keeps, tt, loaded l s c id v v inside kept (λ _. later), ((λ _. refl), (λ ne. absurd (ne none_)), tells, lands)))
       (λ some_.
       let after : Viewed = record { live = v.live; laid = v.laid; seen = c ∷ v.seen; landed = v.landed; stored = v.stored } in
-      let named : IsTrue (is_named v.laid c) = subst (λ (x : Laid). IsTrue (is_named x c)) (sym laid) (kept.flags c flag some_).1 in (
+      let named : IsTrue (is_named_cell v.laid c) = subst (λ (x : Laid). IsTrue (is_named_cell x c)) (sym laid) (kept.flags c flag some_).1 in (
         after,
         keeps,
         tt,
@@ -234,7 +234,7 @@ module _ {S : Type 0} where
       ))
 
   pub reads : (l : Laid) (slots id w : ℕ) (v : Viewed) (cs : List (ℕ × S)) → v.live ≡ true → w < word_total l
-      → Allows (IsKept {S = S} l) slots id (v, cs) w (λ n. n) (ReadsWord (step slots w 0 0 mathlib.Core.Option.none) (v, cs))
+      → Allows (KeepsPromise {S = S} l) slots id (v, cs) w (λ n. n) (ReadsWord (step slots w 0 0 mathlib.Core.Option.none) (v, cs))
   reads l slots id w v cs live within s kept sized there small =
       let inside : w < length s.words = omega (arith, kept.size) in
       let n = get_or s.words w 0 in
@@ -256,7 +256,7 @@ module _ {S : Type 0} where
 
   -- ---- seats are split and joined
 
-  pub splits : (l : Laid) (id : ℕ) (v : Viewed) → Splits (IsKept {S = S} l) id v v v
+  pub splits : (l : Laid) (id : ℕ) (v : Viewed) → Splits (KeepsPromise {S = S} l) id v v v
   splits l id v s kept there = record {
     size = kept.size;
     words = kept.words;
@@ -270,7 +270,7 @@ module _ {S : Type 0} where
         (at_snoc (set s.views id v) v u other is);
   }
 
-  pub joins : (l : Laid) (id other : ℕ) (v w : Viewed) → v.live ≡ true → w.live ≡ true → Joins (IsKept {S = S} l) id v other w (both_views v w) spent_view
+  pub joins : (l : Laid) (id other : ℕ) (v w : Viewed) → v.live ≡ true → w.live ≡ true → Joins (KeepsPromise {S = S} l) id v other w (both_views v w) spent_view
   joins l id other v w live too s kept there apart theirs =
       let there_too : get_elem? s.views other ≡ some w = ⊎_elim (λ e. absurd (apart e.0)) (λ r. r.1) (at_set s.views id other (both_views v w) w theirs) in
       let both = both_known l s.words v w (kept.views id v there live) (kept.views other w there_too too) in
@@ -295,7 +295,7 @@ module _ {S : Type 0} where
       (λ some_. let e = (told.1 some_).0 in (ap (λ (x : Me S Viewed). x.1) e, ap (λ (x : Me S Viewed). x.0.live) e, ap (λ (x : Me S Viewed). x.0.laid) e, ap (λ (x : Me S Viewed). x.0.stored) e, ap (λ (x : Me S Viewed). x.0.landed) e))
 
   -- a table of zeros keeps the rule
-  pub starts_kept : (l : Laid) (ws : List ℕ) → ws ≡ replicate {A = ℕ} (word_total l) 0 → IsKept l (opening {S = S} ws [] (first_view l))
+  pub starts_kept : (l : Laid) (ws : List ℕ) → ws ≡ replicate {A = ℕ} (word_total l) 0 → KeepsPromise l (opening {S = S} ws [] (opening_view l))
   starts_kept l ws is =
       let none_ : (w : ℕ) → get_or ws w 0 ≡ 0 = λ w. ap (λ (xs : List ℕ). get_or xs w 0) is ∙ zero_at (word_total l) w in
       record {

@@ -6,8 +6,8 @@ use Rattle.cu_store.specs.Yard.{bytes_under, is_made}
 use Rattle.cu_store.specs.declared.yard.Spec.{Spec}
 use Rattle.std.specs.Int.{w64, from_le_bytes, to_le_bytes}
 use native.Mathlib.Decide.{dec_lt}
-use Rattle.cu_cells.specs.Layout.{Laid, cell_size, first_word, value_at, is_named}
-use Rattle.cu_cells.specs.Cells.{key_at, length_at, entries_in, entry_at, place_in, IsFair}
+use Rattle.cu_cells.specs.Layout.{Laid, cell_size, first_word, value_at, is_named_cell}
+use Rattle.cu_cells.specs.Cells.{spec_key, length_at, entries_in, entry_at, place_in, IsFair}
 use Rattle.cu_cells.proofs.CellFacts.{byte_small, cell_of}
 use Rattle.cu_cells.proofs.Found.{stands}
 use Rattle.cu_cells.proofs.Gets.{byte_at_back}
@@ -35,12 +35,12 @@ whole_value bytes out long same = sym (take_within (length bytes) out (omega (ar
 whole_of : (bytes out : List ℕ) (m : ℕ) → m ≡ length bytes → length bytes ≡ length out → take m out ≡ take (length out) bytes → out ≡ bytes
 whole_of bytes out m is long same = whole_value bytes out long (ap (λ (n : ℕ). take n out) (sym is) ∙ same)
 
-pub handed_out : (l pl : Laid) (seen : Bool) (es : List (Option (List ℕ))) (promise : Contents) (c m : ℕ) (out : List ℕ) → IsFair l → pl ≡ l → c < length l.specs → is_made l.specs (key_at l.specs c) ≡ true
-    → promise (key_at l.specs c) ≡ bytes_under l.promise (key_at l.specs c) → length out ≡ length_at l.specs c
-    → (bytes : List ℕ) × ((if seen then bytes_under pl.promise (key_at l.specs c) else entries_in pl es (key_at l.specs c)) ≡ Some bytes) × (m ≡ length bytes) × (take m out ≡ take (length out) bytes)
-    → promise (key_at l.specs c) ≡ Some out
+pub handed_out : (l pl : Laid) (seen : Bool) (es : List (Option (List ℕ))) (promise : Contents) (c m : ℕ) (out : List ℕ) → IsFair l → pl ≡ l → c < length l.specs → is_made l.specs (spec_key l.specs c) ≡ true
+    → promise (spec_key l.specs c) ≡ bytes_under l.promise (spec_key l.specs c) → length out ≡ length_at l.specs c
+    → (bytes : List ℕ) × ((if seen then bytes_under pl.promise (spec_key l.specs c) else entries_in pl es (spec_key l.specs c)) ≡ Some bytes) × (m ≡ length bytes) × (take m out ≡ take (length out) bytes)
+    → promise (spec_key l.specs c) ≡ Some out
 handed_out l pl seen es promise c m out fair laid less made same long got =
-    let key = key_at l.specs c in
+    let key = spec_key l.specs c in
     let bytes = got.0 in
     let told : bytes_under l.promise key ≡ Some bytes =
     ap (λ (x : Laid). bytes_under x.promise key) (sym laid)
@@ -57,10 +57,10 @@ written_back n out room size long =
     take-append-le n out (drop (length out) room) (omega (arith, size, long)) ∙ take_within n out (omega (arith, size, long))
 
 -- what was read of the cell of a late put is the promise of its key
-pub late_value : (l kl : Laid) (c first : ℕ) (s : Spec) (out : List ℕ) → kl ≡ l → IsFair l → c < length l.specs → IsTrue (is_named l c) → get_or l.specs c s ≡ s → first ≡ first_word l c → length out ≡ s.len
-    → ((i : ℕ) → i < s.len → get_or out i 0 ≡ get_or (to_le_bytes w64 (value_at kl (first + i / 8))) (i % 8) 0) → bytes_under l.promise (key_at l.specs c) ≡ Some out
+pub late_value : (l kl : Laid) (c first : ℕ) (s : Spec) (out : List ℕ) → kl ≡ l → IsFair l → c < length l.specs → IsTrue (is_named_cell l c) → get_or l.specs c s ≡ s → first ≡ first_word l c → length out ≡ s.len
+    → ((i : ℕ) → i < s.len → get_or out i 0 ≡ get_or (to_le_bytes w64 (value_at kl (first + i / 8))) (i % 8) 0) → bytes_under l.promise (spec_key l.specs c) ≡ Some out
 late_value l kl c first s out same fair less named there start long read =
-    let key = key_at l.specs c in
+    let key = spec_key l.specs c in
     let promised = promised_there l c named in
     let bytes = promised.0 in
     let place = place_own l.specs c fair.apart less in

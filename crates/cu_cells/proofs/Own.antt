@@ -10,9 +10,9 @@ use Rattle.cu_store.specs.Yard.{bytes_under, is_served, is_made, Known, shown_by
 use Rattle.cu_store.specs.Share.{KeysDiffer}
 use Rattle.cu_store.specs.declared.yard.Spec.{Spec}
 use Rattle.cu_store.proofs.Steps.{lands_same}
-use Rattle.cu_cells.specs.Layout.{Laid, named_at, is_named}
+use Rattle.cu_cells.specs.Layout.{Laid, named_at, is_named_cell}
 use Rattle.cu_cells.specs.Rule.{IsIn}
-use Rattle.cu_cells.specs.Cells.{place_in, key_at, has_number, has_place, has_cell_in, entry_at, entries_in}
+use Rattle.cu_cells.specs.Cells.{place_in, spec_key, has_number, is_seen_place, has_cell_in, entry_at, entries_in}
 use Rattle.cu_cells.proofs.Found.{stands}
 use Rattle.cu_cells.proofs.Gets.{is_in}
 use Rattle.cu_cells.proofs.Puts.{seen_own, seen_other}
@@ -20,12 +20,12 @@ use Rattle.cu_cells.proofs.Texts.{none_true}
 
 -- ---- places of keys
 
-pub key_there : (ss : List Spec) (c : ℕ) (s : Spec) → c < length ss → get_or ss c s ≡ s → key_at ss c ≡ s.key
+pub key_there : (ss : List Spec) (c : ℕ) (s : Spec) → c < length ss → get_or ss c s ≡ s → spec_key ss c ≡ s.key
 key_there [] c s less at = absurd (omega arith)
 key_there (t ∷ ts) zero s less at = ap (λ (x : Spec). x.key) at
 key_there (t ∷ ts) (suc c) s less at = key_there ts c s (omega arith) at
 
-pub key_found : (ss : List Spec) (key : List ℕ) (c : ℕ) → place_in ss key ≡ Some c → key_at ss c ≡ key
+pub key_found : (ss : List Spec) (key : List ℕ) (c : ℕ) → place_in ss key ≡ Some c → spec_key ss c ≡ key
 key_found ss key c is =
     let here = stands ss key c is in
     key_there ss c here.spec here.less (here.at here.spec) ∙ (bytes_eq-Decides here.spec.key key).0 here.key
@@ -34,20 +34,20 @@ served_first : (b r : Bool) → r ≡ true → (b || r) ≡ true
 served_first true r h = refl
 served_first false r h = h
 
-served_key : (ss : List Spec) (c : ℕ) → c < length ss → is_served ss (key_at ss c) ≡ true
+served_key : (ss : List Spec) (c : ℕ) → c < length ss → is_served ss (spec_key ss c) ≡ true
 served_key [] c less = absurd (omega arith)
 served_key (s ∷ ss) zero less = ap (λ b. b || is_served ss s.key) ((bytes_eq-Decides s.key s.key).1 refl)
-served_key (s ∷ ss) (suc c) less = served_first (bytes_eq s.key (key_at ss c)) (is_served ss (key_at ss c)) (served_key ss c (omega arith))
+served_key (s ∷ ss) (suc c) less = served_first (bytes_eq s.key (spec_key ss c)) (is_served ss (spec_key ss c)) (served_key ss c (omega arith))
 
 other_first : (b : Bool) (s : Spec) (ss : List Spec) (key : List ℕ) → bytes_eq s.key key ≡ b → is_served ss s.key ≡ false → is_served ss key ≡ true → b ≡ false
 other_first true s ss key is apart here = none_true (is_served ss s.key) apart (ap (is_served ss) ((bytes_eq-Decides s.key key).0 is) ∙ here)
 other_first false s ss key is apart here = refl
 
-pub place_own : (ss : List Spec) (c : ℕ) → KeysDiffer ss → c < length ss → place_in ss (key_at ss c) ≡ Some c
+pub place_own : (ss : List Spec) (c : ℕ) → KeysDiffer ss → c < length ss → place_in ss (spec_key ss c) ≡ Some c
 place_own [] c differ less = absurd (omega arith)
 place_own (s ∷ ss) zero differ less = ap (λ b. if b then Some 0 else option_map suc (place_in ss s.key)) ((bytes_eq-Decides s.key s.key).1 refl)
 place_own (s ∷ ss) (suc c) differ less =
-    ap (λ b. if b then Some 0 else option_map suc (place_in ss (key_at ss c))) (other_first (bytes_eq s.key (key_at ss c)) s ss (key_at ss c) refl differ.0 (served_key ss c (omega arith)))
+    ap (λ b. if b then Some 0 else option_map suc (place_in ss (spec_key ss c))) (other_first (bytes_eq s.key (spec_key ss c)) s ss (spec_key ss c) refl differ.0 (served_key ss c (omega arith)))
     ∙ ap (option_map suc) (place_own ss c differ.1 (omega arith))
 
 -- ---- what is known
@@ -152,12 +152,12 @@ second_of : (a b : Bool) → IsTrue (a && b) → IsTrue b
 second_of true b h = h
 second_of false b h = let e : false ≡ true = h in cc
 
-named_bytes : (promise : List Write) (ss : List Spec) (c : ℕ) → IsTrue (named_at promise ss c) → (bytes : List ℕ) × (bytes_under promise (key_at ss c) ≡ Some bytes)
+named_bytes : (promise : List Write) (ss : List Spec) (c : ℕ) → IsTrue (named_at promise ss c) → (bytes : List ℕ) × (bytes_under promise (spec_key ss c) ≡ Some bytes)
 named_bytes promise [] c h = let e : false ≡ true = h in cc
 named_bytes promise (s ∷ ss) zero h = some_of (bytes_under promise s.key) (second_of s.made (is_some (bytes_under promise s.key)) h)
 named_bytes promise (s ∷ ss) (suc c) h = named_bytes promise ss c h
 
-pub promised_there : (l : Laid) (c : ℕ) → IsTrue (is_named l c) → (bytes : List ℕ) × (bytes_under l.promise (key_at l.specs c) ≡ Some bytes)
+pub promised_there : (l : Laid) (c : ℕ) → IsTrue (is_named_cell l c) → (bytes : List ℕ) × (bytes_under l.promise (spec_key l.specs c) ≡ Some bytes)
 promised_there l c h = named_bytes l.promise l.specs c h
 
 number_of : (b : Bool) {P : Type 0} → (b ≡ true → P) → (b ≡ false → P) → P
@@ -174,7 +174,7 @@ and_no false b c h = refl
 
 pub unseen_there : (l : Laid) (seen : List ℕ) (key : List ℕ) (c : ℕ) → place_in l.specs key ≡ Some c → (IsIn seen c → ⊥) → has_cell_in l seen key ≡ false
 unseen_there l seen key c at none =
-    and_no (is_made l.specs key) (is_some (bytes_under l.promise key)) (has_place seen (place_in l.specs key)) (ap (has_place seen) at ∙ not_number seen c none)
+    and_no (is_made l.specs key) (is_some (bytes_under l.promise key)) (is_seen_place seen (place_in l.specs key)) (ap (is_seen_place seen) at ∙ not_number seen c none)
 
 -- a made key that wasn't seen isn't known to be held
 pub absent_made : (l : Laid) (seen : Bool) (es : List (Option (List ℕ))) (key : List ℕ) (promised : Option (List ℕ)) → seen ≡ false → is_made l.specs key ≡ true → (if seen then promised else entries_in l es key) ≡ None

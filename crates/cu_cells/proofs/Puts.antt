@@ -7,7 +7,7 @@ use Rattle.cu_store.specs.Held.{Contents}
 use Rattle.cu_store.specs.Steps.{PutOf, OrLate, IsChangedBy}
 use Rattle.cu_store.specs.Yard.{bytes_under, is_made}
 use Rattle.cu_cells.specs.Layout.{Laid}
-use Rattle.cu_cells.specs.Cells.{place_in, has_number, has_place, has_cell_in}
+use Rattle.cu_cells.specs.Cells.{place_in, has_number, is_seen_place, has_cell_in}
 use Rattle.cu_cells.proofs.Found.{stands}
 
 and_true : (a b c : Bool) → a ≡ true → b ≡ true → c ≡ true → (a && (b && c)) ≡ true
@@ -23,10 +23,10 @@ same_number c rest = ap (λ b. b || rest) (eq-eqb c c refl)
 pub seen_own : (l : Laid) (seen : List ℕ) (c : ℕ) (key bytes : List ℕ) → IsTrue (is_made l.specs key) → bytes_under l.promise key ≡ Some bytes → place_in l.specs key ≡ Some c
     → has_cell_in l (c ∷ seen) key ≡ true
 seen_own l seen c key bytes made told at =
-    and_true (is_made l.specs key) (is_some (bytes_under l.promise key)) (has_place (c ∷ seen) (place_in l.specs key)) made (some_there (bytes_under l.promise key) bytes told)
-    (ap (has_place (c ∷ seen)) at ∙ same_number c (has_number seen c))
+    and_true (is_made l.specs key) (is_some (bytes_under l.promise key)) (is_seen_place (c ∷ seen) (place_in l.specs key)) made (some_there (bytes_under l.promise key) bytes told)
+    (ap (is_seen_place (c ∷ seen)) at ∙ same_number c (has_number seen c))
 
-other_place : (seen : List ℕ) (c : ℕ) (o : Option ℕ) → (o ≡ Some c → ⊥) → has_place (c ∷ seen) o ≡ has_place seen o
+other_place : (seen : List ℕ) (c : ℕ) (o : Option ℕ) → (o ≡ Some c → ⊥) → is_seen_place (c ∷ seen) o ≡ is_seen_place seen o
 other_place seen c None other = refl
 other_place seen c (Some d) other = ap (λ b. b || has_number seen d) (ne_eqb d c (λ e. other (ap Some e)))
 

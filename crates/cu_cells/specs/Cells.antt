@@ -9,7 +9,7 @@ use Rattle.cu_store.specs.declared.depot.Got.{Got}
 use Rattle.cu_store.specs.declared.depot.Got.TheVariants.{Absent, Held}
 use Rattle.cu_store.specs.declared.yard.Spec.{Spec}
 use Rattle.std.specs.Int.{w64, from_le_bytes}
-use Rattle.cu_cells.specs.Layout.{Laid, word_count, word_total, first_word, flag_count, cell_size, value_at, is_named}
+use Rattle.cu_cells.specs.Layout.{Laid, word_count, word_total, first_word, flag_count, cell_size, value_at, is_named_cell}
 
 -- the place of a key: that of its first spec
 abbrev pub place_in : List Spec → List ℕ → Option ℕ
@@ -17,10 +17,10 @@ place_in [] key = None
 place_in (s ∷ ss) key = if bytes_eq s.key key then Some 0 else option_map suc (place_in ss key)
 
 -- the key at a place
-abbrev pub key_at : List Spec → ℕ → List ℕ
-key_at [] c = []
-key_at (s ∷ ss) zero = s.key
-key_at (s ∷ ss) (suc c) = key_at ss c
+abbrev pub spec_key : List Spec → ℕ → List ℕ
+spec_key [] c = []
+spec_key (s ∷ ss) zero = s.key
+spec_key (s ∷ ss) (suc c) = spec_key ss c
 
 -- how many bytes the value of the key at a place has
 abbrev pub length_at : List Spec → ℕ → ℕ
@@ -37,13 +37,13 @@ abbrev pub has_number : List ℕ → ℕ → Bool
 has_number [] n = false
 has_number (x ∷ xs) n = (n == x) || has_number xs n
 
-abbrev pub has_place : List ℕ → Option ℕ → Bool
-has_place seen None = false
-has_place seen (Some c) = has_number seen c
+abbrev pub is_seen_place : List ℕ → Option ℕ → Bool
+is_seen_place seen None = false
+is_seen_place seen (Some c) = has_number seen c
 
 -- whether a key is a made one with a promise, whose cell is one of these
 abbrev pub has_cell_in : Laid → List ℕ → List ℕ → Bool
-has_cell_in l cells key = is_made l.specs key && (is_some (bytes_under l.promise key) && has_place cells (place_in l.specs key))
+has_cell_in l cells key = is_made l.specs key && (is_some (bytes_under l.promise key) && is_seen_place cells (place_in l.specs key))
 
 -- what the keys hold that are only read
 abbrev pub entry_at : List (Option (List ℕ)) → Option ℕ → Option (List ℕ)
@@ -68,15 +68,15 @@ pub record AreStarts (l : Laid) (words : List ℕ) : Type 0 where
   pub starts : (c d : ℕ) → c < flag_count l → slice_index_or words c d ≡ first_word l c
 
 -- the cell of a made key, whose words start at `first` and are to hold these bytes
-pub record IsCell (l : Laid) (cell first : ℕ) (bytes : List ℕ) : Type 0 where
+pub record IsLaidCell (l : Laid) (cell first : ℕ) (bytes : List ℕ) : Type 0 where
   pub less : cell < flag_count l
-  pub named : IsTrue (is_named l cell)
+  pub named : IsTrue (is_named_cell l cell)
   pub start : first ≡ first_word l cell
   pub count : cell_size l cell ≡ word_count (length bytes)
   pub room : first + cell_size l cell < word_total l
   pub promised : (k : ℕ) → k < cell_size l cell → value_at l (first + k) ≡ from_le_bytes w64 (drop (8 * k) bytes)
 
 -- An entry was copied as far as the buffer has room.
-abbrev pub IsCopied : Option (List ℕ) → List ℕ → List ℕ → Got → Type 0
-IsCopied None old new result = result ≡ Absent
-IsCopied (Some bytes) old new result = (result ≡ Held (length bytes)) × (take (length bytes) new ≡ take (length old) bytes) × (length new ≡ length old)
+abbrev pub IsEntryCopied : Option (List ℕ) → List ℕ → List ℕ → Got → Type 0
+IsEntryCopied None old new result = result ≡ Absent
+IsEntryCopied (Some bytes) old new result = (result ≡ Held (length bytes)) × (take (length bytes) new ≡ take (length old) bytes) × (length new ≡ length old)

@@ -3,9 +3,9 @@ use Rattle.std.specs.Prelude.{◌≡◌, ℕ, zero, suc, ◌<◌, Bool, false, I
 use Rattle.std.specs.Str.{bytes_eq}
 use Rattle.cu_store.specs.Held.{Contents}
 use Rattle.cu_store.specs.declared.yard.Spec.{Spec}
-use Rattle.cu_cells.specs.Layout.{flag_count, is_named}
+use Rattle.cu_cells.specs.Layout.{flag_count, is_named_cell}
 use Rattle.cu_cells.specs.Rule.{Viewed, HasStored}
-use Rattle.cu_cells.specs.Cells.{key_at}
+use Rattle.cu_cells.specs.Cells.{spec_key}
 use Rattle.cu_cells.specs.declared.late.LateCell.{LateCell}
 use Rattle.cu_cells.specs.declared.late.LatePut.{LatePut}
 
@@ -15,14 +15,14 @@ behind l zero rest = rest
 behind l (suc n) rest = record { cell = l.cell; wait = n } ∷ rest
 
 -- the puts that are late after the next call: those that weren't due, which wait for one call less
-abbrev pub waiting : List LateCell → List LateCell
-waiting [] = []
-waiting (l ∷ ls) = behind l l.wait (waiting ls)
+abbrev pub cells_waiting : List LateCell → List LateCell
+cells_waiting [] = []
+cells_waiting (l ∷ ls) = behind l l.wait (cells_waiting ls)
 
 -- whether a late put on the key lands at the next call
 abbrev pub lands_now : List Spec → List LateCell → List ℕ → Bool
 lands_now specs [] key = false
-lands_now specs (l ∷ ls) key = (l.wait == 0 && bytes_eq (key_at specs l.cell) key) || lands_now specs ls key
+lands_now specs (l ∷ ls) key = (l.wait == 0 && bytes_eq (spec_key specs l.cell) key) || lands_now specs ls key
 
 -- the cells that have landed once those have that are due
 abbrev pub landed_by : List LateCell → List ℕ → List ℕ
@@ -33,7 +33,7 @@ landed_by (l ∷ ls) landed = landed_by ls (if l.wait == 0 then l.cell ∷ lande
 pub record IsPutOff (v : Viewed) (l : LateCell) : Type 0 where
   pub cell : l.cell < flag_count v.laid
   pub stored : HasStored v l.cell
-  pub named : IsTrue (is_named v.laid l.cell)
+  pub named : IsTrue (is_named_cell v.laid l.cell)
 
 abbrev pub AreStored : Viewed → List LateCell → Type 0
 AreStored v [] = Unit {0}
@@ -51,6 +51,6 @@ with_late late (Some wait) cell = if nat_lt (length late) 8 then late ++ record 
 pub record IsFirstLate (specs : List Spec) (promise : Contents) (old new : List LateCell) (p : LatePut) : Type 0 where
   pub first : LateCell
   pub rest : old ≡ first ∷ new
-  pub key : p.key ≡ key_at specs first.cell
+  pub key : p.key ≡ spec_key specs first.cell
   pub wait : p.wait ≡ first.wait
-  pub bytes : promise (key_at specs first.cell) ≡ Some p.bytes.items
+  pub bytes : promise (spec_key specs first.cell) ≡ Some p.bytes.items

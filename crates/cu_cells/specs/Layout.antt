@@ -74,5 +74,5 @@ named_at promise [] c = false
 named_at promise (s ∷ ss) zero = s.made && is_some (bytes_under promise s.key)
 named_at promise (s ∷ ss) (suc c) = named_at promise ss c
 
-abbrev pub is_named : Laid → ℕ → Bool
-is_named l c = named_at l.promise l.specs c
+abbrev pub is_named_cell : Laid → ℕ → Bool
+is_named_cell l c = named_at l.promise l.specs c

@@ -4,7 +4,7 @@ use Rattle.std.specs.Prelude.{◌≡◌, ◌≢◌, ◌⊎◌, ℕ, ◌+◌, ◌
 use mathlib.Core.Option.{some}
 use lib.ListN.{get_elem?}
 use Rattle.atomic_table.specs.Table.{State, Me, Step}
-use Rattle.cu_cells.specs.Layout.{Laid, flag_count, first_word, cell_size, value_at, word_total, is_named}
+use Rattle.cu_cells.specs.Layout.{Laid, flag_count, first_word, cell_size, value_at, word_total, is_named_cell}
 
 -- the number is one of the list
 abbrev pub IsIn : List ℕ → ℕ → Type 0
@@ -30,7 +30,7 @@ IsWhole l words c = (k : ℕ) → k < cell_size l c → slice_index words (first
 
 -- the cell of a key that the promise names, whole
 abbrev pub IsThere : Laid → List ℕ → ℕ → Type 0
-IsThere l words c = IsWhole l words c × IsTrue (is_named l c)
+IsThere l words c = IsWhole l words c × IsTrue (is_named_cell l c)
 
 -- what a seat knows is so
 pub record Knows (l : Laid) (words : List ℕ) (v : Viewed) : Type 0 where
@@ -41,15 +41,15 @@ pub record Knows (l : Laid) (words : List ℕ) (v : Viewed) : Type 0 where
 
 -- A data word is 0 or the promised one; where a flag isn't 0, the promise names its key, and all
 -- words of its cell are the promised ones; and what each seat in use knows is so.
-pub record IsKept {S : Type 0} (l : Laid) (s : State S Viewed) : Type 0 where
+pub record KeepsPromise {S : Type 0} (l : Laid) (s : State S Viewed) : Type 0 where
   pub size : length s.words ≡ word_total l
   pub words : (w : ℕ) → flag_count l ≤ w → (slice_index s.words w ≡ 0) ⊎ (slice_index s.words w ≡ value_at l w)
   pub flags : (c : ℕ) → c < flag_count l → slice_index s.words c ≢ 0 → IsThere l s.words c
   pub views : (id : ℕ) (v : Viewed) → get_elem? s.views id ≡ some v → v.live ≡ true → Knows l s.words v
 
 -- the first seat
-abbrev pub first_view : Laid → Viewed
-first_view l = record { live = true; laid = l; seen = []; landed = []; stored = [] }
+abbrev pub opening_view : Laid → Viewed
+opening_view l = record { live = true; laid = l; seen = []; landed = []; stored = [] }
 
 -- a seat that is in use no more
 abbrev pub spent_view : Viewed
@@ -84,7 +84,7 @@ LandsCell st m n w = w ≡ (record { live = m.0.live; laid = m.0.laid; seen = m.
 -- A flag that isn't 0 tells that the cell is there and the promise names its key. The flag of a
 -- cell that was seen, or has landed, isn't 0.
 abbrev pub LooksAt : {S : Type 0} → Step S → Me S Viewed → ℕ → Me S Viewed → Type 0
-LooksAt st m n w = (n ≡ 0 → w ≡ m) × (n ≢ 0 → SeesCell st m n w × IsTrue (is_named m.0.laid st.word)) × (IsIn m.0.seen st.word → n ≢ 0) × (IsIn m.0.landed st.word → n ≢ 0)
+LooksAt st m n w = (n ≡ 0 → w ≡ m) × (n ≢ 0 → SeesCell st m n w × IsTrue (is_named_cell m.0.laid st.word)) × (IsIn m.0.seen st.word → n ≢ 0) × (IsIn m.0.landed st.word → n ≢ 0)
 
 -- a word of a cell that was seen is the promised one, and so is a word that the seat has stored
 abbrev pub ReadsWord : {S : Type 0} → Step S → Me S Viewed → ℕ → Me S Viewed → Type 0

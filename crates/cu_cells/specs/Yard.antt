@@ -15,13 +15,13 @@ abbrev pub served_by : Cells → Served
 served_by y = record { specs = y.layout.specs; promise = Some (bytes_under y.layout.promise); entries = Some (entries_in y.layout y.entries.items) }
 
 -- what the keys hold that are only read, as a pass knows it
-abbrev pub entries_of : CellPass → Contents
-entries_of p = entries_in p.seat.me.0.laid p.entries.value.items
+abbrev pub known_entries : CellPass → Contents
+known_entries p = entries_in p.seat.me.0.laid p.entries.value.items
 
 abbrev pub known_of : CellPass → Known
 known_of p = record {
   promise = bytes_under p.seat.me.0.laid.promise;
-  entries = Some (entries_of p);
+  entries = Some (known_entries p);
   lacks = false;
   seen = has_cell_in p.seat.me.0.laid p.seat.me.0.seen;
   faults = p.faults;

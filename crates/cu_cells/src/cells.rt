@@ -2,7 +2,7 @@
 ghost use Rattle.std.specs.Prelude.{◌≡◌, ◌+◌, ◌*◌, ◌<◌, ◌≤◌, ◌^◌, ◌/◌, ◌%◌, ℕ, [], ◌∷◌, true, length, slice_index};
 ghost use Rattle.std.specs.Int.{w64, to_le_bytes};
 ghost use Rattle.cu_cells.specs.Layout.{flag_count, first_word, cell_size, value_at, word_total, word_count};
-ghost use Rattle.cu_cells.specs.Cells.{IsCell};
+ghost use Rattle.cu_cells.specs.Cells.{IsLaidCell};
 ghost use Rattle.cu_cells.specs.Rule.{IsIn, HasStored, KnowsCell};
 
 use crate::steps::{Place, Words, load_word, look, set_flag, store_word};
@@ -14,7 +14,7 @@ pub(crate) fn store_cell(words: &Words, seat: &mut Place, cell: usize, first: us
     requires laid { seat.old.me.0.laid ≡ words.now.key }
     requires sized { words.now.table_id.words ≡ word_total words.now.key }
     requires small { word_total words.now.key < 2 ^ 63 }
-    requires cell { IsCell words.now.key cell first bytes.now }
+    requires cell { IsLaidCell words.now.key cell first bytes.now }
     ensures same { (seat.new.table_id ≡ seat.old.table_id) × (seat.new.me.1 ≡ []) × (seat.new.me.0.live ≡ true) × (seat.new.me.0.laid ≡ words.now.key) }
     ensures seen { (seat.new.me.0.seen ≡ seat.old.me.0.seen) × (seat.new.me.0.landed ≡ seat.old.me.0.landed) }
     ensures more { (n : ℕ) → IsIn seat.old.me.0.stored n → IsIn seat.new.me.0.stored n }
@@ -32,7 +32,7 @@ pub(crate) fn put_cell(words: &Words, seat: &mut Place, cell: usize, first: usiz
     requires laid { seat.old.me.0.laid ≡ words.now.key }
     requires sized { words.now.table_id.words ≡ word_total words.now.key }
     requires small { word_total words.now.key < 2 ^ 63 }
-    requires cell { IsCell words.now.key cell first bytes.now }
+    requires cell { IsLaidCell words.now.key cell first bytes.now }
     ensures same { (seat.new.table_id ≡ seat.old.table_id) × (seat.new.me.1 ≡ []) × (seat.new.me.0.live ≡ true) × (seat.new.me.0.laid ≡ words.now.key) }
     ensures seen { seat.new.me.0.seen ≡ cell ∷ seat.old.me.0.seen }
     ensures landed { seat.new.me.0.landed ≡ seat.old.me.0.landed }

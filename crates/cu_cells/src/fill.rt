@@ -3,9 +3,9 @@ ghost use Rattle.std.specs.Prelude.{◌≡◌, ◌<◌, ◌&&◌, ◌||◌, if�
 ghost use Rattle.std.specs.Str.{bytes_eq};
 ghost use Rattle.cu_store.specs.Held.{Gets};
 ghost use Rattle.cu_store.specs.Yard.{is_made, shown_by, IsPresent, IsLater};
-ghost use Rattle.cu_cells.specs.Cells.{key_at, length_at, FitIn};
+ghost use Rattle.cu_cells.specs.Cells.{spec_key, length_at, FitIn};
 ghost use Rattle.cu_cells.specs.Late.{IsFirstLate};
-ghost use Rattle.cu_cells.specs.Yard.{served_by, known_of, entries_of, script_of, waits_of, landed_of, IsHandOf, IsOwnPass};
+ghost use Rattle.cu_cells.specs.Yard.{served_by, known_of, known_entries, script_of, waits_of, landed_of, IsHandOf, IsOwnPass};
 
 use crate::cells::get_cell;
 use crate::late::{LateCell, LatePut};
@@ -28,12 +28,12 @@ impl Cells {
     pub fn fill(&mut self, pass: &mut CellPass, at: usize, bytes: Vec<u8>)
         requires own { IsOwnPass self.old pass.old }
         requires at { at < length (served_by self.old).specs }
-        requires promised { IsTrue (is_made (served_by self.old).specs (key_at (served_by self.old).specs at)) → (known_of pass.old).promise (key_at (served_by self.old).specs at) ≡ Some bytes.items }
+        requires promised { IsTrue (is_made (served_by self.old).specs (spec_key (served_by self.old).specs at)) → (known_of pass.old).promise (spec_key (served_by self.old).specs at) ≡ Some bytes.items }
         ensures own { IsOwnPass self.new pass.new }
         ensures specs { (served_by self.new).specs ≡ (served_by self.old).specs }
         ensures promise { (known_of pass.new).promise ≡ (known_of pass.old).promise }
-        ensures seen { (key : List ℕ) → (known_of pass.new).seen key ≡ ((known_of pass.old).seen key || (is_made (served_by self.old).specs key && bytes_eq (key_at (served_by self.old).specs at) key)) }
-        ensures entries { (key : List ℕ) → entries_of pass.new key ≡ (if not (is_made (served_by self.old).specs key) && bytes_eq (key_at (served_by self.old).specs at) key then Some bytes.items else entries_of pass.old key) }
+        ensures seen { (key : List ℕ) → (known_of pass.new).seen key ≡ ((known_of pass.old).seen key || (is_made (served_by self.old).specs key && bytes_eq (spec_key (served_by self.old).specs at) key)) }
+        ensures entries { (key : List ℕ) → known_entries pass.new key ≡ (if not (is_made (served_by self.old).specs key) && bytes_eq (spec_key (served_by self.old).specs at) key then Some bytes.items else known_entries pass.old key) }
         ensures counts { ((known_of pass.new).faults ≡ (known_of pass.old).faults) × ((known_of pass.new).calls ≡ (known_of pass.old).calls) }
         ensures script { script_of pass.new ≡ script_of pass.old }
         ensures waits { waits_of pass.new ≡ waits_of pass.old }
@@ -55,10 +55,10 @@ impl Cells {
         requires at { at < length (served_by self.old).specs }
         ensures own { IsHandOf self.new pass.new }
         ensures same { self.new ≡ self.old }
-        ensures found { IsTrue (landed_of pass.old (key_at (served_by self.old).specs at)) → IsPresent (Ok result) }
-        ensures got { Gets (shown_by (known_of pass.new)).held (key_at (served_by self.old).specs at) out.new (Ok result) }
+        ensures found { IsTrue (landed_of pass.old (spec_key (served_by self.old).specs at)) → IsPresent (Ok result) }
+        ensures got { Gets (shown_by (known_of pass.new)).held (spec_key (served_by self.old).specs at) out.new (Ok result) }
         ensures later { IsLater (known_of pass.old) (known_of pass.new) }
-        ensures others { (key : List ℕ) → bytes_eq (key_at (served_by self.old).specs at) key ≡ false → (known_of pass.new).seen key ≡ (known_of pass.old).seen key }
+        ensures others { (key : List ℕ) → bytes_eq (spec_key (served_by self.old).specs at) key ≡ false → (known_of pass.new).seen key ≡ (known_of pass.old).seen key }
         ensures counts { ((known_of pass.new).faults ≡ (known_of pass.old).faults) × ((known_of pass.new).calls ≡ (known_of pass.old).calls) }
         ensures script { script_of pass.new ≡ script_of pass.old }
         ensures waits { waits_of pass.new ≡ waits_of pass.old }
@@ -79,13 +79,13 @@ impl Cells {
     pub fn hand_out(&mut self, pass: &mut CellPass, at: usize, mut room: Vec<u8>) -> Option<Vec<u8>>
         requires own { IsHandOf self.old pass.old }
         requires at { at < length (served_by self.old).specs }
-        requires made { IsTrue (is_made (served_by self.old).specs (key_at (served_by self.old).specs at)) }
+        requires made { IsTrue (is_made (served_by self.old).specs (spec_key (served_by self.old).specs at)) }
         requires room { length room.items ≡ length_at (served_by self.old).specs at }
         ensures own { IsHandOf self.new pass.new }
         ensures same { self.new ≡ self.old }
-        ensures given { IfSome result (λ v. (known_of pass.old).promise (key_at (served_by self.old).specs at) ≡ Some v.items) }
-        ensures left { IfNone result ((known_of pass.old).seen (key_at (served_by self.old).specs at) ≡ false) }
-        ensures unlanded { IfNone result (landed_of pass.old (key_at (served_by self.old).specs at) ≡ false) }
+        ensures given { IfSome result (λ v. (known_of pass.old).promise (spec_key (served_by self.old).specs at) ≡ Some v.items) }
+        ensures left { IfNone result ((known_of pass.old).seen (spec_key (served_by self.old).specs at) ≡ false) }
+        ensures unlanded { IfNone result (landed_of pass.old (spec_key (served_by self.old).specs at) ≡ false) }
         ensures later { IsLater (known_of pass.old) (known_of pass.new) }
         ensures counts { ((known_of pass.new).faults ≡ (known_of pass.old).faults) × ((known_of pass.new).calls ≡ (known_of pass.old).calls) }
         ensures script { script_of pass.new ≡ script_of pass.old }

@@ -1,7 +1,7 @@
 //! Puts that failed and land at a later call of their pass.
 ghost use Rattle.std.specs.Prelude.{◌≡◌, ◌<◌, ◌≤◌, ◌++◌, ◌∷◌, ◌==◌, if◌then◌else◌, [], Some, true, length};
 ghost use Rattle.cu_cells.specs.Layout.{word_total};
-ghost use Rattle.cu_cells.specs.Late.{AreStored, IsPutOff, behind, waiting, landed_by, with_late};
+ghost use Rattle.cu_cells.specs.Late.{AreStored, IsPutOff, behind, cells_waiting, landed_by, with_late};
 
 use crate::steps::{Place, Words, land_flag};
 use arrayvec::ArrayVec;
@@ -37,7 +37,7 @@ pub(crate) fn land_due(words: &Words, seat: &mut Place, late: &mut LateCells)
     ensures same { (seat.new.table_id ≡ seat.old.table_id) × (seat.new.id ≡ seat.old.id) × (seat.new.me.1 ≡ seat.old.me.1) }
     ensures knows { (seat.new.me.0.live ≡ seat.old.me.0.live) × (seat.new.me.0.laid ≡ seat.old.me.0.laid) × (seat.new.me.0.seen ≡ seat.old.me.0.seen) × (seat.new.me.0.stored ≡ seat.old.me.0.stored) }
     ensures landed { seat.new.me.0.landed ≡ landed_by late.old.items seat.old.me.0.landed }
-    ensures waits { late.new.items ≡ waiting late.old.items }
+    ensures waits { late.new.items ≡ cells_waiting late.old.items }
 {
     for at in 0..late.len() {
         land_one(words, seat, &late.as_slice()[at]);
@@ -63,7 +63,7 @@ fn land_one(words: &Words, seat: &mut Place, late: &LateCell)
 /// Those that weren't due, which wait for one call less.
 fn still_waiting(late: &[LateCell]) -> LateCells
     requires { length late.now ≤ 8 }
-    ensures { result.items ≡ waiting late.now }
+    ensures { result.items ≡ cells_waiting late.now }
 {
     let mut rest = ArrayVec::new();
     for at in 0..late.len() {

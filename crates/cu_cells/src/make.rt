@@ -6,7 +6,7 @@ ghost use Rattle.cu_store.specs.Share.{KeysDiffer, IsPromiseOf};
 ghost use Rattle.cu_cells.specs.Layout.{words_in, data_words};
 ghost use Rattle.cu_cells.specs.Script.{empty_script};
 ghost use Rattle.cu_cells.specs.Starts.{starts_from};
-ghost use Rattle.cu_cells.specs.Yard.{served_by, known_of, entries_of, script_of, waits_of, landed_of, room_size, IsOwnPass};
+ghost use Rattle.cu_cells.specs.Yard.{served_by, known_of, known_entries, script_of, waits_of, landed_of, room_size, IsOwnPass};
 
 use crate::layout::Layout;
 use crate::places::places_of;
@@ -115,7 +115,7 @@ impl Cells {
         ensures specs { IfOk result (λ r. (served_by r.0).specs ≡ specs.now) }
         ensures promise { IfOk result (λ r. (known_of r.1).promise ≡ bytes_under promise.now.map) }
         ensures unseen { IfOk result (λ r. (key : List ℕ) → (known_of r.1).seen key ≡ false) }
-        ensures unfilled { IfOk result (λ r. (key : List ℕ) → entries_of r.1 key ≡ None) }
+        ensures unfilled { IfOk result (λ r. (key : List ℕ) → known_entries r.1 key ≡ None) }
         ensures script { IfOk result (λ r. script_of r.1 ≡ empty_script) }
         ensures waits { IfOk result (λ r. waits_of r.1 ≡ []) }
         ensures landed { IfOk result (λ r. (key : List ℕ) → landed_of r.1 key ≡ false) }

@@ -1,5 +1,5 @@
 //! The rule of cells, what a seat knows, and what its steps tell.
-ghost use Rattle.cu_cells.specs.Rule.{IsKept, first_view, spent_view, both_views, StoresWord, SeesCell, LandsCell, LooksAt, ReadsWord};
+ghost use Rattle.cu_cells.specs.Rule.{KeepsPromise, opening_view, spent_view, both_views, StoresWord, SeesCell, LandsCell, LooksAt, ReadsWord};
 
 use crate::layout::Layout;
 use atomic_table::{Join, Play, Split, TableRule};
@@ -27,9 +27,9 @@ impl Model for View {
 pub struct CellsRule;
 
 impl<S> TableRule<S, View, Layout> for CellsRule {
-    ghost holds = { IsKept };
+    ghost holds = { KeepsPromise };
 
-    ghost first = { first_view };
+    ghost first = { opening_view };
 }
 
 /// A data word is stored.

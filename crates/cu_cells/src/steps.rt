@@ -1,7 +1,7 @@
 //! The six kinds of step: a data word is stored, a flag is set, a flag is loaded, a data word is
 //! loaded, seats are split and joined.
 ghost use Rattle.std.specs.Prelude.{◌≡◌, ◌≢◌, ◌+◌, ◌<◌, ◌≤◌, ℕ, IsTrue, [], ◌∷◌, true, false};
-ghost use Rattle.cu_cells.specs.Layout.{flag_count, first_word, cell_size, value_at, word_total, is_named};
+ghost use Rattle.cu_cells.specs.Layout.{flag_count, first_word, cell_size, value_at, word_total, is_named_cell};
 ghost use Rattle.cu_cells.specs.Rule.{HasStored, IsIn, both_views, StoresWord, SeesCell, LandsCell, LooksAt, ReadsWord};
 ghost use Rattle.atomic_table.specs.Table.{step};
 ghost use mathlib.Core.Option.{none};
@@ -34,7 +34,7 @@ pub(crate) fn set_flag(words: &Words, seat: &mut Place, cell: usize)
     requires sized { words.now.table_id.words ≡ word_total words.now.key }
     requires cell { cell < flag_count words.now.key }
     requires stored { HasStored seat.old.me.0 cell }
-    requires named { IsTrue (is_named words.now.key cell) }
+    requires named { IsTrue (is_named_cell words.now.key cell) }
     ensures same { (seat.new.table_id ≡ seat.old.table_id) × (seat.new.id ≡ seat.old.id) }
     ensures seen { SeesCell (step words.now.table_id.slots cell 1 0 none) seat.old.me 1 seat.new.me }
 {
@@ -48,7 +48,7 @@ pub(crate) fn land_flag(words: &Words, seat: &mut Place, cell: usize)
     requires sized { words.now.table_id.words ≡ word_total words.now.key }
     requires cell { cell < flag_count words.now.key }
     requires stored { HasStored seat.old.me.0 cell }
-    requires named { IsTrue (is_named words.now.key cell) }
+    requires named { IsTrue (is_named_cell words.now.key cell) }
     ensures same { (seat.new.table_id ≡ seat.old.table_id) × (seat.new.id ≡ seat.old.id) }
     ensures landed { LandsCell (step words.now.table_id.slots cell 1 0 none) seat.old.me 1 seat.new.me }
 {
@@ -64,7 +64,7 @@ pub(crate) fn look(words: &Words, seat: &mut Place, cell: usize) -> bool
     ensures same { (seat.new.table_id ≡ seat.old.table_id) × (seat.new.id ≡ seat.old.id) }
     ensures knows { (seat.new.me.1 ≡ seat.old.me.1) × (seat.new.me.0.live ≡ seat.old.me.0.live) × (seat.new.me.0.laid ≡ seat.old.me.0.laid) × (seat.new.me.0.stored ≡ seat.old.me.0.stored) × (seat.new.me.0.landed ≡ seat.old.me.0.landed) }
     ensures unset { result ≡ false → seat.new.me ≡ seat.old.me }
-    ensures set { result ≡ true → SeesCell (step words.now.table_id.slots cell 0 0 none) seat.old.me 0 seat.new.me × IsTrue (is_named words.now.key cell) }
+    ensures set { result ≡ true → SeesCell (step words.now.table_id.slots cell 0 0 none) seat.old.me 0 seat.new.me × IsTrue (is_named_cell words.now.key cell) }
     ensures seen { IsIn seat.old.me.0.seen cell → result ≡ true }
     ensures landed { IsIn seat.old.me.0.landed cell → result ≡ true }
 {

@@ -5,8 +5,8 @@ ghost use Rattle.cu_store.specs.Faults.{last_count};
 ghost use Rattle.cu_store.specs.Held.{Gets, Holds};
 ghost use Rattle.cu_store.specs.Steps.{NoChange, PutOf, Steps, Caused};
 ghost use Rattle.cu_store.specs.Yard.{bytes_under, is_served, is_made, shown_by, uncounted, MayGet, MayPut, IsPresent, IsLater, IsJoined};
-ghost use Rattle.cu_cells.specs.Cells.{place_in, key_at, IsCopied};
-ghost use Rattle.cu_cells.specs.Late.{waiting, with_late, lands_now};
+ghost use Rattle.cu_cells.specs.Cells.{place_in, spec_key, IsEntryCopied};
+ghost use Rattle.cu_cells.specs.Late.{cells_waiting, with_late, lands_now};
 ghost use Rattle.cu_cells.specs.Script.{Raises, empty_script, fails, fate, land, next};
 ghost use Rattle.cu_cells.specs.Yard.{served_by, known_of, script_of, waits_of, landed_of, IsHandOf, IsOwnPass, AreOfOneTable};
 ghost use Rattle.cu_cells.specs.YardLaws.{cell_laws};
@@ -22,7 +22,7 @@ use std::snapshot::Snapshot;
 
 /// Copies an entry, as far as the buffer has room.
 fn copy_entry(entry: &Entry, buf: &mut [u8]) -> Got
-    ensures { IsCopied entry.now buf.old buf.new result }
+    ensures { IsEntryCopied entry.now buf.old buf.new result }
 {
     match &entry.bytes {
         None => Got::Absent,
@@ -41,7 +41,7 @@ impl Cells {
         requires served { IsTrue (is_served self.now.layout.specs key.now) }
         ensures place { place_in self.now.layout.specs key.now ≡ Some result }
         ensures bound { result < length self.now.layout.specs }
-        ensures key { key_at self.now.layout.specs result ≡ key.now }
+        ensures key { spec_key self.now.layout.specs result ≡ key.now }
     {
         match self.places.find(key) {
             Some(at) => at,
@@ -57,7 +57,7 @@ impl Cells {
         ensures known { known_of pass.new ≡ record (known_of pass.old) { calls = min ((known_of pass.old).calls + 1) last_count } }
         ensures fate { result ≡ fate (script_of pass.old) kind key.now }
         ensures script { script_of pass.new ≡ next (script_of pass.old) kind key.now }
-        ensures waits { waits_of pass.new ≡ waiting (waits_of pass.old) }
+        ensures waits { waits_of pass.new ≡ cells_waiting (waits_of pass.old) }
         ensures landed { (key : List ℕ) → landed_of pass.new key ≡ (landed_of pass.old key || lands_now (served_by self.now).specs (waits_of pass.old) key) }
     {
         pass.calls = pass.calls.saturating_add(1);
@@ -69,14 +69,14 @@ impl Cells {
     pub(crate) fn read(&self, pass: &mut CellPass, at: usize, buf: &mut [u8]) -> Got
         requires own { IsHandOf self.now pass.old }
         requires at { at < length self.now.layout.specs }
-        requires known { IsTrue (is_made self.now.layout.specs (key_at self.now.layout.specs at)) → IsTrue ((known_of pass.old).seen (key_at self.now.layout.specs at)) }
+        requires known { IsTrue (is_made self.now.layout.specs (spec_key self.now.layout.specs at)) → IsTrue ((known_of pass.old).seen (spec_key self.now.layout.specs at)) }
         ensures own { IsHandOf self.now pass.new }
         ensures known { known_of pass.new ≡ known_of pass.old }
         ensures script { script_of pass.new ≡ script_of pass.old }
         ensures waits { waits_of pass.new ≡ waits_of pass.old }
         ensures landed { landed_of pass.new ≡ landed_of pass.old }
-        ensures got { Gets (shown_by (known_of pass.old)).held (key_at self.now.layout.specs at) buf.new (Ok result) }
-        ensures present { IsTrue (is_made self.now.layout.specs (key_at self.now.layout.specs at)) → IsPresent (Ok result) }
+        ensures got { Gets (shown_by (known_of pass.old)).held (spec_key self.now.layout.specs at) buf.new (Ok result) }
+        ensures present { IsTrue (is_made self.now.layout.specs (spec_key self.now.layout.specs at)) → IsPresent (Ok result) }
     {
         let spec = &self.layout.specs()[at];
         if spec.made {
@@ -97,12 +97,12 @@ impl Cells {
     pub(crate) fn look_at(&self, pass: &mut CellPass, at: usize) -> bool
         requires own { IsHandOf self.now pass.old }
         requires at { at < length self.now.layout.specs }
-        requires made { IsTrue (is_made self.now.layout.specs (key_at self.now.layout.specs at)) }
+        requires made { IsTrue (is_made self.now.layout.specs (spec_key self.now.layout.specs at)) }
         ensures own { IsHandOf self.now pass.new }
         ensures known { known_of pass.new ≡ record (known_of pass.old) { seen = (known_of pass.new).seen } }
-        ensures there { result ≡ true → (key : List ℕ) → (known_of pass.new).seen key ≡ ((known_of pass.old).seen key || bytes_eq (key_at self.now.layout.specs at) key) }
-        ensures unset { result ≡ false → (known_of pass.new ≡ known_of pass.old) × ((known_of pass.old).seen (key_at self.now.layout.specs at) ≡ false) }
-        ensures found { IsTrue (landed_of pass.old (key_at self.now.layout.specs at)) → result ≡ true }
+        ensures there { result ≡ true → (key : List ℕ) → (known_of pass.new).seen key ≡ ((known_of pass.old).seen key || bytes_eq (spec_key self.now.layout.specs at) key) }
+        ensures unset { result ≡ false → (known_of pass.new ≡ known_of pass.old) × ((known_of pass.old).seen (spec_key self.now.layout.specs at) ≡ false) }
+        ensures found { IsTrue (landed_of pass.old (spec_key self.now.layout.specs at)) → result ≡ true }
         ensures script { script_of pass.new ≡ script_of pass.old }
         ensures waits { waits_of pass.new ≡ waits_of pass.old }
         ensures landed { landed_of pass.new ≡ landed_of pass.old }
@@ -114,11 +114,11 @@ impl Cells {
     pub(crate) fn put_at(&self, pass: &mut CellPass, at: usize, bytes: &[u8])
         requires own { IsHandOf self.now pass.old }
         requires at { at < length self.now.layout.specs }
-        requires made { IsTrue (is_made self.now.layout.specs (key_at self.now.layout.specs at)) }
-        requires promised { bytes_under self.now.layout.promise (key_at self.now.layout.specs at) ≡ Some bytes.now }
+        requires made { IsTrue (is_made self.now.layout.specs (spec_key self.now.layout.specs at)) }
+        requires promised { bytes_under self.now.layout.promise (spec_key self.now.layout.specs at) ≡ Some bytes.now }
         ensures own { IsHandOf self.now pass.new }
         ensures known { known_of pass.new ≡ record (known_of pass.old) { seen = (known_of pass.new).seen } }
-        ensures seen { (key : List ℕ) → (known_of pass.new).seen key ≡ ((known_of pass.old).seen key || bytes_eq (key_at self.now.layout.specs at) key) }
+        ensures seen { (key : List ℕ) → (known_of pass.new).seen key ≡ ((known_of pass.old).seen key || bytes_eq (spec_key self.now.layout.specs at) key) }
         ensures script { script_of pass.new ≡ script_of pass.old }
         ensures waits { waits_of pass.new ≡ waits_of pass.old }
         ensures landed { landed_of pass.new ≡ landed_of pass.old }
@@ -137,8 +137,8 @@ impl Cells {
     fn put_late(&self, pass: &mut CellPass, at: usize, bytes: &[u8], land: Option<u32>)
         requires own { IsHandOf self.now pass.old }
         requires at { at < length self.now.layout.specs }
-        requires made { IsTrue (is_made self.now.layout.specs (key_at self.now.layout.specs at)) }
-        requires promised { bytes_under self.now.layout.promise (key_at self.now.layout.specs at) ≡ Some bytes.now }
+        requires made { IsTrue (is_made self.now.layout.specs (spec_key self.now.layout.specs at)) }
+        requires promised { bytes_under self.now.layout.promise (spec_key self.now.layout.specs at) ≡ Some bytes.now }
         ensures own { IsHandOf self.now pass.new }
         ensures known { known_of pass.new ≡ record (known_of pass.old) { faults = min ((known_of pass.old).faults + 1) last_count } }
         ensures script { script_of pass.new ≡ script_of pass.old }
@@ -189,7 +189,7 @@ impl Yard for Cells {
         ensures memory { result ≢ Err DepotFault.NoMemory }
         ensures raised { Raises result (known_of pass.old).faults (known_of pass.new).faults }
         ensures script { script_of pass.new ≡ next (script_of pass.old) CallKind.Get key.now }
-        ensures waits { waits_of pass.new ≡ waiting (waits_of pass.old) }
+        ensures waits { waits_of pass.new ≡ cells_waiting (waits_of pass.old) }
         ensures landed { (key : List ℕ) → landed_of pass.new key ≡ (landed_of pass.old key || lands_now (served_by self.now).specs (waits_of pass.old) key) }
     {
         if let Fate::Fails(_) = self.begin(pass, CallKind::Get, key) {
@@ -217,8 +217,8 @@ impl Yard for Cells {
         ensures memory { result ≢ Err DepotFault.NoMemory }
         ensures raised { Raises result (known_of pass.old).faults (known_of pass.new).faults }
         ensures script { script_of pass.new ≡ next (script_of pass.old) CallKind.Put key.now }
-        ensures waits { OnOk result (waits_of pass.new ≡ waiting (waits_of pass.old)) }
-        ensures late { OnErr result ((at : ℕ) → place_in (served_by self.now).specs key.now ≡ Some at → waits_of pass.new ≡ with_late (waiting (waits_of pass.old)) (land (script_of pass.old) CallKind.Put key.now) at) }
+        ensures waits { OnOk result (waits_of pass.new ≡ cells_waiting (waits_of pass.old)) }
+        ensures late { OnErr result ((at : ℕ) → place_in (served_by self.now).specs key.now ≡ Some at → waits_of pass.new ≡ with_late (cells_waiting (waits_of pass.old)) (land (script_of pass.old) CallKind.Put key.now) at) }
         ensures landed { (key : List ℕ) → landed_of pass.new key ≡ (landed_of pass.old key || lands_now (served_by self.now).specs (waits_of pass.old) key) }
     {
         let fate = self.begin(pass, CallKind::Put, key);

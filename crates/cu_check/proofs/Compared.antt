@@ -26,7 +26,7 @@ use Rattle.cu_region.specs.Steady.{IsSteady}
 use Rattle.cu_command.specs.declared.job.Job.{Job}
 use Rattle.cu_command.specs.declared.status.Status.{Status}
 use Rattle.cu_command.specs.declared.status.Status.TheVariants.{BadChunk, DepotFailed, NoMemory, Unequal}
-use Rattle.cu_check.specs.Arrays.{arrays_of_nodes, compared_arrays, IsThere, IsReadChunk, WhereCalm, IsOwnTurn, IsChunkTurn}
+use Rattle.cu_check.specs.Arrays.{arrays_of_nodes, compared_arrays, HasAllElements, IsReadChunk, WhereCalm, IsOwnTurn, IsChunkTurn}
 use Rattle.cu_check.specs.Check.{IsLikeStoredNode, plain_element, IsEqual, IsEqualBelow, AreAt, WhereThere, IsCompareFault}
 use Rattle.cu_check.specs.Chunks.{IsChunkFault, HasAllStored}
 use Rattle.cu_check.specs.Elements.{elements_of}
@@ -44,17 +44,17 @@ in_middle (b ∷ before) a behind = let rest = in_middle before a behind in (suc
 
 -- the arrays that were read are there, where they stand among all
 list_there : (arrays front xs behind : List InputInfo) (ps : List PlainArray) (entry : Shown) (held : Contents) → arrays ≡ front ++ (xs ++ behind) → entry.held ≡ Some held
-    → IsSteady (IsReadChunk arrays) (Some held) entry.late → AreReadArrays entry xs ps → All (IsThere held) xs
-list_there arrays front [] behind [] entry held place told steady read = All-nil (IsThere held)
+    → IsSteady (IsReadChunk arrays) (Some held) entry.late → AreReadArrays entry xs ps → All (HasAllElements held) xs
+list_there arrays front [] behind [] entry held place told steady read = All-nil (HasAllElements held)
 list_there arrays front [] behind (p ∷ ps) entry held place told steady read = absurd read
 list_there arrays front (a ∷ xs) behind [] entry held place told steady read = absurd read
 list_there arrays front (a ∷ xs) behind (p ∷ ps) entry held place told steady read =
     let here : Contains arrays a = subst (λ (xs : List InputInfo). Contains xs a) (sym place) (in_middle front a (xs ++ behind)) in
-    All-cons (IsThere held) a xs
+    All-cons (HasAllElements held) a xs
     (array_there a p held read.0.plain read.0.dims (read.0.elements held told (calm_of arrays a entry held here steady)))
     (list_there arrays (front ++ a ∷ []) xs behind ps entry held (place ∙ sym (append_assoc front (a ∷ []) (xs ++ behind))) told steady read.1)
 
-stored_there : (a : InputInfo) (bytes : List ℕ) (held : Contents) → HasAllStored a bytes held → IsThere held a
+stored_there : (a : InputInfo) (bytes : List ℕ) (held : Contents) → HasAllStored a bytes held → HasAllElements held a
 stored_there a bytes held has idx inside = (element_at Little a.layout.dtype bytes (place_of a.layout.grid.shape idx), has idx inside)
 
 module _ (job : Job) (output : InputInfo) (entry : Shown) (held : Contents) (told : entry.held ≡ Some held)
@@ -66,11 +66,11 @@ module _ (job : Job) (output : InputInfo) (entry : Shown) (held : Contents) (tol
 
   -- an array of the inputs is too
   pub all_there : (ps : List PlainArray) (bytes : List ℕ) → AreReadArrays entry (arrays_of_nodes job.inputs.items job.expr.nodes) ps → HasAllStored output bytes held
-      → All (IsThere held) (compared_arrays job output)
+      → All (HasAllElements held) (compared_arrays job output)
   all_there ps bytes read stored =
-      All-append (IsThere held) (arrays_of_nodes job.inputs.items job.expr.nodes) (output ∷ [])
+      All-append (HasAllElements held) (arrays_of_nodes job.inputs.items job.expr.nodes) (output ∷ [])
       (list_there (compared_arrays job output) [] (arrays_of_nodes job.inputs.items job.expr.nodes) (output ∷ []) ps entry held refl told steady read)
-      (All-cons (IsThere held) output [] (stored_there output bytes held stored) (All-nil (IsThere held)))
+      (All-cons (HasAllElements held) output [] (stored_there output bytes held stored) (All-nil (HasAllElements held)))
 
 -- ---- elements
 

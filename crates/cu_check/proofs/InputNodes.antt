@@ -14,7 +14,7 @@ use Rattle.cu_form.specs.declared.form.Form.{Form}
 use Rattle.cu_node.specs.Info.{info_at, no_info}
 use Rattle.cu_node.specs.declared.faults.NodeFault.{NodeFault}
 use Rattle.cu_node.specs.declared.info.NodeInfo.{NodeInfo}
-use Rattle.cu_expr.specs.Inputs.{layout_info, named_input}
+use Rattle.cu_expr.specs.Inputs.{layout_info, named_input, layout_named}
 use Rattle.cu_expr.specs.Typing.{typed_node}
 use Rattle.cu_expr.specs.declared.inputs.InputInfo.{InputInfo}
 use Rattle.cu_mean.specs.Node.{is_input}
@@ -33,13 +33,13 @@ use Rattle.cu_command.specs.Stored.{IsArrayChunk}
 use Rattle.cu_command.specs.declared.job.Job.{Job}
 use Rattle.cu_command.specs.declared.status.Status.{Status}
 use Rattle.cu_command.specs.declared.status.Status.TheVariants.{BadChunk, DepotFailed, NoMemory}
-use Rattle.cu_check.specs.Arrays.{form_arrays, node_arrays, arrays_of_nodes, IsThere, IsReadChunk, IsOwnTurn}
+use Rattle.cu_check.specs.Arrays.{form_arrays, node_arrays, arrays_of_nodes, HasAllElements, IsReadChunk, IsOwnTurn}
 use Rattle.cu_check.specs.Chunks.{IsChunkFault}
-use Rattle.cu_check.specs.Elements.{named_layout, form_element, used_element, elements_of}
+use Rattle.cu_check.specs.Elements.{form_element, used_element, elements_of}
 use Rattle.cu_check.specs.Plains.{HasStoredElements, IsReadArray, AreReadArrays, IsListFault}
 
 abbrev array_named : List InputInfo → List ℕ → InputInfo
-array_named inputs name = record { name = name; layout = named_layout inputs name }
+array_named inputs name = record { name = name; layout = layout_named inputs name }
 
 -- one more array
 pub read_more : (entry : Shown) (xs : List InputInfo) (ps : List PlainArray) (a : InputInfo) (p : PlainArray) → AreReadArrays entry xs ps → IsReadArray entry a p
@@ -161,7 +161,7 @@ input_name (Form.Input name) test = (name, refl)
 input_name form test = cc
 
 -- what typing knows of a name is its layout
-known_layout : (inputs : List InputInfo) (name : List ℕ) → unwrap_or (named_input inputs name) no_info ≡ layout_info (named_layout inputs name)
+known_layout : (inputs : List InputInfo) (name : List ℕ) → unwrap_or (named_input inputs name) no_info ≡ layout_info (layout_named inputs name)
 known_layout [] name = refl
 known_layout (i ∷ is) name =
     elim (cases_Bool (bytes_eq name i.name)) [
@@ -174,7 +174,7 @@ known_layout (i ∷ is) name =
 module _ (inputs : List InputInfo) (e : Expression) (infos : List NodeInfo)
     (whole : (k : ℕ) (n : Node) → slice_get e.nodes k ≡ Some n → typed_node inputs infos n.form ≡ Ok (info_at infos k)) where
   -- what is known of an input node is its layout
-  input_info : (k : ℕ) (n : Node) (name : List ℕ) → slice_get e.nodes k ≡ Some n → n.form ≡ Form.Input name → info_at infos k ≡ layout_info (named_layout inputs name)
+  input_info : (k : ℕ) (n : Node) (name : List ℕ) → slice_get e.nodes k ≡ Some n → n.form ≡ Form.Input name → info_at infos k ≡ layout_info (layout_named inputs name)
   input_info k n name at is =
       let value : NodeInfo → Result NodeInfo NodeFault = λ x. Ok x in
       let t : value (unwrap_or (named_input inputs name) no_info) ≡ value (info_at infos k) = ap (typed_node inputs infos) (sym is) ∙ whole k n at in
@@ -211,7 +211,7 @@ module _ (inputs : List InputInfo) (e : Expression) (infos : List NodeInfo)
   -- ---- the arrays hold the elements that were held
 
   element_is : (job : Job) (held : Contents) (k : ℕ) (n : Node) (name idx : List ℕ) → slice_get job.expr.nodes k ≡ Some n → n.form ≡ Form.Input name
-      → elements_of job held k idx ≡ unwrap_or (stored_element (layout_view (named_layout job.inputs.items name)) name held idx) (pos 0)
+      → elements_of job held k idx ≡ unwrap_or (stored_element (layout_view (layout_named job.inputs.items name)) name held idx) (pos 0)
   element_is job held k n name idx at is = ap (used_element job held idx) at ∙ ap (form_element job held idx) is
 
 some_cell : (cells : List ℤ) (place : ℕ) (stored : Option ℤ) → place < length cells → stored ≡ slice_get cells place → slice_get cells place ≡ Some (unwrap_or stored (pos 0))
@@ -249,11 +249,11 @@ hold_inputs job tail whole entry held ps read elements k node p at test there =
     let own : IsReadArray entry (array_named job.inputs.items name) p = subst (λ (q : PlainArray). IsReadArray entry (array_named job.inputs.items name) q) same found.read in
     holds job.inputs.items job.expr job.types whole entry k node name p (elements_of job held k) at is own
     (λ place below.
-    let inside : place < product (named_layout job.inputs.items name).grid.shape = subst (λ (dims : List ℕ). place < product dims) own.dims below in
+    let inside : place < product (layout_named job.inputs.items name).grid.shape = subst (λ (dims : List ℕ). place < product dims) own.dims below in
     let long = own.plain.count in
     subst (λ (dims : List ℕ). slice_get p.cells place ≡ Some (elements_of job held k (index_at dims place))) (sym own.dims)
-    (some_cell p.cells place (stored_element (layout_view (named_layout job.inputs.items name)) name held (index_at (named_layout job.inputs.items name).grid.shape place)) (omega arith) (elements (array_named job.inputs.items name) p (listed job.inputs.items job.expr.nodes tail k node name at is) own place inside)
-    ∙ ap Some (sym (element_is job.inputs.items job.expr job.types whole job held k node name (index_at (named_layout job.inputs.items name).grid.shape place) at is))))
+    (some_cell p.cells place (stored_element (layout_view (layout_named job.inputs.items name)) name held (index_at (layout_named job.inputs.items name).grid.shape place)) (omega arith) (elements (array_named job.inputs.items name) p (listed job.inputs.items job.expr.nodes tail k node name at is) own place inside)
+    ∙ ap Some (sym (element_is job.inputs.items job.expr job.types whole job held k node name (index_at (layout_named job.inputs.items name).grid.shape place) at is))))
 
 -- ---- the arrays hold their own elements
 
@@ -280,7 +280,7 @@ hold_own inputs e infos whole entry ps read k node p at test there =
 -- ---- what is there
 
 -- an array that was read is there
-pub array_there : (a : InputInfo) (p : PlainArray) (held : Contents) → IsPlain p → p.dims ≡ a.layout.grid.shape → HasStoredElements a p held → IsThere held a
+pub array_there : (a : InputInfo) (p : PlainArray) (held : Contents) → IsPlain p → p.dims ≡ a.layout.grid.shape → HasStoredElements a p held → HasAllElements held a
 array_there a p held plain dims has idx inside =
     let below = place-below a.layout.grid.shape idx inside in
     let long : length p.cells ≡ product a.layout.grid.shape = plain.count ∙ ap product dims in (

@@ -15,7 +15,7 @@ use Rattle.cu_expr.specs.declared.inputs.InputInfo.{InputInfo}
 use Rattle.cu_op.specs.Arrays.{no_array}
 use Rattle.cu_op.specs.declared.layout.Layout.{Layout}
 use Rattle.cu_command.specs.Stored.{IsArrayLayout}
-use Rattle.cu_check.specs.Elements.{named_layout}
+use Rattle.cu_expr.specs.Inputs.{layout_named}
 
 pub few_elements : (l : Layout) → IsArrayLayout l → product l.grid.shape ≤ 2 ^ 40
 few_elements l ok =
@@ -56,7 +56,7 @@ no_layout = record {
 }
 
 -- each layout that is looked up by a name is one
-pub named_fits : (inputs : List InputInfo) (name : List ℕ) → All (λ i. IsArrayLayout i.layout) inputs → IsArrayLayout (named_layout inputs name)
+pub named_fits : (inputs : List InputInfo) (name : List ℕ) → All (λ i. IsArrayLayout i.layout) inputs → IsArrayLayout (layout_named inputs name)
 named_fits [] name h = no_layout
 named_fits (i ∷ is) name h =
     elim (cases_Bool (bytes_eq name i.name)) [
@@ -79,12 +79,12 @@ other_when b xs ys h is =
 pub from_place : (xs : List InputInfo) (k : ℕ) (x : InputInfo) → k < length xs → x ≡ get_or xs k x → drop k xs ≡ x ∷ drop (k + 1) xs
 from_place xs k x below is = drop_more xs k x below ∙ ap (λ y. y ∷ drop (k + 1) xs) (sym is)
 
-pub layout_found : (inputs : List InputInfo) (name : List ℕ) (k : ℕ) (i : InputInfo) → drop k inputs ≡ i ∷ drop (k + 1) inputs → named_layout (drop k inputs) name ≡ named_layout inputs name
-    → bytes_eq name i.name ≡ true → i.layout ≡ named_layout inputs name
+pub layout_found : (inputs : List InputInfo) (name : List ℕ) (k : ℕ) (i : InputInfo) → drop k inputs ≡ i ∷ drop (k + 1) inputs → layout_named (drop k inputs) name ≡ layout_named inputs name
+    → bytes_eq name i.name ≡ true → i.layout ≡ layout_named inputs name
 layout_found inputs name k i rest known same =
-    (let first : named_layout (i ∷ drop (k + 1) inputs) name ≡ i.layout = rw same refl in sym first) ∙ ap (λ l. named_layout l name) (sym rest) ∙ known
+    (let first : layout_named (i ∷ drop (k + 1) inputs) name ≡ i.layout = rw same refl in sym first) ∙ ap (λ l. layout_named l name) (sym rest) ∙ known
 
-pub layout_passed : (inputs : List InputInfo) (name : List ℕ) (k : ℕ) (i : InputInfo) → drop k inputs ≡ i ∷ drop (k + 1) inputs → named_layout (drop k inputs) name ≡ named_layout inputs name
-    → bytes_eq name i.name ≡ false → named_layout (drop (k + 1) inputs) name ≡ named_layout inputs name
+pub layout_passed : (inputs : List InputInfo) (name : List ℕ) (k : ℕ) (i : InputInfo) → drop k inputs ≡ i ∷ drop (k + 1) inputs → layout_named (drop k inputs) name ≡ layout_named inputs name
+    → bytes_eq name i.name ≡ false → layout_named (drop (k + 1) inputs) name ≡ layout_named inputs name
 layout_passed inputs name k i rest known other =
-    (let behind : named_layout (i ∷ drop (k + 1) inputs) name ≡ named_layout (drop (k + 1) inputs) name = rw other refl in sym behind) ∙ ap (λ l. named_layout l name) (sym rest) ∙ known
+    (let behind : layout_named (i ∷ drop (k + 1) inputs) name ≡ layout_named (drop (k + 1) inputs) name = rw other refl in sym behind) ∙ ap (λ l. layout_named l name) (sym rest) ∙ known

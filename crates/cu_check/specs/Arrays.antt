@@ -15,11 +15,11 @@ use Rattle.cu_zarr.specs.Stored.{stored_element}
 use Rattle.cu_region.specs.Steady.{IsSteady}
 use Rattle.cu_command.specs.Stored.{IsArrayChunk}
 use Rattle.cu_command.specs.declared.job.Job.{Job}
-use Rattle.cu_check.specs.Elements.{named_layout}
+use Rattle.cu_expr.specs.Inputs.{layout_named}
 
 -- the array that a node reads, where it is an input
 abbrev pub form_arrays : List InputInfo → Form → List InputInfo
-form_arrays inputs (Form.Input name) = record { name = name; layout = named_layout inputs name } ∷ []
+form_arrays inputs (Form.Input name) = record { name = name; layout = layout_named inputs name } ∷ []
 form_arrays inputs form = []
 
 abbrev pub node_arrays : List InputInfo → Node → List InputInfo
@@ -36,16 +36,16 @@ compared_arrays job output = arrays_of_nodes job.inputs.items job.expr.nodes ++ 
 -- ---- what of them is there
 
 -- the array has an element at this index
-abbrev pub HasElement : Contents → InputInfo → List ℕ → Type 0
-HasElement held a idx = (x : ℤ) × (stored_element (layout_view a.layout) a.name held idx ≡ Some x)
+abbrev pub ArrayHasElement : Contents → InputInfo → List ℕ → Type 0
+ArrayHasElement held a idx = (x : ℤ) × (stored_element (layout_view a.layout) a.name held idx ≡ Some x)
 
 -- at each index: each of its chunks is absent, or has the bytes of a chunk
-abbrev pub IsThere : Contents → InputInfo → Type 0
-IsThere held a = (idx : List ℕ) → IsInside a.layout.grid.shape idx → HasElement held a idx
+abbrev pub HasAllElements : Contents → InputInfo → Type 0
+HasAllElements held a = (idx : List ℕ) → IsInside a.layout.grid.shape idx → ArrayHasElement held a idx
 
 -- at each index of chunk number n, row-major
 abbrev pub IsChunkThere : Contents → InputInfo → ℕ → Type 0
-IsChunkThere held a n = (idx : List ℕ) → IsInside a.layout.grid.shape idx → quotients idx a.layout.grid.chunk ≡ coordinate_of a.layout.grid n → HasElement held a idx
+IsChunkThere held a n = (idx : List ℕ) → IsInside a.layout.grid.shape idx → quotients idx a.layout.grid.chunk ≡ coordinate_of a.layout.grid n → ArrayHasElement held a idx
 
 -- a key of a chunk of one of the arrays
 abbrev pub IsReadChunk : List InputInfo → List ℕ → Type 0
@@ -71,5 +71,5 @@ pub record IsChunkTurn (entry : Shown) (arrays : List InputInfo) (a : InputInfo)
   pub before : List InputInfo
   pub behind : List InputInfo
   pub place : arrays ≡ before ++ a ∷ behind
-  pub front : WhereStill entry arrays (λ held. All (IsThere held) before)
+  pub front : WhereStill entry arrays (λ held. All (HasAllElements held) before)
   pub own : IsOwnTurn entry a turn

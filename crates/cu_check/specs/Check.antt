@@ -26,7 +26,7 @@ use Rattle.cu_command.specs.declared.job.JobFault.{JobFault}
 use Rattle.cu_command.specs.declared.job.JobFault.TheVariants as fault
 use Rattle.cu_command.specs.declared.status.Status.{Status}
 use Rattle.cu_command.specs.declared.status.Status.TheVariants.{Done, BadExpr, BadType, OverLimit, BadMeta, NoArray, ReadFault, WriteFault, BadChunk, DepotFailed, Unequal, NoMemory}
-use Rattle.cu_check.specs.Arrays.{compared_arrays, IsThere, WhereStill, IsChunkTurn}
+use Rattle.cu_check.specs.Arrays.{compared_arrays, HasAllElements, WhereStill, IsChunkTurn}
 use Rattle.cu_check.specs.Elements.{elements_of}
 use Rattle.cu_check.specs.declared.metadata.Compared.{Compared}
 
@@ -102,7 +102,7 @@ pub record AreAt (job : Job) (output : InputInfo) (held : Contents) (place : ℕ
 
 -- all chunks of the arrays are there, and this is so of what was held
 abbrev pub WhereThere : Shown → Job → InputInfo → (Contents → Type 0) → Type 0
-WhereThere entry job output fact = WhereStill entry (compared_arrays job output) (λ held. All (IsThere held) (compared_arrays job output) × fact held)
+WhereThere entry job output fact = WhereStill entry (compared_arrays job output) (λ held. All (HasAllElements held) (compared_arrays job output) × fact held)
 
 -- ---- the answers
 

@@ -70,17 +70,17 @@ pub record IsPlaced (l : Layout) (coord chunk old new : List ℕ) : Type 0 where
       → part_at (size_of l.dtype) new (place_of l.grid.shape idx) ≡ part_at (size_of l.dtype) old (place_of l.grid.shape idx)
 
 -- the bytes have the element at this index
-abbrev pub HasStored : InputInfo → Contents → List ℕ → List ℕ → Type 0
-HasStored a held bytes idx = stored_element (layout_view a.layout) a.name held idx ≡ Some (element_at Little a.layout.dtype bytes (place_of a.layout.grid.shape idx))
+abbrev pub HaveElement : InputInfo → Contents → List ℕ → List ℕ → Type 0
+HaveElement a held bytes idx = stored_element (layout_view a.layout) a.name held idx ≡ Some (element_at Little a.layout.dtype bytes (place_of a.layout.grid.shape idx))
 
 -- they have each element of the chunks below number n
 abbrev pub HasChunksBelow : InputInfo → List ℕ → ℕ → Contents → Type 0
 HasChunksBelow a bytes n held =
-    (idx : List ℕ) → IsInside a.layout.grid.shape idx → place_of (counts_of a.layout.grid.shape a.layout.grid.chunk) (quotients idx a.layout.grid.chunk) < n → HasStored a held bytes idx
+    (idx : List ℕ) → IsInside a.layout.grid.shape idx → place_of (counts_of a.layout.grid.shape a.layout.grid.chunk) (quotients idx a.layout.grid.chunk) < n → HaveElement a held bytes idx
 
 -- they have each element
 abbrev pub HasAllStored : InputInfo → List ℕ → Contents → Type 0
-HasAllStored a bytes held = (idx : List ℕ) → IsInside a.layout.grid.shape idx → HasStored a held bytes idx
+HasAllStored a bytes held = (idx : List ℕ) → IsInside a.layout.grid.shape idx → HaveElement a held bytes idx
 
 -- a fact of what was held at any moment since which only late puts landed, where none of those changed a chunk
 abbrev pub SinceCalm : Shown → InputInfo → (Contents → Type 0) → Type 0

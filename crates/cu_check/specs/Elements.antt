@@ -10,15 +10,11 @@ use Rattle.cu_op.specs.declared.layout.Layout.{Layout}
 use Rattle.cu_store.specs.Held.{Contents}
 use Rattle.cu_zarr.specs.Stored.{stored_element}
 use Rattle.cu_command.specs.declared.job.Job.{Job}
-
--- the layout of the first input with this name; where none has it, that of an array that means nothing
-abbrev pub named_layout : List InputInfo → List ℕ → Layout
-named_layout [] name = no_array.layout
-named_layout (i ∷ is) name = if bytes_eq name i.name then i.layout else named_layout is name
+use Rattle.cu_expr.specs.Inputs.{layout_named}
 
 -- the element of the array that an input node uses, by what was held; 0 where it has none, and for any other node
 abbrev pub form_element : Job → Contents → List ℕ → Form → ℤ
-form_element job held idx (Form.Input name) = unwrap_or (stored_element (layout_view (named_layout job.inputs.items name)) name held idx) (pos 0)
+form_element job held idx (Form.Input name) = unwrap_or (stored_element (layout_view (layout_named job.inputs.items name)) name held idx) (pos 0)
 form_element job held idx form = pos 0
 
 abbrev pub used_element : Job → Contents → List ℕ → Option Node → ℤ

@@ -9,8 +9,8 @@ ghost use Rattle.cu_command.specs.Seen.{Stepped};
 ghost use Rattle.cu_command.specs.Stored.{IsArrayLayout};
 ghost use Rattle.cu_check.specs.Arrays.{form_arrays, arrays_of_nodes};
 ghost use Rattle.cu_check.specs.Chunks.{IsArrayFault};
-ghost use Rattle.cu_check.specs.Elements.{named_layout};
 ghost use Rattle.cu_check.specs.Plains.{AreReadArrays, IsListFault};
+ghost use Rattle.cu_expr.specs.Inputs.{layout_named};
 
 use crate::arrays::read_plain;
 use cu_command::Status;
@@ -39,8 +39,8 @@ fn no_layout() -> Layout
 }
 
 /// The layout of the first input with this name.
-fn named_layout(inputs: &[InputInfo], name: &IdText) -> Layout
-    ensures { result ≡ named_layout inputs.now name.now }
+fn layout_named(inputs: &[InputInfo], name: &IdText) -> Layout
+    ensures { result ≡ layout_named inputs.now name.now }
 {
     for input in inputs {
         if name.is(&input.name) {
@@ -71,7 +71,7 @@ fn read_node<D: Depot>(
     };
     let array = InputInfo {
         name: *name,
-        layout: named_layout(inputs, name),
+        layout: layout_named(inputs, name),
     };
     let plain = match read_plain(alloc, depot, &array, retries) {
         Ok(plain) => plain,

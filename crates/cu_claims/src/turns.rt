@@ -3,7 +3,7 @@
 ghost use Rattle.std.specs.Prelude.{◌≡◌, length};
 ghost use Rattle.cu_table.specs.Numbers.{task_count};
 ghost use Rattle.cu_table.specs.Own.{running_of};
-ghost use Rattle.cu_claims.specs.Turns.{told};
+ghost use Rattle.cu_claims.specs.Turns.{task_pair};
 
 use anyhow::{Result, bail};
 use cu_op::Plan;
@@ -61,7 +61,7 @@ impl Turns {
 
     /// The task that the worker runs.
     fn task_of(&self, worker: u32) -> Option<TaskId>
-        ensures { running_of self.now.state.copies worker ≡ told result }
+        ensures { running_of self.now.state.copies worker ≡ task_pair result }
     {
         let place = worker as usize;
         if place < self.running.len() {

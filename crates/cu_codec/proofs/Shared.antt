@@ -11,7 +11,7 @@ use Rattle.cu_grid.proofs.Meeting.{inside_from, within_from, within_of}
 use Rattle.cu_grid.proofs.Parting.{inner_inside, only_chunk, in_array}
 use Rattle.cu_grid.proofs.Products.{product_within, at_least_one_same}
 use Rattle.cu_grid.proofs.Regions.{inside-at, region_inside, coordinate-length}
-use Rattle.cu_codec.specs.Box.{IsSame, IsShared}
+use Rattle.cu_codec.specs.Box.{IsSame, IsSharedBox}
 use Rattle.cu_codec.specs.Parts.{part}
 
 -- ---- boxes that two regions share, axis by axis
@@ -277,7 +277,7 @@ module _ (g : RegularGrid) (coord lo hi : List ℕ) (ok : IsGrid g) (here : IsCo
           let w : (x + 1) * c ≡ x * c + c = omega arith in
           omega arith
 
-  pub shared_of : IsShared (part g coord lo hi) sizes in_chunk in_region
+  pub shared_of : IsSharedBox (part g coord lo hi) sizes in_chunk in_region
   shared_of =
       let l = lengths_of a b lo hi r in
       let n = chunk_rank in

@@ -16,7 +16,7 @@ use Rattle.cu_grid.proofs.Meeting.{inside_from, within_of}
 use Rattle.cu_grid.proofs.Parting.{lies_within, only_chunk, in_array}
 use Rattle.cu_grid.proofs.Regions.{coordinate-length}
 use Rattle.cu_zarr.proofs.Spelled.{rejoined}
-use Rattle.cu_codec.specs.Box.{IsCopied, IsShared}
+use Rattle.cu_codec.specs.Box.{IsCopied, IsSharedBox}
 use Rattle.cu_codec.specs.Parts.{part_at, place_within, part, HasFill, IsPartTaken, IsLaid}
 use Rattle.cu_codec.proofs.Shared.{within_sizes, within_same}
 
@@ -41,7 +41,7 @@ corner_parts (q ∷ qs) (c ∷ cs) (x ∷ i) n h =
     (rw (div-mul-add q c x h.0, rest.0) refl, rw (mod-mul-add q c x h.0, rest.1) refl)
 
 module _ (g : RegularGrid) (coord lo hi : List ℕ) (ok : IsGrid g) (here : IsCoordinate g coord) (region : IsRegion g.shape lo hi)
-    (sizes in_chunk in_region : List ℕ) (shared : IsShared (part g coord lo hi) sizes in_chunk in_region) where
+    (sizes in_chunk in_region : List ℕ) (shared : IsSharedBox (part g coord lo hi) sizes in_chunk in_region) where
   pub taken_of : (size : ℕ) (e : Endian) (bytes old new : List ℕ)
       → IsCopied size e (record { sizes = sizes; from = g.chunk; start = in_chunk; to = differences hi lo; corner = in_region }) bytes old new → IsPartTaken size e (part g coord lo hi) bytes old new
   taken_of size e bytes old new copy = record {

@@ -21,7 +21,7 @@ pub record IsSame (p : Part) (sizes in_chunk in_region i idx : List ℕ) : Type 
   pub of_region : sums in_region i ≡ differences idx p.lo
 
 -- the elements that a chunk and a region share are a box of these sizes, with its first index here in each
-pub record IsShared (p : Part) (sizes in_chunk in_region : List ℕ) : Type 0 where
+pub record IsSharedBox (p : Part) (sizes in_chunk in_region : List ℕ) : Type 0 where
   pub box_chunk : IsBox sizes p.grid.chunk in_chunk
   pub box_region : IsBox sizes (differences p.hi p.lo) in_region
   pub few : product sizes ≤ 2 ^ 40

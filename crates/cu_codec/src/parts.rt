@@ -5,7 +5,7 @@ ghost use Rattle.cu_num.specs.Element.{element_bytes, IsSize};
 ghost use Rattle.cu_shape.specs.Index.{product, axis_by_axis, differences};
 ghost use Rattle.cu_grid.specs.Counts.{IsRegion, IsWithin};
 ghost use Rattle.cu_grid.specs.Grid.{IsCoordinate, IsInChunk};
-ghost use Rattle.cu_codec.specs.Box.{IsShared};
+ghost use Rattle.cu_codec.specs.Box.{IsSharedBox};
 ghost use Rattle.cu_codec.specs.Parts.{part, part_at, HasFill, IsOneChunk, IsPartTaken, IsLaid};
 
 use cu_box::{Placing, copy_box};
@@ -137,7 +137,7 @@ struct Common {
 fn shared(grid: &Grid, coord: &Dims, region: &Region) -> Common
     requires coordinate { IsCoordinate grid.now coord.now }
     requires region { IsRegion grid.now.shape region.now.lo region.now.hi }
-    ensures shared { IsShared (part grid.now coord.now region.now.lo region.now.hi) result.sizes result.in_chunk result.in_region }
+    ensures shared { IsSharedBox (part grid.now coord.now region.now.lo region.now.hi) result.sizes result.in_chunk result.in_region }
     ensures extents { result.extents ≡ differences region.now.hi region.now.lo }
 {
     let own = grid.chunk_region(coord);

@@ -17,7 +17,7 @@ use Rattle.cu_v2.specs.Zarray.{zarray_layout}
 use Rattle.cu_zarr.specs.Key.{metadata_key_of, zarray_key_of}
 use Rattle.cu_zarr.specs.Layout.{ArrayLayout}
 use Rattle.cu_command.proofs.SeenLemmas.{stepped, gone_before}
-use Rattle.cu_command.specs.Stored.{IsArrayLayout, IsMetadata, IsZarrayOf, IsRefusedText, IsRefusedZarray, HoldsSuch, HoldsLayout, HoldsZarray, HoldsRefused, HoldsRefusedZarray, FindsLayout, IsFrontOf, HoldsFront, IsTextFault, IsRefusal, IsMetadataFault, IsZarrayFault, IsFindFault}
+use Rattle.cu_command.specs.Stored.{IsArrayLayout, IsMetadata, IsZarrayOf, IsRefusedText, IsRefusedZarray, HoldsSuch, HoldsLayout, HoldsZarray, HoldsRefused, HoldsRefusedZarray, FindsLayout, IsFrontOf, HoldsFront, IsTextFault, IsTextRefusal, IsMetadataFault, IsZarrayFault, IsFindFault}
 use Rattle.cu_command.specs.declared.status.Status.{Status}
 use Rattle.cu_command.specs.declared.status.Status.TheVariants.{DepotFailed, BadMeta, NoArray, NoMemory}
 
@@ -107,25 +107,25 @@ zarray_text_fault tries old new name (NoArray missing) h = h
 zarray_text_fault tries old new name NoMemory h = tt
 zarray_text_fault tries old new name status h = absurd h
 
-refusal_fault : (tries : ℕ) (old new : Shown) (name front : List ℕ) (status : Status) → HoldsFront new.held (metadata_key_of name) front → IsRefusal name (IsRefusedText front) status
+refusal_fault : (tries : ℕ) (old new : Shown) (name front : List ℕ) (status : Status) → HoldsFront new.held (metadata_key_of name) front → IsTextRefusal name (IsRefusedText front) status
     → IsMetadataFault tries old.faults new.faults new.held name status
 refusal_fault tries old new name front (BadMeta bad code) holds h = (h.0, holds_refused new.held (metadata_key_of name) front code holds h.1)
 refusal_fault tries old new name front NoMemory holds h = tt
 refusal_fault tries old new name front status holds h = absurd h
 
-zarray_refusal_fault : (tries : ℕ) (old new : Shown) (name front : List ℕ) (status : Status) → HoldsFront new.held (zarray_key_of name) front → IsRefusal name (IsRefusedZarray front) status
+zarray_refusal_fault : (tries : ℕ) (old new : Shown) (name front : List ℕ) (status : Status) → HoldsFront new.held (zarray_key_of name) front → IsTextRefusal name (IsRefusedZarray front) status
     → IsZarrayFault tries old new name status
 zarray_refusal_fault tries old new name front (BadMeta bad code) holds h = (h.0, holds_refused_zarray new.held (zarray_key_of name) front code holds h.1)
 zarray_refusal_fault tries old new name front NoMemory holds h = tt
 zarray_refusal_fault tries old new name front status holds h = absurd h
 
-pub are_refused : (tries : ℕ) (old new : Shown) (name front : List ℕ) (r : Result Layout Status) → HoldsFront new.held (metadata_key_of name) front → IfErr r (IsRefusal name (IsRefusedText front))
+pub are_refused : (tries : ℕ) (old new : Shown) (name front : List ℕ) (r : Result Layout Status) → HoldsFront new.held (metadata_key_of name) front → IfErr r (IsTextRefusal name (IsRefusedText front))
     → IfErr r (IsMetadataFault tries old.faults new.faults new.held name)
 are_refused tries old new name front (Ok l) holds h = tt
 are_refused tries old new name front (Err status) holds h = refusal_fault tries old new name front status holds h
 
 pub are_refused_zarray : (tries : ℕ) (old new : Shown) (name front : List ℕ) (r : Result Layout Status) → HoldsFront new.held (zarray_key_of name) front
-    → IfErr r (IsRefusal name (IsRefusedZarray front)) → IfErr r (IsZarrayFault tries old new name)
+    → IfErr r (IsTextRefusal name (IsRefusedZarray front)) → IfErr r (IsZarrayFault tries old new name)
 are_refused_zarray tries old new name front (Ok l) holds h = tt
 are_refused_zarray tries old new name front (Err status) holds h = zarray_refusal_fault tries old new name front status holds h
 

@@ -5,11 +5,6 @@ use Rattle.cu_store.specs.Held.{Contents}
 use Rattle.cu_command.specs.declared.status.Status.{Status}
 use Rattle.cu_command.specs.declared.status.Status.TheVariants.{DepotFailed, NoMemory}
 
--- the key is held, where the contents are told
-abbrev pub IsHeldIn : Option Contents → List ℕ → Type 0
-IsHeldIn None key = Unit {0}
-IsHeldIn (Some held) key = (bytes : List ℕ) × (held key ≡ Some bytes)
-
 -- A key fails only where so many calls failed, the count risen in each; want of memory comes only of a depot that lacks.
 abbrev pub IsKeyFault : ℕ → ℕ → ℕ → Bool → List ℕ → Status → Type 0
 IsKeyFault tries before after lacks key (DepotFailed failed) = (failed ≡ key) × Rose tries before after

@@ -135,10 +135,10 @@ IsTextFault tries old new name key NoMemory = Unit {0}
 IsTextFault tries old new name key status = ⊥
 
 -- the text that was read of the array with this name is refused, with a code of which this is so
-abbrev pub IsRefusal : List ℕ → (ℕ → Type 0) → Status → Type 0
-IsRefusal name refused (BadMeta bad code) = (bad ≡ name) × refused code
-IsRefusal name refused NoMemory = Unit {0}
-IsRefusal name refused status = ⊥
+abbrev pub IsTextRefusal : List ℕ → (ℕ → Type 0) → Status → Type 0
+IsTextRefusal name refused (BadMeta bad code) = (bad ≡ name) × refused code
+IsTextRefusal name refused NoMemory = Unit {0}
+IsTextRefusal name refused status = ⊥
 
 -- why reading the metadata of version 2 alone ends
 abbrev pub IsZarrayFault : ℕ → Shown → Shown → List ℕ → Status → Type 0

@@ -12,13 +12,13 @@ Took None (Some new) text = ⊥
 Took (Some old) None text = ⊥
 
 -- the input has ended, where it is told
-abbrev pub HasEnded : Option (List ℕ) → Type 0
-HasEnded None = Unit {0}
-HasEnded (Some left) = left ≡ []
+abbrev pub InputHasEnded : Option (List ℕ) → Type 0
+InputHasEnded None = Unit {0}
+InputHasEnded (Some left) = left ≡ []
 
 -- this is all that was left, or the first 1,048,577 bytes of it
 abbrev pub ReadsAll : Option (List ℕ) → Option (List ℕ) → List ℕ → Type 0
-ReadsAll old new text = Took old new text × (HasEnded new ⊎ (length text ≡ 1048577))
+ReadsAll old new text = Took old new text × (InputHasEnded new ⊎ (length text ≡ 1048577))
 
 -- a fault comes only where the count has risen
 abbrev pub IsCaused : {T : Type 0} → ℕ → ℕ → Result T ReadRefused → Type 0

@@ -1,8 +1,8 @@
 //! Calls of the depot for one key, each tried again at most `retries` times where it fails.
 ghost use Rattle.std.specs.Prelude.{◌≡◌, ◌+◌, IfErr, IfOk, OnOk, true, false};
-ghost use Rattle.cu_store.specs.Held.{Holds, IsGone};
+ghost use Rattle.cu_store.specs.Held.{Holds, IsGone, IsHeldIn};
 ghost use Rattle.cu_store.specs.Steps.{NoChange, PutOf, Steps};
-ghost use Rattle.cu_command.specs.Keys.{IsHeldIn, IsKeyFault};
+ghost use Rattle.cu_command.specs.Keys.{IsKeyFault};
 
 use crate::Status;
 use cu_store::{Depot, DepotFault, Key, has_tries, put_tries};

@@ -4,7 +4,7 @@ ghost use Rattle.cu_meta.specs.Fault.{fault_view};
 ghost use Rattle.cu_store.specs.Steps.{NoChange, Steps};
 ghost use Rattle.cu_zarr.specs.Key.{metadata_key_of, zarray_key_of};
 ghost use Rattle.cu_name.specs.Name.{IsArrayName};
-ghost use Rattle.cu_command.specs.Stored.{IsArrayLayout, IsMetadata, IsZarrayOf, HoldsFront, HoldsLayout, HoldsZarray, FindsLayout, IsTextFault, IsRefusal, IsRefusedText, IsRefusedZarray, IsMetadataFault, IsZarrayFault, IsFindFault, code_of};
+ghost use Rattle.cu_command.specs.Stored.{IsArrayLayout, IsMetadata, IsZarrayOf, HoldsFront, HoldsLayout, HoldsZarray, FindsLayout, IsTextFault, IsTextRefusal, IsRefusedText, IsRefusedZarray, IsMetadataFault, IsZarrayFault, IsFindFault, code_of};
 
 use crate::Status;
 use cu_codec::{metadata_key, zarray_key};
@@ -85,7 +85,7 @@ fn read_text<D: Depot>(
 fn layout_in(alloc: Global, name: &Key, text: &[u8]) -> Result<Layout, Status>
     requires { IsArrayName name.now }
     ensures ok { IfOk result (λ l. IsMetadata l text.now) }
-    ensures refused { IfErr result (IsRefusal name.now (IsRefusedText text.now)) }
+    ensures refused { IfErr result (IsTextRefusal name.now (IsRefusedText text.now)) }
 {
     match read_meta(alloc, text) {
         Ok(layout) => {
@@ -104,7 +104,7 @@ fn layout_in(alloc: Global, name: &Key, text: &[u8]) -> Result<Layout, Status>
 fn zarray_in(alloc: Global, name: &Key, text: &[u8]) -> Result<Layout, Status>
     requires { IsArrayName name.now }
     ensures ok { IfOk result (λ l. IsZarrayOf l text.now) }
-    ensures refused { IfErr result (IsRefusal name.now (IsRefusedZarray text.now)) }
+    ensures refused { IfErr result (IsTextRefusal name.now (IsRefusedZarray text.now)) }
 {
     match read_zarray(alloc, text) {
         Ok(layout) => {

@@ -24,8 +24,8 @@ use Rattle.cu_demo.specs.declared.input.DemoInput.TheVariants.{Rows, Columns}
 unfoldable pub demo_text : List ℕ
 demo_text = codes "{\"nodes\":[{\"id\":\"a\",\"name\":\"demo_a\",\"op\":\"input\"},{\"id\":\"b\",\"name\":\"demo_b\",\"op\":\"input\"},{\"args\":[\"a\",\"b\"],\"id\":\"s\",\"op\":\"add\"},{\"args\":[\"s\",2],\"id\":\"m\",\"op\":\"multiply\"},{\"args\":[\"b\"],\"axes\":[1,0],\"id\":\"p\",\"op\":\"permute_dims\"},{\"args\":[\"m\",\"p\"],\"id\":\"d\",\"op\":\"subtract\"},{\"args\":[\"d\"],\"axes\":[1],\"id\":\"r\",\"op\":\"sum\"},{\"args\":[\"r\"],\"axis\":null,\"id\":\"x\",\"op\":\"argmax\"}],\"out\":\"x\",\"store_as\":\"demo_y\"}"
 
-abbrev pub node_named : List ℕ → Form → Node
-node_named name form = record { name = name; form = form }
+abbrev pub demo_node : List ℕ → Form → Node
+demo_node name form = record { name = name; form = form }
 
 abbrev pub node : ℕ → Arg
 node = arg.Node
@@ -33,14 +33,14 @@ node = arg.Node
 -- the place of the greatest row sum of 2 * (a + b) less b with its axes exchanged
 abbrev pub demo_expression : Expression
 demo_expression = record {
-  nodes = node_named (codes "a") (Form.Input (codes "demo_a"))
-      ∷ node_named (codes "b") (Form.Input (codes "demo_b"))
-      ∷ node_named (codes "s") (Form.Elementwise (Two Add) (node 0 ∷ node 1 ∷ []))
-      ∷ node_named (codes "m") (Form.Elementwise (Two Multiply) (node 2 ∷ arg.Int (pos 2) ∷ []))
-      ∷ node_named (codes "p") (Form.PermuteDims (node 1 ∷ []) (pos 1 ∷ pos 0 ∷ []))
-      ∷ node_named (codes "d") (Form.Elementwise (Two Subtract) (node 3 ∷ node 4 ∷ []))
-      ∷ node_named (codes "r") (Form.Reduce Sum (node 5 ∷ []) (Some (pos 1 ∷ [])) false)
-      ∷ node_named (codes "x") (Form.ArgPlace false (node 6 ∷ []) None false) ∷ [];
+  nodes = demo_node (codes "a") (Form.Input (codes "demo_a"))
+      ∷ demo_node (codes "b") (Form.Input (codes "demo_b"))
+      ∷ demo_node (codes "s") (Form.Elementwise (Two Add) (node 0 ∷ node 1 ∷ []))
+      ∷ demo_node (codes "m") (Form.Elementwise (Two Multiply) (node 2 ∷ arg.Int (pos 2) ∷ []))
+      ∷ demo_node (codes "p") (Form.PermuteDims (node 1 ∷ []) (pos 1 ∷ pos 0 ∷ []))
+      ∷ demo_node (codes "d") (Form.Elementwise (Two Subtract) (node 3 ∷ node 4 ∷ []))
+      ∷ demo_node (codes "r") (Form.Reduce Sum (node 5 ∷ []) (Some (pos 1 ∷ [])) false)
+      ∷ demo_node (codes "x") (Form.ArgPlace false (node 6 ∷ []) None false) ∷ [];
   out = 7;
   store_as = codes "demo_y";
 }

@@ -19,3 +19,8 @@ named_input (i ∷ is) name = if bytes_eq name i.name then Some (layout_info i.l
 abbrev pub stored_of : (List ℕ → Option NodeInfo) → Form → NodeInfo
 stored_of known (Form.Input name) = unwrap_or (known name) no_info
 stored_of known form = no_info
+
+-- of the first input with this name; where none has it, that of an array that means nothing
+abbrev pub layout_named : List InputInfo → List ℕ → Layout
+layout_named [] name = no_array.layout
+layout_named (i ∷ is) name = if bytes_eq name i.name then i.layout else layout_named is name

@@ -7,8 +7,8 @@ use Rattle.cu_store.specs.declared.faults.DepotFault.{DepotFault}
 use Rattle.cu_store.specs.declared.faults.DepotFault.TheVariants.{Failed}
 
 -- what is seen of a depot, with these counts
-abbrev pub counted : Shown → ℕ → ℕ → Shown
-counted shown faults calls = record { held = shown.held; late = shown.late; faults = faults; calls = calls; lacks = shown.lacks }
+abbrev pub with_counts : Shown → ℕ → ℕ → Shown
+with_counts shown faults calls = record { held = shown.held; late = shown.late; faults = faults; calls = calls; lacks = shown.lacks }
 
 -- what a pass knows, with these counts
 abbrev pub known_with : Known → ℕ → ℕ → Known

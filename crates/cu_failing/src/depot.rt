@@ -1,7 +1,7 @@
 //! A depot of which the calls of a span fail.
 ghost use Rattle.std.specs.Prelude.{◌≡◌, ◌+◌, min};
 ghost use Rattle.cu_store.specs.Faults.{last_count};
-ghost use Rattle.cu_failing.specs.Counts.{counted};
+ghost use Rattle.cu_failing.specs.Counts.{with_counts};
 
 use crate::span::{Span, refuse, settle};
 use crate::yard::{FailingPass, FailingYard};
@@ -57,7 +57,7 @@ impl<D: Depot + Drop> Failing<D> {
 }
 
 impl<D: Depot + Drop> Depot for Failing<D> {
-    ghost shown = { λ d. counted (D.shown d.depot) d.faults d.calls };
+    ghost shown = { λ d. with_counts (D.shown d.depot) d.faults d.calls };
 
     fn get(&mut self, key: &Key, buf: &mut [u8]) -> Result<Got, DepotFault> {
         if self.fails() {

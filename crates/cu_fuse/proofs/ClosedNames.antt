@@ -24,7 +24,7 @@ use Rattle.cu_op.specs.Arrays.{array_at, maker_at, no_array, grid_counts, array_
 use Rattle.cu_op.specs.Layout.{IsArray, IsLayout}
 use Rattle.cu_op.specs.Names.{HasOwnNames}
 use Rattle.cu_op.specs.PlanView.{PlanView}
-use Rattle.cu_op.specs.Sound.{Sound, IsCell, KeysDiffer}
+use Rattle.cu_op.specs.Sound.{Sound, IsCell, ChunkKeysDiffer}
 use Rattle.cu_fuse.specs.Close.{remains, remaining_from, remaining_numbers, remaining_array, remaining_arrays, count_behind, others_before, closed, setting_of, HasMadeNames}
 use Rattle.cu_fuse.proofs.LeftArrays.{length-left, old_array, numbers_out, left_once}
 
@@ -400,7 +400,7 @@ module _ (p : PlanView) (ops : List Planned) (sound : Sound p) (names : HasMadeN
     coordinate = subst (λ (l : Layout). IsCoordinate l.grid coord) (layout_is b s) c.coordinate;
   }
 
-  pub keys_are : KeysDiffer q.arrays
+  pub keys_are : ChunkKeysDiffer q.arrays
   keys_are b c d f at_b at_c e =
       let s = stands_at b at_b.within in
       let t = stands_at c at_c.within in

@@ -33,7 +33,7 @@ use Rattle.cu_shape.specs.Index.{product}
 use Rattle.cu_num.specs.Dtype.{size_of}
 use Rattle.std.specs.Prelude.{sum_by, sum}
 use Rattle.cu_op.specs.Cells.{task_grid}
-use Rattle.cu_op.specs.Projection.{largest, scratch_room, input_room, output_room, value_room, instruction_count, projection}
+use Rattle.cu_op.specs.Projection.{scratch_room, input_room, output_room, value_room, instruction_count, projection}
 use Rattle.cu_op.specs.Layout.{layout_view}
 use Rattle.cu_op.specs.KernelTypes.{KernelFits}
 use Rattle.cu_op.specs.Matrix.{batch_rank, rows_of, columns_of, left_inner, right_inner, batch_grid, inner_chunk_count, HasParts}
@@ -43,6 +43,7 @@ use Rattle.cu_op.specs.Partial.{chunk_groups, place_groups, merge_groups, partia
 use Rattle.cu_op.specs.Value.{Elements, loaded, pulled, counted_at, pair_part, products_at, rule}
 use Rattle.cu_op.proofs.Values.{same_kernel}
 use Rattle.cu_fuse.specs.Close.{renumbered, HasLayoutOf}
+use Rattle.cu_shape.specs.Counts.{largest}
 
 bool_same : (a b c d : ℕ) → ((a ≡ b) → (c ≡ d)) → ((c ≡ d) → (a ≡ b)) → (a == b) ≡ (c == d)
 bool_same a b c d there back = elim (eqb_tells a b) [

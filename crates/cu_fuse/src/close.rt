@@ -8,7 +8,7 @@ ghost use Rattle.cu_fuse.specs.Fused.{number_in};
 
 use crate::inputs::number_in;
 use crate::merge::maker_of;
-use crate::setting::Setting;
+use crate::setting::MergeSetting;
 use arrayvec::ArrayVec;
 use cu_name::made_prefix;
 use cu_op::{ArrayInfo, Op, Plan, Planned};
@@ -27,7 +27,7 @@ fn remains(ops: &[Planned], a: u32, maker: Option<u32>) -> bool
 /// The numbers of the arrays that are left.
 fn remaining_numbers(
     alloc: Global,
-    setting: &Setting,
+    setting: &MergeSetting,
     ops: &[Planned],
 ) -> Result<Vec<u32>, AllocError>
     requires few { length setting.now.arrays < 2 ^ 32 }
@@ -43,7 +43,7 @@ fn remaining_numbers(
 }
 
 /// An array that is left, where `others` made arrays but the output come before it.
-fn remaining_array(setting: &Setting, ops: &[Planned], others: u32, a: u32) -> ArrayInfo
+fn remaining_array(setting: &MergeSetting, ops: &[Planned], others: u32, a: u32) -> ArrayInfo
     requires array { a < length setting.now.arrays }
     requires out { setting.now.out < length setting.now.arrays }
     requires named { IsArrayName (array_at setting.now.arrays setting.now.out).prefix }
@@ -68,7 +68,7 @@ fn remaining_array(setting: &Setting, ops: &[Planned], others: u32, a: u32) -> A
 /// The arrays that are left, which have these numbers.
 fn remaining_arrays(
     alloc: Global,
-    setting: &Setting,
+    setting: &MergeSetting,
     ops: &[Planned],
     numbers: &[u32],
 ) -> Result<Vec<ArrayInfo>, AllocError>
@@ -189,7 +189,7 @@ fn renumber_all(numbers: &[u32], ops: &mut Vec<Planned>)
 /// The plan of these operations, with the arrays that are left.
 pub(crate) fn close(
     alloc: Global,
-    setting: &Setting,
+    setting: &MergeSetting,
     mut ops: Vec<Planned>,
 ) -> Result<Plan, AllocError>
     requires few { length setting.now.arrays < 2 ^ 32 }

@@ -7,12 +7,12 @@ ghost use Rattle.cu_fuse.specs.Fused.{are_maps, is_small, joint, stands_in};
 ghost use Rattle.cu_fuse.specs.Runs.{IsOverArrays};
 
 use crate::inputs::{number_in, put_in};
-use crate::setting::Setting;
+use crate::setting::MergeSetting;
 use crate::splice::{Inner, spliced};
 use cu_op::{Kernel, Op, Planned, one_map_law, projection_of};
 
 /// An operation that belongs to this node; none where it needs more than is allowed.
-fn within_allowed(setting: &Setting, op: Op, node: u32) -> Option<Planned>
+fn within_allowed(setting: &MergeSetting, op: Op, node: u32) -> Option<Planned>
     requires reads { All (λ a. a < length setting.now.arrays) (reads_of op) }
     requires writes { All (λ a. a < length setting.now.arrays) (writes_of op) }
     requires room { projection setting.now.arrays 0 op < 2 ^ 64 }
@@ -36,7 +36,12 @@ fn within_allowed(setting: &Setting, op: Op, node: u32) -> Option<Planned>
 }
 
 /// The reader of array `a` with its maker merged in; none where they aren't both maps, or are too much together.
-pub(crate) fn join(setting: &Setting, maker: &Planned, reader: &Planned, a: u32) -> Option<Planned>
+pub(crate) fn join(
+    setting: &MergeSetting,
+    maker: &Planned,
+    reader: &Planned,
+    a: u32,
+) -> Option<Planned>
     requires arrays { All IsArray setting.now.arrays }
     requires maker { IsOverArrays setting.now.arrays maker.now.op }
     requires reader { IsOverArrays setting.now.arrays reader.now.op }

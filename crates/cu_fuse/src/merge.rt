@@ -9,7 +9,7 @@ ghost use Rattle.cu_fuse.specs.Runs.{CanRun, IsOverArrays};
 
 use crate::inputs::{stands_in, stands_once};
 use crate::join::join;
-use crate::setting::Setting;
+use crate::setting::MergeSetting;
 use cu_op::{ArrayInfo, Op, Planned};
 use std::alloc::{AllocError, Global};
 
@@ -100,7 +100,7 @@ fn same_grid(arrays: &[ArrayInfo], a: u32, b: u32) -> bool
 
 /// The reader of array `a` with its maker merged in, where these operations stand behind it; none where they aren't to be merged.
 fn merged_reader(
-    setting: &Setting,
+    setting: &MergeSetting,
     maker: &Planned,
     reader: &Planned,
     behind: &[Planned],
@@ -125,7 +125,7 @@ fn merged_reader(
 }
 
 /// Merges the maker of array `a` into its reader, where it is to be merged.
-fn merge_away(setting: &Setting, a: u32, ops: &mut Vec<Planned>)
+fn merge_away(setting: &MergeSetting, a: u32, ops: &mut Vec<Planned>)
     requires arrays { All IsArray setting.now.arrays }
     requires array { a < length setting.now.arrays }
     requires over { All (λ o. IsOverArrays setting.now.arrays o.op) ops.old.items }
@@ -162,7 +162,7 @@ fn map_inputs(alloc: Global, ops: &[Planned]) -> Result<Vec<u32>, AllocError>
 /// Merges makers into their readers, where they are to be merged: the inputs of the maps are taken in order.
 pub(crate) fn merge_maps(
     alloc: Global,
-    setting: &Setting,
+    setting: &MergeSetting,
     ops: &mut Vec<Planned>,
 ) -> Result<(), AllocError>
     requires arrays { All IsArray setting.now.arrays }

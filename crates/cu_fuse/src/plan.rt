@@ -6,7 +6,7 @@ ghost use Rattle.cu_fuse.specs.Close.{fused, HasMadeNames};
 use crate::close::close;
 use crate::laws::fused_law;
 use crate::merge::merge_maps;
-use crate::setting::Setting;
+use crate::setting::MergeSetting;
 use cu_op::Plan;
 use cu_store::NoMemory;
 use std::alloc::{AllocError, Global};
@@ -35,7 +35,7 @@ fn merged_plan(alloc: Global, plan: Plan) -> Result<Plan, AllocError>
     let allowed = plan.allowed();
     let reserved = plan.reserved();
     let (arrays, mut ops) = plan.parts();
-    let setting = Setting {
+    let setting = MergeSetting {
         arrays,
         out,
         allowed,

@@ -4,14 +4,14 @@ use std::marker::Model;
 /// What stays while the operations of a plan are merged: the arrays, the number of the output, and the bytes of memory that are allowed and
 /// reserved.
 #[derive(Drop)]
-pub(crate) struct Setting {
+pub(crate) struct MergeSetting {
     pub(crate) arrays: Vec<ArrayInfo>,
     pub(crate) out: u32,
     pub(crate) allowed: u64,
     pub(crate) reserved: u64,
 }
 
-impl Model for Setting {
+impl Model for MergeSetting {
     ghost use Rattle.cu_fuse.specs.Fused.{SettingView};
 
     ghost Value = { SettingView };

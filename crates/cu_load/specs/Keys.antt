@@ -1,8 +1,7 @@
 -- The keys that are in the way of an array that is loaded. This project's own rule.
 use Rattle.std.specs.Prelude.{◌≡◌, ◌⊎◌, ℕ, List, Option}
 use Rattle.cu_store.specs.Faults.{Rose}
-use Rattle.cu_store.specs.Held.{Contents, IsGone}
-use Rattle.cu_command.specs.Keys.{IsHeldIn}
+use Rattle.cu_store.specs.Held.{Contents, IsGone, IsHeldIn}
 use Rattle.cu_command.specs.Stored.{HasNoMetadata, IsMetadataAsked}
 use Rattle.cu_name.specs.Keys.{record_key_of}
 use Rattle.cu_command.specs.declared.status.Status.{Status}

@@ -12,9 +12,8 @@ use Rattle.cu_zarr.specs.Spelling.{spelled}
 use Rattle.cu_zarr.specs.Stored.{stored_element}
 use Rattle.cu_codec.specs.Parts.{part_at}
 use Rattle.cu_store.specs.Faults.{Rose}
-use Rattle.cu_store.specs.Held.{Contents, Write, IsAmong, Holds}
+use Rattle.cu_store.specs.Held.{Contents, Write, IsAmong, Holds, IsHeldIn}
 use Rattle.cu_store.specs.Steps.{Shown, Changes, NoChange, PutOf}
-use Rattle.cu_command.specs.Keys.{IsHeldIn}
 use Rattle.cu_command.specs.Streams.{ReadsAll, WroteFront}
 use Rattle.cu_command.specs.Seen.{Stream, Seen, Stepped, WroteNothing}
 use Rattle.cu_command.specs.declared.status.Status.{Status}

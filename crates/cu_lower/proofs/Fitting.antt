@@ -31,7 +31,7 @@ use Rattle.cu_typing.specs.declared.argument.Argument.{Argument}
 use Rattle.cu_typing.specs.declared.argument.Argument.TheVariants.{Array, Written}
 use Rattle.cu_expr.specs.Typing.{argument_of}
 use Rattle.cu_copy.specs.Copies.{rechunked}
-use Rattle.cu_need.specs.Chunks.{aligned_bytes, arrays_in, chunk_bytes, largest}
+use Rattle.cu_need.specs.Chunks.{aligned_bytes, arrays_in, chunk_bytes}
 use Rattle.cu_need.specs.Need.{own_need}
 use Rattle.cu_need.specs.Operands.{in_aligned, operands_of}
 use Rattle.cu_num.specs.Dtype.{InRange}
@@ -55,6 +55,7 @@ use Rattle.cu_lower.specs.Parts.{array_places, instructions_of, copying, type_or
 use Rattle.cu_lower.proofs.Arguments.{Each, each_so, mapped_places, arrays_told}
 use Rattle.cu_lower.proofs.Behind.{behind_hold, own_known, read_known}
 use Rattle.cu_lower.proofs.StepLaws.{HaveLaws}
+use Rattle.cu_shape.specs.Counts.{largest}
 
 -- ---- sums and greatest numbers
 

@@ -9,10 +9,10 @@ use Rattle.cu_form.specs.Expression.{Expression}
 use Rattle.cu_form.specs.declared.expr.Node.{Node}
 use Rattle.cu_form.specs.declared.form.Form.{Form}
 use Rattle.cu_node.specs.Info.{no_info}
-use Rattle.cu_expr.specs.Inputs.{layout_info, named_input}
+use Rattle.cu_expr.specs.Inputs.{layout_info, named_input, layout_named}
 use Rattle.cu_expr.specs.declared.inputs.InputInfo.{InputInfo}
 use Rattle.cu_need.specs.Live.{is_live}
-use Rattle.cu_lower.specs.Inputs.{layout_named, with_name, names_after, input_names, input_place}
+use Rattle.cu_lower.specs.Inputs.{with_name, names_after, input_names, input_place}
 
 pub same_text : (xs ys : List ℕ) → bytes_eq xs ys ≡ true → xs ≡ ys
 same_text xs ys h = (bytes_eq-Decides xs ys).0 h

@@ -19,7 +19,7 @@ use Rattle.cu_node.specs.declared.info.NodeInfo.{NodeInfo}
 use Rattle.cu_typing.specs.Accepted.{GoesInto}
 use Rattle.cu_typing.specs.Accepted.{IsAcceptedProduct as HasPassed}
 use Rattle.cu_typing.specs.Joined.{aligned_chunk, aligned_on, chunk_on, fills, lead_of}
-use Rattle.cu_typing.specs.Matmul.{leading, rows, columns, left_inner, leading_array, leading_arrays, leading_chunk, right_aligned, typed_matmul}
+use Rattle.cu_typing.specs.Matmul.{leading, rows, columns, left_summed, leading_array, leading_arrays, leading_chunk, right_aligned, typed_matmul}
 use Rattle.cu_typing.proofs.PassedTogether.{product_passed}
 use Rattle.cu_typing.proofs.Together.{length-joined_shape}
 use Rattle.cu_expr.proofs.AlignedChunks.{aligned_is_aligned}
@@ -54,19 +54,19 @@ integer_of a b t h (inl p) = absurd (let w : false ≡ true = sym (ap is_integer
 integer_of a b t h (inr p) = p.2
 
 -- the sizes of a left operand: those before the matrix, the rows and the inner one
-left_parts : (ns : List ℕ) → 1 ≤ length ns → leading ns ++ rows ns ++ left_inner ns ∷ [] ≡ ns
+left_parts : (ns : List ℕ) → 1 ≤ length ns → leading ns ++ rows ns ++ left_summed ns ∷ [] ≡ ns
 left_parts ns some = by_test (nat_le 2 (length ns)) refl
   where
-    by_test : (b : Bool) → nat_le 2 (length ns) ≡ b → leading ns ++ rows ns ++ left_inner ns ∷ [] ≡ ns
+    by_test : (b : Bool) → nat_le 2 (length ns) ≡ b → leading ns ++ rows ns ++ left_summed ns ∷ [] ≡ ns
     by_test true e =
         let l = leb-true 2 (length ns) e in
         let row : rows ns ≡ get_or ns (length ns - 2) 0 ∷ [] = rw e refl in
-        (λ j. leading ns ++ row j ++ left_inner ns ∷ []) ∙ append_assoc (leading ns) (get_or ns (length ns - 2) 0 ∷ []) (left_inner ns ∷ []) ∙ sym (last_two ns l)
+        (λ j. leading ns ++ row j ++ left_summed ns ∷ []) ∙ append_assoc (leading ns) (get_or ns (length ns - 2) 0 ∷ []) (left_summed ns ∷ []) ∙ sym (last_two ns l)
     by_test false e =
         let l = leb-false 2 (length ns) e in
         let row : rows ns ≡ [] = rw e refl in
         let z : length ns - 2 ≡ 0 = omega (arith, l) in
-        (λ j. take (z j) ns ++ row j ++ left_inner ns ∷ []) ∙ sym (only_one ns some (omega (arith, l)))
+        (λ j. take (z j) ns ++ row j ++ left_summed ns ∷ []) ∙ sym (only_one ns some (omega (arith, l)))
 
 -- the columns of a right operand's sizes with another inner one
 columns_kept : (n : ℕ) (xs ns : List ℕ) → length xs ≡ length ns - 2 → columns_of (xs ++ n ∷ [] ++ columns ns) ≡ columns ns
@@ -125,7 +125,7 @@ module _ (l r made : NodeInfo) (hl : IsInfo l) (t : Dtype) (lead : List ℕ) (p 
   left_whole =
       let some = p.left_rank in
       let ranks = hl.ranks in
-      let chunk = (λ j. wanted.same_aligned l r made t lead p l j ++ rows l.chunk ++ left_inner l.chunk ∷ []) ∙ (λ j. left_front j ++ rows l.chunk ++ left_inner l.chunk ∷ []) ∙ left_parts l.chunk (omega (arith, some, ranks)) in
+      let chunk = (λ j. wanted.same_aligned l r made t lead p l j ++ rows l.chunk ++ left_summed l.chunk ∷ []) ∙ (λ j. left_front j ++ rows l.chunk ++ left_summed l.chunk ∷ []) ∙ left_parts l.chunk (omega (arith, some, ranks)) in
       λ j. record { dtype = l.dtype; dims = l.dims; chunk = chunk j }
 
   -- what is known of the right operand in the chunks that are wanted
@@ -133,7 +133,7 @@ module _ (l r made : NodeInfo) (hl : IsInfo l) (t : Dtype) (lead : List ℕ) (p 
   inner_first = info_of r.dtype r.dims (right_aligned lead l r)
 
   right_whole : rechunked (right_wanted made l r) ≡ inner_first
-  right_whole j = info_of r.dtype r.dims (wanted.same_aligned l r made t lead p r j ++ left_inner l.chunk ∷ [] ++ columns r.chunk)
+  right_whole j = info_of r.dtype r.dims (wanted.same_aligned l r made t lead p r j ++ left_summed l.chunk ∷ [] ++ columns r.chunk)
 
   module _ (hr : IsInfo r) (hm : IsInfo made) where
     right_bytes : product (right_aligned lead l r) * size_of r.dtype ≤ 2 ^ 28
@@ -146,7 +146,7 @@ module _ (l r made : NodeInfo) (hl : IsInfo l) (t : Dtype) (lead : List ℕ) (p 
     right_front =
         let a = right_long in
         let b = wanted.length-front l r made t lead p r in
-        front (length (right_aligned lead l r) - 2) (aligned_chunk lead (leading_chunk lead l r) (leading_array r)) (left_inner l.chunk ∷ []) (columns r.chunk) (omega (arith, a, b))
+        front (length (right_aligned lead l r) - 2) (aligned_chunk lead (leading_chunk lead l r) (leading_array r)) (left_summed l.chunk ∷ []) (columns r.chunk) (omega (arith, a, b))
 
     batch_aligned : (i : NodeInfo) (chunk : List ℕ) → batch_of chunk ≡ aligned_chunk lead (leading_chunk lead l r) (leading_array i) → GoesInto (leading i.dims) lead
         → IsAligned (batch_grid (record { shape = i.dims; chunk = chunk })) (record { shape = lead; chunk = leading_chunk lead l r })
@@ -154,12 +154,12 @@ module _ (l r made : NodeInfo) (hl : IsInfo l) (t : Dtype) (lead : List ℕ) (p 
         subst (λ (cs : List ℕ). IsAligned (record { shape = leading i.dims; chunk = cs }) (record { shape = lead; chunk = leading_chunk lead l r })) (sym e)
         (aligned_is_aligned (info_of t lead (leading_chunk lead l r)) (leading_array i) (wanted.lead_chunks l r made t lead p) g)
 
-    inner_chunks : left_inner l.chunk ≡ right_inner (right_aligned lead l r)
+    inner_chunks : left_summed l.chunk ≡ right_inner (right_aligned lead l r)
     inner_chunks =
         let a = right_long in
         let b = wanted.length-front l r made t lead p r in
         sym (right_same (right_aligned lead l r)
-        ∙ middle (length (right_aligned lead l r) - 2) (left_inner l.chunk) (aligned_chunk lead (leading_chunk lead l r) (leading_array r)) (columns r.chunk) (omega (arith, a, b)))
+        ∙ middle (length (right_aligned lead l r) - 2) (left_summed l.chunk) (aligned_chunk lead (leading_chunk lead l r) (leading_array r)) (columns r.chunk) (omega (arith, a, b)))
 
     ranks_are : length lead ≡ batch_rank l.dims r.dims
     ranks_are = let e = length-joined_shape (leading_arrays l r) lead p.leading in omega (arith, e)
@@ -169,7 +169,7 @@ module _ (l r made : NodeInfo) (hl : IsInfo l) (t : Dtype) (lead : List ℕ) (p 
         let a = wanted.length-front l r made t lead p r in
         let b = hr.ranks in
         wanted.chunk_is l r made t lead p
-        ∙ (λ j. leading_chunk lead l r ++ rows l.chunk ++ sym (columns_kept (left_inner l.chunk) (aligned_chunk lead (leading_chunk lead l r) (leading_array r)) r.chunk (omega (arith, a, b))) j)
+        ∙ (λ j. leading_chunk lead l r ++ rows l.chunk ++ sym (columns_kept (left_summed l.chunk) (aligned_chunk lead (leading_chunk lead l r) (leading_array r)) r.chunk (omega (arith, a, b))) j)
 
     product_in : (left right : ℕ) → IsProduct (record { left = left; right = right; left_info = l; right_info = inner_first; made = made })
     product_in left right =

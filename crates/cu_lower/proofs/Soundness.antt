@@ -31,7 +31,7 @@ use Rattle.cu_copy.specs.Copies.{max_mem}
 use Rattle.cu_need.specs.Counts.{plan_counts}
 use Rattle.cu_need.specs.Live.{is_live, IsClosed}
 use Rattle.cu_lower_reduce.specs.Steps.{made_infos, grid_of}
-use Rattle.cu_lower.specs.Inputs.{input_array, input_names, layout_named}
+use Rattle.cu_lower.specs.Inputs.{input_array, input_names}
 use Rattle.cu_lower.specs.Plan.{array_of_node, as_plan}
 use Rattle.cu_lower.specs.Parts.{Grown, made_layout}
 use Rattle.cu_lower.specs.Premises.{IsLowerable}
@@ -50,6 +50,7 @@ use Rattle.cu_lower.proofs.StepLaws.{HaveLaws}
 use Rattle.cu_lower.proofs.Stepped.{step_operation, step_within, in_range}
 use Rattle.cu_lower.proofs.Typed as typed
 use Rattle.std.proofs.lemmas.Option.{slice_get-get_or}
+use Rattle.cu_expr.specs.Inputs.{layout_named}
 
 -- ---- single arrays
 

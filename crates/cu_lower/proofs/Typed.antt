@@ -13,7 +13,7 @@ use Rattle.cu_node.specs.declared.info.NodeInfo.{NodeInfo}
 use Rattle.cu_node.specs.declared.faults.NodeFault.{NodeFault}
 use Rattle.cu_typing.specs.Accepted.{IsElementwise}
 use Rattle.cu_typing.proofs.Passed.{passed}
-use Rattle.cu_expr.specs.Inputs.{layout_info, named_input, stored_of}
+use Rattle.cu_expr.specs.Inputs.{layout_info, named_input, stored_of, layout_named}
 use Rattle.cu_expr.specs.Typing.{typed_node, argument_of}
 use Rattle.cu_expr.specs.declared.inputs.InputInfo.{InputInfo}
 use Rattle.cu_expr.proofs.Nodes.{typed_at, over_all}
@@ -22,7 +22,6 @@ use Rattle.cu_need.specs.Live.{is_live}
 use Rattle.cu_need.specs.Need.{need_of, IsTyped}
 use Rattle.cu_need.specs.View.{is_view}
 use Rattle.cu_lower_view.specs.Typed.{typed_as_view, IsTypedView}
-use Rattle.cu_lower.specs.Inputs.{layout_named}
 use Rattle.cu_lower.specs.Premises.{IsLowerable}
 use Rattle.cu_lower.specs.declared.options.Options.{Options}
 use Rattle.cu_lower.proofs.Arguments.{arrays_told}

@@ -9,11 +9,7 @@ use Rattle.cu_form.specs.declared.expr.Node.{Node}
 use Rattle.cu_form.specs.declared.form.Form.{Form}
 use Rattle.cu_expr.specs.declared.inputs.InputInfo.{InputInfo}
 use Rattle.cu_need.specs.Live.{is_live}
-
--- of the first input with this name; where none has it, that of an array that means nothing
-abbrev pub layout_named : List InputInfo → List ℕ → Layout
-layout_named [] name = no_array.layout
-layout_named (i ∷ is) name = if bytes_eq name i.name then i.layout else layout_named is name
+use Rattle.cu_expr.specs.Inputs.{layout_named}
 
 abbrev pub input_array : List InputInfo → List ℕ → ArrayInfo
 input_array inputs name = record { prefix = name; layout = layout_named inputs name; maker = None }

@@ -5,7 +5,8 @@ ghost use Rattle.std.specs.List.{list_any, position_or_len};
 ghost use Rattle.cu_name.specs.Name.{is_name};
 ghost use Rattle.cu_op.specs.Arrays.{no_array};
 ghost use Rattle.cu_need.specs.Live.{is_live};
-ghost use Rattle.cu_lower.specs.Inputs.{layout_named, input_array, with_name, input_names};
+ghost use Rattle.cu_lower.specs.Inputs.{input_array, with_name, input_names};
+ghost use Rattle.cu_expr.specs.Inputs.{layout_named};
 
 use cu_expr::InputInfo;
 use cu_form::{Expr, Form};

@@ -11,7 +11,7 @@ use Rattle.cu_op.specs.Partial.{partial_grid, IsSqueezed}
 use Rattle.cu_node.specs.Info.{IsInfo}
 use Rattle.cu_node.specs.declared.info.NodeInfo.{NodeInfo}
 use Rattle.cu_tree.specs.Marks.{sought_axes}
-use Rattle.cu_tree.specs.Partials.{partial_chunk, first_partial, reduction_rounds, product_partial, product_rounds, AreMerges}
+use Rattle.cu_tree.specs.Partials.{partial_chunk_from, first_partial, reduction_rounds, product_partial, product_rounds, AreMerges}
 use Rattle.cu_tree.specs.declared.round.Round.{Round}
 use Rattle.cu_tree.proofs.Orders.{of_reduction, of_product}
 use Rattle.cu_lower_reduce.specs.Products.{product_steps}
@@ -28,12 +28,12 @@ use Rattle.cu_lower_reduce.proofs.Squeezed.{same_chunk, same_chunks}
 
 -- a chunk of partial results has as many elements as one of the result
 pub same_size : (axes : Axes) (from made : NodeInfo) → length from.chunk ≡ length from.dims → IsSqueezed (partial_grid (whole_groups axes from.dims) (grid_of from)) (grid_of made)
-    → product (partial_chunk axes 0 from.chunk) ≡ product made.chunk
+    → product (partial_chunk_from axes 0 from.chunk) ≡ product made.chunk
 same_size axes from made ranks h =
     ap product (sym (same_chunks axes 0 from.dims from.chunk (sym ranks))) ∙ same_chunk _ _ made.dims made.chunk h
 
 pub first_bytes : (axes : Axes) (from made : NodeInfo) → IsInfo from → IsInfo made → IsSqueezed (partial_grid (whole_groups axes from.dims) (grid_of from)) (grid_of made)
-    → product (partial_chunk axes 0 from.chunk) * size_of made.dtype ≤ 2 ^ 28
+    → product (partial_chunk_from axes 0 from.chunk) * size_of made.dtype ≤ 2 ^ 28
 first_bytes axes from made f m h = rw (same_size axes from made f.ranks h) m.bytes
 
 -- no type has more bytes than an integer of 64 bits

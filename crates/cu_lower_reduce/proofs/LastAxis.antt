@@ -17,7 +17,7 @@ use Rattle.cu_pull.specs.declared.axes.Axes.{Axes}
 use Rattle.cu_op.specs.Partial.{partial_grid, IsSqueezed}
 use Rattle.cu_node.specs.Info.{info_of}
 use Rattle.cu_node.specs.declared.info.NodeInfo.{NodeInfo}
-use Rattle.cu_tree.specs.Partials.{partial_chunk}
+use Rattle.cu_tree.specs.Partials.{partial_chunk_from}
 use Rattle.cu_lower_reduce.specs.Reductions.{whole_groups}
 use Rattle.cu_lower_reduce.specs.Steps.{grid_of}
 use Rattle.cu_lower_reduce.proofs.Squeezed.{same_chunks, without_last}
@@ -48,7 +48,7 @@ counts_last r first (m ∷ ns) (d ∷ cs) n c e h =
     let t = has_other r first (λ q. absurd (omega arith)) in
     rw t (ap (λ (ms : List ℕ). m ∷ ms) (counts_last r (first + 1) ns cs n c (omega arith) (omega arith)))
 
-pub chunk_last : (r first : ℕ) (cs : List ℕ) (c : ℕ) → r ≡ first + length cs → partial_chunk (axis_alone r) first (cs ++ c ∷ []) ≡ cs ++ 1 ∷ []
+pub chunk_last : (r first : ℕ) (cs : List ℕ) (c : ℕ) → r ≡ first + length cs → partial_chunk_from (axis_alone r) first (cs ++ c ∷ []) ≡ cs ++ 1 ∷ []
 chunk_last r first [] c h = let t = has_own r first (omega arith) in rw t refl
 chunk_last r first (d ∷ cs) c h =
     let t = has_other r first (λ q. absurd (omega arith)) in

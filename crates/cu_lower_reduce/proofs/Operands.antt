@@ -12,7 +12,7 @@ use Rattle.cu_node.specs.declared.info.NodeInfo.{NodeInfo}
 use Rattle.cu_copy.specs.Chunks.{chunk_count}
 use Rattle.cu_copy.specs.Copies.{is_misaligned, rechunk_cells, rechunk_tasks, rechunked}
 use Rattle.cu_copy.specs.declared.copies.Rechunk.{Rechunk}
-use Rattle.cu_lower_reduce.specs.Copies.{aligned_places, aligned_steps, behind, copy_steps, operand_place, operand_steps, AreCopies, IsCopyStep, IsStaged}
+use Rattle.cu_lower_reduce.specs.Copies.{aligned_places, aligned_steps, behind_steps, copy_steps, operand_place, operand_steps, AreCopies, IsCopyStep, IsStaged}
 use Rattle.cu_lower_reduce.specs.Steps.{all_made, grid_of, last_made, made_infos, step_tasks, HasInfo, HaveEach, HaveInfos, IsGiven, AreSteps, SolveSteps}
 use Rattle.cu_lower_reduce.specs.declared.copy.CopySetting.{CopySetting}
 use Rattle.cu_lower_reduce.specs.declared.step.Step.{Step}
@@ -100,7 +100,7 @@ staged_tail : (s : CopySetting) (r : Rechunk) (rs : List Rechunk) (b : Bool) →
 staged_tail s r rs true h = All-tail (IsStaged s) r rs h
 staged_tail s r rs false h = h
 
-staged_behind : (s : CopySetting) (steps : List Step) (rs : List Rechunk) → All (IsStaged s) rs → All (IsStaged (behind s steps)) rs
+staged_behind : (s : CopySetting) (steps : List Step) (rs : List Rechunk) → All (IsStaged s) rs → All (IsStaged (behind_steps s steps)) rs
 staged_behind s steps rs h k d l = let e = h k d l in record { rechunk = e.rechunk; fits = e.fits }
 
 pub operands_hold : (arrays : List ArrayInfo) (s : CopySetting) (given : List ℕ) (first : ℕ) (sources : List ℕ) (rs : List Rechunk) → All (IsStaged s) (filter is_misaligned rs) → first ≤ s.first → All (Contains given) sources
@@ -109,10 +109,10 @@ operands_hold arrays s given first [] rs h before c i k = tt
 operands_hold arrays s given first (a ∷ ins) [] h before c i k = tt
 operands_hold arrays s given first (a ∷ ins) (r ∷ rs) h before c i k =
     let own = operand_steps s a r in
-    let rest = aligned_steps (behind s (operand_steps s a r)) ins rs in
+    let rest = aligned_steps (behind_steps s (operand_steps s a r)) ins rs in
     steps_join arrays s.reserved given first s.first (s.first + length (all_made own)) own rest refl
     (one_holds arrays s given first a r (is_misaligned r) (staged_head s r (filter is_misaligned rs) (is_misaligned r) h) before (inl (All-head (Contains given) a ins c)) i.0 (made_front arrays s.first own rest k))
-    (operands_hold arrays (behind s own) given first ins rs (staged_behind s own (filter is_misaligned rs) (staged_tail s r (filter is_misaligned rs) (is_misaligned r) h)) (omega arith) (All-tail (Contains given) a ins c) i.1
+    (operands_hold arrays (behind_steps s own) given first ins rs (staged_behind s own (filter is_misaligned rs) (staged_tail s r (filter is_misaligned rs) (is_misaligned r) h)) (omega arith) (All-tail (Contains given) a ins c) i.1
     (made_back arrays s.first own rest k))
 
 pub operands_placed : (arrays : List ArrayInfo) (s : CopySetting) (sources : List ℕ) (rs : List Rechunk) → HaveEach arrays sources (map (λ r. r.source) rs)
@@ -122,9 +122,9 @@ operands_placed arrays s [] (r ∷ rs) i k = absurd i
 operands_placed arrays s (a ∷ ins) [] i k = absurd i
 operands_placed arrays s (a ∷ ins) (r ∷ rs) i k =
     let own = operand_steps s a r in
-    let rest = aligned_steps (behind s (operand_steps s a r)) ins rs in (
+    let rest = aligned_steps (behind_steps s (operand_steps s a r)) ins rs in (
       one_place arrays s a r (is_misaligned r) (same_chunk r (bytes_eq r.source.chunk r.chunk) refl) i.0 (made_front arrays s.first own rest k),
-      operands_placed arrays (behind s own) ins rs i.1 (made_back arrays s.first own rest k),
+      operands_placed arrays (behind_steps s own) ins rs i.1 (made_back arrays s.first own rest k),
     )
 
 pub operands_given : (s : CopySetting) (given : List ℕ) (first last : ℕ) (sources : List ℕ) (rs : List Rechunk) → first ≤ s.first → All (Contains given) sources
@@ -133,13 +133,13 @@ operands_given s given first last [] rs before c e = All-nil (IsGiven given firs
 operands_given s given first last (a ∷ ins) [] before c e = All-nil (IsGiven given first last)
 operands_given s given first last (a ∷ ins) (r ∷ rs) before c e =
     let own = operand_steps s a r in
-    let rest = aligned_steps (behind s (operand_steps s a r)) ins rs in
+    let rest = aligned_steps (behind_steps s (operand_steps s a r)) ins rs in
     let l = length-made own rest in
-    All-cons (IsGiven given first last) (operand_place s a r) (aligned_places (behind s own) ins rs)
+    All-cons (IsGiven given first last) (operand_place s a r) (aligned_places (behind_steps s own) ins rs)
     (one_given s given first last a r (is_misaligned r) before (All-head (Contains given) a ins c) (omega (arith, l, e)))
-    (operands_given (behind s own) given first last ins rs (omega arith) (All-tail (Contains given) a ins c) (omega (arith, l, e)))
+    (operands_given (behind_steps s own) given first last ins rs (omega arith) (All-tail (Contains given) a ins c) (omega (arith, l, e)))
 
-copies_join : (s : CopySetting) (m n t u c d : ℕ) (own rest : List Step) (made : List Step) → AreCopies s m t c own → AreCopies (behind s made) n u d rest → AreCopies s (m + n) (t + u) (c + d) (own ++ rest)
+copies_join : (s : CopySetting) (m n t u c d : ℕ) (own rest : List Step) (made : List Step) → AreCopies s m t c own → AreCopies (behind_steps s made) n u d rest → AreCopies s (m + n) (t + u) (c + d) (own ++ rest)
 copies_join s m n t u c d own rest made h k = record {
   each = All-append (IsCopyStep s) own rest h.each (λ i x l. let w = k.each i x l in record { copy = w.copy; need = w.need });
   few = (let l = length-append own rest in let a = h.few in let b = k.few in omega (arith, l, a, b));
@@ -174,7 +174,7 @@ operands_come s (a ∷ ins) [] h e = absurd (omega arith)
 operands_come s (a ∷ ins) (r ∷ rs) h e =
     let own = operand_steps s a r in
     let left = filter is_misaligned rs in
-    let rest = operands_come (behind s own) ins rs (staged_behind s own left (staged_tail s r left (is_misaligned r) h)) (omega arith) in
+    let rest = operands_come (behind_steps s own) ins rs (staged_behind s own left (staged_tail s r left (is_misaligned r) h)) (omega arith) in
     same_copies s _ _ _ _ _ _ (aligned_steps s (a ∷ ins) (r ∷ rs)) (count_filter r left (is_misaligned r)) (sum_filter (rechunk_tasks s.most) r left (is_misaligned r)) (sum_filter (rechunk_cells s.most) r left (is_misaligned r))
     (copies_join s _ _ _ _ _ _ own _ own (one_comes s a r (is_misaligned r) (staged_head s r left (is_misaligned r) h)) rest)
 
@@ -184,6 +184,6 @@ operands_value arrays at s [] [] j e l solve idx = absurd (omega arith)
 operands_value arrays at s [] (r ∷ rs) j e l solve idx = absurd (omega arith)
 operands_value arrays at s (a ∷ ins) [] j e l solve idx = absurd (omega arith)
 operands_value arrays at s (a ∷ ins) (r ∷ rs) zero e l solve idx =
-    one_value arrays at s a r (is_misaligned r) (solve_front arrays at (operand_steps s a r) (aligned_steps (behind s (operand_steps s a r)) ins rs) solve) idx
+    one_value arrays at s a r (is_misaligned r) (solve_front arrays at (operand_steps s a r) (aligned_steps (behind_steps s (operand_steps s a r)) ins rs) solve) idx
 operands_value arrays at s (a ∷ ins) (r ∷ rs) (suc j) e l solve idx =
-    operands_value arrays at (behind s (operand_steps s a r)) ins rs j (omega arith) (omega arith) (solve_back arrays at (operand_steps s a r) (aligned_steps (behind s (operand_steps s a r)) ins rs) solve) idx
+    operands_value arrays at (behind_steps s (operand_steps s a r)) ins rs j (omega arith) (omega arith) (solve_back arrays at (operand_steps s a r) (aligned_steps (behind_steps s (operand_steps s a r)) ins rs) solve) idx

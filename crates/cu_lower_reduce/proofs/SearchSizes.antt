@@ -11,7 +11,7 @@ use Rattle.cu_pull.specs.declared.axes.Axes.{Axes}
 use Rattle.cu_node.specs.declared.info.NodeInfo.{NodeInfo}
 use Rattle.cu_tree.specs.Marks.{sought_axes}
 use Rattle.cu_tree.specs.Needs.{pair_fold_need, pair_merge_need}
-use Rattle.cu_tree.specs.Partials.{partial_chunk, first_partial, reduction_rounds, merged, written_before, arrays_written, chunks_of, partials_before, chunks_written, chunks_before, IsMiddle}
+use Rattle.cu_tree.specs.Partials.{partial_chunk_from, first_partial, reduction_rounds, merged, written_before, arrays_written, chunks_of, partials_before, chunks_written, chunks_before, IsMiddle}
 use Rattle.cu_tree.specs.Rounds.{AreRounds}
 use Rattle.cu_tree.specs.declared.round.Round.{Round}
 use Rattle.cu_tree.proofs.Middles.{of_info, of_first, of_merged}
@@ -124,5 +124,5 @@ pub search_comes : (s : Setting) (x : Search) → IsSetting s → IsSearch x
     + chunks_before (first_partial x.from.dtype (sought_axes x.axis) x.from) (reduction_rounds (sought_axes x.axis) s.split_every x.from)) x.made (search_steps s x)
 search_comes s x k h =
     found_comes s x (sought_axes x.axis) (first_places x) (reduction_rounds (sought_axes x.axis) s.split_every x.from) k.several (search_turn s x k h).rule refl
-    (of_first Int64 (sought_axes x.axis) x.from h.from (subst (λ (t : Dtype). product (partial_chunk (sought_axes x.axis) 0 x.from.chunk) * size_of t ≤ 2 ^ 28) h.places (first_bytes (sought_axes x.axis) x.from x.made h.from h.made h.result)))
+    (of_first Int64 (sought_axes x.axis) x.from h.from (subst (λ (t : Dtype). product (partial_chunk_from (sought_axes x.axis) 0 x.from.chunk) * size_of t ≤ 2 ^ 28) h.places (first_bytes (sought_axes x.axis) x.from x.made h.from h.made h.result)))
     (of_info x.made h.made) (rounds_few (sought_axes x.axis) s.split_every x.from k.several h.from)

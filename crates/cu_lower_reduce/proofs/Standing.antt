@@ -12,7 +12,7 @@ use Rattle.cu_pull.specs.Pull.{has_axis}
 use Rattle.cu_pull.specs.declared.axes.Axes.{Axes}
 use Rattle.cu_op.specs.Partial.{partial_grid, merge_groups}
 use Rattle.cu_node.specs.declared.info.NodeInfo.{NodeInfo}
-use Rattle.cu_tree.specs.Partials.{partial_size, partial_chunk, first_partial, merged}
+use Rattle.cu_tree.specs.Partials.{partial_size, partial_chunk_from, first_partial, merged}
 use Rattle.cu_tree.specs.Rounds.{AreMerged, IsRound}
 use Rattle.cu_tree.specs.declared.round.Round.{Round}
 use Rattle.cu_tree.proofs.Sizes.{some_over, length-dims, length-chunk, size_at, dims_from}
@@ -26,7 +26,7 @@ use Rattle.cu_lower_reduce.proofs.Squeezed.{same_chunks}
 pub record IsPartial (axes : Axes) (base i : NodeInfo) : Type 0 where
   pub base_ranks : length base.chunk ≡ length base.dims
   pub ranks : length i.dims ≡ length base.dims
-  pub chunk : i.chunk ≡ partial_chunk axes 0 base.chunk
+  pub chunk : i.chunk ≡ partial_chunk_from axes 0 base.chunk
   pub kept : (d : ℕ) → d < length base.dims → has_axis axes d ≡ false → get_or i.dims d 0 ≡ get_or base.dims d 0
   pub some : (d : ℕ) → d < length base.dims → IsTrue (has_axis axes d) → 0 < get_or i.dims d 0
 
@@ -55,7 +55,7 @@ first_stands t axes base e = record {
 }
 
 -- the chunk is 1 along a reduced axis
-chunk_one : (axes : Axes) (first : ℕ) (cs : List ℕ) (k : ℕ) → k < length cs → IsTrue (has_axis axes (first + k)) → get_or (partial_chunk axes first cs) k 0 ≡ 1
+chunk_one : (axes : Axes) (first : ℕ) (cs : List ℕ) (k : ℕ) → k < length cs → IsTrue (has_axis axes (first + k)) → get_or (partial_chunk_from axes first cs) k 0 ≡ 1
 chunk_one axes first [] k l t = absurd (omega arith)
 chunk_one axes first (c ∷ cs) zero l t = let z : first + 0 ≡ first = omega arith in let w : has_axis axes first ≡ true = subst (λ (d : ℕ). IsTrue (has_axis axes d)) z t in rw w refl
 chunk_one axes first (c ∷ cs) (suc k) l t =

@@ -46,16 +46,16 @@ abbrev pub operand_place : CopySetting → ℕ → Rechunk → ℕ
 operand_place s source r = if is_misaligned r then last_made s.first (copy_steps s source r) else source
 
 -- where copies stand behind these
-abbrev pub behind : CopySetting → List Step → CopySetting
-behind s steps = record { first = s.first + length (all_made steps); reserved = s.reserved; most = s.most }
+abbrev pub behind_steps : CopySetting → List Step → CopySetting
+behind_steps s steps = record { first = s.first + length (all_made steps); reserved = s.reserved; most = s.most }
 
 -- of each array in order
 abbrev pub aligned_steps : CopySetting → List ℕ → List Rechunk → List Step
-aligned_steps s (a ∷ ins) (r ∷ rs) = operand_steps s a r ++ aligned_steps (behind s (operand_steps s a r)) ins rs
+aligned_steps s (a ∷ ins) (r ∷ rs) = operand_steps s a r ++ aligned_steps (behind_steps s (operand_steps s a r)) ins rs
 aligned_steps s ins rs = []
 
 abbrev pub aligned_places : CopySetting → List ℕ → List Rechunk → List ℕ
-aligned_places s (a ∷ ins) (r ∷ rs) = operand_place s a r ∷ aligned_places (behind s (operand_steps s a r)) ins rs
+aligned_places s (a ∷ ins) (r ∷ rs) = operand_place s a r ∷ aligned_places (behind_steps s (operand_steps s a r)) ins rs
 aligned_places s ins rs = []
 
 -- ---- what is taken for granted

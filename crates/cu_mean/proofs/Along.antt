@@ -4,7 +4,7 @@ use Rattle.std.specs.Prelude.{◌⊎◌, slice_index}
 use Rattle.std.specs.List.{range_with_len}
 use Rattle.std.proofs.lemmas.Bool.{eq-eqb}
 use Rattle.cu_shape.specs.Index.{IsInside, product, sums, index_at, indices_of}
-use Rattle.cu_mean.specs.Reductions.{IsNone, AreApart, elements_along}
+use Rattle.cu_mean.specs.Reductions.{IsNone, IsFirstOrSingle, elements_along}
 use Rattle.cu_mean.proofs.Steps.{range_front, inside_at}
 
 -- the elements from place p on, of n
@@ -31,7 +31,7 @@ zero_on : (x y n : ℕ) → y < n → (x ≡ 0) ⊎ (n ≡ 1) → (x ≡ 0) ⊎ 
 zero_on x y n lt (inl e) = inl e
 zero_on x y n lt (inr e) = inr (omega arith)
 
-pub steps_apart : (start sizes step : List ℕ) → IsInside sizes step → length sizes ≡ length start → AreApart start sizes → (k : ℕ) → k < length start → (slice_index start k ≡ 0) ⊎ (slice_index step k ≡ 0)
+pub steps_apart : (start sizes step : List ℕ) → IsInside sizes step → length sizes ≡ length start → IsFirstOrSingle start sizes → (k : ℕ) → k < length start → (slice_index start k ≡ 0) ⊎ (slice_index step k ≡ 0)
 steps_apart start sizes step inside ranks apart k lt = zero_on (slice_index start k) (slice_index step k) (slice_index sizes k) (inside_at sizes step k inside (omega arith)) (apart k lt)
 
 -- all of them

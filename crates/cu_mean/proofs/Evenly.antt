@@ -6,7 +6,7 @@ use Rattle.std.proofs.lemmas.Nat.{div_below, mod_below, div-add-mod'}
 use Rattle.cu_shape.specs.Index.{product, place_of, index_at, sums, IsInside}
 use Rattle.cu_shape.proofs.Places.{test_from_inside, place-below}
 use Rattle.cu_mean.specs.Evenly.{AreEven, IsSpan, LieEvenly}
-use Rattle.cu_mean.specs.declared.lines.Span.{Span}
+use Rattle.cu_mean.specs.declared.lines.AxisSpan.{AxisSpan}
 use Rattle.cu_mean.specs.Plain.{PlainArray, IsPlain}
 use Rattle.cu_mean.specs.Reading.{plain_at}
 
@@ -74,7 +74,7 @@ at_evenly a start sizes first s plain even e p h =
     rw (place, test_from_inside a.dims idx at.0) there
 
 -- the elements of an array in such a box
-pub plain_evenly : (a : PlainArray) (ds start sizes : List ℕ) (cells : List ℤ) (s : Span) → IsPlain a → ds ≡ a.dims → cells ≡ a.cells → IsSpan ds start sizes s → LieEvenly (plain_at a) start sizes cells s.first s.stride
+pub plain_evenly : (a : PlainArray) (ds start sizes : List ℕ) (cells : List ℤ) (s : AxisSpan) → IsPlain a → ds ≡ a.dims → cells ≡ a.cells → IsSpan ds start sizes s → LieEvenly (plain_at a) start sizes cells s.first s.stride
 plain_evenly a ds start sizes cells s plain d c span =
     let even = subst (λ (xs : List ℕ). AreEven xs start sizes s.stride) d span.even in
     let first = span.first ∙ ap (λ (xs : List ℕ). place_of xs start) d in

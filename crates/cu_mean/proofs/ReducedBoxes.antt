@@ -13,7 +13,7 @@ use Rattle.cu_meaning.specs.Argument.{source_shape}
 use Rattle.cu_meaning.specs.Index.{is_named}
 use Rattle.cu_meaning.specs.Reduction.{kept_before, reduced_box, reduced_start}
 use Rattle.cu_expr.proofs.ToldArguments.{info_kept}
-use Rattle.cu_mean.specs.Reductions.{AreApart}
+use Rattle.cu_mean.specs.Reductions.{IsFirstOrSingle}
 
 -- the shape of an argument keeps the limit
 pub source_small : (infos : List NodeInfo) (args : List Arg) (j : ℕ) → All IsInfo infos → product (at_least_one (source_shape infos args j)) ≤ 2 ^ 40
@@ -48,7 +48,7 @@ apart_on : (named : Bool) (n i : ℕ) → ((if named then 0 else i) ≡ 0) ⊎ (
 apart_on true n i = inl refl
 apart_on false n i = inr refl
 
-pub start_apart : (axes : Option (List ℤ)) (keepdims : Bool) (shape idx : List ℕ) → AreApart (reduced_start axes keepdims (length shape) idx) (reduced_box axes shape)
+pub start_apart : (axes : Option (List ℤ)) (keepdims : Bool) (shape idx : List ℕ) → IsFirstOrSingle (reduced_start axes keepdims (length shape) idx) (reduced_box axes shape)
 start_apart axes keepdims shape idx k lt =
     let f : ℕ → ℕ = λ d. if is_named (length shape) axes d then slice_index shape d else 1 in
     let g : ℕ → ℕ = λ d. if is_named (length shape) axes d then 0 else slice_index idx (if keepdims then d else kept_before (length shape) axes d) in

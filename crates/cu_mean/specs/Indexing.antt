@@ -11,9 +11,9 @@ abbrev pub IsOutside : List ℕ → Type 0
 IsOutside idx = (shape : List ℕ) → length shape ≤ 6 → All (λ n. n < 2 ^ 64) shape → is_inside shape idx ≡ false
 
 -- what is found for an index: the index itself, or nothing where it lies outside each array
-abbrev pub IsFound : List ℕ → Option (List ℕ) → Type 0
-IsFound idx (Some read) = read ≡ idx
-IsFound idx None = IsOutside idx
+abbrev pub IsFoundIndex : List ℕ → Option (List ℕ) → Type 0
+IsFoundIndex idx (Some read) = read ≡ idx
+IsFoundIndex idx None = IsOutside idx
 
 -- the step of a slice isn't 0
 abbrev pub HasStep : IndexItem → Type 0

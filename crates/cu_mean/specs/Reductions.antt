@@ -19,8 +19,8 @@ IsNone [] none = none ≡ true
 IsNone (x ∷ xs) none = none ≡ false
 
 -- on each axis the first number is 0 or one index alone is taken
-abbrev pub AreApart : List ℕ → List ℕ → Type 0
-AreApart start sizes = (k : ℕ) → k < length start → (slice_index start k ≡ 0) ⊎ (slice_index sizes k ≡ 1)
+abbrev pub IsFirstOrSingle : List ℕ → List ℕ → Type 0
+IsFirstOrSingle start sizes = (k : ℕ) → k < length start → (slice_index start k ≡ 0) ⊎ (slice_index sizes k ≡ 1)
 
 -- the elements at so many indices from a first one on
 abbrev pub elements_along : (List ℕ → ℤ) → List ℕ → List (List ℕ) → List ℤ

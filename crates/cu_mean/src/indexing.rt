@@ -4,8 +4,8 @@ ghost use Rattle.std.specs.Bool.{OnTrue, OnFalse};
 ghost use Rattle.cu_shape.specs.Slice.{from_end, first_of};
 ghost use Rattle.cu_node.specs.declared.index_item.IndexItem.{IndexItem};
 ghost use Rattle.cu_meaning.specs.Index.{natural};
-ghost use Rattle.cu_meaning.specs.View.{indexed, sliced_index, takes_axis};
-ghost use Rattle.cu_mean.specs.Indexing.{read_from, HasStep, IsFound, IsFront, IsOutside, TakesEntry};
+ghost use Rattle.cu_meaning.specs.View.{indexed, sliced_index, uses_axis};
+ghost use Rattle.cu_mean.specs.Indexing.{read_from, HasStep, IsFoundIndex, IsFront, IsOutside, TakesEntry};
 
 use crate::axes::natural;
 use cu_form::IndexItem;
@@ -189,7 +189,7 @@ fn take_item(item: &IndexItem, spare: u32, shape: &Dims, idx: &Dims, front: &mut
 /// The index whose first numbers are read, with the rest of the result's index behind them.
 fn with_rest(front: &Front, idx: &Dims) -> Option<Dims>
     requires { front.now.at ≤ length idx.now }
-    ensures { IsFound (front.now.read ++ drop front.now.at idx.now) result }
+    ensures { IsFoundIndex (front.now.read ++ drop front.now.at idx.now) result }
 {
     let rank = idx.rank();
     if front.read.rank() + (rank - front.at) > MOST_AXES {
@@ -202,7 +202,7 @@ fn with_rest(front: &Front, idx: &Dims) -> Option<Dims>
 
 /// Whether an entry takes an axis.
 fn takes_axis(item: &IndexItem) -> bool
-    ensures { result ≡ takes_axis item.now }
+    ensures { result ≡ uses_axis item.now }
 {
     match *item {
         IndexItem::New | IndexItem::Ellipsis => false,
@@ -213,7 +213,7 @@ fn takes_axis(item: &IndexItem) -> bool
 /// How many axes no entry takes.
 fn spare_axes(items: &[IndexItem], rank: u32) -> u32
     requires { rank ≤ 6 }
-    ensures value { result ≡ rank - count_by takes_axis items.now }
+    ensures value { result ≡ rank - count_by uses_axis items.now }
     ensures few { result ≤ 6 }
 {
     let mut spare = rank;
@@ -228,7 +228,7 @@ fn spare_axes(items: &[IndexItem], rank: u32) -> u32
 /// The index of the array at which an index of the result is read; none where it lies outside each array.
 pub(crate) fn indexed(items: &[IndexItem], shape: &Dims, idx: &Dims) -> Option<Dims>
     requires { All HasStep items.now }
-    ensures { IsFound (indexed items.now shape.now idx.now) result }
+    ensures { IsFoundIndex (indexed items.now shape.now idx.now) result }
 {
     let spare = spare_axes(items, shape.rank());
     let mut front = Front {

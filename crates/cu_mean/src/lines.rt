@@ -11,7 +11,7 @@ use cu_shape::Dims;
 /// A box on the last axes of an array: the place of its first index, the distance from one place to the next, and how many elements the
 /// array and the box have there.
 #[derive(Clone, Copy)]
-struct Span {
+struct AxisSpan {
     first: u64,
     stride: u64,
     array: u64,
@@ -20,14 +20,14 @@ struct Span {
 
 /// Elements that lie evenly apart: the place of the first, and the distance from one to the next.
 #[derive(Clone, Copy)]
-pub(crate) struct Line<'a> {
+pub(crate) struct EvenLine<'a> {
     cells: &'a [i128],
     first: u64,
     stride: u64,
 }
 
 /// The distance with one axis more in front, on which the box has so many places; none where it isn't the same everywhere.
-fn stride_with(behind: Span, count: u64) -> Option<u64>
+fn stride_with(behind: AxisSpan, count: u64) -> Option<u64>
     ensures { IfSome result (λ s. (size start : ℕ) (ds is ns : List ℕ) → start + count ≤ size → IsSpan ds is ns behind → AreEven (size ∷ ds) (start ∷ is) (count ∷ ns) s) }
 {
     if count == 1 {
@@ -46,7 +46,7 @@ fn stride_with(behind: Span, count: u64) -> Option<u64>
 
 /// The box with one axis more in front, on which the array has `size` places and the box `count` from `start` on; none where it isn't
 /// inside, or where its places don't lie evenly apart.
-fn with_axis(behind: Span, size: u64, start: u64, count: u64) -> Option<Span>
+fn with_axis(behind: AxisSpan, size: u64, start: u64, count: u64) -> Option<AxisSpan>
     ensures { IfSome result (λ s. (ds is ns : List ℕ) → IsSpan ds is ns behind → IsSpan (size ∷ ds) (start ∷ is) (count ∷ ns) s) }
 {
     if count > size || start > size - count {
@@ -57,7 +57,7 @@ fn with_axis(behind: Span, size: u64, start: u64, count: u64) -> Option<Span>
     let first = before.checked_add(behind.first)?;
     let array = size.checked_mul(behind.array)?;
     let count = count.checked_mul(behind.count)?;
-    Some(Span {
+    Some(AxisSpan {
         first,
         stride,
         array,
@@ -66,12 +66,12 @@ fn with_axis(behind: Span, size: u64, start: u64, count: u64) -> Option<Span>
 }
 
 /// The box of these sizes from a first index on; none where it isn't inside, or where its places don't lie evenly apart.
-fn span_of(dims: &Dims, start: &Dims, sizes: &Dims) -> Option<Span>
+fn span_of(dims: &Dims, start: &Dims, sizes: &Dims) -> Option<AxisSpan>
     requires starts { length start.now ≡ length dims.now }
     requires sizes { length sizes.now ≡ length dims.now }
     ensures { IfSome result (λ s. IsSpan dims.now start.now sizes.now s) }
 {
-    let mut behind = Span {
+    let mut behind = AxisSpan {
         first: 0,
         stride: 1,
         array: 1,
@@ -84,7 +84,7 @@ fn span_of(dims: &Dims, start: &Dims, sizes: &Dims) -> Option<Span>
 }
 
 /// The elements of a box of an array; none where they don't lie evenly apart.
-fn line_in<'a>(plain: &'a Plain, start: &Dims, sizes: &Dims) -> Option<Line<'a>>
+fn line_in<'a>(plain: &'a Plain, start: &Dims, sizes: &Dims) -> Option<EvenLine<'a>>
     requires { length sizes.now ≡ length start.now }
     ensures { IfSome result (λ l. LieEvenly (plain_at plain.now) start.now sizes.now l.cells.now l.first l.stride) }
 {
@@ -93,7 +93,7 @@ fn line_in<'a>(plain: &'a Plain, start: &Dims, sizes: &Dims) -> Option<Line<'a>>
         return None;
     }
     let span = span_of(dims, start, sizes)?;
-    Some(Line {
+    Some(EvenLine {
         cells: plain.cells(),
         first: span.first,
         stride: span.stride,
@@ -106,7 +106,7 @@ pub(crate) fn line_of<'a>(
     args: &[Arg],
     start: &Dims,
     sizes: &Dims,
-) -> Option<Line<'a>>
+) -> Option<EvenLine<'a>>
     requires { length sizes.now ≡ length start.now }
     ensures { IfSome result (λ l. LieEvenly (source_at (elements_in plains.now) args.now 0) start.now sizes.now l.cells.now l.first l.stride) }
 {
@@ -125,7 +125,7 @@ pub(crate) fn line_of<'a>(
 }
 
 /// The element of a number.
-pub(crate) fn on_line(line: Line<'_>, number: u64) -> i128
+pub(crate) fn on_line(line: EvenLine<'_>, number: u64) -> i128
     requires { (x : ℤ) × (slice_get line.cells.now (line.first + number * line.stride) ≡ Some x) }
     ensures { slice_get line.entry.cells.now (line.entry.first + number * line.entry.stride) ≡ Some result }
 {

@@ -5,7 +5,7 @@ ghost use Rattle.cu_meaning.specs.Argument.{source_at};
 ghost use Rattle.cu_reduce.specs.Places.{best_place};
 ghost use Rattle.cu_mean.specs.Places.{IsBestFrom, takes_place};
 ghost use Rattle.cu_mean.specs.Reading.{elements_in};
-ghost use Rattle.cu_mean.specs.Reductions.{AreApart, IsNone, elements_along};
+ghost use Rattle.cu_mean.specs.Reductions.{IsFirstOrSingle, IsNone, elements_along};
 
 use crate::lines::line_of;
 use crate::plain::Plain;
@@ -51,7 +51,7 @@ pub(crate) fn best_place(
 ) -> u64
     requires count { product sizes.now ≤ 2 ^ 40 }
     requires ranks { length sizes.now ≡ length start.now }
-    requires apart { AreApart start.now sizes.now }
+    requires apart { IsFirstOrSingle start.now sizes.now }
     ensures { result ≡ best_place least (elements_along (source_at (elements_in plains.now) args.now 0) start.now (indices_of sizes.now)) }
 {
     let count = sizes.elements().unwrap();

@@ -11,11 +11,11 @@ ghost use Rattle.cu_reduce.specs.Folds.{fold_of};
 ghost use Rattle.cu_mean.specs.Axes.{axes_from};
 ghost use Rattle.cu_mean.specs.Evenly.{LieEvenly};
 ghost use Rattle.cu_mean.specs.Reading.{elements_in};
-ghost use Rattle.cu_mean.specs.Reductions.{kept_of, IsNone, AreApart, elements_along};
+ghost use Rattle.cu_mean.specs.Reductions.{kept_of, IsNone, IsFirstOrSingle, elements_along};
 
 use crate::axes::is_named_in;
 use crate::digits::index_at;
-use crate::lines::{Line, line_of, on_line};
+use crate::lines::{EvenLine, line_of, on_line};
 use crate::plain::Plain;
 use crate::reading::source;
 use cu_form::Arg;
@@ -167,7 +167,7 @@ fn kept_with(kind: FoldKind, t: Dtype, x: i128, kept: i128, last: bool) -> i128
 fn element_by_index(plains: &[Plain], args: &[Arg], start: &Dims, sizes: &Dims, place: u64) -> i128
     requires place { place < product sizes.now }
     requires ranks { length sizes.now ≡ length start.now }
-    requires apart { AreApart start.now sizes.now }
+    requires apart { IsFirstOrSingle start.now sizes.now }
     ensures { result ≡ source_at (elements_in plains.now) args.now 0 (sums start.now (index_at sizes.now place)) }
 {
     let step = index_at(sizes, place);
@@ -177,7 +177,7 @@ fn element_by_index(plains: &[Plain], args: &[Arg], start: &Dims, sizes: &Dims, 
 /// The element at a place among those over which is reduced, in row-major order; `line` has them where they lie evenly apart.
 #[inline]
 pub(crate) fn element_along(
-    line: Option<Line<'_>>,
+    line: Option<EvenLine<'_>>,
     plains: &[Plain],
     args: &[Arg],
     start: &Dims,
@@ -187,7 +187,7 @@ pub(crate) fn element_along(
     requires line { IfSome line (λ l. LieEvenly (source_at (elements_in plains.now) args.now 0) start.now sizes.now l.cells.now l.first l.stride) }
     requires place { place < product sizes.now }
     requires ranks { length sizes.now ≡ length start.now }
-    requires apart { AreApart start.now sizes.now }
+    requires apart { IsFirstOrSingle start.now sizes.now }
     ensures { result ≡ source_at (elements_in plains.now) args.now 0 (sums start.now (index_at sizes.now place)) }
 {
     match line {
@@ -207,7 +207,7 @@ pub(crate) fn reduced(
 ) -> i128
     requires count { product sizes.now ≤ 2 ^ 40 }
     requires ranks { length sizes.now ≡ length start.now }
-    requires apart { AreApart start.now sizes.now }
+    requires apart { IsFirstOrSingle start.now sizes.now }
     requires integer { kind ≡ FoldKind.Sum → IsInteger t }
     ensures { result ≡ wrapped t (fold_of kind (elements_along (source_at (elements_in plains.now) args.now 0) start.now (indices_of sizes.now))) }
 {

@@ -26,10 +26,10 @@ eye_at k idx = if int_eq (pos (slice_index idx 1) -ℤ pos (slice_index idx 0)) 
 -- ---- views of one array, each by the index of the array at which it is read
 
 -- an entry that takes an axis
-abbrev pub takes_axis : IndexItem → Bool
-takes_axis IndexItem.New = false
-takes_axis IndexItem.Ellipsis = false
-takes_axis item = true
+abbrev pub uses_axis : IndexItem → Bool
+uses_axis IndexItem.New = false
+uses_axis IndexItem.Ellipsis = false
+uses_axis item = true
 
 -- the index that a slice takes at i on an axis of size n
 abbrev pub sliced_index : Option ℤ → Option ℤ → ℤ → ℕ → ℕ → ℕ
@@ -45,7 +45,7 @@ indexed_from spare (IndexItem.Ellipsis ∷ items) shape idx = take spare idx ++ 
 indexed_from spare items shape idx = idx
 
 abbrev pub indexed : List IndexItem → List ℕ → List ℕ → List ℕ
-indexed items shape idx = indexed_from (length shape - count_by takes_axis items) items shape idx
+indexed items shape idx = indexed_from (length shape - count_by uses_axis items) items shape idx
 
 -- axis axes[j] of the array is axis j of the result
 abbrev pub permuted_index : List ℤ → List ℕ → List ℕ

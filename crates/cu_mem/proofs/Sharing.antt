@@ -10,9 +10,9 @@ use Rattle.cu_store.specs.Held.{Contents, Write, IsAmong}
 use Rattle.cu_store.specs.Share.{Lent, PutPromised}
 use Rattle.cu_store.specs.Yard.{bytes_under, is_served, is_made, Known, IsLater}
 use Rattle.cu_store.specs.declared.yard.Spec.{Spec}
-use Rattle.cu_cells.specs.Cells.{key_at, length_at}
+use Rattle.cu_cells.specs.Cells.{spec_key, length_at}
 use Rattle.cu_cells.specs.Late.{AreStored}
-use Rattle.cu_cells.specs.Layout.{Laid, promised_bytes, is_named}
+use Rattle.cu_cells.specs.Layout.{Laid, promised_bytes, is_named_cell}
 use Rattle.cu_cells.specs.Rule.{Viewed}
 use Rattle.cu_cells.specs.Yard.{room_size}
 use Rattle.cu_cells.specs.declared.late.LateCell.{LateCell}
@@ -179,13 +179,13 @@ still_there l b c k was (inr put) = put.1 ∙ sym put.3
 
 -- one key more is back
 pub holds_more : (l m : Lent) (n : ℕ) (seen : List ℕ → Bool) (mid new : Contents) → m ≡ l → HoldsFrom (n + 1) l seen mid → GivesBack m mid new
-    → (IsTrue (is_made l.specs (key_at l.specs n)) → IsTrue (seen (key_at l.specs n)) → new (key_at l.specs n) ≡ l.promise (key_at l.specs n)) → HoldsFrom n l seen new
+    → (IsTrue (is_made l.specs (spec_key l.specs n)) → IsTrue (seen (spec_key l.specs n)) → new (spec_key l.specs n) ≡ l.promise (spec_key l.specs n)) → HoldsFrom n l seen new
 holds_more l m n seen mid new same before back here at from less made known =
     dite (ℕ_discrete at n)
-    (λ e. let k : key_at l.specs n ≡ key_at l.specs at = ap (key_at l.specs) (sym e) in
+    (λ e. let k : spec_key l.specs n ≡ spec_key l.specs at = ap (spec_key l.specs) (sym e) in
     subst (λ x. new x ≡ l.promise x) k (here (subst (λ x. IsTrue (is_made l.specs x)) (sym k) made) (subst (λ x. IsTrue (seen x)) (sym k) known)))
-    (λ ne. still_there l (mid (key_at l.specs at)) (new (key_at l.specs at)) (key_at l.specs at) (before at (omega (arith, ne, from)) less made known)
-    (subst (λ (x : Lent). (new (key_at l.specs at) ≡ mid (key_at l.specs at)) ⊎ PutPromised x (key_at l.specs at) (new (key_at l.specs at))) same (back (key_at l.specs at))))
+    (λ ne. still_there l (mid (spec_key l.specs at)) (new (spec_key l.specs at)) (spec_key l.specs at) (before at (omega (arith, ne, from)) less made known)
+    (subst (λ (x : Lent). (new (spec_key l.specs at) ≡ mid (spec_key l.specs at)) ⊎ PutPromised x (spec_key l.specs at) (new (spec_key l.specs at))) same (back (spec_key l.specs at))))
 
 -- ---- rooms
 
@@ -224,11 +224,11 @@ there_later true false a b more same h = let no_ : false ≡ true = more refl in
 there_later false false a b more same h = same ∙ h
 
 pub here_of : (l m : Lent) (n at : ℕ) (seen seen_ : List ℕ → Bool) (held : Contents) → m ≡ l → at ≡ n → ((key : List ℕ) → IsTrue (seen key) → IsTrue (seen_ key))
-    → (IsTrue (is_made m.specs (key_at m.specs at)) → IsTrue (seen_ (key_at m.specs at)) → held (key_at m.specs at) ≡ m.promise (key_at m.specs at))
-    → IsTrue (is_made l.specs (key_at l.specs n)) → IsTrue (seen (key_at l.specs n)) → held (key_at l.specs n) ≡ l.promise (key_at l.specs n)
+    → (IsTrue (is_made m.specs (spec_key m.specs at)) → IsTrue (seen_ (spec_key m.specs at)) → held (spec_key m.specs at) ≡ m.promise (spec_key m.specs at))
+    → IsTrue (is_made l.specs (spec_key l.specs n)) → IsTrue (seen (spec_key l.specs n)) → held (spec_key l.specs n) ≡ l.promise (spec_key l.specs n)
 here_of l m n at seen seen_ held same is more one made known =
-    subst (λ (x : Lent). IsTrue (is_made x.specs (key_at x.specs n)) → IsTrue (seen_ (key_at x.specs n)) → held (key_at x.specs n) ≡ x.promise (key_at x.specs n)) same
-    (subst (λ (i : ℕ). IsTrue (is_made m.specs (key_at m.specs i)) → IsTrue (seen_ (key_at m.specs i)) → held (key_at m.specs i) ≡ m.promise (key_at m.specs i)) is one) made (more (key_at l.specs n) known)
+    subst (λ (x : Lent). IsTrue (is_made x.specs (spec_key x.specs n)) → IsTrue (seen_ (spec_key x.specs n)) → held (spec_key x.specs n) ≡ x.promise (spec_key x.specs n)) same
+    (subst (λ (i : ℕ). IsTrue (is_made m.specs (spec_key m.specs i)) → IsTrue (seen_ (spec_key m.specs i)) → held (spec_key m.specs i) ≡ m.promise (spec_key m.specs i)) is one) made (more (spec_key l.specs n) known)
 
 -- ---- the yard and what it gives back
 
@@ -261,7 +261,7 @@ pub held_of : (l : Lent) (seen : List ℕ → Bool) (held : Contents) (key : Lis
 held_of l seen held key holds made known =
     let has = has_place l.specs key (made_served l.specs key made) in
     let less : has.0 < length l.specs = (stands l.specs key has.0 has.1).less in
-    let same : key_at l.specs has.0 ≡ key = key_found l.specs key has.0 has.1 in
+    let same : spec_key l.specs has.0 ≡ key = key_found l.specs key has.0 has.1 in
     subst (λ k. held k ≡ l.promise k) same (holds has.0 (omega arith) less (subst (λ k. IsTrue (is_made l.specs k)) (sym same) made) (subst (λ k. IsTrue (seen k)) (sym same) known))
 
 lands_back : (W : Changes) (late : List Write) (key : List ℕ) (a b : Option (List ℕ)) → (b ≡ a) ⊎ W key b → (b ≡ a) ⊎ OrLate W late key b
@@ -287,7 +287,7 @@ late_made : (l : Laid) (v : Viewed) (ls : List LateCell) (key bytes : List ℕ) 
     → IsTrue (is_made l.specs key) × (bytes_under l.promise key ≡ Some bytes)
 late_made l v [] key bytes laid all among = absurd among
 late_made l v (m ∷ ms) key bytes laid all (inl own) =
-    let named : IsTrue (is_named l m.cell) = subst (λ (x : Laid). IsTrue (is_named x m.cell)) laid all.0.named in
+    let named : IsTrue (is_named_cell l m.cell) = subst (λ (x : Laid). IsTrue (is_named_cell x m.cell)) laid all.0.named in
     let told = promised_there l m.cell named in
     let is : bytes ≡ told.0 = own.1 ∙ ap promised_bytes told.1 in
     (subst (λ k. IsTrue (is_made l.specs k)) (sym own.0) (named_made l m.cell named), ap (bytes_under l.promise) own.0 ∙ (told.1 ∙ ap (λ (b : List ℕ). Some b) (sym is)))

@@ -4,7 +4,7 @@ use Rattle.std.specs.Option.{is_some}
 use Rattle.cu_store.specs.Held.{Contents}
 use Rattle.cu_store.specs.Share.{Lent, PutPromised}
 use Rattle.cu_store.specs.Yard.{is_served, is_made}
-use Rattle.cu_cells.specs.Cells.{key_at}
+use Rattle.cu_cells.specs.Cells.{spec_key}
 use Rattle.cu_cells.specs.Layout.{promised_bytes}
 use Rattle.cu_cells.specs.Yard.{served_by, known_of, landed_of, room_size}
 use Rattle.cu_cells.specs.declared.late.LateCell.{LateCell}
@@ -29,7 +29,7 @@ GivesBack l old new = (key : List ℕ) → (new key ≡ old key) ⊎ PutPromised
 
 -- each key from a place on that is made and was seen holds the promise's bytes
 abbrev pub HoldsFrom : ℕ → Lent → (List ℕ → Bool) → Contents → Type 0
-HoldsFrom first l seen held = (at : ℕ) → first ≤ at → at < length l.specs → IsTrue (is_made l.specs (key_at l.specs at)) → IsTrue (seen (key_at l.specs at)) → held (key_at l.specs at) ≡ l.promise (key_at l.specs at)
+HoldsFrom first l seen held = (at : ℕ) → first ≤ at → at < length l.specs → IsTrue (is_made l.specs (spec_key l.specs at)) → IsTrue (seen (spec_key l.specs at)) → held (spec_key l.specs at) ≡ l.promise (spec_key l.specs at)
 
 -- the made keys that a pass knows to be there: those that it has seen, and those of its failed puts
 -- that have landed
@@ -39,7 +39,7 @@ there_by p key = (known_of p).seen key || landed_of p key
 -- the late puts of a pass as those of a depot: each on its key, with the promised bytes
 abbrev pub late_puts : List Spec → Contents → List LateCell → List Waiting
 late_puts specs promise [] = []
-late_puts specs promise (l ∷ ls) = record { entry = (key_at specs l.cell, promised_bytes (promise (key_at specs l.cell))); wait = l.wait } ∷ late_puts specs promise ls
+late_puts specs promise (l ∷ ls) = record { entry = (spec_key specs l.cell, promised_bytes (promise (spec_key specs l.cell))); wait = l.wait } ∷ late_puts specs promise ls
 
 -- the keys of a yard, and what the made ones are to hold, as a pass knows it
 abbrev pub lent_in : Cells → CellPass → Lent

@@ -4,7 +4,7 @@ ghost use Rattle.std.specs.Option.{option_copied};
 ghost use Rattle.cu_store.specs.Held.{Gets, Answers, Holds, IsGone};
 ghost use Rattle.cu_store.specs.Steps.{NoChange, PutOf, RemovalOf, Steps, LandsLate, AddsOnlyFailed, Caused};
 
-use crate::entries::{Entry, Slot, bytes_of, store, take_away};
+use crate::entries::{Slot, StoredKey, bytes_of, store, take_away};
 use crate::late::{Waiting, land_due};
 use cu_cells::{CallKind, Fate, Layout, Running, Script};
 use cu_store::{Depot, DepotFault, Got, Key, NoMemory};
@@ -86,7 +86,7 @@ impl MemDepot {
         ensures calls { self.new.calls ≡ self.old.calls }
         ensures loan { (self.new.loan ≡ self.old.loan) × (self.new.spare ≡ self.old.spare) }
     {
-        let entry = Entry::copy(self.alloc, key, bytes)?;
+        let entry = StoredKey::copy(self.alloc, key, bytes)?;
         match self.slots.reserve(self.late.len() + self.rooms.len() + 1) {
             Ok(()) => {}
             Err(_) => return Err(NoMemory),
@@ -153,7 +153,7 @@ impl MemDepot {
         ensures kept { OnOk result (self.new ≡ record self.old { late = self.old.late ++ record { entry = (key.now, bytes.now); wait = wait } ∷ [] }) }
         ensures refused { OnErr result (self.new ≡ self.old) }
     {
-        let entry = Entry::copy(self.alloc, key, bytes)?;
+        let entry = StoredKey::copy(self.alloc, key, bytes)?;
         match self.slots.reserve(self.late.len() + self.rooms.len() + 1) {
             Ok(()) => {}
             Err(_) => return Err(NoMemory),

@@ -14,12 +14,12 @@ use std::marker::Model;
 
 /// A key and its bytes.
 #[derive(Drop)]
-pub(crate) struct Entry {
+pub(crate) struct StoredKey {
     key: Key,
     bytes: Vec<u8>,
 }
 
-impl Model for Entry {
+impl Model for StoredKey {
     ghost use Rattle.std.specs.Prelude.{ℕ, List};
 
     ghost Value = { List ℕ × List ℕ };
@@ -27,20 +27,20 @@ impl Model for Entry {
     ghost view = { λ e. (e.key, e.bytes.items) };
 }
 
-impl Entry {
+impl StoredKey {
     /// The key, with these bytes.
-    pub(crate) fn of(key: Key, bytes: Vec<u8>) -> Entry
+    pub(crate) fn of(key: Key, bytes: Vec<u8>) -> StoredKey
         ensures { result ≡ (key, bytes.items) }
     {
-        Entry { key, bytes }
+        StoredKey { key, bytes }
     }
 
     /// The key, with a copy of the bytes.
-    pub(crate) fn copy(alloc: Global, key: &Key, bytes: &[u8]) -> Result<Entry, NoMemory>
+    pub(crate) fn copy(alloc: Global, key: &Key, bytes: &[u8]) -> Result<StoredKey, NoMemory>
         ensures { IfOk result (λ e. e ≡ (key.now, bytes.now)) }
     {
         match Vec::from_slice(alloc, bytes) {
-            Ok(bytes) => Ok(Entry { key: *key, bytes }),
+            Ok(bytes) => Ok(StoredKey { key: *key, bytes }),
             Err(_) => Err(NoMemory),
         }
     }
@@ -112,14 +112,14 @@ fn set_place(slots: &mut Vec<Slot>, at: usize, key: Key, bytes: Option<Vec<u8>>)
 }
 
 /// Puts an entry in the place of its key, or at the end, where there is room for it.
-pub(crate) fn store(slots: &mut Vec<Slot>, entry: Entry)
+pub(crate) fn store(slots: &mut Vec<Slot>, entry: StoredKey)
     requires { vec_len slots.old < vec_capacity slots.old }
     ensures stored { (key : List ℕ) → held_in slots.new.items key ≡ (if bytes_eq entry.0 key then Some entry.1 else held_in slots.old.items key) }
     ensures places { (key : List ℕ) → IsTrue (has_place slots.old.items key) → IsTrue (has_place slots.new.items key) }
     ensures len { vec_len slots.new ≤ vec_len slots.old + 1 }
     ensures capacity { vec_capacity slots.old ≤ vec_capacity slots.new }
 {
-    let Entry { key, bytes } = entry;
+    let StoredKey { key, bytes } = entry;
     match place_of(slots, &key) {
         Some(i) => set_place(slots, i, key, Some(bytes)),
         None => match slots.push(Slot {

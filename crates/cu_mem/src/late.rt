@@ -5,12 +5,12 @@ ghost use Rattle.std.specs.Vec.{vec_capacity};
 ghost use Rattle.cu_mem.specs.Entries.{held_in, has_place};
 ghost use Rattle.cu_mem.specs.Late.{lands_on, waiting};
 
-use crate::entries::{Entry, Slot, store};
+use crate::entries::{Slot, StoredKey, store};
 
 /// A put that failed, and after how many further calls it lands.
 #[derive(Drop)]
 pub(crate) struct Waiting {
-    pub(crate) entry: Entry,
+    pub(crate) entry: StoredKey,
     pub(crate) wait: u32,
 }
 

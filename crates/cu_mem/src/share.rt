@@ -6,14 +6,14 @@ ghost use Rattle.std.specs.Vec.{vec_capacity};
 ghost use Rattle.cu_store.specs.Faults.{last_count};
 ghost use Rattle.cu_store.specs.Yard.{bytes_under, is_made, is_served, IsLater};
 ghost use Rattle.cu_store.specs.Share.{KeysDiffer, IsPromiseOf, PutPromised};
-ghost use Rattle.cu_cells.specs.Cells.{key_at, FitIn};
-ghost use Rattle.cu_cells.specs.Yard.{served_by, known_of, entries_of, script_of, waits_of, landed_of, room_size, IsHandOf, IsOwnPass};
+ghost use Rattle.cu_cells.specs.Cells.{spec_key, FitIn};
+ghost use Rattle.cu_cells.specs.Yard.{served_by, known_of, known_entries, script_of, waits_of, landed_of, room_size, IsHandOf, IsOwnPass};
 ghost use Rattle.cu_mem.specs.Entries.{held_in, has_place};
 ghost use Rattle.cu_mem.specs.Memory.{contents, lent_by};
 ghost use Rattle.cu_mem.specs.Sharing.{lent_in, there_by, late_puts, room_at, IsFilled, GivesBack, HoldsFrom, PromisedIn};
 
 use crate::depot::MemDepot;
-use crate::entries::{Entry, Slot, bytes_of, fill_place, keep_place};
+use crate::entries::{Slot, StoredKey, bytes_of, fill_place, keep_place};
 use crate::late::Waiting;
 use cu_cells::{CellPass, Cells, LatePut, Running, Script};
 use cu_store::{DepotFault, NoMemory, Promise, Share, Spec};
@@ -93,13 +93,13 @@ fn fill_one(
 ) -> Result<(), NoMemory>
     requires own { IsOwnPass yard.old pass.old }
     requires at { at < length (served_by yard.old).specs }
-    requires key { key_at (served_by yard.old).specs at ≡ spec.now.key }
+    requires key { spec_key (served_by yard.old).specs at ≡ spec.now.key }
     requires promised { PromisedIn (served_by yard.old).specs (known_of pass.old).promise (held_in slots.now) }
     ensures own { OnOk result (IsOwnPass yard.new pass.new) }
     ensures specs { (served_by yard.new).specs ≡ (served_by yard.old).specs }
     ensures promise { (known_of pass.new).promise ≡ (known_of pass.old).promise }
     ensures seen { OnOk result ((key : List ℕ) → (known_of pass.new).seen key ≡ ((known_of pass.old).seen key || (is_made (served_by yard.old).specs key && (is_some (held_in slots.now key) && bytes_eq spec.now.key key)))) }
-    ensures entries { OnOk result ((key : List ℕ) → entries_of pass.new key ≡ (if not (is_made (served_by yard.old).specs key) && (is_some (held_in slots.now key) && bytes_eq spec.now.key key) then held_in slots.now key else entries_of pass.old key)) }
+    ensures entries { OnOk result ((key : List ℕ) → known_entries pass.new key ≡ (if not (is_made (served_by yard.old).specs key) && (is_some (held_in slots.now key) && bytes_eq spec.now.key key) then held_in slots.now key else known_entries pass.old key)) }
     ensures counts { ((known_of pass.new).faults ≡ (known_of pass.old).faults) × ((known_of pass.new).calls ≡ (known_of pass.old).calls) }
     ensures kept { (waits_of pass.new ≡ waits_of pass.old) × (landed_of pass.new ≡ landed_of pass.old) }
 {
@@ -119,12 +119,12 @@ fn fill_bytes(
 ) -> Result<(), NoMemory>
     requires own { IsOwnPass yard.old pass.old }
     requires at { at < length (served_by yard.old).specs }
-    requires promised { IsTrue (is_made (served_by yard.old).specs (key_at (served_by yard.old).specs at)) → (known_of pass.old).promise (key_at (served_by yard.old).specs at) ≡ Some bytes.now }
+    requires promised { IsTrue (is_made (served_by yard.old).specs (spec_key (served_by yard.old).specs at)) → (known_of pass.old).promise (spec_key (served_by yard.old).specs at) ≡ Some bytes.now }
     ensures own { OnOk result (IsOwnPass yard.new pass.new) }
     ensures specs { (served_by yard.new).specs ≡ (served_by yard.old).specs }
     ensures promise { (known_of pass.new).promise ≡ (known_of pass.old).promise }
-    ensures seen { OnOk result ((key : List ℕ) → (known_of pass.new).seen key ≡ ((known_of pass.old).seen key || (is_made (served_by yard.old).specs key && bytes_eq (key_at (served_by yard.old).specs at) key))) }
-    ensures entries { OnOk result ((key : List ℕ) → entries_of pass.new key ≡ (if not (is_made (served_by yard.old).specs key) && bytes_eq (key_at (served_by yard.old).specs at) key then Some bytes.now else entries_of pass.old key)) }
+    ensures seen { OnOk result ((key : List ℕ) → (known_of pass.new).seen key ≡ ((known_of pass.old).seen key || (is_made (served_by yard.old).specs key && bytes_eq (spec_key (served_by yard.old).specs at) key))) }
+    ensures entries { OnOk result ((key : List ℕ) → known_entries pass.new key ≡ (if not (is_made (served_by yard.old).specs key) && bytes_eq (spec_key (served_by yard.old).specs at) key then Some bytes.now else known_entries pass.old key)) }
     ensures counts { ((known_of pass.new).faults ≡ (known_of pass.old).faults) × ((known_of pass.new).calls ≡ (known_of pass.old).calls) }
     ensures kept { (waits_of pass.new ≡ waits_of pass.old) × (landed_of pass.new ≡ landed_of pass.old) }
 {
@@ -148,11 +148,11 @@ fn fill_all(
     requires own { IsOwnPass yard.old pass.old }
     requires specs { (served_by yard.old).specs ≡ specs.now }
     requires promised { PromisedIn specs.now (known_of pass.old).promise (held_in slots.now) }
-    requires none { IsFilled specs.now 0 (held_in slots.now) (known_of pass.old).seen (entries_of pass.old) }
+    requires none { IsFilled specs.now 0 (held_in slots.now) (known_of pass.old).seen (known_entries pass.old) }
     ensures own { OnOk result (IsOwnPass yard.new pass.new) }
     ensures specs { (served_by yard.new).specs ≡ specs.now }
     ensures promise { (known_of pass.new).promise ≡ (known_of pass.old).promise }
-    ensures filled { OnOk result (IsFilled specs.now (length specs.now) (held_in slots.now) (known_of pass.new).seen (entries_of pass.new)) }
+    ensures filled { OnOk result (IsFilled specs.now (length specs.now) (held_in slots.now) (known_of pass.new).seen (known_entries pass.new)) }
     ensures counts { ((known_of pass.new).faults ≡ (known_of pass.old).faults) × ((known_of pass.new).calls ≡ (known_of pass.old).calls) }
     ensures kept { (waits_of pass.new ≡ waits_of pass.old) × (landed_of pass.new ≡ landed_of pass.old) }
 {
@@ -175,7 +175,7 @@ fn open(
     ensures own { IfOk result (λ r. IsOwnPass r.0 r.1) }
     ensures specs { IfOk result (λ r. (served_by r.0).specs ≡ specs.now) }
     ensures promise { IfOk result (λ r. (known_of r.1).promise ≡ bytes_under promise.now.map) }
-    ensures filled { IfOk result (λ r. IsFilled specs.now (length specs.now) (held_in slots.now) (known_of r.1).seen (entries_of r.1)) }
+    ensures filled { IfOk result (λ r. IsFilled specs.now (length specs.now) (held_in slots.now) (known_of r.1).seen (known_entries r.1)) }
     ensures counts { IfOk result (λ r. ((known_of r.1).faults ≡ 0) × ((known_of r.1).calls ≡ 0)) }
     ensures fresh { IfOk result (λ r. (waits_of r.1 ≡ []) × ((key : List ℕ) → landed_of r.1 key ≡ false)) }
 {
@@ -194,7 +194,7 @@ fn give_one(slots: &mut Vec<Slot>, yard: &mut Cells, pass: &mut CellPass, at: us
     ensures same { yard.new ≡ yard.old }
     ensures later { IsLater (known_of pass.old) (known_of pass.new) }
     ensures back { GivesBack (lent_in yard.old pass.old) (held_in slots.old.items) (held_in slots.new.items) }
-    ensures held { IsTrue (is_made (served_by yard.old).specs (key_at (served_by yard.old).specs at)) → IsTrue (there_by pass.old (key_at (served_by yard.old).specs at)) → held_in slots.new.items (key_at (served_by yard.old).specs at) ≡ (known_of pass.old).promise (key_at (served_by yard.old).specs at) }
+    ensures held { IsTrue (is_made (served_by yard.old).specs (spec_key (served_by yard.old).specs at)) → IsTrue (there_by pass.old (spec_key (served_by yard.old).specs at)) → held_in slots.new.items (spec_key (served_by yard.old).specs at) ≡ (known_of pass.old).promise (spec_key (served_by yard.old).specs at) }
     ensures counts { ((known_of pass.new).faults ≡ (known_of pass.old).faults) × ((known_of pass.new).calls ≡ (known_of pass.old).calls) }
     ensures kept { (waits_of pass.new ≡ waits_of pass.old) × (landed_of pass.new ≡ landed_of pass.old) }
     ensures script { script_of pass.new ≡ script_of pass.old }
@@ -249,7 +249,7 @@ fn take_over_one(late: &mut Vec<Waiting>, yard: &Cells, pass: &mut CellPass, roo
 {
     if let Some(put) = yard.hand_late(pass, room) {
         let LatePut { key, wait, bytes } = put;
-        let entry = Entry::of(key, bytes);
+        let entry = StoredKey::of(key, bytes);
         match late.push(Waiting { entry, wait }) {
             Ok(()) => {}
             Err(_) => unreachable!(),

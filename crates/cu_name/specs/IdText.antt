@@ -3,6 +3,6 @@ use Rattle.std.specs.Prelude.{◌≡◌, ℕ, ◌≤◌, ◌-◌, List, ◌++◌
 use Rattle.std.proofs.Common.{take-append-drop, length-take-le}
 
 -- a buffer is the text in it and zeros
-pub buffer_again : (len : ℕ) (text : List ℕ) → len ≤ length text → drop len text ≡ replicate (32 - len) 0 → take len text ++ replicate (32 - length (take len text)) 0 ≡ text
-buffer_again len text short zeros =
+pub id_buffer_again : (len : ℕ) (text : List ℕ) → len ≤ length text → drop len text ≡ replicate (32 - len) 0 → take len text ++ replicate (32 - length (take len text)) 0 ≡ text
+id_buffer_again len text short zeros =
     rw (length-take-le len text short, ← zeros) (take-append-drop len text)

@@ -19,7 +19,7 @@ pub struct IdText {
 
 impl Model for IdText {
     ghost use Rattle.std.specs.Prelude.{◌≡◌, ◌≤◌, ◌-◌, ◌++◌, List, ℕ, length, take, drop, replicate, IsUtf8};
-    ghost use Rattle.cu_name.specs.IdText.{buffer_again};
+    ghost use Rattle.cu_name.specs.IdText.{id_buffer_again};
     ghost use Rattle.std.proofs.Common.{length-take-le, arith};
 
     ghost Value = { List ℕ };
@@ -32,7 +32,7 @@ impl Model for IdText {
     ghost inverse = { λ t. record { text = t ++ replicate (32 - length t) 0; len = length t } };
 
     ghost inverse_ok = { λ k h i. record {
-      text = buffer_again k.len k.text (omega (arith, h.0, h.1)) h.2 i;
+      text = id_buffer_again k.len k.text (omega (arith, h.0, h.1)) h.2 i;
       len = length-take-le k.len k.text (omega (arith, h.0, h.1)) i;
     } };
 }

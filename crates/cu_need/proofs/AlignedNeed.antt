@@ -12,12 +12,13 @@ use Rattle.cu_node.specs.declared.info.NodeInfo.{NodeInfo}
 use Rattle.cu_num.specs.Dtype.{size_of}
 use Rattle.cu_shape.specs.Index.{product}
 use Rattle.cu_typing.specs.Joined.{aligned_chunk}
-use Rattle.cu_need.specs.Chunks.{arrays_in, chunk_bytes, aligned_bytes, is_aligned, largest}
+use Rattle.cu_need.specs.Chunks.{arrays_in, chunk_bytes, aligned_bytes, is_aligned}
 use Rattle.cu_copy.specs.Copies.{is_misaligned, rechunk_need}
 use Rattle.cu_need.specs.Elementwise.{are_aligned, function_need}
 use Rattle.cu_need.specs.Need.{need_of}
 use Rattle.cu_need.specs.Operands.{copies_of, in_aligned}
 use Rattle.cu_copy.specs.declared.copies.Rechunk.{Rechunk}
+use Rattle.cu_shape.specs.Counts.{largest}
 
 own_chunk : (result i : NodeInfo) → is_aligned result i ≡ true → i.chunk ≡ aligned_chunk result.dims result.chunk i
 own_chunk result i aligned = (bytes_eq-Decides i.chunk (aligned_chunk result.dims result.chunk i)).0 aligned

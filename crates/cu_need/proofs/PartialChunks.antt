@@ -12,7 +12,7 @@ use Rattle.cu_node.specs.Info.{IsInfo}
 use Rattle.cu_node.specs.Limited.{is_chunk_within}
 use Rattle.cu_node.specs.declared.info.NodeInfo.{NodeInfo}
 use Rattle.cu_typing.specs.Reduction.{kept_size, kept_sizes}
-use Rattle.cu_tree.specs.Partials.{partial_chunk, AreMerges}
+use Rattle.cu_tree.specs.Partials.{partial_chunk_from, AreMerges}
 use Rattle.cu_tree.specs.Rounds.{AreRounds}
 use Rattle.cu_tree.specs.declared.round.Round.{Round}
 
@@ -22,17 +22,17 @@ one_axis : (b : Bool) (c : ℕ) → 0 < c → (if b then 1 else c) ≤ c
 one_axis true c h = h
 one_axis false c h = omega arith
 
-pub less_from : (axes : Axes) (first : ℕ) (cs : List ℕ) → All (λ c. 0 < c) cs → product (partial_chunk axes first cs) ≤ product cs
+pub less_from : (axes : Axes) (first : ℕ) (cs : List ℕ) → All (λ c. 0 < c) cs → product (partial_chunk_from axes first cs) ≤ product cs
 less_from axes first [] h = omega arith
 less_from axes first (c ∷ cs) h =
-    mul-le (if has_axis axes first then 1 else c) (product (partial_chunk axes (first + 1) cs)) c (product cs) (one_axis (has_axis axes first) c (All-head (λ x. 0 < x) c cs h))
+    mul-le (if has_axis axes first then 1 else c) (product (partial_chunk_from axes (first + 1) cs)) c (product cs) (one_axis (has_axis axes first) c (All-head (λ x. 0 < x) c cs h))
     (less_from axes (first + 1) cs (All-tail (λ x. 0 < x) c cs h))
 
-pub own_bytes : (axes : Axes) (source : NodeInfo) → IsInfo source → product (partial_chunk axes 0 source.chunk) * size_of source.dtype ≤ 2 ^ 28
+pub own_bytes : (axes : Axes) (source : NodeInfo) → IsInfo source → product (partial_chunk_from axes 0 source.chunk) * size_of source.dtype ≤ 2 ^ 28
 own_bytes axes source info =
     let less = less_from axes 0 source.chunk info.positive in
-    let p : product (partial_chunk axes 0 source.chunk) * size_of source.dtype ≤ product source.chunk * size_of source.dtype =
-    mul-le (product (partial_chunk axes 0 source.chunk)) (size_of source.dtype) (product source.chunk) (size_of source.dtype) less (omega arith) in
+    let p : product (partial_chunk_from axes 0 source.chunk) * size_of source.dtype ≤ product source.chunk * size_of source.dtype =
+    mul-le (product (partial_chunk_from axes 0 source.chunk)) (size_of source.dtype) (product source.chunk) (size_of source.dtype) less (omega arith) in
     let q = info.bytes in
     omega (arith, p, q)
 
@@ -58,27 +58,27 @@ kept_one true true c rest n e = ap (λ p. 1 * p) e
 kept_one false true c rest n e = e ∙ (let one : n ≡ 1 * n = omega arith in one)
 kept_one keepdims false c rest n e = ap (λ p. c * p) e
 
-all_kept : (axes : Axes) (first : ℕ) (cs : List ℕ) → Marked axes first [] cs → product (partial_chunk axes first cs) ≡ product cs
+all_kept : (axes : Axes) (first : ℕ) (cs : List ℕ) → Marked axes first [] cs → product (partial_chunk_from axes first cs) ≡ product cs
 all_kept axes first [] h = refl
 all_kept axes first (c ∷ cs) h =
     let here = marked_here axes first [] c cs h in
     rw here (ap (λ p. c * p) (all_kept axes (first + 1) cs (unmarked_rest axes first c cs h)))
 
-same_elements : (axes : Axes) (keepdims : Bool) (first : ℕ) (ms : List Bool) (cs : List ℕ) → Marked axes first ms cs → product (partial_chunk axes first cs) ≡ product (kept_sizes keepdims cs ms)
+same_elements : (axes : Axes) (keepdims : Bool) (first : ℕ) (ms : List Bool) (cs : List ℕ) → Marked axes first ms cs → product (partial_chunk_from axes first cs) ≡ product (kept_sizes keepdims cs ms)
 same_elements axes keepdims first ms [] h = refl
 same_elements axes keepdims first [] (c ∷ cs) h = all_kept axes first (c ∷ cs) h
 same_elements axes keepdims first (m ∷ ms) (c ∷ cs) h =
     let here = marked_here axes first (m ∷ ms) c cs h in
     let rest = same_elements axes keepdims (first + 1) ms cs (marked_rest axes first m ms c cs h) in
-    rw here (sym (kept_one keepdims m c (kept_sizes keepdims cs ms) (product (partial_chunk axes (first + 1) cs)) (sym rest)))
+    rw here (sym (kept_one keepdims m c (kept_sizes keepdims cs ms) (product (partial_chunk_from axes (first + 1) cs)) (sym rest)))
 
 -- where these marks are the axes', the limit of bytes of the result's chunk is that of its partial results
 pub partial_within : (axes : Axes) (t : Dtype) (keepdims : Bool) (marks : List Bool) (cs : List ℕ) → ((i : ℕ) → i < length cs → has_axis axes i ≡ get_or marks i false)
-    → product (kept_sizes keepdims cs marks) * size_of t ≤ 2 ^ 28 → is_chunk_within t (partial_chunk axes 0 cs) ≡ true
+    → product (kept_sizes keepdims cs marks) * size_of t ≤ 2 ^ 28 → is_chunk_within t (partial_chunk_from axes 0 cs) ≡ true
 unfolding Marked
 partial_within axes t keepdims marks cs h fits =
     let same = same_elements axes keepdims 0 marks cs (λ i l. subst (λ (d : ℕ). has_axis axes d ≡ get_or marks i false) (let e : i ≡ 0 + i = omega arith in e) (h i l)) in
-    le-leb (product (partial_chunk axes 0 cs) * size_of t) (2 ^ 28) (rw same fits)
+    le-leb (product (partial_chunk_from axes 0 cs) * size_of t) (2 ^ 28) (rw same fits)
 
 -- ---- the rounds of some partial results are merges
 

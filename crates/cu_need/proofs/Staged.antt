@@ -5,9 +5,9 @@ use Rattle.cu_form.specs.declared.form.Form.{Form}
 use Rattle.cu_node.specs.declared.info.NodeInfo.{NodeInfo}
 use Rattle.cu_copy.specs.Copies.{rechunk_need}
 use Rattle.cu_copy.specs.declared.copies.Rechunk.{Rechunk}
-use Rattle.cu_need.specs.Chunks.{largest}
 use Rattle.cu_need.specs.Need.{need_of}
 use Rattle.cu_need.specs.Operands.{copies_of}
+use Rattle.cu_shape.specs.Counts.{largest}
 
 each_within : (f : Rechunk → ℕ) (rs : List Rechunk) (allowed : ℕ) → largest (map f rs) ≤ allowed → All (λ r. f r ≤ allowed) rs
 each_within f [] allowed h = All-nil (λ r. f r ≤ allowed)

@@ -23,7 +23,7 @@ use Rattle.cu_typing.specs.Reduction.{Rule, reduced, typed_arg_place, place_rule
 use Rattle.cu_typing.proofs.Passed.{passed}
 use Rattle.cu_typing.proofs.PassedTogether.{reduction_passed, product_passed}
 use Rattle.cu_tree.specs.Marks.{marked_axes}
-use Rattle.cu_tree.specs.Partials.{partial_chunk}
+use Rattle.cu_tree.specs.Partials.{partial_chunk_from}
 use Rattle.cu_tree.proofs.Bits.{marked}
 use Rattle.cu_need.specs.Chunks.{arrays_in}
 use Rattle.cu_copy.specs.Copies.{IsRechunk, in_chunks, is_misaligned}
@@ -40,15 +40,15 @@ module _ (infos : List NodeInfo) (kept : (k : ℕ) → IsInfo (info_at infos k))
   bytes_are k t shape chunk is = subst (λ (i : NodeInfo). product i.chunk * size_of i.dtype ≤ 2 ^ 28) is (kept k).bytes
 
   reduction_within : (rule : Rule) (axes : Option (List ℤ)) (keepdims : Bool) (source : NodeInfo) (k : ℕ) → reduced rule axes keepdims source ≡ Ok (info_at infos k)
-      → is_chunk_within (info_at infos k).dtype (partial_chunk (axes_reduced source axes) 0 source.chunk) ≡ true
+      → is_chunk_within (info_at infos k).dtype (partial_chunk_from (axes_reduced source axes) 0 source.chunk) ≡ true
   reduction_within rule axes keepdims source k typed =
       let p = reduction_passed rule axes keepdims source (info_at infos k) typed in
       let marks = p.0 in
       let named : axes_reduced source axes ≡ marked_axes marks = ap (λ (o : Option (List Bool)). marked_axes (unwrap_or o (replicate 6 false))) p.1.named in
       let dtype : (info_at infos k).dtype ≡ rule.dtype = ap (λ (i : NodeInfo). i.dtype) p.1.array in
       let within = partial_within (marked_axes marks) rule.dtype keepdims marks source.chunk (λ i l. marked marks i) (bytes_are k rule.dtype (kept_sizes keepdims source.dims marks) (kept_sizes keepdims source.chunk marks) p.1.array) in
-      subst (λ (t : Dtype). is_chunk_within t (partial_chunk (axes_reduced source axes) 0 source.chunk) ≡ true) (sym dtype)
-      (subst (λ (a : Axes). is_chunk_within rule.dtype (partial_chunk a 0 source.chunk) ≡ true) (sym named) within)
+      subst (λ (t : Dtype). is_chunk_within t (partial_chunk_from (axes_reduced source axes) 0 source.chunk) ≡ true) (sym dtype)
+      (subst (λ (a : Axes). is_chunk_within rule.dtype (partial_chunk_from a 0 source.chunk) ≡ true) (sym named) within)
 
   search_within : (axis : Option ℤ) (keepdims : Bool) (source : NodeInfo) (k : ℕ) → IsInfo source → typed_arg_place axis keepdims source ≡ Ok (info_at infos k)
       → IsSearchWithin (info_at infos k) source axis

@@ -10,7 +10,7 @@ use Rattle.cu_node.specs.Limited.{is_chunk_within}
 use Rattle.cu_node.specs.declared.info.NodeInfo.{NodeInfo}
 use Rattle.cu_typing.specs.Accepted.{IsAcceptedProduct}
 use Rattle.cu_typing.specs.Joined.{lead_of, fills, aligned_on, aligned_chunk}
-use Rattle.cu_typing.specs.Matmul.{leading, rows, columns, left_inner, leading_array, leading_arrays, leading_chunk, left_aligned, right_aligned}
+use Rattle.cu_typing.specs.Matmul.{leading, rows, columns, left_summed, leading_array, leading_arrays, leading_chunk, left_aligned, right_aligned}
 use Rattle.cu_typing.proofs.Chunks.{length-joined_chunk, length-aligned_chunk}
 use Rattle.cu_copy.specs.Copies.{IsRechunk}
 use Rattle.cu_need.specs.Operands.{in_aligned, left_wanted, right_wanted}
@@ -80,8 +80,8 @@ columns_positive ns h =
       | inr one ↦ rw one (All-nil (λ c. 0 < c))
     ]
 
-inner_positive : (ns : List ℕ) → 0 < length ns → Positive ns → Positive (left_inner ns ∷ [])
-inner_positive ns some h = one_positive (left_inner ns) (All-get_or (λ c. 0 < c) ns (length ns - 1) 0 (omega (arith, some)) h)
+inner_positive : (ns : List ℕ) → 0 < length ns → Positive ns → Positive (left_summed ns ∷ [])
+inner_positive ns some h = one_positive (left_summed ns) (All-get_or (λ c. 0 < c) ns (length ns - 1) 0 (omega (arith, some)) h)
 
 pub length-leading : (ns : List ℕ) → length (leading ns) ≡ length ns - 2
 length-leading ns = length-take-le (length ns - 2) ns (omega arith)
@@ -146,13 +146,13 @@ module _ (l r made : NodeInfo) (t : Dtype) (lead : List ℕ) (p : IsAcceptedProd
         record {
           source = hl;
           ranks = (
-              let a = length-append (own ++ rows l.chunk) (left_inner l.chunk ∷ []) in
+              let a = length-append (own ++ rows l.chunk) (left_summed l.chunk ∷ []) in
               let b = length-append own (rows l.chunk) in
               let c = length-front l in
               let d = length-rows l.chunk (omega (arith, e, some)) in
               omega (arith, a, b, c, d, e)
               );
-          positive = All-append (λ c. 0 < c) (own ++ rows l.chunk) (left_inner l.chunk ∷ [])
+          positive = All-append (λ c. 0 < c) (own ++ rows l.chunk) (left_summed l.chunk ∷ [])
               (All-append (λ c. 0 < c) own (rows l.chunk) (front_positive l hl (p.broadcast 0 (leading_array l) (omega arith)).rank) (rows_positive l.chunk hl.positive))
               (inner_positive l.chunk (omega (arith, e, some)) hl.positive);
           bytes = p.left_within;
@@ -168,21 +168,21 @@ module _ (l r made : NodeInfo) (t : Dtype) (lead : List ℕ) (p : IsAcceptedProd
         record {
           source = hr;
           ranks = (
-              let a = length-append (own ++ left_inner l.chunk ∷ []) (columns r.chunk) in
-              let b = length-append own (left_inner l.chunk ∷ []) in
+              let a = length-append (own ++ left_summed l.chunk ∷ []) (columns r.chunk) in
+              let b = length-append own (left_summed l.chunk ∷ []) in
               let c = length-front r in
               let d = length-columns r.chunk (omega (arith, e, some)) in
               omega (arith, a, b, c, d, e)
               );
-          positive = All-append (λ c. 0 < c) (own ++ left_inner l.chunk ∷ []) (columns r.chunk)
-              (All-append (λ c. 0 < c) own (left_inner l.chunk ∷ []) (front_positive r hr (p.broadcast 1 (leading_array r) (omega arith)).rank)
+          positive = All-append (λ c. 0 < c) (own ++ left_summed l.chunk ∷ []) (columns r.chunk)
+              (All-append (λ c. 0 < c) own (left_summed l.chunk ∷ []) (front_positive r hr (p.broadcast 1 (leading_array r) (omega arith)).rank)
               (inner_positive l.chunk (omega (arith, f, least)) hl.positive))
               (columns_positive r.chunk hr.positive);
           bytes = p.right_within;
         }
 
     pub left_is_wanted : IsRechunk (left_wanted made l r)
-    left_is_wanted = subst (λ (cs : List ℕ). IsRechunk (record { source = l; chunk = cs ++ rows l.chunk ++ left_inner l.chunk ∷ [] })) (sym (same_aligned l)) left_is
+    left_is_wanted = subst (λ (cs : List ℕ). IsRechunk (record { source = l; chunk = cs ++ rows l.chunk ++ left_summed l.chunk ∷ [] })) (sym (same_aligned l)) left_is
 
     pub right_is_wanted : IsRechunk (right_wanted made l r)
-    right_is_wanted = subst (λ (cs : List ℕ). IsRechunk (record { source = r; chunk = cs ++ left_inner l.chunk ∷ [] ++ columns r.chunk })) (sym (same_aligned r)) right_is
+    right_is_wanted = subst (λ (cs : List ℕ). IsRechunk (record { source = r; chunk = cs ++ left_summed l.chunk ∷ [] ++ columns r.chunk })) (sym (same_aligned r)) right_is

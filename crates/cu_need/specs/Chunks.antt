@@ -21,8 +21,3 @@ aligned_bytes result i = product (aligned_chunk result.dims result.chunk i) * si
 -- an argument's array has the chunk to which it is aligned
 abbrev pub is_aligned : NodeInfo → NodeInfo → Bool
 is_aligned result i = bytes_eq i.chunk (aligned_chunk result.dims result.chunk i)
-
--- the greatest of some numbers; of none it is 0
-abbrev pub largest : List ℕ → ℕ
-largest [] = 0
-largest (x ∷ xs) = max x (largest xs)

@@ -3,7 +3,8 @@
 use Rattle.std.specs.Prelude.{ℕ, ◌+◌, ◌*◌, Bool, List, ◌∷◌, map, sum_by}
 use Rattle.std.specs.List.{list_all}
 use Rattle.cu_node.specs.declared.info.NodeInfo.{NodeInfo}
-use Rattle.cu_need.specs.Chunks.{chunk_bytes, aligned_bytes, is_aligned, largest}
+use Rattle.cu_need.specs.Chunks.{chunk_bytes, aligned_bytes, is_aligned}
+use Rattle.cu_shape.specs.Counts.{largest}
 
 -- each argument's array has the chunk to which it is aligned
 abbrev pub are_aligned : NodeInfo → List NodeInfo → Bool

@@ -9,12 +9,12 @@ use Rattle.cu_node.specs.declared.info.NodeInfo.{NodeInfo}
 use Rattle.cu_typing.specs.Elementwise.{typed_elementwise}
 use Rattle.cu_node.specs.Limited.{is_chunk_within}
 use Rattle.cu_num.specs.declared.types.Dtype.TheVariants.{Int64}
-use Rattle.cu_tree.specs.Partials.{partial_chunk}
+use Rattle.cu_tree.specs.Partials.{partial_chunk_from}
 use Rattle.cu_typing.specs.Joined.{arrays_of}
 use Rattle.cu_typing.specs.Matmul.{typed_matmul}
 use Rattle.cu_typing.specs.Reduction.{typed_reduction, typed_arg_place}
 use Rattle.cu_typing.specs.declared.argument.Argument.{Argument}
-use Rattle.cu_need.specs.Chunks.{arrays_in, largest}
+use Rattle.cu_need.specs.Chunks.{arrays_in}
 use Rattle.cu_copy.specs.Copies.{IsRechunk, rechunk_need}
 use Rattle.cu_need.specs.Elementwise.{function_need}
 use Rattle.cu_need.specs.Live.{is_live, live_nodes}
@@ -22,6 +22,7 @@ use Rattle.cu_need.specs.Reduction.{array_of, axes_reduced, axes_sought, reducti
 use Rattle.cu_need.specs.View.{is_view, view_need}
 use Rattle.cu_need.specs.Operands.{operands_of, copies_of, left_wanted, right_wanted}
 use Rattle.cu_need.specs.declared.need.NodeNeed.{NodeNeed}
+use Rattle.cu_shape.specs.Counts.{largest}
 
 -- The bytes that node k's operations need besides copies: the function over aligned chunks, the reduction with its merges, the product of
 -- operands in the chunks that are wanted of them, or the view. A rechunk and an input have none, and need the reserved bytes.
@@ -63,11 +64,11 @@ pub record IsFirstOver (allowed reserved split_every : ℕ) (e : Expression) (in
 -- the chunks of a node's partial results keep the limit of bytes
 abbrev pub IsSearchWithin : NodeInfo → NodeInfo → Option ℤ → Type 0
 IsSearchWithin made source axis =
-    (made.dtype ≡ Int64) × (is_chunk_within Int64 (partial_chunk (axes_sought source axis) 0 source.chunk) ≡ true)
+    (made.dtype ≡ Int64) × (is_chunk_within Int64 (partial_chunk_from (axes_sought source axis) 0 source.chunk) ≡ true)
 
 abbrev pub ArePartialsWithin : List NodeInfo → ℕ → Form → Type 0
 ArePartialsWithin infos k (Form.Reduce kind args axes keepdims) =
-    is_chunk_within (info_at infos k).dtype (partial_chunk (axes_reduced (array_of infos args 0) axes) 0 (array_of infos args 0).chunk) ≡ true
+    is_chunk_within (info_at infos k).dtype (partial_chunk_from (axes_reduced (array_of infos args 0) axes) 0 (array_of infos args 0).chunk) ≡ true
 ArePartialsWithin infos k (Form.ArgPlace least args axis keepdims) = IsSearchWithin (info_at infos k) (array_of infos args 0) axis
 ArePartialsWithin infos k (Form.Matmul args) = (0 < length (array_of infos args 0).dims) × (length (info_at infos k).dims < 6)
 ArePartialsWithin infos k form = Unit {0}

@@ -4,7 +4,7 @@ use Rattle.cu_form.specs.declared.form.Form.{Form}
 use Rattle.cu_node.specs.Info.{info_at}
 use Rattle.cu_node.specs.declared.info.NodeInfo.{NodeInfo}
 use Rattle.cu_typing.specs.Joined.{aligned_chunk}
-use Rattle.cu_typing.specs.Matmul.{rows, columns, left_inner}
+use Rattle.cu_typing.specs.Matmul.{rows, columns, left_summed}
 use Rattle.cu_need.specs.Chunks.{arrays_in}
 use Rattle.cu_copy.specs.Copies.{in_chunks, is_misaligned}
 use Rattle.cu_need.specs.Reduction.{array_of, leading_count, leading_aligned}
@@ -17,10 +17,10 @@ in_aligned made i = in_chunks i (aligned_chunk made.dims made.chunk i)
 -- the operands of a product: before the matrix as for elementwise functions; the rows and the inner chunks are the left's, the columns the
 -- right's
 abbrev pub left_wanted : NodeInfo → NodeInfo → NodeInfo → Rechunk
-left_wanted made left right = in_chunks left (leading_aligned made (leading_count made left right) left ++ rows left.chunk ++ left_inner left.chunk ∷ [])
+left_wanted made left right = in_chunks left (leading_aligned made (leading_count made left right) left ++ rows left.chunk ++ left_summed left.chunk ∷ [])
 
 abbrev pub right_wanted : NodeInfo → NodeInfo → NodeInfo → Rechunk
-right_wanted made left right = in_chunks right (leading_aligned made (leading_count made left right) right ++ left_inner left.chunk ∷ [] ++ columns right.chunk)
+right_wanted made left right = in_chunks right (leading_aligned made (leading_count made left right) right ++ left_summed left.chunk ∷ [] ++ columns right.chunk)
 
 -- ---- by the form
 

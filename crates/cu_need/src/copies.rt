@@ -2,7 +2,7 @@
 
 ghost use Rattle.std.specs.Prelude.{◌≡◌, ◌≤◌, ◌^◌, All, length, map, sum_by};
 ghost use Rattle.cu_copy.specs.Copies.{IsRechunk, rechunk_need, rechunk_tasks, rechunk_cells};
-ghost use Rattle.cu_need.specs.Chunks.{largest};
+ghost use Rattle.cu_shape.specs.Counts.{largest};
 
 use cu_copy::{CopyCounts, Rechunk, rechunk_counts, rechunk_need};
 

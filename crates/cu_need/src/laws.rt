@@ -9,7 +9,7 @@ ghost use Rattle.cu_node.specs.Info.{IsInfo, info_at};
 ghost use Rattle.cu_node.specs.declared.element_op.ElementOp.{ElementOp};
 ghost use Rattle.cu_node.specs.declared.info.NodeInfo.{NodeInfo};
 ghost use Rattle.cu_typing.specs.Joined.{aligned_chunk};
-ghost use Rattle.cu_need.specs.Chunks.{arrays_in, chunk_bytes, largest};
+ghost use Rattle.cu_need.specs.Chunks.{arrays_in, chunk_bytes};
 ghost use Rattle.cu_copy.specs.Copies.{IsRechunk, greater_chunk, in_chunks, is_misaligned, max_mem, rechunk_need};
 ghost use Rattle.cu_need.specs.Counts.{over_limit};
 ghost use Rattle.cu_need.specs.Elementwise.{are_aligned};
@@ -20,6 +20,7 @@ ghost use Rattle.cu_copy.specs.declared.copies.Rechunk.{Rechunk};
 ghost use Rattle.cu_need.specs.declared.counts.PlanCounts.{PlanCounts};
 ghost use Rattle.cu_need.specs.declared.need.NodeNeed.{NodeNeed};
 ghost use Rattle.cu_need.specs.Live.{is_live, IsClosed, IsLiveArgument};
+ghost use Rattle.cu_shape.specs.Counts.{largest};
 
 use cu_node::info_law;
 

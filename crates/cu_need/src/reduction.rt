@@ -7,7 +7,7 @@ ghost use Rattle.cu_shape.specs.Index.{product};
 ghost use Rattle.cu_node.specs.Info.{IsInfo};
 ghost use Rattle.cu_node.specs.Limited.{is_chunk_within};
 ghost use Rattle.cu_tree.specs.Needs.{with_merges};
-ghost use Rattle.cu_tree.specs.Partials.{partial_chunk};
+ghost use Rattle.cu_tree.specs.Partials.{partial_chunk_from};
 ghost use Rattle.cu_need.specs.Reduction.{array_of, reduced_axes, sought_axis, axes_reduced, axes_sought, reduction_need, value_bytes, place_need, matmul_need, reduction_chunks, place_chunks, value_chunks, matmul_chunks, leading_count};
 ghost use Rattle.cu_copy.specs.Copies.{IsRechunk};
 ghost use Rattle.cu_need.specs.Operands.{left_wanted, right_wanted};
@@ -185,7 +185,7 @@ pub(crate) fn reduction_chunks(
     requires several { 2 ≤ split_every }
     requires made { IsInfo made.now }
     requires source { IsInfo source.now }
-    requires within { is_chunk_within made.now.dtype (partial_chunk axes 0 source.now.chunk) ≡ true }
+    requires within { is_chunk_within made.now.dtype (partial_chunk_from axes 0 source.now.chunk) ≡ true }
     ensures chunks { result ≡ reduction_chunks split_every made.now source.now axes }
     ensures few { result ≤ 2 ^ 37 }
 {
@@ -200,7 +200,7 @@ pub(crate) fn place_chunks(split_every: u32, made: &NodeInfo, source: &NodeInfo,
     requires several { 2 ≤ split_every }
     requires made { IsInfo made.now }
     requires source { IsInfo source.now }
-    requires within { is_chunk_within Int64 (partial_chunk axes 0 source.now.chunk) ≡ true }
+    requires within { is_chunk_within Int64 (partial_chunk_from axes 0 source.now.chunk) ≡ true }
     ensures chunks { result ≡ place_chunks split_every made.now source.now axes }
     ensures few { result ≤ 2 ^ 37 }
 {

@@ -18,7 +18,7 @@ use Rattle.cu_op.specs.declared.layout.ArrayInfo.{ArrayInfo}
 use Rattle.cu_op.specs.Arrays.{array_at, grid_at, no_array}
 use Rattle.cu_op.specs.Layout.{IsArray}
 use Rattle.cu_op.specs.Names.{HasOwnNames}
-use Rattle.cu_op.specs.Sound.{KeysDiffer}
+use Rattle.cu_op.specs.Sound.{ChunkKeysDiffer}
 
 -- a digit's code, which is below that of `c`
 abbrev IsDigit : ℕ → Type 0
@@ -123,7 +123,7 @@ coordinates_fit g coord ok h = All-from_get_or (λ i. i < 2 ^ 64) coord 0 (λ k 
     one_below : (i c n : ℕ) → 0 < c → i * c < n → n ≤ 2 ^ 56 → i < 2 ^ 64
     one_below i c n positive h small = let w = le-mul_of_pos_right i positive in omega (arith, w, h, small)
 
-pub keys_differ : (arrays : List ArrayInfo) → All IsArray arrays → HasOwnNames arrays → KeysDiffer arrays
+pub keys_differ : (arrays : List ArrayInfo) → All IsArray arrays → HasOwnNames arrays → ChunkKeysDiffer arrays
 keys_differ arrays ok own a b c d ca cb e =
     let ga = (ok a no_array ca.within).grid in
     let gb = (ok b no_array cb.within).grid in

@@ -9,10 +9,11 @@ use Rattle.cu_op.specs.declared.operation.Planned.{Planned}
 use Rattle.cu_op.specs.Arrays.{grid_at, chunk_room, no_array}
 use Rattle.cu_op.specs.Operation.{reads_of, writes_of}
 use Rattle.cu_op.specs.Cells.{tasks_of}
-use Rattle.cu_op.specs.Projection.{largest, scratch_room, input_room, output_room, instruction_count, projection}
+use Rattle.cu_op.specs.Projection.{scratch_room, input_room, output_room, instruction_count, projection}
 use Rattle.cu_op.specs.PlanView.{PlanView, operation_at, no_operation}
 use Rattle.cu_op.specs.Sound.{Sound}
 use Rattle.cu_op.proofs.Lists.{greatest_append}
+use Rattle.cu_shape.specs.Counts.{largest}
 
 -- no operation of a sound plan has more tasks than all together may have
 pub few_tasks : (p : PlanView) (k : ℕ) → Sound p → k < length p.ops → tasks_of p.arrays (operation_at p.ops k).op ≤ 65536

@@ -27,10 +27,11 @@ use Rattle.cu_op.specs.Layout.{IsArray}
 use Rattle.cu_op.specs.OneMap.{OneMap, Makes, addition_of, HasGridAndType, AddsAlike}
 use Rattle.cu_op.specs.Operation.{reads_of, writes_of, target_of, IsAlignedAlong, IsAligned, IsReadable, IsMadeBy, IsBefore, Fits}
 use Rattle.cu_op.specs.PlanView.{operation_at}
-use Rattle.cu_op.specs.Projection.{projection, largest, input_room, output_room, instruction_count, HasSmallRegions}
+use Rattle.cu_op.specs.Projection.{projection, input_room, output_room, instruction_count, HasSmallRegions}
 use Rattle.cu_op.specs.Sound.{Sound, IsOperation, made_chunks, cells_by}
 use Rattle.cu_op.proofs.KeyTexts.{keys_differ}
 use Rattle.cu_op.proofs.Plans.{scratch_parts}
+use Rattle.cu_shape.specs.Counts.{largest}
 
 -- an array before the last, and the last
 at_input : (inputs : List ArrayInfo) (made : ArrayInfo) (a : ℕ) → a < length inputs → array_at (inputs ++ made ∷ []) a ≡ array_at inputs a

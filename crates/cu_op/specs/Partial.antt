@@ -6,13 +6,13 @@ use Rattle.cu_pull.specs.Pull.{has_axis}
 use Rattle.cu_pull.specs.declared.axes.Axes.{Axes}
 use Rattle.cu_reduce.specs.Groups.{Groups, groups_of, groups_along, group_counts, group_lo, group_hi, group_of, group_indices}
 use Rattle.cu_reduce.specs.Places.{is_sought}
-use Rattle.cu_op.specs.declared.groups.Reduced.{Reduced}
-use Rattle.cu_op.specs.declared.groups.Reduced.TheVariants.{Named, Sought}
+use Rattle.cu_op.specs.declared.groups.GroupedAxes.{GroupedAxes}
+use Rattle.cu_op.specs.declared.groups.GroupedAxes.TheVariants.{Named, Sought}
 use Rattle.cu_op.specs.declared.layout.ArrayInfo.{ArrayInfo}
 use Rattle.cu_op.specs.Arrays.{grid_at}
 
 -- the axes that a reduction goes over
-abbrev pub is_reduced : Reduced → ℕ → Bool
+abbrev pub is_reduced : GroupedAxes → ℕ → Bool
 is_reduced (Named axes) d = has_axis axes d
 is_reduced (Sought axis) d = is_sought axis d
 

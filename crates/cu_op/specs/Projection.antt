@@ -8,10 +8,7 @@ use Rattle.cu_num.specs.Dtype.{size_of}
 use Rattle.cu_shape.specs.Index.{product}
 use Rattle.cu_op.specs.Arrays.{grid_at, type_at, chunk_room}
 use Rattle.cu_op.specs.Operation.{reads_of, writes_of, target_of}
-
-abbrev pub largest : List ℕ → ℕ
-largest [] = 0
-largest (n ∷ ns) = max n (largest ns)
+use Rattle.cu_shape.specs.Counts.{largest}
 
 -- the greatest chunk of an array that the operation reads or writes
 abbrev pub scratch_room : List ArrayInfo → Op → ℕ

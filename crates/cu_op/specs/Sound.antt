@@ -30,8 +30,8 @@ abbrev pub cell_key : List ArrayInfo → ℕ → List ℕ → List ℕ
 cell_key arrays a coord = chunk_key_of (array_at arrays a).prefix (array_at arrays a).layout.encoding coord
 
 -- no key stands twice among the chunks of the made arrays
-abbrev pub KeysDiffer : List ArrayInfo → Type 0
-KeysDiffer arrays = (a b : ℕ) (c d : List ℕ) → IsCell arrays a c → IsCell arrays b d → cell_key arrays a c ≡ cell_key arrays b d → (a ≡ b) × (c ≡ d)
+abbrev pub ChunkKeysDiffer : List ArrayInfo → Type 0
+ChunkKeysDiffer arrays = (a b : ℕ) (c d : List ℕ) → IsCell arrays a c → IsCell arrays b d → cell_key arrays a c ≡ cell_key arrays b d → (a ≡ b) × (c ≡ d)
 
 -- how many cells an array has: its chunks, if it is made
 abbrev pub cells_by : Option ℕ → ℕ → ℕ
@@ -45,7 +45,7 @@ pub record Sound (p : PlanView) : Type 0 where
   pub operations : (k : ℕ) → k < length p.ops → IsOperation p.arrays p.reserved k (operation_at p.ops k)
   pub makers : (a k : ℕ) → a < length p.arrays → maker_at p.arrays a ≡ Some k → (k < length p.ops) × Contains (writes_of (operation_at p.ops k).op) a
   pub arrays : All IsArray p.arrays
-  pub keys : KeysDiffer p.arrays
+  pub keys : ChunkKeysDiffer p.arrays
   pub out : p.out < length p.arrays
   pub array_count : length p.arrays < 2 ^ 32
   pub operation_count : length p.ops < 2 ^ 32

@@ -15,7 +15,7 @@ use cu_shape::{Dims, index_of, place};
 
 /// The axes that a reduction goes over.
 #[derive(Clone, Copy)]
-pub(crate) enum Reduced {
+pub(crate) enum GroupedAxes {
     /// Those of a set.
     Named(Axes),
     /// One axis, or all where none is named.
@@ -23,21 +23,21 @@ pub(crate) enum Reduced {
 }
 
 /// Whether a reduction goes over an axis.
-fn is_reduced(reduced: Reduced, axis: u32) -> bool
+fn is_reduced(reduced: GroupedAxes, axis: u32) -> bool
     requires { axis < 8 }
     ensures { result ≡ is_reduced reduced axis }
 {
     match reduced {
-        Reduced::Named(axes) => (axes.0 >> axis) & 1 == 1,
-        Reduced::Sought(Some(only)) => axis == only,
-        Reduced::Sought(None) => true,
+        GroupedAxes::Named(axes) => (axes.0 >> axis) & 1 == 1,
+        GroupedAxes::Sought(Some(only)) => axis == only,
+        GroupedAxes::Sought(None) => true,
     }
 }
 
 /// Of a source that is reduced a chunk at a time the region from which a region of the result is made.
 pub(crate) fn chunk_walk(
     arrays: &[ArrayInfo],
-    reduced: Reduced,
+    reduced: GroupedAxes,
     source: u32,
     out: u32,
     region: &Region,
@@ -81,7 +81,7 @@ pub(crate) fn merge_walk(
     Walk {
         array: source,
         region: group_region(
-            Reduced::Sought(Some(axis)),
+            GroupedAxes::Sought(Some(axis)),
             &sizes,
             grid.shape(),
             result.shape(),
@@ -103,7 +103,7 @@ fn filled(shape: &Dims, number: u64) -> Dims
 
 /// The region of a source from which a region of the result is made.
 fn group_region(
-    reduced: Reduced,
+    reduced: GroupedAxes,
     sizes: &Dims,
     shape: &Dims,
     made: &Dims,
@@ -139,7 +139,7 @@ fn last_of(hi: &Dims) -> Dims
 }
 
 /// How many groups each axis has.
-fn group_counts(reduced: Reduced, sizes: &Dims, shape: &Dims) -> Dims
+fn group_counts(reduced: GroupedAxes, sizes: &Dims, shape: &Dims) -> Dims
     requires { AreGroupSizes sizes.now shape.now }
     ensures { result ≡ group_counts (groups_of (is_reduced reduced) sizes.now) shape.now }
 {
@@ -166,7 +166,7 @@ fn count_on(is_reduced: bool, size: u64, n: u64) -> u64
 }
 
 /// The first index of a group.
-fn group_start(reduced: Reduced, sizes: &Dims, shape: &Dims, idx: &Dims) -> Dims
+fn group_start(reduced: GroupedAxes, sizes: &Dims, shape: &Dims, idx: &Dims) -> Dims
     requires sizes { AreGroupSizes sizes.now shape.now }
     requires elements { product (at_least_one shape.now) ≤ 2 ^ 56 }
     requires inside { IsInside (group_counts (groups_of (is_reduced reduced) sizes.now) shape.now) idx.now }
@@ -192,7 +192,7 @@ fn start_on(is_reduced: bool, size: u64, group: u64) -> u64
 }
 
 /// One past the last index of a group.
-fn group_end(reduced: Reduced, sizes: &Dims, shape: &Dims, idx: &Dims) -> Dims
+fn group_end(reduced: GroupedAxes, sizes: &Dims, shape: &Dims, idx: &Dims) -> Dims
     requires sizes { AreGroupSizes sizes.now shape.now }
     requires elements { product (at_least_one shape.now) ≤ 2 ^ 56 }
     requires inside { IsInside (group_counts (groups_of (is_reduced reduced) sizes.now) shape.now) idx.now }

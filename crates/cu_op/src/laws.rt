@@ -22,7 +22,7 @@ ghost use Rattle.cu_op.specs.Operation.{reads_of, target_of, IsAligned};
 ghost use Rattle.cu_op.specs.PlanView.{PlanView};
 ghost use Rattle.cu_op.specs.Projection.{projection, instruction_count, HasSmallRegions};
 ghost use Rattle.cu_op.specs.Schedule.{op_of, task_at, WritesCell, IsReady};
-ghost use Rattle.cu_op.specs.Sound.{Sound, IsCell, KeysDiffer};
+ghost use Rattle.cu_op.specs.Sound.{Sound, IsCell, ChunkKeysDiffer};
 ghost use Rattle.cu_op.specs.Value.{Elements, rule, plan_value, stored_inputs, ReadsAt, HasTypes, Solves};
 ghost use Rattle.cu_op.specs.Walks.{written_chunks, read_chunks, EachOnce};
 ghost use Rattle.cu_zarr.specs.Spelling.{spelled};
@@ -103,7 +103,7 @@ pub fn ready_law()
 pub fn key_law()
     ensures small { (p : PlanView) (a : ℕ) (coord : List ℕ) → Sound p → a < length p.arrays → IsCoordinate (grid_at p.arrays a) coord
         → All (λ i. i < 1048576) coord }
-    ensures differ { (arrays : List ArrayInfo) → All IsArray arrays → HasOwnNames arrays → KeysDiffer arrays }
+    ensures differ { (arrays : List ArrayInfo) → All IsArray arrays → HasOwnNames arrays → ChunkKeysDiffer arrays }
 {}
 
 /// A plan of one map is sound where its parts fit, as those of the sum of two arrays of one grid and one integer type do;

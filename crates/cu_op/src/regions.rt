@@ -6,7 +6,7 @@ ghost use Rattle.cu_op.specs.Cells.{task_grid};
 ghost use Rattle.cu_op.specs.Operation.{Fits, IsNoLonger, reads_of, writes_of, target_of};
 ghost use Rattle.cu_op.specs.Walks.{walk, read_walk, whole_walk, region_walks, back_as};
 
-use crate::groups::{Reduced, chunk_walk, merge_walk};
+use crate::groups::{GroupedAxes, chunk_walk, merge_walk};
 use crate::layout::ArrayInfo;
 use crate::operation::Op;
 use crate::products::{left_walk, right_walk};
@@ -67,13 +67,13 @@ pub(crate) fn read_walks(arrays: &[ArrayInfo], op: &Op, region: &Region) -> Arra
             source,
             out,
             ..
-        } => one_walk(chunk_walk(arrays, Reduced::Named(*axes), *source, *out, region)),
+        } => one_walk(chunk_walk(arrays, GroupedAxes::Named(*axes), *source, *out, region)),
         Op::PairFold {
             axis,
             source,
             out,
             ..
-        } => one_walk(chunk_walk(arrays, Reduced::Sought(*axis), *source, *out, region)),
+        } => one_walk(chunk_walk(arrays, GroupedAxes::Sought(*axis), *source, *out, region)),
         Op::Merge {
             axis,
             group,

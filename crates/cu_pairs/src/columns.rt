@@ -19,7 +19,7 @@ pub(crate) struct Rows<'a> {
 
 /// A number and its place.
 #[derive(Clone, Copy)]
-struct Pair {
+struct NumberAtPlace {
     value: i128,
     place: i128,
 }
@@ -39,7 +39,7 @@ fn place_of(first: Option<u64>, places: &[u8], row: usize, at: usize) -> i128
 /// Whether an element takes the place of the best of the rows before: one that is as good does where its place is lesser, which a place
 /// that is counted never is.
 #[inline(always)]
-fn is_taken(least: bool, first: Option<u64>, y: Pair, x: Pair) -> bool
+fn is_taken(least: bool, first: Option<u64>, y: NumberAtPlace, x: NumberAtPlace) -> bool
     ensures { result ≡ is_taken least first (found y.value y.place) (found x.value x.place) }
 {
     let beyond = is_beyond(least, y.value, x.value);
@@ -60,11 +60,11 @@ fn take_row(least: bool, t: Dtype, rows: Rows<'_>, row: usize, values: &mut [u8]
 {
     for k in 0..rows.width {
         let at = row * rows.width + k;
-        let own = Pair {
+        let own = NumberAtPlace {
             value: load(t, rows.bytes, at),
             place: place_of(rows.first, rows.places, row, at),
         };
-        let best = Pair {
+        let best = NumberAtPlace {
             value: load(t, values, k),
             place: load(Dtype::Int64, places, k),
         };

@@ -3,7 +3,7 @@ use Rattle.std.proofs.Common.{◌≡◌, ℕ, ◌+◌, ◌<◌, List, [], ◌∷
 use Rattle.std.proofs.lemmas.List.{map_more}
 use Rattle.cu_op.specs.declared.operation.Planned.{Planned}
 use Rattle.cu_op.specs.PlanView.{operation_at, no_operation}
-use Rattle.cu_op.specs.Projection.{largest}
+use Rattle.cu_shape.specs.Counts.{largest}
 
 -- the greatest of one more
 pub peak_more : (f : Planned → ℕ) (ops : List Planned) (k peak one before : ℕ) → k < length ops → peak ≡ max one before → one ≡ f (operation_at ops k) → before ≡ largest (map f (take k ops))

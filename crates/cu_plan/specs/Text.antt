@@ -6,11 +6,11 @@ use Rattle.cu_op.specs.Cells.{tasks_of}
 use Rattle.cu_op.specs.KindText.{kind_text}
 use Rattle.cu_op.specs.Operation.{writes_of}
 use Rattle.cu_op.specs.PlanView.{PlanView}
-use Rattle.cu_op.specs.Projection.{largest}
 use Rattle.cu_op.specs.Sound.{made_chunks}
 use Rattle.cu_op.specs.declared.layout.ArrayInfo.{ArrayInfo}
 use Rattle.cu_op.specs.declared.operation.Op.{Op}
 use Rattle.cu_op.specs.declared.operation.Planned.{Planned}
+use Rattle.cu_shape.specs.Counts.{largest}
 
 -- the chunks of the arrays that an operation writes
 abbrev pub cells_of : List ArrayInfo → Op → ℕ

@@ -8,7 +8,7 @@ ghost use Rattle.cu_num.specs.declared.layout.Endian.TheVariants.{Little};
 ghost use Rattle.cu_shape.specs.Index.{product, place_of, back, IsInside};
 ghost use Rattle.cu_product.specs.Block.{left_sizes, right_sizes, product_sizes, IsReadThrough, left_number, right_number, inner_product};
 
-use crate::rows::{Sizes, clear};
+use crate::rows::{MatrixSizes, clear};
 use crate::types::multiply_matrices;
 use cu_num::{Dtype, size};
 use cu_shape::{Dims, back, index_of, place};
@@ -82,7 +82,7 @@ fn multiply_batches(
     ensures { (b : List ℕ) (i j : ℕ) → IsInside dims.now.batch b → i < dims.now.m → j < dims.now.n
         → HasNumber t out.new (place_of (product_sizes dims.now) (b ++ i ∷ j ∷ [])) (inner_product (left_number left_t dims.now left.now b i) (λ q. right_number right_t dims.now right.now b q j) dims.now.k) }
 {
-    let sizes = Sizes {
+    let sizes = MatrixSizes {
         rows: dims.m as usize,
         inner: dims.k as usize,
         columns: dims.n as usize,

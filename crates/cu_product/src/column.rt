@@ -6,7 +6,7 @@ ghost use Rattle.cu_reduce.specs.Numbers.{HasNumber};
 ghost use Rattle.cu_product.specs.Block.{inner_product};
 ghost use Rattle.cu_product.specs.Matrices.{HasProducts, numbers};
 
-use crate::rows::Sizes;
+use crate::rows::MatrixSizes;
 use cu_num::{Dtype, Fn2, load, save, scalar2, size};
 
 /// The number 0.
@@ -38,7 +38,13 @@ fn summed(t: Dtype, inner: usize, row: &[u8], column: &[u8]) -> [u8; 8]
 
 /// The product of a matrix by one column.
 #[inline(always)]
-pub(crate) fn multiply_column(t: Dtype, sizes: Sizes, left: &[u8], column: &[u8], out: &mut [u8])
+pub(crate) fn multiply_column(
+    t: Dtype,
+    sizes: MatrixSizes,
+    left: &[u8],
+    column: &[u8],
+    out: &mut [u8],
+)
     requires integer { IsInteger t }
     requires one { sizes.columns ≡ 1 }
     requires some_rows { 0 < sizes.rows }

@@ -11,7 +11,7 @@ ghost use Rattle.cu_product.specs.Block.{inner_product};
 ghost use Rattle.cu_product.specs.Matrices.{HasProducts, numbers};
 ghost use Rattle.cu_product.specs.Pairs.{pairs, column};
 
-use crate::rows::{Sizes, clear};
+use crate::rows::{MatrixSizes, clear};
 use cu_num::{Dtype, Fn2, load, save, scalar2, size};
 
 /// Adds to each of nine sums what two inner places give: `x` and `y` are the numbers of the left row, `pair` has those of the panel.
@@ -107,7 +107,14 @@ fn own_sums(t: Dtype, half: usize, panel: &[u8], out: &mut [u8])
 
 /// Copies a column of the right matrix into column `j` of a panel.
 #[inline(always)]
-fn gather_column(t: Dtype, sizes: Sizes, from: usize, j: usize, right: &[u8], panel: &mut [u8])
+fn gather_column(
+    t: Dtype,
+    sizes: MatrixSizes,
+    from: usize,
+    j: usize,
+    right: &[u8],
+    panel: &mut [u8],
+)
     requires integer { IsInteger t }
     requires from { from < sizes.columns }
     requires even { sizes.inner % 2 ≡ 0 }
@@ -129,7 +136,7 @@ fn gather_column(t: Dtype, sizes: Sizes, from: usize, j: usize, right: &[u8], pa
 
 /// Copies eight columns of the right matrix into the first eight of a panel.
 #[inline(always)]
-fn gather(t: Dtype, sizes: Sizes, first: usize, right: &[u8], panel: &mut [u8])
+fn gather(t: Dtype, sizes: MatrixSizes, first: usize, right: &[u8], panel: &mut [u8])
     requires integer { IsInteger t }
     requires fits { first + 8 ≤ sizes.columns }
     requires even { sizes.inner % 2 ≡ 0 }
@@ -147,7 +154,7 @@ fn gather(t: Dtype, sizes: Sizes, first: usize, right: &[u8], panel: &mut [u8])
 #[inline(always)]
 fn multiply_panel(
     t: Dtype,
-    sizes: Sizes,
+    sizes: MatrixSizes,
     first: usize,
     left: &[u8],
     panel: &[u8],
@@ -188,7 +195,13 @@ fn multiply_panel(
 
 /// The product of two matrices of eight columns and more, with an even number of inner places, at most 512.
 #[inline(always)]
-pub(crate) fn multiply_paired(t: Dtype, sizes: Sizes, left: &[u8], right: &[u8], out: &mut [u8])
+pub(crate) fn multiply_paired(
+    t: Dtype,
+    sizes: MatrixSizes,
+    left: &[u8],
+    right: &[u8],
+    out: &mut [u8],
+)
     requires integer { IsInteger t }
     requires some_rows { 0 < sizes.rows }
     requires some { 0 < sizes.inner }

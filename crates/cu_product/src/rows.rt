@@ -10,7 +10,7 @@ use cu_num::{Dtype, Fn2, load, save, scalar2, size, wrap};
 
 /// The rows of the left matrix, its columns, which are the rows of the right one, and the columns of the right matrix.
 #[derive(Clone, Copy)]
-pub(crate) struct Sizes {
+pub(crate) struct MatrixSizes {
     pub(crate) rows: usize,
     pub(crate) inner: usize,
     pub(crate) columns: usize,
@@ -49,7 +49,7 @@ fn multiply_row(
     left_t: Dtype,
     right_t: Dtype,
     t: Dtype,
-    sizes: Sizes,
+    sizes: MatrixSizes,
     row: &[u8],
     right: &[u8],
     out: &mut [u8],
@@ -83,7 +83,7 @@ pub(crate) fn multiply_rows(
     left_t: Dtype,
     right_t: Dtype,
     t: Dtype,
-    sizes: Sizes,
+    sizes: MatrixSizes,
     left: &[u8],
     right: &[u8],
     out: &mut [u8],

@@ -6,7 +6,7 @@ ghost use Rattle.cu_product.specs.Matrices.{HasProducts, numbers};
 
 use crate::column::multiply_column;
 use crate::paired::multiply_paired;
-use crate::rows::{Sizes, multiply_rows};
+use crate::rows::{MatrixSizes, multiply_rows};
 use cu_num::Dtype;
 
 /// The product of two matrices. Each type of results has a call of its own, so that its loops are built apart.
@@ -14,7 +14,7 @@ pub(crate) fn multiply_matrices(
     left_t: Dtype,
     right_t: Dtype,
     t: Dtype,
-    sizes: Sizes,
+    sizes: MatrixSizes,
     left: &[u8],
     right: &[u8],
     out: &mut [u8],
@@ -42,7 +42,14 @@ pub(crate) fn multiply_matrices(
 
 /// Of results of this type.
 #[inline(never)]
-fn into_int8(left_t: Dtype, right_t: Dtype, sizes: Sizes, left: &[u8], right: &[u8], out: &mut [u8])
+fn into_int8(
+    left_t: Dtype,
+    right_t: Dtype,
+    sizes: MatrixSizes,
+    left: &[u8],
+    right: &[u8],
+    out: &mut [u8],
+)
     requires some_rows { 0 < sizes.rows }
     requires some { 0 < sizes.inner }
     requires left { length left.now ≡ sizes.rows * sizes.inner * size_of left_t }
@@ -58,7 +65,7 @@ fn into_int8(left_t: Dtype, right_t: Dtype, sizes: Sizes, left: &[u8], right: &[
 fn into_int16(
     left_t: Dtype,
     right_t: Dtype,
-    sizes: Sizes,
+    sizes: MatrixSizes,
     left: &[u8],
     right: &[u8],
     out: &mut [u8],
@@ -78,7 +85,7 @@ fn into_int16(
 fn into_int32(
     left_t: Dtype,
     right_t: Dtype,
-    sizes: Sizes,
+    sizes: MatrixSizes,
     left: &[u8],
     right: &[u8],
     out: &mut [u8],
@@ -98,7 +105,7 @@ fn into_int32(
 fn into_int64(
     left_t: Dtype,
     right_t: Dtype,
-    sizes: Sizes,
+    sizes: MatrixSizes,
     left: &[u8],
     right: &[u8],
     out: &mut [u8],
@@ -118,7 +125,7 @@ fn into_int64(
 fn into_uint8(
     left_t: Dtype,
     right_t: Dtype,
-    sizes: Sizes,
+    sizes: MatrixSizes,
     left: &[u8],
     right: &[u8],
     out: &mut [u8],
@@ -138,7 +145,7 @@ fn into_uint8(
 fn into_uint16(
     left_t: Dtype,
     right_t: Dtype,
-    sizes: Sizes,
+    sizes: MatrixSizes,
     left: &[u8],
     right: &[u8],
     out: &mut [u8],
@@ -158,7 +165,7 @@ fn into_uint16(
 fn into_uint32(
     left_t: Dtype,
     right_t: Dtype,
-    sizes: Sizes,
+    sizes: MatrixSizes,
     left: &[u8],
     right: &[u8],
     out: &mut [u8],
@@ -178,7 +185,7 @@ fn into_uint32(
 fn into_uint64(
     left_t: Dtype,
     right_t: Dtype,
-    sizes: Sizes,
+    sizes: MatrixSizes,
     left: &[u8],
     right: &[u8],
     out: &mut [u8],
@@ -199,7 +206,7 @@ fn by_types(
     left_t: Dtype,
     right_t: Dtype,
     t: Dtype,
-    sizes: Sizes,
+    sizes: MatrixSizes,
     left: &[u8],
     right: &[u8],
     out: &mut [u8],
@@ -221,7 +228,7 @@ fn by_types(
 
 /// Of operands that have the type of the result.
 #[inline(always)]
-fn of_one_type(t: Dtype, sizes: Sizes, left: &[u8], right: &[u8], out: &mut [u8])
+fn of_one_type(t: Dtype, sizes: MatrixSizes, left: &[u8], right: &[u8], out: &mut [u8])
     requires integer { IsInteger t }
     requires some_rows { 0 < sizes.rows }
     requires some { 0 < sizes.inner }
@@ -243,7 +250,7 @@ fn of_one_type(t: Dtype, sizes: Sizes, left: &[u8], right: &[u8], out: &mut [u8]
 
 /// Whether two inner places can be taken by one multiplication, with as many rows as repay the copies of the right matrix.
 #[inline(always)]
-fn has_pairs(sizes: Sizes) -> bool
+fn has_pairs(sizes: MatrixSizes) -> bool
     ensures columns { result ≡ true → 8 ≤ sizes.columns }
     ensures few { result ≡ true → sizes.inner ≤ 512 }
     ensures even { result ≡ true → sizes.inner % 2 ≡ 0 }
@@ -253,7 +260,7 @@ fn has_pairs(sizes: Sizes) -> bool
 
 /// By pairs of inner places.
 #[inline(never)]
-fn paired_int64(sizes: Sizes, left: &[u8], right: &[u8], out: &mut [u8])
+fn paired_int64(sizes: MatrixSizes, left: &[u8], right: &[u8], out: &mut [u8])
     requires some_rows { 0 < sizes.rows }
     requires some { 0 < sizes.inner }
     requires few { sizes.inner ≤ 512 }
@@ -269,7 +276,7 @@ fn paired_int64(sizes: Sizes, left: &[u8], right: &[u8], out: &mut [u8])
 
 /// By pairs of inner places.
 #[inline(never)]
-fn paired_uint64(sizes: Sizes, left: &[u8], right: &[u8], out: &mut [u8])
+fn paired_uint64(sizes: MatrixSizes, left: &[u8], right: &[u8], out: &mut [u8])
     requires some_rows { 0 < sizes.rows }
     requires some { 0 < sizes.inner }
     requires few { sizes.inner ≤ 512 }
@@ -289,7 +296,7 @@ fn by_right_type(
     left_t: Dtype,
     right_t: Dtype,
     t: Dtype,
-    sizes: Sizes,
+    sizes: MatrixSizes,
     left: &[u8],
     right: &[u8],
     out: &mut [u8],

@@ -23,7 +23,7 @@ use Rattle.cu_read.specs.Lists.{entries_of}
 use Rattle.cu_read.specs.Members.{integer_of, literal_of, natural_of, dtype_of, name_of, integers_of, sizes_of, chunk_sizes_of, member_of, member_or, or_null, present}
 use Rattle.cu_read.specs.NewShape.{IsNewShape, new_shape_in, new_shape_row}
 use Rattle.cu_read.specs.Node.{or_row, row_of}
-use Rattle.cu_read.specs.Reduction.{fold_named, reduce_in, place_in, matmul_in, reduce_row, reduction_row}
+use Rattle.cu_read.specs.Reduction.{fold_named, reduce_in, search_in, matmul_in, reduce_row, reduction_row}
 use Rattle.cu_read.specs.View.{triangle_in, index_in, concat_in, stack_in, permute_dims_in, flip_in, roll_in, broadcast_to_in, rechunk_in, view_row}
 use Rattle.cu_read.specs.declared.faults.NodeCode.{NodeCode}
 use Rattle.cu_read.specs.Args.{args_in}
@@ -137,7 +137,7 @@ reduce_says : (kind : FoldKind) (ids : List (List ℕ)) (op : List ℕ) (d : Dat
 reduce_says kind ids op d is = two_members (is_object_of (3 + present (codes "axes") d + present (codes "keepdims") d) d) (member_or None (or_null integers_of) (codes "axes") d) (member_or false as_bool (codes "keepdims") d) (args_in ids d) (λ x y xs. Form.Reduce kind xs x y) (IsRow ids op d)
     (λ m x a y b xs r. (is, m, a, b, args_are ids d xs r))
 
-place_says : (least : Bool) (ids : List (List ℕ)) (op : List ℕ) (d : Data) → op ≡ place_name least → IfOk (place_in least ids d) (IsRow ids op d)
+place_says : (least : Bool) (ids : List (List ℕ)) (op : List ℕ) (d : Data) → op ≡ place_name least → IfOk (search_in least ids d) (IsRow ids op d)
 place_says least ids op d is = two_members (is_object_of (3 + present (codes "axis") d + present (codes "keepdims") d) d) (member_or None (or_null integer_of) (codes "axis") d) (member_or false as_bool (codes "keepdims") d) (args_in ids d) (λ x y xs. Form.ArgPlace least xs x y) (IsRow ids op d)
     (λ m x a y b xs r. (is, m, a, b, args_are ids d xs r))
 

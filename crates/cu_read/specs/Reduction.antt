@@ -30,8 +30,8 @@ reduce_in kind ids d = do
   args ← args_in ids d
   Ok (Form.Reduce kind args axes keepdims)
 
-abbrev pub place_in : Bool → List (List ℕ) → Data → Result Form NodeCode
-place_in least ids d = do
+abbrev pub search_in : Bool → List (List ℕ) → Data → Result Form NodeCode
+search_in least ids d = do
   _ ← has_members (3 + present (codes "axis") d + present (codes "keepdims") d) d
   axis ← optional None (or_null integer_of) (codes "axis") d
   keepdims ← optional false as_bool (codes "keepdims") d
@@ -51,7 +51,7 @@ reduce_row (Some kind) ids d = reduce_in kind ids d
 -- the row of an operator of this family
 abbrev pub reduction_row : List ℕ → List (List ℕ) → Data → Result Form NodeCode
 reduction_row op ids d =
-    if bytes_eq op (codes "argmin") then place_in true ids d
-    else if bytes_eq op (codes "argmax") then place_in false ids d
+    if bytes_eq op (codes "argmin") then search_in true ids d
+    else if bytes_eq op (codes "argmax") then search_in false ids d
     else if bytes_eq op (codes "matmul") then matmul_in ids d
     else reduce_row (fold_named op) ids d

@@ -2,7 +2,7 @@
 ghost use Rattle.std.specs.Prelude.{◌≡◌};
 ghost use Rattle.serde_json.specs.View.{view};
 ghost use Rattle.cu_read.specs.Faults.{Gives};
-ghost use Rattle.cu_read.specs.Reduction.{fold_named, reduce_in, place_in, matmul_in, reduction_row};
+ghost use Rattle.cu_read.specs.Reduction.{fold_named, reduce_in, search_in, matmul_in, reduction_row};
 
 use crate::args::args_in;
 use crate::faults::{NodeCode, NodeRefused};
@@ -48,7 +48,7 @@ fn reduce_in(alloc: Global, kind: FoldKind, ids: &Ids, value: &Value) -> Result<
 }
 
 fn place_in(alloc: Global, least: bool, ids: &Ids, value: &Value) -> Result<Form, NodeRefused>
-    ensures { Gives result (place_in least ids.now (view value.now)) }
+    ensures { Gives result (search_in least ids.now (view value.now)) }
 {
     has_members(
         value,

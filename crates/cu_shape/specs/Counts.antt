@@ -10,3 +10,8 @@ counts_of shape chunk = axis_by_axis div_ceil shape chunk
 -- sizes in which an axis of size 0 counts as one
 abbrev pub at_least_one : List ℕ → List ℕ
 at_least_one sizes = map (λ n. max 1 n) sizes
+
+-- the greatest of some numbers; of none it is 0
+abbrev pub largest : List ℕ → ℕ
+largest [] = 0
+largest (x ∷ xs) = max x (largest xs)

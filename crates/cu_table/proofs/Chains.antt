@@ -5,13 +5,13 @@ use Rattle.std.proofs.lemmas.Bool.{eq-eqb, ne_eqb}
 use Rattle.std.proofs.lemmas.List.{get_or-map, length-map, map-set, get_or-set_same, get_or-set_other, length-set, get_or_default}
 use Rattle.std.proofs.lemmas.List.Elements.{All-map, All-set, All-cons, All-head, All-tail, All-nil}
 use Rattle.std.proofs.lemmas.List.Sums.{sum_by-cons, get_or-le-sum_by}
-use Rattle.cu_table.specs.declared.watch.Head.{Head}
+use Rattle.cu_table.specs.declared.watch.ListHead.{ListHead}
 use Rattle.cu_table.specs.Queue.{Lists, chain, chain_of, times_in}
 
-abbrev pub no_head : Head
+abbrev pub no_head : ListHead
 no_head = record { first = 0; count = 0 }
 
-abbrev pub lists_of : List ℕ → List Head → List (List ℕ)
+abbrev pub lists_of : List ℕ → List ListHead → List (List ℕ)
 lists_of nexts heads = map (chain_of nexts) heads
 
 abbrev IsBelow : ℕ → List ℕ → Type 0
@@ -49,7 +49,7 @@ chain_other nexts task v (suc count) first none =
     ap (λ (x : ℕ). first ∷ chain (set nexts task v) count x) (get_or-set_other nexts task first v 0 apart)
     ∙ ap (λ (xs : List ℕ). first ∷ xs) (chain_other nexts task v count (get_or nexts first 0) rest)
 
-lists_other : (nexts : List ℕ) (task v : ℕ) (heads : List Head) → sum_by (times_in task) (lists_of nexts heads) ≡ 0 → lists_of (set nexts task v) heads ≡ lists_of nexts heads
+lists_other : (nexts : List ℕ) (task v : ℕ) (heads : List ListHead) → sum_by (times_in task) (lists_of nexts heads) ≡ 0 → lists_of (set nexts task v) heads ≡ lists_of nexts heads
 lists_other nexts task v [] none = refl
 lists_other nexts task v (h ∷ hs) none =
     let s = sum_by-cons (times_in task) (chain_of nexts h) (lists_of nexts hs) in
@@ -58,17 +58,17 @@ lists_other nexts task v (h ∷ hs) none =
     ap (λ (xs : List ℕ). xs ∷ lists_of (set nexts task v) hs) (chain_other nexts task v h.count h.first here)
     ∙ ap (λ (ls : List (List ℕ)). chain_of nexts h ∷ ls) (lists_other nexts task v hs rest)
 
-unmapped : (P : List ℕ → Type 0) (f : Head → List ℕ) (hs : List Head) → All P (map f hs) → All (λ h. P (f h)) hs
+unmapped : (P : List ℕ → Type 0) (f : ListHead → List ℕ) (hs : List ListHead) → All P (map f hs) → All (λ h. P (f h)) hs
 unmapped P f hs all k d l = subst P (get_or-map f hs k d (f d) l) (all k (f d) (let n = length-map hs f in omega (arith, n, l)))
 
-module _ (v : Lists) (nexts : List ℕ) (heads : List Head) (is : record { size = length nexts; lists = lists_of nexts heads } ≡ v) (thing : ℕ) (within : thing < length v.lists) where
+module _ (v : Lists) (nexts : List ℕ) (heads : List ListHead) (is : record { size = length nexts; lists = lists_of nexts heads } ≡ v) (thing : ℕ) (within : thing < length v.lists) where
   pub lists_is : lists_of nexts heads ≡ v.lists
   lists_is = ap (λ (x : Lists). x.lists) is
 
   pub thing_in : thing < length heads
   thing_in = let a = ap length lists_is in let b = length-map heads (chain_of nexts) in omega (arith, a, b, within)
 
-  module _ (h : Head) (at : h ≡ get_or heads thing h) where
+  module _ (h : ListHead) (at : h ≡ get_or heads thing h) where
     pub list_at : get_or v.lists thing [] ≡ chain_of nexts h
     list_at =
         ap (λ (ls : List (List ℕ)). get_or ls thing []) (sym lists_is) ∙ get_or-map (chain_of nexts) heads thing no_head [] thing_in
@@ -133,7 +133,7 @@ module _ (v : Lists) (nexts : List ℕ) (heads : List Head) (is : record { size 
       first_small = let s = ap (λ (y : Lists). y.size) is in let a = first_in in omega (arith, s, a)
 
       module _ (x : ℕ) (next : x ≡ get_or nexts h.first x) where
-        abbrev less : Head
+        abbrev less : ListHead
         less = record { first = x; count = h.count - 1 }
 
         chain_less : chain_of nexts less ≡ chain nexts (h.count - 1) (get_or nexts h.first 0)
@@ -165,9 +165,9 @@ module _ (v : Lists) (nexts : List ℕ) (heads : List Head) (is : record { size 
 
 -- ---- empty lists
 
-pub empty_lists : (nexts : List ℕ) (heads : List Head) (n : ℕ) → heads ≡ replicate n no_head → All (λ l. l ≡ []) (lists_of nexts heads)
-empty_lists nexts heads n is = subst (λ (hs : List Head). All (λ l. l ≡ []) (lists_of nexts hs)) (sym is) (All-map (λ (l : List ℕ). l ≡ []) (chain_of nexts) (replicate n no_head) (each n))
+pub empty_lists : (nexts : List ℕ) (heads : List ListHead) (n : ℕ) → heads ≡ replicate n no_head → All (λ l. l ≡ []) (lists_of nexts heads)
+empty_lists nexts heads n is = subst (λ (hs : List ListHead). All (λ l. l ≡ []) (lists_of nexts hs)) (sym is) (All-map (λ (l : List ℕ). l ≡ []) (chain_of nexts) (replicate n no_head) (each n))
   where
     each : (n : ℕ) → All (λ h. chain_of nexts h ≡ []) (replicate n no_head)
-    each zero = All-nil (λ (h : Head). chain_of nexts h ≡ [])
-    each (suc n) = All-cons (λ (h : Head). chain_of nexts h ≡ []) no_head (replicate n no_head) refl (each n)
+    each zero = All-nil (λ (h : ListHead). chain_of nexts h ≡ [])
+    each (suc n) = All-cons (λ (h : ListHead). chain_of nexts h ≡ []) no_head (replicate n no_head) refl (each n)

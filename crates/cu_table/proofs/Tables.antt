@@ -18,7 +18,7 @@ use Rattle.cu_table.specs.declared.state.TaskState.{TaskState}
 use Rattle.cu_table.specs.Numbers.{task_count, task_number}
 use Rattle.cu_table.specs.Machine.{Machine, no_task, state_at, AllDone, IsSingleState, NoneWaits, NoneSingle, RunsNothing, opening, one_copy_more, copy_started, copy_of}
 use Rattle.cu_table.specs.Step.{CanStart, Step, Replays}
-use Rattle.cu_table.specs.Table.{TableView, IsClaim, claim_of, Goes, start_of, undone_weight}
+use Rattle.cu_table.specs.Table.{TableView, IsClaim, claim_of, Goes, start_event, undone_weight}
 use Rattle.cu_table.specs.Queue.{Lined, times_in, of_tasks, IsLined, IsQueue, IsTable, IsNextTask, HasNoNext}
 use Rattle.cu_table.proofs.Numbers.{number_some}
 use Rattle.cu_table.proofs.Copies.{a_copy, some_copy}
@@ -136,7 +136,7 @@ module _ (v : TableView) (u : Undone) (q : Lined) (table : IsTable v u q) where
 
       module _ (worker : ℕ) (free : RunsNothing v.state worker) where
         abbrev pub start_entry : Entry
-        start_entry = start_of v.settings.plan worker id.op id.task
+        start_entry = start_event v.settings.plan worker id.op id.task
 
         abbrev pub start_machine : Machine
         start_machine = copy_started v.settings.plan v.state start_entry
@@ -214,9 +214,9 @@ pub sound_as : (v w : TableView) → v ≡ w → Sound v.settings.plan → Sound
 sound_as v w e sound = subst (λ (x : TableView). Sound x.settings.plan) e sound
 
 -- a start as it is told
-pub started_as : (v w x : TableView) (worker : ℕ) (id : TaskId) (copy : ℕ) (m : Machine) → v ≡ w → x ≡ gone v (start_of v.settings.plan worker id.op id.task) m
-    → Goes v (gone v (start_of v.settings.plan worker id.op id.task) m) (start_of v.settings.plan worker id.op id.task) → copy ≡ (state_at v.settings.plan v.state id.op id.task).copies
-    → Goes w x (start_of w.settings.plan worker id.op id.task) × (copy ≡ (state_at w.settings.plan w.state id.op id.task).copies)
+pub started_as : (v w x : TableView) (worker : ℕ) (id : TaskId) (copy : ℕ) (m : Machine) → v ≡ w → x ≡ gone v (start_event v.settings.plan worker id.op id.task) m
+    → Goes v (gone v (start_event v.settings.plan worker id.op id.task) m) (start_event v.settings.plan worker id.op id.task) → copy ≡ (state_at v.settings.plan v.state id.op id.task).copies
+    → Goes w x (start_event w.settings.plan worker id.op id.task) × (copy ≡ (state_at w.settings.plan w.state id.op id.task).copies)
 started_as v w x worker id copy m e x_is went before =
-    subst (λ (y : TableView). Goes y x (start_of y.settings.plan worker id.op id.task) × (copy ≡ (state_at y.settings.plan y.state id.op id.task).copies)) e
-    (subst (λ (y : TableView). Goes v y (start_of v.settings.plan worker id.op id.task)) (sym x_is) went, before)
+    subst (λ (y : TableView). Goes y x (start_event y.settings.plan worker id.op id.task) × (copy ≡ (state_at y.settings.plan y.state id.op id.task).copies)) e
+    (subst (λ (y : TableView). Goes v y (start_event v.settings.plan worker id.op id.task)) (sym x_is) went, before)

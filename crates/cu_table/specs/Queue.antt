@@ -19,7 +19,7 @@ use Rattle.cu_table.specs.declared.state.Ending.{Ending}
 use Rattle.cu_table.specs.declared.state.RunningCopy.{RunningCopy}
 use Rattle.cu_table.specs.declared.state.TaskId.{TaskId}
 use Rattle.cu_table.specs.declared.state.TaskState.{TaskState}
-use Rattle.cu_table.specs.declared.watch.Head.{Head}
+use Rattle.cu_table.specs.declared.watch.ListHead.{ListHead}
 use Rattle.cu_table.specs.Numbers.{IsTask, first_task, task_count, task_number}
 use Rattle.cu_table.specs.Machine.{Machine, no_task, done_now, failed_now, one_copy_less, state_at, IsDone, IsWaiting, IsSingleState, MakesInput, AreInputsDone}
 use Rattle.cu_table.specs.Step.{Replays}
@@ -52,7 +52,7 @@ abbrev pub chain : List ℕ → ℕ → ℕ → List ℕ
 chain nexts zero first = []
 chain nexts (suc count) first = first ∷ chain nexts count (slice_index_or nexts first 0)
 
-abbrev pub chain_of : List ℕ → Head → List ℕ
+abbrev pub chain_of : List ℕ → ListHead → List ℕ
 chain_of nexts h = chain nexts h.count h.first
 
 -- how often a task stands in a list

@@ -35,8 +35,8 @@ pub record Goes (old new : TableView) (e : Entry) : Type 0 where
 
 -- ---- claims
 
-abbrev pub start_of : PlanView → ℕ → ℕ → ℕ → Entry
-start_of p worker op task = record { kind = Start; worker = worker; op = op; task = task; room = projection p.arrays p.reserved (op_of p op) }
+abbrev pub start_event : PlanView → ℕ → ℕ → ℕ → Entry
+start_event p worker op task = record { kind = Start; worker = worker; op = op; task = task; room = projection p.arrays p.reserved (op_of p op) }
 
 -- nothing can be started: no ready task waits, and no second copy may begin
 abbrev pub NoneStarts : Settings → Machine → Type 0
@@ -45,7 +45,7 @@ NoneStarts s m = NoneWaits s.plan m × (s.backups ≡ true → NoneSingle s.plan
 -- when each answer comes, and what it leaves
 abbrev pub IsClaim : TableView → ℕ → Claim → TableView → Type 0
 IsClaim old worker (claim.Run op task copy) new =
-    Goes old new (start_of old.settings.plan worker op task) × (copy ≡ (state_at old.settings.plan old.state op task).copies)
+    Goes old new (start_event old.settings.plan worker op task) × (copy ≡ (state_at old.settings.plan old.state op task).copies)
 IsClaim old worker claim.Idle new = (new ≡ old) × (old.state.ended ≡ None) × (AllDone old.settings.plan old.state → ⊥) × NoneStarts old.settings old.state
 IsClaim old worker claim.Finished new = (new ≡ old) × (old.state.ended ≡ None) × AllDone old.settings.plan old.state
 IsClaim old worker (claim.Broken op task) new = (new ≡ old) × (old.state.ended ≡ Some (Broken op task))

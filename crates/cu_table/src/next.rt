@@ -3,7 +3,7 @@ ghost use Rattle.std.specs.Prelude.{◌≡◌, ◌<◌, ◌≤◌, ◌↔◌, �
 ghost use Rattle.cu_table.specs.Numbers.{IsTask, task_count, task_number};
 ghost use Rattle.cu_table.specs.Machine.{no_task, one_copy_more, IsSingleState};
 ghost use Rattle.cu_table.specs.Queue.{IsNextTask, HasNoNext, NoneAlone};
-ghost use Rattle.cu_table.specs.Table.{start_of};
+ghost use Rattle.cu_table.specs.Table.{start_event};
 
 use crate::queue::Queue;
 use crate::records::Records;
@@ -69,7 +69,7 @@ pub(crate) fn start(tasks: &Tasks, records: &mut Records, worker: u32, id: TaskI
     requires history { vec_len records.old.history < vec_capacity records.old.history }
     requires copies { vec_len records.old.copies < vec_capacity records.old.copies }
     ensures before { result ≡ (slice_index_or records.old.tasks.items (task_number tasks.now id.op id.task) no_task).copies }
-    ensures history { records.new.history.items ≡ records.old.history.items ++ start_of tasks.now worker id.op id.task ∷ [] }
+    ensures history { records.new.history.items ≡ records.old.history.items ++ start_event tasks.now worker id.op id.task ∷ [] }
     ensures tasks { records.new.tasks.items ≡ set records.old.tasks.items (task_number tasks.now id.op id.task)
         (one_copy_more (slice_index_or records.old.tasks.items (task_number tasks.now id.op id.task) no_task)) }
     ensures copies { records.new.copies.items ≡ records.old.copies.items ++ (record { worker = worker; op = id.op; task = id.task }) ∷ [] }

@@ -9,7 +9,7 @@ use std::marker::Model;
 
 /// The first task of a list and how many there are.
 #[derive(Clone, Copy)]
-pub(crate) struct Head {
+pub(crate) struct ListHead {
     first: u32,
     count: u32,
 }
@@ -17,7 +17,7 @@ pub(crate) struct Head {
 /// Lists of tasks by their numbers.
 #[derive(Drop)]
 pub(crate) struct Watchers {
-    heads: Vec<Head>,
+    heads: Vec<ListHead>,
     nexts: Vec<u32>,
 }
 
@@ -39,7 +39,7 @@ impl Watchers {
         ensures things { IfOk result (λ w. length w.lists ≡ things) }
         ensures empty { IfOk result (λ w. All (λ l. l ≡ []) w.lists) }
     {
-        let Ok(heads) = vec![in alloc; Head { first: 0, count: 0 }; things] else {
+        let Ok(heads) = vec![in alloc; ListHead { first: 0, count: 0 }; things] else {
             return Err(NoMemory);
         };
         let Ok(nexts) = vec![in alloc; 0u32; tasks] else {
@@ -59,7 +59,7 @@ impl Watchers {
     {
         let head = self.heads[thing];
         self.nexts[task as usize] = head.first;
-        self.heads[thing] = Head {
+        self.heads[thing] = ListHead {
             first: task,
             count: head.count + 1,
         };
@@ -78,7 +78,7 @@ impl Watchers {
         if head.count == 0 {
             return None;
         }
-        self.heads[thing] = Head {
+        self.heads[thing] = ListHead {
             first: self.nexts[head.first as usize],
             count: head.count - 1,
         };

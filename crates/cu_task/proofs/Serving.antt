@@ -7,7 +7,7 @@ use Rattle.cu_grid.proofs.Parting.{has_coordinate, lies_within, inner_inside}
 use Rattle.cu_store.specs.Chunks.{Keeps, Allows}
 use Rattle.cu_store.specs.Held.{Contents, IsAmong, Holds}
 use Rattle.cu_store.specs.Steps.{Shown}
-use Rattle.cu_store.specs.Yard.{Served, Known, Fits, IsTold, MayGet, MayPut, is_made, known_to_hold, shown_by}
+use Rattle.cu_store.specs.Yard.{Served, Known, FitsYard, IsTold, MayGet, MayPut, is_made, known_to_hold, shown_by}
 use Rattle.cu_store.specs.declared.faults.TaskFault.{TaskFault}
 use Rattle.cu_store.specs.declared.faults.TaskFault.TheVariants.{Store, BadChunk, NoMemory}
 use Rattle.cu_store.proofs.Specs.{made_is_served}
@@ -97,7 +97,7 @@ module _ (p : PlanView) (sound : Sound p) where
       ∙ spelled_element l (plan_value p env a) idx bytes x value (inside-length g.shape idx inside ∙ sym ok.ranks) (inner_inside g idx ok inside) inside is fits
       ∙ sym is
 
-  module _ (yard : Served) (pass : Known) (fits : Fits yard pass) (serves : ServesPlan p yard) where
+  module _ (yard : Served) (pass : Known) (fits : FitsYard yard pass) (serves : ServesPlan p yard) where
     -- what is promised where contents are told
     promised_value : (promise entries : Contents) → yard.promise ≡ Some promise → yard.entries ≡ Some entries → (c : Cell) → IsCell p.arrays c.array c.coord
         → promise (key_of p.arrays c) ≡ cell_value p (stored_inputs p.arrays entries) c
@@ -205,7 +205,7 @@ module _ (p : PlanView) (sound : Sound p) where
 abbrev pub HaveTypes : Type 0
 HaveTypes = (arrays : List ArrayInfo) (held : Contents) → All IsArray arrays → HasTypes arrays (stored_inputs arrays held)
 
-module _ (p : PlanView) (sound : Sound p) (ranges : HaveRanges) (types : HaveTypes) (yard : Served) (pass : Known) (fits : Fits yard pass) (serves : ServesPlan p yard)
+module _ (p : PlanView) (sound : Sound p) (ranges : HaveRanges) (types : HaveTypes) (yard : Served) (pass : Known) (fits : FitsYard yard pass) (serves : ServesPlan p yard)
     (k task : ℕ) (operation : k < length p.ops) (number : task < tasks_of p.arrays (op_of p k)) (seen : HasSeenInputs p k task pass.seen) where
   pub may_write : Allows (TaskChange p k task (shown_by pass)) (MayPut yard)
   may_write key bytes (c, put, listed, at, is, valued) = record {
@@ -245,7 +245,7 @@ module _ (p : PlanView) (sound : Sound p) (ranges : HaveRanges) (types : HaveTyp
           (c, chunk, given, is, size, other, subst (λ (o : Option Contents). HoldsLength o key got) (sym (fits.entries ∙ told)) in_entries)
 
 -- inputs that were seen are seen after calls
-pub inputs_stay : (p : PlanView) (sound : Sound p) (yard : Served) (old new : Known) → ServesPlan p yard → Fits yard old → (k task : ℕ) (operation : k < length p.ops) (number : task < tasks_of p.arrays (op_of p k))
+pub inputs_stay : (p : PlanView) (sound : Sound p) (yard : Served) (old new : Known) → ServesPlan p yard → FitsYard yard old → (k task : ℕ) (operation : k < length p.ops) (number : task < tasks_of p.arrays (op_of p k))
     → Keeps (MayGet yard.specs old.seen) (MayGet yard.specs new.seen) → HasSeenInputs p k task old.seen → HasSeenInputs p k task new.seen
 inputs_stay p sound yard old new serves fits k task operation number gets seen c listed made =
     let own = serves.cells c (cell_of p sound yard old fits serves k task operation number c listed made) in

@@ -9,7 +9,7 @@ use Rattle.cu_store.specs.Share.{Lent, KeysDiffer, IsPromiseOf, HoldsPromised, L
 use Rattle.cu_store.specs.Steps.{Shown}
 use Rattle.cu_store.specs.Yard.{bytes_under, is_made, is_served, Served, Known, MayPut}
 use Rattle.cu_store.specs.declared.yard.Spec.{Spec}
-use Rattle.cu_threads.specs.Pairs.{IsPair, made_of, pair_specs, pair_map, lent_pair, HoldsNothing, IsFresh}
+use Rattle.cu_threads.specs.Pairs.{IsPair, made_of, pair_specs, pair_map, lent_pair, HoldsNothing, IsEmptyDepot}
 
 true_false : true ≡ false → ⊥
 true_false e = cc
@@ -115,7 +115,7 @@ nothing_unsteady : (specs : List Spec) (held : Option Contents) → LateSteady s
 nothing_unsteady specs None = tt
 nothing_unsteady specs (Some held) = λ key bytes served read among. absurd among
 
-pub may_share : (a b bs : List ℕ) (s : Shown) → IsPair a b bs → IsFresh s → MayShare (lent_pair a b bs) s
+pub may_share : (a b bs : List ℕ) (s : Shown) → IsPair a b bs → IsEmptyDepot s → MayShare (lent_pair a b bs) s
 may_share a b bs s pair fresh = let l = lent_pair a b bs in record {
   promise = pair_promise a b bs pair;
   held = nothing_held l s.held fresh.0;

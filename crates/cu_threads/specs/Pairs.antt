@@ -32,5 +32,5 @@ HoldsNothing None = Unit {0}
 HoldsNothing (Some held) = (key : List ℕ) → held key ≡ None
 
 -- nothing is held, and no put is late
-abbrev pub IsFresh : Shown → Type 0
-IsFresh s = HoldsNothing s.held × (s.late ≡ [])
+abbrev pub IsEmptyDepot : Shown → Type 0
+IsEmptyDepot s = HoldsNothing s.held × (s.late ≡ [])

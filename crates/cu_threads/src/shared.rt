@@ -1,7 +1,7 @@
 //! Three threads over two keys that a depot shares.
 ghost use Rattle.std.specs.Prelude.{◌≡◌, IfSome};
 ghost use Rattle.cu_store.specs.Held.{Holds};
-ghost use Rattle.cu_threads.specs.Pairs.{IsPair, IsFresh, pair_map};
+ghost use Rattle.cu_threads.specs.Pairs.{IsPair, IsEmptyDepot, pair_map};
 
 use crate::pair::{Pair, made, promised};
 use crate::race::run;
@@ -20,7 +20,7 @@ fn exchange_promised<K: Promised, D: Share, R: Threads + Sync>(
 ) -> Option<bool>
     requires names { K.map ≡ pair_map pair.now.a pair.now.b pair.now.bytes }
     requires pair { IsPair pair.now.a pair.now.b pair.now.bytes }
-    requires fresh { IsFresh (D.shown depot.old) }
+    requires fresh { IsEmptyDepot (D.shown depot.old) }
     ensures a { IfSome result (λ all. Holds (D.shown depot.new).held pair.now.a pair.now.bytes) }
     ensures b { IfSome result (λ all. Holds (D.shown depot.new).held pair.now.b pair.now.bytes) }
 {
@@ -47,7 +47,7 @@ pub fn exchange<D: Share, R: Threads + Sync>(
     times: u32,
 ) -> Option<bool>
     requires pair { IsPair pair.now.a pair.now.b pair.now.bytes }
-    requires fresh { IsFresh (D.shown depot.old) }
+    requires fresh { IsEmptyDepot (D.shown depot.old) }
     ensures a { IfSome result (λ all. Holds (D.shown depot.new).held pair.now.a pair.now.bytes) }
     ensures b { IfSome result (λ all. Holds (D.shown depot.new).held pair.now.b pair.now.bytes) }
 {

@@ -13,7 +13,7 @@ use Rattle.cu_command.specs.declared.job.Job.{Job}
 use Rattle.cu_command.specs.declared.status.Status.{Status}
 use Rattle.cu_command.specs.declared.status.Status.TheVariants.{Done, BadWords, BadExpr, BadType, OverMemory, OverLimit, BadMeta, NoArray, Exists, TaskFailed, ReadFault, WriteFault, BadChunk, DepotFailed, BadLoad, NoMemory}
 use Rattle.cu_lower.specs.declared.options.Options.{Options}
-use Rattle.cu_top.specs.Call.{RunTells, IsRefusedText}
+use Rattle.cu_top.specs.Call.{RunTells, IsExpressionRefused}
 use Rattle.cu_top.specs.Drop.{Dropped, DropTells}
 use Rattle.cu_top.specs.Resume.{WasResumed, ResumeTells}
 use Rattle.cu_top.specs.Run.{Scene, RunCase, case, Ran}
@@ -79,7 +79,7 @@ module _ (c : RunCase) (f : ExpressionFault) (err : expression_of c.text ≡ Err
   no_job job is = not_both (expression_of c.text) job.expr f is.said err
 
   -- it is refused, or memory was wanted
-  pub refused_run : (lack : Bool) (status : Status) → Ran lack c status → IsRefusedText f status
+  pub refused_run : (lack : Bool) (status : Status) → Ran lack c status → IsExpressionRefused f status
   refused_run lack (BadExpr code node) ran =
       let same = same_fault (expression_of c.text) f (record { code = code; node = node }) err ran.1 in
       (sym (ap (λ (x : ExpressionFault). x.code) same), sym (ap (λ (x : ExpressionFault). x.node) same))
@@ -101,7 +101,7 @@ module _ (c : RunCase) (f : ExpressionFault) (err : expression_of c.text ≡ Err
 
 -- so does the command
 pub refused_text : (lack : Bool) (options : Options) (old new : Scene) (left : List ℕ) (f : ExpressionFault) (status : Status) → old.source.told ≡ Some left → expression_of left ≡ Err f → RunTells lack options old new status
-    → IsRefusedText f status
+    → IsExpressionRefused f status
 refused_text lack options old new left f ReadFault told err tells = tt
 refused_text lack options old new left f NoMemory told err tells = tt
 refused_text lack options old new left f status told err (text, read, ran) =

@@ -2,7 +2,7 @@
 use Rattle.std.proofs.Common.{◌≡◌, ◌≢◌, ◌⊎◌, ℕ, ◌+◌, ◌<◌, Bool, true, false, List, length, Contains, Option, Some, None, Ok, refl, sym, ◌∙◌, subst, inl, inr, arith}
 use Rattle.std.proofs.lemmas.List.Elements.{All-contains}
 use Rattle.cu_store.specs.Faults.{Rose}
-use Rattle.cu_store.specs.Held.{Contents, Write, IsAmong}
+use Rattle.cu_store.specs.Held.{Contents, Write, IsAmong, IsHeldIn}
 use Rattle.cu_store.specs.Steps.{NoChange, OrLate, Lands}
 use Rattle.cu_op.specs.declared.cells.Cell.{Cell}
 use Rattle.cu_grid.specs.Grid.{IsCoordinate}
@@ -13,7 +13,7 @@ use Rattle.cu_region.specs.Steady.{HoldsLength}
 use Rattle.cu_state.specs.Left.{RunChange}
 use Rattle.cu_state.specs.Pieces.{Chunk, IsInputChunk, IsPiece, piece_key}
 use Rattle.cu_work.specs.Drive.{IsBadChunk, IsInputKey}
-use Rattle.cu_work.specs.Order.{IsFree, IsHeldIn}
+use Rattle.cu_work.specs.Order.{IsFree}
 use Rattle.cu_command.proofs.JobLemmas.{only_memory}
 use Rattle.cu_command.specs.Job.{IsJob, IsTypable, StoodStill}
 use Rattle.cu_command.specs.Streams.{ReadsAll}

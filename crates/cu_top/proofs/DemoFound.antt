@@ -42,7 +42,7 @@ use Rattle.cu_lower.specs.declared.options.Options.{Options}
 use Rattle.cu_top.proofs.DemoWhole.{OnlyInputs, demo_whole}
 use Rattle.cu_top.proofs.DemoKeys.{is_inputs, put_key, piece_apart, listed_apart, no_zarray_put}
 use Rattle.cu_top.specs.Complete.{AreWhole}
-use Rattle.cu_top.specs.Demo.{AreInputsCalm, HidesNone, InputsPut, IsDemoCalm, FoundByDemo, StoresInputs, WhereTold, demo_array}
+use Rattle.cu_top.specs.Demo.{AreInputsCalm, HidesNone, InputsPut, IsDemoCalm, FoundByDemo, StoresDemoInputs, WhereTold, demo_array}
 use Rattle.cu_top.specs.Prepare.{job_plan, asked_keys, out_metadata, HasNoOwnInput, HasPlan}
 use Rattle.cu_top.specs.Quiet.{IsCalm, IsCalmFor, run_of_job}
 use Rattle.cu_top.specs.Record.{record_text}
@@ -139,12 +139,12 @@ module _ (n : ℕ) (old start : Shown) (both : Stepped (InputsPut n) old start) 
     | inr second ↦ both.step.late key bytes second
   ]
 
-  stores_found : (a b : Option Contents) → StoresInputs n b → StoresInputs n (overlay_held a b)
+  stores_found : (a b : Option Contents) → StoresDemoInputs n b → StoresDemoInputs n (overlay_held a b)
   stores_found None b stores = (tt, tt)
   stores_found (Some a) None stores = (tt, tt)
   stores_found (Some a) (Some b) stores = stores
 
-  pub is_found : (AreInputsCalm n old.late → StoresInputs n start.held) → FoundByDemo n old (found_of old start)
+  pub is_found : (AreInputsCalm n old.late → StoresDemoInputs n start.held) → FoundByDemo n old (found_of old start)
   is_found stores = record {
     lands = lands_until old.held start.held both.step.lands;
     late = late_found;
@@ -165,7 +165,7 @@ held_put a held key bytes stores (inr (k, below, (b, given, (at, is)))) =
     let (own, value, holds) = stores.1 k below in
     ap held at ∙ holds ∙ sym value ∙ given ∙ sym is
 
-held_input : (n : ℕ) (held : Contents) (key bytes : List ℕ) → StoresInputs n (Some held) → InputsPut n key (Some bytes) → held key ≡ Some bytes
+held_input : (n : ℕ) (held : Contents) (key bytes : List ℕ) → StoresDemoInputs n (Some held) → InputsPut n key (Some bytes) → held key ≡ Some bytes
 held_input n held key bytes stores (inl put) = held_put (demo_array Rows n) held key bytes stores.0 put
 held_input n held key bytes stores (inr put) = held_put (demo_array Columns n) held key bytes stores.1 put
 
@@ -220,12 +220,12 @@ ok_expression r e f one other = cc
 -- ---- the job, over what is found
 
 module _ (options : Options) (n : ℕ) (some : 1 ≤ n) (few : n ≤ 2048) (read_back : ReadBack) (rows : IsArrayLayout (demo_layout Rows n)) (columns : IsArrayLayout (demo_layout Columns n))
-    (found : Shown) (stored : WhereTold found.held (StoresInputs n found.held)) where
-  read_rows : (h : Option Contents) → WhereTold h (StoresInputs n h) → HoldsLayout h (metadata_key_of (demo_name Rows)) (demo_layout Rows n)
+    (found : Shown) (stored : WhereTold found.held (StoresDemoInputs n found.held)) where
+  read_rows : (h : Option Contents) → WhereTold h (StoresDemoInputs n h) → HoldsLayout h (metadata_key_of (demo_name Rows)) (demo_layout Rows n)
   read_rows None stores = tt
   read_rows (Some held) stores = (metadata_text (layout_view (demo_layout Rows n)), stores.0.0, record { grid = rows.grid; reads = read_back (layout_view (demo_layout Rows n)) rows.storable })
 
-  read_columns : (h : Option Contents) → WhereTold h (StoresInputs n h) → HoldsLayout h (metadata_key_of (demo_name Columns)) (demo_layout Columns n)
+  read_columns : (h : Option Contents) → WhereTold h (StoresDemoInputs n h) → HoldsLayout h (metadata_key_of (demo_name Columns)) (demo_layout Columns n)
   read_columns None stores = tt
   read_columns (Some held) stores = (metadata_text (layout_view (demo_layout Columns n)), stores.1.0, record { grid = columns.grid; reads = read_back (layout_view (demo_layout Columns n)) columns.storable })
 
@@ -246,7 +246,7 @@ module _ (options : Options) (n : ℕ) (some : 1 ≤ n) (few : n ≤ 2048) (read
 
   -- ---- no other job is that of the text
 
-  module _ (held : Contents) (told : found.held ≡ Some held) (stores : StoresInputs n (Some held))
+  module _ (held : Contents) (told : found.held ≡ Some held) (stores : StoresDemoInputs n (Some held))
       (settled : (input : DemoInput) (bytes : List ℕ) → IsAmong found.late (metadata_key_of (demo_name input)) bytes → held (metadata_key_of (demo_name input)) ≡ Some bytes)
       (hides : HidesNone found.late) where
     calm_at : (input : DemoInput) → AreCalmAt found (demo_name input)
@@ -315,17 +315,17 @@ pub record DemoLaws (options : Options) : Type 0 where
   pub only : (job : Job) → HasPlan options job → OnlyInputs options job
 
 module _ (options : Options) (n : ℕ) (some : 1 ≤ n) (few : n ≤ 2048) (read_back : ReadBack) (rows : IsArrayLayout (demo_layout Rows n)) (columns : IsArrayLayout (demo_layout Columns n))
-    (laws : DemoLaws options) (old start : Shown) (both : Stepped (InputsPut n) old start) (stores : AreInputsCalm n old.late → StoresInputs n start.held)
+    (laws : DemoLaws options) (old start : Shown) (both : Stepped (InputsPut n) old start) (stores : AreInputsCalm n old.late → StoresDemoInputs n start.held)
     (quiet : WhereTold old.held (IsDemoCalm options n old)) where
   abbrev pub found : Shown
   found = found_of old start
 
-  told_calm : (a b : Option Contents) → a ≡ old.held → b ≡ start.held → WhereTold a (IsDemoCalm options n old) → WhereTold (overlay_held a b) (StoresInputs n (overlay_held a b))
+  told_calm : (a b : Option Contents) → a ≡ old.held → b ≡ start.held → WhereTold a (IsDemoCalm options n old) → WhereTold (overlay_held a b) (StoresDemoInputs n (overlay_held a b))
   told_calm None b is now calm = tt
   told_calm (Some a) None is now calm = tt
-  told_calm (Some a) (Some b) is now calm = stores_found n old start both (Some a) (Some b) (subst (StoresInputs n) (sym now) (stores calm.inputs))
+  told_calm (Some a) (Some b) is now calm = stores_found n old start both (Some a) (Some b) (subst (StoresDemoInputs n) (sym now) (stores calm.inputs))
 
-  found_stored : WhereTold found.held (StoresInputs n found.held)
+  found_stored : WhereTold found.held (StoresDemoInputs n found.held)
   found_stored = told_calm old.held start.held refl refl quiet
 
   free_at : (was now : Contents) (key : List ℕ) → is_inputs key ≡ false → was key ≡ None → overlay was now key ≡ None
@@ -360,7 +360,7 @@ module _ (options : Options) (n : ℕ) (some : 1 ≤ n) (few : n ≤ 2048) (read
 
   -- ---- nothing wrong is late
 
-  found_quiet : (held : Contents) (job : Job) → HasPlan options job → IsDemoJob n job → AreInputsCalm n old.late → StoresInputs n (Some held)
+  found_quiet : (held : Contents) (job : Job) → HasPlan options job → IsDemoJob n job → AreInputsCalm n old.late → StoresDemoInputs n (Some held)
       → IsQuiet (run_of_job options job) (stored_inputs (job_plan options job).arrays held) held old.late
       → HasNoOwnInput job.expr → IsQuiet (run_of_job options job) (stored_inputs (job_plan options job).arrays held) held (old.late ++ start.late)
   found_quiet held job planned is calm stored quiet own = record {
@@ -386,7 +386,7 @@ module _ (options : Options) (n : ℕ) (some : 1 ≤ n) (few : n ≤ 2048) (read
       input_late k bytes input (inl put) = held_input n held (key_of (job_plan options job).arrays k) bytes stored put
       input_late k bytes input (inr (other, same, among)) = quiet.inputs k other input among ∙ sym same
 
-  settled_in : (held : Contents) → AreInputsCalm n old.late → StoresInputs n (Some held) → (input : DemoInput) (bytes : List ℕ)
+  settled_in : (held : Contents) → AreInputsCalm n old.late → StoresDemoInputs n (Some held) → (input : DemoInput) (bytes : List ℕ)
       → IsAmong (old.late ++ start.late) (metadata_key_of (demo_name input)) bytes → held (metadata_key_of (demo_name input)) ≡ Some bytes
   settled_in held calm stored input bytes among = elim (among_cases old.late start.late (metadata_key_of (demo_name input)) bytes among) [
     | inl first ↦ held_input n held (metadata_key_of (demo_name input)) bytes stored (was_late input bytes first)
@@ -413,10 +413,10 @@ module _ (options : Options) (n : ℕ) (some : 1 ≤ n) (few : n ≤ 2048) (read
 
   -- the run has no other job, and no other inputs
   job_of : (a b : Contents) → ◌≡◌ {A = Option Contents} (Some a) old.held → ◌≡◌ {A = Option Contents} (Some b) start.held → (job : Job) → IsJob found demo_text job
-      → IsDemoCalm options n old × StoresInputs n (Some (overlay a b)) × IsDemoJob n job
+      → IsDemoCalm options n old × StoresDemoInputs n (Some (overlay a b)) × IsDemoJob n job
   job_of a b was now job is =
       let calm : IsDemoCalm options n old = subst (λ (h : Option Contents). WhereTold h (IsDemoCalm options n old)) (sym was) quiet in
-      let stored : StoresInputs n (Some (overlay a b)) = told_calm (Some a) (Some b) was now calm in
+      let stored : StoresDemoInputs n (Some (overlay a b)) = told_calm (Some a) (Some b) was now calm in
       let told : found.held ≡ Some (overlay a b) = λ i. overlay_held (sym was i) (sym now i) in (
         calm,
         stored,

@@ -13,7 +13,7 @@ use Rattle.cu_shape.specs.Index.{indices_of, index_at, product}
 use Rattle.cu_name.specs.Name.{is_name}
 use Rattle.cu_name.specs.Keys.{record_key_of}
 use Rattle.cu_zarr.specs.Key.{metadata_key_of, zarray_key_of}
-use Rattle.cu_store.specs.Held.{Contents}
+use Rattle.cu_store.specs.Held.{Contents, IsHeldIn}
 use Rattle.cu_store.specs.Steps.{Shown, NoChange}
 use Rattle.cu_op.specs.Layout.{IsLayout, layout_view}
 use Rattle.cu_form.specs.Expression.{Expression}
@@ -25,7 +25,6 @@ use Rattle.cu_work.specs.Order.{IsHeldIn as IsHeldAt}
 use Rattle.cu_work.specs.declared.way.WayFault.{WayFault}
 use Rattle.cu_work.specs.declared.way.WayFault.TheVariants as way
 use Rattle.cu_command.proofs.SeenLemmas.{gone_before, stepped_wider}
-use Rattle.cu_command.specs.Keys.{IsHeldIn}
 use Rattle.cu_command.specs.Seen.{Stepped}
 use Rattle.cu_command.specs.Stored.{IsArrayLayout}
 use Rattle.cu_command.specs.declared.job.Job.{Job}
@@ -45,7 +44,7 @@ use Rattle.cu_demo.specs.declared.input.DemoInput.TheVariants.{Rows, Columns}
 use Rattle.cu_lower.specs.declared.options.Options.{Options}
 use Rattle.cu_top.proofs.RunLemmas.{first_of}
 use Rattle.cu_top.specs.Ask.{IsAskEnd, answer_of}
-use Rattle.cu_top.specs.Demo.{AreInputsFree, InputsPut, IsDemoAskEnd, IsDemoRefused, IsInputFault, IsInputsFault, demo_array}
+use Rattle.cu_top.specs.Demo.{AreInputsFree, InputsPut, IsDemoAskEnd, IsDemoRefused, IsInputPutEnd, IsInputsFault, demo_array}
 use Rattle.cu_top.specs.Prepare.{is_own_input, unplanned_status}
 
 -- ---- the arrays
@@ -157,18 +156,18 @@ store_step tries a old new (DepotFailed key) fault = put_step tries a old new ke
 store_step tries a old new NoMemory (key, fault) = put_step tries a old new key fault
 store_step tries a old new status fault = absurd fault
 
-pub store_end : (tries : ℕ) (a : GivenArray) (old new : Shown) (status : Status) → IsStoreFault tries a old new status → IsInputFault tries a old new status
+pub store_end : (tries : ℕ) (a : GivenArray) (old new : Shown) (status : Status) → IsStoreFault tries a old new status → IsInputPutEnd tries a old new status
 store_end tries a old new (DepotFailed key) (rose, inl (k, below, same, step, before)) = (rose, inr (k, below, same))
 store_end tries a old new (DepotFailed key) (rose, inr (same, step, before)) = (rose, inl same)
 store_end tries a old new NoMemory fault = tt
 store_end tries a old new status fault = absurd fault
 
-pub rows_fault : (tries n : ℕ) (old new : Shown) (status : Status) → IsInputFault tries (demo_array Rows n) old new status → IsInputsFault tries n old new status
+pub rows_fault : (tries n : ℕ) (old new : Shown) (status : Status) → IsInputPutEnd tries (demo_array Rows n) old new status → IsInputsFault tries n old new status
 rows_fault tries n old new (DepotFailed key) fault = (fault.0, inl fault.1)
 rows_fault tries n old new NoMemory fault = tt
 rows_fault tries n old new status fault = absurd fault
 
-pub columns_fault : (tries n : ℕ) (old mid new : Shown) (status : Status) → old.faults ≤ mid.faults → IsInputFault tries (demo_array Columns n) mid new status → IsInputsFault tries n old new status
+pub columns_fault : (tries n : ℕ) (old mid new : Shown) (status : Status) → old.faults ≤ mid.faults → IsInputPutEnd tries (demo_array Columns n) mid new status → IsInputsFault tries n old new status
 columns_fault tries n old mid new (DepotFailed key) earlier fault = (rose_earlier tries old.faults mid.faults new.faults earlier fault.0, inr fault.1)
 columns_fault tries n old mid new NoMemory earlier fault = tt
 columns_fault tries n old mid new status earlier fault = absurd fault

@@ -28,7 +28,7 @@ use Rattle.cu_command.specs.declared.status.Status.TheVariants.{Done, OverMemory
 use Rattle.cu_command.proofs.SeenLemmas.{stepped_none, stepped_same, stepped_then}
 use Rattle.cu_load.proofs.AskLemmas.{rose_earlier}
 use Rattle.cu_demo.specs.Expression.{IsDemoJob, demo_text}
-use Rattle.cu_top.specs.Demo.{DemoCase, DemoTells, IsDemoDone, InputsPut, AreInputsFree, IsDemoAskEnd, IsDemoRefused, IsDemoStarted, IsInputsFault, IsUnread, KeepsInputs, ResultTells, demo_case, demo_run, result_key, result_layout, result_line}
+use Rattle.cu_top.specs.Demo.{DemoCase, DemoTells, IsDemoDone, InputsPut, AreInputsFree, IsDemoAskEnd, IsDemoRefused, IsDemoStarted, IsInputsFault, IsResultUnread, KeepsInputs, ResultTells, demo_case, demo_run, result_key, result_layout, result_line}
 use Rattle.cu_top.proofs.Completeness.{not_bad}
 use Rattle.cu_top.specs.Complete.{AreWhole}
 use Rattle.cu_top.specs.Prepare.{HasPlan, asked_keys, job_plan, out_layout}
@@ -211,7 +211,7 @@ module _ (lack : Bool) (c : DemoCase) (job : Job) (found ran : Shown) (n : RunCo
   counted : IsCounted (run_to c.options found c.new.depot) job n
   counted = counted_later c.options job found ran c.new.depot step meant ended.0 n ended.2
 
-  unread : (status : Status) → IsUnread (c.options.retries + 1) ran c.new.depot status → IsUnread (c.options.retries + 1) c.old.depot c.new.depot status
+  unread : (status : Status) → IsResultUnread (c.options.retries + 1) ran c.new.depot status → IsResultUnread (c.options.retries + 1) c.old.depot c.new.depot status
   unread (DepotFailed key) fault = (fault.0, rose_earlier (c.options.retries + 1) c.old.depot.faults ran.faults c.new.depot.faults earlier fault.1)
   unread (BadChunk key got want) fault = fault
   unread NoMemory fault = tt

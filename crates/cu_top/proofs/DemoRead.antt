@@ -15,7 +15,7 @@ use Rattle.cu_command.specs.Streams.{WroteFront}
 use Rattle.cu_command.specs.declared.status.Status.{Status}
 use Rattle.cu_command.specs.declared.status.Status.TheVariants.{BadChunk, DepotFailed, NoMemory}
 use Rattle.cu_region.specs.Steady.{HoldsLength}
-use Rattle.cu_top.specs.Demo.{IsResult, IsUnread, ResultTells, result_key, result_layout}
+use Rattle.cu_top.specs.Demo.{IsResult, IsResultUnread, ResultTells, result_key, result_layout}
 
 -- a chunk of eight bytes is the element
 pub read_held : (held : Option Contents) (key buf : List ℕ) (n : ℕ) → key ≡ result_key → length buf ≡ 8 → n ≡ 8 → Gets held key buf (Ok (Held n)) → IsResult held (element_at Little Int64 buf 0)
@@ -39,7 +39,7 @@ read_length None key buf n gets = tt
 read_length (Some held) key buf n (bytes, there, is, same) = (bytes, there, sym is)
 
 -- it wasn't read
-pub unread_end : (tries : ℕ) (text : ℤ → List ℕ) (out : Stream) (old new : Shown) (status : Status) → IsUnread tries old new status
+pub unread_end : (tries : ℕ) (text : ℤ → List ℕ) (out : Stream) (old new : Shown) (status : Status) → IsResultUnread tries old new status
     → ResultTells tries text (seen out old) (seen out new) status
 unread_end tries text out old new (DepotFailed key) fault = (refl, fault)
 unread_end tries text out old new (BadChunk key got want) fault = (refl, fault)

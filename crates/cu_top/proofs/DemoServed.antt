@@ -1,11 +1,10 @@
 -- A demonstration that is at rest is served: each other answer has a cause that isn't there.
 use Rattle.std.proofs.Common.{◌≡◌, ◌⊎◌, inl, inr, ℕ, zero, suc, ◌+◌, ◌≤◌, Bool, List, Contains, Option, Some, None, refl, sym, subst, arith}
 use Rattle.cu_store.specs.Faults.{Rose}
-use Rattle.cu_store.specs.Held.{Contents, Write}
+use Rattle.cu_store.specs.Held.{Contents, Write, IsHeldIn}
 use Rattle.cu_store.specs.Steps.{Shown, Changes, NoChange, OrLate, Lands}
 use Rattle.cu_work.specs.Order.{IsHeldIn as IsHeldAt}
 use Rattle.cu_command.specs.Job.{StoodStill}
-use Rattle.cu_command.specs.Keys.{IsHeldIn}
 use Rattle.cu_command.specs.Seen.{WroteNothing}
 use Rattle.cu_command.specs.declared.job.Job.{Job}
 use Rattle.cu_command.specs.declared.status.Status.{Status}

@@ -15,7 +15,7 @@ use Rattle.cu_demo.specs.declared.input.DemoInput.TheVariants.{Rows, Columns}
 use Rattle.cu_top.proofs.DemoFound.{found_of, held_put, late_found}
 use Rattle.cu_top.proofs.DemoInputs.{demo_given}
 use Rattle.cu_top.proofs.DemoKeys.{below_rows, is_inputs, not_below_rows, of_array}
-use Rattle.cu_top.specs.Demo.{AreInputsCalm, InputsPut, StoresInputs, demo_array}
+use Rattle.cu_top.specs.Demo.{AreInputsCalm, InputsPut, StoresDemoInputs, demo_array}
 
 -- an array stays stored where only other keys are put, and late puts carry its values
 module _ (a : GivenArray) (ok : IsGivenArray a) (grid : IsGrid (record { shape = a.layout.shape; chunk = a.layout.chunk })) (W : Changes)
@@ -60,7 +60,7 @@ module _ (n : ℕ) (some : 1 ≤ n) (few : n ≤ 2048) where
 
   -- then both are stored
   pub both_stored : (mid new : Shown) → Stepped (ArrayPut (demo_array Columns n)) mid new → AreInputsCalm n mid.late
-      → StoresGiven (demo_array Rows n) mid.held → StoresGiven (demo_array Columns n) new.held → StoresInputs n new.held
+      → StoresGiven (demo_array Rows n) mid.held → StoresGiven (demo_array Columns n) new.held → StoresDemoInputs n new.held
   both_stored mid new step calm rows columns = (
     kept_given (demo_array Rows n) (demo_given Rows n some few) (demo_storable Rows n some few).grid (ArrayPut (demo_array Columns n))
         (λ key value is put. apart key is (array_put_key (demo_array Columns n) key value put)) mid.late mid.held new.held calm.0 rows step.step.lands,
@@ -93,7 +93,7 @@ module _ (n : ℕ) (some : 1 ≤ n) (few : n ≤ 2048) where
   other_key W input others key value is own = true≢false (sym (of_array input n key is) ∙ others key value own)
 
   pub inputs_kept : (W : Changes) → ((key : List ℕ) (value : Option (List ℕ)) → W key value → is_inputs key ≡ false) → (found new : Shown) → Stepped W found new
-      → AreInputsCalm n found.late → StoresInputs n found.held → StoresInputs n new.held
+      → AreInputsCalm n found.late → StoresDemoInputs n found.held → StoresDemoInputs n new.held
   inputs_kept W others found new step calm stored = (
     kept_given (demo_array Rows n) (demo_given Rows n some few) (demo_storable Rows n some few).grid W (other_key W Rows others) found.late found.held new.held calm.0 stored.0 step.step.lands,
     kept_given (demo_array Columns n) (demo_given Columns n some few) (demo_storable Columns n some few).grid W (other_key W Columns others) found.late found.held new.held calm.1 stored.1 step.step.lands,

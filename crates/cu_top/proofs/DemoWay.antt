@@ -17,7 +17,7 @@ use Rattle.cu_top.proofs.DemoFound.{DemoLaws, ReadBack, found_calm, found_cleare
 use Rattle.cu_top.proofs.DemoKeys.{is_inputs, piece_apart}
 use Rattle.cu_top.proofs.DemoLemmas.{WholeLaw, run_to}
 use Rattle.cu_top.proofs.DemoStores.{calm_found, inputs_kept}
-use Rattle.cu_top.specs.Demo.{AreInputsCalm, AreInputsFree, InputsPut, IsDemoCalm, FoundByDemo, StoresInputs, WhereTold}
+use Rattle.cu_top.specs.Demo.{AreInputsCalm, AreInputsFree, InputsPut, IsDemoCalm, FoundByDemo, StoresDemoInputs, WhereTold}
 use Rattle.cu_top.specs.Prepare.{HasNoOwnInput, HasPlan, asked_keys}
 use Rattle.cu_top.specs.Quiet.{IsCalm}
 use Rattle.cu_top.specs.Run.{IsCleared, IsStarted, job_run}
@@ -30,7 +30,7 @@ pub record Way (options : Options) (n : ℕ) (job : Job) (old asked start : Show
   pub laws : DemoLaws options
   pub first : Stepped NoChange old asked
   pub second : Stepped (InputsPut n) asked start
-  pub stores : AreInputsCalm n asked.late → StoresInputs n start.held
+  pub stores : AreInputsCalm n asked.late → StoresDemoInputs n start.held
   pub quiet : WhereTold old.held (IsDemoCalm options n old)
   pub accepted : IsDemoJob n job
   pub planned : HasPlan options job
@@ -42,7 +42,7 @@ module _ (options : Options) (n : ℕ) (job : Job) (old asked start : Shown) (wa
   pub both : Stepped (InputsPut n) old start
   both = stepped_then (stepped_none way.first) way.second
 
-  stored : AreInputsCalm n old.late → StoresInputs n start.held
+  stored : AreInputsCalm n old.late → StoresDemoInputs n start.held
   stored calm = way.stores (still_inputs n old asked way.first calm)
 
   pub way_cleared : IsCleared options demo_text (found_of old start) start job
@@ -62,7 +62,7 @@ module _ (options : Options) (n : ℕ) (job : Job) (old asked start : Shown) (wa
   way_found = is_found n old start both stored
 
   -- the inputs stay stored while the plan's keys are put
-  pub way_keeps : (new : Shown) (other : Job) → IsStarted (run_to options (found_of old start) new) other → AreInputsCalm n old.late → StoresInputs n new.held
+  pub way_keeps : (new : Shown) (other : Job) → IsStarted (run_to options (found_of old start) new) other → AreInputsCalm n old.late → StoresDemoInputs n new.held
   way_keeps new other s calm =
       let found = found_of old start in
       let name : other.expr.store_as ≡ codes "demo_y" = ap (λ (e : Expression). e.store_as) (ok_expression (expression_of demo_text) other.expr demo_expression s.accepted.said demo_said) in

@@ -16,7 +16,7 @@ use Rattle.cu_expr.specs.declared.inputs.InputInfo.{InputInfo}
 use Rattle.cu_form.specs.Expression.{Expression}
 use Rattle.cu_form.specs.declared.expr.Node.{Node}
 use Rattle.cu_form.specs.declared.form.Form.{Form}
-use Rattle.cu_lower.specs.Inputs.{input_array, layout_named}
+use Rattle.cu_lower.specs.Inputs.{input_array}
 use Rattle.cu_lower.specs.Premises.{IsLiveInput}
 use Rattle.cu_lower.specs.declared.options.Options.{Options}
 use Rattle.cu_command.specs.declared.job.Job.{Job}
@@ -27,8 +27,9 @@ use Rattle.cu_demo.specs.Input.{demo_layout, demo_name}
 use Rattle.cu_demo.specs.declared.input.DemoInput.{DemoInput}
 use Rattle.cu_demo.specs.declared.input.DemoInput.TheVariants.{Rows, Columns}
 use Rattle.cu_top.specs.Complete.{AreWhole}
-use Rattle.cu_top.specs.Demo.{StoresInputs, demo_array}
+use Rattle.cu_top.specs.Demo.{StoresDemoInputs, demo_array}
 use Rattle.cu_top.specs.Prepare.{job_plan}
+use Rattle.cu_expr.specs.Inputs.{layout_named}
 
 -- ---- a stored array
 
@@ -97,7 +98,7 @@ abbrev pub OnlyInputs : Options → Job → Type 0
 OnlyInputs options job = (a : ℕ) → a < length (job_plan options job).arrays → maker_at (job_plan options job).arrays a ≡ None
     → (k : ℕ) × (name : List ℕ) × IsLiveInput job.expr k name × (array_at (job_plan options job).arrays a ≡ input_array job.inputs.items name)
 
-module _ (options : Options) (n : ℕ) (job : Job) (is : IsDemoJob n job) (only : OnlyInputs options job) (held : Contents) (stores : StoresInputs n (Some held)) where
+module _ (options : Options) (n : ℕ) (job : Job) (is : IsDemoJob n job) (only : OnlyInputs options job) (held : Contents) (stores : StoresDemoInputs n (Some held)) where
   array_is : (a : ℕ) → a < length (job_plan options job).arrays → maker_at (job_plan options job).arrays a ≡ None
       → (input : DemoInput) × (array_at (job_plan options job).arrays a ≡ demo_info_of input (demo_layout input n))
   array_is a below given =

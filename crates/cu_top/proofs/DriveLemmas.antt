@@ -20,12 +20,12 @@ use Rattle.cu_state.proofs.PlanNames.{keys_apart, inputs_apart}
 use Rattle.cu_store.proofs.Steps.{steps_none, steps_wider}
 use Rattle.cu_table.specs.declared.state.Ending.TheVariants.{Broken}
 use Rattle.cu_table.specs.Machine.{Machine}
-use Rattle.cu_table.specs.Numbers.{IsTask}
+use Rattle.cu_table.specs.Numbers.{IsTask, task_count}
 use Rattle.cu_table.specs.Step.{Settings, Replays}
 use Rattle.cu_table.specs.Table.{TableView}
 use Rattle.cu_work.proofs.FewFailures.{failures_few}
 use Rattle.cu_work.proofs.Running.{left_stored}
-use Rattle.cu_work.specs.Drive.{task_count, IsBadChunk, IsInputKey}
+use Rattle.cu_work.specs.Drive.{IsBadChunk, IsInputKey}
 use Rattle.cu_work.specs.Run.{AreTextsHeld, HoldsTexts, IsMissingKey, IsRunFault, PutOfMissing, run_of as work_run}
 use Rattle.cu_work.specs.Run.{IsRecordFirst as IsTextFirst, IsUnstored as IsTextUnstored}
 use Rattle.cu_work.specs.Shared.{IsOpen, IsOpenAs, HoldsDone, HasDriven, AreCounted, opened_table, IfBadChunk, IfComplete, IfLacked}

@@ -20,7 +20,7 @@ use Rattle.cu_top.specs.Planned.{IsPlanRefused}
 use Rattle.cu_top.specs.Prepare.{is_own_input, HasPlan}
 use Rattle.cu_top.specs.Record.{record_text}
 use Rattle.cu_top.specs.Run.{RunCase, IsAccepted}
-use Rattle.cu_top.specs.Held.{IsFirstDifference, IsCompared, HoldsOther, IsRecordFault, IsNotReopened, IsFoundAgain, record_answer}
+use Rattle.cu_top.specs.Held.{TextsDifferAt, IsCompared, HoldsOther, IsRecordFault, IsNotReopened, IsFoundAgain, record_answer}
 use Rattle.cu_top.specs.declared.held.RecordFault.{RecordFault}
 use Rattle.cu_top.specs.declared.held.RecordFault.TheVariants as fault
 
@@ -33,12 +33,12 @@ some_same : (v w : Option ℕ) (x y : ℕ) → v ≡ w → v ≡ Some x → w �
 some_same v w x y same one other = cc
 
 -- they differ at a byte that both have
-pub differs_within : (a b : List ℕ) (place d : ℕ) → place < length a → place < length b → take place a ≡ take place b → get_or a place d ≢ get_or b place d → IsFirstDifference a b place
+pub differs_within : (a b : List ℕ) (place d : ℕ) → place < length a → place < length b → take place a ≡ take place b → get_or a place d ≢ get_or b place d → TextsDifferAt a b place
 differs_within a b place d left right same differ =
     (same, λ e. differ (some_same (slice_get a place) (slice_get b place) (get_or a place d) (get_or b place d) e (slice_get-get_or a place d left) (slice_get-get_or b place d right)))
 
 -- one of them ends
-pub differs_at_end : (a b : List ℕ) → length a ≢ length b → take (min (length a) (length b)) a ≡ take (min (length a) (length b)) b → IsFirstDifference a b (min (length a) (length b))
+pub differs_at_end : (a b : List ℕ) → length a ≢ length b → take (min (length a) (length b)) a ≡ take (min (length a) (length b)) b → TextsDifferAt a b (min (length a) (length b))
 differs_at_end a b lengths same = (
   same,
   elim (cases_lt (length a) (length b)) [
@@ -73,7 +73,7 @@ module _ (bytes text : List ℕ) where
     | inr least ↦ absurd (let e = ap length same in let l = length-take (length text + 1) bytes in grind arith)
   ]
 
-  longer : (place : ℕ) → IsFirstDifference (take (length text + 1) bytes) text place → IsFirstDifference bytes text place
+  longer : (place : ℕ) → TextsDifferAt (take (length text + 1) bytes) text place → TextsDifferAt bytes text place
   longer place (same, differ) = elim (cases_lt place (length text + 1)) [
     | inl less ↦ (
       sym (take-take place (length text + 1) bytes (omega (arith, less))) ∙ same,

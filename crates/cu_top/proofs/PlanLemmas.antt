@@ -37,7 +37,8 @@ use Rattle.cu_zarr.specs.Stored.{stored_element}
 use Rattle.cu_plan.specs.Plan.{merged_plan_of, HaveInputElements}
 use Rattle.cu_command.specs.declared.job.Job.{Job}
 use Rattle.cu_top.specs.Prepare.{reads_array, HasNoOwnInput, IsLentWithin, HasPlan, out_layout}
-use Rattle.cu_top.specs.Run.{RunCase, plan_in, job_run, env_of, used_element, elements_of, IsMeant}
+use Rattle.cu_top.specs.Run.{RunCase, plan_in, job_run, env_of, IsMeant}
+use Rattle.cu_check.specs.Elements.{used_element, elements_of}
 
 -- ---- what tasks are lent
 

@@ -18,7 +18,7 @@ use Rattle.cu_plan.specs.declared.fault.PlanFault.{PlanFault}
 use Rattle.cu_plan.specs.declared.fault.PlanFault.TheVariants as refused
 use Rattle.cu_top.proofs.CallLemmas.{same_expression, same_text, refused_run}
 use Rattle.cu_top.proofs.Completeness.{none_rose, none_or_some}
-use Rattle.cu_top.specs.Call.{AreSpared, CameToRun, IsRefusedText}
+use Rattle.cu_top.specs.Call.{AreSpared, CameToRun, IsExpressionRefused}
 use Rattle.cu_top.specs.Complete.{IsPlannable, IsServed}
 use Rattle.cu_top.specs.Planned.{IsPlanRefused, IsPrinted, Plans, PlanTells}
 use Rattle.cu_top.specs.Prepare.{unplanned_status, HasPlan}
@@ -103,14 +103,14 @@ module _ (c : RunCase) (f : ExpressionFault) (err : expression_of c.text ≡ Err
   no_expression : (job : Job) → IsJob c.old.depot c.text job → ⊥
   no_expression job is = let said = is.said in cc
 
-  plans_refused : (status : Status) → Plans c status → IsRefusedText f status
+  plans_refused : (status : Status) → Plans c status → IsExpressionRefused f status
   plans_refused Done (spared, (job, accepted, planned)) = no_expression job accepted
   plans_refused WriteFault (rose, (spared, (job, accepted, planned))) = no_expression job accepted
   plans_refused status why = refused_run c f err false status (refused_ran false c status why)
 
 -- it is refused, or memory was wanted
 pub plan_refused_text : (options : Options) (old new : Scene) (left : List ℕ) (f : ExpressionFault) (status : Status) → old.source.told ≡ Some left → expression_of left ≡ Err f → PlanTells options old new status
-    → IsRefusedText f status
+    → IsExpressionRefused f status
 plan_refused_text options old new left f ReadFault told err tells = tt
 plan_refused_text options old new left f NoMemory told err tells = tt
 plan_refused_text options old new left f status told err (text, read, why) =

@@ -4,7 +4,7 @@ use Rattle.std.proofs.Common.{Result, Ok, Err, refl, sym, subst, arith}
 use Rattle.std.specs.Prelude.{Bool, ◌↔◌}
 use Rattle.std.proofs.lemmas.List.Elements.{Contains-append_right}
 use Rattle.cu_store.specs.Faults.{last_count, Rose}
-use Rattle.cu_store.specs.Held.{Contents, Holds}
+use Rattle.cu_store.specs.Held.{Contents, Holds, IsHeldIn}
 use Rattle.cu_store.specs.Steps.{Shown, NoChange, Within, Steps}
 use Rattle.cu_zarr.specs.Key.{metadata_key_of}
 use Rattle.cu_name.specs.Keys.{record_key_of}
@@ -22,8 +22,8 @@ use Rattle.cu_table.specs.Numbers.{IsTask}
 use Rattle.cu_table.specs.Step.{Settings, Replays, Run}
 use Rattle.cu_table.specs.Table.{TableView}
 use Rattle.cu_work.proofs.Searching.{held_stays, told_then, told_first}
-use Rattle.cu_work.specs.Order.{IsHeldIn, plan_keys}
-use Rattle.cu_work.specs.Search.{NamesTask, NamesStored, IsFindFault}
+use Rattle.cu_work.specs.Order.{plan_keys}
+use Rattle.cu_work.specs.Search.{NamesTask, NamesStored, IsSearchEnd}
 use Rattle.cu_work.specs.declared.find.FindFault.{FindFault}
 use Rattle.cu_work.specs.declared.find.FindFault.TheVariants as find
 use Rattle.cu_work.specs.World.{IsFound, IsStored}
@@ -41,8 +41,8 @@ use Rattle.cu_command.specs.declared.status.Status.{Status}
 use Rattle.cu_command.specs.declared.status.Status.TheVariants.{Done, TaskFailed, WriteFault, BadChunk, DepotFailed, NoMemory}
 use Rattle.cu_command.specs.Keys.{IsKeyFault, IsHeldIn as IsKeyHeld}
 use Rattle.cu_lower.specs.declared.options.Options.{Options}
-use Rattle.cu_top.specs.Driven.{Driven, HasEnded, IsUnrun, MissingPut, IsMissingText, AreHeld, counts_in, outcome_answer, fault_answer, drive_answer}
-use Rattle.cu_top.specs.Held.{IsFoundAgain, IsLeftBy, IsLeftEntry, IsNotReopened, IsReopened, WhereTold}
+use Rattle.cu_top.specs.Driven.{Driven, HasEnded, IsUnrun, MissingPut, IsMissingText, AreHeld, run_counts_in, outcome_answer, fault_answer, drive_answer}
+use Rattle.cu_top.specs.Held.{IsFoundAgain, IsLeftBy, IsLeftEntry, IsNotReopened, IsReopened, WhereEntryTold}
 use Rattle.cu_top.specs.Prepare.{HasNoOwnInput, HasPlan, job_plan, keys_of}
 use Rattle.cu_top.specs.Quiet.{run_of_job}
 use Rattle.cu_top.specs.Report.{report_line}
@@ -80,7 +80,7 @@ module _ (c : RunCase) (job : Job) (start : Shown) (found : IsFoundAgain c.optio
       subst (λ (h : Option Contents). IsLeftBy (job_run c job) c.old.depot h (HasNoOwnInput job.expr)) told (premise job found.accepted found.planned)
       (held_before c.old.depot start _ _ entry found.spared told found.record_held)
 
-  pub opens : WhereTold c job (λ env. IsLeft (job_run c job) env c.old.depot)
+  pub opens : WhereEntryTold c job (λ env. IsLeft (job_run c job) env c.old.depot)
   opens entry told = (left_by entry told).0
 
   pub record_in : IsHeldIn start.held (record_key_of job.expr.store_as)
@@ -101,7 +101,7 @@ reopened c job start found laws = record {
 in_list : (front back : List (List ℕ)) (key : List ℕ) → Contains (front ++ key ∷ back) key
 in_list front back key = Contains-append_right front (key ∷ back) key (0, omega arith, refl)
 
-pub find_refused : (tries : ℕ) (keys all : List (List ℕ)) (first old new : Shown) (f : FindFault) → Stepped NoChange first old → IsFindFault tries keys (old, new) f
+pub find_refused : (tries : ℕ) (keys all : List (List ℕ)) (first old new : Shown) (f : FindFault) → Stepped NoChange first old → IsSearchEnd tries keys (old, new) f
     → ((key : List ℕ) → Contains keys key → Contains all key) → IsRestFault tries all (first, new) (find_answer f)
 find_refused tries keys all first old new (find.Failed key) step ends inside = (
   (let one = step.step.count in let two = ends.before.count in let rose = ends.cause.0 in omega (arith, one, two, rose)),
@@ -195,14 +195,14 @@ module _ (c : RunCase) (job : Job) where
   rest_refused lack start status accepted planned first second none = absurd none
 
 module _ (c : RunCase) (job : Job) (laws : PlanLaws c job) (start : Shown) (spared : Stepped NoChange c.old.depot start) (back : IsReopened c job)
-    (opens_at : WhereTold c job (λ env. IsLeft (job_run c job) env c.old.depot)) (held : HeldTexts) (has : HasRecord held) (done : List Bool) (lack : Bool) (goes : ResumeLaws) (histories : HistoryLaws) where
-  left_now : WhereTold c job (λ env. IsLeft (job_run c job) env start)
+    (opens_at : WhereEntryTold c job (λ env. IsLeft (job_run c job) env c.old.depot)) (held : HeldTexts) (has : HasRecord held) (done : List Bool) (lack : Bool) (goes : ResumeLaws) (histories : HistoryLaws) where
+  left_now : WhereEntryTold c job (λ env. IsLeft (job_run c job) env start)
   left_now entry told = kept c job laws start spared (env_of c job entry) (opens_at entry told)
 
   module _ (texts : AreHeld held (job_run c job) start.held) (found : (now : Contents) → start.held ≡ Some now → IsFound (plan_in c job) now done)
       (named : (entry : Contents) → c.old.depot.held ≡ Some entry → NamesStored (plan_in c job) entry done)
       (step : Steps (RunChange (job_run c job) start) 0 last_count start c.new.depot) where
-    record_now : WhereTold c job (λ env. HoldsPiece (job_run c job) env (Text 0) c.new.depot)
+    record_now : WhereEntryTold c job (λ env. HoldsPiece (job_run c job) env (Text 0) c.new.depot)
     record_now entry told =
         let env = env_of c job entry in
         let left = left_now entry told in
@@ -238,7 +238,7 @@ module _ (c : RunCase) (job : Job) (laws : PlanLaws c job) (start : Shown) (spar
       texts_now : HoldsTextsNow c job
       texts_now entry told = ends.texts (env_of c job entry) (left_now entry told)
 
-    counted_on : (t : TableView) → HasEnded (started_case c job laws start spared held done lack) ended.Complete t → IsCountedOn c job (counts_in t.history)
+    counted_on : (t : TableView) → HasEnded (started_case c job laws start spared held done lack) ended.Complete t → IsCountedOn c job (run_counts_in t.history)
     counted_on t ends = (
       (done, t.history, t.state, gone_on ended.Complete t ends, (ends.driven.decided.1, refl, ends.counts.0, ends.counts.1)),
       few_failures c job laws start spared held done lack ended.Complete t ends ends.driven.decided.0,
@@ -252,7 +252,7 @@ module _ (c : RunCase) (job : Job) (laws : PlanLaws c job) (start : Shown) (spar
         let at_first = (goes.opened (plan_in c job) done op task).1 (named entry told op task is all) in
         goes.undone (settings_of c job) done t.history t.state op task legal ends.driven.decided (goes.remains (settings_of c job) (opening done) t.history t.state op task legal.1 at_first)
 
-    resume_by : (o : Outcome) (t : TableView) → HasEnded (started_case c job laws start spared held done lack) o t → ResumeEnded lack c job (outcome_answer o (counts_in t.history))
+    resume_by : (o : Outcome) (t : TableView) → HasEnded (started_case c job laws start spared held done lack) o t → ResumeEnded lack c job (outcome_answer o (run_counts_in t.history))
     resume_by ended.Complete t ends = (
       resumed,
       stored c job laws start spared held done lack step (λ entry told left. ends.complete (env_of c job entry) (left_start c job laws start spared entry told left)),

@@ -22,7 +22,6 @@ use Rattle.cu_state.specs.Left.{IsLeft, RunChange}
 use Rattle.cu_state.specs.Pieces.{Piece, Text, Chunk, IsPiece, piece_key, KeysApart}
 use Rattle.cu_table.specs.Machine.{opening}
 use Rattle.cu_table.specs.Table.{TableView, undone_among}
-use Rattle.cu_work.specs.Drive.{task_count}
 use Rattle.cu_work.specs.Order.{IsFree, IsFirst, plan_keys, operation_keys, task_keys}
 use Rattle.cu_work.specs.Run.{IsRecordFirst as IsTextFirst}
 use Rattle.cu_work.specs.Shared.{none_done, IsOpen}
@@ -40,7 +39,7 @@ use Rattle.cu_command.specs.declared.job.Job.{Job}
 use Rattle.cu_command.specs.declared.status.Status.{Status}
 use Rattle.cu_command.specs.declared.status.Status.TheVariants.{Done, WriteFault}
 use Rattle.cu_top.specs.Ask.{IsFirstOf, IsAskEnd, answer_of}
-use Rattle.cu_top.specs.Driven.{Driven, HasEnded, IsUnrun, counts_in, outcome_answer, fault_answer, drive_answer}
+use Rattle.cu_top.specs.Driven.{Driven, HasEnded, IsUnrun, run_counts_in, outcome_answer, fault_answer, drive_answer}
 use Rattle.cu_top.specs.Prepare.{HasPlan, asked_keys}
 use Rattle.cu_top.specs.Quiet.{IsCalm, IsCalmFor}
 use Rattle.cu_top.specs.Run.{RunCase, job_run, plan_in, env_of, IsAccepted, IsStarted, IsCleared, WhereQuiet, WroteTo, IsCounted, IsStop, TextPut, Ran, Ended, PrintsOnly}
@@ -49,6 +48,7 @@ use Rattle.cu_top.specs.declared.report.RunCounts.{RunCounts}
 use Rattle.cu_top.proofs.DriveLemmas.{HistoryLaws, PlanLaws, apart_run, open_start, left_start, rose_since, started_case, run_step, left_end, stored}
 use Rattle.cu_top.proofs.DriveLemmas.{history_of, few_failures, broken_task, broken_by, broken_rose}
 use Rattle.cu_top.proofs.PlanLemmas.{lent_within}
+use Rattle.cu_table.specs.Numbers.{task_count}
 
 -- ---- what is absent now was absent before
 
@@ -186,7 +186,7 @@ module _ (c : RunCase) (job : Job) (laws : PlanLaws c job) (start : Shown) (clea
             ];
       }
 
-      counted : (t : TableView) → HasEnded (started_case c job laws start cleared.spared Neither none lack) ended.Complete t → IsCounted c job (counts_in t.history)
+      counted : (t : TableView) → HasEnded (started_case c job laws start cleared.spared Neither none lack) ended.Complete t → IsCounted c job (run_counts_in t.history)
       counted t ends =
           let all = fresh none (all_replicated (task_count (plan_in c job))) in
           let length_is : length none ≡ task_count (plan_in c job) = length-replicate (task_count (plan_in c job)) false in
@@ -198,7 +198,7 @@ module _ (c : RunCase) (job : Job) (laws : PlanLaws c job) (start : Shown) (clea
           )
 
       -- what a run comes to whose tasks were run
-      ended_by : (o : Outcome) (t : TableView) → HasEnded (started_case c job laws start cleared.spared Neither none lack) o t → Ended lack c job (outcome_answer o (counts_in t.history))
+      ended_by : (o : Outcome) (t : TableView) → HasEnded (started_case c job laws start cleared.spared Neither none lack) o t → Ended lack c job (outcome_answer o (run_counts_in t.history))
       ended_by ended.Complete t ends = (
         run_started,
         stored c job laws start cleared.spared Neither none lack step (λ entry is calm. ends.complete (env_of c job entry) (left_start c job laws start cleared.spared entry is calm)),
@@ -294,7 +294,7 @@ prints_nothing status written = refl
 
 -- a run that was started and isn't complete ends by one of four answers
 pub stopped_of : (key : List ℕ) (result : Result RunEnd RunFault) → IfErr (drive_answer key result) IsStop
-stopped_of key (Ok e) = by_outcome e.outcome (counts_in e.table.history)
+stopped_of key (Ok e) = by_outcome e.outcome (run_counts_in e.table.history)
   where
     by_outcome : (o : Outcome) (counts : RunCounts) → IfErr (outcome_answer o counts) IsStop
     by_outcome ended.Complete counts = tt

@@ -11,7 +11,6 @@ use Rattle.cu_expr.specs.declared.inputs.InputInfo.{InputInfo}
 use Rattle.cu_form.specs.Expression.{Expression}
 use Rattle.cu_form.specs.declared.expr.Node.{Node}
 use Rattle.cu_form.specs.declared.form.Form.{Form}
-use Rattle.cu_lower.specs.Inputs.{layout_named}
 use Rattle.cu_lower.specs.Parts.{made_layout}
 use Rattle.cu_lower.specs.Premises.{expression_run as plan_run}
 use Rattle.cu_lower.specs.declared.options.Options.{Options}
@@ -30,8 +29,9 @@ use Rattle.cu_command.specs.Job.{IsJob}
 use Rattle.cu_command.specs.declared.job.Job.{Job}
 use Rattle.cu_top.specs.Quiet.{run_of_job}
 use Rattle.cu_top.specs.Record.{record_text, joined, inputs_text}
-use Rattle.cu_top.specs.Run.{elements_of, used_element, form_element}
 use Rattle.cu_top.specs.Versions.{StoresInputs, HoldSameChunks}
+use Rattle.cu_expr.specs.Inputs.{layout_named}
+use Rattle.cu_check.specs.Elements.{form_element, used_element, elements_of}
 
 module _ (text : List ℕ) (a : Shown) (inputs : List InputInfo) (job : Job) (stores : StoresInputs a text inputs) (is_job : IsJob a text job) where
   same_inputs : inputs ≡ job.inputs.items

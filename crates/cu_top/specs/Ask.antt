@@ -2,11 +2,11 @@
 use Rattle.std.specs.Prelude.{◌≡◌, ◌⊎◌, ℕ, true, List, Contains, Some}
 use Rattle.cu_form.specs.Expression.{Expression}
 use Rattle.cu_store.specs.Faults.{Rose}
-use Rattle.cu_store.specs.Held.{Contents}
+use Rattle.cu_store.specs.Held.{Contents, IsHeldIn}
 use Rattle.cu_store.specs.Steps.{Shown}
 use Rattle.cu_zarr.specs.Key.{metadata_key_of, zarray_key_of}
 use Rattle.cu_name.specs.Keys.{record_key_of}
-use Rattle.cu_work.specs.Order.{IsFirst, IsHeldIn}
+use Rattle.cu_work.specs.Order.{IsFirst}
 use Rattle.cu_work.specs.declared.way.WayFault.{WayFault}
 use Rattle.cu_work.specs.declared.way.WayFault.TheVariants.{Held, Failed, NoMemory}
 use Rattle.cu_command.specs.declared.status.Status.{Status}

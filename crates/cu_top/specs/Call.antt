@@ -30,24 +30,24 @@ command_view (asked.Print name retries) = print name retries
 command_view (asked.Demo size options) = demo size options
 
 -- the words were read, they are refused with this code, or memory was wanted
-abbrev pub IsAsked : Result Command ℕ → Result Asked LineFault → Type 0
-IsAsked command (Ok a) = command ≡ Ok (command_view a)
-IsAsked command (Err (Refused code)) = command ≡ Err code
-IsAsked command (Err Wanting) = Unit {0}
+abbrev pub AreWordsRead : Result Command ℕ → Result Asked LineFault → Type 0
+AreWordsRead command (Ok a) = command ≡ Ok (command_view a)
+AreWordsRead command (Err (Refused code)) = command ≡ Err code
+AreWordsRead command (Err Wanting) = Unit {0}
 
 -- options are in their ranges, a name is one, and a size is one of a demonstration
-abbrev pub IsSound : Asked → Type 0
-IsSound (asked.Run options) = IsInRange options
-IsSound (asked.Resume options) = IsInRange options
-IsSound (asked.Drop options) = IsInRange options
-IsSound (asked.Plan options) = IsInRange options
-IsSound (asked.Print name retries) = is_name name ≡ true
-IsSound (asked.Demo size options) = IsInRange options × (1 ≤ size) × (size ≤ 2048)
-IsSound a = Unit {0}
+abbrev pub AreSoundWords : Asked → Type 0
+AreSoundWords (asked.Run options) = IsInRange options
+AreSoundWords (asked.Resume options) = IsInRange options
+AreSoundWords (asked.Drop options) = IsInRange options
+AreSoundWords (asked.Plan options) = IsInRange options
+AreSoundWords (asked.Print name retries) = is_name name ≡ true
+AreSoundWords (asked.Demo size options) = IsInRange options × (1 ≤ size) × (size ≤ 2048)
+AreSoundWords a = Unit {0}
 
 -- what came of reading words that ask for this command
 abbrev pub IsReading : Result Command ℕ → Reading → Type 0
-IsReading command (reading.Asked a) = (command ≡ Ok (command_view a)) × IsSound a
+IsReading command (reading.Asked a) = (command ≡ Ok (command_view a)) × AreSoundWords a
 IsReading command (reading.Refused code) = command ≡ Err code
 IsReading command reading.NoMemory = Unit {0}
 
@@ -86,8 +86,8 @@ RunTells lack options old new NoMemory = IsShort lack options old new
 RunTells lack options old new status = CameToRun options old new (λ c. Ran lack c status)
 
 -- 3 with this fault, unless the text wasn't read or memory was wanted
-abbrev pub IsRefusedText : ExpressionFault → Status → Type 0
-IsRefusedText f (BadExpr code node) = (code ≡ f.code) × (node ≡ f.node)
-IsRefusedText f ReadFault = Unit {0}
-IsRefusedText f NoMemory = Unit {0}
-IsRefusedText f status = ⊥
+abbrev pub IsExpressionRefused : ExpressionFault → Status → Type 0
+IsExpressionRefused f (BadExpr code node) = (code ≡ f.code) × (node ≡ f.node)
+IsExpressionRefused f ReadFault = Unit {0}
+IsExpressionRefused f NoMemory = Unit {0}
+IsExpressionRefused f status = ⊥

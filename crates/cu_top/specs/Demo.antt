@@ -59,8 +59,8 @@ abbrev pub IsInputsKey : ℕ → List ℕ → Type 0
 IsInputsKey n key = IsArrayKey (demo_array Rows n) key ⊎ IsArrayKey (demo_array Columns n) key
 
 -- both inputs are stored, with all of their elements
-abbrev pub StoresInputs : ℕ → Option Contents → Type 0
-StoresInputs n held = StoresGiven (demo_array Rows n) held × StoresGiven (demo_array Columns n) held
+abbrev pub StoresDemoInputs : ℕ → Option Contents → Type 0
+StoresDemoInputs n held = StoresGiven (demo_array Rows n) held × StoresGiven (demo_array Columns n) held
 
 -- each put that is late on a key of an input carries its value
 abbrev pub AreInputsCalm : ℕ → List Write → Type 0
@@ -80,7 +80,7 @@ HidesNone late = (input : DemoInput) (bytes : List ℕ) → IsAmong late (zarray
 pub record IsDemoCalm (options : Options) (n : ℕ) (old : Shown) : Type 0 where
   pub inputs : AreInputsCalm n old.late
   pub hidden : HidesNone old.late
-  pub plan : (held : Contents) (job : Job) → StoresInputs n (Some held) → IsDemoJob n job → HasPlan options job
+  pub plan : (held : Contents) (job : Job) → StoresDemoInputs n (Some held) → IsDemoJob n job → HasPlan options job
       → IsQuiet (run_of_job options job) (stored_inputs (job_plan options job).arrays held) held old.late
 
 -- the same where the contents are told
@@ -136,8 +136,8 @@ IsPutEnd tries listed old new NoMemory = Unit {0}
 IsPutEnd tries listed old new status = ⊥
 
 -- the keys of one input, and those of both
-abbrev pub IsInputFault : ℕ → GivenArray → Shown → Shown → Status → Type 0
-IsInputFault tries a old new status = IsPutEnd tries (IsArrayKey a) old new status
+abbrev pub IsInputPutEnd : ℕ → GivenArray → Shown → Shown → Status → Type 0
+IsInputPutEnd tries a old new status = IsPutEnd tries (IsArrayKey a) old new status
 
 abbrev pub IsInputsFault : ℕ → ℕ → Shown → Shown → Status → Type 0
 IsInputsFault tries n old new status = IsPutEnd tries (IsInputsKey n) old new status
@@ -148,7 +148,7 @@ IsInputsFault tries n old new status = IsPutEnd tries (IsInputsKey n) old new st
 pub record FoundByDemo (n : ℕ) (old found : Shown) : Type 0 where
   pub lands : Lands (OrLate (InputsPut n) old.late) old.held found.held
   pub late : AllLateIn found.late (OrLate (InputsPut n) old.late)
-  pub stored : AreInputsCalm n old.late → StoresInputs n found.held
+  pub stored : AreInputsCalm n old.late → StoresDemoInputs n found.held
   pub faults : old.faults ≤ found.faults
 
 -- The keys of the inputs and of the plan were absent when the call began, and this is what its run found.
@@ -168,7 +168,7 @@ DemoRan c fact = (job : Job) × (found : Shown) × IsDemoStarted c job found × 
 
 -- each key of the inputs holds its value at the end
 abbrev pub KeepsInputs : DemoCase → Type 0
-KeepsInputs c = AreInputsCalm c.size c.old.depot.late → StoresInputs c.size c.new.depot.held
+KeepsInputs c = AreInputsCalm c.size c.old.depot.late → StoresDemoInputs c.size c.new.depot.held
 
 -- the output is complete, and the inputs are kept
 abbrev pub IsDemoComplete : DemoCase → (RunCase → Job → RunCounts → Type 0) → Type 0
@@ -189,19 +189,19 @@ IsResult None x = Unit {0}
 IsResult (Some held) x = stored_element (layout_view result_layout) (codes "demo_y") held [] ≡ Some x
 
 -- why reading it ended: all calls for the chunk failed, it has another length, or memory was wanted
-abbrev pub IsUnread : ℕ → Shown → Shown → Status → Type 0
-IsUnread tries old new (DepotFailed key) = (key ≡ result_key) × Rose tries old.faults new.faults
-IsUnread tries old new (BadChunk key got want) = (key ≡ result_key) × (want ≡ 8) × (got ≢ want) × HoldsLength new.held key got
-IsUnread tries old new NoMemory = Unit {0}
-IsUnread tries old new status = ⊥
+abbrev pub IsResultUnread : ℕ → Shown → Shown → Status → Type 0
+IsResultUnread tries old new (DepotFailed key) = (key ≡ result_key) × Rose tries old.faults new.faults
+IsResultUnread tries old new (BadChunk key got want) = (key ≡ result_key) × (want ≡ 8) × (got ≢ want) × HoldsLength new.held key got
+IsResultUnread tries old new NoMemory = Unit {0}
+IsResultUnread tries old new status = ⊥
 
 -- what reading the element and writing its text answers
 abbrev pub ResultTells : ℕ → (ℤ → List ℕ) → Seen → Seen → Status → Type 0
 ResultTells tries text old new Done = (x : ℤ) × IsResult new.depot.held x × WroteFront old.out.told new.out.told (text x) (length (text x))
 ResultTells tries text old new WriteFault = Rose 1 old.out.faults new.out.faults
     × ((x : ℤ) × IsResult new.depot.held x × (front : ℕ) × (front ≤ length (text x)) × WroteFront old.out.told new.out.told (text x) front)
-ResultTells tries text old new (BadChunk key got want) = (new.out.told ≡ old.out.told) × IsUnread tries old.depot new.depot (BadChunk key got want)
-ResultTells tries text old new (DepotFailed key) = (new.out.told ≡ old.out.told) × IsUnread tries old.depot new.depot (DepotFailed key)
+ResultTells tries text old new (BadChunk key got want) = (new.out.told ≡ old.out.told) × IsResultUnread tries old.depot new.depot (BadChunk key got want)
+ResultTells tries text old new (DepotFailed key) = (new.out.told ≡ old.out.told) × IsResultUnread tries old.depot new.depot (DepotFailed key)
 ResultTells tries text old new NoMemory = new.out.told ≡ old.out.told
 ResultTells tries text old new status = ⊥
 
@@ -249,7 +249,7 @@ IsDemoStopped lack c status = IsSilent c × DemoRan c (λ r job. Ran lack r stat
 
 -- the output is complete, and reading its chunk ended so
 abbrev pub IsDemoUnread : DemoCase → Status → Type 0
-IsDemoUnread c status = IsSilent c × IsDemoComplete c (λ r job n. IsUnread (c.options.retries + 1) c.old.depot c.new.depot status)
+IsDemoUnread c status = IsSilent c × IsDemoComplete c (λ r job n. IsResultUnread (c.options.retries + 1) c.old.depot c.new.depot status)
 
 -- 13: a chunk of an input or of the output has another length, which is so only where the contents aren't told
 abbrev pub IsDemoBadChunk : Bool → DemoCase → List ℕ → ℕ → ℕ → Type 0

@@ -3,7 +3,7 @@
 use Rattle.std.specs.Prelude.{◌≡◌, ◌⊎◌, Bool, IsTrue, ℕ, ◌+◌, ◌*◌, List, Option}
 use Rattle.std.specs.Prelude.{Result, Ok, Err, IfOk, IfErr}
 use Rattle.cu_store.specs.Faults.{last_count, Rose}
-use Rattle.cu_store.specs.Held.{Contents}
+use Rattle.cu_store.specs.Held.{Contents, IsHeldIn}
 use Rattle.cu_store.specs.Steps.{Shown, Changes, NoChange, PutOf, Steps}
 use Rattle.cu_op.specs.Value.{Elements}
 use Rattle.cu_history.specs.History.{is_start, is_failed, count_kind}
@@ -13,7 +13,6 @@ use Rattle.cu_state.specs.Left.{IsLeft, RunChange}
 use Rattle.cu_state.specs.Pieces.{PlanRun, text_at, IsComplete}
 use Rattle.cu_table.specs.Table.{TableView}
 use Rattle.cu_work.specs.Drive.{IsBadChunk, IsInputKey}
-use Rattle.cu_work.specs.Order.{IsHeldIn}
 use Rattle.cu_work.specs.Run.{IsRecordFirst, IsUnstored, HoldsTexts}
 use Rattle.cu_work.specs.Shared.{opened_table, HasDriven, HoldsDone, AreCounted}
 use Rattle.cu_work.specs.Shared.{IfBadChunk, IfComplete, IfLacked}
@@ -38,7 +37,7 @@ abbrev pub run_options : Options → RunOptions
 run_options o = record { workers = o.workers; retries = o.retries; backups = o.backups }
 
 -- with the plan of its job, and its two texts
-pub record IsReady (options : Options) (r : Ready) : Type 0 where
+pub record HasPlanAndTexts (options : Options) (r : Ready) : Type 0 where
   pub plan_is : r.plan ≡ job_plan options r.job
   pub record_is : r.record_text.items ≡ record_text options r.job
   pub metadata_is : r.metadata_text.items ≡ out_metadata r.job
@@ -126,8 +125,8 @@ pub record Driven (d : DriveCase) (result : Result RunEnd RunFault) : Type 0 whe
 -- ---- the answer
 
 -- how often tasks were started and failed
-abbrev pub counts_in : List Entry → RunCounts
-counts_in history =
+abbrev pub run_counts_in : List Entry → RunCounts
+run_counts_in history =
     record { starts = count_kind is_start history; failures = count_kind is_failed history }
 
 -- the counts, where all tasks are done; else what is answered
@@ -144,7 +143,7 @@ fault_answer of_record text.ShareFailed = DepotFailed of_record
 fault_answer of_record text.NoMemory = NoMemory
 
 abbrev pub drive_answer : List ℕ → Result RunEnd RunFault → Result RunCounts Status
-drive_answer of_record (Ok e) = outcome_answer e.outcome (counts_in e.table.history)
+drive_answer of_record (Ok e) = outcome_answer e.outcome (run_counts_in e.table.history)
 drive_answer of_record (Err f) = Err (fault_answer of_record f)
 
 -- the tasks were run, or not, and this is answered

@@ -26,14 +26,14 @@ use Rattle.cu_top.specs.declared.held.RecordFault.{RecordFault}
 use Rattle.cu_top.specs.declared.held.RecordFault.TheVariants as held
 
 -- the texts agree before this byte, and differ there, or one of them ends there
-abbrev pub IsFirstDifference : List ℕ → List ℕ → ℕ → Type 0
-IsFirstDifference a b place = (take place a ≡ take place b) × (slice_get a place ≢ slice_get b place)
+abbrev pub TextsDifferAt : List ℕ → List ℕ → ℕ → Type 0
+TextsDifferAt a b place = (take place a ≡ take place b) × (slice_get a place ≢ slice_get b place)
 
 -- where contents are told, the key holds a text that differs from this one first at this byte
 abbrev pub HoldsOther : Option Contents → List ℕ → List ℕ → ℕ → Type 0
 HoldsOther None key text place = Unit {0}
 HoldsOther (Some held) key text place =
-    (bytes : List ℕ) × (held key ≡ Some bytes) × IsFirstDifference bytes text place
+    (bytes : List ℕ) × (held key ≡ Some bytes) × TextsDifferAt bytes text place
 
 -- why a key doesn't hold this text: it is absent, it holds another, all calls for it failed, or
 -- memory was wanting
@@ -94,8 +94,8 @@ record_answer key held.NoMemory = NoMemory
 -- ---- a plan that is found again
 
 -- where contents are told when the command begins, a fact of the elements that the inputs then have
-abbrev pub WhereTold : RunCase → Job → (Elements → Type 0) → Type 0
-WhereTold c job fact = (entry : Contents) → c.old.depot.held ≡ Some entry → fact (env_of c job entry)
+abbrev pub WhereEntryTold : RunCase → Job → (Elements → Type 0) → Type 0
+WhereEntryTold c job fact = (entry : Contents) → c.old.depot.held ≡ Some entry → fact (env_of c job entry)
 
 -- The job was accepted and has a plan, its output is no input, and its record was found.
 pub record IsReopened (c : RunCase) (job : Job) : Type 0 where
@@ -111,7 +111,7 @@ pub record IsReopened (c : RunCase) (job : Job) : Type 0 where
 -- what a text tells beside this plan's: it is the same, or differs first at this byte
 abbrev pub IsCompared : List ℕ → List ℕ → Result (Unit {0}) RecordFault → Type 0
 IsCompared found text (Ok x) = found ≡ text
-IsCompared found text (Err (held.Other place)) = IsFirstDifference found text place
+IsCompared found text (Err (held.Other place)) = TextsDifferAt found text place
 IsCompared found text (Err f) = ⊥
 
 -- The plan of a text is found again: the job was accepted and has a plan, its output is no input,

@@ -2,9 +2,9 @@
 use Rattle.std.specs.Prelude.{ℕ, List, [], ◌∷◌, ◌++◌, length, codes}
 use Rattle.std.specs.Fmt.{decimal}
 use Rattle.cu_op.specs.PlanView.{PlanView}
-use Rattle.cu_work.specs.Drive.{task_count}
 use Rattle.cu_plan.specs.Text.{peak_of}
 use Rattle.cu_top.specs.declared.report.RunCounts.{RunCounts}
+use Rattle.cu_table.specs.Numbers.{task_count}
 
 -- `ok ops=N tasks=T starts=S failed=F peak=P`, with a line feed
 unfoldable pub report_line : PlanView → RunCounts → List ℕ

@@ -13,9 +13,9 @@ use Rattle.cu_history.specs.declared.entry.Entry.{Entry}
 use Rattle.cu_state.specs.Left.{IsLeft, RunChange}
 use Rattle.cu_state.specs.Pieces.{Text, HoldsPiece}
 use Rattle.cu_table.specs.Machine.{Machine, AllDone, opening}
-use Rattle.cu_table.specs.Numbers.{IsTask}
+use Rattle.cu_table.specs.Numbers.{IsTask, task_count}
 use Rattle.cu_table.specs.Table.{undone_among}
-use Rattle.cu_work.specs.Drive.{task_count, IsBadChunk, IsInputKey}
+use Rattle.cu_work.specs.Drive.{IsBadChunk, IsInputKey}
 use Rattle.cu_work.specs.Run.{HoldsTexts}
 use Rattle.cu_work.specs.Search.{NamesStored}
 use Rattle.cu_work.specs.World.{IsFound, IsStored}
@@ -31,8 +31,8 @@ use Rattle.cu_command.specs.declared.status.Status.TheVariants.{WriteFault, BadC
 use Rattle.cu_command.specs.declared.status.Status.TheVariants.{NoMemory}
 use Rattle.cu_lower.specs.declared.options.Options.{Options}
 use Rattle.cu_top.specs.Call.{AreSpared, CameToRun, IsReadFault}
-use Rattle.cu_top.specs.Driven.{counts_in}
-use Rattle.cu_top.specs.Held.{IsNotReopened, IsReopened, IsUnasked, WhereTold}
+use Rattle.cu_top.specs.Driven.{run_counts_in}
+use Rattle.cu_top.specs.Held.{IsNotReopened, IsReopened, IsUnasked, WhereEntryTold}
 use Rattle.cu_top.specs.Prepare.{keys_of, out_metadata}
 use Rattle.cu_top.specs.Report.{report_line}
 use Rattle.cu_top.specs.Run.{Scene, RunCase, plan_in, job_run, HasBroken, HoldsAll, IsHistory}
@@ -44,10 +44,10 @@ use Rattle.cu_top.specs.declared.report.RunCounts.{RunCounts}
 -- absent or holds its one value, then and now, and now the record is held.
 pub record IsResumed (c : RunCase) (job : Job) : Type 0 where
   pub reopened : IsReopened c job
-  pub opens : WhereTold c job (λ env. IsLeft (job_run c job) env c.old.depot)
+  pub opens : WhereEntryTold c job (λ env. IsLeft (job_run c job) env c.old.depot)
   pub step : Stepped (RunChange (job_run c job) c.old.depot) c.old.depot c.new.depot
-  pub left : WhereTold c job (λ env. IsLeft (job_run c job) env c.new.depot)
-  pub recorded : WhereTold c job (λ env. HoldsPiece (job_run c job) env (Text 0) c.new.depot)
+  pub left : WhereEntryTold c job (λ env. IsLeft (job_run c job) env c.new.depot)
+  pub recorded : WhereEntryTold c job (λ env. HoldsPiece (job_run c job) env (Text 0) c.new.depot)
 
 -- such a run, with a fact of its job
 abbrev pub Resumed : RunCase → (Job → Type 0) → Type 0
@@ -55,7 +55,7 @@ Resumed c fact = (job : Job) × IsResumed c job × fact job
 
 -- both texts are held
 abbrev pub HoldsTextsNow : RunCase → Job → Type 0
-HoldsTextsNow c job = WhereTold c job (λ env. HoldsTexts (job_run c job) env c.new.depot)
+HoldsTextsNow c job = WhereEntryTold c job (λ env. HoldsTexts (job_run c job) env c.new.depot)
 
 -- the output's metadata is put
 abbrev pub MetadataPut : RunCase → Job → Changes
@@ -93,7 +93,7 @@ undone_in done = undone_among (opening done).tasks
 -- All tasks are done. Each that wasn't found done was started once, and once more for each failure,
 -- or with second copies at least so often.
 abbrev pub IsCountedOn : RunCase → Job → RunCounts → Type 0
-IsCountedOn c job n = WentOn c job (λ done history m. AllDone (plan_in c job) m × (n ≡ counts_in history)
+IsCountedOn c job n = WentOn c job (λ done history m. AllDone (plan_in c job) m × (n ≡ run_counts_in history)
     × (n.failures + undone_in done ≤ n.starts) × (c.options.backups ≡ false → n.starts ≡ n.failures + undone_in done))
     × (n.failures ≤ c.options.retries * task_count (plan_in c job))
 
@@ -122,7 +122,7 @@ IsResumedBroken c op task = Rose (c.options.retries + 1) c.old.depot.faults c.ne
 -- 13: this chunk of an input, which a task reads, holds `got` bytes and not the `want` bytes of a chunk
 abbrev pub IsResumedBad : RunCase → List ℕ → ℕ → ℕ → Type 0
 IsResumedBad c key got want = Resumed c (λ job. IsBadChunk (plan_in c job) c.new.depot key got want
-    × HoldsTextsNow c job × WhereTold c job (λ env. IsInputKey (plan_in c job) key))
+    × HoldsTextsNow c job × WhereEntryTold c job (λ env. IsInputKey (plan_in c job) key))
 
 -- The calls for the output's metadata failed; or those to share the keys did, which the record's key
 -- stands for, and both texts are held. No chunk was put.

@@ -19,7 +19,6 @@ use Rattle.cu_form.specs.declared.expr.Node.{Node}
 use Rattle.cu_form.specs.declared.form.Form.{Form}
 use Rattle.cu_meaning.specs.Argument.{NodeElements, shape_of_node}
 use Rattle.cu_meaning.specs.Meaning.{meaning_of}
-use Rattle.cu_lower.specs.Inputs.{layout_named}
 use Rattle.cu_lower.specs.declared.options.Options.{Options}
 use Rattle.cu_state.specs.Pieces.{PlanRun, Text, KeysApart, HoldsPiece, IsComplete}
 use Rattle.cu_state.specs.Left.{IsQuiet, IsLeft, RunChange}
@@ -28,7 +27,7 @@ use Rattle.cu_history.specs.declared.entry.Entry.{Entry}
 use Rattle.cu_table.specs.declared.state.Ending.TheVariants.{Broken}
 use Rattle.cu_table.specs.Machine.{Machine, AllDone}
 use Rattle.cu_table.specs.Step.{Settings, Replays}
-use Rattle.cu_work.specs.Drive.{task_count, IsBadChunk, IsInputKey}
+use Rattle.cu_work.specs.Drive.{IsBadChunk, IsInputKey}
 use Rattle.cu_work.specs.Order.{IsFree}
 use Rattle.cu_work.specs.Run.{HoldsTexts}
 use Rattle.cu_work.specs.Shared.{none_done, HoldsDone}
@@ -46,6 +45,9 @@ use Rattle.cu_top.specs.Record.{record_text}
 use Rattle.cu_top.specs.Quiet.{run_of_job}
 use Rattle.cu_top.specs.Report.{report_line}
 use Rattle.cu_top.specs.declared.report.RunCounts.{RunCounts}
+use Rattle.cu_expr.specs.Inputs.{layout_named}
+use Rattle.cu_check.specs.Elements.{form_element, used_element, elements_of}
+use Rattle.cu_table.specs.Numbers.{task_count}
 
 -- what is seen of the outside at one moment: the source, the sink and the depot
 pub record Scene : Type 0 where
@@ -144,19 +146,6 @@ HoldsBoth c job = WhereLeft c job (λ env. HoldsTexts (job_run c job) env c.new.
 
 -- ---- the output
 
--- the element of the array that an input node uses, by what was held; 0 where it has none, and for any other node
-abbrev pub form_element : Job → Contents → List ℕ → Form → ℤ
-form_element job entry idx (Form.Input name) = unwrap_or (stored_element (layout_view (layout_named job.inputs.items name)) name entry idx) (pos 0)
-form_element job entry idx form = pos 0
-
-abbrev pub used_element : Job → Contents → List ℕ → Option Node → ℤ
-used_element job entry idx (Some node) = form_element job entry idx node.form
-used_element job entry idx None = pos 0
-
--- the elements of the input nodes
-abbrev pub elements_of : Job → Contents → NodeElements
-elements_of job entry k idx = used_element job entry idx (slice_get job.expr.nodes k)
-
 -- Each stored element of the output is what the expression means there, over the elements that the inputs had.
 abbrev pub IsMeant : Job → Contents → Contents → Type 0
 IsMeant job entry now = (idx : List ℕ) → IsInside (shape_of_node job.types job.expr.out) idx
@@ -202,8 +191,8 @@ WroteTo c line n = WroteFront c.old.sink.told c.new.sink.told line n
 -- ---- the answers
 
 -- 0: the output is complete, and the whole line was written
-abbrev pub IsDone : RunCase → Type 0
-IsDone c = Started c (λ job. HoldsAll c job × Counted c job (λ line. WroteTo c line (length line)))
+abbrev pub IsRunDone : RunCase → Type 0
+IsRunDone c = Started c (λ job. HoldsAll c job × Counted c job (λ line. WroteTo c line (length line)))
 
 -- 12: the output is complete, the sink failed, and a front of the line was written
 abbrev pub IsUnreported : RunCase → Type 0
@@ -289,7 +278,7 @@ WasRefused c status = ⊥
 
 -- what a run answers, of a depot whose yards lack memory or don't
 abbrev pub Ran : Bool → RunCase → Status → Type 0
-Ran lack c Done = IsDone c
+Ran lack c Done = IsRunDone c
 Ran lack c WriteFault = IsUnreported c
 Ran lack c (TaskFailed op task) = IsTaskFailed c op task
 Ran lack c (BadChunk key got want) = IsBadInput c key got want

@@ -3,7 +3,6 @@ use Rattle.std.specs.Prelude.{◌≡◌, ℕ, List, All, Contains, Some}
 use Rattle.cu_expr.specs.declared.inputs.InputInfo.{InputInfo}
 use Rattle.cu_form.specs.declared.expr.Node.{Node}
 use Rattle.cu_form.specs.declared.form.Form.{Form}
-use Rattle.cu_lower.specs.Inputs.{layout_named}
 use Rattle.cu_store.specs.Held.{Contents}
 use Rattle.cu_store.specs.Steps.{Shown}
 use Rattle.cu_zarr.specs.Key.{chunk_key_of}
@@ -11,6 +10,7 @@ use Rattle.cu_command.specs.Inputs.{names_of, AreCalmAt}
 use Rattle.cu_command.specs.Job.{names_said}
 use Rattle.cu_command.specs.Stored.{StoresLayout}
 use Rattle.cu_command.specs.declared.job.Job.{Job}
+use Rattle.cu_expr.specs.Inputs.{layout_named}
 
 -- The names that a text uses have metadata of these layouts, of version 3 or of version 2, and no other is late.
 pub record StoresInputs (entry : Shown) (text : List ℕ) (inputs : List InputInfo) : Type 0 where

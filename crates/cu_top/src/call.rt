@@ -11,11 +11,11 @@ ghost use Rattle.cu_command.specs.Streams.{ReadsAll};
 ghost use Rattle.cu_load.specs.Load.{Loaded};
 ghost use Rattle.cu_lower.specs.declared.options.Options.{Options};
 ghost use Rattle.cu_print.specs.Print.{Printed};
-ghost use Rattle.cu_top.specs.Call.{CameToRun, DidNothing, IsReadFault, IsShort, IsRefusedText, IsWordsRefused, RunTells};
+ghost use Rattle.cu_top.specs.Call.{CameToRun, DidNothing, IsReadFault, IsShort, IsExpressionRefused, IsWordsRefused, RunTells};
 ghost use Rattle.cu_top.specs.Complete.{HasWholeInputs, IsPlannable, IsResumable, IsResumeCause, IsServable, IsServed};
 ghost use Rattle.cu_top.specs.Planned.{IsPrinted, PlanTells};
 ghost use Rattle.cu_top.specs.Quiet.{IsCalm};
-ghost use Rattle.cu_top.specs.Run.{scene, IsDone, IsUnreported, IsTaskFailed, IsBadInput, IsDepotFailed, HasNoPlan, IsBlocked, IsMissing, IsRefused, IsBadExpr, IsBadType, PrintsOnly};
+ghost use Rattle.cu_top.specs.Run.{scene, IsRunDone, IsUnreported, IsTaskFailed, IsBadInput, IsDepotFailed, HasNoPlan, IsBlocked, IsMissing, IsRefused, IsBadExpr, IsBadType, PrintsOnly};
 ghost use Rattle.cu_top.specs.Demo.{DemoTells, IsDemoAtRest, IsDemoCalm, IsDemoDone, WhereTold, demo_case};
 ghost use Rattle.cu_top.specs.Drop.{DropTells};
 ghost use Rattle.cu_top.specs.Held.{IsLeftEntry};
@@ -70,7 +70,7 @@ pub fn top<H: Threads + Wait + Sync, R: Source, W: Sink, D: Share, G: Gate>(
     // What `run` answers, and what it leaves.
     ensures done { (options : Options) → command_of (map string_bytes words.now) ≡ Ok (run options) → result ≡ Status.Done
         → CameToRun options (scene (stream (R.left src.old) (R.faults src.old)) (stream (W.written out.old) (W.faults out.old)) (D.shown depot.old))
-        (scene (stream (R.left src.new) (R.faults src.new)) (stream (W.written out.new) (W.faults out.new)) (D.shown depot.new)) IsDone }
+        (scene (stream (R.left src.new) (R.faults src.new)) (stream (W.written out.new) (W.faults out.new)) (D.shown depot.new)) IsRunDone }
     ensures unreported { (options : Options) → command_of (map string_bytes words.now) ≡ Ok (run options) → result ≡ Status.WriteFault
         → CameToRun options (scene (stream (R.left src.old) (R.faults src.old)) (stream (W.written out.old) (W.faults out.old)) (D.shown depot.old))
         (scene (stream (R.left src.new) (R.faults src.new)) (stream (W.written out.new) (W.faults out.new)) (D.shown depot.new)) IsUnreported }
@@ -106,7 +106,7 @@ pub fn top<H: Threads + Wait + Sync, R: Source, W: Sink, D: Share, G: Gate>(
         (scene (stream (R.left src.new) (R.faults src.new)) (stream (W.written out.new) (W.faults out.new)) (D.shown depot.new)) (λ c. IsBadType c code node) }
     // A text that is no expression is refused, with its first fault.
     ensures refused_text { (options : Options) (text : List ℕ) (fault : ExpressionFault) → command_of (map string_bytes words.now) ≡ Ok (run options) → R.left src.old ≡ Some text
-        → expression_of text ≡ Err fault → IsRefusedText fault result }
+        → expression_of text ≡ Err fault → IsExpressionRefused fault result }
     ensures read_fault { (options : Options) → command_of (map string_bytes words.now) ≡ Ok (run options) → result ≡ Status.ReadFault
         → IsReadFault (scene (stream (R.left src.old) (R.faults src.old)) (stream (W.written out.old) (W.faults out.old)) (D.shown depot.old))
         (scene (stream (R.left src.new) (R.faults src.new)) (stream (W.written out.new) (W.faults out.new)) (D.shown depot.new)) }
@@ -145,7 +145,7 @@ pub fn top<H: Threads + Wait + Sync, R: Source, W: Sink, D: Share, G: Gate>(
         → CameToRun options (scene (stream (R.left src.old) (R.faults src.old)) (stream (W.written out.old) (W.faults out.old)) (D.shown depot.old))
         (scene (stream (R.left src.new) (R.faults src.new)) (stream (W.written out.new) (W.faults out.new)) (D.shown depot.new)) IsPrinted }
     ensures plan_refused_text { (options : Options) (text : List ℕ) (fault : ExpressionFault) → command_of (map string_bytes words.now) ≡ Ok (plan options) → R.left src.old ≡ Some text
-        → expression_of text ≡ Err fault → IsRefusedText fault result }
+        → expression_of text ≡ Err fault → IsExpressionRefused fault result }
     ensures plan_complete { (text : List ℕ) → R.left src.old ≡ Some text → IsPlannable (map string_bytes words.now) text (D.shown depot.old)
         → StoodStill (R.faults src.old) (R.faults src.new) → StoodStill (W.faults out.old) (W.faults out.new) → StoodStill (D.shown depot.old).faults (D.shown depot.new).faults → IsServed result }
     // What `load` and `print` answer, and what they leave.

@@ -12,8 +12,8 @@ ghost use Rattle.cu_lower.specs.declared.options.Options.{Options};
 ghost use Rattle.cu_work.specs.Order.{IsFree};
 ghost use Rattle.cu_top.specs.Demo.{AreInputsCalm, AreInputsFree, DemoTells, InputsPut};
 ghost use Rattle.cu_top.specs.Demo.{IsDemoAskEnd, IsDemoCalm, IsInputsFault, IsResult};
-ghost use Rattle.cu_top.specs.Demo.{IsUnread, StoresInputs, WhereTold, demo_array, demo_case};
-ghost use Rattle.cu_top.specs.Demo.{IsDemoRefused, IsInputFault, ResultTells, result_key};
+ghost use Rattle.cu_top.specs.Demo.{IsResultUnread, StoresDemoInputs, WhereTold, demo_array, demo_case};
+ghost use Rattle.cu_top.specs.Demo.{IsDemoRefused, IsInputPutEnd, ResultTells, result_key};
 ghost use Rattle.cu_top.specs.Demo.{result_line};
 ghost use Rattle.cu_top.specs.Prepare.{HasNoOwnInput, HasPlan, job_plan, asked_keys};
 ghost use Rattle.cu_top.specs.Report.{report_line};
@@ -101,7 +101,7 @@ fn store_input<D: Depot>(
     requires few { size ≤ 2048 }
     ensures step { Stepped (ArrayPut (demo_array input size)) (D.shown depot.old) (D.shown depot.new) }
     ensures stores { IsArrayCalm (demo_array input size) (D.shown depot.old).late → OnOk result (StoresGiven (demo_array input size) (D.shown depot.new).held) }
-    ensures refused { IfErr result (IsInputFault (retries + 1) (demo_array input size) (D.shown depot.old) (D.shown depot.new)) }
+    ensures refused { IfErr result (IsInputPutEnd (retries + 1) (demo_array input size) (D.shown depot.old) (D.shown depot.new)) }
 {
     let Ok(elements) = demo_elements(alloc, input, size) else {
         return Err(Status::NoMemory);
@@ -134,7 +134,7 @@ fn store_inputs<D: Depot>(
     requires some { 1 ≤ size }
     requires few { size ≤ 2048 }
     ensures step { Stepped (InputsPut size) (D.shown depot.old) (D.shown depot.new) }
-    ensures stores { AreInputsCalm size (D.shown depot.old).late → OnOk result (StoresInputs size (D.shown depot.new).held) }
+    ensures stores { AreInputsCalm size (D.shown depot.old).late → OnOk result (StoresDemoInputs size (D.shown depot.new).held) }
     ensures refused { IfErr result (IsInputsFault (retries + 1) size (D.shown depot.old) (D.shown depot.new)) }
 {
     if let Err(status) = store_input(alloc, depot, DemoInput::Rows, size, retries) {
@@ -157,7 +157,7 @@ fn result_key() -> Key
 fn read_result<D: Depot>(depot: &mut D, retries: u32) -> Result<i128, Status>
     ensures element { IfOk result (IsResult (D.shown depot.new).held) }
     ensures step { Stepped NoChange (D.shown depot.old) (D.shown depot.new) }
-    ensures refused { IfErr result (IsUnread (retries + 1) (D.shown depot.old) (D.shown depot.new)) }
+    ensures refused { IfErr result (IsResultUnread (retries + 1) (D.shown depot.old) (D.shown depot.new)) }
 {
     let key = result_key();
     let mut bytes = [0u8; 8];

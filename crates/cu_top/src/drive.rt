@@ -6,7 +6,7 @@ ghost use Rattle.cu_store.specs.Held.{Contents};
 ghost use Rattle.cu_state.specs.Pieces.{KeysApart, InputsApart};
 ghost use Rattle.cu_work.specs.Shared.{IsOpen, IsMemoryFor};
 ghost use Rattle.cu_work.specs.World.{IsFound};
-ghost use Rattle.cu_top.specs.Driven.{AreHeld, IsReady, WasDriven, counts_in, drive_answer};
+ghost use Rattle.cu_top.specs.Driven.{AreHeld, HasPlanAndTexts, WasDriven, run_counts_in, drive_answer};
 ghost use Rattle.cu_top.specs.Driven.{drive_case, fault_answer, outcome_answer, run_options};
 ghost use Rattle.cu_top.specs.Prepare.{job_plan, HasPlan};
 ghost use Rattle.cu_top.specs.Quiet.{run_of_job};
@@ -43,7 +43,7 @@ pub fn make_ready(alloc: Global, options: &Options, prepared: Prepared) -> Resul
     requires plan { prepared.plan ≡ job_plan options.now prepared.job }
     requires plain { has_float (view prepared.job.value) ≡ false }
     ensures job { IfOk result (λ r. r.job ≡ prepared.job) }
-    ensures ready { IfOk result (IsReady options.now) }
+    ensures ready { IfOk result (HasPlanAndTexts options.now) }
 {
     merged_plan_law();
     let Prepared { job, plan } = prepared;
@@ -113,7 +113,7 @@ pub fn drive_plan<H: Threads + Wait + Sync, D: Share, G: Gate>(
     depot: &mut D,
     gate: &G,
 ) -> Result<RunCounts, Status>
-    requires ready { IsReady options.now ready.now }
+    requires ready { HasPlanAndTexts options.now ready.now }
     requires workers { 0 < options.now.workers }
     requires apart { KeysApart (run_of_job options.now ready.now.job) }
     requires inputs { InputsApart (run_of_job options.now ready.now.job) }

@@ -3,8 +3,8 @@ ghost use Rattle.std.specs.Prelude.{◌≡◌, ◌+◌, None, IfErr, IfOk, IfSom
 ghost use Rattle.cu_store.specs.Held.{Holds};
 ghost use Rattle.cu_store.specs.Steps.{NoChange, Steps};
 ghost use Rattle.cu_command.specs.Seen.{Stream};
-ghost use Rattle.cu_top.specs.Driven.{IsReady};
-ghost use Rattle.cu_top.specs.Held.{IsCompared, IsFirstDifference, IsFoundAgain};
+ghost use Rattle.cu_top.specs.Driven.{HasPlanAndTexts};
+ghost use Rattle.cu_top.specs.Held.{IsCompared, TextsDifferAt, IsFoundAgain};
 ghost use Rattle.cu_top.specs.Held.{IsNotReopened, IsRecordFault, record_answer};
 ghost use Rattle.cu_top.specs.Run.{scene, case};
 ghost use Rattle.cu_top.specs.Words.{IsInRange};
@@ -33,7 +33,7 @@ pub enum RecordFault {
 
 /// The first byte at which two texts differ, or one of them ends.
 fn first_difference(a: &[u8], b: &[u8]) -> Option<usize>
-    ensures some { IfSome result (IsFirstDifference a.now b.now) }
+    ensures some { IfSome result (TextsDifferAt a.now b.now) }
     ensures none { result ≡ None → a.now ≡ b.now }
 {
     let shorter = a.len().min(b.len());
@@ -131,7 +131,7 @@ pub fn reopen<D: Depot>(
     requires options { IsInRange options.now }
     ensures found { IfOk result (λ r. IsFoundAgain options.now text.now (D.shown depot.old)
         (D.shown depot.new) r.job) }
-    ensures ready { IfOk result (IsReady options.now) }
+    ensures ready { IfOk result (HasPlanAndTexts options.now) }
     ensures refused { (source next sink after : Stream)
         → IfErr result (IsNotReopened (case options.now text.now
         (scene source sink (D.shown depot.old)) (scene next after (D.shown depot.new)))) }

@@ -1,14 +1,13 @@
 //! A run that goes on from what one that was stopped has left.
 ghost use Rattle.std.specs.Prelude.{◌≡◌, ℕ, ◌+◌, List, IfErr, IfOk, Some};
 ghost use Rattle.cu_name.specs.Keys.{record_key_of};
-ghost use Rattle.cu_store.specs.Held.{Contents};
-ghost use Rattle.cu_work.specs.Order.{IsHeldIn};
+ghost use Rattle.cu_store.specs.Held.{Contents, IsHeldIn};
 ghost use Rattle.cu_work.specs.Search.{NamesStored};
 ghost use Rattle.cu_work.specs.Shared.{IsMemoryFor};
 ghost use Rattle.cu_work.specs.World.{IsFound};
 ghost use Rattle.cu_command.specs.Seen.{Stepped, Stream, stream};
 ghost use Rattle.cu_store.specs.Steps.{NoChange, Shown};
-ghost use Rattle.cu_top.specs.Driven.{AreHeld, IsReady, run_options};
+ghost use Rattle.cu_top.specs.Driven.{AreHeld, HasPlanAndTexts, run_options};
 ghost use Rattle.cu_top.specs.Held.{IsFoundAgain, IsLeftEntry};
 ghost use Rattle.cu_top.specs.Prepare.{job_plan, keys_of};
 ghost use Rattle.cu_top.specs.Quiet.{run_of_job};
@@ -58,7 +57,7 @@ fn find_rest<D: Depot>(
     ready: &Ready,
     depot: &mut D,
 ) -> Result<Rest, Status>
-    requires ready { IsReady options.now ready.now }
+    requires ready { HasPlanAndTexts options.now ready.now }
     requires known { IsHeldIn (D.shown depot.old).held (record_key_of ready.now.job.expr.store_as) }
     ensures has { IfOk result (λ r. HasRecord r.held) }
     ensures texts { IfOk result (λ r. AreHeld r.held (run_of_job options.now ready.now.job)
@@ -100,7 +99,7 @@ fn go_on<H: Threads + Wait + Sync, D: Share, G: Gate>(
     gate: &G,
 ) -> Result<RunCounts, Status>
     requires options { IsInRange options.now }
-    requires ready { IsReady options.now ready.now }
+    requires ready { HasPlanAndTexts options.now ready.now }
     requires left { (text : List ℕ) × (old : Shown)
         × IsFoundAgain options.now text old (D.shown depot.old) ready.now.job × IsLeftEntry options.now text old }
     ensures ended { (text : List ℕ) (old : Shown) (source next sink after : Stream)

@@ -2,7 +2,7 @@
 ghost use Rattle.std.specs.Prelude.{◌≡◌, ℕ, List, IfErr};
 ghost use Rattle.cu_store.specs.Steps.{Shown};
 ghost use Rattle.cu_command.specs.Seen.{Stream, stream};
-ghost use Rattle.cu_top.specs.Driven.{IsReady};
+ghost use Rattle.cu_top.specs.Driven.{HasPlanAndTexts};
 ghost use Rattle.cu_top.specs.Prepare.{HasPlan};
 ghost use Rattle.cu_top.specs.Quiet.{IsCalm};
 ghost use Rattle.cu_top.specs.Run.{scene, case, Ran, PrintsOnly, IsCleared, IsStop, Ended};
@@ -35,7 +35,7 @@ pub fn store_plan<H: Threads + Wait + Sync, D: Share, G: Gate>(
 ) -> Result<RunCounts, Status>
     requires options { IsInRange options.now }
     requires planned { HasPlan options.now ready.now.job }
-    requires ready { IsReady options.now ready.now }
+    requires ready { HasPlanAndTexts options.now ready.now }
     requires quiet { (text : List ℕ) × (old : Shown)
         × IsCleared options.now text old (D.shown depot.old) ready.now.job × IsCalm options.now text old }
     ensures ended { (text : List ℕ) (old : Shown) (source next sink after : Stream)

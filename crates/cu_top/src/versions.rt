@@ -7,8 +7,8 @@ ghost use Rattle.cu_store.specs.Steps.{Shown};
 ghost use Rattle.cu_command.specs.Job.{IsJob};
 ghost use Rattle.cu_command.specs.declared.job.Job.{Job};
 ghost use Rattle.cu_top.specs.Quiet.{run_of_job};
-ghost use Rattle.cu_top.specs.Run.{elements_of};
 ghost use Rattle.cu_top.specs.Versions.{StoresInputs, HoldSameChunks};
+ghost use Rattle.cu_check.specs.Elements.{elements_of};
 
 /// Where two depots have metadata of the same layouts for the names of a text, be it of version 3 or of version 2, a job of the text over
 /// one and a job over the other have the same plan, record and metadata. Where the same chunks are held, their inputs have the same

@@ -1,6 +1,6 @@
 //! What the words of the command line ask for.
 ghost use Rattle.std.specs.Prelude.{◌≡◌, Err, IfOk, map, string_bytes};
-ghost use Rattle.cu_top.specs.Call.{IsAsked, IsReading, IsSound};
+ghost use Rattle.cu_top.specs.Call.{AreWordsRead, IsReading, AreSoundWords};
 ghost use Rattle.cu_top.specs.Words.{command_by, command_of, demo_of, options_among, print_of};
 ghost use Rattle.cu_top.specs.Words.{IsInRange};
 ghost use Rattle.cu_words.specs.Words.{AreInRange, line_view, positionals_held};
@@ -62,11 +62,11 @@ pub fn read_words(alloc: Global, words: &[String]) -> Reading
 /// The same, as the line tells it.
 #[tactic(auto, unfolding(crate::specs::Words::command_of))]
 fn read_asked(alloc: Global, words: &[String]) -> Result<Asked, LineFault>
-    ensures answer { IsAsked (command_of (map string_bytes words.now)) result }
+    ensures answer { AreWordsRead (command_of (map string_bytes words.now)) result }
     // Memory isn't wanted where the command is missing or unknown.
     ensures unknown { command_of (map string_bytes words.now) ≡ Err 1
         → result ≡ Err (LineFault.Refused 1) }
-    ensures sound { IfOk result IsSound }
+    ensures sound { IfOk result AreSoundWords }
 {
     match read_line(alloc, words) {
         Ok(line) => asked_by(&line),
@@ -77,8 +77,8 @@ fn read_asked(alloc: Global, words: &[String]) -> Result<Asked, LineFault>
 /// What a line asks for.
 fn asked_by(line: &CommandLine) -> Result<Asked, LineFault>
     requires ranges { AreInRange line.now.numbers }
-    ensures answer { IsAsked (command_by (Ok (line_view line.now))) result }
-    ensures sound { IfOk result IsSound }
+    ensures answer { AreWordsRead (command_by (Ok (line_view line.now))) result }
+    ensures sound { IfOk result AreSoundWords }
 {
     let options = options_among(&line.numbers);
     match line.command {
@@ -115,8 +115,8 @@ fn options_among(numbers: &Numbers) -> Options
 
 /// The print of the array that the positional names.
 fn print_asked(name: Option<&str>, retries: u32) -> Result<Asked, LineFault>
-    ensures answer { IsAsked (print_of (positionals_held name.entry) retries) result }
-    ensures sound { IfOk result IsSound }
+    ensures answer { AreWordsRead (print_of (positionals_held name.entry) retries) result }
+    ensures sound { IfOk result AreSoundWords }
 {
     let Some(word) = name else {
         return Err(LineFault::Refused { code: 2 });
@@ -133,8 +133,8 @@ fn print_asked(name: Option<&str>, retries: u32) -> Result<Asked, LineFault>
 /// The demonstration whose size the positional gives.
 fn demo_asked(size: Option<&str>, options: Options) -> Result<Asked, LineFault>
     requires options { IsInRange options }
-    ensures answer { IsAsked (demo_of (positionals_held size.entry) options) result }
-    ensures sound { IfOk result IsSound }
+    ensures answer { AreWordsRead (demo_of (positionals_held size.entry) options) result }
+    ensures sound { IfOk result AreSoundWords }
 {
     let Some(word) = size else {
         return Err(LineFault::Refused { code: 2 });

@@ -17,7 +17,7 @@ use Rattle.cu_pull.specs.Pull.{has_axis}
 use Rattle.cu_pull.specs.declared.axes.Axes.{Axes}
 use Rattle.cu_node.specs.Info.{IsInfo}
 use Rattle.cu_node.specs.declared.info.NodeInfo.{NodeInfo}
-use Rattle.cu_tree.specs.Partials.{partial_chunk, first_partial, inner_count, product_partial, merged, arrays_written, partials_before, IsMiddle}
+use Rattle.cu_tree.specs.Partials.{partial_chunk_from, first_partial, inner_count, product_partial, merged, arrays_written, partials_before, IsMiddle}
 use Rattle.cu_tree.specs.Rounds.{AreRounds}
 use Rattle.cu_tree.specs.declared.round.Round.{Round}
 use Rattle.cu_tree.proofs.Sizes.{size_positive, div_ceil_least, over_one, at_least_one-append, product-append, counts_of-append, length-dims, length-chunk, chunk_positive, dims_within, chunks_same, count_few}
@@ -40,7 +40,7 @@ of_info i h =
       bytes = b;
     }
 
-pub of_first : (t : Dtype) (axes : Axes) (i : NodeInfo) → IsInfo i → product (partial_chunk axes 0 i.chunk) * size_of t ≤ 2 ^ 28 → IsMiddle (first_partial t axes i)
+pub of_first : (t : Dtype) (axes : Axes) (i : NodeInfo) → IsInfo i → product (partial_chunk_from axes 0 i.chunk) * size_of t ≤ 2 ^ 28 → IsMiddle (first_partial t axes i)
 of_first t axes i h b =
     let r = h.ranks in
     let s = h.short in
@@ -48,7 +48,7 @@ of_first t axes i h b =
     let l = length-dims (has_axis axes) 0 i.dims i.chunk r in
     let m = length-chunk axes 0 i.chunk in
     let w = dims_within (has_axis axes) 0 i.dims i.chunk r h.positive in
-    let p = elements_of t (product (partial_chunk axes 0 i.chunk)) (2 ^ 28) b in
+    let p = elements_of t (product (partial_chunk_from axes 0 i.chunk)) (2 ^ 28) b in
     record {
       grid = record { ranks = omega arith; short = omega arith; positive = chunk_positive axes 0 i.chunk h.positive; elements = omega arith; chunk_elements = omega arith };
       chunks = rw (chunks_same axes 0 i.dims i.chunk r) (let c = h.chunks in omega arith);

@@ -16,7 +16,7 @@ use Rattle.cu_pull.specs.Pull.{has_axis}
 use Rattle.cu_pull.specs.declared.axes.Axes.{Axes}
 use Rattle.cu_node.specs.Info.{IsInfo}
 use Rattle.cu_node.specs.declared.info.NodeInfo.{NodeInfo}
-use Rattle.cu_tree.specs.Partials.{partial_size, partial_chunk}
+use Rattle.cu_tree.specs.Partials.{partial_size, partial_chunk_from}
 
 -- ---- quotients rounded up
 
@@ -101,7 +101,7 @@ dims_from axes first (x ∷ r) (n ∷ ns) (c ∷ cs) a b h =
     by_axis axes first x n c r ns cs false e here rest = let w = rw e at here in rw (e, w, rest)
 
 pub chunk_from : (axes : Axes) (first : ℕ) (r cs : List ℕ) → length r ≡ length cs
-    → ((k : ℕ) → k < length cs → get_or r k 0 ≡ (if has_axis axes (first + k) then 1 else get_or cs k 0)) → r ≡ partial_chunk axes first cs
+    → ((k : ℕ) → k < length cs → get_or r k 0 ≡ (if has_axis axes (first + k) then 1 else get_or cs k 0)) → r ≡ partial_chunk_from axes first cs
 chunk_from axes first [] [] a h = refl
 chunk_from axes first [] (c ∷ cs) a h = absurd (omega arith)
 chunk_from axes first (x ∷ r) [] a h = absurd (omega arith)
@@ -125,11 +125,11 @@ length-dims p first (n ∷ ns) (c ∷ cs) e = by_test p first n c ns cs (p first
     by_test p first n c ns cs true t e = rw t (omega arith)
     by_test p first n c ns cs false t e = rw t (omega arith)
 
-pub length-chunk : (axes : Axes) (first : ℕ) (cs : List ℕ) → length (partial_chunk axes first cs) ≡ length cs
+pub length-chunk : (axes : Axes) (first : ℕ) (cs : List ℕ) → length (partial_chunk_from axes first cs) ≡ length cs
 length-chunk axes first [] = refl
 length-chunk axes first (c ∷ cs) = let e = length-chunk axes (first + 1) cs in omega arith
 
-pub chunk_positive : (axes : Axes) (first : ℕ) (cs : List ℕ) → All (λ c. 0 < c) cs → All (λ c. 0 < c) (partial_chunk axes first cs)
+pub chunk_positive : (axes : Axes) (first : ℕ) (cs : List ℕ) → All (λ c. 0 < c) cs → All (λ c. 0 < c) (partial_chunk_from axes first cs)
 chunk_positive axes first [] h k d l = absurd (omega arith)
 chunk_positive axes first (c ∷ cs) h zero d l = by_axis (has_axis axes first) (h 0 0 (omega arith))
   where
@@ -173,15 +173,15 @@ dims_within p first (n ∷ ns) (c ∷ cs) e h =
 
 -- as many chunks as the source has
 pub chunks_same : (axes : Axes) (first : ℕ) (ns cs : List ℕ) → length cs ≡ length ns
-    → at_least_one (counts_of (group_counts (groups_from (has_axis axes) first cs) ns) (partial_chunk axes first cs)) ≡ at_least_one (counts_of ns cs)
+    → at_least_one (counts_of (group_counts (groups_from (has_axis axes) first cs) ns) (partial_chunk_from axes first cs)) ≡ at_least_one (counts_of ns cs)
 chunks_same axes first [] [] e = refl
 chunks_same axes first [] (c ∷ cs) e = absurd (omega arith)
 chunks_same axes first (n ∷ ns) [] e = absurd (omega arith)
 chunks_same axes first (n ∷ ns) (c ∷ cs) e = by_axis axes first n c ns cs (has_axis axes first) refl (chunks_same axes (first + 1) ns cs (omega arith))
   where
     by_axis : (axes : Axes) (first n c : ℕ) (ns cs : List ℕ) (b : Bool) → has_axis axes first ≡ b
-        → at_least_one (counts_of (group_counts (groups_from (has_axis axes) (first + 1) cs) ns) (partial_chunk axes (first + 1) cs)) ≡ at_least_one (counts_of ns cs)
-        → at_least_one (counts_of (group_counts (groups_from (has_axis axes) first (c ∷ cs)) (n ∷ ns)) (partial_chunk axes first (c ∷ cs))) ≡ at_least_one (counts_of (n ∷ ns) (c ∷ cs))
+        → at_least_one (counts_of (group_counts (groups_from (has_axis axes) (first + 1) cs) ns) (partial_chunk_from axes (first + 1) cs)) ≡ at_least_one (counts_of ns cs)
+        → at_least_one (counts_of (group_counts (groups_from (has_axis axes) first (c ∷ cs)) (n ∷ ns)) (partial_chunk_from axes first (c ∷ cs))) ≡ at_least_one (counts_of (n ∷ ns) (c ∷ cs))
     by_axis axes first n c ns cs true h e =
         let o = over_one (max 1 (div_ceil n c)) in
         let m : max 1 (max 1 (div_ceil n c)) ≡ max 1 (div_ceil n c) = omega arith in

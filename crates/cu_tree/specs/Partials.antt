@@ -22,14 +22,14 @@ abbrev pub partial_size : Axes → ℕ → ℕ → ℕ → ℕ
 partial_size axes axis n c = if has_axis axes axis then max 1 (div_ceil n c) else n
 
 -- chunks of one along a reduced axis, and the source's along one that is kept, for the axes from number `first` on
-abbrev pub partial_chunk : Axes → ℕ → List ℕ → List ℕ
-partial_chunk axes first [] = []
-partial_chunk axes first (c ∷ cs) = (if has_axis axes first then 1 else c) ∷ partial_chunk axes (first + 1) cs
+abbrev pub partial_chunk_from : Axes → ℕ → List ℕ → List ℕ
+partial_chunk_from axes first [] = []
+partial_chunk_from axes first (c ∷ cs) = (if has_axis axes first then 1 else c) ∷ partial_chunk_from axes (first + 1) cs
 
 -- The first array, of this type: along a reduced axis as many as the source has chunks, at least one, and the source's size along one that
 -- is kept.
 abbrev pub first_partial : Dtype → Axes → NodeInfo → NodeInfo
-first_partial t axes source = info_of t (group_counts (groups_of (has_axis axes) source.chunk) source.dims) (partial_chunk axes 0 source.chunk)
+first_partial t axes source = info_of t (group_counts (groups_of (has_axis axes) source.chunk) source.dims) (partial_chunk_from axes 0 source.chunk)
 
 abbrev pub reduction_rounds : Axes → ℕ → NodeInfo → List Round
 reduction_rounds axes split_every source = rounds_of axes split_every (counts_of source.dims source.chunk)

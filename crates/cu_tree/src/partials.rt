@@ -7,7 +7,7 @@ ghost use Rattle.cu_shape.specs.Index.{product};
 ghost use Rattle.cu_reduce.specs.Groups.{groups_of, group_counts};
 ghost use Rattle.cu_pull.specs.Pull.{has_axis};
 ghost use Rattle.cu_node.specs.Info.{IsInfo};
-ghost use Rattle.cu_tree.specs.Partials.{first_partial, partial_size, partial_chunk, inner_count, product_partial, merged, chunks_of, chunks_written, chunks_before, AreMerges, IsMiddle};
+ghost use Rattle.cu_tree.specs.Partials.{first_partial, partial_size, partial_chunk_from, inner_count, product_partial, merged, chunks_of, chunks_written, chunks_before, AreMerges, IsMiddle};
 
 use crate::round::Round;
 use crate::tree::has_axis;
@@ -21,7 +21,7 @@ use cu_shape::Dims;
 /// has chunks, at least one, in chunks of one; along any other axis the source's size and chunk size.
 pub fn first_partial(dtype: Dtype, axes: Axes, source: &NodeInfo) -> NodeInfo
     requires source { IsInfo source.now }
-    requires bytes { product (partial_chunk axes 0 source.now.chunk) * size_of dtype ≤ 2 ^ 28 }
+    requires bytes { product (partial_chunk_from axes 0 source.now.chunk) * size_of dtype ≤ 2 ^ 28 }
     ensures partial { result ≡ first_partial dtype axes source.now }
     ensures kept { IsMiddle result }
 {
@@ -60,7 +60,7 @@ fn partial_size(axes: Axes, source: &NodeInfo, axis: u32) -> u64
 
 /// The shape of its chunks.
 fn partial_chunk(axes: Axes, chunk: &Dims) -> Dims
-    ensures { result ≡ partial_chunk axes 0 chunk.now }
+    ensures { result ≡ partial_chunk_from axes 0 chunk.now }
 {
     let mut sizes = *chunk;
     for axis in 0..chunk.rank() {

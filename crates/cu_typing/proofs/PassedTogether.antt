@@ -16,11 +16,11 @@ use Rattle.cu_node.specs.declared.faults.NodeFault.{NodeFault}
 use Rattle.cu_node.specs.declared.info.NodeInfo.{NodeInfo}
 use Rattle.cu_typing.specs.Accepted.{IsAcceptedReduction, IsAcceptedProduct}
 use Rattle.cu_typing.specs.Joined.{joined_shape}
-use Rattle.cu_typing.specs.Matmul.{left_inner, right_inner, leading_arrays, are_within, product_shape, product_chunk, product_type, product_lead, product_array, typed_matmul}
-use Rattle.cu_typing.specs.Reduction.{Rule, marks_of, reduced_sizes, kept_sizes, reduced}
+use Rattle.cu_typing.specs.Matmul.{left_summed, right_summed, leading_arrays, are_within, product_shape, product_chunk, product_type, product_lead, product_array, typed_matmul}
+use Rattle.cu_typing.specs.Reduction.{ReductionRule, marks_of, reduced_sizes, kept_sizes, reduced}
 use Rattle.cu_typing.proofs.GoingInto.{joined_go_into}
 
-pub reduction_passed : (rule : Rule) (axes : Option (List ℤ)) (keepdims : Bool) (i r : NodeInfo) → reduced rule axes keepdims i ≡ Ok r → (marks : List Bool) × IsAcceptedReduction rule axes keepdims i marks r
+pub reduction_passed : (rule : ReductionRule) (axes : Option (List ℤ)) (keepdims : Bool) (i r : NodeInfo) → reduced rule axes keepdims i ≡ Ok r → (marks : List Bool) × IsAcceptedReduction rule axes keepdims i marks r
 reduction_passed rule axes keepdims i r h =
     let made : List Bool → Result NodeInfo NodeFault = λ marks. limited rule.dtype (kept_sizes keepdims i.dims marks) (kept_sizes keepdims i.chunk marks) in
     let filled : List Bool → Bool = λ marks. not (rule.needs_element && product (reduced_sizes i.dims marks) == 0) in
@@ -48,9 +48,9 @@ above_zero zero h = absurd (eqb-false 0 0 (not-true _ h) refl)
 above_zero (suc n) h = omega arith
 
 -- its leading axes
-lead_passed : (l r : NodeInfo) (lead : List ℕ) → product_lead l r ≡ Ok lead → (0 < length l.dims) × (0 < length r.dims) × (joined_shape (leading_arrays l r) ≡ Ok lead) × (left_inner l.dims ≡ right_inner r.dims)
+lead_passed : (l r : NodeInfo) (lead : List ℕ) → product_lead l r ≡ Ok lead → (0 < length l.dims) × (0 < length r.dims) × (joined_shape (leading_arrays l r) ≡ Ok lead) × (left_summed l.dims ≡ right_summed r.dims)
 lead_passed l r lead h =
-    let agree = left_inner l.dims == right_inner r.dims in
+    let agree = left_summed l.dims == right_summed r.dims in
     let a = check_step_ok (not (length l.dims == 0) && not (length r.dims == 0)) (fault Axis) (λ _. joined_shape (leading_arrays l r) >>= λ lead. check agree (fault Shape) >>= λ _. Ok lead) lead h in
     let b = step_ok (joined_shape (leading_arrays l r)) (λ lead. check agree (fault Shape) >>= λ _. Ok lead) lead a.1 in
     let c = check_step_ok agree (fault Shape) (λ _. Ok b.0) lead b.2 in

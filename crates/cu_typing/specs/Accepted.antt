@@ -9,8 +9,8 @@ use Rattle.cu_node.specs.Info.{info_of}
 use Rattle.cu_node.specs.Limited.{is_chunk_within}
 use Rattle.cu_node.specs.declared.info.NodeInfo.{NodeInfo}
 use Rattle.cu_typing.specs.Joined.{arrays_of, joined_shape, joined_chunk, aligned_chunk}
-use Rattle.cu_typing.specs.Matmul.{left_inner, right_inner, leading_arrays, left_aligned, right_aligned, product_shape, product_chunk}
-use Rattle.cu_typing.specs.Reduction.{Rule, marks_of, reduced_sizes, kept_sizes}
+use Rattle.cu_typing.specs.Matmul.{left_summed, right_summed, leading_arrays, left_aligned, right_aligned, product_shape, product_chunk}
+use Rattle.cu_typing.specs.Reduction.{ReductionRule, marks_of, reduced_sizes, kept_sizes}
 use Rattle.cu_typing.specs.Types.{accepts_arguments, shared_type, result_type}
 use Rattle.cu_typing.specs.declared.argument.Argument.{Argument}
 
@@ -30,7 +30,7 @@ pub record IsElementwise (op : ElementOp) (args : List Argument) (t : Dtype) (re
   pub within : All (λ i. is_chunk_within i.dtype (aligned_chunk result.dims result.chunk i) ≡ true) (arrays_of args)
 
 -- what a reduction's argument has passed, whose reduced axes are these
-pub record IsAcceptedReduction (rule : Rule) (axes : Option (List ℤ)) (keepdims : Bool) (i : NodeInfo) (marks : List Bool) (result : NodeInfo) : Type 0 where
+pub record IsAcceptedReduction (rule : ReductionRule) (axes : Option (List ℤ)) (keepdims : Bool) (i : NodeInfo) (marks : List Bool) (result : NodeInfo) : Type 0 where
   pub accepted : rule.accepts ≡ true
   pub named : marks_of (length i.dims) axes ≡ Some marks
   pub elements : (rule.needs_element && product (reduced_sizes i.dims marks) == 0) ≡ false
@@ -45,7 +45,7 @@ pub record IsAcceptedProduct (l r : NodeInfo) (t : Dtype) (lead : List ℕ) (res
   pub right_rank : 0 < length r.dims
   pub leading : joined_shape (leading_arrays l r) ≡ Ok lead
   pub broadcast : All (λ i. GoesInto i.dims lead) (leading_arrays l r)
-  pub inner : left_inner l.dims ≡ right_inner r.dims
+  pub inner : left_summed l.dims ≡ right_summed r.dims
   pub short : length (product_shape lead l r) ≤ 5
   pub left_within : is_chunk_within l.dtype (left_aligned lead l r) ≡ true
   pub right_within : is_chunk_within r.dtype (right_aligned lead l r) ≡ true

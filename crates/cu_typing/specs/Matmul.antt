@@ -28,11 +28,11 @@ abbrev pub columns : List ℕ → List ℕ
 columns sizes = if nat_le 2 (length sizes) then slice_index sizes (length sizes - 1) ∷ [] else []
 
 -- the axis over which products are summed
-abbrev pub left_inner : List ℕ → ℕ
-left_inner sizes = slice_index sizes (length sizes - 1)
+abbrev pub left_summed : List ℕ → ℕ
+left_summed sizes = slice_index sizes (length sizes - 1)
 
-abbrev pub right_inner : List ℕ → ℕ
-right_inner sizes = slice_index sizes (length sizes - 2)
+abbrev pub right_summed : List ℕ → ℕ
+right_summed sizes = slice_index sizes (length sizes - 2)
 
 -- the leading axes as an array
 abbrev pub leading_array : NodeInfo → NodeInfo
@@ -48,10 +48,10 @@ leading_chunk lead l r = joined_chunk lead (leading_arrays l r)
 -- The aligned chunks: on the leading axes as for elementwise functions; the rows are the left's, the columns the right's, the
 -- inner chunk is the left's.
 abbrev pub left_aligned : List ℕ → NodeInfo → NodeInfo → List ℕ
-left_aligned lead l r = aligned_chunk lead (leading_chunk lead l r) (leading_array l) ++ rows l.chunk ++ left_inner l.chunk ∷ []
+left_aligned lead l r = aligned_chunk lead (leading_chunk lead l r) (leading_array l) ++ rows l.chunk ++ left_summed l.chunk ∷ []
 
 abbrev pub right_aligned : List ℕ → NodeInfo → NodeInfo → List ℕ
-right_aligned lead l r = aligned_chunk lead (leading_chunk lead l r) (leading_array r) ++ left_inner l.chunk ∷ [] ++ columns r.chunk
+right_aligned lead l r = aligned_chunk lead (leading_chunk lead l r) (leading_array r) ++ left_summed l.chunk ∷ [] ++ columns r.chunk
 
 abbrev pub product_shape : List ℕ → NodeInfo → NodeInfo → List ℕ
 product_shape lead l r = lead ++ rows l.dims ++ columns r.dims
@@ -74,7 +74,7 @@ abbrev pub product_lead : NodeInfo → NodeInfo → Result (List ℕ) NodeFault
 product_lead l r = do
   _ ← check (not (length l.dims == 0) && not (length r.dims == 0)) (fault Axis)
   lead ← joined_shape (leading_arrays l r)
-  _ ← check (left_inner l.dims == right_inner r.dims) (fault Shape)
+  _ ← check (left_summed l.dims == right_summed r.dims) (fault Shape)
   Ok lead
 
 -- a product has at most 5 axes

@@ -49,22 +49,22 @@ kept_sizes keepdims (n ∷ ns) (m ∷ ms) = kept_size keepdims m n ++ kept_sizes
 -- ---- the node
 
 -- what a reduction does with types and elements
-pub record Rule : Type 0 where
+pub record ReductionRule : Type 0 where
   pub accepts : Test
   pub dtype : Dtype
   pub needs_element : Test
 
-abbrev pub reduced : Rule → Option (List ℤ) → Test → NodeInfo → Result NodeInfo NodeFault
+abbrev pub reduced : ReductionRule → Option (List ℤ) → Test → NodeInfo → Result NodeInfo NodeFault
 reduced rule axes keepdims i = do
   _ ← check rule.accepts (fault Kind)
   marks ← need (marks_of (length i.dims) axes) (fault Axis)
   _ ← check (not (rule.needs_element && product (reduced_sizes i.dims marks) == 0)) (fault EmptyReduce)
   limited rule.dtype (kept_sizes keepdims i.dims marks) (kept_sizes keepdims i.chunk marks)
 
-abbrev pub fold_rule : FoldKind → Dtype → Rule
+abbrev pub fold_rule : FoldKind → Dtype → ReductionRule
 fold_rule kind t = record { accepts = fold_accepts kind t; dtype = fold_type kind t; needs_element = needs_element kind }
 
-abbrev pub place_rule : Dtype → Rule
+abbrev pub place_rule : Dtype → ReductionRule
 place_rule t = record { accepts = is_integer t; dtype = Int64; needs_element = true }
 
 abbrev pub typed_reduction : FoldKind → Option (List ℤ) → Test → NodeInfo → Result NodeInfo NodeFault

@@ -7,7 +7,7 @@ ghost use Rattle.cu_node.specs.declared.info.NodeInfo.{NodeInfo};
 ghost use Rattle.cu_typing.specs.Accepted.{IsElementwise, IsAcceptedReduction, IsAcceptedProduct};
 ghost use Rattle.cu_typing.specs.Elementwise.{typed_elementwise};
 ghost use Rattle.cu_typing.specs.Matmul.{typed_matmul};
-ghost use Rattle.cu_typing.specs.Reduction.{Rule, reduced};
+ghost use Rattle.cu_typing.specs.Reduction.{ReductionRule, reduced};
 ghost use Rattle.cu_typing.specs.declared.argument.Argument.{Argument};
 
 /// What an accepted elementwise function's arguments have passed: the types, the shape, the chunk sizes; each array's shape
@@ -18,7 +18,7 @@ pub fn elementwise_law()
 
 /// What an accepted reduction's argument has passed; that of `sum` to `all` and of `argmin` and `argmax` is this by their rules.
 pub fn reduction_law()
-    ensures { (rule : Rule) (axes : Option (List ℤ)) (keepdims : Bool) (i r : NodeInfo) → reduced rule axes keepdims i ≡ Ok r → (marks : List Bool) × IsAcceptedReduction rule axes keepdims i marks r }
+    ensures { (rule : ReductionRule) (axes : Option (List ℤ)) (keepdims : Bool) (i r : NodeInfo) → reduced rule axes keepdims i ≡ Ok r → (marks : List Bool) × IsAcceptedReduction rule axes keepdims i marks r }
 {}
 
 /// What the operands of an accepted matrix product have passed.

@@ -1,7 +1,7 @@
 ghost use Rattle.std.specs.Prelude.{◌≡◌, ◌+◌, ◌-◌, ◌<◌, ◌≤◌, ◌++◌, ◌∷◌, All, IfOk, length, take, drop, [], ℕ};
 ghost use Rattle.cu_node.specs.Info.{IsInfo};
 ghost use Rattle.cu_typing.specs.Joined.{arrays_of, aligned_chunk};
-ghost use Rattle.cu_typing.specs.Matmul.{leading, rows, columns, left_inner, right_inner, leading_array, leading_arrays, leading_chunk, left_aligned, right_aligned, product_shape, product_chunk, are_within, product_type, product_lead, product_limited, product_array, typed_matmul};
+ghost use Rattle.cu_typing.specs.Matmul.{leading, rows, columns, left_summed, right_summed, leading_array, leading_arrays, leading_chunk, left_aligned, right_aligned, product_shape, product_chunk, are_within, product_type, product_lead, product_limited, product_array, typed_matmul};
 
 use crate::argument::Argument;
 use crate::joining::{chunk_aligned, chunk_joined, shape_joined};
@@ -53,13 +53,13 @@ fn with_columns(front: &Dims, sizes: &Dims) -> Dims
 }
 
 fn inner_left(sizes: &Dims) -> u64
-    ensures { result ≡ left_inner sizes.now }
+    ensures { result ≡ left_summed sizes.now }
 {
     size_at(sizes, sizes.rank().saturating_sub(1))
 }
 
 fn inner_right(sizes: &Dims) -> u64
-    ensures { result ≡ right_inner sizes.now }
+    ensures { result ≡ right_summed sizes.now }
 {
     size_at(sizes, sizes.rank().saturating_sub(2))
 }
@@ -78,7 +78,7 @@ fn lead_array(i: &NodeInfo) -> NodeInfo
 
 /// The aligned chunk of the left operand, where the result has these leading axes and chunk sizes on them.
 pub fn left_chunk(lead: &Dims, chunk: &Dims, l: &NodeInfo) -> Dims
-    ensures { result ≡ aligned_chunk lead.now chunk.now (leading_array l.now) ++ rows l.now.chunk ++ left_inner l.now.chunk ∷ [] }
+    ensures { result ≡ aligned_chunk lead.now chunk.now (leading_array l.now) ++ rows l.now.chunk ++ left_summed l.now.chunk ∷ [] }
 {
     let front = chunk_aligned(lead, chunk, &lead_array(l));
     grown(&with_rows(&front, &l.chunk), inner_left(&l.chunk))

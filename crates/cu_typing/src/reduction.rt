@@ -12,7 +12,7 @@ use cu_shape::Dims;
 /// What a reduction does with types and elements: whether it accepts the type, which it gives, and whether it wants an
 /// element.
 #[derive(Clone, Copy)]
-struct Rule {
+struct ReductionRule {
     accepts: bool,
     dtype: Dtype,
     needs_element: bool,
@@ -80,7 +80,7 @@ fn kept(keepdims: bool, marks: &[bool; 6], sizes: &Dims) -> Dims
 
 /// The array that a reduction by this rule gives, or the first fault.
 fn reduce(
-    rule: Rule,
+    rule: ReductionRule,
     axes: Option<&[i64]>,
     keepdims: bool,
     i: &NodeInfo,
@@ -117,7 +117,7 @@ pub fn type_reduction(
     ensures value { result ≡ typed_reduction kind (option_map (λ a. a.now) axes.entry) keepdims i.now }
     ensures kept { IfOk result IsInfo }
 {
-    let rule = Rule {
+    let rule = ReductionRule {
         accepts: fold_accepts(kind, i.dtype),
         dtype: fold_type(kind, i.dtype),
         needs_element: wants_element(kind),
@@ -136,7 +136,7 @@ pub fn type_arg_place(
     ensures value { result ≡ typed_arg_place axis keepdims i.now }
     ensures kept { IfOk result IsInfo }
 {
-    let rule = Rule {
+    let rule = ReductionRule {
         accepts: is_integer(i.dtype),
         dtype: Dtype::Int64,
         needs_element: true,

@@ -13,14 +13,14 @@ use Rattle.cu_view_box.specs.Way.{read_by}
 use Rattle.cu_view_box.specs.declared.way.Way.{Way}
 use Rattle.cu_view.specs.Boxes.{first_on, source_of, index_read}
 use Rattle.cu_view.specs.Pieces.{pieces_of, number_at}
-use Rattle.cu_view.specs.View.{IsView, IsCounted}
+use Rattle.cu_view.specs.View.{IsView, HasFewElements}
 use Rattle.cu_view.proofs.Ranges.{ends_of}
 
 -- what `way_on` requires
 pub record IsAsked (pull : Pull) (sources : List (List ℕ)) (shape lo hi : List ℕ) (number axis : ℕ) : Type 0 where
   pub fits : FitsPull pull sources shape
-  pub source_sizes : All IsCounted sources
-  pub result_size : IsCounted shape
+  pub source_sizes : All HasFewElements sources
+  pub result_size : HasFewElements shape
   pub below : number < pieces_of pull sources shape
   pub region : IsRegion shape lo hi
   pub first : (d : ℕ) → d < length shape → get_or lo d 0 ≡ first_on pull sources shape number d
@@ -43,10 +43,10 @@ pub reads_back : (pull q : Pull) (sources : List (List ℕ)) (shape : List ℕ) 
 reads_back pull q sources shape number lo axis way e r = subst (λ (p : Pull). ReadsAxis p sources shape number lo axis way) (sym e) r
 
 -- the size of an axis of an array of a plan
-pub size_small : (shape : List ℕ) (d : ℕ) → IsCounted shape → d < length shape → get_or shape d 0 ≤ 2 ^ 56
+pub size_small : (shape : List ℕ) (d : ℕ) → HasFewElements shape → d < length shape → get_or shape d 0 ≤ 2 ^ 56
 size_small shape d c l = let b = size_within shape d l in omega arith
 
-pub source_small : (sources : List (List ℕ)) (d : ℕ) → All IsCounted sources → 0 < length sources → d < length (get_or sources 0 []) → get_or (get_or sources 0 []) d 0 ≤ 2 ^ 56
+pub source_small : (sources : List (List ℕ)) (d : ℕ) → All HasFewElements sources → 0 < length sources → d < length (get_or sources 0 []) → get_or (get_or sources 0 []) d 0 ≤ 2 ^ 56
 source_small sources d c p l = size_small (get_or sources 0 []) d (c 0 [] p) l
 
 pub lo_length : (shape lo hi : List ℕ) → IsRegion shape lo hi → length lo ≡ length shape

@@ -12,7 +12,7 @@ use Rattle.cu_pull.specs.Pull.{counts_of_runs}
 use Rattle.cu_pull.specs.declared.pull.Pull.{Pull}
 use Rattle.cu_pull.proofs.AxesInside.{by_test}
 use Rattle.cu_pull.proofs.OriginsInside.{product-without_ones}
-use Rattle.cu_view.specs.View.{IsCounted}
+use Rattle.cu_view.specs.View.{HasFewElements}
 
 pub fits_as : (pull q : Pull) (sources : List (List ℕ)) (shape : List ℕ) → pull ≡ q → FitsPull pull sources shape → FitsPull q sources shape
 fits_as pull q sources shape e f = subst (λ (x : Pull). FitsPull x sources shape) e f
@@ -46,7 +46,7 @@ first_is (s ∷ ss) source l e = e
 pub slice_product : (runs : List Run) (taken shape source : List ℕ) → FitsSlice runs taken shape source → product shape ≡ product (counts_of_runs runs)
 slice_product runs taken shape source f = sym (product-without_ones shape) ∙ ap product f.sizes ∙ product-without_ones (counts_of_runs runs)
 
-pub counted : (shape : List ℕ) → IsCounted shape → product shape < 2 ^ 64
+pub counted : (shape : List ℕ) → HasFewElements shape → product shape < 2 ^ 64
 counted shape h = let p = product_within shape in omega arith
 
 pub permuted_shape : (axes shape source : List ℕ) → FitsPermute axes shape source → length shape ≡ length axes

@@ -18,7 +18,7 @@ use Rattle.cu_op.proofs.Operations.{Fit}
 use Rattle.cu_op.proofs.Plans.{grid_ok}
 use Rattle.cu_op.proofs.Values.{value_solves}
 use Rattle.cu_view.specs.Planned.{IsViewOperation, pull_origin, shape_at}
-use Rattle.cu_view.specs.View.{IsView, IsCounted}
+use Rattle.cu_view.specs.View.{IsView, HasFewElements}
 
 -- a pull is a view over the shapes of its arrays
 abbrev pub IsViewOver : List ArrayInfo → Op → Type 0
@@ -32,7 +32,7 @@ pub view_over : (p : PlanView) (k : ℕ) (op : Op) → Sound p → Fit p.arrays 
 view_over p k (Pull pull ins out) s fit few = record {
   fits = fit.2.shapes;
   few = (let n = length-map ins.items (λ a. (grid_at p.arrays a).shape) in omega arith);
-  source_sizes = All-map IsCounted (λ a. (grid_at p.arrays a).shape) ins.items (λ i d b. (grid_ok p (get_or ins.items i d) s (fit.0 i d b).0).elements);
+  source_sizes = All-map HasFewElements (λ a. (grid_at p.arrays a).shape) ins.items (λ i d b. (grid_ok p (get_or ins.items i d) s (fit.0 i d b).0).elements);
   result_size = (grid_ok p out s (fit.1 0 0 (omega arith)).0).elements;
 }
 view_over p k op s fit few = tt

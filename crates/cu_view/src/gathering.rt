@@ -11,7 +11,7 @@ ghost use Rattle.cu_view.specs.Pieces.{HasAxes, IsShown};
 ghost use Rattle.cu_view.specs.View.{IsView};
 
 use crate::pieces::{piece_at, piece_count};
-use crate::triangles::{Copying, copy_triangle};
+use crate::triangles::{TriangleCopying, copy_triangle};
 use cu_grid::Region;
 use cu_num::Endian;
 use cu_pull::Pull;
@@ -108,7 +108,7 @@ fn copy_shown(
 {
     match pull {
         Pull::Triangle { lower, k } => {
-            let copying = Copying {
+            let copying = TriangleCopying {
                 piece,
                 from,
                 bytes,

@@ -10,7 +10,7 @@ use cu_view_box::{Block, Piece, copy_box};
 
 /// What is copied: a piece's elements, out of the bytes of a block of its source, into a block of the result.
 #[derive(Clone, Copy)]
-pub(crate) struct Copying<'a> {
+pub(crate) struct TriangleCopying<'a> {
     pub piece: &'a Piece,
     pub from: &'a Block,
     pub bytes: &'a [u8],
@@ -21,7 +21,7 @@ pub(crate) struct Copying<'a> {
 pub(crate) fn copy_triangle(
     lower: bool,
     k: i64,
-    copying: &Copying<'_>,
+    copying: &TriangleCopying<'_>,
     part: &Region,
     output: &mut [u8],
 )
@@ -42,7 +42,14 @@ pub(crate) fn copy_triangle(
 }
 
 /// The same of a part that has one row.
-fn copy_row(lower: bool, k: i64, row: u64, copying: &Copying<'_>, part: &Region, output: &mut [u8])
+fn copy_row(
+    lower: bool,
+    k: i64,
+    row: u64,
+    copying: &TriangleCopying<'_>,
+    part: &Region,
+    output: &mut [u8],
+)
     requires moves { IsMove copying.now.piece.now part.now copying.now.from.now copying.now.to.now }
     requires axes { 2 ≤ length part.now.lo }
     requires row { (idx : List ℕ) → IsWithin part.now.lo part.now.hi idx → slice_index idx (length part.now.lo - 2) ≡ row }

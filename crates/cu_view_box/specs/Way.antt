@@ -17,8 +17,8 @@ IsWay extent (Up axis first step) = 0 < step
 IsWay extent (Down axis first step) = (0 < step) × (first < 2 ^ 63) × ((t : ℕ) → t < extent → t * step ≤ first)
 
 -- a count of the span
-abbrev pub IsIn : Span → ℕ → Type 0
-IsIn span t = (span.from ≤ t) × (t < span.to)
+abbrev pub IsInSpan : Span → ℕ → Type 0
+IsInSpan span t = (span.from ≤ t) × (t < span.to)
 
 -- a count below the extent at which an index from `low` to below `high` is read
 abbrev pub IsRead : Way → ℕ → ℕ → ℕ → ℕ → Type 0

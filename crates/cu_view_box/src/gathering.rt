@@ -43,21 +43,21 @@ pub fn reshape_gather(
         → bytes_at to.now.dtype output.new (buffer_place to.now idx) ≡ bytes_at to.now.dtype output.old (buffer_place to.now idx) }
 {
     if !is_empty(&to.region) {
-        let sizes = Sizes { source, shape };
+        let sizes = ReshapeSizes { source, shape };
         gather_part(sizes, &to.region, 0, from, bytes, to, output);
     }
 }
 
 /// The sizes of a reshape's source and of its result.
 #[derive(Clone, Copy)]
-struct Sizes<'a> {
+struct ReshapeSizes<'a> {
     source: &'a Dims,
     shape: &'a Dims,
 }
 
 /// The same for a part that has one index on each axis below `level` but the last.
 fn gather_part(
-    sizes: Sizes<'_>,
+    sizes: ReshapeSizes<'_>,
     part: &Region,
     level: u32,
     from: &Block,

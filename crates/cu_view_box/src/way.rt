@@ -1,5 +1,5 @@
 ghost use Rattle.std.specs.Prelude.{◌≡◌, ◌<◌, ◌≤◌, ◌↔◌, ◌+◌, ◌-◌, ◌*◌, ◌^◌, ℕ, min};
-ghost use Rattle.cu_view_box.specs.Way.{IsWay, IsIn, IsRead};
+ghost use Rattle.cu_view_box.specs.Way.{IsWay, IsInSpan, IsRead};
 ghost use Rattle.cu_view_box.specs.declared.way.Way.TheVariants.{Fixed, Up, Down};
 
 /// How an axis of a source is read over a box of a result. Counts along an axis of the result begin at the box's first index.
@@ -51,7 +51,7 @@ impl Way {
     /// The counts below `extent` at which an index from `low` to below `high` is read.
     pub fn read_within(&self, extent: u64, low: u64, high: u64) -> Span
         requires { IsWay extent self.now }
-        ensures exact { (t : ℕ) → IsIn result t ↔ IsRead self.now extent low high t }
+        ensures exact { (t : ℕ) → IsInSpan result t ↔ IsRead self.now extent low high t }
         ensures within { (result.from ≤ extent) × (result.to ≤ extent) }
     {
         match *self {
@@ -64,7 +64,7 @@ impl Way {
 
 /// The counts at which one index is read: all or none.
 fn fixed(index: u64, extent: u64, low: u64, high: u64) -> Span
-    ensures exact { (t : ℕ) → IsIn result t ↔ IsRead (Fixed index) extent low high t }
+    ensures exact { (t : ℕ) → IsInSpan result t ↔ IsRead (Fixed index) extent low high t }
     ensures within { (result.from ≤ extent) × (result.to ≤ extent) }
 {
     let is_read = low <= index && index < high;
@@ -77,7 +77,7 @@ fn fixed(index: u64, extent: u64, low: u64, high: u64) -> Span
 /// The counts at which a way upward reads in the range.
 fn upward(first: u64, step: u64, extent: u64, low: u64, high: u64) -> Span
     requires { 0 < step }
-    ensures exact { (t : ℕ) → IsIn result t ↔ IsRead (Up 0 first step) extent low high t }
+    ensures exact { (t : ℕ) → IsInSpan result t ↔ IsRead (Up 0 first step) extent low high t }
     ensures within { (result.from ≤ extent) × (result.to ≤ extent) }
 {
     let from = low.saturating_sub(first).div_ceil(step);
@@ -90,7 +90,7 @@ fn downward(first: u64, step: u64, extent: u64, low: u64, high: u64) -> Span
     requires step { 0 < step }
     requires small { first < 2 ^ 63 }
     requires inside { (t : ℕ) → t < extent → t * step ≤ first }
-    ensures exact { (t : ℕ) → IsIn result t ↔ IsRead (Down 0 first step) extent low high t }
+    ensures exact { (t : ℕ) → IsInSpan result t ↔ IsRead (Down 0 first step) extent low high t }
     ensures within { (result.from ≤ extent) × (result.to ≤ extent) }
 {
     let past = first + 1;

@@ -27,8 +27,8 @@ NotesAll None old new = new ≡ None
 NotesAll (Some more) old new = Notes more old new
 
 -- what was written down of a depot's calls, and of a pass's
-abbrev pub calls_of : {D : Type 0} → Watched D → Calls
-calls_of w = w.log
+abbrev pub log_of : {D : Type 0} → Watched D → Calls
+log_of w = w.log
 
 abbrev pub pass_calls : {P : Type 0} → WatchedPass P → Calls
 pass_calls p = p.log

@@ -5,7 +5,7 @@ ghost use Rattle.cu_store.specs.Held.{Gets, Answers, Holds, IsGone};
 ghost use Rattle.cu_store.specs.Steps.{NoChange, PutOf, RemovalOf, Steps, LandsLate, AddsOnlyFailed, Caused};
 ghost use Rattle.cu_store.specs.Yard.{bytes_under};
 ghost use Rattle.cu_store.specs.Share.{IsShared, IsShareFault, MayShare, MayGiveBack, HoldsSeen, AddsCounts, PutPromised, KeysDiffer};
-ghost use Rattle.cu_watch.specs.Log.{NotesCall, NotesAll, calls_of, pass_calls};
+ghost use Rattle.cu_watch.specs.Log.{NotesCall, NotesAll, log_of, pass_calls};
 
 use crate::log::{Log, LoggedCall};
 use crate::yard::{WatchedPass, WatchedYard};
@@ -25,7 +25,7 @@ impl<D: Depot + Drop> Watched<D> {
     /// The depot, of which no call is written down yet.
     pub fn new(alloc: Global, depot: D) -> Watched<D>
         ensures depot { result.depot ≡ depot }
-        ensures calls { calls_of result ≡ Some [] }
+        ensures calls { log_of result ≡ Some [] }
     {
         Watched {
             depot,
@@ -36,7 +36,7 @@ impl<D: Depot + Drop> Watched<D> {
 
     /// The calls in their order, or `None` where there was no memory to write one down.
     pub fn calls(&self) -> Option<&[LoggedCall]>
-        ensures { option_copied result ≡ calls_of self.now }
+        ensures { option_copied result ≡ log_of self.now }
     {
         self.log.calls()
     }
@@ -44,7 +44,7 @@ impl<D: Depot + Drop> Watched<D> {
     /// Forgets the calls.
     pub fn forget(&mut self)
         ensures depot { self.new.depot ≡ self.old.depot }
-        ensures calls { calls_of self.new ≡ Some [] }
+        ensures calls { log_of self.new ≡ Some [] }
     {
         self.log.clear();
     }
@@ -57,7 +57,7 @@ impl<D: Depot + Drop> Depot for Watched<D> {
         ensures got { Gets (D.shown self.new.depot).held key.now buf.new result }
         ensures step { Steps NoChange 1 1 (D.shown self.old.depot) (D.shown self.new.depot) }
         ensures cause { Caused 1 (D.shown self.old.depot) (D.shown self.new.depot) result }
-        ensures logged { NotesCall CallKind.Get key.now (calls_of self.old) (calls_of self.new) }
+        ensures logged { NotesCall CallKind.Get key.now (log_of self.old) (log_of self.new) }
     {
         self.log.note(CallKind::Get, key);
         self.depot.get(key, buf)
@@ -67,7 +67,7 @@ impl<D: Depot + Drop> Depot for Watched<D> {
         ensures answer { Answers (D.shown self.new.depot).held key.now result }
         ensures step { Steps NoChange 1 1 (D.shown self.old.depot) (D.shown self.new.depot) }
         ensures cause { Caused 1 (D.shown self.old.depot) (D.shown self.new.depot) result }
-        ensures logged { NotesCall CallKind.Has key.now (calls_of self.old) (calls_of self.new) }
+        ensures logged { NotesCall CallKind.Has key.now (log_of self.old) (log_of self.new) }
     {
         self.log.note(CallKind::Has, key);
         self.depot.has(key)
@@ -79,7 +79,7 @@ impl<D: Depot + Drop> Depot for Watched<D> {
         ensures refused { OnErr result (LandsLate (D.shown self.old.depot) (D.shown self.new.depot)) }
         ensures late_unless_failed { AddsOnlyFailed result (D.shown self.old.depot).late (D.shown self.new.depot).late }
         ensures cause { Caused 1 (D.shown self.old.depot) (D.shown self.new.depot) result }
-        ensures logged { NotesCall CallKind.Put key.now (calls_of self.old) (calls_of self.new) }
+        ensures logged { NotesCall CallKind.Put key.now (log_of self.old) (log_of self.new) }
     {
         self.log.note(CallKind::Put, key);
         self.depot.put(key, bytes)
@@ -90,7 +90,7 @@ impl<D: Depot + Drop> Depot for Watched<D> {
         ensures step { Steps (RemovalOf key.now) 1 1 (D.shown self.old.depot) (D.shown self.new.depot) }
         ensures refused { OnErr result (LandsLate (D.shown self.old.depot) (D.shown self.new.depot)) }
         ensures cause { Caused 1 (D.shown self.old.depot) (D.shown self.new.depot) result }
-        ensures logged { NotesCall CallKind.Remove key.now (calls_of self.old) (calls_of self.new) }
+        ensures logged { NotesCall CallKind.Remove key.now (log_of self.old) (log_of self.new) }
     {
         self.log.note(CallKind::Remove, key);
         self.depot.remove(key)
@@ -121,7 +121,7 @@ impl<D: Share + Drop> Share for Watched<D> {
         ensures step { Steps NoChange 0 1 (D.shown self.old.depot) (D.shown self.new.depot) }
         ensures cause { IfErr result (IsShareFault 1 (D.shown self.old.depot) (D.shown self.new.depot)) }
         ensures fresh { IfOk result (λ r. pass_calls r.1 ≡ Some []) }
-        ensures unlogged { calls_of self.new ≡ calls_of self.old }
+        ensures unlogged { log_of self.new ≡ log_of self.old }
     {
         let (yard, pass) = self.depot.share(alloc, specs, promise)?;
         let alloc = self.alloc;
@@ -138,7 +138,7 @@ impl<D: Share + Drop> Share for Watched<D> {
         ensures counts { AddsCounts (D.Yard.knows pass.pass) (D.shown self.old.depot) (D.shown self.new.depot) }
         ensures lent { D.lent self.new.depot ≡ D.lent self.old.depot }
         ensures lack { D.yards_lack self.new.depot ≡ D.yards_lack self.old.depot }
-        ensures logged { NotesAll (pass_calls pass) (calls_of self.old) (calls_of self.new) }
+        ensures logged { NotesAll (pass_calls pass) (log_of self.old) (log_of self.new) }
     {
         let WatchedYard { yard, alloc: _ } = yard;
         let WatchedPass { pass, log } = pass;

@@ -30,7 +30,7 @@ use Rattle.cu_table.specs.Numbers.{IsTask}
 use Rattle.std.proofs.lemmas.List.Elements.{All-nil}
 use Rattle.cu_table.specs.Machine.{Machine, opening, state_at, IsDone, AllDone, AreInputsDone, RunsNothing, copy_ended, without, one_copy_more, one_copy_less, done_now, failed_now}
 use Rattle.cu_table.specs.Step.{Settings, Step, Run, StepOf, Replays, ending_after}
-use Rattle.cu_table.specs.Table.{TableView, Goes, start_of, end_of, report_kind, is_late, KeepsFault}
+use Rattle.cu_table.specs.Table.{TableView, Goes, start_event, end_of, report_kind, is_late, KeepsFault}
 use Rattle.cu_table.proofs.Copies.{a_copy, copies_of}
 use Rattle.cu_table.proofs.Keeping.{Kept, state_same, step_kept, replay_kept}
 use Rattle.cu_work.specs.Alone.{HasSeenDone, IsHaltOf, HasRun, IsDecided, Tried, halt_outcome}
@@ -69,7 +69,7 @@ more_calls a b c n m x first second small = omega (arith, first, second, small)
 
 -- ---- a claim where no copy runs
 
-module _ (g : Settings) (m n : Machine) (op task : ℕ) (kept : Kept g.plan g.retries m) (resting : m.copies ≡ []) (step : Step g m (start_of g.plan 0 op task) n) where
+module _ (g : Settings) (m n : Machine) (op task : ℕ) (kept : Kept g.plan g.retries m) (resting : m.copies ≡ []) (step : Step g m (start_event g.plan 0 op task) n) where
   pub claimed_task : IsTask g.plan op task
   claimed_task = step.0.task
 
@@ -110,7 +110,7 @@ module _ (g : Settings) (m n : Machine) (op task : ℕ) (kept : Kept g.plan g.re
 
   -- what was done after the claim was done before
   pub done_before : (l other : ℕ) → IsTask g.plan l other → IsDone g.plan n l other → IsDone g.plan m l other
-  done_before l other is done = elim (done_from g m kept (start_of g.plan 0 op task) n Start step l other is done) [
+  done_before l other is done = elim (done_from g m kept (start_event g.plan 0 op task) n Start step l other is done) [
     | inl was ↦ was
     | inr now ↦ absurd (start_not_done now.0)
   ]
@@ -133,10 +133,10 @@ module _ (g : Settings) (m n : Machine) (op task : ℕ) (kept : Kept g.plan g.re
 abbrev ended_entry : EventKind → ℕ → ℕ → Entry
 ended_entry kind op task = end_of kind 0 op task
 
-module _ (g : Settings) (yard : Served) (m n new : Machine) (op task : ℕ) (kept : Kept g.plan g.retries m) (resting : m.copies ≡ []) (start : Step g m (start_of g.plan 0 op task) n)
+module _ (g : Settings) (yard : Served) (m n new : Machine) (op task : ℕ) (kept : Kept g.plan g.retries m) (resting : m.copies ≡ []) (start : Step g m (start_event g.plan 0 op task) n)
     (sound : Sound g.plan) (serves : ServesPlan g.plan yard) (ks : Known × Known) (later : IsLaterIn yard.specs ks.0 ks.1) (all : HasSeenDone g.plan m ks.0.seen) where
   kept_between : Kept g.plan g.retries n
-  kept_between = (step_kept g m (start_of g.plan 0 op task) n kept start).0
+  kept_between = (step_kept g m (start_event g.plan 0 op task) n kept start).0
 
   pub rests : (kind : EventKind) (s : TaskState) (ended : Option Ending) → new ≡ copy_ended g.plan n (ended_entry kind op task) s ended → new.copies ≡ []
   rests kind s ended is = ap (λ (x : Machine). x.copies) is ∙ ap (without 0) (one_copy g m n op task kept resting start)
@@ -172,15 +172,15 @@ not_halted_after retries failures k t f e = elim (cases_Bool (failures == retrie
 
 module _ (yard : Served) (first t u v : TableView) (old : Known) (ks : Known × Known) (op task : ℕ)
     (sound : Sound first.settings.plan) (serves : ServesPlan first.settings.plan yard) (has : HasRun yard first t old ks.0)
-    (goes : Goes t u (start_of t.settings.plan 0 op task)) where
+    (goes : Goes t u (start_event t.settings.plan 0 op task)) where
   legal_before : Replays first.settings t.done t.history t.state
   legal_before = subst (λ (s : Settings). Replays s t.done t.history t.state) has.settings has.legal
 
   kept_before : Kept first.settings.plan first.settings.retries t.state
   kept_before = (replay_kept first.settings t.done t.history t.state legal_before).0
 
-  start_step : Step first.settings t.state (start_of first.settings.plan 0 op task) u.state
-  start_step = subst (λ (s : Settings). Step s t.state (start_of s.plan 0 op task) u.state) has.settings goes.step
+  start_step : Step first.settings t.state (start_event first.settings.plan 0 op task) u.state
+  start_step = subst (λ (s : Settings). Step s t.state (start_event s.plan 0 op task) u.state) has.settings goes.step
 
   between : u.settings ≡ first.settings
   between = goes.settings ∙ has.settings
@@ -205,13 +205,13 @@ module _ (yard : Served) (first t u v : TableView) (old : Known) (ks : Known × 
 
     starts : (kind : EventKind) → Goes u v (end_of kind 0 op task) → is_start kind ≡ false → count_kind is_start v.history ≡ count_kind is_start t.history + 1
     starts kind report end =
-        let all = two_counts is_start t.history u.history v.history (start_of t.settings.plan 0 op task) (end_of kind 0 op task) goes.history report.history in
+        let all = two_counts is_start t.history u.history v.history (start_event t.settings.plan 0 op task) (end_of kind 0 op task) goes.history report.history in
         let none = ap (λ (b : Bool). weight b) end in
         omega (arith, all, none)
 
     failures : (kind : EventKind) → Goes u v (end_of kind 0 op task)
         → count_kind is_failed v.history ≡ count_kind is_failed t.history + 0 + (if is_failed kind then 1 else 0)
-    failures kind report = two_counts is_failed t.history u.history v.history (start_of t.settings.plan 0 op task) (end_of kind 0 op task) goes.history report.history
+    failures kind report = two_counts is_failed t.history u.history v.history (start_event t.settings.plan 0 op task) (end_of kind 0 op task) goes.history report.history
 
     after : (kind : EventKind) → Goes u v (end_of kind 0 op task) → (r : Result (Unit {0}) TaskFault) → Tried first.settings.plan op task yard ks r
         → is_start kind ≡ false → v.state.copies ≡ [] → (kind ≡ Done → HasSeenOutputs first.settings.plan op task ks.1.seen)

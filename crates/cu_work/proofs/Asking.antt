@@ -6,7 +6,7 @@ use Rattle.std.proofs.lemmas.Bool.{cases_lt}
 use Rattle.std.proofs.lemmas.List.{length-append, append_assoc, append-nil, take_more}
 use Rattle.std.proofs.lemmas.List.Elements.{All-append, All-nil, All-weaker, All-head, All-tail, Contains-append_left, Contains-append_right}
 use Rattle.cu_store.specs.Faults.{Rose}
-use Rattle.cu_store.specs.Held.{Contents, Answers}
+use Rattle.cu_store.specs.Held.{Contents, Answers, IsHeldIn}
 use Rattle.cu_store.specs.Steps.{Shown, NoChange, OrLate, IsChangedBy, Lands, Steps}
 use Rattle.cu_store.proofs.Steps.{steps_same, steps_then, steps_wider}
 use Rattle.cu_op.specs.declared.cells.Cell.{Cell}
@@ -16,7 +16,7 @@ use Rattle.cu_op.specs.PlanView.{PlanView}
 use Rattle.cu_op.specs.Schedule.{op_of, key_of}
 use Rattle.cu_work.specs.declared.way.WayFault.{WayFault}
 use Rattle.cu_work.specs.declared.way.WayFault.TheVariants.{Held, Failed, NoMemory}
-use Rattle.cu_work.specs.Order.{IsFree, IsFirst, IfAsked, IsHeldIn, task_keys, operation_keys, plan_keys, IsAsked}
+use Rattle.cu_work.specs.Order.{IsFree, IsFirst, IfAsked, task_keys, operation_keys, plan_keys, IsAsked}
 
 -- what is free later was free before
 free_before : (old new : Shown) (l m : ℕ) → Steps NoChange l m old new → (held : Contents) → old.held ≡ Some held → (now : Contents) × (new.held ≡ Some now) × ((key : List ℕ) → IsFree now key → IsFree held key)

@@ -8,10 +8,10 @@ use Rattle.std.proofs.lemmas.List.Sums.{sum_by-le}
 use Rattle.cu_op.specs.declared.operation.Planned.{Planned}
 use Rattle.std.proofs.lemmas.List.{map_more}
 use Rattle.cu_op.specs.PlanView.{PlanView, operation_at, no_operation}
-use Rattle.cu_op.specs.Projection.{largest}
 use Rattle.cu_op.specs.Schedule.{op_of}
 use Rattle.cu_op.specs.Sound.{Sound}
 use Rattle.cu_work.specs.Rooms.{RoomSizes, task_bytes, task_words, rooms_of, buffer_bytes, AreLentWithin}
+use Rattle.cu_shape.specs.Counts.{largest}
 
 most_at : (f : Planned → ℕ) (ops : List Planned) (k : ℕ) → k < length ops → f (operation_at ops k) ≤ largest (map f ops)
 most_at f [] k h = absurd (omega arith)

@@ -19,7 +19,7 @@ use Rattle.cu_op.proofs.CellsOfTasks.{same_array, same_coord}
 use Rattle.cu_state.specs.Pieces.{PlanRun, Chunk, IsInputChunk, KeysApart, InputsApart}
 use Rattle.cu_state.proofs.Reading.{input_or_made}
 use Rattle.cu_task.specs.Serving.{IsOnlyRead}
-use Rattle.cu_work.specs.Shared.{chunks_below, chunks_before, plan_chunks, spec_of, specs_of}
+use Rattle.cu_work.specs.Shared.{chunks_below, chunks_of_first, plan_chunks, spec_of, specs_of}
 
 -- ---- each chunk is listed
 
@@ -64,10 +64,10 @@ module _ (arrays : List ArrayInfo) where
       below_or_last zero (suc n) less = inl (omega arith)
       below_or_last (suc k) (suc n) less = elim (below_or_last k n (omega (arith, less))) [ inl under ↦ inl (omega (arith, under)) | inr same ↦ inr (ap suc same) ]
 
-  before_is : (n : ℕ) (c : Cell) → Contains (chunks_before arrays n) c → (c.array < n) × IsCoordinate (grid_at arrays c.array) c.coord
+  before_is : (n : ℕ) (c : Cell) → Contains (chunks_of_first arrays n) c → (c.array < n) × IsCoordinate (grid_at arrays c.array) c.coord
   before_is zero c listed = absurd (none_in c listed)
   before_is (suc n) c listed =
-      elim (Contains-append_cases (chunks_before arrays n) (chunks_below arrays n (array_chunk_count (array_at arrays n))) c listed) [
+      elim (Contains-append_cases (chunks_of_first arrays n) (chunks_below arrays n (array_chunk_count (array_at arrays n))) c listed) [
         | inl front ↦ let (less, at) = before_is n c front in (omega (arith, less), at)
         | inr last ↦
             let (k, few, is) = below_is n (array_chunk_count (array_at arrays n)) c last in
@@ -75,12 +75,12 @@ module _ (arrays : List ArrayInfo) where
             (omega arith, index-inside (grid_counts (grid_at arrays n)) k few)
       ]
 
-  before_has : (n : ℕ) (c : Cell) → c.array < n → IsCoordinate (grid_at arrays c.array) c.coord → Contains (chunks_before arrays n) c
+  before_has : (n : ℕ) (c : Cell) → c.array < n → IsCoordinate (grid_at arrays c.array) c.coord → Contains (chunks_of_first arrays n) c
   before_has zero c less at = absurd (omega arith)
   before_has (suc n) c less at =
       elim (array_is c.array n less) [
-        | inl under ↦ Contains-append_left (chunks_before arrays n) (chunks_below arrays n (array_chunk_count (array_at arrays n))) c (before_has n c under at)
-        | inr same ↦ Contains-append_right (chunks_before arrays n) (chunks_below arrays n (array_chunk_count (array_at arrays n))) c
+        | inl under ↦ Contains-append_left (chunks_of_first arrays n) (chunks_below arrays n (array_chunk_count (array_at arrays n))) c (before_has n c under at)
+        | inr same ↦ Contains-append_right (chunks_of_first arrays n) (chunks_below arrays n (array_chunk_count (array_at arrays n))) c
             (subst (λ (a : ℕ). Contains (chunks_below arrays a (array_chunk_count (array_at arrays a))) c) same
             (subst (Contains (chunks_below arrays c.array (array_chunk_count (array_at arrays c.array)))) (whole c at)
             (below_has c.array (array_chunk_count (array_at arrays c.array)) (place_of (grid_counts (grid_at arrays c.array)) c.coord) (place-below (grid_counts (grid_at arrays c.array)) c.coord at))))
@@ -129,10 +129,10 @@ module _ (arrays : List ArrayInfo) where
         | inr none ↦ none_in c none
       ])
 
-  before_once : (n : ℕ) → AreOnce (chunks_before arrays n)
+  before_once : (n : ℕ) → AreOnce (chunks_of_first arrays n)
   before_once zero = tt
   before_once (suc n) =
-      once_joined (chunks_before arrays n) (chunks_below arrays n (array_chunk_count (array_at arrays n))) (before_once n) (below_once n (array_chunk_count (array_at arrays n)) (omega arith))
+      once_joined (chunks_of_first arrays n) (chunks_below arrays n (array_chunk_count (array_at arrays n))) (before_once n) (below_once n (array_chunk_count (array_at arrays n)) (omega arith))
       (λ c front last.
       let (less, at) = before_is n c front in
       let (k, few, is) = below_is n (array_chunk_count (array_at arrays n)) c last in

@@ -1,7 +1,7 @@
 -- What a run that goes on rests on.
 use Rattle.std.proofs.Common.{◌≡◌, inl, inr, ℕ, zero, suc, Bool, false, List, [], ◌∷◌, get_or, map, Contains, Option, Some, None, refl, sym, ◌∙◌, subst}
 use Rattle.std.specs.Prelude.{IsTrue, IsSome, ◌↔◌}
-use Rattle.cu_store.specs.Held.{Contents, Holds}
+use Rattle.cu_store.specs.Held.{Contents, Holds, IsHeldIn}
 use Rattle.cu_store.specs.Share.{Lent, IsShared, HasSeenHeld}
 use Rattle.cu_store.specs.Steps.{Shown, Steps}
 use Rattle.cu_store.specs.Yard.{Served, Known, is_made}
@@ -17,7 +17,6 @@ use Rattle.cu_state.specs.Pieces.{PlanRun, Chunk, HoldsTask}
 use Rattle.cu_table.specs.Machine.{IsDone, opening, opened, no_task}
 use Rattle.cu_table.specs.Numbers.{IsTask, task_number}
 use Rattle.cu_work.specs.Alone.{HasSeenDone}
-use Rattle.cu_work.specs.Order.{IsHeldIn}
 use Rattle.cu_work.specs.Search.{NamesTask}
 use Rattle.cu_work.specs.World.{IsFound}
 use Rattle.cu_work.proofs.Searching.{Fills, held_stays}

@@ -2,7 +2,7 @@
 use Rattle.std.proofs.Common.{◌≡◌, ◌≢◌, inl, inr, ℕ, zero, suc, ◌*◌, Bool, List, Option, Some, None, Result, Ok, Err, IfErr, refl, sym, ◌∙◌, subst, arith}
 use Rattle.std.specs.Prelude.{OnOk}
 use Rattle.cu_store.specs.Faults.{last_count}
-use Rattle.cu_store.specs.Held.{Contents, Holds}
+use Rattle.cu_store.specs.Held.{Contents, Holds, IsHeldIn}
 use Rattle.cu_store.specs.Share.{IsShareFault}
 use Rattle.cu_store.specs.Steps.{Shown, Changes, NoChange, PutOf, OrLate, Lands, Within, Steps}
 use Rattle.cu_store.specs.declared.faults.DepotFault.{DepotFault}
@@ -22,14 +22,13 @@ use Rattle.cu_table.specs.Machine.{AllDone}
 use Rattle.cu_table.specs.Table.{TableView}
 use Rattle.cu_work.specs.declared.outcome.Outcome.{Outcome}
 use Rattle.cu_work.specs.declared.outcome.Outcome.TheVariants as outcome
-use Rattle.cu_work.specs.Order.{IsHeldIn}
 use Rattle.cu_work.specs.World.{IsFound}
 use Rattle.cu_work.specs.declared.run.HeldTexts.{HeldTexts}
 use Rattle.cu_work.specs.declared.run.HeldTexts.TheVariants.{Neither, Record, Both}
 use Rattle.cu_work.specs.declared.run.Texts.{Texts}
 use Rattle.cu_work.specs.declared.run.RunFault.{RunFault}
 use Rattle.cu_work.specs.declared.run.RunFault.TheVariants.{TextFailed, ShareFailed, NoMemory}
-use Rattle.cu_work.specs.Run.{run_of, fault_of, PutOfText, PutOfMissing, AreTextsHeld, IsRecordFirst, HoldsTexts, IsRunFault, IsTextPutFault, IsUnstored}
+use Rattle.cu_work.specs.Run.{run_of, share_fault, PutOfText, PutOfMissing, AreTextsHeld, IsRecordFirst, HoldsTexts, IsRunFault, IsTextPutFault, IsUnstored}
 use Rattle.cu_work.specs.Shared.{IsOpen, IsOpenAs, HasDriven, HoldsDone, IfComplete}
 use Rattle.cu_work.proofs.Resuming.{found_stays}
 
@@ -289,11 +288,11 @@ module _ (p : PlanView) (t : Texts) (texts_held : HeldTexts) (tries : ℕ) (firs
       steps_wider (λ key value change. change) (omega arith) (omega arith) (steps_then own two)
 
   pub share_unstored : (new : Shown) → ((env : Elements) → IsLeft (run_of p t) env first → HoldsTexts (run_of p t) env new) → (f : DepotFault) (env : Elements) → IsLeft (run_of p t) env first
-      → IsUnstored (run_of p t) env tries first new (fault_of f)
+      → IsUnstored (run_of p t) env tries first new (share_fault f)
   share_unstored new held depot.Failed env left = held env left
   share_unstored new held depot.NoMemory env left = inr (held env left 0 (omega arith))
 
-  pub share_cause : (new : Shown) (f : DepotFault) → IsShareFault tries mid new f → IsRunFault texts_held tries t first new (fault_of f)
+  pub share_cause : (new : Shown) (f : DepotFault) → IsShareFault tries mid new f → IsRunFault texts_held tries t first new (share_fault f)
   share_cause new depot.Failed rose = let more = own.count in omega (arith, rose, more)
   share_cause new depot.NoMemory lacks = lacks
 

@@ -5,7 +5,7 @@ use Rattle.std.proofs.Math.Seq.{take-append_seam}
 use Rattle.std.proofs.lemmas.Bool.{cases_lt}
 use Rattle.std.proofs.lemmas.List.{append_assoc, append-nil, length-set, get_or-set_same, get_or-set_other}
 use Rattle.cu_store.specs.Faults.{Rose}
-use Rattle.cu_store.specs.Held.{Contents}
+use Rattle.cu_store.specs.Held.{Contents, IsHeldIn}
 use Rattle.cu_store.specs.Steps.{Shown, NoChange, Steps}
 use Rattle.cu_store.proofs.Steps.{steps_same, steps_wider}
 use Rattle.cu_op.specs.Cells.{tasks_of}
@@ -17,7 +17,7 @@ use Rattle.cu_table.specs.Numbers.{IsTask, task_count, task_number}
 use Rattle.cu_table.proofs.Numbers.{number_below, number_once}
 use Rattle.cu_work.specs.declared.find.FindFault.{FindFault}
 use Rattle.cu_work.specs.Ends.{NoneOf}
-use Rattle.cu_work.specs.Order.{IsHeldIn, task_keys, operation_keys, plan_keys}
+use Rattle.cu_work.specs.Order.{task_keys, operation_keys, plan_keys}
 use Rattle.cu_work.specs.Search.{NamesTask, NamesStored, IsSearchFault, AreAsked, IsSearched}
 use Rattle.cu_work.specs.World.{IsStored, IsFound}
 use Rattle.cu_work.proofs.Asking.{operation_rest, plan_rest}

@@ -3,7 +3,7 @@ use Rattle.std.proofs.Common.{◌≡◌, inl, inr, ℕ, suc, ◌*◌, Bool, true
 use Rattle.std.specs.Prelude.{◌&&◌, IsTrue, IsSome, Ok}
 use Rattle.std.proofs.lemmas.List.{append_assoc, append-nil}
 use Rattle.std.proofs.lemmas.List.Elements.{All-append, All-nil, All-cons, All-weaker, All-head, All-tail, All-contains}
-use Rattle.cu_store.specs.Held.{Contents, Write, Answers}
+use Rattle.cu_store.specs.Held.{Contents, Write, Answers, IsHeldIn}
 use Rattle.cu_store.specs.Steps.{Shown, Changes, NoChange, OrLate, IsChangedBy, Lands, Steps}
 use Rattle.cu_store.specs.declared.faults.DepotFault.TheVariants as depot
 use Rattle.cu_store.proofs.Steps.{steps_same, steps_wider}
@@ -16,7 +16,7 @@ use Rattle.cu_op.proofs.CellsOfTasks.{map_contains}
 use Rattle.cu_work.specs.declared.find.FindFault.{FindFault}
 use Rattle.cu_work.specs.declared.find.FindFault.TheVariants.{Failed, NoMemory}
 use Rattle.cu_work.specs.Ends.{NoneOf}
-use Rattle.cu_work.specs.Order.{IsHeldIn, task_keys}
+use Rattle.cu_work.specs.Order.{task_keys}
 use Rattle.cu_work.specs.Search.{IsSearchFault, AreAsked}
 use Rattle.cu_work.specs.World.{IsStored}
 use Rattle.cu_work.proofs.EndedCalls.{Grows, over_both, ends_before, ends_behind, ends_calls}

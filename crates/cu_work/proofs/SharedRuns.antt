@@ -8,7 +8,7 @@ use Rattle.cu_store.specs.Faults.{last_count, Rose}
 use Rattle.cu_store.specs.Held.{Contents, Write, IsAmong, Holds}
 use Rattle.cu_store.specs.Share.{Lent, MayShare, IsShared, MayGiveBack, PutPromised, HoldsSeen, AddsCounts, HoldsPromised, LatePromised, LateSteady, IsPromiseOf, ServesAs}
 use Rattle.cu_store.specs.Steps.{Shown, Changes, NoChange, OrLate, IsChangedBy, Lands, Steps}
-use Rattle.cu_store.specs.Yard.{is_served, is_made, bytes_under, Served, Known, Fits}
+use Rattle.cu_store.specs.Yard.{is_served, is_made, bytes_under, Served, Known, FitsYard}
 use Rattle.cu_store.specs.declared.yard.Spec.{Spec}
 use Rattle.cu_store.specs.declared.faults.TaskFault.TheVariants as fault
 use Rattle.cu_store.proofs.Sharing.{may_share_later}
@@ -239,7 +239,7 @@ module _ (p : PlanView) (sound : Sound p) (apart : KeysApart (chunks_alone p)) (
         }
 
         -- each chunk of a task that is done is held
-        seen_held : Fits yard last → (env : Elements) → IsLeft r env start → (c : Cell) → IsCell p.arrays c.array c.coord → IsTrue (last.seen (key_of p.arrays c)) → HoldsPiece r env (Chunk c) new
+        seen_held : FitsYard yard last → (env : Elements) → IsLeft r env start → (c : Cell) → IsCell p.arrays c.array c.coord → IsTrue (last.seen (key_of p.arrays c)) → HoldsPiece r env (Chunk c) new
         seen_held own env left c piece seen =
             let (held, told) = told_later (OrLate NoChange start.late) start.held mid.held left.held share.lands left.told in
             let (after, told_new) = told_later (OrLate (PutPromised lent) mid.late) mid.held new.held held back.lands told in
@@ -254,7 +254,7 @@ module _ (p : PlanView) (sound : Sound p) (apart : KeysApart (chunks_alone p)) (
             tells_entries None told tells = cc
             tells_entries (Some x) told (promise, (entries, is, rest)) = (entries, is)
 
-        pub shared_done : Fits yard last → (env : Elements) → IsLeft r env start → HoldsDone r env now.state new
+        pub shared_done : FitsYard yard last → (env : Elements) → IsLeft r env start → HoldsDone r env now.state new
         shared_done own env left op task is done c listed =
             let piece = written_cell p sound op task c.array c.coord (record { operation = is.operation; number = is.number; cell = listed }) in
             let all : HasSeenDone p now.state last.seen = subst (λ (q : PlanView). HasSeenDone q now.state last.seen) plan ran.seen in
@@ -307,7 +307,7 @@ module _ (p : PlanView) (sound : Sound p) (apart : KeysApart (chunks_alone p)) (
             stays a b key bytes (inr (inl (put, is, made, promised))) holds unmade steady = absurd (unmade made)
             stays a b key bytes (inr (inr (put, is, among))) holds unmade steady = is ∙ (sym (steady put among) ∙ holds)
 
-        pub shared_bad : Fits yard last → (o : Outcome) → IsDecided p now.state o → IfBadChunk o (IsBadChunk p new)
+        pub shared_bad : FitsYard yard last → (o : Outcome) → IsDecided p now.state o → IfBadChunk o (IsBadChunk p new)
         shared_bad own outcome.Complete decided = tt
         shared_bad own (outcome.Broken op task) decided = tt
         shared_bad own outcome.Lacked decided = tt
@@ -317,7 +317,7 @@ module _ (p : PlanView) (sound : Sound p) (apart : KeysApart (chunks_alone p)) (
             let r = cause.0 in
             (r.op, r.task, r.cell, r.is.operation, r.is.number, r.read, r.key_is, r.want_is, r.other, (input_of mid.held refl shared.tells key got want bad).0)
 
-        pub shared_input : Fits yard last → (o : Outcome) → IsDecided p now.state o → (env : Elements) → IsLeft r env start → IfBadChunk o (λ key got want. IsInputKey p key)
+        pub shared_input : FitsYard yard last → (o : Outcome) → IsDecided p now.state o → (env : Elements) → IsLeft r env start → IfBadChunk o (λ key got want. IsInputKey p key)
         shared_input own outcome.Complete decided env left = tt
         shared_input own (outcome.Broken op task) decided env left = tt
         shared_input own outcome.Lacked decided env left = tt

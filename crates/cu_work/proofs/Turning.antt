@@ -2,7 +2,7 @@
 use Rattle.std.proofs.Common.{◌≡◌, ◌≢◌, ℕ, zero, suc, get_or, set, Bool, true, false, cond, List, [], ◌∷◌, ◌++◌, Option, Some, None, Result, Ok, Err, refl, sym, ap, ◌∙◌, subst, true≢false, arith, eq-eqb}
 use Rattle.std.specs.Prelude.{Contains, OnOk, IfErr}
 use Rattle.cu_store.specs.Held.{Contents}
-use Rattle.cu_store.specs.Yard.{Known, Served, Fits, IsTold, IsLater, shown_by}
+use Rattle.cu_store.specs.Yard.{Known, Served, FitsYard, IsTold, IsLater, shown_by}
 use Rattle.cu_store.specs.declared.yard.Spec.{Spec}
 use Rattle.cu_region.specs.Passes.{IsLaterIn}
 use Rattle.cu_store.specs.declared.faults.TaskFault.{TaskFault}
@@ -25,10 +25,10 @@ use Rattle.cu_table.specs.Numbers.{IsTask, task_number}
 use Rattle.cu_table.specs.Machine.{Machine, IsDone, MakesInput, AreInputsDone, no_task, one_copy_more, copy_started}
 use Rattle.cu_table.specs.Own.{left_running}
 use Rattle.cu_table.specs.Step.{Settings, Halts}
-use Rattle.cu_table.specs.Table.{TableView, start_of, end_of, report_kind, is_late}
+use Rattle.cu_table.specs.Table.{TableView, start_event, end_of, report_kind, is_late}
 use Rattle.cu_turn.specs.declared.view.SeatView.{SeatView}
 use Rattle.cu_turn.proofs.Fronts.{own-append}
-use Rattle.cu_board.specs.Board.{SeesDone, IsBadEntry, MayReport, LeavesCount, IsCauseOf, IsResting, IsRunning, IsTurnOf, IsLeftBy, IsClaimTurn, IsReportTurn}
+use Rattle.cu_board.specs.Board.{SeesDone, IsBadEntry, MayReport, LeavesCount, IsCauseOf, IsResting, IsRunning, IsTurnOf, IsTableLeft, IsClaimTurn, IsReportTurn}
 use Rattle.cu_task.specs.Serving.{HasSeenInputs, HasSeenOutputs, IsBadOfInput}
 use Rattle.cu_task.specs.Task.{IsTaskFault}
 use Rattle.cu_work.specs.Alone.{IsDecided, Tried, halt_outcome}
@@ -47,7 +47,7 @@ own-snoc n xs e is = own-append n xs (e ∷ []) ∙ ap (λ (b : Bool). own n xs 
 left_by : (n : ℕ) (xs : List Entry) (e : Entry) → e.worker ≡ n → left_running None (own n (xs ++ e ∷ [])) ≡ cond (is_start e.kind) (Some (e.op, e.task)) None
 left_by n xs e is = ap (left_running None) (own-snoc n xs e is) ∙ left-snoc None (own n xs) e
 
-front_after : (made : TableView) (v : SeatView) (u : TableView) (w : SeatView) → IsLeftBy made v u w → w.front ≡ u.history
+front_after : (made : TableView) (v : SeatView) (u : TableView) (w : SeatView) → IsTableLeft made v u w → w.front ≡ u.history
 front_after made v u w left = ap (λ (x : SeatView). x.front) left.knows
 
 -- ---- after a claim
@@ -58,7 +58,7 @@ same_after made v w r k c = (ap (λ (x : SeatView). x.root) c.left.knows, ap (λ
 pub runs_after : (made : TableView) (v w : SeatView) (op task copy : ℕ) (k : Known) → IsClaimTurn made v (claim.Run op task copy) w k → IsRunning v.number op task w.front
 runs_after made v w op task copy k c =
     ap (λ (h : List Entry). left_running None (own v.number h)) (front_after made v c.after w c.left ∙ c.answer.0.history)
-    ∙ left_by v.number c.before.history (start_of c.before.settings.plan v.number op task) refl
+    ∙ left_by v.number c.before.history (start_event c.before.settings.plan v.number op task) refl
 
 -- the task of a Run is one of the plan's
 pub task_after : (made : TableView) (v w : SeatView) (op task copy : ℕ) (k : Known) → IsClaimTurn made v (claim.Run op task copy) w k → IsTask made.settings.plan op task
@@ -98,12 +98,12 @@ inputs_after made v w op task copy k c writes inputs =
     let of : c.after.settings ≡ made.settings = c.left.same.0 in
     sees_inputs made.settings.plan c.after.state op task k writes
     (λ l t needs. subst (λ (s : Settings). IsDone s.plan c.after.state l t) c.found.same.0
-    (start_keeps c.before.settings.plan c.before.state c.after.state (start_of c.before.settings.plan v.number op task) c.answer.0.step.1 l t
+    (start_keeps c.before.settings.plan c.before.state c.after.state (start_event c.before.settings.plan v.number op task) c.answer.0.step.1 l t
     (inputs l t (subst (λ (s : Settings). MakesInput s.plan l t op task) (sym c.found.same.0) needs))))
     (subst (λ (s : Settings). SeesDone s.plan c.after.state k) of c.told.0)
 
 -- a claim that changes nothing leaves the seat at rest
-still_rests : (made : TableView) (v w : SeatView) (t u : TableView) → IsTurnOf made v t → u ≡ t → IsLeftBy made v u w → IsResting v.number v.front → IsResting v.number w.front
+still_rests : (made : TableView) (v w : SeatView) (t u : TableView) → IsTurnOf made v t → u ≡ t → IsTableLeft made v u w → IsResting v.number v.front → IsResting v.number w.front
 still_rests made v w t u found is left rests =
     ap (λ (h : List Entry). left_running None (own v.number h)) (front_after made v u w left ∙ ap (λ (x : TableView). x.history) is) ∙ ap (left_running None) found.own ∙ rests
 
@@ -112,7 +112,7 @@ idle_after made v w k c rests = still_rests made v w c.before c.after c.found c.
 
 -- ---- where a claim says that the machine has ended
 
-has_ended : (made : TableView) (v w : SeatView) (u : TableView) (k : Known) (o : Outcome) → IsLeftBy made v u w → IsDecided u.settings.plan u.state o → IsCausedBy u.settings.plan k o → KnowsEnd made w k o
+has_ended : (made : TableView) (v w : SeatView) (u : TableView) (k : Known) (o : Outcome) → IsTableLeft made v u w → IsDecided u.settings.plan u.state o → IsCausedBy u.settings.plan k o → KnowsEnd made w k o
 has_ended made v w u k o left ended cause = record {
   table = u;
   same = left.same;
@@ -201,7 +201,7 @@ bad_told p (Some x) None e key got want told is bad = absurd told
 bad_told p None (Some y) e key got want told is bad = absurd told
 bad_told p None None e key got want told is bad = absurd (true≢false (sym (ap is_told is)))
 
-may_by : (p : PlanView) (op task : ℕ) (r : Result (Unit {0}) TaskFault) (old new : Known) (yard : Served) → IsTask p op task → Fits yard new → OnOk r (HasSeenOutputs p op task new.seen)
+may_by : (p : PlanView) (op task : ℕ) (r : Result (Unit {0}) TaskFault) (old new : Known) (yard : Served) → IsTask p op task → FitsYard yard new → OnOk r (HasSeenOutputs p op task new.seen)
     → IfErr r (IsTaskFault (shown_by old) (shown_by new) p op task) → IfErr r (IsBadOfInput p yard.promise yard.entries) → MayReport p op task r new
 may_by p op task (Ok u) old new yard is fits seen cause bad = seen
 may_by p op task (Err fault.Store) old new yard is fits seen cause bad = omega (arith, cause)
@@ -213,7 +213,7 @@ may_by p op task (Err (fault.BadChunk key got want)) old new yard is fits seen c
     )
 may_by p op task (Err fault.NoMemory) old new yard is fits seen cause bad = cause
 
-pub may_report : (p : PlanView) (op task : ℕ) (r : Result (Unit {0}) TaskFault) (ks : Known × Known) (yard : Served) → IsTask p op task → Fits yard ks.1 → Tried p op task yard ks r
+pub may_report : (p : PlanView) (op task : ℕ) (r : Result (Unit {0}) TaskFault) (ks : Known × Known) (yard : Served) → IsTask p op task → FitsYard yard ks.1 → Tried p op task yard ks r
     → MayReport p op task r ks.1
 may_report p op task r ks yard is fits tried = may_by p op task r ks.0 ks.1 yard is fits tried.seen tried.cause tried.bad
 

@@ -6,7 +6,7 @@ use Rattle.std.specs.Prelude.{slice_index_or}
 use Rattle.atomic_table.specs.Seated.{TableId}
 use Rattle.cu_store.specs.Faults.{last_count}
 use Rattle.cu_store.specs.Held.{Contents}
-use Rattle.cu_store.specs.Yard.{Served, Known, Fits, IsTold, IsOfOneYard, IsJoined, shown_by}
+use Rattle.cu_store.specs.Yard.{Served, Known, FitsYard, IsTold, IsOfOneYard, IsJoined, shown_by}
 use Rattle.cu_store.specs.declared.faults.TaskFault.{TaskFault}
 use Rattle.cu_store.specs.declared.faults.TaskFault.TheVariants as fault
 use Rattle.cu_history.specs.declared.entry.Entry.{Entry}
@@ -33,7 +33,7 @@ use Rattle.cu_work.proofs.Turning.{bad_told}
 
 -- ---- one worker
 
-cause_of : (p : PlanView) (yard : Served) (k : Known) → Fits yard k → (f : TaskFault) → IsHaltOf p yard (shown_by k) f → IsCauseOf p k f
+cause_of : (p : PlanView) (yard : Served) (k : Known) → FitsYard yard k → (f : TaskFault) → IsHaltOf p yard (shown_by k) f → IsCauseOf p k f
 cause_of p yard k fits fault.Store halt = tt
 cause_of p yard k fits fault.NoMemory halt = halt
 cause_of p yard k fits (fault.BadChunk key got want) halt =
@@ -43,7 +43,7 @@ cause_of p yard k fits (fault.BadChunk key got want) halt =
           (subst (λ (x : Option Contents). IsBadOfInput p yard.promise x (fault.BadChunk key got want)) fits.entries halt.1),
     )
 
-pub alone_worked : (yard : Served) (first now : TableView) (old new : Known) → Fits yard new → HasRun yard first now old new → HasWorked yard first now old new
+pub alone_worked : (yard : Served) (first now : TableView) (old new : Known) → FitsYard yard new → HasRun yard first now old new → HasWorked yard first now old new
 alone_worked yard first now old new fits ran = record {
   settings = ran.settings;
   done = ran.done;
@@ -65,7 +65,7 @@ bad_entry p (Some x) entries (Some e) key got want told same bad =
     let b = bad e refl in
     (b.cell, (b.input.within, b.input.coordinate), b.input.given, b.key_is, b.want_is, b.other, subst (λ (o : Option Contents). HoldsLength o key got) (sym same) (b.bytes, b.held, b.length_is))
 
-pub bad_of_input : (p : PlanView) (yard : Served) (k : Known) (key : List ℕ) (got want : ℕ) → Fits yard k → IsCauseOf p k (fault.BadChunk key got want)
+pub bad_of_input : (p : PlanView) (yard : Served) (k : Known) (key : List ℕ) (got want : ℕ) → FitsYard yard k → IsCauseOf p k (fault.BadChunk key got want)
     → IsBadOfInput p yard.promise yard.entries (fault.BadChunk key got want)
 bad_of_input p yard k key got want fits cause = bad_entry p yard.promise yard.entries k.entries key got want fits.told fits.entries cause.1
 

@@ -15,10 +15,6 @@ use Rattle.cu_task.specs.Task.{calls_of}
 abbrev pub IsTaskMost : PlanView → ℕ → Type 0
 IsTaskMost p m = (k task : ℕ) → k < length p.ops → task < tasks_of p.arrays (op_of p k) → calls_of p k task ≤ m
 
--- how many tasks the plan has
-abbrev pub task_count : PlanView → ℕ
-task_count p = sum_by (λ o. tasks_of p.arrays o.op) p.ops
-
 -- the key is that of a chunk that a task of the plan reads, which holds `got` bytes and not those of a chunk
 abbrev pub IsBadChunk : PlanView → Shown → List ℕ → ℕ → ℕ → Type 0
 IsBadChunk p shown key got want = (k : ℕ) × (task : ℕ) × (c : Cell) × (k < length p.ops) × (task < tasks_of p.arrays (op_of p k)) × Contains (read_chunks p.arrays (op_of p k) task) c

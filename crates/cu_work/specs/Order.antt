@@ -2,7 +2,7 @@
 -- operation, task and chunk; and what asking for keys in an order tells.
 use Rattle.std.specs.Prelude.{◌≡◌, ℕ, ◌*◌, zero, suc, IsTrue, List, [], ◌∷◌, ◌++◌, map, length, All, Contains, Option, Some, None, Result, OnOk, IfErr}
 use Rattle.cu_store.specs.Faults.{Rose}
-use Rattle.cu_store.specs.Held.{Contents}
+use Rattle.cu_store.specs.Held.{Contents, IsHeldIn}
 use Rattle.cu_store.specs.Steps.{Shown, NoChange, Steps}
 use Rattle.cu_op.specs.Cells.{tasks_of}
 use Rattle.cu_op.specs.PlanView.{PlanView}
@@ -38,11 +38,6 @@ abbrev pub IfAsked : WayFault → (List ℕ → Type 0) → Type 0
 IfAsked (Held key) P = P key
 IfAsked (Failed key) P = P key
 IfAsked NoMemory P = Unit {0}
-
--- the key is held, where the contents are told
-abbrev pub IsHeldIn : Option Contents → List ℕ → Type 0
-IsHeldIn None key = Unit {0}
-IsHeldIn (Some held) key = (bytes : List ℕ) × (held key ≡ Some bytes)
 
 -- Why asking ended: the key is held, so many calls for it failed, the count risen in each, or the store lacks memory.
 abbrev pub IsWayFault : ℕ → Shown → Shown → WayFault → Type 0

@@ -4,7 +4,8 @@ use Rattle.std.specs.Prelude.{ℕ, ◌+◌, ◌*◌, ◌≤◌, List, All, map}
 use Rattle.cu_op.specs.declared.layout.ArrayInfo.{ArrayInfo}
 use Rattle.cu_op.specs.declared.operation.Op.{Op}
 use Rattle.cu_op.specs.PlanView.{PlanView}
-use Rattle.cu_op.specs.Projection.{largest, scratch_room, input_room, output_room, instruction_count}
+use Rattle.cu_op.specs.Projection.{scratch_room, input_room, output_room, instruction_count}
+use Rattle.cu_shape.specs.Counts.{largest}
 
 -- a task's scratch, the regions that it reads, and those that it writes
 abbrev pub task_bytes : List ArrayInfo → Op → ℕ

@@ -1,14 +1,13 @@
 -- What is stored of a plan, in its order: its record, its metadata, its chunks (this project's own rule).
 use Rattle.std.specs.Prelude.{◌≡◌, ◌⊎◌, ℕ, ◌<◌, IsTrue, List, [], ◌∷◌, length, Option}
 use Rattle.cu_store.specs.Faults.{Rose}
-use Rattle.cu_store.specs.Held.{Contents}
+use Rattle.cu_store.specs.Held.{Contents, IsHeldIn}
 use Rattle.cu_store.specs.Steps.{Shown, Changes, NoChange, PutOf, Steps}
 use Rattle.cu_store.specs.declared.faults.DepotFault.{DepotFault}
 use Rattle.cu_store.specs.declared.faults.DepotFault.TheVariants as depot
 use Rattle.cu_op.specs.PlanView.{PlanView}
 use Rattle.cu_op.specs.Value.{Elements}
 use Rattle.cu_state.specs.Pieces.{PlanRun, Text, text_at, HoldsPiece}
-use Rattle.cu_work.specs.Order.{IsHeldIn}
 use Rattle.cu_work.specs.declared.run.HeldTexts.{HeldTexts}
 use Rattle.cu_work.specs.declared.run.HeldTexts.TheVariants.{Neither, Record, Both}
 use Rattle.cu_work.specs.declared.run.Texts.{Texts}
@@ -70,6 +69,6 @@ IsTextPutFault tries key old new ShareFailed = ⊥
 IsTextPutFault tries key old new NoMemory = IsTrue new.lacks
 
 -- why no task was run, where sharing ended so
-abbrev pub fault_of : DepotFault → RunFault
-fault_of depot.Failed = ShareFailed
-fault_of depot.NoMemory = NoMemory
+abbrev pub share_fault : DepotFault → RunFault
+share_fault depot.Failed = ShareFailed
+share_fault depot.NoMemory = NoMemory

@@ -1,6 +1,6 @@
 -- The tasks of a plan whose chunks are all held, as they are found by asking for each chunk. This project's own rules.
 use Rattle.std.specs.Prelude.{◌≡◌, ◌⊎◌, ℕ, ◌*◌, Bool, true, false, IsTrue, List, ◌++◌, length, slice_index_or, All, Some}
-use Rattle.cu_store.specs.Held.{Contents}
+use Rattle.cu_store.specs.Held.{Contents, IsHeldIn}
 use Rattle.cu_store.specs.Steps.{Shown, NoChange, Steps}
 use Rattle.cu_store.specs.declared.faults.DepotFault.TheVariants as depot
 use Rattle.cu_op.specs.PlanView.{PlanView}
@@ -8,7 +8,7 @@ use Rattle.cu_state.specs.Left.{IsTaskBefore}
 use Rattle.cu_state.specs.Pieces.{chunks_alone}
 use Rattle.cu_table.specs.Numbers.{IsTask, task_count, task_number}
 use Rattle.cu_work.specs.Ends.{NoneOf, EndsAt}
-use Rattle.cu_work.specs.Order.{IsHeldIn, operation_keys, plan_keys}
+use Rattle.cu_work.specs.Order.{operation_keys, plan_keys}
 use Rattle.cu_work.specs.World.{IsStored}
 use Rattle.cu_work.specs.declared.find.FindFault.{FindFault}
 use Rattle.cu_work.specs.declared.find.FindFault.TheVariants.{Failed, NoMemory}
@@ -22,9 +22,9 @@ abbrev pub NamesStored : PlanView → Contents → List Bool → Type 0
 NamesStored p held done = (op task : ℕ) → IsTask p op task → IsStored p held op task → NamesTask p done op task
 
 -- Why the search ended: the calls for a key failed, each of them, or the store lacked memory at one, or there was none before the first call.
-abbrev pub IsFindFault : ℕ → List (List ℕ) → Shown × Shown → FindFault → Type 0
-IsFindFault tries keys shown (Failed key) = EndsAt NoneOf tries keys shown key depot.Failed
-IsFindFault tries keys shown NoMemory = (shown.1 ≡ shown.0) ⊎ ((key : List ℕ) × EndsAt NoneOf tries keys shown key depot.NoMemory)
+abbrev pub IsSearchEnd : ℕ → List (List ℕ) → Shown × Shown → FindFault → Type 0
+IsSearchEnd tries keys shown (Failed key) = EndsAt NoneOf tries keys shown key depot.Failed
+IsSearchEnd tries keys shown NoMemory = (shown.1 ≡ shown.0) ⊎ ((key : List ℕ) × EndsAt NoneOf tries keys shown key depot.NoMemory)
 
 -- ---- on the way
 

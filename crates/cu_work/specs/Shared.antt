@@ -36,13 +36,13 @@ chunks_below arrays a zero = []
 chunks_below arrays a (suc n) = chunks_below arrays a n ++ cell a (coordinate_of (grid_at arrays a) n) ∷ []
 
 -- the chunks of the first n arrays
-abbrev pub chunks_before : List ArrayInfo → ℕ → List Cell
-chunks_before arrays zero = []
-chunks_before arrays (suc n) = chunks_before arrays n ++ chunks_below arrays n (array_chunk_count (array_at arrays n))
+abbrev pub chunks_of_first : List ArrayInfo → ℕ → List Cell
+chunks_of_first arrays zero = []
+chunks_of_first arrays (suc n) = chunks_of_first arrays n ++ chunks_below arrays n (array_chunk_count (array_at arrays n))
 
 -- those of all arrays of a plan, the inputs included
 abbrev pub plan_chunks : PlanView → List Cell
-plan_chunks p = chunks_before p.arrays (length p.arrays)
+plan_chunks p = chunks_of_first p.arrays (length p.arrays)
 
 -- a chunk's key is served; it may be put where an operation makes its array
 abbrev pub spec_of : List ArrayInfo → Cell → Spec

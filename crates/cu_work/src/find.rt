@@ -7,7 +7,7 @@ ghost use Rattle.cu_op.specs.Cells.{tasks_of};
 ghost use Rattle.cu_op.specs.Schedule.{op_of};
 ghost use Rattle.cu_table.specs.Numbers.{first_task, task_count};
 ghost use Rattle.cu_work.specs.Order.{task_keys, operation_keys, plan_keys};
-ghost use Rattle.cu_work.specs.Search.{AreAsked, IsSearched, IsSearchFault, IsFindFault, NamesStored};
+ghost use Rattle.cu_work.specs.Search.{AreAsked, IsSearched, IsSearchFault, IsSearchEnd, NamesStored};
 ghost use Rattle.cu_work.specs.World.{IsFound};
 
 use crate::way::key_of;
@@ -136,7 +136,7 @@ pub fn find_done<D: Depot>(
     ensures all { (held : Contents) → (D.shown depot.old).held ≡ Some held → IfOk result (λ done. NamesStored plan.now held done.items) }
     ensures step { Steps NoChange 0 ((retries + 1) * length (plan_keys plan.now (length plan.now.ops))) (D.shown depot.old) (D.shown depot.new) }
     ensures asked { OnOk result (Rose (length (plan_keys plan.now (length plan.now.ops))) (D.shown depot.old).calls (D.shown depot.new).calls) }
-    ensures cause { IfErr result (IsFindFault (retries + 1) (plan_keys plan.now (length plan.now.ops)) (D.shown depot.old, D.shown depot.new)) }
+    ensures cause { IfErr result (IsSearchEnd (retries + 1) (plan_keys plan.now (length plan.now.ops)) (D.shown depot.old, D.shown depot.new)) }
 {
     let count = count_tasks(plan);
     let Ok(mut done) = vec![in alloc; false; count] else {

@@ -9,7 +9,7 @@ ghost use Rattle.cu_state.specs.Left.{IsLeft, RunChange};
 ghost use Rattle.cu_state.specs.Pieces.{KeysApart, InputsApart, IsComplete};
 ghost use Rattle.cu_work.specs.Drive.{IsBadChunk, IsInputKey, IsTaskMost};
 ghost use Rattle.cu_work.specs.declared.run.HeldTexts.TheVariants.{Neither};
-ghost use Rattle.cu_work.specs.Run.{run_of, fault_of, PutOfText, PutOfMissing, AreTextsHeld, IsRecordFirst, HoldsTexts, IsRunFault, IsTextPutFault, IsUnstored};
+ghost use Rattle.cu_work.specs.Run.{run_of, share_fault, PutOfText, PutOfMissing, AreTextsHeld, IsRecordFirst, HoldsTexts, IsRunFault, IsTextPutFault, IsUnstored};
 ghost use Rattle.cu_work.specs.Shared.{IsOpen, IsMemoryFor, HasDriven, HoldsDone, AreCounted, IfBadChunk, IfComplete, IfLacked};
 ghost use Rattle.cu_work.specs.World.{IsFound};
 
@@ -116,7 +116,7 @@ fn put_texts<D: Depot>(
 
 /// Why no task was run, where sharing ended so.
 fn fault_of(fault: DepotFault) -> RunFault
-    ensures { result ≡ fault_of fault }
+    ensures { result ≡ share_fault fault }
 {
     match fault {
         DepotFault::Failed => RunFault::ShareFailed,

@@ -1,6 +1,6 @@
 use Rattle.std.proofs.Common.{◌≡◌, drop}
-use Rattle.cu_check.specs.Elements.{named_layout}
 use Rattle.cu_check.proofs.inputs.named_layout.Given as goal
+use Rattle.cu_expr.specs.Inputs.{layout_named}
 
 abbrev pub invariant-loop-input : goal.invariant-loop-input
-invariant-loop-input l = named_layout (drop l.input-index l.inputs) l.name ≡ named_layout l.inputs l.name
+invariant-loop-input l = layout_named (drop l.input-index l.inputs) l.name ≡ layout_named l.inputs l.name

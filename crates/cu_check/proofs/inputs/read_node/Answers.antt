@@ -2,11 +2,11 @@ use Rattle.std.proofs.Common.{◌+◌, ap, subst}
 use Rattle.cu_op.specs.declared.layout.Layout.{Layout}
 use Rattle.cu_check.specs.Arrays.{form_arrays}
 use Rattle.cu_check.specs.Chunks.{IsArrayFault}
-use Rattle.cu_check.specs.Elements.{named_layout}
 use Rattle.cu_check.specs.Plains.{IsReadArray}
 use Rattle.cu_check.proofs.InputNodes.{read_input}
 use Rattle.cu_check.proofs.Layouts.{named_fits}
 use Rattle.cu_check.proofs.inputs.read_node.Goals as goal
+use Rattle.cu_expr.specs.Inputs.{layout_named}
 
 pub read_plain-requires-clause-layout : goal.read_plain-requires-clause-layout
 read_plain-requires-clause-layout g c = rw c.named_layout.ensures (named_fits c.args.inputs.now c.in-Input.name c.requires.layouts)
@@ -18,14 +18,14 @@ returns-clause-read g c entry before step was =
 
 pub returns-in-Err-clause-cause : goal.returns-in-Err-clause-cause
 returns-in-Err-clause-cause g c = (
-  record { name = c.in-Input.name; layout = named_layout c.args.inputs.now c.in-Input.name },
+  record { name = c.in-Input.name; layout = layout_named c.args.inputs.now c.in-Input.name },
   ap (form_arrays c.args.inputs.now) c.in-Input.is,
   subst (λ (l : Layout). IsArrayFault (c.args.retries + 1) (g.D.Depot.shown c.args.depot.now) (g.D.Depot.shown c.read_plain.new.depot) (record { name = c.in-Input.name; layout = l }) c.in-Err.status) c.named_layout.ensures c.in-Err.ensures.cause,
 )
 
 pub returns-in-Err-push-clause-cause : goal.returns-in-Err-push-clause-cause
 returns-in-Err-push-clause-cause g c = (
-  record { name = c.in-Input.name; layout = named_layout c.args.inputs.now c.in-Input.name },
+  record { name = c.in-Input.name; layout = layout_named c.args.inputs.now c.in-Input.name },
   ap (form_arrays c.args.inputs.now) c.in-Input.is,
   λ entry before. tt,
 )

@@ -5,7 +5,7 @@ use Rattle.cu_typing.specs.Joined.{arrays_of}
 use Rattle.cu_expr.specs.Typing.{argument_of}
 use Rattle.cu_meaning.specs.Argument.{source_shape}
 use Rattle.cu_meaning.specs.View.{indexed}
-use Rattle.cu_mean.specs.Indexing.{HasStep, IsFound, IsOutside}
+use Rattle.cu_mean.specs.Indexing.{HasStep, IsFoundIndex, IsOutside}
 use Rattle.cu_mean.proofs.IndexTypes.{index_steps}
 use Rattle.cu_mean.proofs.ReadyNodes.{outside_source}
 use Rattle.cu_mean.proofs.node.indexed_node.Goals as goal
@@ -23,5 +23,5 @@ returns-in-None c env k e =
     let same : indexed c.as_slice.result.now c.source_dims-shape.result c.args.idx.now ≡ indexed c.args.items.now (source_shape infos c.args.args.now 0) c.args.idx.now =
     λ i. indexed (items i) (shape i) c.args.idx.now in
     let none : IsOutside (indexed c.as_slice.result.now c.source_dims-shape.result c.args.idx.now) =
-    subst (λ found. IsFound (indexed c.as_slice.result.now c.source_dims-shape.result c.args.idx.now) found) c.in-None.is c.indexed.ensures in
+    subst (λ found. IsFoundIndex (indexed c.as_slice.result.now c.source_dims-shape.result c.args.idx.now) found) c.in-None.is c.indexed.ensures in
     sym (outside_source infos c.args.plains.now c.args.args.now (indexed c.args.items.now (source_shape infos c.args.args.now 0) c.args.idx.now) c.requires.ready.kept c.requires.ready.before (subst IsOutside same none))

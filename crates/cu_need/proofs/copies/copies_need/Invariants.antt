@@ -1,7 +1,7 @@
 use Rattle.std.proofs.Common.{◌≡◌, max, map, drop}
-use Rattle.cu_need.specs.Chunks.{largest}
 use Rattle.cu_copy.specs.Copies.{rechunk_need}
 use Rattle.cu_need.proofs.copies.copies_need.Given as goal
+use Rattle.cu_shape.specs.Counts.{largest}
 
 -- what is left adds its own
 abbrev pub invariant-loop-rechunk : goal.invariant-loop-rechunk

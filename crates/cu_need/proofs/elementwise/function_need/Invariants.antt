@@ -1,8 +1,9 @@
 use Rattle.std.proofs.Common.{◌≡◌, ◌≤◌, ◌+◌, ◌*◌, ◌^◌, true, max, map, drop}
 use Rattle.std.specs.Prelude.{sum_by}
 use Rattle.cu_typing.specs.Joined.{aligned_within}
-use Rattle.cu_need.specs.Chunks.{arrays_in, chunk_bytes, aligned_bytes, largest}
+use Rattle.cu_need.specs.Chunks.{arrays_in, chunk_bytes, aligned_bytes}
 use Rattle.cu_need.proofs.elementwise.function_need.Given as goal
+use Rattle.cu_shape.specs.Counts.{largest}
 
 -- the arrays that are left add theirs
 abbrev pub invariant-loop-arg : goal.invariant-loop-arg

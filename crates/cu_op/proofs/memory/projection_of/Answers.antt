@@ -1,9 +1,10 @@
 use Rattle.std.proofs.Common.{◌≡◌, ◌+◌, ◌*◌, max, map, refl, arith}
 use Rattle.cu_op.specs.Arrays.{chunk_room}
 use Rattle.cu_op.specs.Operation.{reads_of, writes_of}
-use Rattle.cu_op.specs.Projection.{largest, projection, instruction_count}
+use Rattle.cu_op.specs.Projection.{projection, instruction_count}
 use Rattle.cu_op.proofs.Plans.{projection_parts}
 use Rattle.cu_op.proofs.memory.projection_of.Goals as goal
+use Rattle.cu_shape.specs.Counts.{largest}
 
 -- what has been computed before the sum
 whole : (c : goal.After-output_room-outputs) → c.args.reserved + c.max-scratch.result + c.input_room-inputs.result + c.output_room-outputs.result + 512 * instruction_count c.args.op.now ≡ projection c.args.arrays.now c.args.reserved c.args.op.now

@@ -6,7 +6,7 @@ use Rattle.cu_load.specs.LoadForm.{GivenArray, IsGivenArray, given_by}
 use Rattle.cu_load.proofs.AskLemmas.{if_err}
 use Rattle.cu_load.specs.declared.load_form.LoadForm.{LoadForm}
 use Rattle.cu_top.proofs.DemoInputs.{any_step, demo_given, same_form, store_end}
-use Rattle.cu_top.specs.Demo.{IsInputFault, demo_array}
+use Rattle.cu_top.specs.Demo.{IsInputPutEnd, demo_array}
 use Rattle.cu_top.proofs.demo.store_input.Goals as goal
 
 pub take_room-requires : goal.take_room-requires
@@ -41,5 +41,5 @@ returns-clause-refused g c =
     let same : given_by form ≡ demo_array c.args.input c.args.size = same_form form c.args.input c.args.size c.demo_name.ensures.name c.demo_layout.ensures c.in-Ok.ensures in
     let old = g.D.Depot.shown c.args.depot.now in
     let new = g.D.Depot.shown c.store_array.new.depot in
-    subst (λ (a : GivenArray). IfErr c.store_array.result (IsInputFault (c.args.retries + 1) a old new)) same
+    subst (λ (a : GivenArray). IfErr c.store_array.result (IsInputPutEnd (c.args.retries + 1) a old new)) same
     (if_err c.store_array.result (λ status fault. store_end (c.args.retries + 1) (given_by form) old new status fault) c.store_array.ensures.failed)

@@ -4,7 +4,7 @@ use Rattle.cu_op.specs.PlanView.{PlanView}
 use Rattle.cu_task.specs.Serving.{ServesPlan, HasSeenInputs}
 use Rattle.cu_table.specs.Numbers.{IsTask, task_count}
 use Rattle.cu_table.specs.Step.{Settings}
-use Rattle.cu_table.specs.Table.{TableView, Goes, start_of, end_of, report_kind, is_late, KeepsFault}
+use Rattle.cu_table.specs.Table.{TableView, Goes, start_event, end_of, report_kind, is_late, KeepsFault}
 use Rattle.cu_work.specs.Alone.{HasRun, HasSeenDone, Tried}
 use Rattle.cu_work.proofs.AloneTurns.{ran_first, nobody_runs, turn_task, turn_inputs, turn_runs, turn_on_time, turn_done, fewer_left, finished_decided, halted_decided}
 use Rattle.cu_work.proofs.alone.take_turns.Goals as goal
@@ -52,7 +52,7 @@ loop-op-smaller g c =
     let t = c.loop-op.table in
     let u = c.claim.new.self in
     let goes = c.in-Run.ensures.answer.0 in
-    fewer_left (2 * (c.args.table.now.settings.retries + 2) * task_count c.args.table.now.settings.plan) t u c.report.new.self (start_of t.settings.plan 0 c.in-Run.op c.in-Run.task)
+    fewer_left (2 * (c.args.table.now.settings.retries + 2) * task_count c.args.table.now.settings.plan) t u c.report.new.self (start_event t.settings.plan 0 c.in-Run.op c.in-Run.task)
     (end_of (report_kind (is_late u.settings.plan u.state c.in-Run.op c.in-Run.task) c.try_in_yard-ended.result) 0 c.in-Run.op c.in-Run.task) goes c.report.ensures.reported.0
     (subst (λ (s : Settings). length u.history ≤ 2 * (s.retries + 2) * task_count s.plan) (goes.settings ∙ c.loop-op.invariant.ran.settings)
     (c.history_law.ensures.few u.settings u.done u.history (u.state, c.claim.ensures.legal)))

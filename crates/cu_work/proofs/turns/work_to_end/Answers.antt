@@ -3,7 +3,7 @@ use Rattle.cu_op.specs.PlanView.{PlanView}
 use Rattle.cu_op.specs.Sound.{Sound}
 use Rattle.cu_table.specs.declared.claim.Claim.TheVariants as claim
 use Rattle.cu_table.specs.Numbers.{IsTask}
-use Rattle.cu_table.specs.Table.{start_of}
+use Rattle.cu_table.specs.Table.{start_event}
 use Rattle.cu_board.specs.Board.{IsResting, IsRunning, MayReport}
 use Rattle.cu_task.specs.Serving.{HasSeenInputs}
 use Rattle.cu_work.proofs.Turning.{same_after, runs_after, task_after, inputs_after, writes_inputs, halted_after, reported_after, later_then, later_any, later_reported}
@@ -28,7 +28,7 @@ try_in_rooms-ended-requires-clause-inputs g c κs within =
     (writes_inputs made.settings.plan sound r.op r.task is
     (λ cell among. (c.input_cells_law.ensures.cells made.settings.plan r.op r.task cell sound is.operation is.number).0 among))
     (c.step_law.ensures.ready turn.before.settings turn.before.done turn.before.history turn.before.state turn.after.state
-    (start_of turn.before.settings.plan c.loop.worker.seat.view.number r.op r.task) turn.found.legal turn.answer.0.step refl))
+    (start_event turn.before.settings.plan c.loop.worker.seat.view.number r.op r.task) turn.found.legal turn.answer.0.step refl))
 
 pub report-requires-clause-may : goal.report-requires-clause-may
 report-requires-clause-may g c κs within =

@@ -1,7 +1,7 @@
 use Rattle.std.proofs.Common.{◌≡◌, ◌∷◌, ◌||◌, ℕ, true, false, refl, sym, ap, ◌∙◌, subst}
 use Rattle.std.specs.Str.{bytes_eq}
 use Rattle.cu_cells.specs.Layout.{Laid}
-use Rattle.cu_cells.specs.Cells.{key_at, has_cell_in}
+use Rattle.cu_cells.specs.Cells.{spec_key, has_cell_in}
 use Rattle.cu_cells.proofs.Own.{place_own, known_is, known_but, seen_more, promised_there, unseen_there}
 use Rattle.cu_cells.specs.Rule.{IsIn}
 use Rattle.cu_cells.proofs.Gets.{seen_cell}
@@ -36,8 +36,8 @@ returns-clause-there c = λ is key.
     let promised = promised_there l c.args.at (subst (λ (x : Laid). Rattle.std.proofs.Common.IsTrue (Rattle.cu_cells.specs.Layout.is_named x c.args.at)) own.sound.key told.1) in
     let place = place_own l.specs c.args.at own.sound.fair.apart c.requires.at in
     ap (λ m. has_cell_in m.0.laid m.0.seen key) told.0 ∙ (ap (λ (x : Laid). has_cell_in x (c.args.at ∷ c.args.pass.now.seat.me.0.seen) key) own.laid
-    ∙ (seen_more l c.args.pass.now.seat.me.0.seen c.args.at key (key_at l.specs c.args.at) promised.0 c.requires.made promised.1 place
-    ∙ ap (λ (x : Laid). has_cell_in x c.args.pass.now.seat.me.0.seen key || bytes_eq (key_at l.specs c.args.at) key) (sym own.laid)))
+    ∙ (seen_more l c.args.pass.now.seat.me.0.seen c.args.at key (spec_key l.specs c.args.at) promised.0 c.requires.made promised.1 place
+    ∙ ap (λ (x : Laid). has_cell_in x c.args.pass.now.seat.me.0.seen key || bytes_eq (spec_key l.specs c.args.at) key) (sym own.laid)))
 
 pub returns-clause-unset : goal.returns-clause-unset
 returns-clause-unset c = λ is.
@@ -46,8 +46,8 @@ returns-clause-unset c = λ is.
     let me = c.look.ensures.unset is in
     let place = place_own l.specs c.args.at own.sound.fair.apart c.requires.at in (
       known_is c.args.pass.now.seat.me.0.laid c.look.new.seat.me.0.laid c.args.pass.now.seat.me.0.seen c.look.new.seat.me.0.seen c.args.pass.now.entries.value.items c.args.pass.now.entries.value.items c.args.pass.now.faults c.args.pass.now.calls (ap (λ m. m.0.laid) me) (ap (λ m. m.0.seen) me) refl,
-      ap (λ (x : Laid). has_cell_in x c.args.pass.now.seat.me.0.seen (key_at l.specs c.args.at)) own.laid
-          ∙ unseen_there l c.args.pass.now.seat.me.0.seen (key_at l.specs c.args.at) c.args.at place (λ had. let yes_ : false ≡ true = sym is ∙ c.look.ensures.seen had in cc),
+      ap (λ (x : Laid). has_cell_in x c.args.pass.now.seat.me.0.seen (spec_key l.specs c.args.at)) own.laid
+          ∙ unseen_there l c.args.pass.now.seat.me.0.seen (spec_key l.specs c.args.at) c.args.at place (λ had. let yes_ : false ≡ true = sym is ∙ c.look.ensures.seen had in cc),
     )
 
 pub returns-clause-landed : goal.returns-clause-landed
@@ -58,5 +58,5 @@ returns-clause-found c there =
     let own = c.requires.own in
     let l = c.args.self.now.layout in
     let place = place_own l.specs c.args.at own.sound.fair.apart c.requires.at in
-    c.look.ensures.landed (seen_cell l c.args.pass.now.seat.me.0.landed (key_at l.specs c.args.at) c.args.at place
-    (subst (λ (x : Laid). Rattle.std.proofs.Common.IsTrue (has_cell_in x c.args.pass.now.seat.me.0.landed (key_at l.specs c.args.at))) own.laid there))
+    c.look.ensures.landed (seen_cell l c.args.pass.now.seat.me.0.landed (spec_key l.specs c.args.at) c.args.at place
+    (subst (λ (x : Laid). Rattle.std.proofs.Common.IsTrue (has_cell_in x c.args.pass.now.seat.me.0.landed (spec_key l.specs c.args.at))) own.laid there))

@@ -1,7 +1,7 @@
 use Rattle.std.proofs.Common.{◌≡◌, ◌||◌, sym, ap, ◌∙◌, arith}
 use Rattle.std.specs.Str.{bytes_eq}
 use Rattle.cu_cells.specs.Layout.{Laid, first_word}
-use Rattle.cu_cells.specs.Cells.{key_at, has_cell_in}
+use Rattle.cu_cells.specs.Cells.{spec_key, has_cell_in}
 use Rattle.cu_cells.proofs.CellFacts.{cell_of}
 use Rattle.cu_cells.proofs.Lates.{stored_later}
 use Rattle.cu_cells.proofs.Own.{place_own, known_but, seen_more}
@@ -15,7 +15,7 @@ put_cell-requires-clause-cell c =
     let sound = c.requires.own.sound in
     let l = c.args.self.now.layout in
     let place = place_own l.specs c.args.at sound.fair.apart c.requires.at in
-    let cell = cell_of l (key_at l.specs c.args.at) c.args.bytes.now c.args.at sound.fair c.requires.made c.requires.promised place in
+    let cell = cell_of l (spec_key l.specs c.args.at) c.args.bytes.now c.args.at sound.fair c.requires.made c.requires.promised place in
     let first : c.index.result.now ≡ first_word l c.args.at = c.index.ensures ∙ sound.starts.starts c.args.at c.index.result.now c.requires.at in
     rw sound.key (cell.cell c.index.result.now first)
 
@@ -45,8 +45,8 @@ returns-clause-seen c = λ key.
     let laid = c.put_cell.ensures.same.3 ∙ own.sound.key in
     let place = place_own l.specs c.args.at own.sound.fair.apart c.requires.at in
     ap (λ (x : Laid). has_cell_in x c.put_cell.new.seat.me.0.seen key) laid ∙ (ap (λ s. has_cell_in l s key) c.put_cell.ensures.seen
-    ∙ (seen_more l c.args.pass.now.seat.me.0.seen c.args.at key (key_at l.specs c.args.at) c.args.bytes.now c.requires.made c.requires.promised place
-    ∙ ap (λ (x : Laid). has_cell_in x c.args.pass.now.seat.me.0.seen key || bytes_eq (key_at l.specs c.args.at) key) (sym own.laid)))
+    ∙ (seen_more l c.args.pass.now.seat.me.0.seen c.args.at key (spec_key l.specs c.args.at) c.args.bytes.now c.requires.made c.requires.promised place
+    ∙ ap (λ (x : Laid). has_cell_in x c.args.pass.now.seat.me.0.seen key || bytes_eq (spec_key l.specs c.args.at) key) (sym own.laid)))
 
 pub returns-clause-landed : goal.returns-clause-landed
 returns-clause-landed c =

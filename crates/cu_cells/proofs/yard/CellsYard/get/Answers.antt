@@ -2,7 +2,7 @@ use Rattle.std.proofs.Common.{IsTrue, Ok, sym, ap, ◌∙◌, subst, arith}
 use Rattle.cu_store.specs.Held.{Gets}
 use Rattle.cu_store.specs.Steps.{NoChange, Steps}
 use Rattle.cu_store.specs.Yard.{Known, is_made, shown_by, IsLater, IsPresent}
-use Rattle.cu_cells.specs.Cells.{key_at}
+use Rattle.cu_cells.specs.Cells.{spec_key}
 use Rattle.cu_cells.specs.Yard.{known_of}
 use Rattle.cu_cells.proofs.Own.{counted_step, counted_later, failed_step, failed_later}
 use Rattle.cu_cells.proofs.yard.CellsYard.get.Goals as goal
@@ -10,14 +10,14 @@ use Rattle.cu_cells.proofs.yard.CellsYard.get.Goals as goal
 pub read-requires-clause-known : goal.read-requires-clause-known
 read-requires-clause-known c made =
     let specs = c.args.self.now.layout.specs in
-    subst (λ (k : Known). IsTrue (k.seen (key_at specs c.find-at.result))) (sym c.begin.ensures.known)
+    subst (λ (k : Known). IsTrue (k.seen (spec_key specs c.find-at.result))) (sym c.begin.ensures.known)
     (subst (λ key. IsTrue (is_made specs key) → IsTrue ((known_of c.args.pass.now).seen key)) (sym c.find-at.ensures.key) c.requires.may.known made)
 
 pub returns-clause-got : goal.returns-clause-got
 returns-clause-got c =
     let specs = c.args.self.now.layout.specs in
     subst (λ key. Gets (shown_by (known_of c.read.new.pass)).held key c.read.new.buf (Ok c.read.result)) c.find-at.ensures.key
-    (subst (λ (k : Known). Gets (shown_by k).held (key_at specs c.find-at.result) c.read.new.buf (Ok c.read.result)) (sym c.read.ensures.known) c.read.ensures.got)
+    (subst (λ (k : Known). Gets (shown_by k).held (spec_key specs c.find-at.result) c.read.new.buf (Ok c.read.result)) (sym c.read.ensures.known) c.read.ensures.got)
 
 pub returns-clause-present : goal.returns-clause-present
 returns-clause-present c = subst (λ key. IsTrue (is_made c.args.self.now.layout.specs key) → IsPresent (Ok c.read.result)) c.find-at.ensures.key c.read.ensures.present

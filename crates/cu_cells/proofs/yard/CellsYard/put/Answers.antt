@@ -4,7 +4,7 @@ use Rattle.cu_store.specs.Faults.{last_count}
 use Rattle.cu_store.specs.Steps.{PutOf}
 use Rattle.cu_store.specs.Yard.{Known, bytes_under}
 use Rattle.cu_cells.specs.Layout.{Laid}
-use Rattle.cu_cells.specs.Yard.{known_of, entries_of}
+use Rattle.cu_cells.specs.Yard.{known_of, known_entries}
 use Rattle.cu_cells.proofs.Found.{made_served}
 use Rattle.cu_cells.proofs.Own.{put_step, put_later, failed_step, failed_later}
 use Rattle.cu_cells.proofs.yard.CellsYard.put.Goals as goal
@@ -16,7 +16,7 @@ pub returns-in-Works-clause-step : goal.returns-in-Works-clause-step
 returns-in-Works-clause-step c =
     let k = known_of c.args.pass.now in
     let n = known_of c.put_at.new.pass in
-    put_step k n (entries_of c.args.pass.now) c.args.key.now c.args.bytes.now
+    put_step k n (known_entries c.args.pass.now) c.args.key.now c.args.bytes.now
     (c.put_at.ensures.known ∙ ap (λ (b : Known). record b { seen = n.seen }) c.begin-fate.ensures.known) refl
     (λ other. c.put_at.ensures.seen other ∙ (λ i. (c.begin-fate.ensures.known i).seen other || bytes_eq (c.find-at.ensures.key i) other))
     (ap (λ (l : Laid). bytes_under l.promise c.args.key.now) c.requires.own.hand.laid ∙ c.requires.may.promised)

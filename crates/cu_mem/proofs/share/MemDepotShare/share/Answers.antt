@@ -2,7 +2,7 @@ use Rattle.std.proofs.Common.{Some, length, refl, sym, ap, ◌∙◌, subst}
 use Rattle.cu_store.specs.Yard.{bytes_under, Known}
 use Rattle.cu_cells.specs.Layout.{Laid}
 use Rattle.cu_cells.specs.Cells.{entries_in}
-use Rattle.cu_cells.specs.Yard.{known_of, entries_of}
+use Rattle.cu_cells.specs.Yard.{known_of, known_entries}
 use Rattle.cu_mem.specs.Entries.{held_in}
 use Rattle.cu_mem.specs.Sharing.{IsFilled}
 use Rattle.cu_mem.proofs.Sharing.{filled_read, filled_made, seen_held}
@@ -17,7 +17,7 @@ returns-clause-shared c =
     let same = c.run_script.ensures.known in
     let own = opened.own.hand in
     let held = held_in c.keep_room.new.slots.items in
-    let filled : IsFilled specs (length specs) held (known_of p).seen (entries_of p) = subst (λ xs. IsFilled specs (length specs) (held_in xs) (known_of p).seen (entries_of p)) c.deref.ensures.value opened.filled in
+    let filled : IsFilled specs (length specs) held (known_of p).seen (known_entries p) = subst (λ xs. IsFilled specs (length specs) (held_in xs) (known_of p).seen (known_entries p)) c.deref.ensures.value opened.filled in
     record {
       specs = opened.specs;
       tells = (
@@ -25,12 +25,12 @@ returns-clause-shared c =
         (
           entries_in y.layout y.entries.items,
           refl,
-          (λ key served unmade. (λ k. entries_in (sym own.laid k) (sym own.entries k).items key) ∙ filled_read specs held (known_of p).seen (entries_of p) key filled served unmade),
+          (λ key served unmade. (λ k. entries_in (sym own.laid k) (sym own.entries k).items key) ∙ filled_read specs held (known_of p).seen (known_entries p) key filled served unmade),
         ),
       );
       promise = ap (λ (k : Known). k.promise) same ∙ opened.promise;
       lacks = ap (λ (k : Known). k.lacks) same;
-      seen = λ key made. seen_held ((known_of c.run_script.new.self).seen key) (held key) (ap (λ (k : Known). k.seen key) same ∙ filled_made specs held (known_of p).seen (entries_of p) key filled made);
+      seen = λ key made. seen_held ((known_of c.run_script.new.self).seen key) (held key) (ap (λ (k : Known). k.seen key) same ∙ filled_made specs held (known_of p).seen (known_entries p) key filled made);
       faults = ap (λ (k : Known). k.faults) same ∙ opened.counts.0;
       calls = ap (λ (k : Known). k.calls) same ∙ opened.counts.1;
     }

@@ -1,10 +1,10 @@
 use Rattle.std.proofs.Common.{◌≡◌, ℕ, ◌+◌, ◌<◌, List, length, map, take, max, sym, ap, ◌∙◌, subst}
 use Rattle.cu_op.specs.declared.operation.Planned.{Planned}
 use Rattle.cu_op.specs.PlanView.{operation_at}
-use Rattle.cu_op.specs.Projection.{largest}
 use Rattle.cu_work.specs.Rooms.{task_bytes, task_words}
 use Rattle.cu_work.proofs.Lent.{most_more}
 use Rattle.cu_work.proofs.rooms.Rooms.make.Goals as goal
+use Rattle.cu_shape.specs.Counts.{largest}
 
 -- the most so far and one operation more
 one_more : (f : Planned → ℕ) (ops : List Planned) (k now one before : ℕ) → k < length ops → now ≡ max one before → one ≡ f (operation_at ops k) → before ≡ largest (map f (take k ops))

@@ -1,7 +1,7 @@
 use Rattle.std.proofs.Common.{◌≡◌, take, map}
-use Rattle.cu_op.specs.Projection.{largest}
 use Rattle.cu_work.specs.Rooms.{task_bytes, task_words}
 use Rattle.cu_work.proofs.rooms.Rooms.make.Given as goal
+use Rattle.cu_shape.specs.Counts.{largest}
 
 abbrev pub invariant-loop-op : goal.invariant-loop-op
 invariant-loop-op l = record {
