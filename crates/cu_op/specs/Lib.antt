@@ -17,5 +17,6 @@ pub mod PlanView
 pub mod Projection
 pub mod Schedule
 pub mod Sound
+pub mod TaskView
 pub mod Value
 pub mod Walks

@@ -14,6 +14,7 @@ mod plan;
 mod products;
 mod regions;
 mod schedule;
+mod task;
 mod walks;
 
 pub use cells::Cell;
@@ -29,4 +30,5 @@ pub use memory::projection_of;
 pub use operation::{Op, Planned};
 pub use plan::Plan;
 pub use schedule::{input_walks, inputs, maker, outputs, projected, task_grid, task_region, tasks};
+pub use task::PlanTask;
 pub use walks::{Cells1, Cells2, Walk};

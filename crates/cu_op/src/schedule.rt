@@ -79,8 +79,21 @@ pub fn input_walks(plan: &Plan, op: u32, task: u32) -> ArrayVec<Walk, 8>
     ensures regions { All (IsWalkOver plan.now.arrays) result.items }
     ensures few { length result.items ≤ 8 }
 {
-    let region = task_region(plan, op, task);
-    read_walks(plan.arrays(), &plan.operation(op).op, &region)
+    walks_from(plan, op, task, &task_region(plan, op, task))
+}
+
+/// The same, from the region of the task.
+pub(crate) fn walks_from(plan: &Plan, op: u32, task: u32, region: &Region) -> ArrayVec<Walk, 8>
+    requires operation { op < length plan.now.ops }
+    requires task { task < tasks_of plan.now.arrays (op_of plan.now op) }
+    requires lo { region.now.lo ≡ task_lo plan.now.arrays (op_of plan.now op) task }
+    requires hi { region.now.hi ≡ task_hi plan.now.arrays (op_of plan.now op) task }
+    ensures walks { result.items ≡ input_walks plan.now.arrays (op_of plan.now op) task }
+    ensures regions { All (IsWalkOver plan.now.arrays) result.items }
+    ensures few { length result.items ≤ 8 }
+    ensures sound { Sound plan.now }
+{
+    read_walks(plan.arrays(), &plan.operation(op).op, region)
 }
 
 /// The operation and the task that write a chunk; none where its array is an input.

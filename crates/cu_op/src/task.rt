@@ -1,0 +1,107 @@
+ghost use Rattle.std.specs.Prelude.{◌≡◌, ◌<◌, ◌≤◌, All, length};
+ghost use Rattle.cu_grid.specs.Counts.{IsRegion};
+ghost use Rattle.cu_op.specs.Arrays.{array_at};
+ghost use Rattle.cu_op.specs.Cells.{tasks_of, task_grid, task_lo, task_hi};
+ghost use Rattle.cu_op.specs.Schedule.{op_of};
+ghost use Rattle.cu_op.specs.Sound.{Sound};
+ghost use Rattle.cu_op.specs.TaskView.{task_op};
+ghost use Rattle.cu_op.specs.Walks.{input_walks, IsWalkOver};
+
+use crate::layout::ArrayInfo;
+use crate::operation::Op;
+use crate::plan::Plan;
+use crate::schedule::{task_region, walks_from};
+use crate::walks::Walk;
+use arrayvec::ArrayVec;
+use cu_grid::Region;
+use std::marker::Model;
+
+/// A task of a plan: the plan, the number of an operation, and the task's number among those of the operation. The plan has both.
+#[derive(Drop)]
+pub struct PlanTask<'a> {
+    plan: &'a Plan,
+    op: u32,
+    number: u32,
+    /// The indices of the result that it computes.
+    region: Region,
+    /// Of each array that it reads the region from which it computes.
+    walks: ArrayVec<Walk, 8>,
+    ghost operation: { op < length plan.now.ops },
+    ghost within: { number < tasks_of plan.now.arrays (op_of plan.now op) },
+}
+
+impl<'a> Model for PlanTask<'a> {
+    ghost use Rattle.cu_op.specs.TaskView.{TaskView, HasTaskRegions};
+
+    ghost Value = { TaskView };
+
+    ghost view = { λ t. record { plan = t.plan.now; op = t.op; number = t.number; operation = t.operation; within = t.within } };
+
+    ghost invariant = { λ t. HasTaskRegions t.plan.now t.op t.number t.region t.walks.items };
+}
+
+impl<'a> PlanTask<'a> {
+    /// Task `number` of operation `op`.
+    pub fn make(plan: &'a Plan, op: u32, number: u32) -> PlanTask<'a>
+        requires operation { op < length plan.now.ops }
+        requires task { number < tasks_of plan.now.arrays (op_of plan.now op) }
+        ensures plan { result.plan ≡ plan.now }
+        ensures operation { result.op ≡ op }
+        ensures number { result.number ≡ number }
+    {
+        let region = task_region(plan, op, number);
+        let walks = walks_from(plan, op, number, &region);
+        PlanTask {
+            plan,
+            op,
+            number,
+            region,
+            walks,
+        }
+    }
+
+    /// The plan.
+    pub fn plan(&self) -> &'a Plan
+        ensures plan { result.now ≡ self.now.plan }
+        ensures sound { Sound self.now.plan }
+    {
+        self.plan
+    }
+
+    /// An array of the plan, by its number.
+    pub fn array(&self, number: u32) -> &'a ArrayInfo
+        requires { number < length self.now.plan.arrays }
+        ensures array { result.now ≡ array_at self.now.plan.arrays number }
+        ensures sound { Sound self.now.plan }
+    {
+        self.plan.array(number)
+    }
+
+    /// The operation.
+    pub fn operation(&self) -> &'a Op
+        ensures operation { result.now ≡ task_op self.now }
+        ensures sound { Sound self.now.plan }
+    {
+        &self.plan.operation(self.op).op
+    }
+
+    /// The indices of the result that it computes.
+    pub fn region(&self) -> &Region
+        ensures lo { result.now.lo ≡ task_lo self.now.plan.arrays (task_op self.now) self.now.number }
+        ensures hi { result.now.hi ≡ task_hi self.now.plan.arrays (task_op self.now) self.now.number }
+        ensures inside { IsRegion (task_grid self.now.plan.arrays (task_op self.now)).shape result.now.lo result.now.hi }
+        ensures sound { Sound self.now.plan }
+    {
+        &self.region
+    }
+
+    /// Of each array that it reads, by its place, the region from which it computes.
+    pub fn input_walks(&self) -> &[Walk]
+        ensures walks { result.now ≡ input_walks self.now.plan.arrays (task_op self.now) self.now.number }
+        ensures regions { All (IsWalkOver self.now.plan.arrays) result.now }
+        ensures few { length result.now ≤ 8 }
+        ensures sound { Sound self.now.plan }
+    {
+        &self.walks
+    }
+}
