@@ -5,6 +5,6 @@ use Rattle.cu_fold.specs.declared.levels.Reduced.{Reduced}
 use Rattle.cu_fold.specs.declared.levels.Reduced.TheVariants.{Set, One}
 
 -- those of a set, or one
-abbrev pub is_reduced : Reduced → ℕ → Bool
-is_reduced (Set axes) = has_axis axes
-is_reduced (One axis) = λ d. d == axis
+abbrev pub is_folded : Reduced → ℕ → Bool
+is_folded (Set axes) = has_axis axes
+is_folded (One axis) = λ d. d == axis

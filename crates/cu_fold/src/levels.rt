@@ -1,7 +1,7 @@
 //! The axes of a region as levels, outermost first.
 ghost use Rattle.std.specs.Prelude.{◌≡◌, ◌+◌, ◌≤◌, ◌<◌, ◌++◌, ◌∷◌, List, take};
 ghost use Rattle.cu_fold.specs.Levels.{levels_from, IsAlike};
-ghost use Rattle.cu_fold.specs.Reduced.{is_reduced};
+ghost use Rattle.cu_fold.specs.Reduced.{is_folded};
 
 use cu_pull::Axes;
 use cu_shape::Dims;
@@ -34,7 +34,7 @@ pub(crate) enum Reduced {
 /// Whether an axis is reduced.
 fn is_reduced(reduced: Reduced, axis: u32) -> bool
     requires { axis < 6 }
-    ensures { result ≡ is_reduced reduced axis }
+    ensures { result ≡ is_folded reduced axis }
 {
     match reduced {
         Reduced::Set(axes) => axes.0 >> axis & 1 == 1,
@@ -70,7 +70,7 @@ fn with_axis(levels: Levels, size: usize, is_reduced: bool) -> Levels
 /// The levels of a region of these sizes.
 pub(crate) fn levels_of(reduced: Reduced, dims: &Dims) -> Levels
     ensures count { result.count ≤ 6 }
-    ensures levels { IsAlike (take result.count result.list) (levels_from (is_reduced reduced) 0 dims.now) }
+    ensures levels { IsAlike (take result.count result.list) (levels_from (is_folded reduced) 0 dims.now) }
 {
     let none = Level {
         size: 1,

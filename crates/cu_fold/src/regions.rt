@@ -8,7 +8,7 @@ ghost use Rattle.cu_reduce.specs.Folds.{fold_of};
 ghost use Rattle.cu_reduce.specs.Groups.{groups_of, group_counts, group_indices};
 ghost use Rattle.cu_reduce.specs.Kinds.{Accumulates, HasEnough, unit_of};
 ghost use Rattle.cu_reduce.specs.Numbers.{HasNumber};
-ghost use Rattle.cu_fold.specs.Reduced.{is_reduced};
+ghost use Rattle.cu_fold.specs.Reduced.{is_folded};
 
 use crate::levels::{Reduced, levels_of};
 use crate::steps::Fold;
@@ -49,12 +49,12 @@ fn fill(kind: FoldKind, acc: Dtype, out: &mut [u8])
 /// The reduction of a region along these axes.
 fn reduce(fold: Fold, reduced: Reduced, dims: &Dims, input: &[u8], out: &mut [u8])
     requires types { Accumulates fold.kind fold.from fold.acc }
-    requires enough { HasEnough fold.kind (groups_of (is_reduced reduced) dims.now) dims.now }
+    requires enough { HasEnough fold.kind (groups_of (is_folded reduced) dims.now) dims.now }
     requires input { length input.now ≡ product dims.now * size_of fold.from }
-    requires out { length out.old ≡ product (group_counts (groups_of (is_reduced reduced) dims.now) dims.now) * size_of fold.acc }
-    ensures { (idx : List ℕ) → IsInside (group_counts (groups_of (is_reduced reduced) dims.now) dims.now) idx
-        → HasNumber fold.acc out.new (place_of (group_counts (groups_of (is_reduced reduced) dims.now) dims.now) idx)
-        (fold_of fold.kind (map (λ i. element_at Little fold.from input.now (place_of dims.now i)) (group_indices (groups_of (is_reduced reduced) dims.now) dims.now idx))) }
+    requires out { length out.old ≡ product (group_counts (groups_of (is_folded reduced) dims.now) dims.now) * size_of fold.acc }
+    ensures { (idx : List ℕ) → IsInside (group_counts (groups_of (is_folded reduced) dims.now) dims.now) idx
+        → HasNumber fold.acc out.new (place_of (group_counts (groups_of (is_folded reduced) dims.now) dims.now) idx)
+        (fold_of fold.kind (map (λ i. element_at Little fold.from input.now (place_of dims.now i)) (group_indices (groups_of (is_folded reduced) dims.now) dims.now idx))) }
 {
     fill(fold.kind, fold.acc, out);
     let levels = levels_of(reduced, dims);

@@ -3,14 +3,14 @@ use Rattle.std.proofs.lemmas.List.{take_all}
 use Rattle.cu_reduce.proofs.Regions.{append_none}
 use Rattle.cu_fold.specs.declared.levels.Level.{Level}
 use Rattle.cu_fold.specs.Levels.{levels_from, IsAlike}
-use Rattle.cu_fold.specs.Reduced.{is_reduced}
+use Rattle.cu_fold.specs.Reduced.{is_folded}
 use Rattle.cu_fold.proofs.Merged.{alike_then, levels_more}
 use Rattle.cu_fold.proofs.levels.levels_of.Goals as goal
 
 pub loop-axis-preserved : goal.loop-axis-preserved
 loop-axis-preserved c =
     let dims = c.args.dims.now in
-    let p = is_reduced c.args.reduced in
+    let p = is_folded c.args.reduced in
     let k = c.loop-axis.axis in
     let inside : k < length dims = omega (arith, c.rank-axis-end.ensures.rank) in
     let old = c.loop-axis.levels in
@@ -30,7 +30,7 @@ loop-axis-preserved c =
 pub returns-clause-levels : goal.returns-clause-levels
 returns-clause-levels c =
     let dims = c.args.dims.now in
-    let p = is_reduced c.args.reduced in
+    let p = is_folded c.args.reduced in
     let list = take c.loop-axis.levels.count c.loop-axis.levels.list in
     let whole : take c.loop-axis.axis dims ≡ dims = take_all c.loop-axis.axis dims (omega (arith, c.rank-axis-end.ensures.rank)) in
     let all = c.loop-axis.invariant.alike [] in

@@ -5,7 +5,7 @@ use Rattle.cu_shape.specs.Index.{product, place_of}
 use Rattle.cu_shape.proofs.Places.{place-below}
 use Rattle.cu_reduce.specs.Groups.{groups_of, group_counts}
 use Rattle.cu_fold.specs.Levels.{results, levels_from}
-use Rattle.cu_fold.specs.Reduced.{is_reduced}
+use Rattle.cu_fold.specs.Reduced.{is_folded}
 use Rattle.cu_fold.specs.Taken.{HasTaken, elements_at_places}
 use Rattle.cu_fold.proofs.Buffers.{size_positive}
 use Rattle.cu_fold.proofs.Groups.{extent_is, results_is}
@@ -18,15 +18,15 @@ take_in-requires-clause-count c =
     let s = size_of c.args.fold.from in
     let none : n * s ≡ n * s + 0 = omega arith in
     (λ i. (c.requires.input ∙ none) i / c.size.ensures i) ∙ div-mul-add n s 0 (size_positive c.args.fold.from)
-    ∙ sym (c.levels_of-levels.ensures.levels.same_extent ∙ extent_is (is_reduced c.args.reduced) 0 c.args.dims.now)
+    ∙ sym (c.levels_of-levels.ensures.levels.same_extent ∙ extent_is (is_folded c.args.reduced) 0 c.args.dims.now)
 
 pub take_in-requires-clause-out : goal.take_in-requires-clause-out
 take_in-requires-clause-out c =
-    c.fill.auto.out ∙ c.requires.out ∙ ap (λ r. r * size_of c.args.fold.acc) (sym (c.levels_of-levels.ensures.levels.same_results ∙ results_is (is_reduced c.args.reduced) 0 c.args.dims.now))
+    c.fill.auto.out ∙ c.requires.out ∙ ap (λ r. r * size_of c.args.fold.acc) (sym (c.levels_of-levels.ensures.levels.same_results ∙ results_is (is_folded c.args.reduced) 0 c.args.dims.now))
 
 pub returns : goal.returns
 returns c idx inside =
-    let p = is_reduced c.args.reduced in
+    let p = is_folded c.args.reduced in
     let dims = c.args.dims.now in
     let fold = c.args.fold in
     let counts = group_counts (groups_of p dims) dims in
