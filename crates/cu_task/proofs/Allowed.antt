@@ -1,18 +1,14 @@
 -- What a task may put and ask for.
-use Rattle.std.proofs.Common.{◌≡◌, ◌⊎◌, ℕ, ◌<◌, List, length, Contains, Option, Some, refl, sym, ap, ◌∙◌, subst, inl, inr}
-use Rattle.cu_grid.specs.Cover.{Meets}
+use Rattle.std.proofs.Common.{◌≡◌, ℕ, ◌<◌, List, length, Contains, Option, Some, refl, sym, subst}
 use Rattle.cu_store.specs.Steps.{Within}
-use Rattle.cu_op.specs.Arrays.{array_at, grid_at}
-use Rattle.cu_op.specs.Cells.{tasks_of, task_lo, task_hi, cell}
+use Rattle.cu_op.specs.Cells.{tasks_of}
 use Rattle.cu_op.specs.PlanView.{PlanView}
 use Rattle.cu_op.specs.Schedule.{op_of, key_of}
 use Rattle.cu_op.specs.Sound.{Sound}
 use Rattle.cu_op.specs.Walks.{written_chunks}
 use Rattle.cu_op.specs.declared.cells.Cell.{Cell}
-use Rattle.cu_region.specs.Writing.{RegionPut}
 use Rattle.cu_store.specs.Chunks.{Allows}
-use Rattle.cu_task.specs.Asks.{MayReadRegion, MayReadWritten, AllowsRegion}
-use Rattle.cu_task.specs.Task.{TaskChange}
+use Rattle.cu_task.specs.Asks.{MayReadRegion}
 use Rattle.cu_task.proofs.TaskSteps.{written_at}
 
 -- a chunk of an array that a task writes may be asked for where the array's chunks in its region may

@@ -15,6 +15,7 @@ pub mod ReadRegions
 pub mod ReductionTask
 pub mod SearchTask
 pub mod Serving
+pub mod TaskKinds
 pub mod TaskRegions
 pub mod TaskRooms
 pub mod TaskSteps

@@ -5,7 +5,7 @@ use Rattle.cu_shape.specs.Index.{IsInside, quotients}
 use Rattle.cu_shape.proofs.Places.{inside-length}
 use Rattle.cu_grid.proofs.Parting.{has_coordinate, lies_within, inner_inside}
 use Rattle.cu_store.specs.Chunks.{Keeps, Allows}
-use Rattle.cu_store.specs.Held.{Contents, IsAmong, Holds}
+use Rattle.cu_store.specs.Held.{Contents, Holds}
 use Rattle.cu_store.specs.Steps.{Shown}
 use Rattle.cu_store.specs.Yard.{Served, Known, FitsYard, IsTold, MayGet, MayPut, is_made, known_to_hold, shown_by}
 use Rattle.cu_store.specs.declared.faults.TaskFault.{TaskFault}
@@ -13,7 +13,7 @@ use Rattle.cu_store.specs.declared.faults.TaskFault.TheVariants.{Store, BadChunk
 use Rattle.cu_store.proofs.Specs.{made_is_served}
 use Rattle.cu_zarr.specs.Stored.{element_in}
 use Rattle.cu_zarr.proofs.Spelled.{spelled_element, length-spelled}
-use Rattle.cu_op.specs.Arrays.{array_at, grid_at, layout_at, type_at, maker_at, chunk_room}
+use Rattle.cu_op.specs.Arrays.{grid_at, layout_at, type_at, maker_at, chunk_room}
 use Rattle.cu_op.specs.Cells.{cell, tasks_of}
 use Rattle.cu_op.specs.PlanView.{PlanView}
 use Rattle.cu_op.specs.Schedule.{op_of, key_of, cell_value, IsReady}
@@ -29,7 +29,7 @@ use Rattle.cu_op.proofs.TaskCells.{fit_of, reads_lie_in, read_array, written_cel
 use Rattle.cu_op.proofs.Values.{value_solves}
 use Rattle.cu_region.specs.Steady.{HoldsLength}
 use Rattle.cu_task.specs.Asks.{MayReadTask, MayReadWritten}
-use Rattle.cu_task.specs.Serving.{IsOnlyRead, PromisesValues, ServesPlan, HasSeenInputs, HasSeenOutputs, IsBadOfInput}
+use Rattle.cu_task.specs.Serving.{PromisesValues, ServesPlan, HasSeenInputs, HasSeenOutputs, IsBadOfInput}
 use Rattle.cu_task.specs.Task.{IsTaskReady, TaskChange, IsTaskFault}
 use Rattle.cu_task.proofs.TaskSteps.{kept_cells}
 

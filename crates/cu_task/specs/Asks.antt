@@ -1,6 +1,6 @@
 -- What a task wants of the store where its chunks are. This project's own rules.
 use Rattle.std.specs.Prelude.{◌≡◌, ℕ, List, ◌<◌, length, Contains, Some}
-use Rattle.cu_store.specs.Steps.{Shown, Changes}
+use Rattle.cu_store.specs.Steps.{Shown}
 use Rattle.cu_op.specs.Operation.{target_of}
 use Rattle.cu_op.specs.PlanView.{PlanView}
 use Rattle.cu_op.specs.Arrays.{array_at}

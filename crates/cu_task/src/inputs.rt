@@ -7,10 +7,9 @@ ghost use Rattle.cu_store.specs.Chunks.{StaysOpen};
 ghost use Rattle.cu_task.specs.Asks.{MayReadWalks, MayReadTask};
 ghost use Rattle.cu_store.specs.Steps.{NoChange, Steps};
 ghost use Rattle.cu_op.specs.Arrays.{array_at, type_at, chunk_room};
-ghost use Rattle.cu_op.specs.Cells.{tasks_of};
 ghost use Rattle.cu_op.specs.Projection.{scratch_room};
-ghost use Rattle.cu_op.specs.Schedule.{op_of};
 ghost use Rattle.cu_op.specs.Sound.{Sound};
+ghost use Rattle.cu_op.specs.TaskView.{task_op};
 ghost use Rattle.cu_op.specs.Walks.{walk, IsWalkOver, walk_cells, cells_of_walks, input_walks};
 ghost use Rattle.cu_region.specs.Reading.{ReadsRegion};
 ghost use Rattle.cu_region.specs.Calls.{Made};
@@ -23,7 +22,7 @@ use arrayvec::ArrayVec;
 use cu_grid::Region;
 use cu_kern::Lay;
 use cu_num::{Dtype, size};
-use cu_op::{Plan, Walk, input_walks};
+use cu_op::{PlanTask, Walk};
 use cu_region::read_region_of;
 use cu_shape::difference;
 use cu_store::{Chunks, TaskFault};
@@ -33,58 +32,53 @@ use cu_store::{Chunks, TaskFault};
 pub(crate) fn read_regions<C: Chunks>(
     store: &C::Store,
     access: &mut C::Access,
-    plan: &Plan,
-    op: u32,
-    task: u32,
+    task: &PlanTask<'_>,
     inputs: &mut [u8],
     scratch: &mut [u8],
 ) -> Result<(), TaskFault>
     requires belongs { C.belongs store.now access.old }
-    requires may { MayReadTask plan.now op task (C.may_get store.now access.old) }
-    requires operation { op < length plan.now.ops }
-    requires task { task < tasks_of plan.now.arrays (op_of plan.now op) }
-    requires regions { ReadsRegions (op_of plan.now op) }
-    requires room { room_of_walks plan.now.arrays (input_walks plan.now.arrays (op_of plan.now op) task) ≤ length inputs.old }
-    requires scratch { scratch_room plan.now.arrays (op_of plan.now op) ≤ length scratch.old }
+    requires may { MayReadTask task.now.plan task.now.op task.now.number (C.may_get store.now access.old) }
+    requires regions { ReadsRegions (task_op task.now) }
+    requires room { room_of_walks task.now.plan.arrays (input_walks task.now.plan.arrays (task_op task.now) task.now.number) ≤ length inputs.old }
+    requires scratch { scratch_room task.now.plan.arrays (task_op task.now) ≤ length scratch.old }
     ensures open { StaysOpen (C.belongs store.now access.new) (C.may_get store.now access.old) (C.may_get store.now access.new) }
-    ensures read { (held : Contents) → AreSteadyInputs plan.now op task (C.shown access.old) held
-        → OnOk result (HasRegions plan.now.arrays held (input_walks plan.now.arrays (op_of plan.now op) task) inputs.new) }
-    ensures step { Steps NoChange 0 (read_calls plan.now.arrays (op_of plan.now op) task) (C.shown access.old) (C.shown access.new) }
-    ensures all { OnOk result (Made (read_calls plan.now.arrays (op_of plan.now op) task) (C.shown access.old).calls (C.shown access.new).calls) }
-    ensures cause { IfErr result (IsTaskFault (C.shown access.old) (C.shown access.new) plan.now op task) }
+    ensures read { (held : Contents) → AreSteadyInputs task.now.plan task.now.op task.now.number (C.shown access.old) held
+        → OnOk result (HasRegions task.now.plan.arrays held (input_walks task.now.plan.arrays (task_op task.now) task.now.number) inputs.new) }
+    ensures step { Steps NoChange 0 (read_calls task.now.plan.arrays (task_op task.now) task.now.number) (C.shown access.old) (C.shown access.new) }
+    ensures all { OnOk result (Made (read_calls task.now.plan.arrays (task_op task.now) task.now.number) (C.shown access.old).calls (C.shown access.new).calls) }
+    ensures cause { IfErr result (IsTaskFault (C.shown access.old) (C.shown access.new) task.now.plan task.now.op task.now.number) }
 {
-    let _planned = plan.operation(op);
-    let walks = input_walks(plan, op, task);
-    read_inputs::<C>(store, access, plan, &walks, inputs, scratch)
+    let walks = task.input_walks();
+    read_inputs::<C>(store, access, task, walks, inputs, scratch)
 }
 
 /// Reads the region of each walk, one behind another, through `scratch`.
 fn read_inputs<C: Chunks>(
     store: &C::Store,
     access: &mut C::Access,
-    plan: &Plan,
+    task: &PlanTask<'_>,
     walks: &[Walk],
     inputs: &mut [u8],
     scratch: &mut [u8],
 ) -> Result<(), TaskFault>
     requires belongs { C.belongs store.now access.old }
-    requires may { MayReadWalks plan.now.arrays walks.now (C.may_get store.now access.old) }
-    requires walks { All (IsWalkOver plan.now.arrays) walks.now }
-    requires room { room_of_walks plan.now.arrays walks.now ≤ length inputs.old }
-    requires scratch { All (λ w. chunk_room plan.now.arrays w.array ≤ length scratch.old) walks.now }
+    requires may { MayReadWalks task.now.plan.arrays walks.now (C.may_get store.now access.old) }
+    requires walks { All (IsWalkOver task.now.plan.arrays) walks.now }
+    requires room { room_of_walks task.now.plan.arrays walks.now ≤ length inputs.old }
+    requires scratch { All (λ w. chunk_room task.now.plan.arrays w.array ≤ length scratch.old) walks.now }
     ensures open { StaysOpen (C.belongs store.now access.new) (C.may_get store.now access.old) (C.may_get store.now access.new) }
-    ensures read { (held : Contents) → (C.shown access.old).held ≡ Some held → IsSteady (IsWalkKey plan.now.arrays walks.now) (Some held) (C.shown access.old).late
-        → OnOk result (HasRegions plan.now.arrays held walks.now inputs.new) }
-    ensures step { Steps NoChange 0 (length (cells_of_walks plan.now.arrays walks.now)) (C.shown access.old) (C.shown access.new) }
-    ensures all { OnOk result (Made (length (cells_of_walks plan.now.arrays walks.now)) (C.shown access.old).calls (C.shown access.new).calls) }
-    ensures cause { IfErr result (IsTaskInputFault (C.shown access.old) (C.shown access.new) plan.now.arrays walks.now) }
+    ensures read { (held : Contents) → (C.shown access.old).held ≡ Some held → IsSteady (IsWalkKey task.now.plan.arrays walks.now) (Some held) (C.shown access.old).late
+        → OnOk result (HasRegions task.now.plan.arrays held walks.now inputs.new) }
+    ensures step { Steps NoChange 0 (length (cells_of_walks task.now.plan.arrays walks.now)) (C.shown access.old) (C.shown access.new) }
+    ensures all { OnOk result (Made (length (cells_of_walks task.now.plan.arrays walks.now)) (C.shown access.old).calls (C.shown access.new).calls) }
+    ensures cause { IfErr result (IsTaskInputFault (C.shown access.old) (C.shown access.new) task.now.plan.arrays walks.now) }
 {
     match walks {
         [] => Ok(()),
         [walk, rest @ ..] => {
-            let (own, others) = inputs.split_at_mut(walk_bytes(plan, walk));
-            read_walk::<C>(store, access, plan, walk, own, scratch)?;
-            read_inputs::<C>(store, access, plan, rest, others, scratch)
+            let (own, others) = inputs.split_at_mut(walk_bytes(task, walk));
+            read_walk::<C>(store, access, task, walk, own, scratch)?;
+            read_inputs::<C>(store, access, task, rest, others, scratch)
         }
     }
 }
@@ -93,28 +87,28 @@ fn read_inputs<C: Chunks>(
 pub(crate) fn read_walk<C: Chunks>(
     store: &C::Store,
     access: &mut C::Access,
-    plan: &Plan,
+    task: &PlanTask<'_>,
     walk: &Walk,
     out: &mut [u8],
     scratch: &mut [u8],
 ) -> Result<(), TaskFault>
     requires belongs { C.belongs store.now access.old }
-    requires may { MayReadWalks plan.now.arrays (walk.now ∷ []) (C.may_get store.now access.old) }
-    requires walk { IsWalkOver plan.now.arrays walk.now }
-    requires room { length out.old ≡ walk_room plan.now.arrays walk.now }
-    requires scratch { chunk_room plan.now.arrays walk.now.array ≤ length scratch.old }
+    requires may { MayReadWalks task.now.plan.arrays (walk.now ∷ []) (C.may_get store.now access.old) }
+    requires walk { IsWalkOver task.now.plan.arrays walk.now }
+    requires room { length out.old ≡ walk_room task.now.plan.arrays walk.now }
+    requires scratch { chunk_room task.now.plan.arrays walk.now.array ≤ length scratch.old }
     ensures open { StaysOpen (C.belongs store.now access.new) (C.may_get store.now access.old) (C.may_get store.now access.new) }
-    ensures read { (held : Contents) → (C.shown access.old).held ≡ Some held → IsSteady (IsWalkKey plan.now.arrays (walk.now ∷ [])) (Some held) (C.shown access.old).late
-        → OnOk result (ReadsRegion (array_at plan.now.arrays walk.now.array) walk.now.region.lo walk.now.region.hi (Some held) out.new) }
-    ensures elements { OnOk result (AreElements (type_at plan.now.arrays walk.now.array) out.new) }
-    ensures step { Steps NoChange 0 (length (walk_cells plan.now.arrays walk.now)) (C.shown access.old) (C.shown access.new) }
-    ensures all { OnOk result (Made (length (walk_cells plan.now.arrays walk.now)) (C.shown access.old).calls (C.shown access.new).calls) }
-    ensures cause { IfErr result (IsTaskInputFault (C.shown access.old) (C.shown access.new) plan.now.arrays (walk.now ∷ [])) }
+    ensures read { (held : Contents) → (C.shown access.old).held ≡ Some held → IsSteady (IsWalkKey task.now.plan.arrays (walk.now ∷ [])) (Some held) (C.shown access.old).late
+        → OnOk result (ReadsRegion (array_at task.now.plan.arrays walk.now.array) walk.now.region.lo walk.now.region.hi (Some held) out.new) }
+    ensures elements { OnOk result (AreElements (type_at task.now.plan.arrays walk.now.array) out.new) }
+    ensures step { Steps NoChange 0 (length (walk_cells task.now.plan.arrays walk.now)) (C.shown access.old) (C.shown access.new) }
+    ensures all { OnOk result (Made (length (walk_cells task.now.plan.arrays walk.now)) (C.shown access.old).calls (C.shown access.new).calls) }
+    ensures cause { IfErr result (IsTaskInputFault (C.shown access.old) (C.shown access.new) task.now.plan.arrays (walk.now ∷ [])) }
 {
     read_region_of::<C>(
         store,
         access,
-        plan.array(walk.array),
+        task.array(walk.array),
         &walk.region,
         out,
         scratch,
@@ -122,12 +116,12 @@ pub(crate) fn read_walk<C: Chunks>(
 }
 
 /// The bytes of the elements of a walk's region.
-pub(crate) fn walk_bytes(plan: &Plan, walk: &Walk) -> usize
-    requires { IsWalkOver plan.now.arrays walk.now }
-    ensures bytes { result ≡ walk_room plan.now.arrays walk.now }
-    ensures sound { Sound plan.now }
+pub(crate) fn walk_bytes(task: &PlanTask<'_>, walk: &Walk) -> usize
+    requires { IsWalkOver task.now.plan.arrays walk.now }
+    ensures bytes { result ≡ walk_room task.now.plan.arrays walk.now }
+    ensures sound { Sound task.now.plan }
 {
-    let layout = &plan.array(walk.array).layout;
+    let layout = &task.array(walk.array).layout;
     region_bytes(layout.dtype, &walk.region)
 }
 
@@ -146,56 +140,52 @@ pub(crate) fn region_bytes(t: Dtype, region: &Region) -> usize
 }
 
 /// The bytes of the regions that a task reads.
-pub(crate) fn input_bytes(plan: &Plan, op: u32, task: u32) -> usize
-    requires operation { op < length plan.now.ops }
-    requires task { task < tasks_of plan.now.arrays (op_of plan.now op) }
-    requires small { room_of_walks plan.now.arrays (input_walks plan.now.arrays (op_of plan.now op) task) < 2 ^ 64 }
-    ensures { result ≡ room_of_walks plan.now.arrays (input_walks plan.now.arrays (op_of plan.now op) task) }
+pub(crate) fn input_bytes(task: &PlanTask<'_>) -> usize
+    requires { room_of_walks task.now.plan.arrays (input_walks task.now.plan.arrays (task_op task.now) task.now.number) < 2 ^ 64 }
+    ensures { result ≡ room_of_walks task.now.plan.arrays (input_walks task.now.plan.arrays (task_op task.now) task.now.number) }
 {
-    let walks = input_walks(plan, op, task);
-    room_of(plan, &walks)
+    room_of(task, task.input_walks())
 }
 
 /// The bytes of the region of each walk together.
-fn room_of(plan: &Plan, walks: &[Walk]) -> usize
-    requires over { All (IsWalkOver plan.now.arrays) walks.now }
-    requires small { room_of_walks plan.now.arrays walks.now < 2 ^ 64 }
-    ensures { result ≡ room_of_walks plan.now.arrays walks.now }
+fn room_of(task: &PlanTask<'_>, walks: &[Walk]) -> usize
+    requires over { All (IsWalkOver task.now.plan.arrays) walks.now }
+    requires small { room_of_walks task.now.plan.arrays walks.now < 2 ^ 64 }
+    ensures { result ≡ room_of_walks task.now.plan.arrays walks.now }
 {
     let mut room = 0;
     for walk in walks {
-        room += walk_bytes(plan, walk);
+        room += walk_bytes(task, walk);
     }
     room
 }
 
 /// Where the regions stand.
-pub(crate) fn lays_of(plan: &Plan, walks: &[Walk]) -> ArrayVec<Lay, 8>
-    requires over { All (IsWalkOver plan.now.arrays) walks.now }
+pub(crate) fn lays_of(task: &PlanTask<'_>, walks: &[Walk]) -> ArrayVec<Lay, 8>
+    requires over { All (IsWalkOver task.now.plan.arrays) walks.now }
     requires few { length walks.now ≤ 8 }
-    requires small { room_of_walks plan.now.arrays walks.now < 2 ^ 64 }
-    ensures { result.items ≡ lays_from plan.now.arrays 0 walks.now }
+    requires small { room_of_walks task.now.plan.arrays walks.now < 2 ^ 64 }
+    ensures { result.items ≡ lays_from task.now.plan.arrays 0 walks.now }
 {
     let mut lays = ArrayVec::new();
     let mut at = 0;
     for walk in walks {
         lays.push(Lay {
             at,
-            dtype: plan.array(walk.array).layout.dtype,
+            dtype: task.array(walk.array).layout.dtype,
             dims: difference(&walk.region.hi, &walk.region.lo),
         });
-        at += walk_bytes(plan, walk);
+        at += walk_bytes(task, walk);
     }
     lays
 }
 
 /// The region of an array that a task reads, by its place among them.
-pub(crate) fn input_walk(plan: &Plan, op: u32, task: u32, at: usize) -> Walk
-    requires operation { op < length plan.now.ops }
-    requires task { task < tasks_of plan.now.arrays (op_of plan.now op) }
-    requires place { at < length (input_walks plan.now.arrays (op_of plan.now op) task) }
-    ensures walk { result ≡ slice_index_or (input_walks plan.now.arrays (op_of plan.now op) task) at (walk 0 [] []) }
-    ensures over { IsWalkOver plan.now.arrays result }
+pub(crate) fn input_walk(task: &PlanTask<'_>, at: usize) -> Walk
+    requires { at < length (input_walks task.now.plan.arrays (task_op task.now) task.now.number) }
+    ensures walk { result ≡ slice_index_or (input_walks task.now.plan.arrays (task_op task.now) task.now.number) at (walk 0 [] []) }
+    ensures over { IsWalkOver task.now.plan.arrays result }
+    ensures sound { Sound task.now.plan }
 {
-    input_walks(plan, op, task)[at]
+    task.input_walks()[at]
 }

@@ -1,145 +1,190 @@
 //! The regions that a task writes.
-ghost use Rattle.std.specs.Prelude.{◌≡◌, ℕ, ◌<◌, ◌≤◌, List, [], ◌∷◌, length, Contains, IfErr, OnOk};
+ghost use Rattle.std.specs.Prelude.{◌≡◌, ℕ, ◌<◌, ◌≤◌, List, [], ◌∷◌, Some, length, Contains, IfErr, OnOk};
 ghost use Rattle.cu_store.specs.Chunks.{StaysOpen};
-ghost use Rattle.cu_task.specs.Asks.{MayReadWritten, MayReadRegion, AllowsRegion, AllowsResult, AllowsResults};
+ghost use Rattle.cu_task.specs.Asks.{MayReadWritten, MayReadRegion, AllowsRegion, AllowsResult, AllowsResults, AllowsFound};
 ghost use Rattle.cu_store.specs.Steps.{Shown, Steps};
 ghost use Rattle.cu_op.specs.Arrays.{array_at, type_at};
-ghost use Rattle.cu_op.specs.Cells.{tasks_of, task_lo, task_hi};
+ghost use Rattle.cu_op.specs.Cells.{task_lo, task_hi};
 ghost use Rattle.cu_op.specs.Operation.{target_of, writes_of};
 ghost use Rattle.cu_op.specs.Projection.{scratch_room};
-ghost use Rattle.cu_op.specs.Schedule.{op_of};
 ghost use Rattle.cu_op.specs.Sound.{Sound};
+ghost use Rattle.cu_op.specs.TaskView.{task_op};
 ghost use Rattle.cu_op.specs.Value.{Elements};
 ghost use Rattle.cu_op.specs.Walks.{walk, walk_cells, written_chunks};
 ghost use Rattle.cu_region.specs.Calls.{Made};
 ghost use Rattle.cu_region.specs.Writing.{AreElements, LateIsOwn, RegionPut, StoresRegion, IsWriteFault};
-ghost use Rattle.cu_task.specs.Task.{IsTaskReady, TaskChange, HoldsCells, result_room, IsResultOver};
+ghost use Rattle.cu_task.specs.Task.{IsTaskReady, TaskChange, HoldsCells, compared_array, value_array, result_room, value_room, IsResultOver};
 
-use crate::inputs::walk_bytes;
-use cu_op::{Plan, Walk, task_region};
+use crate::inputs::region_bytes;
+use cu_op::{Op, PlanTask};
 use cu_region::write_region_of;
 use cu_store::{Chunks, TaskFault};
 
 /// The bytes of the elements that a task computes.
-pub(crate) fn result_bytes(plan: &Plan, op: u32, task: u32) -> usize
-    requires operation { op < length plan.now.ops }
-    requires task { task < tasks_of plan.now.arrays (op_of plan.now op) }
-    ensures bytes { result ≡ result_room plan.now op task (target_of (op_of plan.now op)) }
-    ensures sound { Sound plan.now }
+pub(crate) fn result_bytes(task: &PlanTask<'_>) -> usize
+    ensures bytes { result ≡ result_room task.now.plan task.now.op task.now.number (target_of (task_op task.now)) }
+    ensures sound { Sound task.now.plan }
 {
-    let result = Walk {
-        array: plan.operation(op).op.target(),
-        region: task_region(plan, op, task),
-    };
-    walk_bytes(plan, &result)
+    region_room(task, task.operation().target())
+}
+
+/// The bytes of the values that a task finds: none but of a search.
+pub(crate) fn value_bytes(task: &PlanTask<'_>) -> usize
+    ensures { result ≡ value_room task.now.plan task.now.op task.now.number }
+{
+    match compared(task.operation()) {
+        Some(array) => region_room(task, array),
+        None => 0,
+    }
+}
+
+/// The array whose elements a search compares.
+fn compared(operation: &Op) -> Option<u32>
+    ensures { result ≡ compared_array operation.now }
+{
+    match operation {
+        Op::PairFold { source, .. } => Some(*source),
+        Op::PairMerge { value_source, .. } => Some(*value_source),
+        _ => None,
+    }
+}
+
+/// The bytes of the region that a task computes, in the type of an array.
+fn region_room(task: &PlanTask<'_>, array: u32) -> usize
+    requires { array < length task.now.plan.arrays }
+    ensures bytes { result ≡ result_room task.now.plan task.now.op task.now.number array }
+    ensures sound { Sound task.now.plan }
+{
+    let dtype = task.array(array).layout.dtype;
+    region_bytes(dtype, task.region())
 }
 
 /// Stores the chunks of an array that lie in the region of a task, through `scratch`, which has the bytes of a chunk.
 pub(crate) fn write_array<C: Chunks>(
     store: &C::Store,
     access: &mut C::Access,
-    plan: &Plan,
-    op: u32,
-    task: u32,
+    task: &PlanTask<'_>,
     array: u32,
     output: &[u8],
     scratch: &mut [u8],
 ) -> Result<(), TaskFault>
     requires belongs { C.belongs store.now access.old }
-    requires puts { AllowsRegion plan.now op task array output.now (C.may_put store.now) }
-    requires operation { op < length plan.now.ops }
-    requires task { task < tasks_of plan.now.arrays (op_of plan.now op) }
-    requires array { Contains (writes_of (op_of plan.now op)) array }
-    requires output { length output.now ≡ result_room plan.now op task array }
-    requires elements { AreElements (type_at plan.now.arrays array) output.now }
-    requires scratch { scratch_room plan.now.arrays (op_of plan.now op) ≤ length scratch.old }
+    requires puts { AllowsRegion task.now.plan task.now.op task.now.number array output.now (C.may_put store.now) }
+    requires array { Contains (writes_of (task_op task.now)) array }
+    requires output { length output.now ≡ result_room task.now.plan task.now.op task.now.number array }
+    requires elements { AreElements (type_at task.now.plan.arrays array) output.now }
+    requires scratch { scratch_room task.now.plan.arrays (task_op task.now) ≤ length scratch.old }
     ensures open { StaysOpen (C.belongs store.now access.new) (C.may_get store.now access.old) (C.may_get store.now access.new) }
-    ensures got { OnOk result (MayReadRegion plan.now op task array (C.may_get store.now access.new)) }
-    ensures stored { LateIsOwn (array_at plan.now.arrays array) (task_lo plan.now.arrays (op_of plan.now op) task) (task_hi plan.now.arrays (op_of plan.now op) task) output.now (C.shown access.old).late
-        → OnOk result (StoresRegion (array_at plan.now.arrays array) (task_lo plan.now.arrays (op_of plan.now op) task) (task_hi plan.now.arrays (op_of plan.now op) task) output.now (C.shown access.new).held) }
-    ensures step { Steps (RegionPut (array_at plan.now.arrays array) (task_lo plan.now.arrays (op_of plan.now op) task) (task_hi plan.now.arrays (op_of plan.now op) task) output.now)
-        0 (length (walk_cells plan.now.arrays (walk array (task_lo plan.now.arrays (op_of plan.now op) task) (task_hi plan.now.arrays (op_of plan.now op) task)))) (C.shown access.old) (C.shown access.new) }
-    ensures all { OnOk result (Made (length (walk_cells plan.now.arrays (walk array (task_lo plan.now.arrays (op_of plan.now op) task) (task_hi plan.now.arrays (op_of plan.now op) task))))
+    ensures got { OnOk result (MayReadRegion task.now.plan task.now.op task.now.number array (C.may_get store.now access.new)) }
+    ensures stored { LateIsOwn (array_at task.now.plan.arrays array) (task_lo task.now.plan.arrays (task_op task.now) task.now.number) (task_hi task.now.plan.arrays (task_op task.now) task.now.number) output.now (C.shown access.old).late
+        → OnOk result (StoresRegion (array_at task.now.plan.arrays array) (task_lo task.now.plan.arrays (task_op task.now) task.now.number) (task_hi task.now.plan.arrays (task_op task.now) task.now.number) output.now (C.shown access.new).held) }
+    ensures step { Steps (RegionPut (array_at task.now.plan.arrays array) (task_lo task.now.plan.arrays (task_op task.now) task.now.number) (task_hi task.now.plan.arrays (task_op task.now) task.now.number) output.now)
+        0 (length (walk_cells task.now.plan.arrays (walk array (task_lo task.now.plan.arrays (task_op task.now) task.now.number) (task_hi task.now.plan.arrays (task_op task.now) task.now.number)))) (C.shown access.old) (C.shown access.new) }
+    ensures all { OnOk result (Made (length (walk_cells task.now.plan.arrays (walk array (task_lo task.now.plan.arrays (task_op task.now) task.now.number) (task_hi task.now.plan.arrays (task_op task.now) task.now.number))))
         (C.shown access.old).calls (C.shown access.new).calls) }
     ensures cause { IfErr result (IsWriteFault (C.shown access.old).faults (C.shown access.new).faults (C.shown access.new).lacks) }
 {
-    let _planned = plan.operation(op);
-    let region = task_region(plan, op, task);
-    write_region_of::<C>(store, access, plan.array(array), &region, output, scratch)
+    let region = task.region();
+    write_region_of::<C>(store, access, task.array(array), region, output, scratch)
 }
 
 /// Stores the chunks of the one array that an operation writes.
 pub(crate) fn write_only<C: Chunks>(
     store: &C::Store,
     access: &mut C::Access,
-    plan: &Plan,
-    op: u32,
-    task: u32,
+    task: &PlanTask<'_>,
     output: &[u8],
     scratch: &mut [u8],
 ) -> Result<(), TaskFault>
     requires belongs { C.belongs store.now access.old }
-    requires puts { AllowsResult plan.now op task (target_of (op_of plan.now op)) output.now (C.may_put store.now) }
-    requires operation { op < length plan.now.ops }
-    requires task { task < tasks_of plan.now.arrays (op_of plan.now op) }
-    requires only { writes_of (op_of plan.now op) ≡ target_of (op_of plan.now op) ∷ [] }
-    requires output { length output.now ≡ result_room plan.now op task (target_of (op_of plan.now op)) }
-    requires elements { AreElements (type_at plan.now.arrays (target_of (op_of plan.now op))) output.now }
-    requires scratch { scratch_room plan.now.arrays (op_of plan.now op) ≤ length scratch.old }
+    requires puts { AllowsResult task.now.plan task.now.op task.now.number (target_of (task_op task.now)) output.now (C.may_put store.now) }
+    requires only { writes_of (task_op task.now) ≡ target_of (task_op task.now) ∷ [] }
+    requires output { length output.now ≡ result_room task.now.plan task.now.op task.now.number (target_of (task_op task.now)) }
+    requires elements { AreElements (type_at task.now.plan.arrays (target_of (task_op task.now))) output.now }
+    requires scratch { scratch_room task.now.plan.arrays (task_op task.now) ≤ length scratch.old }
     ensures open { StaysOpen (C.belongs store.now access.new) (C.may_get store.now access.old) (C.may_get store.now access.new) }
-    ensures got { OnOk result (MayReadWritten plan.now op task (C.may_get store.now access.new)) }
-    ensures step { (start : Shown) → IsResultOver plan.now op task (target_of (op_of plan.now op)) start output.now
-        → Steps (TaskChange plan.now op task start) 0 (length (written_chunks plan.now.arrays (op_of plan.now op) task)) (C.shown access.old) (C.shown access.new) }
-    ensures stored { (env : Elements) (start : Shown) (calls : ℕ) → IsResultOver plan.now op task (target_of (op_of plan.now op)) start output.now
-        → IsTaskReady plan.now op task env start → Steps (TaskChange plan.now op task start) 0 calls start (C.shown access.old) → OnOk result (HoldsCells plan.now op task env (C.shown access.new)) }
-    ensures all { OnOk result (Made (length (written_chunks plan.now.arrays (op_of plan.now op) task)) (C.shown access.old).calls (C.shown access.new).calls) }
+    ensures got { OnOk result (MayReadWritten task.now.plan task.now.op task.now.number (C.may_get store.now access.new)) }
+    ensures step { (start : Shown) → IsResultOver task.now.plan task.now.op task.now.number (target_of (task_op task.now)) start output.now
+        → Steps (TaskChange task.now.plan task.now.op task.now.number start) 0 (length (written_chunks task.now.plan.arrays (task_op task.now) task.now.number)) (C.shown access.old) (C.shown access.new) }
+    ensures stored { (env : Elements) (start : Shown) (calls : ℕ) → IsResultOver task.now.plan task.now.op task.now.number (target_of (task_op task.now)) start output.now
+        → IsTaskReady task.now.plan task.now.op task.now.number env start → Steps (TaskChange task.now.plan task.now.op task.now.number start) 0 calls start (C.shown access.old) → OnOk result (HoldsCells task.now.plan task.now.op task.now.number env (C.shown access.new)) }
+    ensures all { OnOk result (Made (length (written_chunks task.now.plan.arrays (task_op task.now) task.now.number)) (C.shown access.old).calls (C.shown access.new).calls) }
     ensures cause { IfErr result (IsWriteFault (C.shown access.old).faults (C.shown access.new).faults (C.shown access.new).lacks) }
 {
-    let array = plan.operation(op).op.target();
-    write_array::<C>(store, access, plan, op, task, array, output, scratch)
-}
-
-/// What a task of a search has found in its region.
-#[derive(Clone, Copy)]
-pub(crate) struct Found<'a> {
-    /// The values.
-    pub(crate) values: &'a [u8],
-    /// Their places.
-    pub(crate) places: &'a [u8],
+    let array = task.operation().target();
+    write_array::<C>(store, access, task, array, output, scratch)
 }
 
 /// Stores the chunks of both arrays that a search writes: the values before the places.
 pub(crate) fn write_both<C: Chunks>(
     store: &C::Store,
     access: &mut C::Access,
-    plan: &Plan,
-    op: u32,
-    task: u32,
+    task: &PlanTask<'_>,
     array: u32,
-    found: Found<'_>,
+    values: &[u8],
+    places: &[u8],
     scratch: &mut [u8],
 ) -> Result<(), TaskFault>
     requires belongs { C.belongs store.now access.old }
-    requires puts { AllowsResults plan.now op task array (found.values.now, found.places.now) (C.may_put store.now) }
-    requires operation { op < length plan.now.ops }
-    requires task { task < tasks_of plan.now.arrays (op_of plan.now op) }
-    requires both { writes_of (op_of plan.now op) ≡ array ∷ target_of (op_of plan.now op) ∷ [] }
-    requires values { length found.values.now ≡ result_room plan.now op task array }
-    requires places { length found.places.now ≡ result_room plan.now op task (target_of (op_of plan.now op)) }
-    requires value_elements { AreElements (type_at plan.now.arrays array) found.values.now }
-    requires place_elements { AreElements (type_at plan.now.arrays (target_of (op_of plan.now op))) found.places.now }
-    requires scratch { scratch_room plan.now.arrays (op_of plan.now op) ≤ length scratch.old }
+    requires puts { AllowsResults task.now.plan task.now.op task.now.number array (values.now, places.now) (C.may_put store.now) }
+    requires both { writes_of (task_op task.now) ≡ array ∷ target_of (task_op task.now) ∷ [] }
+    requires values { length values.now ≡ result_room task.now.plan task.now.op task.now.number array }
+    requires places { length places.now ≡ result_room task.now.plan task.now.op task.now.number (target_of (task_op task.now)) }
+    requires value_elements { AreElements (type_at task.now.plan.arrays array) values.now }
+    requires place_elements { AreElements (type_at task.now.plan.arrays (target_of (task_op task.now))) places.now }
+    requires scratch { scratch_room task.now.plan.arrays (task_op task.now) ≤ length scratch.old }
     ensures open { StaysOpen (C.belongs store.now access.new) (C.may_get store.now access.old) (C.may_get store.now access.new) }
-    ensures got { OnOk result (MayReadWritten plan.now op task (C.may_get store.now access.new)) }
-    ensures step { (start : Shown) → IsResultOver plan.now op task array start found.entry.values.now → IsResultOver plan.now op task (target_of (op_of plan.now op)) start found.entry.places.now
-        → Steps (TaskChange plan.now op task start) 0 (length (written_chunks plan.now.arrays (op_of plan.now op) task)) (C.shown access.old) (C.shown access.new) }
-    ensures stored { (env : Elements) (start : Shown) (calls : ℕ) → IsResultOver plan.now op task array start found.entry.values.now → IsResultOver plan.now op task (target_of (op_of plan.now op)) start found.entry.places.now
-        → IsTaskReady plan.now op task env start → Steps (TaskChange plan.now op task start) 0 calls start (C.shown access.old) → OnOk result (HoldsCells plan.now op task env (C.shown access.new)) }
-    ensures all { OnOk result (Made (length (written_chunks plan.now.arrays (op_of plan.now op) task)) (C.shown access.old).calls (C.shown access.new).calls) }
+    ensures got { OnOk result (MayReadWritten task.now.plan task.now.op task.now.number (C.may_get store.now access.new)) }
+    ensures step { (start : Shown) → IsResultOver task.now.plan task.now.op task.now.number array start values.now → IsResultOver task.now.plan task.now.op task.now.number (target_of (task_op task.now)) start places.now
+        → Steps (TaskChange task.now.plan task.now.op task.now.number start) 0 (length (written_chunks task.now.plan.arrays (task_op task.now) task.now.number)) (C.shown access.old) (C.shown access.new) }
+    ensures stored { (env : Elements) (start : Shown) (calls : ℕ) → IsResultOver task.now.plan task.now.op task.now.number array start values.now → IsResultOver task.now.plan task.now.op task.now.number (target_of (task_op task.now)) start places.now
+        → IsTaskReady task.now.plan task.now.op task.now.number env start → Steps (TaskChange task.now.plan task.now.op task.now.number start) 0 calls start (C.shown access.old) → OnOk result (HoldsCells task.now.plan task.now.op task.now.number env (C.shown access.new)) }
+    ensures all { OnOk result (Made (length (written_chunks task.now.plan.arrays (task_op task.now) task.now.number)) (C.shown access.old).calls (C.shown access.new).calls) }
     ensures cause { IfErr result (IsWriteFault (C.shown access.old).faults (C.shown access.new).faults (C.shown access.new).lacks) }
 {
-    let _planned = plan.operation(op);
-    write_array::<C>(store, access, plan, op, task, array, found.values, scratch)?;
-    let target = plan.operation(op).op.target();
-    write_array::<C>(store, access, plan, op, task, target, found.places, scratch)
+    let target = task.operation().target();
+    write_array::<C>(store, access, task, array, values, scratch)?;
+    write_array::<C>(store, access, task, target, places, scratch)
+}
+
+/// Stores what a task has made, and before it the values that a search has found, where they are stored.
+pub(crate) fn write_results<C: Chunks>(
+    store: &C::Store,
+    access: &mut C::Access,
+    task: &PlanTask<'_>,
+    values: &[u8],
+    output: &[u8],
+    scratch: &mut [u8],
+) -> Result<(), TaskFault>
+    requires belongs { C.belongs store.now access.old }
+    requires puts { AllowsFound task.now.plan task.now.op task.now.number values.now output.now (C.may_put store.now) }
+    requires values { (array : ℕ) → value_array (task_op task.now) ≡ Some array → length values.now ≡ result_room task.now.plan task.now.op task.now.number array }
+    requires output { length output.now ≡ result_room task.now.plan task.now.op task.now.number (target_of (task_op task.now)) }
+    requires value_elements { (array : ℕ) → value_array (task_op task.now) ≡ Some array → AreElements (type_at task.now.plan.arrays array) values.now }
+    requires output_elements { AreElements (type_at task.now.plan.arrays (target_of (task_op task.now))) output.now }
+    requires scratch { scratch_room task.now.plan.arrays (task_op task.now) ≤ length scratch.old }
+    ensures open { StaysOpen (C.belongs store.now access.new) (C.may_get store.now access.old) (C.may_get store.now access.new) }
+    ensures got { OnOk result (MayReadWritten task.now.plan task.now.op task.now.number (C.may_get store.now access.new)) }
+    ensures step { (start : Shown) → ((array : ℕ) → value_array (task_op task.now) ≡ Some array → IsResultOver task.now.plan task.now.op task.now.number array start values.now) → IsResultOver task.now.plan task.now.op task.now.number (target_of (task_op task.now)) start output.now
+        → Steps (TaskChange task.now.plan task.now.op task.now.number start) 0 (length (written_chunks task.now.plan.arrays (task_op task.now) task.now.number)) (C.shown access.old) (C.shown access.new) }
+    ensures stored { (env : Elements) (start : Shown) (calls : ℕ) → ((array : ℕ) → value_array (task_op task.now) ≡ Some array → IsResultOver task.now.plan task.now.op task.now.number array start values.now)
+        → IsResultOver task.now.plan task.now.op task.now.number (target_of (task_op task.now)) start output.now
+        → IsTaskReady task.now.plan task.now.op task.now.number env start → Steps (TaskChange task.now.plan task.now.op task.now.number start) 0 calls start (C.shown access.old) → OnOk result (HoldsCells task.now.plan task.now.op task.now.number env (C.shown access.new)) }
+    ensures all { OnOk result (Made (length (written_chunks task.now.plan.arrays (task_op task.now) task.now.number)) (C.shown access.old).calls (C.shown access.new).calls) }
+    ensures cause { IfErr result (IsWriteFault (C.shown access.old).faults (C.shown access.new).faults (C.shown access.new).lacks) }
+{
+    match stored_values(task.operation()) {
+        Some(array) => { write_both::<C>(store, access, task, array, values, output, scratch) }
+        None => write_only::<C>(store, access, task, output, scratch),
+    }
+}
+
+/// The array in which a search stores the values.
+fn stored_values(operation: &Op) -> Option<u32>
+    ensures { result ≡ value_array operation.now }
+{
+    match operation {
+        Op::PairFold { values, .. } | Op::PairMerge { values, .. } => *values,
+        _ => None,
+    }
 }

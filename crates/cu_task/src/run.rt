@@ -1,5 +1,5 @@
 //! Tasks that are run.
-ghost use Rattle.std.specs.Prelude.{◌≡◌, ℕ, ◌+◌, ◌*◌, ◌<◌, ◌≤◌, length, IfErr, OnOk};
+ghost use Rattle.std.specs.Prelude.{◌≡◌, ℕ, ◌+◌, ◌*◌, ◌<◌, ◌≤◌, length, Some, IfErr, OnOk};
 ghost use Rattle.cu_store.specs.Held.{Contents};
 ghost use Rattle.cu_store.specs.Chunks.{Allows, StaysOpen};
 ghost use Rattle.cu_task.specs.Asks.{MayReadTask, MayReadWritten};
@@ -9,22 +9,23 @@ ghost use Rattle.cu_op.specs.Cells.{tasks_of};
 ghost use Rattle.cu_op.specs.Operation.{target_of};
 ghost use Rattle.cu_op.specs.Projection.{projection, scratch_room, instruction_count};
 ghost use Rattle.cu_op.specs.Schedule.{op_of};
+ghost use Rattle.cu_op.specs.TaskView.{task_op};
 ghost use Rattle.cu_op.specs.Value.{Elements};
 ghost use Rattle.cu_op.specs.Walks.{input_walks};
 ghost use Rattle.cu_region.specs.Calls.{Made};
 ghost use Rattle.cu_region.specs.Writing.{AreElements};
 ghost use Rattle.cu_task.specs.Inputs.{room_of_walks};
-ghost use Rattle.cu_task.specs.Task.{IsTaskReady, TaskChange, HoldsCells, read_calls, calls_of, HasSureCalls, HasOneOutput, IsComputing, kept_room, result_room, HasResult, IsComputed, AreSteadyInputs, IsTaskFault};
+ghost use Rattle.cu_task.specs.Task.{IsTaskReady, TaskChange, HoldsCells, read_calls, calls_of, HasSureCalls, IsComputing, kept_room, value_array, value_room, result_room, HasResult, IsComputed, AreSteadyInputs, IsTaskFault};
 
 use crate::copies::copy_region;
 use crate::inputs::{input_bytes, read_regions};
 use crate::maps::run_map;
-use crate::products::{Product, multiply};
-use crate::pulls::{View, pull_result};
-use crate::reductions::{Folding, Merging, fold, merge};
-use crate::results::{result_bytes, write_array};
-use crate::searches::run_search;
-use cu_op::{Op, Plan};
+use crate::products::multiply;
+use crate::pulls::pull_result;
+use crate::reductions::{fold, merge};
+use crate::results::{result_bytes, value_bytes, write_results};
+use crate::searches::{find_again, find_first};
+use cu_op::{Op, Plan, PlanTask};
 use cu_store::{Chunks, TaskFault};
 
 /// Runs a task of a plan: reads what it needs of its inputs, computes the region of its result, and stores the chunks that lie in it.
@@ -64,44 +65,35 @@ pub fn run_task_of<C: Chunks>(
     ensures all { HasSureCalls (op_of plan.now op) → OnOk result (Made (calls_of plan.now op task) (C.shown access.old).calls (C.shown access.new).calls) }
     ensures cause { IfErr result (IsTaskFault (C.shown access.old) (C.shown access.new) plan.now op task) }
 {
-    match &plan.operation(op).op {
-        Op::PairFold { .. } | Op::PairMerge { .. } => run_search::<C>(
-            store, access, plan, op, task, bytes,
-        ),
-        _ => run_single::<C>(store, access, plan, op, task, bytes, words),
-    }
+    run_plan_task::<C>(store, access, &PlanTask::make(plan, op, task), bytes, words)
 }
 
-/// `run_task_of` for an operation that writes one array: the result's region stands behind the other rooms.
-fn run_single<C: Chunks>(
+/// The same of a task that is at hand: its result stands last, the values that a search finds before it, both behind the other rooms.
+fn run_plan_task<C: Chunks>(
     store: &C::Store,
     access: &mut C::Access,
-    plan: &Plan,
-    op: u32,
-    task: u32,
+    task: &PlanTask<'_>,
     bytes: &mut [u8],
     words: &mut [u64],
 ) -> Result<(), TaskFault>
     requires belongs { C.belongs store.now access.old }
-    requires may { MayReadTask plan.now op task (C.may_get store.now access.old) }
-    requires puts { Allows (TaskChange plan.now op task (C.shown access.old)) (C.may_put store.now) }
-    requires operation { op < length plan.now.ops }
-    requires task { task < tasks_of plan.now.arrays (op_of plan.now op) }
-    requires single { HasOneOutput (op_of plan.now op) }
-    requires words { length words.old ≡ 64 * instruction_count (op_of plan.now op) }
-    requires room { plan.now.reserved + length bytes.old + 8 * length words.old ≡ projection plan.now.arrays plan.now.reserved (op_of plan.now op) }
+    requires may { MayReadTask task.now.plan task.now.op task.now.number (C.may_get store.now access.old) }
+    requires puts { Allows (TaskChange task.now.plan task.now.op task.now.number (C.shown access.old)) (C.may_put store.now) }
+    requires words { length words.old ≡ 64 * instruction_count (task_op task.now) }
+    requires room { task.now.plan.reserved + length bytes.old + 8 * length words.old ≡ projection task.now.plan.arrays task.now.plan.reserved (task_op task.now) }
     ensures open { StaysOpen (C.belongs store.now access.new) (C.may_get store.now access.old) (C.may_get store.now access.new) }
-    ensures got { OnOk result (MayReadWritten plan.now op task (C.may_get store.now access.new)) }
-    ensures stored { (env : Elements) → IsTaskReady plan.now op task env (C.shown access.old) → OnOk result (HoldsCells plan.now op task env (C.shown access.new)) }
-    ensures step { Steps (TaskChange plan.now op task (C.shown access.old)) 0 (calls_of plan.now op task) (C.shown access.old) (C.shown access.new) }
-    ensures all { HasSureCalls (op_of plan.now op) → OnOk result (Made (calls_of plan.now op task) (C.shown access.old).calls (C.shown access.new).calls) }
-    ensures cause { IfErr result (IsTaskFault (C.shown access.old) (C.shown access.new) plan.now op task) }
+    ensures got { OnOk result (MayReadWritten task.now.plan task.now.op task.now.number (C.may_get store.now access.new)) }
+    ensures stored { (env : Elements) → IsTaskReady task.now.plan task.now.op task.now.number env (C.shown access.old) → OnOk result (HoldsCells task.now.plan task.now.op task.now.number env (C.shown access.new)) }
+    ensures step { Steps (TaskChange task.now.plan task.now.op task.now.number (C.shown access.old)) 0 (calls_of task.now.plan task.now.op task.now.number) (C.shown access.old) (C.shown access.new) }
+    ensures all { HasSureCalls (task_op task.now) → OnOk result (Made (calls_of task.now.plan task.now.op task.now.number) (C.shown access.old).calls (C.shown access.new).calls) }
+    ensures cause { IfErr result (IsTaskFault (C.shown access.old) (C.shown access.new) task.now.plan task.now.op task.now.number) }
 {
-    let result = result_bytes(plan, op, task);
-    let (room, output) = bytes.split_at_mut(bytes.len() - result);
-    make_result::<C>(store, access, plan, op, task, room, output, words)?;
-    let array = plan.operation(op).op.target();
-    write_array::<C>(store, access, plan, op, task, array, output, room)
+    let result = result_bytes(task);
+    let found = value_bytes(task);
+    let (front, output) = bytes.split_at_mut(bytes.len() - result);
+    let (room, values) = front.split_at_mut(front.len() - found);
+    make_result::<C>(store, access, task, room, values, output, words)?;
+    write_results::<C>(store, access, task, values, output, room)
 }
 
 /// The elements of the result in the region of a task, row-major and little-endian. `room` has the scratch and, in front of them, the
@@ -109,38 +101,34 @@ fn run_single<C: Chunks>(
 fn make_result<C: Chunks>(
     store: &C::Store,
     access: &mut C::Access,
-    plan: &Plan,
-    op: u32,
-    task: u32,
+    task: &PlanTask<'_>,
     room: &mut [u8],
+    values: &mut [u8],
     output: &mut [u8],
     words: &mut [u64],
 ) -> Result<(), TaskFault>
     requires belongs { C.belongs store.now access.old }
-    requires may { MayReadTask plan.now op task (C.may_get store.now access.old) }
-    requires operation { op < length plan.now.ops }
-    requires task { task < tasks_of plan.now.arrays (op_of plan.now op) }
-    requires single { HasOneOutput (op_of plan.now op) }
-    requires room { scratch_room plan.now.arrays (op_of plan.now op) + kept_room plan.now.arrays (op_of plan.now op) task ≤ length room.old }
-    requires output { length output.old ≡ result_room plan.now op task (target_of (op_of plan.now op)) }
-    requires words { length words.old ≡ 64 * instruction_count (op_of plan.now op) }
+    requires may { MayReadTask task.now.plan task.now.op task.now.number (C.may_get store.now access.old) }
+    requires room { scratch_room task.now.plan.arrays (task_op task.now) + kept_room task.now.plan.arrays (task_op task.now) task.now.number ≤ length room.old }
+    requires values { length values.old ≡ value_room task.now.plan task.now.op task.now.number }
+    requires output { length output.old ≡ result_room task.now.plan task.now.op task.now.number (target_of (task_op task.now)) }
+    requires words { length words.old ≡ 64 * instruction_count (task_op task.now) }
     ensures open { StaysOpen (C.belongs store.now access.new) (C.may_get store.now access.old) (C.may_get store.now access.new) }
-    ensures values { (held : Contents) → AreSteadyInputs plan.now op task (C.shown access.old) held → OnOk result (HasResult plan.now op task (target_of (op_of plan.now op)) held output.new) }
-    ensures elements { OnOk result (AreElements (type_at plan.now.arrays (target_of (op_of plan.now op))) output.new) }
-    ensures step { Steps NoChange 0 (read_calls plan.now.arrays (op_of plan.now op) task) (C.shown access.old) (C.shown access.new) }
-    ensures all { HasSureCalls (op_of plan.now op) → OnOk result (Made (read_calls plan.now.arrays (op_of plan.now op) task) (C.shown access.old).calls (C.shown access.new).calls) }
-    ensures cause { IfErr result (IsTaskFault (C.shown access.old) (C.shown access.new) plan.now op task) }
+    ensures output { (held : Contents) → AreSteadyInputs task.now.plan task.now.op task.now.number (C.shown access.old) held → OnOk result (HasResult task.now.plan task.now.op task.now.number (target_of (task_op task.now)) held output.new) }
+    ensures output_elements { OnOk result (AreElements (type_at task.now.plan.arrays (target_of (task_op task.now))) output.new) }
+    ensures values { (array : ℕ) (held : Contents) → value_array (task_op task.now) ≡ Some array → AreSteadyInputs task.now.plan task.now.op task.now.number (C.shown access.old) held
+        → OnOk result (HasResult task.now.plan task.now.op task.now.number array held values.new) }
+    ensures value_elements { (array : ℕ) → value_array (task_op task.now) ≡ Some array → OnOk result (AreElements (type_at task.now.plan.arrays array) values.new) }
+    ensures step { Steps NoChange 0 (read_calls task.now.plan.arrays (task_op task.now) task.now.number) (C.shown access.old) (C.shown access.new) }
+    ensures all { HasSureCalls (task_op task.now) → OnOk result (Made (read_calls task.now.plan.arrays (task_op task.now) task.now.number) (C.shown access.old).calls (C.shown access.new).calls) }
+    ensures cause { IfErr result (IsTaskFault (C.shown access.old) (C.shown access.new) task.now.plan task.now.op task.now.number) }
 {
-    match &plan.operation(op).op {
+    match task.operation() {
         Op::Pull { pull, ins, .. } => {
-            let view = View {
-                pull,
-                ins: ins.as_slice(),
-            };
-            pull_result::<C>(store, access, plan, op, task, view, output, room)
+            pull_result::<C>(store, access, task, pull, ins.as_slice(), output, room)
         }
-        Op::Copy { .. } => copy_region::<C>(store, access, plan, op, task, output, room),
-        _ => compute_result::<C>(store, access, plan, op, task, room, output, words),
+        Op::Copy { .. } => copy_region::<C>(store, access, task, output, room),
+        _ => compute_result::<C>(store, access, task, room, values, output, words),
     }
 }
 
@@ -148,84 +136,82 @@ fn make_result<C: Chunks>(
 fn compute_result<C: Chunks>(
     store: &C::Store,
     access: &mut C::Access,
-    plan: &Plan,
-    op: u32,
-    task: u32,
+    task: &PlanTask<'_>,
     room: &mut [u8],
+    values: &mut [u8],
     output: &mut [u8],
     words: &mut [u64],
 ) -> Result<(), TaskFault>
     requires belongs { C.belongs store.now access.old }
-    requires may { MayReadTask plan.now op task (C.may_get store.now access.old) }
-    requires operation { op < length plan.now.ops }
-    requires task { task < tasks_of plan.now.arrays (op_of plan.now op) }
-    requires computing { IsComputing (op_of plan.now op) }
-    requires room { scratch_room plan.now.arrays (op_of plan.now op) + room_of_walks plan.now.arrays (input_walks plan.now.arrays (op_of plan.now op) task) ≤ length room.old }
-    requires output { length output.old ≡ result_room plan.now op task (target_of (op_of plan.now op)) }
-    requires words { length words.old ≡ 64 * instruction_count (op_of plan.now op) }
+    requires may { MayReadTask task.now.plan task.now.op task.now.number (C.may_get store.now access.old) }
+    requires computing { IsComputing (task_op task.now) }
+    requires room { scratch_room task.now.plan.arrays (task_op task.now) + room_of_walks task.now.plan.arrays (input_walks task.now.plan.arrays (task_op task.now) task.now.number) ≤ length room.old }
+    requires values { length values.old ≡ value_room task.now.plan task.now.op task.now.number }
+    requires output { length output.old ≡ result_room task.now.plan task.now.op task.now.number (target_of (task_op task.now)) }
+    requires words { length words.old ≡ 64 * instruction_count (task_op task.now) }
     ensures open { StaysOpen (C.belongs store.now access.new) (C.may_get store.now access.old) (C.may_get store.now access.new) }
-    ensures values { (held : Contents) → AreSteadyInputs plan.now op task (C.shown access.old) held → OnOk result (HasResult plan.now op task (target_of (op_of plan.now op)) held output.new) }
-    ensures elements { OnOk result (AreElements (type_at plan.now.arrays (target_of (op_of plan.now op))) output.new) }
-    ensures step { Steps NoChange 0 (read_calls plan.now.arrays (op_of plan.now op) task) (C.shown access.old) (C.shown access.new) }
-    ensures all { OnOk result (Made (read_calls plan.now.arrays (op_of plan.now op) task) (C.shown access.old).calls (C.shown access.new).calls) }
-    ensures cause { IfErr result (IsTaskFault (C.shown access.old) (C.shown access.new) plan.now op task) }
+    ensures output { (held : Contents) → AreSteadyInputs task.now.plan task.now.op task.now.number (C.shown access.old) held → OnOk result (HasResult task.now.plan task.now.op task.now.number (target_of (task_op task.now)) held output.new) }
+    ensures output_elements { OnOk result (AreElements (type_at task.now.plan.arrays (target_of (task_op task.now))) output.new) }
+    ensures values { (array : ℕ) (held : Contents) → value_array (task_op task.now) ≡ Some array → AreSteadyInputs task.now.plan task.now.op task.now.number (C.shown access.old) held
+        → OnOk result (HasResult task.now.plan task.now.op task.now.number array held values.new) }
+    ensures value_elements { (array : ℕ) → value_array (task_op task.now) ≡ Some array → OnOk result (AreElements (type_at task.now.plan.arrays array) values.new) }
+    ensures step { Steps NoChange 0 (read_calls task.now.plan.arrays (task_op task.now) task.now.number) (C.shown access.old) (C.shown access.new) }
+    ensures all { OnOk result (Made (read_calls task.now.plan.arrays (task_op task.now) task.now.number) (C.shown access.old).calls (C.shown access.new).calls) }
+    ensures cause { IfErr result (IsTaskFault (C.shown access.old) (C.shown access.new) task.now.plan task.now.op task.now.number) }
 {
-    let kept = input_bytes(plan, op, task);
+    let kept = input_bytes(task);
     let (scratch, inputs) = room.split_at_mut(room.len() - kept);
-    read_regions::<C>(store, access, plan, op, task, inputs, scratch)?;
-    compute(plan, op, task, inputs, output, words);
+    read_regions::<C>(store, access, task, inputs, scratch)?;
+    compute(task, inputs, values, output, words);
     Ok(())
 }
 
 /// The elements of the result in the region of a task, from the regions of the arrays that it reads, which stand one behind another in
 /// `inputs`.
-fn compute(plan: &Plan, op: u32, task: u32, inputs: &[u8], output: &mut [u8], words: &mut [u64])
-    requires operation { op < length plan.now.ops }
-    requires task { task < tasks_of plan.now.arrays (op_of plan.now op) }
-    requires computing { IsComputing (op_of plan.now op) }
-    requires inputs { length inputs.now ≡ room_of_walks plan.now.arrays (input_walks plan.now.arrays (op_of plan.now op) task) }
-    requires output { length output.old ≡ result_room plan.now op task (target_of (op_of plan.now op)) }
-    requires words { length words.old ≡ 64 * instruction_count (op_of plan.now op) }
-    ensures values { IsComputed plan.now op task (target_of (op_of plan.now op)) inputs.now output.new }
-    ensures elements { AreElements (type_at plan.now.arrays (target_of (op_of plan.now op))) output.new }
+fn compute(
+    task: &PlanTask<'_>,
+    inputs: &[u8],
+    values: &mut [u8],
+    output: &mut [u8],
+    words: &mut [u64],
+)
+    requires computing { IsComputing (task_op task.now) }
+    requires inputs { length inputs.now ≡ room_of_walks task.now.plan.arrays (input_walks task.now.plan.arrays (task_op task.now) task.now.number) }
+    requires values { length values.old ≡ value_room task.now.plan task.now.op task.now.number }
+    requires output { length output.old ≡ result_room task.now.plan task.now.op task.now.number (target_of (task_op task.now)) }
+    requires words { length words.old ≡ 64 * instruction_count (task_op task.now) }
+    ensures output { IsComputed task.now.plan task.now.op task.now.number (target_of (task_op task.now)) inputs.now output.new }
+    ensures values { (array : ℕ) → value_array (task_op task.now) ≡ Some array → IsComputed task.now.plan task.now.op task.now.number array inputs.now values.new }
+    ensures output_elements { AreElements (type_at task.now.plan.arrays (target_of (task_op task.now))) output.new }
+    ensures value_elements { (array : ℕ) → value_array (task_op task.now) ≡ Some array → AreElements (type_at task.now.plan.arrays array) values.new }
 {
-    match &plan.operation(op).op {
-        Op::Map { kernel, .. } => run_map(plan, op, task, kernel, inputs, output, words),
+    match task.operation() {
+        Op::Map { kernel, .. } => run_map(task, kernel, inputs, output, words),
         Op::Fold {
             kind,
             axes,
             source,
             out,
-        } => {
-            let folding = Folding {
-                kind: *kind,
-                axes: *axes,
-                source: *source,
-                out: *out,
-            };
-            fold(plan, op, task, folding, inputs, output)
-        }
+        } => fold(task, *kind, *axes, *source, *out, inputs, output),
         Op::Merge {
             kind,
             axis,
-            group,
-            source,
             out,
-        } => {
-            let merging = Merging {
-                kind: *kind,
-                axis: *axis,
-                group: *group,
-                source: *source,
-                out: *out,
-            };
-            merge(plan, op, task, merging, inputs, output)
-        }
-        Op::Mul { left, right, out } => {
-            let (left, right, out) = (*left, *right, *out);
-            let arrays = Product { left, right, out };
-            multiply(plan, op, task, arrays, inputs, output)
-        }
+            ..
+        } => merge(task, *kind, *axis, *out, inputs, output),
+        Op::Mul { left, right, out } => multiply(task, *left, *right, *out, inputs, output),
+        Op::PairFold {
+            least,
+            axis,
+            source,
+            ..
+        } => find_first(task, *least, *axis, *source, inputs, values, output),
+        Op::PairMerge {
+            least,
+            axis,
+            value_source,
+            ..
+        } => find_again(task, *least, *axis, *value_source, inputs, values, output),
         _ => unreachable!(),
     }
 }

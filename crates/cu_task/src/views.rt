@@ -18,7 +18,7 @@ ghost use Rattle.cu_task.specs.ViewJobs.{IsViewJob, view_task_of, buffer_room, I
 use arrayvec::ArrayVec;
 use cu_codec::chunk_bytes;
 use cu_grid::Region;
-use cu_op::{ArrayInfo, Plan};
+use cu_op::{ArrayInfo, Plan, PlanTask};
 use cu_pull::Pull;
 use cu_region::read_chunk;
 use cu_shape::{Dims, difference};
@@ -44,14 +44,14 @@ pub(crate) struct ViewJob<'a> {
 }
 
 /// The shapes of arrays of a plan.
-pub(crate) fn shapes_of(plan: &Plan, numbers: &[u32]) -> ArrayVec<Dims, 8>
+pub(crate) fn shapes_of(task: &PlanTask<'_>, numbers: &[u32]) -> ArrayVec<Dims, 8>
     requires few { length numbers.now ≤ 8 }
-    requires within { All (λ a. a < length plan.now.arrays) numbers.now }
-    ensures { result.items ≡ shapes_at plan.now.arrays numbers.now }
+    requires within { All (λ a. a < length task.now.plan.arrays) numbers.now }
+    ensures { result.items ≡ shapes_at task.now.plan.arrays numbers.now }
 {
     let mut shapes = ArrayVec::new();
     for number in numbers {
-        shapes.push(*plan.array(*number).layout.grid.shape());
+        shapes.push(*task.array(*number).layout.grid.shape());
     }
     shapes
 }

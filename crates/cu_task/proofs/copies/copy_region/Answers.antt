@@ -32,69 +32,69 @@ use Rattle.cu_task.proofs.copies.copy_region.Goals as goal
 abbrev none : Walk
 none = walk 0 [] []
 
-pub input_walk-walk-requires-clause-place : goal.input_walk-walk-requires-clause-place
-input_walk-walk-requires-clause-place g c =
-    let copy = copied (op_of c.args.plan.now c.args.op) c.requires.copy in
-    subst (λ (o : Op). 0 < length (input_walks c.args.plan.now.arrays o c.args.task)) (sym copy.is) (omega arith)
+pub input_walk-walk-requires : goal.input_walk-walk-requires
+input_walk-walk-requires g c =
+    let copy = copied (op_of c.args.task.now.plan c.args.task.now.op) c.requires.copy in
+    subst (λ (o : Op). 0 < length (input_walks c.args.task.now.plan.arrays o c.args.task.now.number)) (sym copy.is) (omega arith)
 
 pub read_walk-requires-clause-room : goal.read_walk-requires-clause-room
 read_walk-requires-clause-room g c =
-    let copy = copied (op_of c.args.plan.now c.args.op) c.requires.copy in
+    let copy = copied (op_of c.args.task.now.plan c.args.task.now.op) c.requires.copy in
     let operation = Copy copy.region copy.source copy.out in
-    let fit = subst (Fit c.args.plan.now.arrays c.args.op) copy.is (fit_of c.args.plan.now c.operation-planned.ensures.sound c.args.op c.requires.operation) in
-    let same : c.input_walk-walk.result ≡ (walk copy.source (task_lo c.args.plan.now.arrays operation c.args.task) (task_hi c.args.plan.now.arrays operation c.args.task)) = c.input_walk-walk.ensures.walk ∙ ap (λ (o : Op). slice_index_or (input_walks c.args.plan.now.arrays o c.args.task) 0 none) copy.is in
-    let room = c.requires.output ∙ ap (λ (o : Op). product (differences (task_hi c.args.plan.now.arrays o c.args.task) (task_lo c.args.plan.now.arrays o c.args.task)) * size_of (type_at c.args.plan.now.arrays (target_of o))) copy.is in
-    room ∙ ap (λ (t : Dtype). product (differences (task_hi c.args.plan.now.arrays operation c.args.task) (task_lo c.args.plan.now.arrays operation c.args.task)) * size_of t) (sym fit.2.types) ∙ ap (walk_room c.args.plan.now.arrays) (sym same)
+    let fit = subst (Fit c.args.task.now.plan.arrays c.args.task.now.op) copy.is (fit_of c.args.task.now.plan c.input_walk-walk.ensures.sound c.args.task.now.op c.args.task.now.operation) in
+    let same : c.input_walk-walk.result ≡ (walk copy.source (task_lo c.args.task.now.plan.arrays operation c.args.task.now.number) (task_hi c.args.task.now.plan.arrays operation c.args.task.now.number)) = c.input_walk-walk.ensures.walk ∙ ap (λ (o : Op). slice_index_or (input_walks c.args.task.now.plan.arrays o c.args.task.now.number) 0 none) copy.is in
+    let room = c.requires.output ∙ ap (λ (o : Op). product (differences (task_hi c.args.task.now.plan.arrays o c.args.task.now.number) (task_lo c.args.task.now.plan.arrays o c.args.task.now.number)) * size_of (type_at c.args.task.now.plan.arrays (target_of o))) copy.is in
+    room ∙ ap (λ (t : Dtype). product (differences (task_hi c.args.task.now.plan.arrays operation c.args.task.now.number) (task_lo c.args.task.now.plan.arrays operation c.args.task.now.number)) * size_of t) (sym fit.2.types) ∙ ap (walk_room c.args.task.now.plan.arrays) (sym same)
 
 pub read_walk-requires-clause-scratch : goal.read_walk-requires-clause-scratch
 read_walk-requires-clause-scratch g c =
-    let copy = copied (op_of c.args.plan.now c.args.op) c.requires.copy in
+    let copy = copied (op_of c.args.task.now.plan c.args.task.now.op) c.requires.copy in
     let operation = Copy copy.region copy.source copy.out in
-    let same : c.input_walk-walk.result ≡ (walk copy.source (task_lo c.args.plan.now.arrays operation c.args.task) (task_hi c.args.plan.now.arrays operation c.args.task)) = c.input_walk-walk.ensures.walk ∙ ap (λ (o : Op). slice_index_or (input_walks c.args.plan.now.arrays o c.args.task) 0 none) copy.is in
-    let own = scratch_read c.args.plan.now.arrays operation copy.source (0, omega arith, refl) in
-    let scratch = subst (λ (o : Op). scratch_room c.args.plan.now.arrays o ≤ length c.args.scratch.now) copy.is c.requires.scratch in
-    subst (λ (w : Walk). chunk_room c.args.plan.now.arrays w.array ≤ length c.args.scratch.now) (sym same) (omega (arith, own, scratch))
+    let same : c.input_walk-walk.result ≡ (walk copy.source (task_lo c.args.task.now.plan.arrays operation c.args.task.now.number) (task_hi c.args.task.now.plan.arrays operation c.args.task.now.number)) = c.input_walk-walk.ensures.walk ∙ ap (λ (o : Op). slice_index_or (input_walks c.args.task.now.plan.arrays o c.args.task.now.number) 0 none) copy.is in
+    let own = scratch_read c.args.task.now.plan.arrays operation copy.source (0, omega arith, refl) in
+    let scratch = subst (λ (o : Op). scratch_room c.args.task.now.plan.arrays o ≤ length c.args.scratch.now) copy.is c.requires.scratch in
+    subst (λ (w : Walk). chunk_room c.args.task.now.plan.arrays w.array ≤ length c.args.scratch.now) (sym same) (omega (arith, own, scratch))
 
 pub returns-clause-values : goal.returns-clause-values
 returns-clause-values g c held known =
-    let copy = copied (op_of c.args.plan.now c.args.op) c.requires.copy in
+    let copy = copied (op_of c.args.task.now.plan c.args.task.now.op) c.requires.copy in
     let operation = Copy copy.region copy.source copy.out in
-    let fit = subst (Fit c.args.plan.now.arrays c.args.op) copy.is (fit_of c.args.plan.now c.operation-planned.ensures.sound c.args.op c.requires.operation) in
-    let same : c.input_walk-walk.result ≡ (walk copy.source (task_lo c.args.plan.now.arrays operation c.args.task) (task_hi c.args.plan.now.arrays operation c.args.task)) = c.input_walk-walk.ensures.walk ∙ ap (λ (o : Op). slice_index_or (input_walks c.args.plan.now.arrays o c.args.task) 0 none) copy.is in
-    let steady = subst (λ (o : Op). IsSteady (IsWalkKey c.args.plan.now.arrays (input_walks c.args.plan.now.arrays o c.args.task)) (Some held) (g.C.Chunks.shown c.args.access.now).late) copy.is known.1 in
-    let read = subst (λ (w : Walk). (held : Contents) → (g.C.Chunks.shown c.args.access.now).held ≡ Some held → IsSteady (IsWalkKey c.args.plan.now.arrays (w ∷ [])) (Some held) (g.C.Chunks.shown c.args.access.now).late → OnOk c.read_walk.result (ReadsRegion (array_at c.args.plan.now.arrays w.array) w.region.lo w.region.hi (Some held) c.read_walk.new.out)) same c.read_walk.ensures.read held known.0 steady in
-    on_ok_then c.read_walk.result (λ reads. subst (λ (o : Op). (idx : List ℕ) → IsWithin (task_lo c.args.plan.now.arrays o c.args.task) (task_hi c.args.plan.now.arrays o c.args.task) idx → rule o c.args.plan.now.arrays (stored_inputs c.args.plan.now.arrays held) (target_of o) idx ≡ buffer_element (type_at c.args.plan.now.arrays (target_of o)) (task_lo c.args.plan.now.arrays o c.args.task) (task_hi c.args.plan.now.arrays o c.args.task) c.read_walk.new.out idx) (sym copy.is)
-    (λ idx w. reads idx w ∙ ap (λ (t : Dtype). buffer_element t (task_lo c.args.plan.now.arrays operation c.args.task) (task_hi c.args.plan.now.arrays operation c.args.task) c.read_walk.new.out idx) fit.2.types)) read
+    let fit = subst (Fit c.args.task.now.plan.arrays c.args.task.now.op) copy.is (fit_of c.args.task.now.plan c.input_walk-walk.ensures.sound c.args.task.now.op c.args.task.now.operation) in
+    let same : c.input_walk-walk.result ≡ (walk copy.source (task_lo c.args.task.now.plan.arrays operation c.args.task.now.number) (task_hi c.args.task.now.plan.arrays operation c.args.task.now.number)) = c.input_walk-walk.ensures.walk ∙ ap (λ (o : Op). slice_index_or (input_walks c.args.task.now.plan.arrays o c.args.task.now.number) 0 none) copy.is in
+    let steady = subst (λ (o : Op). IsSteady (IsWalkKey c.args.task.now.plan.arrays (input_walks c.args.task.now.plan.arrays o c.args.task.now.number)) (Some held) (g.C.Chunks.shown c.args.access.now).late) copy.is known.1 in
+    let read = subst (λ (w : Walk). (held : Contents) → (g.C.Chunks.shown c.args.access.now).held ≡ Some held → IsSteady (IsWalkKey c.args.task.now.plan.arrays (w ∷ [])) (Some held) (g.C.Chunks.shown c.args.access.now).late → OnOk c.read_walk.result (ReadsRegion (array_at c.args.task.now.plan.arrays w.array) w.region.lo w.region.hi (Some held) c.read_walk.new.out)) same c.read_walk.ensures.read held known.0 steady in
+    on_ok_then c.read_walk.result (λ reads. subst (λ (o : Op). (idx : List ℕ) → IsWithin (task_lo c.args.task.now.plan.arrays o c.args.task.now.number) (task_hi c.args.task.now.plan.arrays o c.args.task.now.number) idx → rule o c.args.task.now.plan.arrays (stored_inputs c.args.task.now.plan.arrays held) (target_of o) idx ≡ buffer_element (type_at c.args.task.now.plan.arrays (target_of o)) (task_lo c.args.task.now.plan.arrays o c.args.task.now.number) (task_hi c.args.task.now.plan.arrays o c.args.task.now.number) c.read_walk.new.out idx) (sym copy.is)
+    (λ idx w. reads idx w ∙ ap (λ (t : Dtype). buffer_element t (task_lo c.args.task.now.plan.arrays operation c.args.task.now.number) (task_hi c.args.task.now.plan.arrays operation c.args.task.now.number) c.read_walk.new.out idx) fit.2.types)) read
 
 pub returns-clause-elements : goal.returns-clause-elements
 returns-clause-elements g c =
-    let copy = copied (op_of c.args.plan.now c.args.op) c.requires.copy in
+    let copy = copied (op_of c.args.task.now.plan c.args.task.now.op) c.requires.copy in
     let operation = Copy copy.region copy.source copy.out in
-    let fit = subst (Fit c.args.plan.now.arrays c.args.op) copy.is (fit_of c.args.plan.now c.operation-planned.ensures.sound c.args.op c.requires.operation) in
-    let same : c.input_walk-walk.result ≡ (walk copy.source (task_lo c.args.plan.now.arrays operation c.args.task) (task_hi c.args.plan.now.arrays operation c.args.task)) = c.input_walk-walk.ensures.walk ∙ ap (λ (o : Op). slice_index_or (input_walks c.args.plan.now.arrays o c.args.task) 0 none) copy.is in
-    let elements = subst (λ (w : Walk). OnOk c.read_walk.result (AreElements (type_at c.args.plan.now.arrays w.array) c.read_walk.new.out)) same c.read_walk.ensures.elements in
-    on_ok_then c.read_walk.result (λ each. subst (λ (o : Op). AreElements (type_at c.args.plan.now.arrays (target_of o)) c.read_walk.new.out) (sym copy.is) (subst (λ (t : Dtype). AreElements t c.read_walk.new.out) fit.2.types each)) elements
+    let fit = subst (Fit c.args.task.now.plan.arrays c.args.task.now.op) copy.is (fit_of c.args.task.now.plan c.input_walk-walk.ensures.sound c.args.task.now.op c.args.task.now.operation) in
+    let same : c.input_walk-walk.result ≡ (walk copy.source (task_lo c.args.task.now.plan.arrays operation c.args.task.now.number) (task_hi c.args.task.now.plan.arrays operation c.args.task.now.number)) = c.input_walk-walk.ensures.walk ∙ ap (λ (o : Op). slice_index_or (input_walks c.args.task.now.plan.arrays o c.args.task.now.number) 0 none) copy.is in
+    let elements = subst (λ (w : Walk). OnOk c.read_walk.result (AreElements (type_at c.args.task.now.plan.arrays w.array) c.read_walk.new.out)) same c.read_walk.ensures.elements in
+    on_ok_then c.read_walk.result (λ each. subst (λ (o : Op). AreElements (type_at c.args.task.now.plan.arrays (target_of o)) c.read_walk.new.out) (sym copy.is) (subst (λ (t : Dtype). AreElements t c.read_walk.new.out) fit.2.types each)) elements
 
 pub returns-clause-step : goal.returns-clause-step
 returns-clause-step g c =
-    let copy = copied (op_of c.args.plan.now c.args.op) c.requires.copy in
+    let copy = copied (op_of c.args.task.now.plan c.args.task.now.op) c.requires.copy in
     let operation = Copy copy.region copy.source copy.out in
-    let same : c.input_walk-walk.result ≡ (walk copy.source (task_lo c.args.plan.now.arrays operation c.args.task) (task_hi c.args.plan.now.arrays operation c.args.task)) = c.input_walk-walk.ensures.walk ∙ ap (λ (o : Op). slice_index_or (input_walks c.args.plan.now.arrays o c.args.task) 0 none) copy.is in
-    let calls : read_calls c.args.plan.now.arrays (op_of c.args.plan.now c.args.op) c.args.task ≡ length (walk_cells c.args.plan.now.arrays c.input_walk-walk.result) = ap (λ (o : Op). read_calls c.args.plan.now.arrays o c.args.task) copy.is ∙ ap length (append-nil (walk_cells c.args.plan.now.arrays (walk copy.source (task_lo c.args.plan.now.arrays operation c.args.task) (task_hi c.args.plan.now.arrays operation c.args.task)))) ∙ ap (λ (w : Walk). length (walk_cells c.args.plan.now.arrays w)) (sym same) in
+    let same : c.input_walk-walk.result ≡ (walk copy.source (task_lo c.args.task.now.plan.arrays operation c.args.task.now.number) (task_hi c.args.task.now.plan.arrays operation c.args.task.now.number)) = c.input_walk-walk.ensures.walk ∙ ap (λ (o : Op). slice_index_or (input_walks c.args.task.now.plan.arrays o c.args.task.now.number) 0 none) copy.is in
+    let calls : read_calls c.args.task.now.plan.arrays (op_of c.args.task.now.plan c.args.task.now.op) c.args.task.now.number ≡ length (walk_cells c.args.task.now.plan.arrays c.input_walk-walk.result) = ap (λ (o : Op). read_calls c.args.task.now.plan.arrays o c.args.task.now.number) copy.is ∙ ap length (append-nil (walk_cells c.args.task.now.plan.arrays (walk copy.source (task_lo c.args.task.now.plan.arrays operation c.args.task.now.number) (task_hi c.args.task.now.plan.arrays operation c.args.task.now.number)))) ∙ ap (λ (w : Walk). length (walk_cells c.args.task.now.plan.arrays w)) (sym same) in
     subst (λ (n : ℕ). Steps NoChange 0 n (g.C.Chunks.shown c.args.access.now) (g.C.Chunks.shown c.read_walk.new.access)) (sym calls) c.read_walk.ensures.step
 
 pub returns-clause-all : goal.returns-clause-all
 returns-clause-all g c =
-    let copy = copied (op_of c.args.plan.now c.args.op) c.requires.copy in
+    let copy = copied (op_of c.args.task.now.plan c.args.task.now.op) c.requires.copy in
     let operation = Copy copy.region copy.source copy.out in
-    let same : c.input_walk-walk.result ≡ (walk copy.source (task_lo c.args.plan.now.arrays operation c.args.task) (task_hi c.args.plan.now.arrays operation c.args.task)) = c.input_walk-walk.ensures.walk ∙ ap (λ (o : Op). slice_index_or (input_walks c.args.plan.now.arrays o c.args.task) 0 none) copy.is in
-    let calls : read_calls c.args.plan.now.arrays (op_of c.args.plan.now c.args.op) c.args.task ≡ length (walk_cells c.args.plan.now.arrays c.input_walk-walk.result) = ap (λ (o : Op). read_calls c.args.plan.now.arrays o c.args.task) copy.is ∙ ap length (append-nil (walk_cells c.args.plan.now.arrays (walk copy.source (task_lo c.args.plan.now.arrays operation c.args.task) (task_hi c.args.plan.now.arrays operation c.args.task)))) ∙ ap (λ (w : Walk). length (walk_cells c.args.plan.now.arrays w)) (sym same) in
+    let same : c.input_walk-walk.result ≡ (walk copy.source (task_lo c.args.task.now.plan.arrays operation c.args.task.now.number) (task_hi c.args.task.now.plan.arrays operation c.args.task.now.number)) = c.input_walk-walk.ensures.walk ∙ ap (λ (o : Op). slice_index_or (input_walks c.args.task.now.plan.arrays o c.args.task.now.number) 0 none) copy.is in
+    let calls : read_calls c.args.task.now.plan.arrays (op_of c.args.task.now.plan c.args.task.now.op) c.args.task.now.number ≡ length (walk_cells c.args.task.now.plan.arrays c.input_walk-walk.result) = ap (λ (o : Op). read_calls c.args.task.now.plan.arrays o c.args.task.now.number) copy.is ∙ ap length (append-nil (walk_cells c.args.task.now.plan.arrays (walk copy.source (task_lo c.args.task.now.plan.arrays operation c.args.task.now.number) (task_hi c.args.task.now.plan.arrays operation c.args.task.now.number)))) ∙ ap (λ (w : Walk). length (walk_cells c.args.task.now.plan.arrays w)) (sym same) in
     subst (λ (n : ℕ). OnOk c.read_walk.result (Made n (g.C.Chunks.shown c.args.access.now).calls (g.C.Chunks.shown c.read_walk.new.access).calls)) (sym calls) c.read_walk.ensures.all
 
 pub returns-clause-cause : goal.returns-clause-cause
 returns-clause-cause g c =
-    let copy = copied (op_of c.args.plan.now c.args.op) c.requires.copy in
+    let copy = copied (op_of c.args.task.now.plan c.args.task.now.op) c.requires.copy in
     let operation = Copy copy.region copy.source copy.out in
-    let same : c.input_walk-walk.result ≡ (walk copy.source (task_lo c.args.plan.now.arrays operation c.args.task) (task_hi c.args.plan.now.arrays operation c.args.task)) = c.input_walk-walk.ensures.walk ∙ ap (λ (o : Op). slice_index_or (input_walks c.args.plan.now.arrays o c.args.task) 0 none) copy.is in
-    let cause = subst (λ (w : Walk). IfErr c.read_walk.result (IsTaskInputFault (g.C.Chunks.shown c.args.access.now) (g.C.Chunks.shown c.read_walk.new.access) c.args.plan.now.arrays (w ∷ []))) same c.read_walk.ensures.cause in
-    on_err_more c.read_walk.result (λ e fault. read_fault c.args.plan.now c.operation-planned.ensures.sound c.args.op c.args.task c.requires.operation c.requires.task (g.C.Chunks.shown c.args.access.now) (g.C.Chunks.shown c.read_walk.new.access) e (subst (λ (o : Op). IsTaskInputFault (g.C.Chunks.shown c.args.access.now) (g.C.Chunks.shown c.read_walk.new.access) c.args.plan.now.arrays (input_walks c.args.plan.now.arrays o c.args.task) e) (sym copy.is) fault)) cause
+    let same : c.input_walk-walk.result ≡ (walk copy.source (task_lo c.args.task.now.plan.arrays operation c.args.task.now.number) (task_hi c.args.task.now.plan.arrays operation c.args.task.now.number)) = c.input_walk-walk.ensures.walk ∙ ap (λ (o : Op). slice_index_or (input_walks c.args.task.now.plan.arrays o c.args.task.now.number) 0 none) copy.is in
+    let cause = subst (λ (w : Walk). IfErr c.read_walk.result (IsTaskInputFault (g.C.Chunks.shown c.args.access.now) (g.C.Chunks.shown c.read_walk.new.access) c.args.task.now.plan.arrays (w ∷ []))) same c.read_walk.ensures.cause in
+    on_err_more c.read_walk.result (λ e fault. read_fault c.args.task.now.plan c.input_walk-walk.ensures.sound c.args.task.now.op c.args.task.now.number c.args.task.now.operation c.args.task.now.within (g.C.Chunks.shown c.args.access.now) (g.C.Chunks.shown c.read_walk.new.access) e (subst (λ (o : Op). IsTaskInputFault (g.C.Chunks.shown c.args.access.now) (g.C.Chunks.shown c.read_walk.new.access) c.args.task.now.plan.arrays (input_walks c.args.task.now.plan.arrays o c.args.task.now.number) e) (sym copy.is) fault)) cause

@@ -21,13 +21,13 @@ room_left all behind cut room rest e b s = omega arith
 
 pub read_inputs-requires : goal.read_inputs-requires
 read_inputs-requires g t c κs sub =
-    let arrays = c.args.plan.now.arrays in
+    let arrays = c.args.task.now.plan.arrays in
     let split = split_first c.args.walks.now c.walk-item.result (omega arith) c.walk-item.is in
     let rest = take (length c.args.walks.now - 1) (drop 1 c.args.walks.now) in
-    let room : room_of_walks c.args.plan.now.arrays (c.walk-item.result ∷ take (length c.args.walks.now - 1) (drop 1 c.args.walks.now)) ≤ length c.args.inputs.now =
-    subst (λ (ws : List Walk). room_of_walks c.args.plan.now.arrays ws ≤ length c.args.inputs.now) split c.requires.room in
-    let scratch : All (λ (w : Walk). chunk_room c.args.plan.now.arrays w.array ≤ length c.read_walk.new.scratch) c.args.walks.now =
-    All-weaker (λ (w : Walk). chunk_room c.args.plan.now.arrays w.array ≤ length c.args.scratch.now) (λ (w : Walk). chunk_room c.args.plan.now.arrays w.array ≤ length c.read_walk.new.scratch)
+    let room : room_of_walks c.args.task.now.plan.arrays (c.walk-item.result ∷ take (length c.args.walks.now - 1) (drop 1 c.args.walks.now)) ≤ length c.args.inputs.now =
+    subst (λ (ws : List Walk). room_of_walks c.args.task.now.plan.arrays ws ≤ length c.args.inputs.now) split c.requires.room in
+    let scratch : All (λ (w : Walk). chunk_room c.args.task.now.plan.arrays w.array ≤ length c.read_walk.new.scratch) c.args.walks.now =
+    All-weaker (λ (w : Walk). chunk_room c.args.task.now.plan.arrays w.array ≤ length c.args.scratch.now) (λ (w : Walk). chunk_room c.args.task.now.plan.arrays w.array ≤ length c.read_walk.new.scratch)
     (λ w h. omega arith) c.args.walks.now c.requires.scratch in (
       search rules,
       (
@@ -39,17 +39,17 @@ read_inputs-requires g t c κs sub =
             (
               c.read_walk.ensures.open.belongs,
               (
-                (λ key here. c.read_walk.ensures.open.gets key (c.requires.may key (subst (λ (ws : List Walk). IsWalkKey c.args.plan.now.arrays ws key) (sym split) (rest_key c.args.plan.now.arrays c.walk-item.result rest key here)))),
+                (λ key here. c.read_walk.ensures.open.gets key (c.requires.may key (subst (λ (ws : List Walk). IsWalkKey c.args.task.now.plan.arrays ws key) (sym split) (rest_key c.args.task.now.plan.arrays c.walk-item.result rest key here)))),
                 (
-                  All-tail (IsWalkOver c.args.plan.now.arrays) c.walk-item.result (take (length c.args.walks.now - 1) (drop 1 c.args.walks.now)) (subst (All (IsWalkOver c.args.plan.now.arrays)) split c.requires.walks),
+                  All-tail (IsWalkOver c.args.task.now.plan.arrays) c.walk-item.result (take (length c.args.walks.now - 1) (drop 1 c.args.walks.now)) (subst (All (IsWalkOver c.args.task.now.plan.arrays)) split c.requires.walks),
                   (
                     (let own = c.walk_bytes.ensures.bytes in let back = c.split_at_mut-own.ensures.back_len in
-                        let sum : walk_room c.args.plan.now.arrays c.walk-item.result + room_of_walks c.args.plan.now.arrays (take (length c.args.walks.now - 1) (drop 1 c.args.walks.now)) ≤ length c.args.inputs.now =
-                        subst (λ (n : ℕ). n ≤ length c.args.inputs.now) (sum_by-cons (walk_room c.args.plan.now.arrays) c.walk-item.result (take (length c.args.walks.now - 1) (drop 1 c.args.walks.now))) room in
-                        room_left (length c.args.inputs.now) (length c.split_at_mut-own.result.1.now) c.walk_bytes.result (walk_room c.args.plan.now.arrays c.walk-item.result)
-                        (room_of_walks c.args.plan.now.arrays (take (length c.args.walks.now - 1) (drop 1 c.args.walks.now))) own back sum),
-                    All-tail (λ (w : Walk). chunk_room c.args.plan.now.arrays w.array ≤ length c.read_walk.new.scratch) c.walk-item.result (take (length c.args.walks.now - 1) (drop 1 c.args.walks.now))
-                        (subst (All (λ (w : Walk). chunk_room c.args.plan.now.arrays w.array ≤ length c.read_walk.new.scratch)) split scratch),
+                        let sum : walk_room c.args.task.now.plan.arrays c.walk-item.result + room_of_walks c.args.task.now.plan.arrays (take (length c.args.walks.now - 1) (drop 1 c.args.walks.now)) ≤ length c.args.inputs.now =
+                        subst (λ (n : ℕ). n ≤ length c.args.inputs.now) (sum_by-cons (walk_room c.args.task.now.plan.arrays) c.walk-item.result (take (length c.args.walks.now - 1) (drop 1 c.args.walks.now))) room in
+                        room_left (length c.args.inputs.now) (length c.split_at_mut-own.result.1.now) c.walk_bytes.result (walk_room c.args.task.now.plan.arrays c.walk-item.result)
+                        (room_of_walks c.args.task.now.plan.arrays (take (length c.args.walks.now - 1) (drop 1 c.args.walks.now))) own back sum),
+                    All-tail (λ (w : Walk). chunk_room c.args.task.now.plan.arrays w.array ≤ length c.read_walk.new.scratch) c.walk-item.result (take (length c.args.walks.now - 1) (drop 1 c.args.walks.now))
+                        (subst (All (λ (w : Walk). chunk_room c.args.task.now.plan.arrays w.array ≤ length c.read_walk.new.scratch)) split scratch),
                   ),
                 ),
               ),
@@ -63,51 +63,51 @@ pub returns-in_err-read_walk-in-len1-up-clause-cause : goal.returns-in_err-read_
 returns-in_err-read_walk-in-len1-up-clause-cause g t c =
     let split = split_first c.args.walks.now c.walk-item.result (omega arith) c.walk-item.is in
     let p = err_from_is_err_and c.from_residual.result c.from_residual.ensures.1 in
-    rw (p.1, p.2) (subst (λ (ws : List Walk). IsTaskInputFault (g.C.Chunks.shown c.args.access.now) (g.C.Chunks.shown c.read_walk.new.access) c.args.plan.now.arrays ws c.in_err-read_walk-in-len1-up.field-0.0) (sym split)
-    (first_fault (g.C.Chunks.shown c.args.access.now) (g.C.Chunks.shown c.read_walk.new.access) c.args.plan.now.arrays c.walk-item.result (take (length c.args.walks.now - 1) (drop 1 c.args.walks.now))
+    rw (p.1, p.2) (subst (λ (ws : List Walk). IsTaskInputFault (g.C.Chunks.shown c.args.access.now) (g.C.Chunks.shown c.read_walk.new.access) c.args.task.now.plan.arrays ws c.in_err-read_walk-in-len1-up.field-0.0) (sym split)
+    (first_fault (g.C.Chunks.shown c.args.access.now) (g.C.Chunks.shown c.read_walk.new.access) c.args.task.now.plan.arrays c.walk-item.result (take (length c.args.walks.now - 1) (drop 1 c.args.walks.now))
     c.in_err-read_walk-in-len1-up.field-0.0 c.in_err-read_walk-in-len1-up.ensures.cause))
 
 pub returns-in_ok-read_walk-in-len1-up-clause-read : goal.returns-in_ok-read_walk-in-len1-up-clause-read
 returns-in_ok-read_walk-in-len1-up-clause-read g t c held told steady =
     let split = split_first c.args.walks.now c.walk-item.result (omega arith) c.walk-item.is in
-    let walks = subst (All (IsWalkOver c.args.plan.now.arrays)) split c.requires.walks in
-    let others = All-tail (IsWalkOver c.args.plan.now.arrays) c.walk-item.result (take (length c.args.walks.now - 1) (drop 1 c.args.walks.now)) walks in
-    let over = All-weaker (IsWalkOver c.args.plan.now.arrays) (λ (w : Walk). IsGrid (grid_at c.args.plan.now.arrays w.array) × IsWalkOver c.args.plan.now.arrays w)
-    (λ w h. (grid_ok c.args.plan.now w.array c.walk_bytes.ensures.sound h.0, h)) (take (length c.args.walks.now - 1) (drop 1 c.args.walks.now)) others in
-    let all : IsSteady (IsWalkKey c.args.plan.now.arrays (c.walk-item.result ∷ take (length c.args.walks.now - 1) (drop 1 c.args.walks.now))) (Some held) (g.C.Chunks.shown c.args.access.now).late =
-    subst (λ (ws : List Walk). IsSteady (IsWalkKey c.args.plan.now.arrays ws) (Some held) (g.C.Chunks.shown c.args.access.now).late) split steady in
-    let first : IsSteady (IsWalkKey c.args.plan.now.arrays (c.walk-item.result ∷ [])) (Some held) (g.C.Chunks.shown c.args.access.now).late =
-    λ key bytes here among. all key bytes (first_key c.args.plan.now.arrays c.walk-item.result (take (length c.args.walks.now - 1) (drop 1 c.args.walks.now)) key here) among in
-    let behind : IsSteady (IsWalkKey c.args.plan.now.arrays (take (length c.args.walks.now - 1) (drop 1 c.args.walks.now))) (Some held) (g.C.Chunks.shown c.args.access.now).late =
-    λ key bytes here among. all key bytes (rest_key c.args.plan.now.arrays c.walk-item.result (take (length c.args.walks.now - 1) (drop 1 c.args.walks.now)) key here) among in
-    let mid = stays (IsWalkKey c.args.plan.now.arrays (take (length c.args.walks.now - 1) (drop 1 c.args.walks.now))) 0 (length (walk_cells c.args.plan.now.arrays c.walk-item.result)) held
+    let walks = subst (All (IsWalkOver c.args.task.now.plan.arrays)) split c.requires.walks in
+    let others = All-tail (IsWalkOver c.args.task.now.plan.arrays) c.walk-item.result (take (length c.args.walks.now - 1) (drop 1 c.args.walks.now)) walks in
+    let over = All-weaker (IsWalkOver c.args.task.now.plan.arrays) (λ (w : Walk). IsGrid (grid_at c.args.task.now.plan.arrays w.array) × IsWalkOver c.args.task.now.plan.arrays w)
+    (λ w h. (grid_ok c.args.task.now.plan w.array c.walk_bytes.ensures.sound h.0, h)) (take (length c.args.walks.now - 1) (drop 1 c.args.walks.now)) others in
+    let all : IsSteady (IsWalkKey c.args.task.now.plan.arrays (c.walk-item.result ∷ take (length c.args.walks.now - 1) (drop 1 c.args.walks.now))) (Some held) (g.C.Chunks.shown c.args.access.now).late =
+    subst (λ (ws : List Walk). IsSteady (IsWalkKey c.args.task.now.plan.arrays ws) (Some held) (g.C.Chunks.shown c.args.access.now).late) split steady in
+    let first : IsSteady (IsWalkKey c.args.task.now.plan.arrays (c.walk-item.result ∷ [])) (Some held) (g.C.Chunks.shown c.args.access.now).late =
+    λ key bytes here among. all key bytes (first_key c.args.task.now.plan.arrays c.walk-item.result (take (length c.args.walks.now - 1) (drop 1 c.args.walks.now)) key here) among in
+    let behind : IsSteady (IsWalkKey c.args.task.now.plan.arrays (take (length c.args.walks.now - 1) (drop 1 c.args.walks.now))) (Some held) (g.C.Chunks.shown c.args.access.now).late =
+    λ key bytes here among. all key bytes (rest_key c.args.task.now.plan.arrays c.walk-item.result (take (length c.args.walks.now - 1) (drop 1 c.args.walks.now)) key here) among in
+    let mid = stays (IsWalkKey c.args.task.now.plan.arrays (take (length c.args.walks.now - 1) (drop 1 c.args.walks.now))) 0 (length (walk_cells c.args.task.now.plan.arrays c.walk-item.result)) held
     (g.C.Chunks.shown c.args.access.now) (g.C.Chunks.shown c.read_walk.new.access) told behind c.read_walk.ensures.step in
     let size = c.walk_bytes.ensures.bytes in
-    let long : length c.read_walk.new.out ≡ walk_room c.args.plan.now.arrays c.walk-item.result = (let front_len = c.split_at_mut-own.ensures.front_len in omega arith) in
+    let long : length c.read_walk.new.out ≡ walk_room c.args.task.now.plan.arrays c.walk-item.result = (let front_len = c.split_at_mut-own.ensures.front_len in omega arith) in
     let front = c.in_ok-read_walk-in-len1-up.ensures.read held told first in
     on_ok_then c.read_inputs.result
-    (λ has. subst (λ (ws : List Walk). HasRegions c.args.plan.now.arrays held ws (c.read_walk.new.out ++ c.read_inputs.new.inputs)) (sym split)
-    (regions_more c.args.plan.now.arrays c.walk-item.result (take (length c.args.walks.now - 1) (drop 1 c.args.walks.now)) held c.read_walk.new.out c.read_inputs.new.inputs long front
-    (regions_before c.args.plan.now.arrays (take (length c.args.walks.now - 1) (drop 1 c.args.walks.now)) held mid.now c.read_inputs.new.inputs over mid.same has)))
+    (λ has. subst (λ (ws : List Walk). HasRegions c.args.task.now.plan.arrays held ws (c.read_walk.new.out ++ c.read_inputs.new.inputs)) (sym split)
+    (regions_more c.args.task.now.plan.arrays c.walk-item.result (take (length c.args.walks.now - 1) (drop 1 c.args.walks.now)) held c.read_walk.new.out c.read_inputs.new.inputs long front
+    (regions_before c.args.task.now.plan.arrays (take (length c.args.walks.now - 1) (drop 1 c.args.walks.now)) held mid.now c.read_inputs.new.inputs over mid.same has)))
     (c.read_inputs.ensures.read mid.now mid.told mid.steady)
 
 pub returns-in_ok-read_walk-in-len1-up-clause-step : goal.returns-in_ok-read_walk-in-len1-up-clause-step
 returns-in_ok-read_walk-in-len1-up-clause-step g t c =
     let split = split_first c.args.walks.now c.walk-item.result (omega arith) c.walk-item.is in
-    let rest = cells_of_walks c.args.plan.now.arrays (take (length c.args.walks.now - 1) (drop 1 c.args.walks.now)) in
-    let n = length-append (walk_cells c.args.plan.now.arrays c.walk-item.result) (cells_of_walks c.args.plan.now.arrays (take (length c.args.walks.now - 1) (drop 1 c.args.walks.now))) in
-    subst (λ (ws : List Walk). Steps NoChange 0 (length (cells_of_walks c.args.plan.now.arrays ws)) (g.C.Chunks.shown c.args.access.now) (g.C.Chunks.shown c.read_inputs.new.access)) (sym split)
+    let rest = cells_of_walks c.args.task.now.plan.arrays (take (length c.args.walks.now - 1) (drop 1 c.args.walks.now)) in
+    let n = length-append (walk_cells c.args.task.now.plan.arrays c.walk-item.result) (cells_of_walks c.args.task.now.plan.arrays (take (length c.args.walks.now - 1) (drop 1 c.args.walks.now))) in
+    subst (λ (ws : List Walk). Steps NoChange 0 (length (cells_of_walks c.args.task.now.plan.arrays ws)) (g.C.Chunks.shown c.args.access.now) (g.C.Chunks.shown c.read_inputs.new.access)) (sym split)
     (steps_wider (λ key value none. none) (omega arith) (omega arith) (steps_then c.read_walk.ensures.step c.read_inputs.ensures.step))
 
 pub returns-in_ok-read_walk-in-len1-up-clause-all : goal.returns-in_ok-read_walk-in-len1-up-clause-all
 returns-in_ok-read_walk-in-len1-up-clause-all g t c =
     let split = split_first c.args.walks.now c.walk-item.result (omega arith) c.walk-item.is in
-    let n = length-append (walk_cells c.args.plan.now.arrays c.walk-item.result) (cells_of_walks c.args.plan.now.arrays (take (length c.args.walks.now - 1) (drop 1 c.args.walks.now))) in
+    let n = length-append (walk_cells c.args.task.now.plan.arrays c.walk-item.result) (cells_of_walks c.args.task.now.plan.arrays (take (length c.args.walks.now - 1) (drop 1 c.args.walks.now))) in
     on_ok_then c.read_inputs.result
-    (λ made. subst (λ (ws : List Walk). Made (length (cells_of_walks c.args.plan.now.arrays ws)) (g.C.Chunks.shown c.args.access.now).calls (g.C.Chunks.shown c.read_inputs.new.access).calls) (sym split)
+    (λ made. subst (λ (ws : List Walk). Made (length (cells_of_walks c.args.task.now.plan.arrays ws)) (g.C.Chunks.shown c.args.access.now).calls (g.C.Chunks.shown c.read_inputs.new.access).calls) (sym split)
     (subst (λ (m : ℕ). Made m (g.C.Chunks.shown c.args.access.now).calls (g.C.Chunks.shown c.read_inputs.new.access).calls) (sym n)
     (all_made (g.C.Chunks.shown c.args.access.now).calls (g.C.Chunks.shown c.read_walk.new.access).calls (g.C.Chunks.shown c.read_inputs.new.access).calls
-    (length (walk_cells c.args.plan.now.arrays c.walk-item.result)) (length (cells_of_walks c.args.plan.now.arrays (take (length c.args.walks.now - 1) (drop 1 c.args.walks.now))))
+    (length (walk_cells c.args.task.now.plan.arrays c.walk-item.result)) (length (cells_of_walks c.args.task.now.plan.arrays (take (length c.args.walks.now - 1) (drop 1 c.args.walks.now))))
     c.in_ok-read_walk-in-len1-up.ensures.all made)))
     c.read_inputs.ensures.all
 
@@ -115,21 +115,21 @@ pub returns-in_ok-read_walk-in-len1-up-clause-cause : goal.returns-in_ok-read_wa
 returns-in_ok-read_walk-in-len1-up-clause-cause g t c =
     let split = split_first c.args.walks.now c.walk-item.result (omega arith) c.walk-item.is in
     on_err_more c.read_inputs.result
-    (λ e h. subst (λ (ws : List Walk). IsTaskInputFault (g.C.Chunks.shown c.args.access.now) (g.C.Chunks.shown c.read_inputs.new.access) c.args.plan.now.arrays ws e) (sym split)
-    (rest_fault (g.C.Chunks.shown c.args.access.now) (g.C.Chunks.shown c.read_walk.new.access) (g.C.Chunks.shown c.read_inputs.new.access) c.args.plan.now.arrays c.walk-item.result
+    (λ e h. subst (λ (ws : List Walk). IsTaskInputFault (g.C.Chunks.shown c.args.access.now) (g.C.Chunks.shown c.read_inputs.new.access) c.args.task.now.plan.arrays ws e) (sym split)
+    (rest_fault (g.C.Chunks.shown c.args.access.now) (g.C.Chunks.shown c.read_walk.new.access) (g.C.Chunks.shown c.read_inputs.new.access) c.args.task.now.plan.arrays c.walk-item.result
     (take (length c.args.walks.now - 1) (drop 1 c.args.walks.now)) e c.read_walk.ensures.step.count h))
     c.read_inputs.ensures.cause
 
 pub read_walk-requires-clause-may : goal.read_walk-requires-clause-may
 read_walk-requires-clause-may g t c key here =
     let split = split_first c.args.walks.now c.walk-item.result (omega arith) c.walk-item.is in
-    c.requires.may key (subst (λ (ws : List Walk). IsWalkKey c.args.plan.now.arrays ws key) (sym split) (first_key c.args.plan.now.arrays c.walk-item.result (take (length c.args.walks.now - 1) (drop 1 c.args.walks.now)) key here))
+    c.requires.may key (subst (λ (ws : List Walk). IsWalkKey c.args.task.now.plan.arrays ws key) (sym split) (first_key c.args.task.now.plan.arrays c.walk-item.result (take (length c.args.walks.now - 1) (drop 1 c.args.walks.now)) key here))
 
 pub returns-in_err-read_walk-in-len1-up-clause-step : goal.returns-in_err-read_walk-in-len1-up-clause-step
 returns-in_err-read_walk-in-len1-up-clause-step g t c =
     let split = split_first c.args.walks.now c.walk-item.result (omega arith) c.walk-item.is in
-    let n = length-append (walk_cells c.args.plan.now.arrays c.walk-item.result) (cells_of_walks c.args.plan.now.arrays (take (length c.args.walks.now - 1) (drop 1 c.args.walks.now))) in
-    subst (λ (ws : List Walk). Steps NoChange 0 (length (cells_of_walks c.args.plan.now.arrays ws)) (g.C.Chunks.shown c.args.access.now) (g.C.Chunks.shown c.read_walk.new.access)) (sym split)
+    let n = length-append (walk_cells c.args.task.now.plan.arrays c.walk-item.result) (cells_of_walks c.args.task.now.plan.arrays (take (length c.args.walks.now - 1) (drop 1 c.args.walks.now))) in
+    subst (λ (ws : List Walk). Steps NoChange 0 (length (cells_of_walks c.args.task.now.plan.arrays ws)) (g.C.Chunks.shown c.args.access.now) (g.C.Chunks.shown c.read_walk.new.access)) (sym split)
     (steps_wider (λ key value none. none) (omega arith) (omega arith) c.read_walk.ensures.step)
 
 pub returns-in_ok-read_walk-in-len1-up-clause-open : goal.returns-in_ok-read_walk-in-len1-up-clause-open

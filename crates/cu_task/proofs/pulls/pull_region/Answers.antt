@@ -27,20 +27,20 @@ read_sources-requires-clause-output g c = c.lay_numbers.auto.output ∙ c.requir
 
 pub read_sources-requires-clause-scratch : goal.read_sources-requires-clause-scratch
 read_sources-requires-clause-scratch g c =
-    let o = of_pull c.args.plan.now c.args.op (op_of c.args.plan.now c.args.op) c.args.task c.args.job.now.pull.now c.args.job.now.ins.now (fit_of c.args.plan.now c.requires.sound c.args.op c.requires.operation) c.requires.pull in
+    let o = of_pull c.args.task.now.plan c.args.task.now.op (op_of c.args.task.now.plan c.args.task.now.op) c.args.task.now.number c.args.job.now.pull.now c.args.job.now.ins.now (fit_of c.args.task.now.plan c.requires.sound c.args.task.now.op c.args.task.now.operation) c.requires.pull in
     subst (λ (v : ViewTask). (source : ℕ) → source < length v.ins → chunk_room v.arrays (slice_index v.ins source) ≤ length c.args.scratch.now) (sym c.requires.view)
-    (λ source below. let most = scratch_read c.args.plan.now.arrays (op_of c.args.plan.now c.args.op) (slice_index c.args.job.now.ins.now source) (o.among source below) in let room = c.requires.scratch in omega (arith, most, room))
+    (λ source below. let most = scratch_read c.args.task.now.plan.arrays (op_of c.args.task.now.plan c.args.task.now.op) (slice_index c.args.job.now.ins.now source) (o.among source below) in let room = c.requires.scratch in omega (arith, most, room))
 
 pub returns-clause-values : goal.returns-clause-values
 returns-clause-values g c held known =
-    let o = of_pull c.args.plan.now c.args.op (op_of c.args.plan.now c.args.op) c.args.task c.args.job.now.pull.now c.args.job.now.ins.now (fit_of c.args.plan.now c.requires.sound c.args.op c.requires.operation) c.requires.pull in
+    let o = of_pull c.args.task.now.plan c.args.task.now.op (op_of c.args.task.now.plan c.args.task.now.op) c.args.task.now.number c.args.job.now.pull.now c.args.job.now.ins.now (fit_of c.args.task.now.plan c.requires.sound c.args.task.now.op c.args.task.now.operation) c.requires.pull in
     let fit = subst IsFitting c.requires.view (fitting c.args.job.now c.requires.job) in
     let pulled = subst (λ (v : ViewTask). (told : Option Contents) → ((source : ℕ) → source < length v.ins → IsKnown (IsSourceKey v source) told (g.C.Chunks.shown c.args.access.now)) → HasPulled v 0 told c.lay_numbers.new.output
     → OnOk c.read_sources.result (HasPulled v (length v.ins) told c.read_sources.new.output)) c.requires.view c.read_sources.ensures.pulled in
     let first = subst (λ (v : ViewTask). HasPulled v 0 (Some held) c.lay_numbers.new.output) c.requires.view (c.lay_numbers.ensures (Some held)) in
     on_ok_then c.read_sources.result
-    (λ has idx w. o.value _ idx ∙ has_values (view_task c.args.plan.now.arrays c.args.job.now.pull.now c.args.job.now.ins.now (target_of (op_of c.args.plan.now c.args.op)) (task_lo c.args.plan.now.arrays (op_of c.args.plan.now c.args.op) c.args.task) (task_hi c.args.plan.now.arrays (op_of c.args.plan.now c.args.op) c.args.task)) fit held c.read_sources.new.output has idx w)
-    (pulled (Some held) (known_sources c.args.plan.now c.requires.sound (op_of c.args.plan.now c.args.op) c.args.task c.args.job.now.pull.now c.args.job.now.ins.now o held (g.C.Chunks.shown c.args.access.now) known.0 known.1) first)
+    (λ has idx w. o.value _ idx ∙ has_values (view_task c.args.task.now.plan.arrays c.args.job.now.pull.now c.args.job.now.ins.now (target_of (op_of c.args.task.now.plan c.args.task.now.op)) (task_lo c.args.task.now.plan.arrays (op_of c.args.task.now.plan c.args.task.now.op) c.args.task.now.number) (task_hi c.args.task.now.plan.arrays (op_of c.args.task.now.plan c.args.task.now.op) c.args.task.now.number)) fit held c.read_sources.new.output has idx w)
+    (pulled (Some held) (known_sources c.args.task.now.plan c.requires.sound (op_of c.args.task.now.plan c.args.task.now.op) c.args.task.now.number c.args.job.now.pull.now c.args.job.now.ins.now o held (g.C.Chunks.shown c.args.access.now) known.0 known.1) first)
 
 pub returns-clause-elements : goal.returns-clause-elements
 returns-clause-elements g c =
@@ -49,32 +49,32 @@ returns-clause-elements g c =
     → OnOk c.read_sources.result (HasPulled v (length v.ins) told c.read_sources.new.output)) c.requires.view c.read_sources.ensures.pulled in
     let first = subst (λ (v : ViewTask). HasPulled v 0 None c.lay_numbers.new.output) c.requires.view (c.lay_numbers.ensures None) in
     on_ok_then c.read_sources.result
-    (λ has. has_elements (view_task c.args.plan.now.arrays c.args.job.now.pull.now c.args.job.now.ins.now (target_of (op_of c.args.plan.now c.args.op)) (task_lo c.args.plan.now.arrays (op_of c.args.plan.now c.args.op) c.args.task) (task_hi c.args.plan.now.arrays (op_of c.args.plan.now c.args.op) c.args.task)) fit c.read_sources.new.output (c.read_sources.auto.output ∙ c.lay_numbers.auto.output ∙ c.requires.output) has)
+    (λ has. has_elements (view_task c.args.task.now.plan.arrays c.args.job.now.pull.now c.args.job.now.ins.now (target_of (op_of c.args.task.now.plan c.args.task.now.op)) (task_lo c.args.task.now.plan.arrays (op_of c.args.task.now.plan c.args.task.now.op) c.args.task.now.number) (task_hi c.args.task.now.plan.arrays (op_of c.args.task.now.plan c.args.task.now.op) c.args.task.now.number)) fit c.read_sources.new.output (c.read_sources.auto.output ∙ c.lay_numbers.auto.output ∙ c.requires.output) has)
     (pulled None (λ source below. tt) first)
 
 pub returns-clause-step : goal.returns-clause-step
 returns-clause-step g c =
-    let o = of_pull c.args.plan.now c.args.op (op_of c.args.plan.now c.args.op) c.args.task c.args.job.now.pull.now c.args.job.now.ins.now (fit_of c.args.plan.now c.requires.sound c.args.op c.requires.operation) c.requires.pull in
+    let o = of_pull c.args.task.now.plan c.args.task.now.op (op_of c.args.task.now.plan c.args.task.now.op) c.args.task.now.number c.args.job.now.pull.now c.args.job.now.ins.now (fit_of c.args.task.now.plan c.requires.sound c.args.task.now.op c.args.task.now.operation) c.requires.pull in
     let step = subst (λ (v : ViewTask). Steps NoChange 0 (view_calls v (length v.ins)) (g.C.Chunks.shown c.args.access.now) (g.C.Chunks.shown c.read_sources.new.access)) c.requires.view c.read_sources.ensures.step in
     subst (λ (n : ℕ). Steps NoChange 0 n (g.C.Chunks.shown c.args.access.now) (g.C.Chunks.shown c.read_sources.new.access)) (sym o.calls) step
 
 pub returns-clause-all : goal.returns-clause-all
 returns-clause-all g c sure =
-    let o = of_pull c.args.plan.now c.args.op (op_of c.args.plan.now c.args.op) c.args.task c.args.job.now.pull.now c.args.job.now.ins.now (fit_of c.args.plan.now c.requires.sound c.args.op c.requires.operation) c.requires.pull in
+    let o = of_pull c.args.task.now.plan c.args.task.now.op (op_of c.args.task.now.plan c.args.task.now.op) c.args.task.now.number c.args.job.now.pull.now c.args.job.now.ins.now (fit_of c.args.task.now.plan c.requires.sound c.args.task.now.op c.args.task.now.operation) c.requires.pull in
     let all = subst (λ (v : ViewTask). OnOk c.read_sources.result (Rose (sure_calls v.pull (view_calls v (length v.ins))) (g.C.Chunks.shown c.args.access.now).calls (g.C.Chunks.shown c.read_sources.new.access).calls)) c.requires.view c.read_sources.ensures.all in
     on_ok_then c.read_sources.result
     (λ rose. sure_all c.args.job.now.pull.now _ _ (g.C.Chunks.shown c.args.access.now).calls (g.C.Chunks.shown c.read_sources.new.access).calls (o.sure sure) o.calls rose) all
 
 pub returns-clause-cause : goal.returns-clause-cause
 returns-clause-cause g c =
-    let o = of_pull c.args.plan.now c.args.op (op_of c.args.plan.now c.args.op) c.args.task c.args.job.now.pull.now c.args.job.now.ins.now (fit_of c.args.plan.now c.requires.sound c.args.op c.requires.operation) c.requires.pull in
+    let o = of_pull c.args.task.now.plan c.args.task.now.op (op_of c.args.task.now.plan c.args.task.now.op) c.args.task.now.number c.args.job.now.pull.now c.args.job.now.ins.now (fit_of c.args.task.now.plan c.requires.sound c.args.task.now.op c.args.task.now.operation) c.requires.pull in
     let cause = subst (λ (v : ViewTask). IfErr c.read_sources.result (IsViewFault (g.C.Chunks.shown c.args.access.now) (g.C.Chunks.shown c.read_sources.new.access) v)) c.requires.view c.read_sources.ensures.cause in
     on_err_more c.read_sources.result
-    (λ e fault. read_fault c.args.plan.now c.requires.sound c.args.op c.args.task c.requires.operation c.requires.task (g.C.Chunks.shown c.args.access.now) (g.C.Chunks.shown c.read_sources.new.access) e
-    (view_fault c.args.plan.now c.requires.sound (op_of c.args.plan.now c.args.op) c.args.task c.args.job.now.pull.now c.args.job.now.ins.now o (g.C.Chunks.shown c.args.access.now) (g.C.Chunks.shown c.read_sources.new.access) e fault)) cause
+    (λ e fault. read_fault c.args.task.now.plan c.requires.sound c.args.task.now.op c.args.task.now.number c.args.task.now.operation c.args.task.now.within (g.C.Chunks.shown c.args.access.now) (g.C.Chunks.shown c.read_sources.new.access) e
+    (view_fault c.args.task.now.plan c.requires.sound (op_of c.args.task.now.plan c.args.task.now.op) c.args.task.now.number c.args.job.now.pull.now c.args.job.now.ins.now o (g.C.Chunks.shown c.args.access.now) (g.C.Chunks.shown c.read_sources.new.access) e fault)) cause
 
 pub read_sources-requires-clause-may : goal.read_sources-requires-clause-may
 read_sources-requires-clause-may g c =
-    let o = of_pull c.args.plan.now c.args.op (op_of c.args.plan.now c.args.op) c.args.task c.args.job.now.pull.now c.args.job.now.ins.now (fit_of c.args.plan.now c.requires.sound c.args.op c.requires.operation) c.requires.pull in
+    let o = of_pull c.args.task.now.plan c.args.task.now.op (op_of c.args.task.now.plan c.args.task.now.op) c.args.task.now.number c.args.job.now.pull.now c.args.job.now.ins.now (fit_of c.args.task.now.plan c.requires.sound c.args.task.now.op c.args.task.now.operation) c.requires.pull in
     subst (λ (v : ViewTask). (source : ℕ) → source < length v.ins → (key : List ℕ) → IsSourceKey v source key → g.C.Chunks.may_get c.args.store.now c.args.access.now key) (sym c.requires.view)
-    (λ source below key here. c.requires.may key (source_key c.args.plan.now c.requires.sound (op_of c.args.plan.now c.args.op) c.args.task c.args.job.now.pull.now c.args.job.now.ins.now o source key below here))
+    (λ source below key here. c.requires.may key (source_key c.args.task.now.plan c.requires.sound (op_of c.args.task.now.plan c.args.task.now.op) c.args.task.now.number c.args.job.now.pull.now c.args.job.now.ins.now o source key below here))

@@ -8,7 +8,7 @@ use Rattle.cu_task.proofs.pulls.pull_result.Goals as goal
 pub returns-clause-all : goal.returns-clause-all
 returns-clause-all g c sure =
     on_ok_then c.pull_region.result
-    (made_from (read_calls c.args.plan.now.arrays (op_of c.args.plan.now c.args.op) c.args.task) (g.C.Chunks.shown c.args.access.now) (g.C.Chunks.shown c.pull_region.new.access) c.pull_region.ensures.step) (c.pull_region.ensures.all sure)
+    (made_from (read_calls c.args.task.now.plan.arrays (op_of c.args.task.now.plan c.args.task.now.op) c.args.task.now.number) (g.C.Chunks.shown c.args.access.now) (g.C.Chunks.shown c.pull_region.new.access) c.pull_region.ensures.step) (c.pull_region.ensures.all sure)
 
 pub shapes_of-shapes-requires-clause-within : goal.shapes_of-shapes-requires-clause-within
-shapes_of-shapes-requires-clause-within g c = (of_pull c.args.plan.now c.args.op (op_of c.args.plan.now c.args.op) c.args.task c.args.view.pull.now c.args.view.ins.now (fit_of c.args.plan.now c.operation-planned.ensures.sound c.args.op c.requires.operation) c.requires.pull).reads
+shapes_of-shapes-requires-clause-within g c = (of_pull c.args.task.now.plan c.args.task.now.op (op_of c.args.task.now.plan c.args.task.now.op) c.args.task.now.number c.args.pull.now c.args.ins.now (fit_of c.args.task.now.plan c.operation.ensures.sound c.args.task.now.op c.args.task.now.operation) c.requires.pull).reads

@@ -7,7 +7,6 @@ use Rattle.cu_op.specs.Cells.{task_lo, task_hi}
 use Rattle.cu_op.specs.Operation.{target_of, writes_of}
 use Rattle.cu_op.specs.Schedule.{op_of}
 use Rattle.cu_op.specs.Walks.{walk, walk_cells}
-use Rattle.cu_op.specs.declared.operation.Planned.{Planned}
 use Rattle.cu_region.specs.Calls.{Made}
 use Rattle.cu_region.specs.Writing.{LateIsOwn, RegionPut, StoresRegion, AreElements}
 use Rattle.cu_task.specs.Task.{TaskChange, result_room}
@@ -27,85 +26,85 @@ write_array-requires-clause-array g c =
 
 pub returns-in_err-write_array-clause-step : goal.returns-in_err-write_array-clause-step
 returns-in_err-write_array-clause-step g c start over_values over_places =
-    let same_values = carries c.args.plan.now c.operation-planned.ensures.sound c.args.op c.args.task c.requires.operation c.requires.task c.args.array (subst (λ (xs : List ℕ). Contains xs c.args.array) (sym c.requires.both) (0, omega arith, refl)) start c.args.found.values.now over_values in
-    let calls_both = both_calls c.args.plan.now.arrays (op_of c.args.plan.now c.args.op) c.args.task c.args.array c.requires.both in
-    let first : Steps (TaskChange c.args.plan.now c.args.op c.args.task start) 0 (length (walk_cells c.args.plan.now.arrays (walk c.args.array (task_lo c.args.plan.now.arrays (op_of c.args.plan.now c.args.op) c.args.task) (task_hi c.args.plan.now.arrays (op_of c.args.plan.now c.args.op) c.args.task)))) (g.C.Chunks.shown c.args.access.now) (g.C.Chunks.shown c.write_array.new.access) = steps_wider (puts_cells c.args.plan.now c.operation-planned.ensures.sound c.args.op c.args.task c.requires.operation c.requires.task c.args.array (subst (λ (xs : List ℕ). Contains xs c.args.array) (sym c.requires.both) (0, omega arith, refl)) start c.args.found.values.now same_values) (omega arith) (omega arith) c.write_array.ensures.step in
+    let same_values = carries c.args.task.now.plan c.operation.ensures.sound c.args.task.now.op c.args.task.now.number c.args.task.now.operation c.args.task.now.within c.args.array (subst (λ (xs : List ℕ). Contains xs c.args.array) (sym c.requires.both) (0, omega arith, refl)) start c.args.values.now over_values in
+    let calls_both = both_calls c.args.task.now.plan.arrays (op_of c.args.task.now.plan c.args.task.now.op) c.args.task.now.number c.args.array c.requires.both in
+    let first : Steps (TaskChange c.args.task.now.plan c.args.task.now.op c.args.task.now.number start) 0 (length (walk_cells c.args.task.now.plan.arrays (walk c.args.array (task_lo c.args.task.now.plan.arrays (op_of c.args.task.now.plan c.args.task.now.op) c.args.task.now.number) (task_hi c.args.task.now.plan.arrays (op_of c.args.task.now.plan c.args.task.now.op) c.args.task.now.number)))) (g.C.Chunks.shown c.args.access.now) (g.C.Chunks.shown c.write_array.new.access) = steps_wider (puts_cells c.args.task.now.plan c.operation.ensures.sound c.args.task.now.op c.args.task.now.number c.args.task.now.operation c.args.task.now.within c.args.array (subst (λ (xs : List ℕ). Contains xs c.args.array) (sym c.requires.both) (0, omega arith, refl)) start c.args.values.now same_values) (omega arith) (omega arith) c.write_array.ensures.step in
     steps_wider (λ key value change. change) (omega arith) (omega (arith, calls_both)) first
 
 pub write_array-requires-2-clause-array : goal.write_array-requires-2-clause-array
 write_array-requires-2-clause-array g c =
-    let target : c.target-target.result ≡ (target_of (op_of c.args.plan.now c.args.op)) = c.target-target.ensures ∙ ap (λ (o : Planned). target_of o.op) c.operation.ensures.operation in
-    subst (λ (a : ℕ). Contains (writes_of (op_of c.args.plan.now c.args.op)) a) (sym target) (target_written (op_of c.args.plan.now c.args.op))
+    let target : c.target-target.result ≡ (target_of (op_of c.args.task.now.plan c.args.task.now.op)) = c.target-target.ensures ∙ ap target_of c.operation.ensures.operation in
+    subst (λ (a : ℕ). Contains (writes_of (op_of c.args.task.now.plan c.args.task.now.op)) a) (sym target) (target_written (op_of c.args.task.now.plan c.args.task.now.op))
 
 pub write_array-requires-2-clause-output : goal.write_array-requires-2-clause-output
 write_array-requires-2-clause-output g c =
-    let target : c.target-target.result ≡ (target_of (op_of c.args.plan.now c.args.op)) = c.target-target.ensures ∙ ap (λ (o : Planned). target_of o.op) c.operation.ensures.operation in
-    subst (λ (a : ℕ). length c.args.found.places.now ≡ result_room c.args.plan.now c.args.op c.args.task a) (sym target) c.requires.places
+    let target : c.target-target.result ≡ (target_of (op_of c.args.task.now.plan c.args.task.now.op)) = c.target-target.ensures ∙ ap target_of c.operation.ensures.operation in
+    subst (λ (a : ℕ). length c.args.places.now ≡ result_room c.args.task.now.plan c.args.task.now.op c.args.task.now.number a) (sym target) c.requires.places
 
 pub write_array-requires-2-clause-elements : goal.write_array-requires-2-clause-elements
 write_array-requires-2-clause-elements g c =
-    let target : c.target-target.result ≡ (target_of (op_of c.args.plan.now c.args.op)) = c.target-target.ensures ∙ ap (λ (o : Planned). target_of o.op) c.operation.ensures.operation in
-    subst (λ (a : ℕ). AreElements (type_at c.args.plan.now.arrays a) c.args.found.places.now) (sym target) c.requires.place_elements
+    let target : c.target-target.result ≡ (target_of (op_of c.args.task.now.plan c.args.task.now.op)) = c.target-target.ensures ∙ ap target_of c.operation.ensures.operation in
+    subst (λ (a : ℕ). AreElements (type_at c.args.task.now.plan.arrays a) c.args.places.now) (sym target) c.requires.place_elements
 
 pub returns-clause-step : goal.returns-clause-step
 returns-clause-step g c start over_values over_places =
-    let target : c.target-target.result ≡ (target_of (op_of c.args.plan.now c.args.op)) = c.target-target.ensures ∙ ap (λ (o : Planned). target_of o.op) c.operation.ensures.operation in
-    let same_values = carries c.args.plan.now c.operation-planned.ensures.sound c.args.op c.args.task c.requires.operation c.requires.task c.args.array (subst (λ (xs : List ℕ). Contains xs c.args.array) (sym c.requires.both) (0, omega arith, refl)) start c.args.found.values.now over_values in
-    let same_places = carries c.args.plan.now c.operation-planned.ensures.sound c.args.op c.args.task c.requires.operation c.requires.task (target_of (op_of c.args.plan.now c.args.op)) (target_written (op_of c.args.plan.now c.args.op)) start c.args.found.places.now over_places in
-    let calls_both = both_calls c.args.plan.now.arrays (op_of c.args.plan.now c.args.op) c.args.task c.args.array c.requires.both in
-    let first : Steps (TaskChange c.args.plan.now c.args.op c.args.task start) 0 (length (walk_cells c.args.plan.now.arrays (walk c.args.array (task_lo c.args.plan.now.arrays (op_of c.args.plan.now c.args.op) c.args.task) (task_hi c.args.plan.now.arrays (op_of c.args.plan.now c.args.op) c.args.task)))) (g.C.Chunks.shown c.args.access.now) (g.C.Chunks.shown c.write_array.new.access) = steps_wider (puts_cells c.args.plan.now c.operation-planned.ensures.sound c.args.op c.args.task c.requires.operation c.requires.task c.args.array (subst (λ (xs : List ℕ). Contains xs c.args.array) (sym c.requires.both) (0, omega arith, refl)) start c.args.found.values.now same_values) (omega arith) (omega arith) c.write_array.ensures.step in
-    let second : Steps (TaskChange c.args.plan.now c.args.op c.args.task start) 0 (length (walk_cells c.args.plan.now.arrays (walk (target_of (op_of c.args.plan.now c.args.op)) (task_lo c.args.plan.now.arrays (op_of c.args.plan.now c.args.op) c.args.task) (task_hi c.args.plan.now.arrays (op_of c.args.plan.now c.args.op) c.args.task)))) (g.C.Chunks.shown c.write_array.new.access) (g.C.Chunks.shown c.write_array-2.new.access) = steps_wider (puts_cells c.args.plan.now c.operation-planned.ensures.sound c.args.op c.args.task c.requires.operation c.requires.task (target_of (op_of c.args.plan.now c.args.op)) (target_written (op_of c.args.plan.now c.args.op)) start c.args.found.places.now same_places) (omega arith) (omega arith) (subst (λ (a : ℕ). Steps (RegionPut (array_at c.args.plan.now.arrays a) (task_lo c.args.plan.now.arrays (op_of c.args.plan.now c.args.op) c.args.task) (task_hi c.args.plan.now.arrays (op_of c.args.plan.now c.args.op) c.args.task) c.args.found.places.now) 0 (length (walk_cells c.args.plan.now.arrays (walk a (task_lo c.args.plan.now.arrays (op_of c.args.plan.now c.args.op) c.args.task) (task_hi c.args.plan.now.arrays (op_of c.args.plan.now c.args.op) c.args.task)))) (g.C.Chunks.shown c.write_array.new.access) (g.C.Chunks.shown c.write_array-2.new.access)) target c.write_array-2.ensures.step) in
+    let target : c.target-target.result ≡ (target_of (op_of c.args.task.now.plan c.args.task.now.op)) = c.target-target.ensures ∙ ap target_of c.operation.ensures.operation in
+    let same_values = carries c.args.task.now.plan c.operation.ensures.sound c.args.task.now.op c.args.task.now.number c.args.task.now.operation c.args.task.now.within c.args.array (subst (λ (xs : List ℕ). Contains xs c.args.array) (sym c.requires.both) (0, omega arith, refl)) start c.args.values.now over_values in
+    let same_places = carries c.args.task.now.plan c.operation.ensures.sound c.args.task.now.op c.args.task.now.number c.args.task.now.operation c.args.task.now.within (target_of (op_of c.args.task.now.plan c.args.task.now.op)) (target_written (op_of c.args.task.now.plan c.args.task.now.op)) start c.args.places.now over_places in
+    let calls_both = both_calls c.args.task.now.plan.arrays (op_of c.args.task.now.plan c.args.task.now.op) c.args.task.now.number c.args.array c.requires.both in
+    let first : Steps (TaskChange c.args.task.now.plan c.args.task.now.op c.args.task.now.number start) 0 (length (walk_cells c.args.task.now.plan.arrays (walk c.args.array (task_lo c.args.task.now.plan.arrays (op_of c.args.task.now.plan c.args.task.now.op) c.args.task.now.number) (task_hi c.args.task.now.plan.arrays (op_of c.args.task.now.plan c.args.task.now.op) c.args.task.now.number)))) (g.C.Chunks.shown c.args.access.now) (g.C.Chunks.shown c.write_array.new.access) = steps_wider (puts_cells c.args.task.now.plan c.operation.ensures.sound c.args.task.now.op c.args.task.now.number c.args.task.now.operation c.args.task.now.within c.args.array (subst (λ (xs : List ℕ). Contains xs c.args.array) (sym c.requires.both) (0, omega arith, refl)) start c.args.values.now same_values) (omega arith) (omega arith) c.write_array.ensures.step in
+    let second : Steps (TaskChange c.args.task.now.plan c.args.task.now.op c.args.task.now.number start) 0 (length (walk_cells c.args.task.now.plan.arrays (walk (target_of (op_of c.args.task.now.plan c.args.task.now.op)) (task_lo c.args.task.now.plan.arrays (op_of c.args.task.now.plan c.args.task.now.op) c.args.task.now.number) (task_hi c.args.task.now.plan.arrays (op_of c.args.task.now.plan c.args.task.now.op) c.args.task.now.number)))) (g.C.Chunks.shown c.write_array.new.access) (g.C.Chunks.shown c.write_array-2.new.access) = steps_wider (puts_cells c.args.task.now.plan c.operation.ensures.sound c.args.task.now.op c.args.task.now.number c.args.task.now.operation c.args.task.now.within (target_of (op_of c.args.task.now.plan c.args.task.now.op)) (target_written (op_of c.args.task.now.plan c.args.task.now.op)) start c.args.places.now same_places) (omega arith) (omega arith) (subst (λ (a : ℕ). Steps (RegionPut (array_at c.args.task.now.plan.arrays a) (task_lo c.args.task.now.plan.arrays (op_of c.args.task.now.plan c.args.task.now.op) c.args.task.now.number) (task_hi c.args.task.now.plan.arrays (op_of c.args.task.now.plan c.args.task.now.op) c.args.task.now.number) c.args.places.now) 0 (length (walk_cells c.args.task.now.plan.arrays (walk a (task_lo c.args.task.now.plan.arrays (op_of c.args.task.now.plan c.args.task.now.op) c.args.task.now.number) (task_hi c.args.task.now.plan.arrays (op_of c.args.task.now.plan c.args.task.now.op) c.args.task.now.number)))) (g.C.Chunks.shown c.write_array.new.access) (g.C.Chunks.shown c.write_array-2.new.access)) target c.write_array-2.ensures.step) in
     steps_wider (λ key value change. change) (omega arith) (omega (arith, calls_both)) (steps_then first second)
 
 pub returns-clause-stored : goal.returns-clause-stored
 returns-clause-stored g c env start calls over_values over_places ready before =
-    let target : c.target-target.result ≡ (target_of (op_of c.args.plan.now c.args.op)) = c.target-target.ensures ∙ ap (λ (o : Planned). target_of o.op) c.operation.ensures.operation in
-    let same_values = carries c.args.plan.now c.operation-planned.ensures.sound c.args.op c.args.task c.requires.operation c.requires.task c.args.array (subst (λ (xs : List ℕ). Contains xs c.args.array) (sym c.requires.both) (0, omega arith, refl)) start c.args.found.values.now over_values in
-    let same_places = carries c.args.plan.now c.operation-planned.ensures.sound c.args.op c.args.task c.requires.operation c.requires.task (target_of (op_of c.args.plan.now c.args.op)) (target_written (op_of c.args.plan.now c.args.op)) start c.args.found.places.now over_places in
-    let first : Steps (TaskChange c.args.plan.now c.args.op c.args.task start) 0 (length (walk_cells c.args.plan.now.arrays (walk c.args.array (task_lo c.args.plan.now.arrays (op_of c.args.plan.now c.args.op) c.args.task) (task_hi c.args.plan.now.arrays (op_of c.args.plan.now c.args.op) c.args.task)))) (g.C.Chunks.shown c.args.access.now) (g.C.Chunks.shown c.write_array.new.access) = steps_wider (puts_cells c.args.plan.now c.operation-planned.ensures.sound c.args.op c.args.task c.requires.operation c.requires.task c.args.array (subst (λ (xs : List ℕ). Contains xs c.args.array) (sym c.requires.both) (0, omega arith, refl)) start c.args.found.values.now same_values) (omega arith) (omega arith) c.write_array.ensures.step in
-    let second : Steps (TaskChange c.args.plan.now c.args.op c.args.task start) 0 (length (walk_cells c.args.plan.now.arrays (walk (target_of (op_of c.args.plan.now c.args.op)) (task_lo c.args.plan.now.arrays (op_of c.args.plan.now c.args.op) c.args.task) (task_hi c.args.plan.now.arrays (op_of c.args.plan.now c.args.op) c.args.task)))) (g.C.Chunks.shown c.write_array.new.access) (g.C.Chunks.shown c.write_array-2.new.access) = steps_wider (puts_cells c.args.plan.now c.operation-planned.ensures.sound c.args.op c.args.task c.requires.operation c.requires.task (target_of (op_of c.args.plan.now c.args.op)) (target_written (op_of c.args.plan.now c.args.op)) start c.args.found.places.now same_places) (omega arith) (omega arith) (subst (λ (a : ℕ). Steps (RegionPut (array_at c.args.plan.now.arrays a) (task_lo c.args.plan.now.arrays (op_of c.args.plan.now c.args.op) c.args.task) (task_hi c.args.plan.now.arrays (op_of c.args.plan.now c.args.op) c.args.task) c.args.found.places.now) 0 (length (walk_cells c.args.plan.now.arrays (walk a (task_lo c.args.plan.now.arrays (op_of c.args.plan.now c.args.op) c.args.task) (task_hi c.args.plan.now.arrays (op_of c.args.plan.now c.args.op) c.args.task)))) (g.C.Chunks.shown c.write_array.new.access) (g.C.Chunks.shown c.write_array-2.new.access)) target c.write_array-2.ensures.step) in
-    let values = c.in_ok-write_array.ensures.stored (late_own c.args.plan.now c.operation-planned.ensures.sound c.args.op c.args.task c.requires.operation c.requires.task c.args.array (subst (λ (xs : List ℕ). Contains xs c.args.array) (sym c.requires.both) (0, omega arith, refl)) env start (g.C.Chunks.shown c.args.access.now) 0 calls c.args.found.values.now same_values ready before) in
-    let between : Steps (TaskChange c.args.plan.now c.args.op c.args.task start) 0 (calls + (length (walk_cells c.args.plan.now.arrays (walk c.args.array (task_lo c.args.plan.now.arrays (op_of c.args.plan.now c.args.op) c.args.task) (task_hi c.args.plan.now.arrays (op_of c.args.plan.now c.args.op) c.args.task))))) start (g.C.Chunks.shown c.write_array.new.access) = steps_then before first in
-    let stored = subst (λ (a : ℕ). LateIsOwn (array_at c.args.plan.now.arrays a) (task_lo c.args.plan.now.arrays (op_of c.args.plan.now c.args.op) c.args.task) (task_hi c.args.plan.now.arrays (op_of c.args.plan.now c.args.op) c.args.task) c.args.found.places.now (g.C.Chunks.shown c.write_array.new.access).late → OnOk c.write_array-2.result (StoresRegion (array_at c.args.plan.now.arrays a) (task_lo c.args.plan.now.arrays (op_of c.args.plan.now c.args.op) c.args.task) (task_hi c.args.plan.now.arrays (op_of c.args.plan.now c.args.op) c.args.task) c.args.found.places.now (g.C.Chunks.shown c.write_array-2.new.access).held)) target c.write_array-2.ensures.stored in
-    on_ok_then c.write_array-2.result (λ places cell there. elim (either_array c.args.plan.now c.operation-planned.ensures.sound c.args.op c.args.task c.requires.operation c.requires.task c.args.array (target_of (op_of c.args.plan.now c.args.op)) c.requires.both cell there) [
-      | inl here ↦ let (bytes, value, held) = holds_chunk c.args.plan.now c.operation-planned.ensures.sound c.args.op c.args.task c.requires.operation c.requires.task c.args.array (subst (λ (xs : List ℕ). Contains xs c.args.array) (sym c.requires.both) (0, omega arith, refl)) env start (g.C.Chunks.shown c.write_array.new.access) c.args.found.values.now same_values ready values cell here there in
-          (bytes, value, still_holds c.args.plan.now c.operation-planned.ensures.sound c.args.op c.args.task c.requires.operation c.requires.task env start (g.C.Chunks.shown c.write_array.new.access) (g.C.Chunks.shown c.write_array-2.new.access) 0 (calls + (length (walk_cells c.args.plan.now.arrays (walk c.args.array (task_lo c.args.plan.now.arrays (op_of c.args.plan.now c.args.op) c.args.task) (task_hi c.args.plan.now.arrays (op_of c.args.plan.now c.args.op) c.args.task))))) (length (walk_cells c.args.plan.now.arrays (walk (target_of (op_of c.args.plan.now c.args.op)) (task_lo c.args.plan.now.arrays (op_of c.args.plan.now c.args.op) c.args.task) (task_hi c.args.plan.now.arrays (op_of c.args.plan.now c.args.op) c.args.task)))) cell bytes ready between second there value held)
-      | inr here ↦ holds_chunk c.args.plan.now c.operation-planned.ensures.sound c.args.op c.args.task c.requires.operation c.requires.task (target_of (op_of c.args.plan.now c.args.op)) (target_written (op_of c.args.plan.now c.args.op)) env start (g.C.Chunks.shown c.write_array-2.new.access) c.args.found.places.now same_places ready places cell here there
-    ]) (stored (late_own c.args.plan.now c.operation-planned.ensures.sound c.args.op c.args.task c.requires.operation c.requires.task (target_of (op_of c.args.plan.now c.args.op)) (target_written (op_of c.args.plan.now c.args.op)) env start (g.C.Chunks.shown c.write_array.new.access) 0 (calls + (length (walk_cells c.args.plan.now.arrays (walk c.args.array (task_lo c.args.plan.now.arrays (op_of c.args.plan.now c.args.op) c.args.task) (task_hi c.args.plan.now.arrays (op_of c.args.plan.now c.args.op) c.args.task))))) c.args.found.places.now same_places ready between))
+    let target : c.target-target.result ≡ (target_of (op_of c.args.task.now.plan c.args.task.now.op)) = c.target-target.ensures ∙ ap target_of c.operation.ensures.operation in
+    let same_values = carries c.args.task.now.plan c.operation.ensures.sound c.args.task.now.op c.args.task.now.number c.args.task.now.operation c.args.task.now.within c.args.array (subst (λ (xs : List ℕ). Contains xs c.args.array) (sym c.requires.both) (0, omega arith, refl)) start c.args.values.now over_values in
+    let same_places = carries c.args.task.now.plan c.operation.ensures.sound c.args.task.now.op c.args.task.now.number c.args.task.now.operation c.args.task.now.within (target_of (op_of c.args.task.now.plan c.args.task.now.op)) (target_written (op_of c.args.task.now.plan c.args.task.now.op)) start c.args.places.now over_places in
+    let first : Steps (TaskChange c.args.task.now.plan c.args.task.now.op c.args.task.now.number start) 0 (length (walk_cells c.args.task.now.plan.arrays (walk c.args.array (task_lo c.args.task.now.plan.arrays (op_of c.args.task.now.plan c.args.task.now.op) c.args.task.now.number) (task_hi c.args.task.now.plan.arrays (op_of c.args.task.now.plan c.args.task.now.op) c.args.task.now.number)))) (g.C.Chunks.shown c.args.access.now) (g.C.Chunks.shown c.write_array.new.access) = steps_wider (puts_cells c.args.task.now.plan c.operation.ensures.sound c.args.task.now.op c.args.task.now.number c.args.task.now.operation c.args.task.now.within c.args.array (subst (λ (xs : List ℕ). Contains xs c.args.array) (sym c.requires.both) (0, omega arith, refl)) start c.args.values.now same_values) (omega arith) (omega arith) c.write_array.ensures.step in
+    let second : Steps (TaskChange c.args.task.now.plan c.args.task.now.op c.args.task.now.number start) 0 (length (walk_cells c.args.task.now.plan.arrays (walk (target_of (op_of c.args.task.now.plan c.args.task.now.op)) (task_lo c.args.task.now.plan.arrays (op_of c.args.task.now.plan c.args.task.now.op) c.args.task.now.number) (task_hi c.args.task.now.plan.arrays (op_of c.args.task.now.plan c.args.task.now.op) c.args.task.now.number)))) (g.C.Chunks.shown c.write_array.new.access) (g.C.Chunks.shown c.write_array-2.new.access) = steps_wider (puts_cells c.args.task.now.plan c.operation.ensures.sound c.args.task.now.op c.args.task.now.number c.args.task.now.operation c.args.task.now.within (target_of (op_of c.args.task.now.plan c.args.task.now.op)) (target_written (op_of c.args.task.now.plan c.args.task.now.op)) start c.args.places.now same_places) (omega arith) (omega arith) (subst (λ (a : ℕ). Steps (RegionPut (array_at c.args.task.now.plan.arrays a) (task_lo c.args.task.now.plan.arrays (op_of c.args.task.now.plan c.args.task.now.op) c.args.task.now.number) (task_hi c.args.task.now.plan.arrays (op_of c.args.task.now.plan c.args.task.now.op) c.args.task.now.number) c.args.places.now) 0 (length (walk_cells c.args.task.now.plan.arrays (walk a (task_lo c.args.task.now.plan.arrays (op_of c.args.task.now.plan c.args.task.now.op) c.args.task.now.number) (task_hi c.args.task.now.plan.arrays (op_of c.args.task.now.plan c.args.task.now.op) c.args.task.now.number)))) (g.C.Chunks.shown c.write_array.new.access) (g.C.Chunks.shown c.write_array-2.new.access)) target c.write_array-2.ensures.step) in
+    let values = c.in_ok-write_array.ensures.stored (late_own c.args.task.now.plan c.operation.ensures.sound c.args.task.now.op c.args.task.now.number c.args.task.now.operation c.args.task.now.within c.args.array (subst (λ (xs : List ℕ). Contains xs c.args.array) (sym c.requires.both) (0, omega arith, refl)) env start (g.C.Chunks.shown c.args.access.now) 0 calls c.args.values.now same_values ready before) in
+    let between : Steps (TaskChange c.args.task.now.plan c.args.task.now.op c.args.task.now.number start) 0 (calls + (length (walk_cells c.args.task.now.plan.arrays (walk c.args.array (task_lo c.args.task.now.plan.arrays (op_of c.args.task.now.plan c.args.task.now.op) c.args.task.now.number) (task_hi c.args.task.now.plan.arrays (op_of c.args.task.now.plan c.args.task.now.op) c.args.task.now.number))))) start (g.C.Chunks.shown c.write_array.new.access) = steps_then before first in
+    let stored = subst (λ (a : ℕ). LateIsOwn (array_at c.args.task.now.plan.arrays a) (task_lo c.args.task.now.plan.arrays (op_of c.args.task.now.plan c.args.task.now.op) c.args.task.now.number) (task_hi c.args.task.now.plan.arrays (op_of c.args.task.now.plan c.args.task.now.op) c.args.task.now.number) c.args.places.now (g.C.Chunks.shown c.write_array.new.access).late → OnOk c.write_array-2.result (StoresRegion (array_at c.args.task.now.plan.arrays a) (task_lo c.args.task.now.plan.arrays (op_of c.args.task.now.plan c.args.task.now.op) c.args.task.now.number) (task_hi c.args.task.now.plan.arrays (op_of c.args.task.now.plan c.args.task.now.op) c.args.task.now.number) c.args.places.now (g.C.Chunks.shown c.write_array-2.new.access).held)) target c.write_array-2.ensures.stored in
+    on_ok_then c.write_array-2.result (λ places cell there. elim (either_array c.args.task.now.plan c.operation.ensures.sound c.args.task.now.op c.args.task.now.number c.args.task.now.operation c.args.task.now.within c.args.array (target_of (op_of c.args.task.now.plan c.args.task.now.op)) c.requires.both cell there) [
+      | inl here ↦ let (bytes, value, held) = holds_chunk c.args.task.now.plan c.operation.ensures.sound c.args.task.now.op c.args.task.now.number c.args.task.now.operation c.args.task.now.within c.args.array (subst (λ (xs : List ℕ). Contains xs c.args.array) (sym c.requires.both) (0, omega arith, refl)) env start (g.C.Chunks.shown c.write_array.new.access) c.args.values.now same_values ready values cell here there in
+          (bytes, value, still_holds c.args.task.now.plan c.operation.ensures.sound c.args.task.now.op c.args.task.now.number c.args.task.now.operation c.args.task.now.within env start (g.C.Chunks.shown c.write_array.new.access) (g.C.Chunks.shown c.write_array-2.new.access) 0 (calls + (length (walk_cells c.args.task.now.plan.arrays (walk c.args.array (task_lo c.args.task.now.plan.arrays (op_of c.args.task.now.plan c.args.task.now.op) c.args.task.now.number) (task_hi c.args.task.now.plan.arrays (op_of c.args.task.now.plan c.args.task.now.op) c.args.task.now.number))))) (length (walk_cells c.args.task.now.plan.arrays (walk (target_of (op_of c.args.task.now.plan c.args.task.now.op)) (task_lo c.args.task.now.plan.arrays (op_of c.args.task.now.plan c.args.task.now.op) c.args.task.now.number) (task_hi c.args.task.now.plan.arrays (op_of c.args.task.now.plan c.args.task.now.op) c.args.task.now.number)))) cell bytes ready between second there value held)
+      | inr here ↦ holds_chunk c.args.task.now.plan c.operation.ensures.sound c.args.task.now.op c.args.task.now.number c.args.task.now.operation c.args.task.now.within (target_of (op_of c.args.task.now.plan c.args.task.now.op)) (target_written (op_of c.args.task.now.plan c.args.task.now.op)) env start (g.C.Chunks.shown c.write_array-2.new.access) c.args.places.now same_places ready places cell here there
+    ]) (stored (late_own c.args.task.now.plan c.operation.ensures.sound c.args.task.now.op c.args.task.now.number c.args.task.now.operation c.args.task.now.within (target_of (op_of c.args.task.now.plan c.args.task.now.op)) (target_written (op_of c.args.task.now.plan c.args.task.now.op)) env start (g.C.Chunks.shown c.write_array.new.access) 0 (calls + (length (walk_cells c.args.task.now.plan.arrays (walk c.args.array (task_lo c.args.task.now.plan.arrays (op_of c.args.task.now.plan c.args.task.now.op) c.args.task.now.number) (task_hi c.args.task.now.plan.arrays (op_of c.args.task.now.plan c.args.task.now.op) c.args.task.now.number))))) c.args.places.now same_places ready between))
 
 pub returns-clause-all : goal.returns-clause-all
 returns-clause-all g c =
-    let target : c.target-target.result ≡ (target_of (op_of c.args.plan.now c.args.op)) = c.target-target.ensures ∙ ap (λ (o : Planned). target_of o.op) c.operation.ensures.operation in
-    let calls_both = both_calls c.args.plan.now.arrays (op_of c.args.plan.now c.args.op) c.args.task c.args.array c.requires.both in
-    let second = subst (λ (a : ℕ). OnOk c.write_array-2.result (Made (length (walk_cells c.args.plan.now.arrays (walk a (task_lo c.args.plan.now.arrays (op_of c.args.plan.now c.args.op) c.args.task) (task_hi c.args.plan.now.arrays (op_of c.args.plan.now c.args.op) c.args.task)))) (g.C.Chunks.shown c.write_array.new.access).calls (g.C.Chunks.shown c.write_array-2.new.access).calls)) target c.write_array-2.ensures.all in
-    on_ok_then c.write_array-2.result (λ made. subst (λ (n : ℕ). Made n (g.C.Chunks.shown c.args.access.now).calls (g.C.Chunks.shown c.write_array-2.new.access).calls) (sym calls_both) (all_made (g.C.Chunks.shown c.args.access.now).calls (g.C.Chunks.shown c.write_array.new.access).calls (g.C.Chunks.shown c.write_array-2.new.access).calls (length (walk_cells c.args.plan.now.arrays (walk c.args.array (task_lo c.args.plan.now.arrays (op_of c.args.plan.now c.args.op) c.args.task) (task_hi c.args.plan.now.arrays (op_of c.args.plan.now c.args.op) c.args.task)))) (length (walk_cells c.args.plan.now.arrays (walk (target_of (op_of c.args.plan.now c.args.op)) (task_lo c.args.plan.now.arrays (op_of c.args.plan.now c.args.op) c.args.task) (task_hi c.args.plan.now.arrays (op_of c.args.plan.now c.args.op) c.args.task)))) c.in_ok-write_array.ensures.all made)) second
+    let target : c.target-target.result ≡ (target_of (op_of c.args.task.now.plan c.args.task.now.op)) = c.target-target.ensures ∙ ap target_of c.operation.ensures.operation in
+    let calls_both = both_calls c.args.task.now.plan.arrays (op_of c.args.task.now.plan c.args.task.now.op) c.args.task.now.number c.args.array c.requires.both in
+    let second = subst (λ (a : ℕ). OnOk c.write_array-2.result (Made (length (walk_cells c.args.task.now.plan.arrays (walk a (task_lo c.args.task.now.plan.arrays (op_of c.args.task.now.plan c.args.task.now.op) c.args.task.now.number) (task_hi c.args.task.now.plan.arrays (op_of c.args.task.now.plan c.args.task.now.op) c.args.task.now.number)))) (g.C.Chunks.shown c.write_array.new.access).calls (g.C.Chunks.shown c.write_array-2.new.access).calls)) target c.write_array-2.ensures.all in
+    on_ok_then c.write_array-2.result (λ made. subst (λ (n : ℕ). Made n (g.C.Chunks.shown c.args.access.now).calls (g.C.Chunks.shown c.write_array-2.new.access).calls) (sym calls_both) (all_made (g.C.Chunks.shown c.args.access.now).calls (g.C.Chunks.shown c.write_array.new.access).calls (g.C.Chunks.shown c.write_array-2.new.access).calls (length (walk_cells c.args.task.now.plan.arrays (walk c.args.array (task_lo c.args.task.now.plan.arrays (op_of c.args.task.now.plan c.args.task.now.op) c.args.task.now.number) (task_hi c.args.task.now.plan.arrays (op_of c.args.task.now.plan c.args.task.now.op) c.args.task.now.number)))) (length (walk_cells c.args.task.now.plan.arrays (walk (target_of (op_of c.args.task.now.plan c.args.task.now.op)) (task_lo c.args.task.now.plan.arrays (op_of c.args.task.now.plan c.args.task.now.op) c.args.task.now.number) (task_hi c.args.task.now.plan.arrays (op_of c.args.task.now.plan c.args.task.now.op) c.args.task.now.number)))) c.in_ok-write_array.ensures.all made)) second
 
 pub write_array-requires-clause-puts : goal.write_array-requires-clause-puts
 write_array-requires-clause-puts g c =
     let p = c.requires.puts in
-    let same = carries c.args.plan.now c.operation-planned.ensures.sound c.args.op c.args.task c.requires.operation c.requires.task c.args.array (subst (λ (xs : List ℕ). Contains xs c.args.array) (sym c.requires.both) (0, omega arith, refl)) p.0 c.args.found.values.now p.1 in
-    allows_within (puts_cells c.args.plan.now c.operation-planned.ensures.sound c.args.op c.args.task c.requires.operation c.requires.task c.args.array (subst (λ (xs : List ℕ). Contains xs c.args.array) (sym c.requires.both) (0, omega arith, refl)) p.0 c.args.found.values.now same) p.3
+    let same = carries c.args.task.now.plan c.operation.ensures.sound c.args.task.now.op c.args.task.now.number c.args.task.now.operation c.args.task.now.within c.args.array (subst (λ (xs : List ℕ). Contains xs c.args.array) (sym c.requires.both) (0, omega arith, refl)) p.0 c.args.values.now p.1 in
+    allows_within (puts_cells c.args.task.now.plan c.operation.ensures.sound c.args.task.now.op c.args.task.now.number c.args.task.now.operation c.args.task.now.within c.args.array (subst (λ (xs : List ℕ). Contains xs c.args.array) (sym c.requires.both) (0, omega arith, refl)) p.0 c.args.values.now same) p.3
 
 pub write_array-requires-2-clause-puts : goal.write_array-requires-2-clause-puts
 write_array-requires-2-clause-puts g c =
-    let target : c.target-target.result ≡ (target_of (op_of c.args.plan.now c.args.op)) = c.target-target.ensures ∙ ap (λ (o : Planned). target_of o.op) c.operation.ensures.operation in
+    let target : c.target-target.result ≡ (target_of (op_of c.args.task.now.plan c.args.task.now.op)) = c.target-target.ensures ∙ ap target_of c.operation.ensures.operation in
     let p = c.requires.puts in
-    let same = carries c.args.plan.now c.operation-planned.ensures.sound c.args.op c.args.task c.requires.operation c.requires.task (target_of (op_of c.args.plan.now c.args.op)) (target_written (op_of c.args.plan.now c.args.op)) p.0 c.args.found.places.now p.2 in
-    subst (λ (a : ℕ). AllowsRegion c.args.plan.now c.args.op c.args.task a c.args.found.places.now (g.C.Chunks.may_put c.args.store.now)) (sym target)
-    (allows_within (puts_cells c.args.plan.now c.operation-planned.ensures.sound c.args.op c.args.task c.requires.operation c.requires.task (target_of (op_of c.args.plan.now c.args.op)) (target_written (op_of c.args.plan.now c.args.op)) p.0 c.args.found.places.now same) p.3)
+    let same = carries c.args.task.now.plan c.operation.ensures.sound c.args.task.now.op c.args.task.now.number c.args.task.now.operation c.args.task.now.within (target_of (op_of c.args.task.now.plan c.args.task.now.op)) (target_written (op_of c.args.task.now.plan c.args.task.now.op)) p.0 c.args.places.now p.2 in
+    subst (λ (a : ℕ). AllowsRegion c.args.task.now.plan c.args.task.now.op c.args.task.now.number a c.args.places.now (g.C.Chunks.may_put c.args.store.now)) (sym target)
+    (allows_within (puts_cells c.args.task.now.plan c.operation.ensures.sound c.args.task.now.op c.args.task.now.number c.args.task.now.operation c.args.task.now.within (target_of (op_of c.args.task.now.plan c.args.task.now.op)) (target_written (op_of c.args.task.now.plan c.args.task.now.op)) p.0 c.args.places.now same) p.3)
 
 pub returns-clause-open : goal.returns-clause-open
 returns-clause-open g c = open_then c.write_array.ensures.open c.write_array-2.ensures.open
 
 pub returns-clause-got : goal.returns-clause-got
 returns-clause-got g c =
-    let target : c.target-target.result ≡ (target_of (op_of c.args.plan.now c.args.op)) = c.target-target.ensures ∙ ap (λ (o : Planned). target_of o.op) c.operation.ensures.operation in
+    let target : c.target-target.result ≡ (target_of (op_of c.args.task.now.plan c.args.task.now.op)) = c.target-target.ensures ∙ ap target_of c.operation.ensures.operation in
     let K = g.C.Chunks.may_get c.args.store.now c.write_array-2.new.access in
     on_ok_then c.write_array-2.result
-    (λ got cell there. elim (either_array c.args.plan.now c.operation-planned.ensures.sound c.args.op c.args.task c.requires.operation c.requires.task c.args.array (target_of (op_of c.args.plan.now c.args.op)) c.requires.both cell there) [
-      | inl first ↦ got_cell c.args.plan.now c.operation-planned.ensures.sound c.args.op c.args.task c.args.array K c.requires.operation c.requires.task cell there first
+    (λ got cell there. elim (either_array c.args.task.now.plan c.operation.ensures.sound c.args.task.now.op c.args.task.now.number c.args.task.now.operation c.args.task.now.within c.args.array (target_of (op_of c.args.task.now.plan c.args.task.now.op)) c.requires.both cell there) [
+      | inl first ↦ got_cell c.args.task.now.plan c.operation.ensures.sound c.args.task.now.op c.args.task.now.number c.args.array K c.args.task.now.operation c.args.task.now.within cell there first
           (λ key here. c.write_array-2.ensures.open.gets key (c.in_ok-write_array.ensures.got key here))
-      | inr second ↦ got_cell c.args.plan.now c.operation-planned.ensures.sound c.args.op c.args.task (target_of (op_of c.args.plan.now c.args.op)) K c.requires.operation c.requires.task cell there second
-          (subst (λ (a : ℕ). MayReadRegion c.args.plan.now c.args.op c.args.task a K) target got)
+      | inr second ↦ got_cell c.args.task.now.plan c.operation.ensures.sound c.args.task.now.op c.args.task.now.number (target_of (op_of c.args.task.now.plan c.args.task.now.op)) K c.args.task.now.operation c.args.task.now.within cell there second
+          (subst (λ (a : ℕ). MayReadRegion c.args.task.now.plan c.args.task.now.op c.args.task.now.number a K) target got)
     ])
     c.write_array-2.ensures.got

@@ -7,7 +7,6 @@ use Rattle.cu_op.specs.Cells.{task_lo, task_hi}
 use Rattle.cu_op.specs.Operation.{target_of}
 use Rattle.cu_op.specs.Schedule.{op_of}
 use Rattle.cu_op.specs.Walks.{walk, walk_cells}
-use Rattle.cu_op.specs.declared.operation.Planned.{Planned}
 use Rattle.cu_region.specs.Calls.{Made}
 use Rattle.cu_region.specs.Writing.{LateIsOwn, RegionPut, StoresRegion}
 use Rattle.cu_task.proofs.InputReads.{on_ok_then}
@@ -19,38 +18,38 @@ use Rattle.cu_task.proofs.results.write_only.Goals as goal
 
 pub returns-clause-step : goal.returns-clause-step
 returns-clause-step g c start over =
-    let target : c.target-array.result ≡ (target_of (op_of c.args.plan.now c.args.op)) = c.target-array.ensures ∙ ap (λ (o : Planned). target_of o.op) c.operation.ensures.operation in
-    let same = carries c.args.plan.now c.operation.ensures.sound c.args.op c.args.task c.requires.operation c.requires.task (target_of (op_of c.args.plan.now c.args.op)) (target_written (op_of c.args.plan.now c.args.op)) start c.args.output.now over in
-    let calls = only_calls c.args.plan.now.arrays (op_of c.args.plan.now c.args.op) c.args.task c.requires.only in
-    let put = subst (λ (n : ℕ). Steps (RegionPut (array_at c.args.plan.now.arrays (target_of (op_of c.args.plan.now c.args.op))) (task_lo c.args.plan.now.arrays (op_of c.args.plan.now c.args.op) c.args.task) (task_hi c.args.plan.now.arrays (op_of c.args.plan.now c.args.op) c.args.task) c.args.output.now) 0 n (g.C.Chunks.shown c.args.access.now) (g.C.Chunks.shown c.write_array.new.access)) (sym calls) (subst (λ (a : ℕ). Steps (RegionPut (array_at c.args.plan.now.arrays a) (task_lo c.args.plan.now.arrays (op_of c.args.plan.now c.args.op) c.args.task) (task_hi c.args.plan.now.arrays (op_of c.args.plan.now c.args.op) c.args.task) c.args.output.now) 0 (length (walk_cells c.args.plan.now.arrays (walk a (task_lo c.args.plan.now.arrays (op_of c.args.plan.now c.args.op) c.args.task) (task_hi c.args.plan.now.arrays (op_of c.args.plan.now c.args.op) c.args.task)))) (g.C.Chunks.shown c.args.access.now) (g.C.Chunks.shown c.write_array.new.access)) target c.write_array.ensures.step) in
-    steps_wider (puts_cells c.args.plan.now c.operation.ensures.sound c.args.op c.args.task c.requires.operation c.requires.task (target_of (op_of c.args.plan.now c.args.op)) (target_written (op_of c.args.plan.now c.args.op)) start c.args.output.now same) (omega arith) (omega arith) put
+    let target : c.target-array.result ≡ (target_of (op_of c.args.task.now.plan c.args.task.now.op)) = c.target-array.ensures ∙ ap target_of c.operation.ensures.operation in
+    let same = carries c.args.task.now.plan c.operation.ensures.sound c.args.task.now.op c.args.task.now.number c.args.task.now.operation c.args.task.now.within (target_of (op_of c.args.task.now.plan c.args.task.now.op)) (target_written (op_of c.args.task.now.plan c.args.task.now.op)) start c.args.output.now over in
+    let calls = only_calls c.args.task.now.plan.arrays (op_of c.args.task.now.plan c.args.task.now.op) c.args.task.now.number c.requires.only in
+    let put = subst (λ (n : ℕ). Steps (RegionPut (array_at c.args.task.now.plan.arrays (target_of (op_of c.args.task.now.plan c.args.task.now.op))) (task_lo c.args.task.now.plan.arrays (op_of c.args.task.now.plan c.args.task.now.op) c.args.task.now.number) (task_hi c.args.task.now.plan.arrays (op_of c.args.task.now.plan c.args.task.now.op) c.args.task.now.number) c.args.output.now) 0 n (g.C.Chunks.shown c.args.access.now) (g.C.Chunks.shown c.write_array.new.access)) (sym calls) (subst (λ (a : ℕ). Steps (RegionPut (array_at c.args.task.now.plan.arrays a) (task_lo c.args.task.now.plan.arrays (op_of c.args.task.now.plan c.args.task.now.op) c.args.task.now.number) (task_hi c.args.task.now.plan.arrays (op_of c.args.task.now.plan c.args.task.now.op) c.args.task.now.number) c.args.output.now) 0 (length (walk_cells c.args.task.now.plan.arrays (walk a (task_lo c.args.task.now.plan.arrays (op_of c.args.task.now.plan c.args.task.now.op) c.args.task.now.number) (task_hi c.args.task.now.plan.arrays (op_of c.args.task.now.plan c.args.task.now.op) c.args.task.now.number)))) (g.C.Chunks.shown c.args.access.now) (g.C.Chunks.shown c.write_array.new.access)) target c.write_array.ensures.step) in
+    steps_wider (puts_cells c.args.task.now.plan c.operation.ensures.sound c.args.task.now.op c.args.task.now.number c.args.task.now.operation c.args.task.now.within (target_of (op_of c.args.task.now.plan c.args.task.now.op)) (target_written (op_of c.args.task.now.plan c.args.task.now.op)) start c.args.output.now same) (omega arith) (omega arith) put
 
 pub returns-clause-stored : goal.returns-clause-stored
 returns-clause-stored g c env start calls over ready before =
-    let target : c.target-array.result ≡ (target_of (op_of c.args.plan.now c.args.op)) = c.target-array.ensures ∙ ap (λ (o : Planned). target_of o.op) c.operation.ensures.operation in
-    let same = carries c.args.plan.now c.operation.ensures.sound c.args.op c.args.task c.requires.operation c.requires.task (target_of (op_of c.args.plan.now c.args.op)) (target_written (op_of c.args.plan.now c.args.op)) start c.args.output.now over in
-    let stored = subst (λ (a : ℕ). LateIsOwn (array_at c.args.plan.now.arrays a) (task_lo c.args.plan.now.arrays (op_of c.args.plan.now c.args.op) c.args.task) (task_hi c.args.plan.now.arrays (op_of c.args.plan.now c.args.op) c.args.task) c.args.output.now (g.C.Chunks.shown c.args.access.now).late → OnOk c.write_array.result (StoresRegion (array_at c.args.plan.now.arrays a) (task_lo c.args.plan.now.arrays (op_of c.args.plan.now c.args.op) c.args.task) (task_hi c.args.plan.now.arrays (op_of c.args.plan.now c.args.op) c.args.task) c.args.output.now (g.C.Chunks.shown c.write_array.new.access).held)) target c.write_array.ensures.stored in
-    on_ok_then c.write_array.result (λ stores cell there. holds_chunk c.args.plan.now c.operation.ensures.sound c.args.op c.args.task c.requires.operation c.requires.task (target_of (op_of c.args.plan.now c.args.op)) (target_written (op_of c.args.plan.now c.args.op)) env start (g.C.Chunks.shown c.write_array.new.access) c.args.output.now same ready stores cell (only_array c.args.plan.now c.operation.ensures.sound c.args.op c.args.task c.requires.operation c.requires.task (target_of (op_of c.args.plan.now c.args.op)) c.requires.only cell there) there) (stored (late_own c.args.plan.now c.operation.ensures.sound c.args.op c.args.task c.requires.operation c.requires.task (target_of (op_of c.args.plan.now c.args.op)) (target_written (op_of c.args.plan.now c.args.op)) env start (g.C.Chunks.shown c.args.access.now) 0 calls c.args.output.now same ready before))
+    let target : c.target-array.result ≡ (target_of (op_of c.args.task.now.plan c.args.task.now.op)) = c.target-array.ensures ∙ ap target_of c.operation.ensures.operation in
+    let same = carries c.args.task.now.plan c.operation.ensures.sound c.args.task.now.op c.args.task.now.number c.args.task.now.operation c.args.task.now.within (target_of (op_of c.args.task.now.plan c.args.task.now.op)) (target_written (op_of c.args.task.now.plan c.args.task.now.op)) start c.args.output.now over in
+    let stored = subst (λ (a : ℕ). LateIsOwn (array_at c.args.task.now.plan.arrays a) (task_lo c.args.task.now.plan.arrays (op_of c.args.task.now.plan c.args.task.now.op) c.args.task.now.number) (task_hi c.args.task.now.plan.arrays (op_of c.args.task.now.plan c.args.task.now.op) c.args.task.now.number) c.args.output.now (g.C.Chunks.shown c.args.access.now).late → OnOk c.write_array.result (StoresRegion (array_at c.args.task.now.plan.arrays a) (task_lo c.args.task.now.plan.arrays (op_of c.args.task.now.plan c.args.task.now.op) c.args.task.now.number) (task_hi c.args.task.now.plan.arrays (op_of c.args.task.now.plan c.args.task.now.op) c.args.task.now.number) c.args.output.now (g.C.Chunks.shown c.write_array.new.access).held)) target c.write_array.ensures.stored in
+    on_ok_then c.write_array.result (λ stores cell there. holds_chunk c.args.task.now.plan c.operation.ensures.sound c.args.task.now.op c.args.task.now.number c.args.task.now.operation c.args.task.now.within (target_of (op_of c.args.task.now.plan c.args.task.now.op)) (target_written (op_of c.args.task.now.plan c.args.task.now.op)) env start (g.C.Chunks.shown c.write_array.new.access) c.args.output.now same ready stores cell (only_array c.args.task.now.plan c.operation.ensures.sound c.args.task.now.op c.args.task.now.number c.args.task.now.operation c.args.task.now.within (target_of (op_of c.args.task.now.plan c.args.task.now.op)) c.requires.only cell there) there) (stored (late_own c.args.task.now.plan c.operation.ensures.sound c.args.task.now.op c.args.task.now.number c.args.task.now.operation c.args.task.now.within (target_of (op_of c.args.task.now.plan c.args.task.now.op)) (target_written (op_of c.args.task.now.plan c.args.task.now.op)) env start (g.C.Chunks.shown c.args.access.now) 0 calls c.args.output.now same ready before))
 
 pub returns-clause-all : goal.returns-clause-all
 returns-clause-all g c =
-    let target : c.target-array.result ≡ (target_of (op_of c.args.plan.now c.args.op)) = c.target-array.ensures ∙ ap (λ (o : Planned). target_of o.op) c.operation.ensures.operation in
-    let calls = only_calls c.args.plan.now.arrays (op_of c.args.plan.now c.args.op) c.args.task c.requires.only in
-    subst (λ (n : ℕ). OnOk c.write_array.result (Made n (g.C.Chunks.shown c.args.access.now).calls (g.C.Chunks.shown c.write_array.new.access).calls)) (sym calls) (subst (λ (a : ℕ). OnOk c.write_array.result (Made (length (walk_cells c.args.plan.now.arrays (walk a (task_lo c.args.plan.now.arrays (op_of c.args.plan.now c.args.op) c.args.task) (task_hi c.args.plan.now.arrays (op_of c.args.plan.now c.args.op) c.args.task)))) (g.C.Chunks.shown c.args.access.now).calls (g.C.Chunks.shown c.write_array.new.access).calls)) target c.write_array.ensures.all)
+    let target : c.target-array.result ≡ (target_of (op_of c.args.task.now.plan c.args.task.now.op)) = c.target-array.ensures ∙ ap target_of c.operation.ensures.operation in
+    let calls = only_calls c.args.task.now.plan.arrays (op_of c.args.task.now.plan c.args.task.now.op) c.args.task.now.number c.requires.only in
+    subst (λ (n : ℕ). OnOk c.write_array.result (Made n (g.C.Chunks.shown c.args.access.now).calls (g.C.Chunks.shown c.write_array.new.access).calls)) (sym calls) (subst (λ (a : ℕ). OnOk c.write_array.result (Made (length (walk_cells c.args.task.now.plan.arrays (walk a (task_lo c.args.task.now.plan.arrays (op_of c.args.task.now.plan c.args.task.now.op) c.args.task.now.number) (task_hi c.args.task.now.plan.arrays (op_of c.args.task.now.plan c.args.task.now.op) c.args.task.now.number)))) (g.C.Chunks.shown c.args.access.now).calls (g.C.Chunks.shown c.write_array.new.access).calls)) target c.write_array.ensures.all)
 
 pub write_array-requires-clause-puts : goal.write_array-requires-clause-puts
 write_array-requires-clause-puts g c =
-    let target : c.target-array.result ≡ (target_of (op_of c.args.plan.now c.args.op)) = c.target-array.ensures ∙ ap (λ (o : Planned). target_of o.op) c.operation.ensures.operation in
+    let target : c.target-array.result ≡ (target_of (op_of c.args.task.now.plan c.args.task.now.op)) = c.target-array.ensures ∙ ap target_of c.operation.ensures.operation in
     let p = c.requires.puts in
-    let same = carries c.args.plan.now c.operation.ensures.sound c.args.op c.args.task c.requires.operation c.requires.task (target_of (op_of c.args.plan.now c.args.op)) (target_written (op_of c.args.plan.now c.args.op)) p.0 c.args.output.now p.1 in
-    subst (λ (a : ℕ). AllowsRegion c.args.plan.now c.args.op c.args.task a c.args.output.now (g.C.Chunks.may_put c.args.store.now)) (sym target)
-    (allows_within (puts_cells c.args.plan.now c.operation.ensures.sound c.args.op c.args.task c.requires.operation c.requires.task (target_of (op_of c.args.plan.now c.args.op)) (target_written (op_of c.args.plan.now c.args.op)) p.0 c.args.output.now same) p.2)
+    let same = carries c.args.task.now.plan c.operation.ensures.sound c.args.task.now.op c.args.task.now.number c.args.task.now.operation c.args.task.now.within (target_of (op_of c.args.task.now.plan c.args.task.now.op)) (target_written (op_of c.args.task.now.plan c.args.task.now.op)) p.0 c.args.output.now p.1 in
+    subst (λ (a : ℕ). AllowsRegion c.args.task.now.plan c.args.task.now.op c.args.task.now.number a c.args.output.now (g.C.Chunks.may_put c.args.store.now)) (sym target)
+    (allows_within (puts_cells c.args.task.now.plan c.operation.ensures.sound c.args.task.now.op c.args.task.now.number c.args.task.now.operation c.args.task.now.within (target_of (op_of c.args.task.now.plan c.args.task.now.op)) (target_written (op_of c.args.task.now.plan c.args.task.now.op)) p.0 c.args.output.now same) p.2)
 
 pub returns-clause-got : goal.returns-clause-got
 returns-clause-got g c =
-    let target : c.target-array.result ≡ (target_of (op_of c.args.plan.now c.args.op)) = c.target-array.ensures ∙ ap (λ (o : Planned). target_of o.op) c.operation.ensures.operation in
+    let target : c.target-array.result ≡ (target_of (op_of c.args.task.now.plan c.args.task.now.op)) = c.target-array.ensures ∙ ap target_of c.operation.ensures.operation in
     on_ok_then c.write_array.result
-    (λ got cell there. got_cell c.args.plan.now c.operation.ensures.sound c.args.op c.args.task (target_of (op_of c.args.plan.now c.args.op)) (g.C.Chunks.may_get c.args.store.now c.write_array.new.access) c.requires.operation c.requires.task cell there
-    (only_array c.args.plan.now c.operation.ensures.sound c.args.op c.args.task c.requires.operation c.requires.task (target_of (op_of c.args.plan.now c.args.op)) c.requires.only cell there)
-    (subst (λ (a : ℕ). MayReadRegion c.args.plan.now c.args.op c.args.task a (g.C.Chunks.may_get c.args.store.now c.write_array.new.access)) target got))
+    (λ got cell there. got_cell c.args.task.now.plan c.operation.ensures.sound c.args.task.now.op c.args.task.now.number (target_of (op_of c.args.task.now.plan c.args.task.now.op)) (g.C.Chunks.may_get c.args.store.now c.write_array.new.access) c.args.task.now.operation c.args.task.now.within cell there
+    (only_array c.args.task.now.plan c.operation.ensures.sound c.args.task.now.op c.args.task.now.number c.args.task.now.operation c.args.task.now.within (target_of (op_of c.args.task.now.plan c.args.task.now.op)) c.requires.only cell there)
+    (subst (λ (a : ℕ). MayReadRegion c.args.task.now.plan c.args.task.now.op c.args.task.now.number a (g.C.Chunks.may_get c.args.store.now c.write_array.new.access)) target got))
     c.write_array.ensures.got

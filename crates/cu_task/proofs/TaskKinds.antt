@@ -1,0 +1,142 @@
+-- Operations of a kind: their fields, what they read and write, and the rooms of their tasks.
+use Rattle.std.proofs.Common.{◌≡◌, ◌+◌, ◌*◌, ◌≤◌, ◌<◌, ℕ, Bool, List, [], ◌∷◌, Contains, Option, Some, None, refl, sym, ap, subst, arith}
+use Rattle.cu_num.specs.Dtype.{size_of}
+use Rattle.cu_num.specs.declared.types.Dtype.{Dtype}
+use Rattle.cu_shape.specs.Index.{product, differences}
+use Rattle.cu_num.specs.declared.folds.FoldKind.{FoldKind}
+use Rattle.cu_op.specs.Arrays.{type_at}
+use Rattle.cu_op.specs.Cells.{tasks_of, task_lo, task_hi}
+use Rattle.cu_op.specs.Operation.{reads_of, writes_of, pair_writes, target_of}
+use Rattle.cu_op.specs.PlanView.{PlanView}
+use Rattle.cu_op.specs.Projection.{input_room, output_room}
+use Rattle.cu_op.specs.Sound.{Sound}
+use Rattle.cu_op.specs.declared.kernel.Kernel.{Kernel}
+use Rattle.cu_op.specs.declared.layout.ArrayInfo.{ArrayInfo}
+use Rattle.cu_op.specs.declared.operation.Op.{Op}
+use Rattle.cu_op.specs.declared.operation.Op.TheVariants.{Map, Pull, Copy, Fold, Merge, PairFold, PairMerge, Mul}
+use Rattle.arrayvec.specs.declared.ArrayVec.{ArrayVec}
+use Rattle.cu_pull.specs.declared.axes.Axes.{Axes}
+use Rattle.cu_pull.specs.declared.pull.Pull.{Pull as View}
+use Rattle.cu_op.proofs.Operations.{Fit}
+use Rattle.cu_task.specs.Inputs.{IsMergeOf, IsSearchOf, IsSearchAmong}
+use Rattle.cu_task.specs.Task.{IsPlaceSearch, IsComputing, kept_room, compared_by, compared_array, value_array, room_beside}
+use Rattle.cu_task.proofs.SearchTask.{search_room}
+use Rattle.cu_task.proofs.TaskRegions.{type_stored}
+use Rattle.cu_task.proofs.TaskRooms.{single_room}
+
+pub record Merged (op : Op) (kind : FoldKind) (axis out : ℕ) : Type 0 where
+  pub group : ℕ
+  pub source : ℕ
+  pub is : op ≡ Merge kind axis group source out
+
+pub merged : (op : Op) (kind : FoldKind) (axis out : ℕ) → IsMergeOf op kind axis out → Merged op kind axis out
+merged (Merge own along group source made) kind axis out is = record { group = group; source = source; is = rw (is.0, is.1, is.2) refl }
+merged op kind axis out is = absurd is
+
+-- a search, and one among partial results
+pub record FirstSearch : Type 0 where
+  pub least : Bool
+  pub axis : Option ℕ
+  pub source : ℕ
+  pub stored : Option ℕ
+  pub out : ℕ
+
+pub record MergedSearch : Type 0 where
+  pub least : Bool
+  pub axis : ℕ
+  pub group : ℕ
+  pub value_source : ℕ
+  pub place_source : ℕ
+  pub stored : Option ℕ
+  pub out : ℕ
+
+pub record First (op : Op) (least : Bool) (axis : Option ℕ) (source : ℕ) : Type 0 where
+  pub stored : Option ℕ
+  pub out : ℕ
+  pub is : op ≡ PairFold least axis source stored out
+
+pub first_search : (op : Op) (least : Bool) (axis : Option ℕ) (source : ℕ) → IsSearchOf op least axis source → First op least axis source
+first_search (PairFold low along from values out) least axis source is = record { stored = values; out = out; is = rw (is.0, is.1, is.2) refl }
+first_search op least axis source is = absurd is
+
+pub record Among (op : Op) (least : Bool) (axis source : ℕ) : Type 0 where
+  pub group : ℕ
+  pub places : ℕ
+  pub stored : Option ℕ
+  pub out : ℕ
+  pub is : op ≡ PairMerge least axis group source places stored out
+
+pub search_among : (op : Op) (least : Bool) (axis source : ℕ) → IsSearchAmong op least axis source → Among op least axis source
+search_among (PairMerge low along group from place_source values out) least axis source is =
+    record { group = group; places = place_source; stored = values; out = out; is = rw (is.0, is.1, is.2) refl }
+search_among op least axis source is = absurd is
+
+-- ---- kinds
+
+pub computing : (op : Op) → ((pull : View) (ins : ArrayVec ℕ 8 (Unit {0})) (out : ℕ) → op ≡ Pull pull ins out → ⊥) → ((region : List ℕ) (source out : ℕ) → op ≡ Copy region source out → ⊥) → IsComputing op
+computing (Pull pull ins out) not_pull not_copy = absurd (not_pull pull ins out refl)
+computing (Copy region source out) not_pull not_copy = absurd (not_copy region source out refl)
+computing op not_pull not_copy = tt
+
+pub one_of_six : (op : Op) → IsComputing op → ((kernel : Kernel) (ins : ArrayVec ℕ 8 (Unit {0})) (out : ℕ) → op ≡ Map kernel ins out → ⊥)
+    → ((kind : FoldKind) (axes : Axes) (source out : ℕ) → op ≡ Fold kind axes source out → ⊥) → ((kind : FoldKind) (axis group source out : ℕ) → op ≡ Merge kind axis group source out → ⊥)
+    → ((left right out : ℕ) → op ≡ Mul left right out → ⊥) → ((least : Bool) (axis : Option ℕ) (source : ℕ) (values : Option ℕ) (out : ℕ) → op ≡ PairFold least axis source values out → ⊥)
+    → ((least : Bool) (axis group value_source place_source : ℕ) (values : Option ℕ) (out : ℕ) → op ≡ PairMerge least axis group value_source place_source values out → ⊥) → ⊥
+one_of_six (Map kernel ins out) is a b c d e f = a kernel ins out refl
+one_of_six (Fold kind axes source out) is a b c d e f = b kind axes source out refl
+one_of_six (Merge kind axis group source out) is a b c d e f = c kind axis group source out refl
+one_of_six (Mul left right out) is a b c d e f = d left right out refl
+one_of_six (PairFold least axis source values out) is a b c d e f = e least axis source values out refl
+one_of_six (PairMerge least axis group value_source place_source values out) is a b c d e f = f least axis group value_source place_source values out refl
+one_of_six op is a b c d e f = absurd is
+
+-- ---- values that are stored beside the places
+
+abbrev IsNone : Option ℕ → Type 0
+IsNone None = Unit {0}
+IsNone (Some n) = ⊥
+
+pub none_stored : (array : ℕ) → None ≡ Some array → ⊥
+none_stored array e = subst IsNone e tt
+
+pub both_written : (op : Op) (array : ℕ) → value_array op ≡ Some array → writes_of op ≡ array ∷ target_of op ∷ []
+both_written (PairFold least axis source values out) array is = ap (λ (v : Option ℕ). pair_writes v out) is
+both_written (PairMerge least axis group value_source place_source values out) array is = ap (λ (v : Option ℕ). pair_writes v out) is
+both_written op array is = absurd (none_stored array is)
+
+pub only_written : (op : Op) → value_array op ≡ None → writes_of op ≡ target_of op ∷ []
+only_written (PairFold least axis source values out) is = ap (λ (v : Option ℕ). pair_writes v out) is
+only_written (PairMerge least axis group value_source place_source values out) is = ap (λ (v : Option ℕ). pair_writes v out) is
+only_written op is = refl
+
+pub compared_reads : (op : Op) (array : ℕ) → compared_array op ≡ Some array → Contains (reads_of op) array
+compared_reads (PairFold least axis source values out) array is = let same : source ≡ array = cc in subst (Contains (reads_of (PairFold least axis source values out))) same (0, omega arith, refl)
+compared_reads (PairMerge least axis group value_source place_source values out) array is =
+    let same : value_source ≡ array = cc in subst (Contains (reads_of (PairMerge least axis group value_source place_source values out))) same (0, omega arith, refl)
+compared_reads op array is = absurd (none_stored array is)
+
+-- ---- rooms
+
+pub searched_room : (arrays : List ArrayInfo) (op : Op) (task : ℕ) → IsPlaceSearch op
+    → room_beside arrays op task (compared_array op) ≡ product (differences (task_hi arrays op task) (task_lo arrays op task)) * size_of (type_at arrays (compared_by op))
+searched_room arrays (PairFold least axis source values out) task is = refl
+searched_room arrays (PairMerge least axis group value_source place_source values out) task is = refl
+searched_room arrays op task is = absurd is
+
+pub stored_room : (arrays : List ArrayInfo) (k : ℕ) (op : Op) (task array : ℕ) → Fit arrays k op → value_array op ≡ Some array
+    → room_beside arrays op task (compared_array op) ≡ product (differences (task_hi arrays op task) (task_lo arrays op task)) * size_of (type_at arrays array)
+stored_room arrays k (PairFold least axis source values out) task array fit is =
+    ap (λ (t : Dtype). product (differences (task_hi arrays (PairFold least axis source values out) task) (task_lo arrays (PairFold least axis source values out) task)) * size_of t)
+    (sym (type_stored arrays values source out array fit.2.1.stored is))
+stored_room arrays k (PairMerge least axis group value_source place_source values out) task array fit is =
+    ap (λ (t : Dtype). product (differences (task_hi arrays (PairMerge least axis group value_source place_source values out) task) (task_lo arrays (PairMerge least axis group value_source place_source values out) task)) * size_of t)
+    (sym (type_stored arrays values value_source out array fit.2.2.stored is))
+stored_room arrays k op task array fit is = absurd (none_stored array is)
+
+-- a task's rooms fit into what it is lent
+pub rooms_fit : (p : PlanView) (s : Sound p) (k : ℕ) (op : Op) (task : ℕ) → Fit p.arrays k op → task < tasks_of p.arrays op
+    → room_beside p.arrays op task (compared_array op) + product (differences (task_hi p.arrays op task) (task_lo p.arrays op task)) * size_of (type_at p.arrays (target_of op)) + kept_room p.arrays op task
+    ≤ input_room p.arrays op + output_room p.arrays op
+rooms_fit p s k (PairFold least axis source values out) task fit h = search_room p s k (PairFold least axis source values out) task fit h tt
+rooms_fit p s k (PairMerge least axis group value_source place_source values out) task fit h = search_room p s k (PairMerge least axis group value_source place_source values out) task fit h tt
+rooms_fit p s k op task fit h = let most = single_room p s k op task fit h tt in omega (arith, most)
