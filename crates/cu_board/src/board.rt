@@ -126,14 +126,18 @@ impl<Y: Yard> Board<Y> {
     {
         let badge = mem::replace(&mut seat.badge, Badge::blank());
         let (mut state, held) = self.turn.take::<Brand, H>(rt, badge);
-        report_in(&mut state, seat.number, yard, pass, op, task, ended);
-        let (badge, word) = self.turn.give_back(state, held, true);
+        // Who sleeps was told Idle, and the word stands as then. Until this report each claim since was told Idle too, and each report
+        // left the table so that the next one would be: no claim starts a task then, and so none frees a second copy. So where a claim
+        // would have been told Idle before this report and wouldn't now, all wake; and else nobody sleeps who would be told anything
+        // else. Who is told Idle and doesn't sleep yet finds another word then, and doesn't sleep.
+        let wakes = report_in(&mut state, seat.number, yard, pass, op, task, ended);
+        let (badge, word) = self.turn.give_back(state, held, wakes);
         seat.badge = badge;
         seat.word = word;
     }
 
-    /// Sleeps until a task was reported since the seat's last claim or report, or for no reason. A worker that was told Idle calls
-    /// it before it claims again. It changes nothing.
+    /// Sleeps until a report was made since the seat's last claim after which a claim isn't told Idle, or for no reason. A worker
+    /// that was told Idle calls it before it claims again. It changes nothing.
     pub fn wait<H: Wait>(&self, rt: &H, seat: &BoardSeat) {
         self.turn.wait(rt, seat.word);
     }

@@ -9,7 +9,7 @@ pub struct BoardSeat {
     pub(crate) badge: Badge<SeatView>,
     // the number of a worker, as the view has it
     pub(crate) number: u32,
-    // the word of the lock when this seat gave the turn back last, which counts reports
+    // the word of the lock when this seat gave the turn back last: it is another one after each report that wakes
     pub(crate) word: u64,
 }
 

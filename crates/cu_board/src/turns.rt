@@ -1,8 +1,8 @@
 //! What a seat does while it has the turn.
-ghost use Rattle.std.specs.Prelude.{◌≡◌, min};
+ghost use Rattle.std.specs.Prelude.{◌≡◌, ◌↔◌, IsTrue, min};
 ghost use Rattle.cu_store.specs.Faults.{last_count};
 ghost use Rattle.cu_store.specs.Yard.{IsLater};
-ghost use Rattle.cu_table.specs.Table.{TableView, IsClaim};
+ghost use Rattle.cu_table.specs.Table.{TableView, IsClaim, IsIdle};
 ghost use Rattle.cu_board.specs.Board.{IsLegal, IsBoardState, IsResting, IsRunning, IsGrownBy, Reports, TellsClaim, UnlessRun, MayReport, TakesIn, LeavesCount};
 
 use crate::state::BoardState;
@@ -62,7 +62,15 @@ fn pass_on<Y: Yard>(yard: &Y, kept: &mut Y::Pass, pass: &mut Y::Pass, ended: &Re
     }
 }
 
-/// A report. What is true of a board's state before is true of it afterwards.
+// Whether what was so isn't any more.
+fn only_before(was: bool, is: bool) -> bool
+    ensures { IsTrue result ↔ (IsTrue was × (IsTrue is → ⊥)) }
+{
+    was && !is
+}
+
+/// A report. What is true of a board's state before is true of it afterwards. The answer is whether a claim would have answered
+/// Idle before it, and wouldn't now: else nobody sleeps who is to wake.
 pub(crate) fn report_in<Y: Yard>(
     state: &mut BoardState<Y>,
     number: u32,
@@ -71,7 +79,7 @@ pub(crate) fn report_in<Y: Yard>(
     op: u32,
     task: u32,
     ended: Result<(), TaskFault>,
-)
+) -> bool
     requires own { Y.owns yard.now state.old.pass × Y.owns yard.now pass.old }
     requires legal { IsLegal state.old.table }
     requires running { IsRunning number op task state.old.table.history }
@@ -83,10 +91,14 @@ pub(crate) fn report_in<Y: Yard>(
     ensures kept { (made : TableView) (first : _) → Y.owns yard.now first
         → IsBoardState Y.knows Y.owns made first state.old.table state.old.pass
         → IsBoardState Y.knows Y.owns made first state.new.table state.new.pass }
+    ensures wakes { IsTrue result ↔ (IsIdle state.old.table × (IsIdle state.new.table → ⊥)) }
 {
     own_law();
     ended_law();
     step_law();
+    let was_idle = state.table.is_idle();
     pass_on(yard, &mut state.pass, pass, &ended);
     state.table.report(number, op, task, ended);
+    let is_idle = state.table.is_idle();
+    only_before(was_idle, is_idle)
 }

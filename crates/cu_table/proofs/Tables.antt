@@ -1,10 +1,10 @@
 -- What a table's claims and reports rest on.
-use Rattle.std.proofs.Common.{◌≡◌, ◌≢◌, inl, inr, ℕ, ◌+◌, ◌*◌, ◌<◌, ◌≤◌, true, List, [], ◌∷◌, ◌++◌, length, get_or, All, cond, Option, Some, None, refl, ap, sym, ◌∙◌, subst, arith}
+use Rattle.std.proofs.Common.{◌≡◌, ◌≢◌, ◌↔◌, inl, inr, ℕ, ◌+◌, ◌*◌, ◌<◌, ◌≤◌, Bool, IsTrue, true, false, List, [], ◌∷◌, ◌++◌, length, get_or, All, cond, Option, Some, None, refl, ap, sym, ◌∙◌, subst, arith}
 use Rattle.std.specs.Prelude.{◌==◌}
 use Rattle.std.proofs.lemmas.Bool.{cases_Bool, cond-true, cond-false}
 use Rattle.std.proofs.lemmas.List.{length_push, get_or_default}
 use Rattle.std.proofs.lemmas.List.Elements.{All-contains}
-use Rattle.std.proofs.lemmas.List.Sums.{sum_by-le, get_or-le-sum_by}
+use Rattle.std.proofs.lemmas.List.Sums.{sum_by-cons, sum_by-le, get_or-le-sum_by}
 use Rattle.cu_history.specs.declared.entry.Entry.{Entry}
 use Rattle.cu_op.specs.PlanView.{PlanView}
 use Rattle.cu_op.specs.Sound.{Sound}
@@ -18,8 +18,8 @@ use Rattle.cu_table.specs.declared.state.TaskState.{TaskState}
 use Rattle.cu_table.specs.Numbers.{task_count, task_number}
 use Rattle.cu_table.specs.Machine.{Machine, no_task, state_at, AllDone, IsSingleState, NoneWaits, NoneSingle, RunsNothing, opening, one_copy_more, copy_started, copy_of}
 use Rattle.cu_table.specs.Step.{CanStart, Step, Replays}
-use Rattle.cu_table.specs.Table.{TableView, IsClaim, claim_of, Goes, start_event, undone_weight}
-use Rattle.cu_table.specs.Queue.{Lined, times_in, of_tasks, IsLined, IsQueue, IsTable, IsNextTask, HasNoNext}
+use Rattle.cu_table.specs.Table.{TableView, IsClaim, IsIdle, claim_of, Goes, NoneStarts, start_event, undone_weight}
+use Rattle.cu_table.specs.Queue.{Lined, times_in, of_tasks, IsLined, IsQueue, IsTable, IsNextTask, HasNext, HasNoNext}
 use Rattle.cu_table.proofs.Numbers.{number_some}
 use Rattle.cu_table.proofs.Copies.{a_copy, some_copy}
 use Rattle.cu_table.proofs.Keeping.{Kept, inside, replay_kept, run_more, copies_few, history_few, step_kept}
@@ -27,6 +27,10 @@ use Rattle.cu_table.proofs.Chains.{one_same}
 use Rattle.cu_table.proofs.Lining.{some_list}
 use Rattle.cu_table.proofs.Changing.{blocks_ready, state_own}
 use Rattle.cu_table.proofs.Queues.{taken_ready, queue_taken, queue_same, undone_same}
+
+-- a truth value isn't both
+false_is : false ≡ true → ⊥
+false_is e = cc
 
 -- the view after an entry
 abbrev pub gone : TableView → Entry → Machine → TableView
@@ -86,6 +90,14 @@ module _ (v : TableView) (u : Undone) (q : Lined) (table : IsTable v u q) where
           let here : (get_or v.state.tasks k d).done ≡ true = ap (λ (s : TaskState). s.done) (get_or_default v.state.tasks k d no_task l ∙ ap (λ (i : ℕ). get_or v.state.tasks i no_task) (sym e)) ∙ all op task is in
           rw (cond-true {A = ℕ} (get_or v.state.tasks k d).done 0 1 here) (omega arith)
 
+  -- a claim doesn't answer Idle where the machine has ended
+  pub has_ended : v.state.ended ≢ None → IsTrue false ↔ IsIdle v
+  has_ended some = (λ is. absurd (false_is is), λ idle. absurd (some (idle 0).1))
+
+  -- nor where all is done
+  pub all_done : u.left ≡ 0 → IsTrue false ↔ IsIdle v
+  all_done none = (λ is. absurd (false_is is), λ idle. absurd ((idle 0).2 (finished none)))
+
   -- ---- a step more
 
   module _ (e : Entry) (m : Machine) (step : Step v.settings v.state e m) where
@@ -119,6 +131,36 @@ module _ (v : TableView) (u : Undone) (q : Lined) (table : IsTable v u q) where
           let one = single.1 in
           let (worker, has) = some_copy op task v.state.copies (omega (arith, n, one)) in
           All-contains (λ (c : RunningCopy). IsSingleState (get_or v.state.tasks (task_number v.settings.plan c.op c.task) no_task) → ⊥) v.state.copies (a_copy worker op task) (none.alone on) has single,
+    )
+
+    -- a ready task that waits can be started
+    listed_starts : NoneStarts v.settings v.state → q.waiting ≡ []
+    listed_starts none = at q.waiting refl
+      where
+        at : (waiting : List ℕ) → q.waiting ≡ waiting → q.waiting ≡ []
+        at [] is = is
+        at (x ∷ rest) is =
+            let e = ap (times_in x) is in
+            let c = sum_by-cons (λ (i : ℕ). cond {A = ℕ} (i == x) 1 0) x rest in
+            let s = one_same x x refl in
+            let (op, task, task_is, number_is) = number_some v.settings.plan x (queue_now.lined.small x (omega (arith, e, c, s))) in
+            let can = queue_now.lined.ready op task task_is (subst (λ (n : ℕ). 1 ≤ times_in n q.waiting) (sym number_is) (omega (arith, e, c, s))) in
+            absurd (none.0 op task task_is can.0 can.1)
+
+    -- where nothing can be started there is no next task
+    pub no_next : HasNext v.settings.plan v.settings.backups v.state.tasks q → NoneStarts v.settings v.state → ⊥
+    no_next (inl waits) none = waits (listed_starts none)
+    no_next (inr second) none = let (id, task_is, single) = second.1 in none.1 second.0 id.op id.task task_is single
+
+    -- whether a claim would answer Idle
+    pub is_idle : (b : Bool) → u.left ≢ 0 → (IsTrue b → HasNoNext v.settings.plan v.settings.backups v.state.tasks v.state.copies q q)
+        → (b ≡ false → HasNext v.settings.plan v.settings.backups v.state.tasks q) → IsTrue b ↔ IsIdle v
+    is_idle b some none next = (
+      λ is worker. (refl, going, not_finished some, none_starts q (none is)),
+      λ idle. elim (cases_Bool b) [
+        | inl is ↦ is
+        | inr isnt ↦ absurd (no_next (next isnt) (idle 0).3)
+      ],
     )
 
     module _ (id : TaskId) (r : Lined) (next : IsNextTask v.settings.plan v.settings.backups v.state.tasks id q r) where

@@ -236,6 +236,11 @@ pub record IsSecond (p : PlanView) (backups : Bool) (tasks : List TaskState) (id
 abbrev pub IsNextTask : PlanView → Bool → List TaskState → TaskId → Lined → Lined → Type 0
 IsNextTask p backups tasks id old new = IsTask p id.op id.task × (IsTakenLast p id old new ⊎ IsSecond p backups tasks id old new)
 
+-- a ready task waits, or a second copy of one may begin
+abbrev pub HasNext : PlanView → Bool → List TaskState → Lined → Type 0
+HasNext p backups tasks q = (q.waiting ≢ [])
+    ⊎ (backups ≡ true) × ((id : TaskId) × IsTask p id.op id.task × IsSingleState (slice_index_or tasks (task_number p id.op id.task) no_task))
+
 -- none of these copies is the only one of its task
 abbrev pub NoneAlone : PlanView → List TaskState → List RunningCopy → Type 0
 NoneAlone p tasks copies = All (λ c. IsSingleState (slice_index_or tasks (task_number p c.op c.task) no_task) → ⊥) copies

@@ -51,6 +51,10 @@ IsClaim old worker claim.Finished new = (new ≡ old) × (old.state.ended ≡ No
 IsClaim old worker (claim.Broken op task) new = (new ≡ old) × (old.state.ended ≡ Some (Broken op task))
 IsClaim old worker (claim.Halted fault) new = (new ≡ old) × (old.state.ended ≡ Some (Halted fault))
 
+-- a claim would be told Idle, by any worker
+abbrev pub IsIdle : TableView → Type 0
+IsIdle t = (worker : ℕ) → IsClaim t worker claim.Idle t
+
 -- what a machine that has ended answers
 abbrev pub claim_of : Ending → Claim
 claim_of (Broken op task) = claim.Broken op task

@@ -1,8 +1,8 @@
 //! Which task is started next.
-ghost use Rattle.std.specs.Prelude.{◌≡◌, ◌<◌, ◌≤◌, ◌↔◌, ◌++◌, ◌∷◌, [], IsTrue, length, set, All, MatchOption, slice_index_or, vec_len, vec_capacity};
+ghost use Rattle.std.specs.Prelude.{◌≡◌, ◌<◌, ◌≤◌, ◌↔◌, ◌++◌, ◌∷◌, [], IsTrue, length, set, false, All, MatchOption, slice_index_or, vec_len, vec_capacity};
 ghost use Rattle.cu_table.specs.Numbers.{IsTask, task_count, task_number};
 ghost use Rattle.cu_table.specs.Machine.{no_task, one_copy_more, IsSingleState};
-ghost use Rattle.cu_table.specs.Queue.{IsNextTask, HasNoNext, NoneAlone};
+ghost use Rattle.cu_table.specs.Queue.{IsNextTask, HasNext, HasNoNext, NoneAlone};
 ghost use Rattle.cu_table.specs.Table.{start_event};
 
 use crate::queue::Queue;
@@ -59,6 +59,25 @@ pub(crate) fn next_task(
     } else {
         None
     }
+}
+
+/// Whether there is no task that could be started next.
+pub(crate) fn none_next(
+    tasks: &Tasks,
+    states: &[TaskState],
+    copies: &[RunningCopy],
+    backups: bool,
+    queue: &Queue,
+) -> bool
+    requires copies { All (λ c. IsTask tasks.now c.op c.task) copies.now }
+    requires states { length states.now ≡ task_count tasks.now }
+    ensures none { IsTrue result → HasNoNext tasks.now backups states.now copies.now queue.now queue.now }
+    ensures some { result ≡ false → HasNext tasks.now backups states.now queue.now }
+{
+    if !queue.is_empty() {
+        return false;
+    }
+    !backups || single_copy(tasks, states, copies).is_none()
 }
 
 /// Starts a task, and answers how many copies of it ran.

@@ -1,5 +1,5 @@
 //! The lists in which waiting tasks stand: the ready ones, and those that watch a thing.
-ghost use Rattle.std.specs.Prelude.{◌≡◌, ◌<◌, ◌≤◌, ◌++◌, ◌∷◌, [], ℕ, length, sum_by, IfOk, MatchOption};
+ghost use Rattle.std.specs.Prelude.{◌≡◌, ◌<◌, ◌≤◌, ◌++◌, ◌∷◌, [], ℕ, ◌↔◌, IsTrue, length, sum_by, IfOk, MatchOption};
 ghost use Rattle.cu_table.specs.Queue.{Lined, times_in, watchers_of, pushed, watched};
 
 use crate::watch::Watchers;
@@ -49,6 +49,13 @@ impl Queue {
             Ok(()) => {}
             Err(_) => unreachable!(),
         }
+    }
+
+    /// Whether no ready task waits.
+    pub(crate) fn is_empty(&self) -> bool
+        ensures { IsTrue result ↔ (self.now.waiting ≡ []) }
+    {
+        self.waiting.is_empty()
     }
 
     /// Takes the next ready task.

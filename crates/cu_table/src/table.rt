@@ -1,15 +1,15 @@
 //! The task table.
-ghost use Rattle.std.specs.Prelude.{◌≡◌, ℕ, [], length, IfOk};
+ghost use Rattle.std.specs.Prelude.{◌≡◌, ◌↔◌, [], length, IsTrue, IfOk};
 ghost use Rattle.cu_op.specs.Sound.{Sound};
 ghost use Rattle.cu_table.specs.Numbers.{task_count};
 ghost use Rattle.cu_table.specs.Machine.{RunsNothing, Runs, opening};
 ghost use Rattle.cu_table.specs.Step.{Settings, Replays};
-ghost use Rattle.cu_table.specs.Table.{TableView, IsClaim, claim_of, IsReported, end_of, report_kind, is_late};
+ghost use Rattle.cu_table.specs.Table.{TableView, IsClaim, IsIdle, claim_of, IsReported, end_of, report_kind, is_late};
 
 use crate::claim::Claim;
 use crate::end::end_copy;
 use crate::line::{Undone, line_up};
-use crate::next::{next_task, start};
+use crate::next::{next_task, none_next, start};
 use crate::open::{first_queue, first_records, first_undone};
 use crate::queue::Queue;
 use crate::records::Records;
@@ -112,6 +112,25 @@ impl Table {
         ensures sound { Sound self.now.settings.plan }
     {
         &self.records.history
+    }
+
+    /// Whether a claim would answer Idle, by any worker.
+    pub fn is_idle(&self) -> bool
+        ensures { IsTrue result ↔ IsIdle self.now }
+    {
+        if self.records.ended.is_some() {
+            return false;
+        }
+        if self.undone.left == 0 {
+            return false;
+        }
+        none_next(
+            &self.tasks,
+            &self.records.tasks,
+            &self.records.copies,
+            self.backups,
+            &self.queue,
+        )
     }
 
     /// Gives the worker, which runs nothing, a task.

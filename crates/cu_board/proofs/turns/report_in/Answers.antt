@@ -22,3 +22,12 @@ returns-clause-kept g c = λ made first owned state.
     (laws.same p c.args.pass.now (laws.one_yard c.args.yard.now p c.args.pass.now c.requires.own.0 c.requires.own.1))
     c.pass_on.ensures.takes_in
     (yard_of g.Y.Yard.serves knows g.Y.Yard.owns g.Y.Yard.together laws c.args.yard.now first c.pass_on.new.kept owned c.pass_on.ensures.own.0)
+
+pub returns-clause-wakes : goal.returns-clause-wakes
+returns-clause-wakes g c =
+    let was = c.is_idle-was_idle.ensures in
+    let now = c.is_idle-is_idle.ensures in
+    let both = c.only_before.ensures in (
+      λ wakes. let b = both.0 wakes in (was.0 b.0, λ idle. b.1 (now.1 idle)),
+      λ told. both.1 (was.1 told.0, λ idle. told.1 (now.0 idle)),
+    )

@@ -10,9 +10,9 @@ use Rattle.cu_board.proofs.board.Board.report.Goals as goal
 pub give_back-badge-requires-clause-grown : goal.give_back-badge-requires-clause-grown
 give_back-badge-requires-clause-grown g c =
     let l = c.take-state.ensures.learns in
-    let a = c.report_in.ensures in
+    let a = c.report_in-wakes.ensures in
     let t = c.take-state.result.0.table in
-    let u = c.report_in.new.state.table in
+    let u = c.report_in-wakes.new.state.table in
     let v = seat_view c.replace-badge.result in
     let root : (first_view c.seat.inside.badge.views).root ≡ false = subst (λ (s : SeatAt). s.view.root ≡ false) (sym c.seat.view_is) c.requires.seat.1 in
     let number : c.seat.inside.number ≡ v.number = sym (ap (λ (x : SeatView). x.number) (ap seat_view c.replace-badge.ensures.value) ∙ c.seat.invariant.3 root) in
@@ -26,9 +26,9 @@ give_back-badge-requires-clause-grown g c =
 pub returns-clause-reported : goal.returns-clause-reported
 returns-clause-reported g c =
     let l = c.take-state.ensures.learns in
-    let a = c.report_in.ensures in
+    let a = c.report_in-wakes.ensures in
     let t = c.take-state.result.0.table in
-    let u = c.report_in.new.state.table in
+    let u = c.report_in-wakes.new.state.table in
     let v = seat_view c.replace-badge.result in
     let root : (first_view c.seat.inside.badge.views).root ≡ false = subst (λ (s : SeatAt). s.view.root ≡ false) (sym c.seat.view_is) c.requires.seat.1 in
     let number : c.seat.inside.number ≡ v.number = sym (ap (λ (x : SeatView). x.number) (ap seat_view c.replace-badge.ensures.value) ∙ c.seat.invariant.3 root) in
