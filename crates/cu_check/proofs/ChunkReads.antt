@@ -13,7 +13,7 @@ use Rattle.cu_op.specs.declared.layout.ArrayInfo.{ArrayInfo}
 use Rattle.cu_op.specs.declared.layout.Layout.{Layout}
 use Rattle.cu_expr.specs.declared.inputs.InputInfo.{InputInfo}
 use Rattle.cu_store.specs.Faults.{Rose}
-use Rattle.cu_store.specs.Held.{Contents}
+use Rattle.cu_store.specs.Held.{Contents, Write}
 use Rattle.cu_store.specs.Steps.{Shown, NoChange}
 use Rattle.cu_store.specs.declared.faults.TaskFault.{TaskFault}
 use Rattle.cu_store.specs.declared.faults.TaskFault.TheVariants.{Store, BadChunk as BadPart, NoMemory as NoRoom}
@@ -22,11 +22,10 @@ use Rattle.cu_region.specs.Steady.{IsSteady, HoldSame}
 use Rattle.cu_region.proofs.SteadyKeys.{hold_same, same_or_not}
 use Rattle.cu_command.proofs.SeenLemmas.{stepped_then}
 use Rattle.cu_command.specs.Seen.{Stepped}
-use Rattle.cu_command.specs.Stored.{IsArrayChunk}
 use Rattle.cu_command.specs.declared.status.Status.{Status}
 use Rattle.cu_command.specs.declared.status.Status.TheVariants.{BadChunk, DepotFailed, NoMemory}
-use Rattle.cu_check.specs.Arrays.{WhereCalm, IsOwnTurn}
-use Rattle.cu_check.specs.Chunks.{input_of, HasHeldChunk, IsPartFault, part_end, IsChunkFault, IsPlaced, HasChunksBelow, HasAllStored}
+use Rattle.cu_check.specs.Arrays.{IsOwnTurn}
+use Rattle.cu_check.specs.Chunks.{input_of, HasHeldChunk, IsPartFault, part_end, IsChunkFault, IsPlaced, HasChunksBelow, HasAllSteady}
 
 pub on_ok : {T E : Type 0} → (r : Result T E) (P Q : Type 0) → (P → Q) → OnOk r P → OnOk r Q
 on_ok (Ok x) P Q f h = f h
@@ -39,18 +38,18 @@ if_err (Err e) P Q f h = f e h
 -- ---- one chunk
 
 -- where its key holds what it held, the chunk is the one that was held
-chunk_then : (info : ArrayInfo) (coord buf : List ℕ) (entry now : Option Contents) → IsGrid info.layout.grid → HoldSame (IsArrayChunk info.prefix info.layout) entry now
+chunk_then : (info : ArrayInfo) (coord buf : List ℕ) (entry now : Option Contents) → HoldSame (λ key. key ≡ key_at info coord) entry now
     → HasChunk info coord now buf → HasChunk info coord entry buf
-chunk_then info coord buf None None ok same has = tt
-chunk_then info coord buf (Some entry) (Some now) ok same has = λ idx inside here.
-    let e = same (key_at info (quotients idx info.layout.grid.chunk)) (quotients idx info.layout.grid.chunk, has_coordinate info.layout.grid idx ok inside, refl) in
+chunk_then info coord buf None None same has = tt
+chunk_then info coord buf (Some entry) (Some now) same has = λ idx inside here.
+    let e = same (key_at info (quotients idx info.layout.grid.chunk)) (ap (key_at info) here) in
     rw e at (has idx inside here)
-chunk_then info coord buf None (Some now) ok same has = absurd same
-chunk_then info coord buf (Some entry) None ok same has = absurd same
+chunk_then info coord buf None (Some now) same has = absurd same
+chunk_then info coord buf (Some entry) None same has = absurd same
 
-pub held_chunk : (info : ArrayInfo) (coord buf : List ℕ) (old new : Shown) → IsGrid info.layout.grid → Stepped NoChange old new → HasChunk info coord new.held buf → HasHeldChunk info coord old buf
-held_chunk info coord buf old new ok step has entry before steady =
-    chunk_then info coord buf entry.held new.held ok (hold_same (IsArrayChunk info.prefix info.layout) steady (stepped_then before step).step) has
+pub held_chunk : (info : ArrayInfo) (coord buf : List ℕ) (old new : Shown) → Stepped NoChange old new → HasChunk info coord new.held buf → HasHeldChunk info coord old buf
+held_chunk info coord buf old new step has entry before steady =
+    chunk_then info coord buf entry.held new.held (hold_same (λ key. key ≡ key_at info coord) steady (stepped_then before step).step) has
 
 pub held_later : (info : ArrayInfo) (coord buf : List ℕ) (old now : Shown) → Stepped NoChange old now → HasHeldChunk info coord now buf → HasHeldChunk info coord old buf
 held_later info coord buf old now step has entry before steady = has entry (stepped_then before step) steady
@@ -82,36 +81,40 @@ other_number a n idx ok inside apart same =
     ∙ ap (index_at (counts_of a.layout.grid.shape a.layout.grid.chunk)) same)
 
 told_chunk : (info : ArrayInfo) (coord buf : List ℕ) (entry : Shown) (held : Contents) → entry.held ≡ Some held
-    → (IsSteady (IsArrayChunk info.prefix info.layout) entry.held entry.late → HasChunk info coord entry.held buf)
-    → IsSteady (IsArrayChunk info.prefix info.layout) (Some held) entry.late → HasChunk info coord (Some held) buf
+    → (IsSteady (λ key. key ≡ key_at info coord) entry.held entry.late → HasChunk info coord entry.held buf)
+    → IsSteady (λ key. key ≡ key_at info coord) (Some held) entry.late → HasChunk info coord (Some held) buf
 told_chunk info coord buf entry held told has steady =
     subst (λ (o : Option Contents). HasChunk info coord o buf) told
-    (has (subst (λ (o : Option Contents). IsSteady (IsArrayChunk info.prefix info.layout) o entry.late) (sym told) steady))
+    (has (subst (λ (o : Option Contents). IsSteady (λ key. key ≡ key_at info coord) o entry.late) (sym told) steady))
+
+-- a steady key in other words
+pub steady_as : (key other : List ℕ) (held : Contents) (late : List Write) → other ≡ key → IsSteady (λ k. k ≡ key) (Some held) late → IsSteady (λ k. k ≡ other) (Some held) late
+steady_as key other held late same steady = subst (λ (k : List ℕ). IsSteady (λ l. l ≡ k) (Some held) late) (sym same) steady
 
 -- one more chunk
 pub numbered : (info : ArrayInfo) (n : ℕ) (buf old new : List ℕ) (now entry : Shown) → IsGrid info.layout.grid
     → HasHeldChunk info (coordinate_of info.layout.grid n) now buf → IsPlaced info.layout (coordinate_of info.layout.grid n) buf old new → Stepped NoChange entry now
-    → WhereCalm entry (input_of info) (HasChunksBelow (input_of info) old n) → WhereCalm entry (input_of info) (HasChunksBelow (input_of info) new (n + 1))
-numbered info n buf old new now entry ok has placed step before held told steady idx inside below =
+    → HasChunksBelow (input_of info) old n entry → HasChunksBelow (input_of info) new (n + 1) entry
+numbered info n buf old new now entry ok has placed step before idx inside below held told steady =
     elim (same_or_not (quotients idx info.layout.grid.chunk) (coordinate_of info.layout.grid n)) [
-      | inl here ↦ told_chunk info (coordinate_of info.layout.grid n) buf entry held told (has entry step) steady idx inside here
+      | inl here ↦ told_chunk info (coordinate_of info.layout.grid n) buf entry held told (has entry step) (steady_as _ _ held entry.late (ap (key_at info) (sym here)) steady) idx inside here
           ∙ ap Some (sym (element_at_same Little info.layout.dtype new buf (place_of info.layout.grid.shape idx) (place_of info.layout.grid.chunk (remainders idx info.layout.grid.chunk)) (placed.own idx inside here)))
       | inr apart ↦
           let other = other_number (input_of info) n idx ok inside apart in
-          before held told steady idx inside (omega arith)
+          before idx inside (omega arith) held told steady
           ∙ ap Some (sym (element_at_same Little info.layout.dtype new old (place_of info.layout.grid.shape idx) (place_of info.layout.grid.shape idx) (placed.others idx inside apart)))
     ]
 
 -- no chunk
-pub none_below : (a : InputInfo) (bytes : List ℕ) (entry : Shown) → WhereCalm entry a (HasChunksBelow a bytes 0)
-none_below a bytes entry held told steady idx inside below = absurd (omega arith)
+pub none_below : (a : InputInfo) (bytes : List ℕ) (entry : Shown) → HasChunksBelow a bytes 0 entry
+none_below a bytes entry idx inside below = absurd (omega arith)
 
 -- all chunks
 pub all_below : (a : InputInfo) (bytes : List ℕ) (n : ℕ) (entry : Shown) → IsGrid a.layout.grid → product (counts_of a.layout.grid.shape a.layout.grid.chunk) ≤ n
-    → WhereCalm entry a (HasChunksBelow a bytes n) → WhereCalm entry a (HasAllStored a bytes)
-all_below a bytes n entry ok all has held told steady idx inside =
+    → HasChunksBelow a bytes n entry → HasAllSteady a bytes entry
+all_below a bytes n entry ok all has idx inside =
     let below = place-below (counts_of a.layout.grid.shape a.layout.grid.chunk) (quotients idx a.layout.grid.chunk) (has_coordinate a.layout.grid idx ok inside) in
-    has held told steady idx inside (omega arith)
+    has idx inside (omega arith)
 
 -- ---- a chunk's turn
 
@@ -119,19 +122,19 @@ rose_since : (tries a b c : ℕ) → a ≤ b → Rose tries b c → Rose tries a
 rose_since tries a b c first rose = omega arith
 
 own_turn : (info : ArrayInfo) (n : ℕ) (bytes : List ℕ) (entry : Shown) (key : List ℕ) → n < product (counts_of info.layout.grid.shape info.layout.grid.chunk)
-    → WhereCalm entry (input_of info) (HasChunksBelow (input_of info) bytes n) → key ≡ key_at info (coordinate_of info.layout.grid n) → IsOwnTurn entry (input_of info) key
+    → HasChunksBelow (input_of info) bytes n entry → key ≡ key_at info (coordinate_of info.layout.grid n) → IsOwnTurn entry (input_of info) key
 own_turn info n bytes entry key below has is = record {
   number = n;
   below = below;
   key = is;
-  there = λ held told steady m less idx inside here. (
+  there = λ m less held told steady idx inside here. (
     element_at Little info.layout.dtype bytes (place_of info.layout.grid.shape idx),
-    has held told steady idx inside (let at = number_of (input_of info) m idx (omega arith) here in omega arith),
+    has idx inside (let at = number_of (input_of info) m idx (omega arith) here in omega arith) held told (steady_as _ _ held entry.late (ap (key_at info) here) steady),
   );
 }
 
 pub turn_fault : (tries : ℕ) (info : ArrayInfo) (n : ℕ) (bytes : List ℕ) (first old new entry : Shown) (status : Status) → n < product (counts_of info.layout.grid.shape info.layout.grid.chunk)
-    → first.faults ≤ old.faults → WhereCalm entry (input_of info) (HasChunksBelow (input_of info) bytes n)
+    → first.faults ≤ old.faults → HasChunksBelow (input_of info) bytes n entry
     → IsChunkFault tries old new info.layout (λ key. key ≡ key_at info (coordinate_of info.layout.grid n)) status → IsChunkFault tries first new info.layout (IsOwnTurn entry (input_of info)) status
 turn_fault tries info n bytes first old new entry (DepotFailed key) below count has fault = (own_turn info n bytes entry key below has fault.0, rose_since tries first.faults old.faults new.faults count fault.1)
 turn_fault tries info n bytes first old new entry (BadChunk key got want) below count has fault = (own_turn info n bytes entry key below has fault.0, fault.1, fault.2, fault.3)

@@ -6,6 +6,7 @@ use Rattle.cu_num.specs.Element.{element_at}
 use Rattle.cu_num.specs.declared.layout.Endian.TheVariants.{Little}
 use Rattle.cu_shape.specs.Index.{product, place_of, index_at, IsInside}
 use Rattle.cu_shape.proofs.Places.{index-inside, index-place, place-index, place-below}
+use Rattle.cu_grid.specs.Grid.{IsGrid}
 use Rattle.cu_node.specs.Info.{info_at}
 use Rattle.cu_node.specs.declared.info.NodeInfo.{NodeInfo}
 use Rattle.cu_form.specs.Expression.{Expression, IsExpression}
@@ -26,13 +27,13 @@ use Rattle.cu_region.specs.Steady.{IsSteady}
 use Rattle.cu_command.specs.declared.job.Job.{Job}
 use Rattle.cu_command.specs.declared.status.Status.{Status}
 use Rattle.cu_command.specs.declared.status.Status.TheVariants.{BadChunk, DepotFailed, NoMemory, Unequal}
-use Rattle.cu_check.specs.Arrays.{arrays_of_nodes, compared_arrays, HasAllElements, IsReadChunk, WhereCalm, IsOwnTurn, IsChunkTurn}
+use Rattle.cu_check.specs.Arrays.{arrays_of_nodes, compared_arrays, HasAllElements, IsReadChunk, IsOwnTurn, IsChunkTurn}
 use Rattle.cu_check.specs.Check.{IsLikeStoredNode, plain_element, IsEqual, IsEqualBelow, AreAt, WhereThere, IsCompareFault}
-use Rattle.cu_check.specs.Chunks.{IsChunkFault, HasAllStored}
+use Rattle.cu_check.specs.Chunks.{IsChunkFault, HasAllSteady, HasAllStored}
 use Rattle.cu_check.specs.Elements.{elements_of}
 use Rattle.cu_check.specs.Plains.{AreReadArrays, IsListFault, AreSameBelow, IsFirstDifference}
 use Rattle.cu_check.specs.declared.compare.Difference.{Difference}
-use Rattle.cu_check.proofs.InputNodes.{are_input_nodes, hold_inputs, hold_own, own_elements, array_there, calm_of}
+use Rattle.cu_check.proofs.InputNodes.{are_input_nodes, hold_inputs, hold_own, own_elements, array_there, calm_of, calm_at, elements_then, all_seen}
 
 -- ---- members of lists
 
@@ -51,7 +52,7 @@ list_there arrays front (a ∷ xs) behind [] entry held place told steady read =
 list_there arrays front (a ∷ xs) behind (p ∷ ps) entry held place told steady read =
     let here : Contains arrays a = subst (λ (xs : List InputInfo). Contains xs a) (sym place) (in_middle front a (xs ++ behind)) in
     All-cons (HasAllElements held) a xs
-    (array_there a p held read.0.plain read.0.dims (read.0.elements held told (calm_of arrays a entry held here steady)))
+    (array_there a p held read.0.plain read.0.dims (elements_then a p entry held told read.0 (calm_of arrays a entry held here steady)))
     (list_there arrays (front ++ a ∷ []) xs behind ps entry held (place ∙ sym (append_assoc front (a ∷ []) (xs ++ behind))) told steady read.1)
 
 stored_there : (a : InputInfo) (bytes : List ℕ) (held : Contents) → HasAllStored a bytes held → HasAllElements held a
@@ -60,9 +61,9 @@ stored_there a bytes held has idx inside = (element_at Little a.layout.dtype byt
 module _ (job : Job) (output : InputInfo) (entry : Shown) (held : Contents) (told : entry.held ≡ Some held)
     (steady : IsSteady (IsReadChunk (compared_arrays job output)) (Some held) entry.late) where
   -- the output is among the arrays
-  pub output_calm : (fact : Contents → Type 0) → WhereCalm entry output fact → fact held
-  output_calm fact has =
-      has held told (calm_of (compared_arrays job output) output entry held (in_middle (arrays_of_nodes job.inputs.items job.expr.nodes) output []) steady)
+  pub output_calm : (bytes : List ℕ) → IsGrid output.layout.grid → HasAllSteady output bytes entry → HasAllStored output bytes held
+  output_calm bytes grid has idx inside =
+      has idx inside held told (calm_at output entry held idx grid inside (calm_of (compared_arrays job output) output entry held (in_middle (arrays_of_nodes job.inputs.items job.expr.nodes) output []) steady))
 
   -- an array of the inputs is too
   pub all_there : (ps : List PlainArray) (bytes : List ℕ) → AreReadArrays entry (arrays_of_nodes job.inputs.items job.expr.nodes) ps → HasAllStored output bytes held
@@ -132,7 +133,7 @@ module _ (tries : ℕ) (entry old new : Shown) (job : Job) (output : InputInfo) 
         before = before;
         behind = behind ++ output ∷ [];
         place = whole;
-        front = λ held told steady. list_there (compared_arrays job output) [] before (a ∷ (behind ++ output ∷ [])) ps entry held whole told steady read;
+        front = all_seen entry before ps read;
         own = own;
       }
 
@@ -148,7 +149,7 @@ module _ (tries : ℕ) (entry old new : Shown) (job : Job) (output : InputInfo) 
     before = arrays_of_nodes job.inputs.items job.expr.nodes;
     behind = [];
     place = refl;
-    front = λ held told steady. list_there (compared_arrays job output) [] (arrays_of_nodes job.inputs.items job.expr.nodes) (output ∷ []) ps entry held refl told steady read;
+    front = all_seen entry (arrays_of_nodes job.inputs.items job.expr.nodes) ps read;
     own = own;
   }
 
@@ -196,29 +197,29 @@ module _ (job : Job) (output : InputInfo) (form : IsExpression job.expr) (types 
       → HoldsElements (info_at job.types job.expr.out) (meaning_of job.expr job.types (elements_of job held) job.expr.out) p
   meant entry held read at told steady =
       (means (elements_of job held) (hold_inputs job (output ∷ []) (typed_whole job.inputs.items job.expr job.types form types) entry held ps read
-      (λ a q here was. was.elements held told (calm_of (compared_arrays job output) a entry held here steady)))).each job.expr.out p at
+      (λ a q here was. elements_then a q entry held told was (calm_of (compared_arrays job output) a entry held here steady)))).each job.expr.out p at
 
   -- the elements are equal
-  pub found_equal : (entry : Shown) (bytes : List ℕ) → IsLikeStoredNode job output → AreReadArrays entry (arrays_of_nodes job.inputs.items job.expr.nodes) ps → slice_get plains job.expr.out ≡ Some p
-      → WhereCalm entry output (HasAllStored output bytes) → AreSameBelow output.layout.dtype bytes p.cells (product (shape_of_node job.types job.expr.out)) → WhereThere entry job output (IsEqual job output)
-  found_equal entry bytes fits read at stored same held told steady =
-      let here = output_calm job output entry held told steady (HasAllStored output bytes) stored in (
+  pub found_equal : (entry : Shown) (bytes : List ℕ) → IsGrid output.layout.grid → IsLikeStoredNode job output → AreReadArrays entry (arrays_of_nodes job.inputs.items job.expr.nodes) ps → slice_get plains job.expr.out ≡ Some p
+      → HasAllSteady output bytes entry → AreSameBelow output.layout.dtype bytes p.cells (product (shape_of_node job.types job.expr.out)) → WhereThere entry job output (IsEqual job output)
+  found_equal entry bytes grid fits read at stored same held told steady =
+      let here = output_calm job output entry held told steady bytes grid stored in (
         all_there job output entry held told steady ps bytes read here,
         equal_all job output held p bytes fits here (meant entry held read at told steady) same,
       )
 
   -- the first difference
-  pub found_unequal : (tries : ℕ) (entry old new : Shown) (bytes : List ℕ) (d : Difference) → IsLikeStoredNode job output → AreReadArrays entry (arrays_of_nodes job.inputs.items job.expr.nodes) ps
-      → slice_get plains job.expr.out ≡ Some p → WhereCalm entry output (HasAllStored output bytes) → IsFirstDifference output.layout.dtype bytes p.cells d
+  pub found_unequal : (tries : ℕ) (entry old new : Shown) (bytes : List ℕ) (d : Difference) → IsGrid output.layout.grid → IsLikeStoredNode job output → AreReadArrays entry (arrays_of_nodes job.inputs.items job.expr.nodes) ps
+      → slice_get plains job.expr.out ≡ Some p → HasAllSteady output bytes entry → IsFirstDifference output.layout.dtype bytes p.cells d
       → IsCompareFault tries entry old new (record { job = job; output = output }) (Unequal d.place d.stored d.plain)
-  found_unequal tries entry old new bytes d fits read at stored first =
+  found_unequal tries entry old new bytes d grid fits read at stored first =
       let long = count_of entry read at in
       let low = first.below in
       let whole = ap product fits.shape in (
         first.unequal,
         omega arith,
         λ held told steady.
-            let here = output_calm job output entry held told steady (HasAllStored output bytes) stored in
+            let here = output_calm job output entry held told steady bytes grid stored in
             let is = meant entry held read at told steady in (
               all_there job output entry held told steady ps bytes read here,
               (

@@ -11,11 +11,12 @@ use Rattle.cu_num.specs.declared.layout.Endian.TheVariants.{Little}
 use Rattle.cu_num.proofs.Wrapped.{InRange-wrapped}
 use Rattle.cu_shape.specs.Index.{product, index_at}
 use Rattle.cu_shape.proofs.Places.{index-inside, place-index}
+use Rattle.cu_grid.specs.Grid.{IsGrid}
 use Rattle.cu_expr.specs.declared.inputs.InputInfo.{InputInfo}
 use Rattle.cu_mean.specs.Plain.{PlainArray, IsPlain}
 use Rattle.cu_store.specs.Steps.{Shown, NoChange}
 use Rattle.cu_command.specs.Seen.{Stepped}
-use Rattle.cu_check.specs.Chunks.{HasAllStored, SinceCalm}
+use Rattle.cu_check.specs.Chunks.{HasAllSteady, AtEachEntry}
 use Rattle.cu_check.specs.Plains.{AreNumbers, IsReadArray, AreSameBelow}
 
 pub element_in_range : (t : Dtype) (bytes : List ℕ) (at : ℕ) → InRange t (element_at Little t bytes at)
@@ -64,14 +65,15 @@ numbers_in_range t bytes n cells are k d below =
     subst (InRange t) (sym (get_or_from_slice_get cells k (element_at Little t bytes k) d (are.each k (omega arith)))) (element_in_range t bytes k)
 
 -- an array of the numbers of the bytes that were read
-pub is_read : (a : InputInfo) (bytes : List ℕ) (cells : List ℤ) (p : PlainArray) (now entry : Shown) → p ≡ record { dtype = a.layout.dtype; dims = a.layout.grid.shape; cells = cells } → IsPlain p
-    → AreNumbers a.layout.dtype bytes (product a.layout.grid.shape) cells → SinceCalm now a (HasAllStored a bytes) → Stepped NoChange entry now → IsReadArray entry a p
-is_read a bytes cells p now entry is plain are stored step = record {
+pub is_read : (a : InputInfo) (bytes : List ℕ) (cells : List ℤ) (p : PlainArray) (now entry : Shown) → IsGrid a.layout.grid → p ≡ record { dtype = a.layout.dtype; dims = a.layout.grid.shape; cells = cells } → IsPlain p
+    → AreNumbers a.layout.dtype bytes (product a.layout.grid.shape) cells → AtEachEntry now (HasAllSteady a bytes) → Stepped NoChange entry now → IsReadArray entry a p
+is_read a bytes cells p now entry grid is plain are stored step = record {
+  grid = grid;
   plain = plain;
   dtype = ap (λ (q : PlainArray). q.dtype) is;
   dims = ap (λ (q : PlainArray). q.dims) is;
-  elements = λ held told steady place below.
-      stored entry step held told steady (index_at a.layout.grid.shape place) (index-inside a.layout.grid.shape place below)
+  elements = λ place below held told steady.
+      stored entry step (index_at a.layout.grid.shape place) (index-inside a.layout.grid.shape place below) held told steady
       ∙ ap (λ (at : ℕ). Some (element_at Little a.layout.dtype bytes at)) (place-index a.layout.grid.shape place below)
       ∙ sym (are.each place below) ∙ sym (ap (λ (q : PlainArray). slice_get q.cells place) is);
 }

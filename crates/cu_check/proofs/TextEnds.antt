@@ -1,22 +1,24 @@
 -- Why a text's arrays aren't compared: what the parts that read metadata say of the answer.
-use Rattle.std.proofs.Common.{◌≡◌, ◌⊎◌, ℕ, ◌≤◌, List, All, Ok, sym, subst, inl, inr, arith}
+use Rattle.std.proofs.Common.{◌≡◌, ◌⊎◌, ℕ, ◌*◌, ◌≤◌, List, length, All, Ok, sym, ap, subst, inl, inr, arith, mul_right_comm}
 use Rattle.cu_form.specs.Expression.{Expression}
 use Rattle.cu_expr.specs.declared.inputs.InputInfo.{InputInfo}
 use Rattle.cu_read.specs.Read.{expression_of}
 use Rattle.cu_store.specs.Steps.{Shown, NoChange, Steps}
 use Rattle.cu_zarr.specs.Key.{metadata_key_of}
 use Rattle.cu_command.proofs.InputLemmas.{such_then}
-use Rattle.cu_command.proofs.SeenLemmas.{stepped, gone_before}
+use Rattle.cu_command.proofs.SeenLemmas.{stepped, gone_before, within_then, within_more, within_few}
 use Rattle.cu_command.specs.Inputs.{names_in, names_of, IsReadAt, IsWrittenAt, IsInputFault}
-use Rattle.cu_command.specs.Job.{IsUnread, IsUntyped, IsJob, status_of}
-use Rattle.cu_command.specs.Seen.{Seen}
+use Rattle.cu_command.specs.Job.{IsUnread, IsUntyped, IsJob, names_or_none, names_said, status_of}
+use Rattle.cu_command.specs.Seen.{Stream, Seen, WithinCalls}
+use Rattle.cu_command.specs.Streams.{ReadsAll}
 use Rattle.cu_command.specs.Stored.{IsArrayLayout, IsMetadata, IsRefusedText, HoldsLayout, IsMetadataFault}
 use Rattle.cu_command.specs.declared.job.Job.{Job}
 use Rattle.cu_command.specs.declared.job.JobFault.{JobFault}
 use Rattle.cu_command.specs.declared.job.JobFault.TheVariants as fault
 use Rattle.cu_command.specs.declared.status.Status.{Status}
 use Rattle.cu_command.specs.declared.status.Status.TheVariants.{OverLimit, BadMeta}
-use Rattle.cu_check.specs.Check.{AreInputsRead, IsOutputRead, IsOutputFault, IsMisfit, Compares}
+use Rattle.cu_check.specs.Arrays.{compared_arrays, chunks_of_all}
+use Rattle.cu_check.specs.Check.{AreInputsRead, IsOutputRead, IsOutputFault, IsMisfit, Compares, ComparesWithin, ChecksWithin, metadata_keys}
 
 -- ---- the text
 
@@ -86,3 +88,30 @@ pub misfit_ends : (tries : ℕ) (text : List ℕ) (old new : Seen) (job : Job) (
 misfit_ends tries text old new job output (BadMeta name code) is_job is_out (is_code, named, unfit) = inr (is_code, (job, output, is_job, is_out, (named, unfit)))
 misfit_ends tries text old new job output (OverLimit which count) is_job is_out (is_which, fits, is_count, over) = (is_which, (job, output, is_job, is_out, (fits, is_count, over)))
 misfit_ends tries text old new job output status is_job is_out h = absurd h
+
+-- ---- how many calls are made
+
+said_names : (text : List ℕ) (e : Expression) → expression_of text ≡ Ok e → names_in e ≡ names_said text
+said_names text e said = sym (ap names_or_none said)
+
+-- for the metadata of the inputs, two keys for each
+inputs_calls : (tries : ℕ) (text : List ℕ) (e : Expression) (a b : Shown) → expression_of text ≡ Ok e → WithinCalls (2 * tries * length (names_in e)) a b → WithinCalls (2 * length (names_said text) * tries) a b
+inputs_calls tries text e a b said calls = rw (← said_names text e said, mul_right_comm 2 (length (names_in e)) tries) calls
+
+pub inputs_within : (tries : ℕ) (text : List ℕ) (e : Expression) (a b : Shown) → expression_of text ≡ Ok e → WithinCalls (2 * tries * length (names_in e)) a b → WithinCalls (metadata_keys text * tries) a b
+inputs_within tries text e a b said calls = within_few (2 * length (names_said text)) (metadata_keys text) tries a b (omega arith) (inputs_calls tries text e a b said calls)
+
+-- and then for that of the output
+pub output_within : (tries : ℕ) (text : List ℕ) (e : Expression) (a b c : Shown) → expression_of text ≡ Ok e → WithinCalls (2 * tries * length (names_in e)) a b → WithinCalls tries b c
+    → WithinCalls (metadata_keys text * tries) a c
+output_within tries text e a b c said first next = within_more (2 * length (names_said text)) tries a b c (inputs_calls tries text e a b said first) next
+
+-- and then for the chunks of the arrays
+pub compared_within : (tries : ℕ) (text : List ℕ) (job : Job) (output : InputInfo) (a b c : Shown) → IsJob a text job → IsOutputRead a job.expr output
+    → WithinCalls (metadata_keys text * tries) a b → WithinCalls (chunks_of_all (compared_arrays job output) * tries) b c → ComparesWithin tries text a c
+compared_within tries text job output a b c is_job is_out first next =
+    inr (job, output, is_job, is_out, within_then (metadata_keys text) (chunks_of_all (compared_arrays job output)) tries a b c first next)
+
+-- of the text that was read
+pub text_within : (tries : ℕ) (src next : Stream) (text : List ℕ) (a b : Shown) → ReadsAll src.told next.told text → ComparesWithin tries text a b → ChecksWithin tries src next a b
+text_within tries src next text a b read within = inr (text, read, within)

@@ -1,5 +1,5 @@
 -- The stored arrays that a comparison reads: those of the input nodes, in node order, and then the output. This project's own rules.
-use Rattle.std.specs.Prelude.{◌≡◌, ℕ, ◌<◌, ℤ, List, [], ◌∷◌, ◌++◌, All, Contains, Some}
+use Rattle.std.specs.Prelude.{◌≡◌, ℕ, ◌<◌, ℤ, List, [], ◌∷◌, ◌++◌, All, Contains, Some, sum_by}
 use Rattle.std.specs.List.{flat_map}
 use Rattle.cu_shape.specs.Index.{product, quotients, IsInside}
 use Rattle.cu_grid.specs.Counts.{counts_of}
@@ -55,21 +55,43 @@ IsReadChunk arrays key = (a : InputInfo) × Contains arrays a × IsArrayChunk a.
 abbrev pub WhereStill : Shown → List InputInfo → (Contents → Type 0) → Type 0
 WhereStill entry arrays fact = (held : Contents) → entry.held ≡ Some held → IsSteady (IsReadChunk arrays) (Some held) entry.late → fact held
 
--- the same for the keys of one of the arrays
-abbrev pub WhereCalm : Shown → InputInfo → (Contents → Type 0) → Type 0
-WhereCalm entry a fact = (held : Contents) → entry.held ≡ Some held → IsSteady (IsArrayChunk a.name a.layout) (Some held) entry.late → fact held
+-- the same for this key alone
+abbrev pub WhereKeyCalm : Shown → List ℕ → (Contents → Type 0) → Type 0
+WhereKeyCalm entry key fact = (held : Contents) → entry.held ≡ Some held → IsSteady (λ other. other ≡ key) (Some held) entry.late → fact held
+
+-- how many chunks an array has, and arrays together
+abbrev pub chunks_of : InputInfo → ℕ
+chunks_of a = product (counts_of a.layout.grid.shape a.layout.grid.chunk)
+
+abbrev pub chunks_of_all : List InputInfo → ℕ
+chunks_of_all arrays = sum_by chunks_of arrays
+
+-- the key of chunk number n, row-major, and that of the chunk in which an index lies
+abbrev pub numbered_key : InputInfo → ℕ → List ℕ
+numbered_key a n = chunk_key_of a.name a.layout.encoding (coordinate_of a.layout.grid n)
+
+abbrev pub key_of_index : InputInfo → List ℕ → List ℕ
+key_of_index a idx = chunk_key_of a.name a.layout.encoding (quotients idx a.layout.grid.chunk)
+
+-- Chunk number n is there. This asks for a steady store under its own key alone.
+abbrev pub IsChunkSeen : Shown → InputInfo → ℕ → Type 0
+IsChunkSeen entry a n = WhereKeyCalm entry (numbered_key a n) (λ held. IsChunkThere held a n)
+
+-- each chunk of the array is
+abbrev pub AreChunksSeen : Shown → InputInfo → Type 0
+AreChunksSeen entry a = (n : ℕ) → n < chunks_of a → IsChunkSeen entry a n
 
 -- The turn of a chunk among those of its array: the chunks before it, row-major, are there.
 pub record IsOwnTurn (entry : Shown) (a : InputInfo) (turn : List ℕ) : Type 0 where
   pub number : ℕ
-  pub below : number < product (counts_of a.layout.grid.shape a.layout.grid.chunk)
-  pub key : turn ≡ chunk_key_of a.name a.layout.encoding (coordinate_of a.layout.grid number)
-  pub there : WhereCalm entry a (λ held. (n : ℕ) → n < number → IsChunkThere held a n)
+  pub below : number < chunks_of a
+  pub key : turn ≡ numbered_key a number
+  pub there : (n : ℕ) → n < number → IsChunkSeen entry a n
 
--- Its turn among those of the arrays: the arrays before its own are there too.
+-- Its turn among those of the arrays: the chunks of the arrays before its own are there too.
 pub record IsChunkTurn (entry : Shown) (arrays : List InputInfo) (a : InputInfo) (turn : List ℕ) : Type 0 where
   pub before : List InputInfo
   pub behind : List InputInfo
   pub place : arrays ≡ before ++ a ∷ behind
-  pub front : WhereStill entry arrays (λ held. All (HasAllElements held) before)
+  pub front : All (AreChunksSeen entry) before
   pub own : IsOwnTurn entry a turn

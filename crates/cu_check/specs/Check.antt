@@ -1,5 +1,5 @@
 -- What comparing a stored output with its expression answers, when, and what it leaves. This project's own rules.
-use Rattle.std.specs.Prelude.{◌≡◌, ◌≢◌, ◌⊎◌, ℕ, ◌+◌, ◌<◌, ◌≤◌, ℤ, List, [], ◌∷◌, ◌++◌, All, length, sum_by, codes, decimal, Option, Some, Ok, Err}
+use Rattle.std.specs.Prelude.{◌≡◌, ◌≢◌, ◌⊎◌, ℕ, ◌+◌, ◌*◌, ◌<◌, ◌≤◌, ℤ, List, [], ◌∷◌, ◌++◌, All, length, sum_by, codes, decimal, Option, Some, Ok, Err}
 use Rattle.cu_shape.specs.Index.{product, index_at, IsInside}
 use Rattle.cu_form.specs.Expression.{Expression}
 use Rattle.cu_node.specs.declared.info.NodeInfo.{NodeInfo}
@@ -17,8 +17,8 @@ use Rattle.cu_zarr.specs.Stored.{stored_element}
 use Rattle.cu_region.specs.Reading.{bytes_of}
 use Rattle.cu_region.specs.Steady.{HoldsLength}
 use Rattle.cu_command.specs.Inputs.{names_in, names_of, IsCalmAt, IsReadAt, IsWrittenAt, IsInputFault}
-use Rattle.cu_command.specs.Job.{IsJob, IsIllTyped}
-use Rattle.cu_command.specs.Seen.{Stream, Seen, Stepped}
+use Rattle.cu_command.specs.Job.{IsJob, IsIllTyped, names_said}
+use Rattle.cu_command.specs.Seen.{Stream, Seen, Stepped, WithinCalls}
 use Rattle.cu_command.specs.Stored.{HoldsRefused}
 use Rattle.cu_command.specs.Streams.{ReadsAll, WroteFront}
 use Rattle.cu_command.specs.declared.job.Job.{Job}
@@ -26,7 +26,7 @@ use Rattle.cu_command.specs.declared.job.JobFault.{JobFault}
 use Rattle.cu_command.specs.declared.job.JobFault.TheVariants as fault
 use Rattle.cu_command.specs.declared.status.Status.{Status}
 use Rattle.cu_command.specs.declared.status.Status.TheVariants.{Done, BadExpr, BadType, OverLimit, BadMeta, NoArray, ReadFault, WriteFault, BadChunk, DepotFailed, Unequal, NoMemory}
-use Rattle.cu_check.specs.Arrays.{compared_arrays, HasAllElements, WhereStill, IsChunkTurn}
+use Rattle.cu_check.specs.Arrays.{compared_arrays, chunks_of_all, HasAllElements, WhereStill, IsChunkTurn}
 use Rattle.cu_check.specs.Elements.{elements_of}
 use Rattle.cu_check.specs.declared.metadata.Compared.{Compared}
 
@@ -188,6 +188,19 @@ abbrev pub CheckEnds : ℕ → Stream → Stream → Seen → Seen → Status �
 CheckEnds tries src next old new ReadFault = Rose 1 src.faults next.faults
 CheckEnds tries src next old new NoMemory = Unit {0}
 CheckEnds tries src next old new status = ReadsText src next (λ text. Compares tries text old new status)
+
+-- the keys of metadata of the inputs, two for each, and that of the output
+abbrev pub metadata_keys : List ℕ → ℕ
+metadata_keys text = 2 * length (names_said text) + 1
+
+-- For each key of metadata at most so many calls were made; or, where the chunks of arrays were read, for each of these too.
+abbrev pub ComparesWithin : ℕ → List ℕ → Shown → Shown → Type 0
+ComparesWithin tries text entry now = WithinCalls (metadata_keys text * tries) entry now
+    ⊎ OfTyped text entry (λ job output. WithinCalls ((metadata_keys text + chunks_of_all (compared_arrays job output)) * tries) entry now)
+
+-- the same of the text that was read; where none was, no call was made
+abbrev pub ChecksWithin : ℕ → Stream → Stream → Shown → Shown → Type 0
+ChecksWithin tries src next entry now = WithinCalls 0 entry now ⊎ ReadsText src next (λ text. ComparesWithin tries text entry now)
 
 -- nothing was printed but by the line
 abbrev pub PrintsLine : Status → Option (List ℕ) → Option (List ℕ) → Type 0

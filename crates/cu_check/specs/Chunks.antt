@@ -16,13 +16,13 @@ use Rattle.cu_store.specs.Steps.{Shown, NoChange}
 use Rattle.cu_store.specs.declared.faults.TaskFault.{TaskFault}
 use Rattle.cu_store.specs.declared.faults.TaskFault.TheVariants.{Store, BadChunk as BadPart, NoMemory as NoRoom}
 use Rattle.cu_zarr.specs.Stored.{stored_element}
-use Rattle.cu_region.specs.Reading.{bytes_of, HasChunk}
+use Rattle.cu_region.specs.Reading.{bytes_of, key_at, HasChunk}
 use Rattle.cu_region.specs.Steady.{IsSteady, HoldsLength}
 use Rattle.cu_command.specs.Seen.{Stepped}
-use Rattle.cu_command.specs.Stored.{IsArrayLayout, IsArrayChunk}
+use Rattle.cu_command.specs.Stored.{IsArrayLayout}
 use Rattle.cu_command.specs.declared.status.Status.{Status}
 use Rattle.cu_command.specs.declared.status.Status.TheVariants.{BadChunk, DepotFailed, NoMemory}
-use Rattle.cu_check.specs.Arrays.{IsOwnTurn, WhereCalm}
+use Rattle.cu_check.specs.Arrays.{IsOwnTurn, WhereKeyCalm, key_of_index}
 
 -- an array that is read: keys that are short enough, and a layout of a stored array
 pub record IsStoredArray (info : ArrayInfo) : Type 0 where
@@ -36,10 +36,10 @@ input_of info = record { name = info.prefix; layout = info.layout }
 -- ---- one chunk
 
 -- The buffer has the chunk at this coordinate as it was held at any moment since which only late puts landed, where each that was late
--- then on a key of a chunk carried what was held there.
+-- then on its key carried what was held there.
 abbrev pub HasHeldChunk : ArrayInfo → List ℕ → Shown → List ℕ → Type 0
 HasHeldChunk info coord now buf =
-    (entry : Shown) → Stepped NoChange entry now → IsSteady (IsArrayChunk info.prefix info.layout) entry.held entry.late → HasChunk info coord entry.held buf
+    (entry : Shown) → Stepped NoChange entry now → IsSteady (λ key. key ≡ key_at info coord) entry.held entry.late → HasChunk info coord entry.held buf
 
 -- why reading the chunk under this key ends, where it is tried so often
 abbrev pub IsPartFault : ℕ → Shown → Shown → Layout → List ℕ → TaskFault → Type 0
@@ -73,18 +73,26 @@ pub record IsPlaced (l : Layout) (coord chunk old new : List ℕ) : Type 0 where
 abbrev pub HaveElement : InputInfo → Contents → List ℕ → List ℕ → Type 0
 HaveElement a held bytes idx = stored_element (layout_view a.layout) a.name held idx ≡ Some (element_at Little a.layout.dtype bytes (place_of a.layout.grid.shape idx))
 
--- they have each element of the chunks below number n
-abbrev pub HasChunksBelow : InputInfo → List ℕ → ℕ → Contents → Type 0
-HasChunksBelow a bytes n held =
-    (idx : List ℕ) → IsInside a.layout.grid.shape idx → place_of (counts_of a.layout.grid.shape a.layout.grid.chunk) (quotients idx a.layout.grid.chunk) < n → HaveElement a held bytes idx
+-- they have it, where the key of its chunk was steady
+abbrev pub HasStoredAt : InputInfo → List ℕ → Shown → List ℕ → Type 0
+HasStoredAt a bytes entry idx = WhereKeyCalm entry (key_of_index a idx) (λ held. HaveElement a held bytes idx)
+
+-- they have each such element of the chunks below number n
+abbrev pub HasChunksBelow : InputInfo → List ℕ → ℕ → Shown → Type 0
+HasChunksBelow a bytes n entry =
+    (idx : List ℕ) → IsInside a.layout.grid.shape idx → place_of (counts_of a.layout.grid.shape a.layout.grid.chunk) (quotients idx a.layout.grid.chunk) < n → HasStoredAt a bytes entry idx
+
+-- they have each such element
+abbrev pub HasAllSteady : InputInfo → List ℕ → Shown → Type 0
+HasAllSteady a bytes entry = (idx : List ℕ) → IsInside a.layout.grid.shape idx → HasStoredAt a bytes entry idx
 
 -- they have each element
 abbrev pub HasAllStored : InputInfo → List ℕ → Contents → Type 0
 HasAllStored a bytes held = (idx : List ℕ) → IsInside a.layout.grid.shape idx → HaveElement a held bytes idx
 
--- a fact of what was held at any moment since which only late puts landed, where none of those changed a chunk
-abbrev pub SinceCalm : Shown → InputInfo → (Contents → Type 0) → Type 0
-SinceCalm now a fact = (entry : Shown) → Stepped NoChange entry now → WhereCalm entry a fact
+-- a fact of what was shown at any moment since which only late puts landed
+abbrev pub AtEachEntry : Shown → (Shown → Type 0) → Type 0
+AtEachEntry now fact = (entry : Shown) → Stepped NoChange entry now → fact entry
 
 -- why reading the array ends: a chunk in its turn
 abbrev pub IsArrayFault : ℕ → Shown → Shown → InputInfo → Status → Type 0

@@ -4,6 +4,7 @@ use Rattle.cu_num.specs.Element.{element_at}
 use Rattle.cu_num.specs.declared.layout.Endian.TheVariants.{Little}
 use Rattle.cu_num.specs.declared.types.Dtype.{Dtype}
 use Rattle.cu_shape.specs.Index.{product, index_at}
+use Rattle.cu_grid.specs.Grid.{IsGrid}
 use Rattle.cu_expr.specs.declared.inputs.InputInfo.{InputInfo}
 use Rattle.cu_mean.specs.Plain.{PlainArray, IsPlain}
 use Rattle.cu_op.specs.Layout.{layout_view}
@@ -11,7 +12,7 @@ use Rattle.cu_store.specs.Held.{Contents}
 use Rattle.cu_store.specs.Steps.{Shown}
 use Rattle.cu_zarr.specs.Stored.{stored_element}
 use Rattle.cu_command.specs.declared.status.Status.{Status}
-use Rattle.cu_check.specs.Arrays.{IsOwnTurn, WhereCalm}
+use Rattle.cu_check.specs.Arrays.{IsOwnTurn, WhereKeyCalm, key_of_index}
 use Rattle.cu_check.specs.Chunks.{IsChunkFault}
 use Rattle.cu_check.specs.declared.compare.Difference.{Difference}
 
@@ -22,16 +23,22 @@ pub record AreNumbers (t : Dtype) (bytes : List ℕ) (n : ℕ) (cells : List ℤ
 
 -- ---- an array that was read
 
+-- it has the stored element at this place, where the key of its chunk was steady
+abbrev pub HasElementAt : InputInfo → PlainArray → Shown → ℕ → Type 0
+HasElementAt a p entry place = WhereKeyCalm entry (key_of_index a (index_at a.layout.grid.shape place))
+    (λ held. stored_element (layout_view a.layout) a.name held (index_at a.layout.grid.shape place) ≡ slice_get p.cells place)
+
 -- it has the stored elements, place by place
 abbrev pub HasStoredElements : InputInfo → PlainArray → Contents → Type 0
 HasStoredElements a p held = (place : ℕ) → place < product a.layout.grid.shape → stored_element (layout_view a.layout) a.name held (index_at a.layout.grid.shape place) ≡ slice_get p.cells place
 
 -- it has the type and the shape of the stored array, and its elements as they were held
 pub record IsReadArray (entry : Shown) (a : InputInfo) (p : PlainArray) : Type 0 where
+  pub grid : IsGrid a.layout.grid
   pub plain : IsPlain p
   pub dtype : p.dtype ≡ a.layout.dtype
   pub dims : p.dims ≡ a.layout.grid.shape
-  pub elements : WhereCalm entry a (HasStoredElements a p)
+  pub elements : (place : ℕ) → place < product a.layout.grid.shape → HasElementAt a p entry place
 
 -- the same of each array of a list
 abbrev pub AreReadArrays : Shown → List InputInfo → List PlainArray → Type 0

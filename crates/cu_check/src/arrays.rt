@@ -4,11 +4,11 @@ ghost use Rattle.cu_num.specs.Dtype.{size_of};
 ghost use Rattle.cu_name.specs.Name.{is_name};
 ghost use Rattle.cu_shape.specs.Index.{product};
 ghost use Rattle.cu_store.specs.Steps.{Shown, NoChange};
-ghost use Rattle.cu_command.specs.Seen.{Stepped};
+ghost use Rattle.cu_command.specs.Seen.{Stepped, WithinCalls};
 ghost use Rattle.cu_command.specs.Stored.{IsArrayLayout};
 ghost use Rattle.cu_mean.specs.Plain.{IsPlain};
-ghost use Rattle.cu_check.specs.Arrays.{IsOwnTurn};
-ghost use Rattle.cu_check.specs.Chunks.{HasAllStored, SinceCalm, IsChunkFault, IsArrayFault};
+ghost use Rattle.cu_check.specs.Arrays.{IsOwnTurn, chunks_of};
+ghost use Rattle.cu_check.specs.Chunks.{HasAllSteady, AtEachEntry, IsChunkFault, IsArrayFault};
 ghost use Rattle.cu_check.specs.Plains.{AreNumbers, IsReadArray};
 
 use crate::chunks::read_chunks;
@@ -46,9 +46,10 @@ pub(crate) fn read_array<D: Depot>(
     requires name { is_name array.now.name ≡ true }
     requires layout { IsArrayLayout array.now.layout }
     ensures length { IfOk result (λ bytes. length bytes.items ≡ product array.now.layout.grid.shape * size_of array.now.layout.dtype) }
-    ensures read { IfOk result (λ bytes. SinceCalm (D.shown depot.old) array.now (HasAllStored array.now bytes.items)) }
+    ensures read { IfOk result (λ bytes. AtEachEntry (D.shown depot.old) (HasAllSteady array.now bytes.items)) }
     ensures step { Stepped NoChange (D.shown depot.old) (D.shown depot.new) }
     ensures cause { IfErr result (IsArrayFault (retries + 1) (D.shown depot.old) (D.shown depot.new) array.now) }
+    ensures calls { WithinCalls (chunks_of array.now * (retries + 1)) (D.shown depot.old) (D.shown depot.new) }
 {
     let layout = &array.layout;
     let bytes = element_count(layout) * u64::from(size(layout.dtype));
@@ -114,6 +115,7 @@ pub(crate) fn read_plain<D: Depot>(
     ensures read { IfOk result (λ p. (entry : Shown) → Stepped NoChange entry (D.shown depot.old) → IsReadArray entry array.now p) }
     ensures step { Stepped NoChange (D.shown depot.old) (D.shown depot.new) }
     ensures cause { IfErr result (IsArrayFault (retries + 1) (D.shown depot.old) (D.shown depot.new) array.now) }
+    ensures calls { WithinCalls (chunks_of array.now * (retries + 1)) (D.shown depot.old) (D.shown depot.new) }
 {
     let bytes = match read_array(alloc, depot, array, retries) {
         Ok(bytes) => bytes,

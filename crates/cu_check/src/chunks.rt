@@ -6,9 +6,9 @@ ghost use Rattle.cu_grid.specs.Counts.{counts_of};
 ghost use Rattle.cu_grid.specs.Grid.{IsCoordinate, coordinate_of};
 ghost use Rattle.cu_region.specs.Reading.{bytes_of, key_at};
 ghost use Rattle.cu_store.specs.Steps.{Shown, NoChange};
-ghost use Rattle.cu_command.specs.Seen.{Stepped};
-ghost use Rattle.cu_check.specs.Arrays.{WhereCalm};
-ghost use Rattle.cu_check.specs.Chunks.{IsStoredArray, input_of, HasHeldChunk, IsPartFault, part_end, IsChunkFault, IsPlaced, HasChunksBelow, HasAllStored, SinceCalm, IsArrayFault};
+ghost use Rattle.cu_command.specs.Seen.{Stepped, WithinCalls};
+ghost use Rattle.cu_check.specs.Arrays.{chunks_of};
+ghost use Rattle.cu_check.specs.Chunks.{IsStoredArray, input_of, HasHeldChunk, IsPartFault, part_end, IsChunkFault, IsPlaced, HasChunksBelow, HasAllSteady, AtEachEntry, IsArrayFault};
 
 use cu_codec::{chunk_key, take_part};
 use cu_command::Status;
@@ -32,6 +32,7 @@ fn read_once<D: Depot>(
     ensures read { OnOk result (HasHeldChunk info.now coord.now (D.shown depot.old) chunk.new) }
     ensures step { Stepped NoChange (D.shown depot.old) (D.shown depot.new) }
     ensures cause { IfErr result (IsPartFault 1 (D.shown depot.old) (D.shown depot.new) info.now.layout (key_at info.now coord.now)) }
+    ensures calls { WithinCalls 1 (D.shown depot.old) (D.shown depot.new) }
 {
     let _grid = info.layout.grid.shape();
     read_chunk::<InDepot<D>>(&(), depot, info, coord, chunk)
@@ -51,6 +52,7 @@ fn read_tries<D: Depot>(
     ensures read { OnOk result (HasHeldChunk info.now coord.now (D.shown depot.old) chunk.new) }
     ensures step { Stepped NoChange (D.shown depot.old) (D.shown depot.new) }
     ensures cause { IfErr result (IsPartFault (retries + 1) (D.shown depot.old) (D.shown depot.new) info.now.layout (key_at info.now coord.now)) }
+    ensures calls { WithinCalls (retries + 1) (D.shown depot.old) (D.shown depot.new) }
 {
     for _ in 0..retries {
         match read_once(depot, info, coord, chunk) {
@@ -112,10 +114,11 @@ fn read_numbered<D: Depot>(
     requires number { number < product (counts_of info.now.layout.grid.shape info.now.layout.grid.chunk) }
     requires chunk_length { length chunk.old ≡ bytes_of info.now.layout }
     requires all_length { length all.old ≡ product info.now.layout.grid.shape * size_of info.now.layout.dtype }
-    ensures read { OnOk result ((entry : Shown) → Stepped NoChange entry (D.shown depot.old) → WhereCalm entry (input_of info.now) (HasChunksBelow (input_of info.now) all.old number)
-        → WhereCalm entry (input_of info.now) (HasChunksBelow (input_of info.now) all.new (number + 1))) }
+    ensures read { OnOk result ((entry : Shown) → Stepped NoChange entry (D.shown depot.old) → HasChunksBelow (input_of info.now) all.old number entry
+        → HasChunksBelow (input_of info.now) all.new (number + 1) entry) }
     ensures step { Stepped NoChange (D.shown depot.old) (D.shown depot.new) }
     ensures cause { IfErr result (IsChunkFault (retries + 1) (D.shown depot.old) (D.shown depot.new) info.now.layout (λ key. key ≡ key_at info.now (coordinate_of info.now.layout.grid number))) }
+    ensures calls { WithinCalls (retries + 1) (D.shown depot.old) (D.shown depot.new) }
 {
     let coord = info.layout.grid.coordinate(number);
     match read_tries(depot, info, &coord, retries, chunk) {
@@ -142,9 +145,10 @@ pub(crate) fn read_chunks<D: Depot>(
     requires readable { IsStoredArray info.now }
     requires chunk_length { length chunk.old ≡ bytes_of info.now.layout }
     requires all_length { length all.old ≡ product info.now.layout.grid.shape * size_of info.now.layout.dtype }
-    ensures read { OnOk result (SinceCalm (D.shown depot.old) (input_of info.now) (HasAllStored (input_of info.now) all.new)) }
+    ensures read { OnOk result (AtEachEntry (D.shown depot.old) (HasAllSteady (input_of info.now) all.new)) }
     ensures step { Stepped NoChange (D.shown depot.old) (D.shown depot.new) }
     ensures cause { IfErr result (IsArrayFault (retries + 1) (D.shown depot.old) (D.shown depot.new) (input_of info.now)) }
+    ensures calls { WithinCalls (chunks_of (input_of info.now) * (retries + 1)) (D.shown depot.old) (D.shown depot.new) }
 {
     for number in 0..info.layout.grid.count() {
         match read_numbered(depot, info, number, retries, chunk, all) {

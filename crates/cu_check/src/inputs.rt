@@ -1,13 +1,13 @@
 //! The arrays of an expression's input nodes.
-ghost use Rattle.std.specs.Prelude.{◌≡◌, ◌+◌, ◌++◌, ◌∷◌, [], ℕ, List, true, All, length, IfErr, IfOk, OnOk};
+ghost use Rattle.std.specs.Prelude.{◌≡◌, ◌+◌, ◌*◌, ◌++◌, ◌∷◌, [], ℕ, List, true, All, length, IfErr, IfOk, OnOk};
 ghost use Rattle.cu_form.specs.Expression.{IsExpression};
 ghost use Rattle.cu_form.specs.Form.{in_ranges};
 ghost use Rattle.cu_expr.specs.declared.inputs.InputInfo.{InputInfo as Input};
 ghost use Rattle.cu_op.specs.Arrays.{no_array};
 ghost use Rattle.cu_store.specs.Steps.{Shown, NoChange};
-ghost use Rattle.cu_command.specs.Seen.{Stepped};
+ghost use Rattle.cu_command.specs.Seen.{Stepped, WithinCalls};
 ghost use Rattle.cu_command.specs.Stored.{IsArrayLayout};
-ghost use Rattle.cu_check.specs.Arrays.{form_arrays, arrays_of_nodes};
+ghost use Rattle.cu_check.specs.Arrays.{form_arrays, arrays_of_nodes, chunks_of_all};
 ghost use Rattle.cu_check.specs.Chunks.{IsArrayFault};
 ghost use Rattle.cu_check.specs.Plains.{AreReadArrays, IsListFault};
 ghost use Rattle.cu_expr.specs.Inputs.{layout_named};
@@ -65,6 +65,7 @@ fn read_node<D: Depot>(
         → AreReadArrays entry (before ++ form_arrays inputs.now form.now) arrays.new.items) }
     ensures step { Stepped NoChange (D.shown depot.old) (D.shown depot.new) }
     ensures cause { IfErr result (λ status. (a : Input) × (form_arrays inputs.now form.now ≡ a ∷ []) × IsArrayFault (retries + 1) (D.shown depot.old) (D.shown depot.new) a status) }
+    ensures calls { WithinCalls (chunks_of_all (form_arrays inputs.now form.now) * (retries + 1)) (D.shown depot.old) (D.shown depot.new) }
 {
     let Form::Input { name } = form else {
         return Ok(());
@@ -98,6 +99,7 @@ pub(crate) fn read_nodes<D: Depot>(
     ensures form { IsExpression expr.now }
     ensures cause { IfErr result (λ status. (entry : Shown) → Stepped NoChange entry (D.shown depot.old)
         → IsListFault (retries + 1) entry (D.shown depot.old) (D.shown depot.new) (arrays_of_nodes inputs.now expr.now.nodes) status) }
+    ensures calls { WithinCalls (chunks_of_all (arrays_of_nodes inputs.now expr.now.nodes) * (retries + 1)) (D.shown depot.old) (D.shown depot.new) }
 {
     let mut arrays = Vec::new(alloc);
     for node in expr.nodes() {

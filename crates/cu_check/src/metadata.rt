@@ -1,12 +1,12 @@
 //! What is compared: the expression of a text with its types, and the output as its metadata says.
-ghost use Rattle.std.specs.Prelude.{◌≡◌, ◌+◌, ◌≤◌, ◌↔◌, IsTrue, Ok, length, IfErr, IfOk, OnOk};
+ghost use Rattle.std.specs.Prelude.{◌≡◌, ◌+◌, ◌*◌, ◌≤◌, ◌↔◌, IsTrue, Ok, length, IfErr, IfOk, OnOk};
 ghost use Rattle.cu_expr.specs.Typing.{typed};
 ghost use Rattle.cu_store.specs.Steps.{NoChange, Steps};
 ghost use Rattle.cu_zarr.specs.Key.{metadata_key_of};
 ghost use Rattle.cu_command.specs.Job.{status_of, IsJob};
-ghost use Rattle.cu_command.specs.Seen.{Stream, Stepped, seen};
+ghost use Rattle.cu_command.specs.Seen.{Stream, Stepped, WithinCalls, seen};
 ghost use Rattle.cu_command.specs.Stored.{IsArrayLayout, HoldsLayout, IsMetadataFault};
-ghost use Rattle.cu_check.specs.Check.{IsOutputRead, IsLikeStoredNode, IsMisfit, elements_in_all, Compares};
+ghost use Rattle.cu_check.specs.Check.{IsOutputRead, IsLikeStoredNode, IsMisfit, elements_in_all, metadata_keys, Compares};
 
 use cu_command::{
     Job, JobFault, Status, metadata_room, read_inputs, read_written, said_in, types_in,
@@ -60,6 +60,7 @@ fn read_typed<D: Depot>(
     ensures output { IfOk result (λ c. IsOutputRead (D.shown depot.old) c.job.expr c.output) }
     ensures step { Stepped NoChange (D.shown depot.old) (D.shown depot.new) }
     ensures cause { (out next : Stream) → IfErr result (Compares (retries + 1) text.now (seen out (D.shown depot.old)) (seen next (D.shown depot.new))) }
+    ensures calls { WithinCalls (metadata_keys text.now * (retries + 1)) (D.shown depot.old) (D.shown depot.new) }
 {
     let said = match said_in(alloc, text) {
         Ok(said) => said,
@@ -145,6 +146,7 @@ pub(crate) fn read_compared<D: Depot>(
     ensures few { IfOk result (λ c. elements_in_all c.job.types ≤ 4194304) }
     ensures step { Stepped NoChange (D.shown depot.old) (D.shown depot.new) }
     ensures cause { (out next : Stream) → IfErr result (Compares (retries + 1) text.now (seen out (D.shown depot.old)) (seen next (D.shown depot.new))) }
+    ensures calls { WithinCalls (metadata_keys text.now * (retries + 1)) (D.shown depot.old) (D.shown depot.new) }
 {
     let compared = match read_typed(alloc, depot, text, retries) {
         Ok(compared) => compared,

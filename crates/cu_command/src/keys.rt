@@ -2,7 +2,7 @@
 ghost use Rattle.std.specs.Prelude.{◌≡◌, ◌+◌, IfErr, IfOk, OnOk, true, false};
 ghost use Rattle.cu_store.specs.Held.{Holds, IsGone, IsHeldIn};
 ghost use Rattle.cu_store.specs.Steps.{NoChange, PutOf, Steps};
-ghost use Rattle.cu_command.specs.Keys.{IsKeyFault};
+ghost use Rattle.cu_command.specs.Keys.{IsKeyFault, IsValueUnput};
 
 use crate::Status;
 use cu_store::{Depot, DepotFault, Key, has_tries, put_tries};
@@ -21,7 +21,7 @@ pub fn ask_key<D: Depot>(depot: &mut D, key: &Key, retries: u32) -> Result<bool,
     }
 }
 
-/// Stores the value of a key.
+/// Stores the value of a key. Where memory is wanted and no call failed, nothing is stored.
 pub fn put_value<D: Depot>(
     depot: &mut D,
     key: &Key,
@@ -31,6 +31,7 @@ pub fn put_value<D: Depot>(
     ensures stored { OnOk result (Holds (D.shown depot.new).held key.now bytes.now) }
     ensures step { Steps (PutOf key.now bytes.now) 1 (retries + 1) (D.shown depot.old) (D.shown depot.new) }
     ensures cause { IfErr result (IsKeyFault (retries + 1) (D.shown depot.old).faults (D.shown depot.new).faults (D.shown depot.new).lacks key.now) }
+    ensures unput { IfErr result (IsValueUnput (D.shown depot.old) (D.shown depot.new)) }
 {
     match put_tries(depot, key, bytes, retries) {
         Ok(()) => Ok(()),

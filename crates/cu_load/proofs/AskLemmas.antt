@@ -26,6 +26,10 @@ module _ {T E : Type 0} where
   if_err (Ok x) f h = tt
   if_err (Err e) f h = f e h
 
+  pub both_errs : (P Q : E → Type 0) (r : Result T E) → IfErr r P → IfErr r Q → IfErr r (λ e. P e × Q e)
+  both_errs P Q (Ok x) p q = tt
+  both_errs P Q (Err e) p q = (p, q)
+
 pub rose_earlier : (n before later after : ℕ) → before ≤ later → Rose n later after → Rose n before after
 rose_earlier n before later after earlier rose = omega arith
 

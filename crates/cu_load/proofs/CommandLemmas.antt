@@ -1,15 +1,15 @@
 -- From the parts of the call to what it answers.
-use Rattle.std.proofs.Common.{◌≡◌, ℕ, ◌+◌, List, Some, Ok, inl, inr, refl, subst}
+use Rattle.std.proofs.Common.{◌≡◌, ℕ, ◌+◌, ◌*◌, arith, List, Some, Ok, inl, inr, refl, subst}
 use Rattle.cu_store.specs.Held.{Write, IsAmong}
 use Rattle.cu_store.specs.Steps.{Shown, NoChange, OrLate, AllLateIn}
-use Rattle.cu_command.proofs.SeenLemmas.{stepped_none, stepped_then}
-use Rattle.cu_command.specs.Seen.{Stream, Seen, Stepped, seen}
+use Rattle.cu_command.proofs.SeenLemmas.{stepped_none, stepped_then, within_then, within_few}
+use Rattle.cu_command.specs.Seen.{Stream, Seen, Stepped, WithinCalls, seen}
 use Rattle.cu_command.specs.Streams.{ReadsAll}
 use Rattle.cu_command.specs.declared.status.Status.{Status}
 use Rattle.cu_command.specs.declared.status.Status.TheVariants.{Done, Exists, WriteFault, DepotFailed, NoMemory}
 use Rattle.cu_load.proofs.AskLemmas.{rose_earlier}
 use Rattle.cu_load.specs.Keys.{IsAskedFor, AreFree, IsAskFault}
-use Rattle.cu_load.specs.Load.{IsArrayKey, IsArrayCalm, IsPutFault, IsStoreFault, Stored, Loaded}
+use Rattle.cu_load.specs.Load.{IsArrayKey, IsArrayCalm, IsPutFault, IsPutWanting, IsStoreFault, Stored, Loaded}
 use Rattle.cu_load.specs.LoadForm.{GivenArray, load_of}
 
 -- asking for the keys ended the call
@@ -36,11 +36,15 @@ fault_since : (a : GivenArray) (old mid new : Shown) (key : List ℕ) → Steppe
 fault_since a old mid new key quiet (inl (k, below, same, step, before)) = inl (k, below, same, stepped_then (stepped_none quiet) step, λ calm. before (still_calm a old.late mid.late quiet.step.late calm))
 fault_since a old mid new key quiet (inr (same, step, stores)) = inr (same, stepped_then (stepped_none quiet) step, λ calm. stores (still_calm a old.late mid.late quiet.step.late calm))
 
+wanting_since : (a : GivenArray) (old mid new : Shown) → Stepped NoChange old mid → IsPutWanting a mid new → IsPutWanting a old new
+wanting_since a old mid new quiet (inl (n, few, step, before)) = inl (n, few, stepped_then (stepped_none quiet) step, λ calm. before (still_calm a old.late mid.late quiet.step.late calm))
+wanting_since a old mid new quiet (inr (rose, (key, fault))) = inr (rose_earlier 1 old.faults mid.faults new.faults quiet.step.count rose, (key, fault_since a old mid new key quiet fault))
+
 -- storing ended it
 pub store_ended : (retries : ℕ) (a : GivenArray) (out : Stream) (old mid new : Shown) (status : Status)
     → AreFree a.name old.held → Stepped NoChange old mid → IsStoreFault (retries + 1) a mid new status → Stored retries a (seen out old) (seen out new) status
 store_ended retries a out old mid new (DepotFailed key) free quiet fault = (rose_earlier (retries + 1) old.faults mid.faults new.faults quiet.step.count fault.0, refl, inr (free, fault_since a old mid new key quiet fault.1))
-store_ended retries a out old mid new NoMemory free quiet (key, fault) = (refl, inr (free, (key, fault_since a old mid new key quiet fault)))
+store_ended retries a out old mid new NoMemory free quiet (lacks, fault) = (refl, inr (free, lacks, wanting_since a old mid new quiet fault))
 store_ended retries a out old mid new status free quiet fault = absurd fault
 
 -- the array was read, and storing it answered
@@ -52,3 +56,7 @@ loaded retries src next old new text a NoMemory read gives stored = inr (record 
 loaded retries src next old new text a Done read gives stored = record { text = text; read = read; array = a; gives = gives; is_so = stored }
 loaded retries src next old new text a WriteFault read gives stored = record { text = text; read = read; array = a; gives = gives; is_so = stored }
 loaded retries src next old new text a status read gives stored = absurd stored
+
+-- how many calls are made: for three keys, and then for the chunks and the metadata
+pub load_calls : (chunks tries : ℕ) (a b c : Shown) → WithinCalls (3 * tries) a b → WithinCalls ((chunks + 1) * tries) b c → WithinCalls ((chunks + 4) * tries) a c
+load_calls chunks tries a b c first next = within_few (3 + (chunks + 1)) (chunks + 4) tries a c (omega arith) (within_then 3 (chunks + 1) tries a b c first next)

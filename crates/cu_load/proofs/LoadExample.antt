@@ -1,10 +1,10 @@
 -- The definitions on a worked example: six int32 numbers in chunks of four.
-use Rattle.std.proofs.Common.{◌≡◌, [], ◌∷◌, Some, refl, codes, pos}
+use Rattle.std.proofs.Common.{◌≡◌, [], ◌∷◌, Some, refl, sym, ap, ◌∙◌, inl, inr, codes, pos, arith}
 use Rattle.std.specs.Fmt.{digits}
 use Rattle.cu_num.specs.Element.{element_bytes}
 use Rattle.cu_num.specs.Wrap.{wrapped}
 use Rattle.cu_num.specs.declared.types.Dtype.TheVariants.{Int32}
-use Rattle.cu_load.specs.Load.{given_at, chunks_in, key_of_chunk, given_chunk, load_line}
+use Rattle.cu_load.specs.Load.{IsArrayCalm, given_at, chunks_in, key_of_chunk, given_chunk, load_line}
 use Rattle.cu_load.specs.LoadForm.{GivenArray, layout_given}
 
 -- 1 to 6
@@ -31,6 +31,11 @@ last_chunk = refl
 last_key : key_of_chunk six 1 ≡ codes "a/c/1"
 unfolding six digits
 last_key = refl
+
+-- a late put of this chunk, with its value, meets the premise on what is late
+late_chunk : IsArrayCalm six ((codes "a/c/1", 5 ∷ 0 ∷ 0 ∷ 0 ∷ 6 ∷ 0 ∷ 0 ∷ 0 ∷ 0 ∷ 0 ∷ 0 ∷ 0 ∷ 0 ∷ 0 ∷ 0 ∷ 0 ∷ []) ∷ [])
+late_chunk key bytes (inl (is, same)) of_array = inr (1, omega (arith, two_chunks), (bytes, last_chunk ∙ ap Some (sym same), (is ∙ sym last_key, refl)))
+late_chunk key bytes (inr none) of_array = absurd none
 
 line : load_line six ≡ codes "ok elements=6 chunks=2\n"
 unfolding six load_line digits

@@ -115,21 +115,21 @@ all_read d head items count is xs h l n e t x = rw (← h, ← l, items_len-item
 
 -- ---- what a given array has
 
-some_of : {A X : Type 0} (o : Option A) → (o ≡ None → ⊥) → ((x : A) → o ≡ Some x → X) → X
+pub some_of : {A X : Type 0} (o : Option A) → (o ≡ None → ⊥) → ((x : A) → o ≡ Some x → X) → X
 some_of None h f = absurd (h refl)
 some_of (Some x) h f = f x refl
 
-true_of : (b : Test) → (b ≡ false → ⊥) → b ≡ true
+pub true_of : (b : Test) → (b ≡ false → ⊥) → b ≡ true
 true_of true h = refl
 true_of false h = absurd (h refl)
 
-none_is_no_some : {A : Type 0} (x : A) → None ≡ Some x → ⊥
+pub none_is_no_some : {A : Type 0} (x : A) → None ≡ Some x → ⊥
 none_is_no_some x h = cc
 
-code_is_no_head : (code : ℕ) (head : NamedLayout) → Err code ≡ Ok head → ⊥
+pub code_is_no_head : (code : ℕ) (head : NamedLayout) → Err code ≡ Ok head → ⊥
 code_is_no_head code head h = cc
 
-code_is_no_array : (code : ℕ) (a : GivenArray) → Err code ≡ Ok a → ⊥
+pub code_is_no_array : (code : ℕ) (a : GivenArray) → Err code ≡ Ok a → ⊥
 code_is_no_array code a h = cc
 
 name_is : (value : Option Data) (name : List ℕ) → name_in value ≡ Some name → is_name name ≡ true
@@ -146,7 +146,7 @@ few_sizes_at name d sizes h =
     some_of (get name d) (λ none. none_is_no_some sizes (rw none at h)) (λ value e.
     few_sizes value sizes (rw e at h))
 
-no_fault : (o : Option GridFault) → is_none o ≡ true → o ≡ None
+pub no_fault : (o : Option GridFault) → is_none o ≡ true → o ≡ None
 no_fault None h = refl
 no_fault (Some f) h = cc
 
@@ -169,7 +169,7 @@ record IsHead (head : NamedLayout) : Type 0 where
   layout : IsStorable head.layout
   order : head.layout.endian ≡ Little
 
-same_head : (a b : NamedLayout) (r : Result NamedLayout ℕ) → r ≡ Ok a → r ≡ Ok b → a ≡ b
+pub same_head : (a b : NamedLayout) (r : Result NamedLayout ℕ) → r ≡ Ok a → r ≡ Ok b → a ≡ b
 same_head a b r e h = cc
 
 head_accepted : (d : Data) (head : NamedLayout) → head_in d ≡ Ok head → IsHead head
@@ -208,7 +208,7 @@ elements_accepted t front elements (item d ds) before h =
     let rest = elements_accepted t (front ++ x ∷ []) elements ds (All-push (InRange t) front x before (fill_accepted t d x e)) (rw e at h) in
     record { count = omega (arith, rest.count, length-append front (x ∷ [])); range = rest.range })
 
-same_array : (a b : GivenArray) (r : Result GivenArray ℕ) → r ≡ Ok a → r ≡ Ok b → a ≡ b
+pub same_array : (a b : GivenArray) (r : Result GivenArray ℕ) → r ≡ Ok a → r ≡ Ok b → a ≡ b
 same_array a b r e h = cc
 
 array_accepted : (d : Data) (a : GivenArray) → array_in d ≡ Ok a → IsGivenArray a
@@ -232,7 +232,7 @@ array_accepted d a h = head_found (head_in d) refl
         let same : made ≡ a = same_array made a (Ok made) refl h4 in
         subst IsGivenArray same (record { name = is.name; layout = is.layout; order = is.order; count = many_elements; elements = are.range })))
 
-load_accepted : (text : List ℕ) (a : GivenArray) → load_of text ≡ Ok a → IsGivenArray a
+pub load_accepted : (text : List ℕ) (a : GivenArray) → load_of text ≡ Ok a → IsGivenArray a
 unfolding load_of
 load_accepted text a h =
     let short = true_of (nat_le (length text) 1048576) (λ long. code_is_no_array 8 a (rw long at h)) in

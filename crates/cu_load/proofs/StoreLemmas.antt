@@ -1,5 +1,5 @@
 -- What stands in the depot while an array is stored.
-use Rattle.std.proofs.Common.{◌≡◌, ℕ, ◌+◌, ◌<◌, ◌≤◌, ◌^◌, ℤ, pos, List, length, get_or, All, Option, Some, None, refl, sym, ap, ◌∙◌, subst, inl, inr, arith, below_more}
+use Rattle.std.proofs.Common.{◌≡◌, ℕ, ◌+◌, ◌<◌, ◌≤◌, ◌^◌, ℤ, pos, List, length, get_or, All, Option, Some, None, refl, sym, ap, ◌∙◌, subst, ◌⊎◌, inl, inr, arith, below_more}
 use Rattle.std.proofs.lemmas.Option.{slice_get-get_or}
 use Rattle.cu_num.specs.Dtype.{InRange}
 use Rattle.cu_shape.specs.Index.{place_of, quotients, IsInside}
@@ -7,20 +7,22 @@ use Rattle.cu_shape.proofs.Places.{place-index, index-place, place-below, inside
 use Rattle.cu_grid.specs.Grid.{IsGrid}
 use Rattle.cu_grid.proofs.Parting.{has_coordinate, inner_inside}
 use Rattle.cu_codec.proofs.KeyLaws.{same_chunk, chunk_not_metadata}
+use Rattle.cu_store.specs.Faults.{Rose}
 use Rattle.cu_store.specs.Held.{Contents, Write, Holds}
-use Rattle.cu_store.specs.Steps.{Shown, Within, PutOf, OrLate, IsChangedBy, Lands, AllLateIn}
+use Rattle.cu_store.specs.Steps.{Shown, NoChange, Within, PutOf, OrLate, IsChangedBy, Lands, AllLateIn}
 use Rattle.cu_zarr.proofs.Spelled.{spelled_element}
 use Rattle.cu_zarr.specs.Key.{chunk_key_of, metadata_key_of}
 use Rattle.cu_zarr.specs.Metadata.{metadata_text}
 use Rattle.cu_zarr.specs.Spelling.{spelled}
 use Rattle.cu_zarr.specs.Stored.{element_in}
-use Rattle.cu_command.specs.Keys.{IsKeyFault}
+use Rattle.cu_command.proofs.SeenLemmas.{stepped_none, stepped_then, stepped_wider}
+use Rattle.cu_command.specs.Keys.{IsKeyFault, IsValueUnput}
 use Rattle.cu_command.specs.Seen.{Stepped}
 use Rattle.cu_command.specs.declared.status.Status.{Status}
 use Rattle.cu_command.specs.declared.status.Status.TheVariants.{DepotFailed, NoMemory}
 use Rattle.cu_load.proofs.AskLemmas.{rose_earlier}
 use Rattle.cu_load.proofs.ChunkLemmas.{small_coord}
-use Rattle.cu_load.specs.Load.{given_at, counts_in, chunks_in, given_coord, key_of_chunk, given_chunk, ChunkPut, ChunksPut, ArrayPut, IsArrayKey, IsArrayCalm, IsStoreFault, HasGivenElements, StoresGiven, HoldsChunk, HoldsChunks, ValuesStay}
+use Rattle.cu_load.specs.Load.{given_at, counts_in, chunks_in, given_coord, key_of_chunk, given_chunk, ChunkPut, ChunksPut, ArrayPut, IsArrayKey, IsArrayCalm, IsPutFault, IsPutWanting, IsStoreFault, HasGivenElements, StoresGiven, HoldsChunk, HoldsChunks, ValuesStay}
 use Rattle.cu_load.specs.LoadForm.{GivenArray, IsGivenArray}
 
 -- ---- the changes of an array
@@ -138,18 +140,32 @@ stores_given a (Some held) ok grid metadata stored = (metadata, stored, elements
 
 -- ---- why storing ends
 
+-- memory was wanted for a key behind so many chunks, for which nothing was put, or a call failed
+wanting : (a : GivenArray) (n : ℕ) (key : List ℕ) (old mid new : Shown) → n ≤ chunks_in a → Stepped (ChunksPut a n) old mid → Stepped NoChange mid new ⊎ Rose 1 mid.faults new.faults
+    → (IsArrayCalm a old.late → HoldsChunks a new.held n) → IsPutFault a old new key → IsPutWanting a old new
+wanting a n key old mid new few earlier (inl quiet) before fault = inl (n, few, stepped_then earlier (stepped_none quiet), before)
+wanting a n key old mid new few earlier (inr rose) before fault = inr (rose_earlier 1 old.faults mid.faults new.faults earlier.step.count rose, (key, fault))
+
 -- the calls for a chunk failed
 pub chunk_fault : (tries : ℕ) (a : GivenArray) (k : ℕ) (old mid new : Shown) (status : Status)
-    → k < chunks_in a → old.faults ≤ mid.faults → Stepped (ChunksPut a (k + 1)) old new → (IsArrayCalm a old.late → HoldsChunks a new.held k) → IsKeyFault tries mid.faults new.faults new.lacks (key_of_chunk a k) status
-    → IsStoreFault tries a old new status
-chunk_fault tries a k old mid new (DepotFailed key) below earlier step before fault = (rose_earlier tries old.faults mid.faults new.faults earlier fault.1, inl (k, below, fault.0, step, before))
-chunk_fault tries a k old mid new NoMemory below earlier step before fault = (key_of_chunk a k, inl (k, below, refl, step, before))
-chunk_fault tries a k old mid new status below earlier step before fault = fault
+    → k < chunks_in a → Stepped (ChunksPut a k) old mid → Stepped (ChunkPut a k) mid new → (IsArrayCalm a old.late → HoldsChunks a new.held k)
+    → IsKeyFault tries mid.faults new.faults new.lacks (key_of_chunk a k) status → IsValueUnput mid new status → IsStoreFault tries a old new status
+chunk_fault tries a k old mid new status below earlier step before = ended status
+  where
+    whole : Stepped (ChunksPut a (k + 1)) old new
+    whole = stepped_then (stepped_wider (more_put a k) earlier) (stepped_wider (next_put a k) step)
+
+    ended : (status : Status) → IsKeyFault tries mid.faults new.faults new.lacks (key_of_chunk a k) status → IsValueUnput mid new status → IsStoreFault tries a old new status
+    ended (DepotFailed key) fault unput = (rose_earlier tries old.faults mid.faults new.faults earlier.step.count fault.1, inl (k, below, fault.0, whole, before))
+    ended NoMemory fault unput = (fault, wanting a k (key_of_chunk a k) old mid new (omega (arith, below)) earlier unput before (inl (k, below, refl, whole, before)))
+    ended status fault unput = absurd fault
 
 -- those for the metadata failed
 pub metadata_fault : (tries : ℕ) (a : GivenArray) (key : List ℕ) (old mid new : Shown) (status : Status)
-    → key ≡ metadata_key_of a.name → old.faults ≤ mid.faults → Stepped (ArrayPut a) old new → (IsArrayCalm a old.late → HoldsChunks a new.held (chunks_in a)) → IsKeyFault tries mid.faults new.faults new.lacks key status
-    → IsStoreFault tries a old new status
-metadata_fault tries a key old mid new (DepotFailed other) same earlier step chunks fault = (rose_earlier tries old.faults mid.faults new.faults earlier fault.1, inr (fault.0 ∙ same, step, chunks))
-metadata_fault tries a key old mid new NoMemory same earlier step chunks fault = (metadata_key_of a.name, inr (refl, step, chunks))
-metadata_fault tries a key old mid new status same earlier step chunks fault = fault
+    → key ≡ metadata_key_of a.name → Stepped (ChunksPut a (chunks_in a)) old mid → Stepped (ArrayPut a) old new → (IsArrayCalm a old.late → HoldsChunks a new.held (chunks_in a))
+    → IsKeyFault tries mid.faults new.faults new.lacks key status → IsValueUnput mid new status → IsStoreFault tries a old new status
+metadata_fault tries a key old mid new (DepotFailed other) same earlier step chunks fault unput =
+    (rose_earlier tries old.faults mid.faults new.faults earlier.step.count fault.1, inr (fault.0 ∙ same, step, chunks))
+metadata_fault tries a key old mid new NoMemory same earlier step chunks fault unput =
+    (fault, wanting a (chunks_in a) (metadata_key_of a.name) old mid new (omega arith) earlier unput chunks (inr (refl, step, chunks)))
+metadata_fault tries a key old mid new status same earlier step chunks fault unput = absurd fault

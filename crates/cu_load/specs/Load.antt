@@ -1,5 +1,5 @@
 -- What `load` answers, and what it leaves. This project's own rule.
-use Rattle.std.specs.Prelude.{◌≡◌, ◌⊎◌, ℕ, ◌+◌, ◌*◌, ◌<◌, ◌≤◌, ℤ, List, [], ◌∷◌, ◌++◌, length, codes, decimal, slice_get, Option, Some, None, Ok, Err}
+use Rattle.std.specs.Prelude.{◌≡◌, ◌⊎◌, IsTrue, ℕ, ◌+◌, ◌*◌, ◌<◌, ◌≤◌, ℤ, List, [], ◌∷◌, ◌++◌, length, codes, decimal, slice_get, Option, Some, None, Ok, Err}
 use Rattle.cu_num.specs.Dtype.{size_of}
 use Rattle.cu_num.specs.Element.{element_bytes}
 use Rattle.cu_num.specs.declared.types.Dtype.{Dtype}
@@ -15,7 +15,7 @@ use Rattle.cu_store.specs.Faults.{Rose}
 use Rattle.cu_store.specs.Held.{Contents, Write, IsAmong, Holds, IsHeldIn}
 use Rattle.cu_store.specs.Steps.{Shown, Changes, NoChange, PutOf}
 use Rattle.cu_command.specs.Streams.{ReadsAll, WroteFront}
-use Rattle.cu_command.specs.Seen.{Stream, Seen, Stepped, WroteNothing}
+use Rattle.cu_command.specs.Seen.{Stream, Seen, Stepped, WithinCalls, WroteNothing}
 use Rattle.cu_command.specs.declared.status.Status.{Status}
 use Rattle.cu_command.specs.declared.status.Status.TheVariants.{Done, Exists, ReadFault, WriteFault, DepotFailed, BadLoad, NoMemory}
 use Rattle.cu_load.specs.Keys.{IsAskedFor, AreFree}
@@ -102,10 +102,17 @@ IsPutFault a old new key =
     ((k : ℕ) × (k < chunks_in a) × (key ≡ key_of_chunk a k) × Stepped (ChunksPut a (k + 1)) old new × (IsArrayCalm a old.late → HoldsChunks a new.held k))
     ⊎ ((key ≡ metadata_key_of a.name) × Stepped (ArrayPut a) old new × (IsArrayCalm a old.late → HoldsChunks a new.held (chunks_in a)))
 
--- the same while storing, with the count of the depot's faults; want of memory ends the calls for some key so
+-- Memory was wanted for a key: the chunks before it alone were written and are held, and it was not put; or a call failed, whose put may
+-- have landed, and the calls for some key ended so.
+abbrev pub IsPutWanting : GivenArray → Shown → Shown → Type 0
+IsPutWanting a old new =
+    ((n : ℕ) × (n ≤ chunks_in a) × Stepped (ChunksPut a n) old new × (IsArrayCalm a old.late → HoldsChunks a new.held n))
+    ⊎ (Rose 1 old.faults new.faults × ((key : List ℕ) × IsPutFault a old new key))
+
+-- why storing ends: the count of the depot's faults rose so often, or the depot lacks memory
 abbrev pub IsStoreFault : ℕ → GivenArray → Shown → Shown → Status → Type 0
 IsStoreFault tries a old new (DepotFailed key) = Rose tries old.faults new.faults × IsPutFault a old new key
-IsStoreFault tries a old new NoMemory = (key : List ℕ) × IsPutFault a old new key
+IsStoreFault tries a old new NoMemory = IsTrue new.lacks × IsPutWanting a old new
 IsStoreFault tries a old new status = ⊥
 
 -- ---- the report
@@ -127,7 +134,7 @@ Stored retries a old new (Exists key) = IsAskedFor a.name old.depot.held key × 
 Stored retries a old new (DepotFailed key) = Rose (retries + 1) old.depot.faults new.depot.faults × (new.out.told ≡ old.out.told)
     × ((IsAskedFor a.name old.depot.held key × Stepped NoChange old.depot new.depot) ⊎ (AreFree a.name old.depot.held × IsPutFault a old.depot new.depot key))
 Stored retries a old new NoMemory = (new.out.told ≡ old.out.told)
-    × (Stepped NoChange old.depot new.depot ⊎ (AreFree a.name old.depot.held × ((key : List ℕ) × IsPutFault a old.depot new.depot key)))
+    × (Stepped NoChange old.depot new.depot ⊎ (AreFree a.name old.depot.held × IsTrue new.depot.lacks × IsPutWanting a old.depot new.depot))
 Stored retries a old new status = ⊥
 
 -- ---- the call
@@ -155,6 +162,12 @@ Loaded retries src next old new WriteFault = ReadsArray src.told next.told (λ a
 Loaded retries src next old new (Exists key) = ReadsArray src.told next.told (λ a. Stored retries a old new (Exists key))
 Loaded retries src next old new (DepotFailed key) = ReadsArray src.told next.told (λ a. Stored retries a old new (DepotFailed key))
 Loaded retries src next old new status = ⊥
+
+-- No call was made where the text says no array. Else each of the three keys that are asked for, each chunk and the metadata was called for
+-- once, and again at most `retries` times.
+abbrev pub LoadsWithin : ℕ → Option (List ℕ) → Option (List ℕ) → Shown → Shown → Type 0
+LoadsWithin retries src next old new =
+    WithinCalls 0 old new ⊎ ReadsArray src next (λ a. WithinCalls ((chunks_in a + 4) * (retries + 1)) old new)
 
 -- ---- what the parts of the call rest on
 

@@ -1,8 +1,7 @@
 //! The keys that would be in the way of an array that is loaded.
-ghost use Rattle.std.specs.Prelude.{◌≡◌, ◌+◌, IfErr, OnOk};
+ghost use Rattle.std.specs.Prelude.{◌≡◌, ◌+◌, ◌*◌, IfErr, OnOk};
 ghost use Rattle.cu_store.specs.Held.{IsGone};
 ghost use Rattle.cu_store.specs.Steps.{NoChange, Steps};
-ghost use Rattle.cu_command.specs.Seen.{Stepped};
 ghost use Rattle.cu_command.specs.Stored.{HasNoMetadata, IsMetadataAsked};
 ghost use Rattle.cu_name.specs.Name.{IsArrayName};
 ghost use Rattle.cu_load.specs.Keys.{IsAskedFor, AreFree, IsAskFault};
@@ -35,7 +34,7 @@ fn ask_metadata<D: Depot>(depot: &mut D, name: &Key, retries: u32) -> Result<(),
     requires { IsArrayName name.now }
     ensures free { OnOk result (HasNoMetadata (D.shown depot.old).held name.now) }
     ensures refused { IfErr result (IsAskFault (retries + 1) (IsMetadataAsked (D.shown depot.old).held name.now) (D.shown depot.old).faults (D.shown depot.new).faults (D.shown depot.new).held) }
-    ensures step { Stepped NoChange (D.shown depot.old) (D.shown depot.new) }
+    ensures step { Steps NoChange 1 (2 * (retries + 1)) (D.shown depot.old) (D.shown depot.new) }
 {
     let metadata = metadata_key(name);
     if let Err(status) = refuse_held(depot, &metadata, retries) {
@@ -51,7 +50,7 @@ pub fn ask_keys<D: Depot>(depot: &mut D, name: &Key, retries: u32) -> Result<(),
     requires { IsArrayName name.now }
     ensures free { OnOk result (AreFree name.now (D.shown depot.old).held) }
     ensures refused { IfErr result (IsAskFault (retries + 1) (IsAskedFor name.now (D.shown depot.old).held) (D.shown depot.old).faults (D.shown depot.new).faults (D.shown depot.new).held) }
-    ensures step { Stepped NoChange (D.shown depot.old) (D.shown depot.new) }
+    ensures step { Steps NoChange 1 (3 * (retries + 1)) (D.shown depot.old) (D.shown depot.new) }
 {
     let record = record_key(name);
     if let Err(status) = refuse_held(depot, &record, retries) {

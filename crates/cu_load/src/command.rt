@@ -1,6 +1,7 @@
 //! The command's one call: from the text to the stored array and the report.
-ghost use Rattle.cu_command.specs.Seen.{stream, seen};
-ghost use Rattle.cu_load.specs.Load.{Stored, Loaded};
+ghost use Rattle.std.specs.Prelude.{◌+◌, ◌*◌};
+ghost use Rattle.cu_command.specs.Seen.{stream, seen, WithinCalls};
+ghost use Rattle.cu_load.specs.Load.{Stored, Loaded, LoadsWithin, chunks_in};
 ghost use Rattle.cu_load.specs.LoadForm.{IsGivenArray, given_by};
 
 use crate::ask::ask_keys;
@@ -29,6 +30,7 @@ pub fn load<R: Source, W: Sink, D: Depot>(
 ) -> Status
     ensures answer { Loaded retries (stream (R.left src.old) (R.faults src.old)) (stream (R.left src.new) (R.faults src.new))
         (seen (stream (W.written out.old) (W.faults out.old)) (D.shown depot.old)) (seen (stream (W.written out.new) (W.faults out.new)) (D.shown depot.new)) result }
+    ensures calls { LoadsWithin retries (R.left src.old) (R.left src.new) (D.shown depot.old) (D.shown depot.new) }
 {
     let text = match read_all(alloc, src) {
         Ok(text) => text,
@@ -54,6 +56,7 @@ fn store_form<W: Sink, D: Depot>(
     requires { IsGivenArray (given_by form.now) }
     ensures answer { Stored retries (given_by form.now)
         (seen (stream (W.written out.old) (W.faults out.old)) (D.shown depot.old)) (seen (stream (W.written out.new) (W.faults out.new)) (D.shown depot.new)) result }
+    ensures calls { WithinCalls ((chunks_in (given_by form.now) + 4) * (retries + 1)) (D.shown depot.old) (D.shown depot.new) }
 {
     let name = key_of_name(&form.name);
     if let Err(status) = ask_keys(depot, &name, retries) {

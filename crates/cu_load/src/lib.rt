@@ -4,6 +4,7 @@
 mod ask;
 mod chunk;
 mod command;
+mod laws;
 mod load_form;
 mod report;
 mod room;
@@ -11,6 +12,7 @@ mod store;
 
 pub use ask::ask_keys;
 pub use command::load;
+pub use laws::form_law;
 pub use load_form::LoadForm;
 pub use room::{Room, take_room};
 pub use store::store_array;

@@ -1,9 +1,9 @@
 //! The chunks and the metadata of an array that is loaded, stored.
-ghost use Rattle.std.specs.Prelude.{◌≡◌, ◌+◌, ◌<◌, length, IfErr, OnOk};
+ghost use Rattle.std.specs.Prelude.{◌≡◌, ◌+◌, ◌*◌, ◌<◌, length, IfErr, OnOk};
 ghost use Rattle.cu_store.specs.Held.{Holds};
 ghost use Rattle.cu_store.specs.Steps.{Steps};
-ghost use Rattle.cu_command.specs.Seen.{Stepped};
-ghost use Rattle.cu_command.specs.Keys.{IsKeyFault};
+ghost use Rattle.cu_command.specs.Seen.{Stepped, WithinCalls};
+ghost use Rattle.cu_command.specs.Keys.{IsKeyFault, IsValueUnput};
 ghost use Rattle.cu_zarr.specs.Key.{metadata_key_of};
 ghost use Rattle.cu_zarr.specs.Layout.{stored_chunk_bytes};
 ghost use Rattle.cu_zarr.specs.Metadata.{metadata_text};
@@ -35,6 +35,7 @@ fn store_chunk<D: Depot>(
     ensures stored { OnOk result (HoldsChunk (given_by form.now) (D.shown depot.new).held number) }
     ensures step { Steps (ChunkPut (given_by form.now) number) 1 (retries + 1) (D.shown depot.old) (D.shown depot.new) }
     ensures cause { IfErr result (IsKeyFault (retries + 1) (D.shown depot.old).faults (D.shown depot.new).faults (D.shown depot.new).lacks (key_of_chunk (given_by form.now) number)) }
+    ensures unput { IfErr result (IsValueUnput (D.shown depot.old) (D.shown depot.new)) }
 {
     let layout = &form.layout;
     let coord = index_of(&layout.grid.counts(), number);
@@ -58,6 +59,7 @@ fn store_chunks<D: Depot>(
     ensures step { OnOk result (Stepped (ChunksPut (given_by form.now) (chunks_in (given_by form.now))) (D.shown depot.old) (D.shown depot.new)) }
     ensures failed { IfErr result (IsStoreFault (retries + 1) (given_by form.now) (D.shown depot.old) (D.shown depot.new)) }
     ensures stored { IsArrayCalm (given_by form.now) (D.shown depot.old).late → OnOk result (HoldsChunks (given_by form.now) (D.shown depot.new).held (chunks_in (given_by form.now))) }
+    ensures calls { WithinCalls (chunks_in (given_by form.now) * (retries + 1)) (D.shown depot.old) (D.shown depot.new) }
 {
     for number in 0..form.layout.grid.count() {
         if let Err(status) = store_chunk(depot, form, number, input, chunk, retries) {
@@ -85,6 +87,7 @@ pub fn store_array<D: Depot>(
     ensures failed { IfErr result (IsStoreFault (retries + 1) (given_by form.now) (D.shown depot.old) (D.shown depot.new)) }
     ensures stores { IsArrayCalm (given_by form.now) (D.shown depot.old).late → OnOk result (StoresGiven (given_by form.now) (D.shown depot.new).held) }
     ensures metadata { OnOk result (Holds (D.shown depot.new).held (metadata_key_of (given_by form.now).name) (metadata_text (given_by form.now).layout)) }
+    ensures calls { WithinCalls ((chunks_in (given_by form.now) + 1) * (retries + 1)) (D.shown depot.old) (D.shown depot.new) }
 {
     let _shape = form.layout.grid.shape();
     if let Err(status) = store_chunks(depot, form, input, chunk, retries) {

@@ -1,9 +1,9 @@
--- A layout that is read is one in which an array may be stored.
-use Rattle.std.proofs.Common.{◌≡◌, ◌≤◌, ℕ, ◌+◌, nat_le, ℤ, ◌≤ℤ◌, int_lt, ◌&&◌, not, List, [], ◌∷◌, ◌++◌, length, codes, Option, Some, None, is_none, option_map, if◌then◌else◌, Result, Ok, Err, refl, sym, ap, subst, ◌∙◌, arith, length-append}
+-- A text is read as a layout exactly where it says that layout, and it is one in which an array may be stored.
+use Rattle.std.proofs.Common.{◌≡◌, ◌≤◌, ℕ, ◌+◌, nat_le, ℤ, ◌≤ℤ◌, int_lt, ◌&&◌, not, List, [], ◌∷◌, ◌++◌, length, codes, Option, Some, None, is_none, option_map, if◌then◌else◌, Result, Ok, Err, refl, subst, arith, length-append}
 use Rattle.std.specs.Prelude.{Bool as Test, true, false}
 use Rattle.std.specs.Str.{is_utf8}
 use Rattle.std.specs.Int.Signed.{lt_z_no, le_z_yes}
-use Rattle.std.proofs.lemmas.Bool.{leb-true, eq-eqb}
+use Rattle.std.proofs.lemmas.Bool.{leb-true, le-leb, eq-eqb}
 use Rattle.serde_json.specs.Data.{Data, Items, no_items, item}
 use Rattle.serde_json.specs.Find.{get, at, as_bool, as_array, as_object, as_number, as_integer}
 use Rattle.serde_json.specs.Events.{items_len}
@@ -22,6 +22,7 @@ use Rattle.cu_meta.specs.Fault.{Fault}
 use Rattle.cu_meta.specs.Part.{is_part_of, configuration_member}
 use Rattle.cu_meta.specs.Members.{data_type_of, chunk_grid_of, encoding_of, within, truth, whole_of, fill_of, endian_of, are_attributes, are_dimension_names, are_no_transformers, are_understood}
 use Rattle.cu_meta.specs.Metadata.{layout_in, read_metadata}
+use Rattle.cu_meta.specs.Said.{grid_of, SaysLayout, IsMetadataOf}
 use Rattle.cu_meta.specs.Storable.{IsStorable}
 
 -- ---- a value that cannot be absent is there
@@ -149,17 +150,29 @@ endian_accepted t codecs e h one =
 
 -- ---- the whole
 
-layout_accepted : (t : Dtype) (g : RegularGrid) (l : ArrayLayout) (codecs fill shape grid : Data) → l.dtype ≡ t → l.shape ≡ g.shape → l.chunk ≡ g.chunk
-    → chunk_grid_of t shape grid ≡ Some g → fill_of t fill ≡ Some l.fill → endian_of t codecs ≡ Some l.endian → IsStorable l
-layout_accepted t g l codecs fill shape grid a b c p q r =
-    let fits = grid_accepted t shape grid g p in
-    record { axes = rw b fits.0; grid = rw (a, b, c) fits.1; fill = rw a (fill_accepted t fill l.fill q); endian = rw a (endian_accepted t codecs l.endian r) }
+says_storable : (d : Data) (l : ArrayLayout) → SaysLayout d l → IsStorable l
+says_storable d l says =
+    let (shape, at_shape, (part, at_part, grid)) = says.grid in
+    let (value, at_value, filled) = says.fill in
+    let (list, at_list, ordered) = says.endian in
+    let fits = grid_accepted l.dtype shape part (grid_of l) grid in
+    record {
+      axes = fits.0;
+      grid = fits.1;
+      fill = fill_accepted l.dtype value l.fill filled;
+      endian = endian_accepted l.dtype list l.endian ordered;
+    }
 
 same_record : (r : Result ArrayLayout Fault) (l m : ArrayLayout) → r ≡ Ok l → r ≡ Ok m → l ≡ m
 same_record r l m e h = cc
 
-layout_in_accepted : (d : Data) (l : ArrayLayout) → layout_in d ≡ Ok l → IsStorable l
-layout_in_accepted d l h =
+both_true : (a b : Test) → (a && b) ≡ true → (a ≡ true) × (b ≡ true)
+both_true true true h = (refl, refl)
+both_true true false h = cc
+both_true false b h = cc
+
+layout_said : (d : Data) (l : ArrayLayout) → layout_in d ≡ Ok l → SaysLayout d l
+layout_said d l h =
     some_of (as_object d) (λ none. fault_is_no_layout _ l (rw none at h)) (λ members e0.
     let h0 = rw e0 at h in
     let kind = true_of (is_number 3 (get (codes "zarr_format") d) && is_text (codes "array") (get (codes "node_type") d)) (λ other. fault_is_no_layout _ l (rw other at h0)) in
@@ -195,17 +208,48 @@ layout_in_accepted d l h =
     let understood = true_of (are_understood members) (λ other. fault_is_no_layout _ l (rw other at h15)) in
     let h16 = rw understood at h15 in
     let m : ArrayLayout = record { dtype = t; shape = g.shape; chunk = g.chunk; encoding = encoding; endian = endian; fill = x } in
-    let same = same_record (Ok m) l m h16 refl in
-    layout_accepted t g l codecs fill shape grid (ap (λ (m : ArrayLayout). m.dtype) same) (ap (λ (m : ArrayLayout). m.shape) same) (ap (λ (m : ArrayLayout). m.chunk) same) e8
-    (e10 ∙ ap (λ (m : ArrayLayout). Some m.fill) (sym same)) (e11 ∙ ap (λ (m : ArrayLayout). Some m.endian) (sym same))))))))))))))
+    let same : m ≡ l = same_record (Ok m) m l refl h16 in
+    let two = both_true (is_number 3 (get (codes "zarr_format") d)) (is_text (codes "array") (get (codes "node_type") d)) kind in
+    let said : SaysLayout d m = record {
+      format = two.0;
+      node_type = two.1;
+      data_type = (data_type, e2, e7);
+      grid = (shape, e1, (grid, e3, e8));
+      encoding = (key_encoding, e4, e9);
+      fill = (fill, e5, e10);
+      endian = (codecs, e6, e11);
+      attributes = attributes;
+      dimension_names = names;
+      transformers = transformers;
+      members = members;
+      object = e0;
+      understood = understood;
+    } in
+    subst (SaysLayout d) same said))))))))))))
 
-pub read_accepted : (bytes : List ℕ) (l : ArrayLayout) → read_metadata bytes ≡ Ok l → IsStorable l
+said_layout : (d : Data) (l : ArrayLayout) → SaysLayout d l → layout_in d ≡ Ok l
+said_layout d l says =
+    let (data_type, e2, e7) = says.data_type in
+    let (shape, e1, (grid, e3, e8)) = says.grid in
+    let (key_encoding, e4, e9) = says.encoding in
+    let (fill, e5, e10) = says.fill in
+    let (codecs, e6, e11) = says.endian in
+    rw (says.object, says.format, says.node_type, e1, e2, e3, e4, e5, e6, e7, e8, e9, e10, e11, says.attributes, says.dimension_names, says.transformers, says.understood) refl
+
+pub read_said : (bytes : List ℕ) (l : ArrayLayout) → read_metadata bytes ≡ Ok l → IsMetadataOf bytes l
 unfolding read_metadata
-read_accepted bytes l h =
+read_said bytes l h =
     let short = true_of (nat_le (length bytes) 1048576) (λ long. fault_is_no_layout _ l (rw long at h)) in
     let h0 = rw short at h in
     let text = true_of (is_utf8 bytes) (λ other. fault_is_no_layout _ l (rw other at h0)) in
     let h1 = rw text at h0 in
     some_of (read bytes) (λ none. fault_is_no_layout _ l (rw none at h1)) (λ d e.
     let h2 = rw e at h1 in
-    layout_in_accepted d l h2)
+    record { short = leb-true (length bytes) 1048576 short; utf8 = text; value = d; reads = e; says = layout_said d l h2 })
+
+pub said_read : (bytes : List ℕ) (l : ArrayLayout) → IsMetadataOf bytes l → read_metadata bytes ≡ Ok l
+unfolding read_metadata
+said_read bytes l is = rw (le-leb _ _ is.short, is.utf8, is.reads) (said_layout is.value l is.says)
+
+pub read_accepted : (bytes : List ℕ) (l : ArrayLayout) → read_metadata bytes ≡ Ok l → IsStorable l
+read_accepted bytes l h = let is = read_said bytes l h in says_storable is.value l is.says

@@ -1,5 +1,5 @@
 use Rattle.std.proofs.Common.{◌+◌, ℕ, List, subst, sym, arith}
-use Rattle.cu_check.specs.Chunks.{HasAllStored, SinceCalm, IsArrayFault}
+use Rattle.cu_check.specs.Chunks.{HasAllSteady, AtEachEntry, IsArrayFault}
 use Rattle.cu_check.proofs.Plains.{written_over}
 use Rattle.cu_check.proofs.arrays.read_array.Goals as goal
 
@@ -8,8 +8,8 @@ read_chunks-requires-clause-readable g c = record { short = (let short = c.key_o
 
 pub returns-in-Ok-read_chunks-clause-read : goal.returns-in-Ok-read_chunks-clause-read
 returns-in-Ok-read_chunks-clause-read g c =
-    subst (λ (bytes : List ℕ). SinceCalm (g.D.Depot.shown c.args.depot.now) c.args.array.now (HasAllStored c.args.array.now bytes)) (sym (written_over _ c.read_chunks.new.all _ (omega arith)))
-    (subst (λ (name : List ℕ). SinceCalm (g.D.Depot.shown c.args.depot.now) (record { name = name; layout = c.args.array.now.layout }) (HasAllStored (record { name = name; layout = c.args.array.now.layout }) c.read_chunks.new.all))
+    subst (λ (bytes : List ℕ). AtEachEntry (g.D.Depot.shown c.args.depot.now) (HasAllSteady c.args.array.now bytes)) (sym (written_over _ c.read_chunks.new.all _ (omega arith)))
+    (subst (λ (name : List ℕ). AtEachEntry (g.D.Depot.shown c.args.depot.now) (HasAllSteady (record { name = name; layout = c.args.array.now.layout }) c.read_chunks.new.all))
     c.key_of_name.ensures.key c.in-Ok-read_chunks.ensures.read)
 
 pub returns-in-Err-clause-cause : goal.returns-in-Err-clause-cause

@@ -1,6 +1,7 @@
 use Rattle.std.proofs.Common.{◌+◌, arith}
-use Rattle.cu_command.proofs.SeenLemmas.{stepped_same, stepped_then}
+use Rattle.cu_command.proofs.SeenLemmas.{stepped_same, stepped_then, within_more, within_few}
 use Rattle.cu_store.specs.Steps.{NoChange}
+use Rattle.cu_check.specs.Arrays.{chunks_of}
 use Rattle.cu_check.specs.Chunks.{input_of}
 use Rattle.cu_check.proofs.ChunkReads.{none_below, all_below, turn_fault}
 use Rattle.cu_check.proofs.chunks.read_chunks.Goals as goal
@@ -9,12 +10,15 @@ pub loop-number-init : goal.loop-number-init
 loop-number-init g c = record {
   step = stepped_same NoChange (g.D.Depot.shown c.args.depot.now);
   read = λ entry before. none_below (input_of c.args.info.now) c.args.all.now entry;
+  calls = omega arith;
 }
 
 pub loop-number-preserved : goal.loop-number-preserved
 loop-number-preserved g c = record {
   step = stepped_then c.loop-number.invariant.step c.read_numbered.ensures.step;
   read = λ entry before. c.in-Ok.ensures.read entry (stepped_then before c.loop-number.invariant.step) (c.loop-number.invariant.read entry before);
+  calls = within_more c.loop-number.number (c.args.retries + 1) (g.D.Depot.shown c.args.depot.now) (g.D.Depot.shown c.loop-number.depot) (g.D.Depot.shown c.read_numbered.new.depot)
+      c.loop-number.invariant.calls c.read_numbered.ensures.calls;
 }
 
 pub returns-in-Err-clause-step : goal.returns-in-Err-clause-step
@@ -28,3 +32,14 @@ returns-in-Err-clause-cause g c entry before =
 pub returns-clause-read : goal.returns-clause-read
 returns-clause-read g c entry before =
     all_below (input_of c.args.info.now) c.loop-number.all c.loop-number.number entry c.count-number-end.ensures.kept (omega arith) (c.loop-number.invariant.read entry before)
+
+pub returns-clause-calls : goal.returns-clause-calls
+returns-clause-calls g c =
+    within_few c.loop-number.number (chunks_of (input_of c.args.info.now)) (c.args.retries + 1) (g.D.Depot.shown c.args.depot.now) (g.D.Depot.shown c.loop-number.depot) (omega (arith, c.count-number-end.ensures.count))
+    c.loop-number.invariant.calls
+
+pub returns-in-Err-clause-calls : goal.returns-in-Err-clause-calls
+returns-in-Err-clause-calls g c =
+    within_few (c.loop-number.number + 1) (chunks_of (input_of c.args.info.now)) (c.args.retries + 1) (g.D.Depot.shown c.args.depot.now) (g.D.Depot.shown c.read_numbered.new.depot) (omega (arith, c.count-number-end.ensures.count))
+    (within_more c.loop-number.number (c.args.retries + 1) (g.D.Depot.shown c.args.depot.now) (g.D.Depot.shown c.loop-number.depot) (g.D.Depot.shown c.read_numbered.new.depot)
+    c.loop-number.invariant.calls c.read_numbered.ensures.calls)

@@ -13,7 +13,7 @@ pub returns-clause-read : goal.returns-clause-read
 returns-clause-read g c =
     on_ok c.read_chunk.result (HasChunk c.args.info.now c.args.coord.now (g.D.Depot.shown c.read_chunk.new.access).held c.read_chunk.new.buf)
     (HasHeldChunk c.args.info.now c.args.coord.now (g.D.Depot.shown c.args.depot.now) c.read_chunk.new.buf)
-    (held_chunk c.args.info.now c.args.coord.now c.read_chunk.new.buf (g.D.Depot.shown c.args.depot.now) (g.D.Depot.shown c.read_chunk.new.access) c.requires.readable.layout.grid (stepped c.read_chunk.ensures.step))
+    (held_chunk c.args.info.now c.args.coord.now c.read_chunk.new.buf (g.D.Depot.shown c.args.depot.now) (g.D.Depot.shown c.read_chunk.new.access) (stepped c.read_chunk.ensures.step))
     c.read_chunk.ensures.read
 
 pub returns-clause-step : goal.returns-clause-step
@@ -26,3 +26,6 @@ returns-clause-cause g c =
     (IsPartFault 1 (g.D.Depot.shown c.args.depot.now) (g.D.Depot.shown c.read_chunk.new.access) c.args.info.now.layout (key_at c.args.info.now c.args.coord.now))
     (part_fault (g.D.Depot.shown c.args.depot.now) (g.D.Depot.shown c.read_chunk.new.access) c.args.info.now.layout (key_at c.args.info.now c.args.coord.now))
     c.read_chunk.ensures.cause
+
+pub returns-clause-calls : goal.returns-clause-calls
+returns-clause-calls g c = c.read_chunk.ensures.step.calls.1

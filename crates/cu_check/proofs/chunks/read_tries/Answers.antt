@@ -1,15 +1,11 @@
-use Rattle.std.proofs.Common.{rules, arith}
+use Rattle.std.proofs.Common.{arith}
 use Rattle.cu_command.proofs.SeenLemmas.{stepped_then}
 use Rattle.cu_check.specs.Chunks.{HasHeldChunk}
 use Rattle.cu_check.proofs.ChunkReads.{on_ok, held_later}
 use Rattle.cu_check.proofs.chunks.read_tries.Goals as goal
 
-pub returns-in_default : goal.returns-in_default
-returns-in_default g c = record {
-  read = tt;
-  step = stepped_then c.loop.invariant.step c.read_once.ensures.step;
-  cause = search rules;
-}
+pub returns-in_default-clause-step : goal.returns-in_default-clause-step
+returns-in_default-clause-step g c = stepped_then c.loop.invariant.step c.read_once.ensures.step
 
 pub returns-in_default-2-clause-read : goal.returns-in_default-2-clause-read
 returns-in_default-2-clause-read g c =
@@ -27,6 +23,7 @@ loop-preserved g c =
     record {
       step = stepped_then c.loop.invariant.step c.read_once.ensures.step;
       rose = omega (arith, failed);
+      calls = omega (arith, c.loop.invariant.calls, c.read_once.ensures.calls);
     }
 
 pub returns-clause-read : goal.returns-clause-read

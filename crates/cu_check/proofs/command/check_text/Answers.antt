@@ -1,7 +1,8 @@
-use Rattle.std.proofs.Common.{◌+◌}
+use Rattle.std.proofs.Common.{◌+◌, inl}
 use Rattle.cu_command.proofs.SeenLemmas.{stepped_then}
 use Rattle.cu_command.specs.Seen.{stream, seen}
 use Rattle.cu_check.proofs.Ends.{fault_ends, equal_ends, unwritten_ends, prints_nothing}
+use Rattle.cu_check.proofs.TextEnds.{compared_within}
 use Rattle.cu_check.proofs.command.check_text.Goals as goal
 
 pub returns-in-Err-clause-answer : goal.returns-in-Err-clause-answer
@@ -43,3 +44,21 @@ returns-in-Ok-compare_output-clause-answer g c =
     (seen (stream (g.W.Sink.written c.report.new.out) (g.W.Sink.faults c.report.new.out)) (g.D.Depot.shown c.compare_output.new.depot)) c.in-Ok.compared.job c.in-Ok.compared.output
     c.in-Ok.ensures.job c.in-Ok.ensures.output c.in-Ok.ensures.node c.in-Ok.ensures.few (c.in-Ok-compare_output.ensures.equal (g.D.Depot.shown c.args.depot.now) c.read_compared.ensures.step)
     c.in-Err-report.ensures.cause c.in-Err-report.ensures.front
+
+pub returns-in-Err-clause-calls : goal.returns-in-Err-clause-calls
+returns-in-Err-clause-calls g c = inl c.read_compared.ensures.calls
+
+pub returns-in-Ok-report-clause-calls : goal.returns-in-Ok-report-clause-calls
+returns-in-Ok-report-clause-calls g c =
+    compared_within (c.args.retries + 1) c.args.text.now c.in-Ok.compared.job c.in-Ok.compared.output (g.D.Depot.shown c.args.depot.now) (g.D.Depot.shown c.read_compared.new.depot) (g.D.Depot.shown c.compare_output.new.depot)
+    c.in-Ok.ensures.job c.in-Ok.ensures.output c.read_compared.ensures.calls c.compare_output.ensures.calls
+
+pub returns-in-Ok-compare_output-clause-calls : goal.returns-in-Ok-compare_output-clause-calls
+returns-in-Ok-compare_output-clause-calls g c =
+    compared_within (c.args.retries + 1) c.args.text.now c.in-Ok.compared.job c.in-Ok.compared.output (g.D.Depot.shown c.args.depot.now) (g.D.Depot.shown c.read_compared.new.depot) (g.D.Depot.shown c.compare_output.new.depot)
+    c.in-Ok.ensures.job c.in-Ok.ensures.output c.read_compared.ensures.calls c.compare_output.ensures.calls
+
+pub returns-clause-calls : goal.returns-clause-calls
+returns-clause-calls g c =
+    compared_within (c.args.retries + 1) c.args.text.now c.in-Ok.compared.job c.in-Ok.compared.output (g.D.Depot.shown c.args.depot.now) (g.D.Depot.shown c.read_compared.new.depot) (g.D.Depot.shown c.compare_output.new.depot)
+    c.in-Ok.ensures.job c.in-Ok.ensures.output c.read_compared.ensures.calls c.compare_output.ensures.calls

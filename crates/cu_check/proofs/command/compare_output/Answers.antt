@@ -1,4 +1,4 @@
-use Rattle.std.proofs.Common.{◌+◌, List, ap, sym, ◌∙◌, subst}
+use Rattle.std.proofs.Common.{◌+◌, List, [], ◌∷◌, ap, sym, ◌∙◌, subst}
 use Rattle.cu_expr.specs.declared.inputs.InputInfo.{InputInfo}
 use Rattle.cu_mean.specs.Whole.{HoldInputs}
 use Rattle.cu_meaning.specs.Argument.{NodeElements}
@@ -9,6 +9,7 @@ use Rattle.cu_check.specs.Arrays.{arrays_of_nodes}
 use Rattle.cu_check.specs.Check.{IsCompareFault}
 use Rattle.cu_check.specs.Plains.{AreReadArrays, IsListFault}
 use Rattle.cu_check.proofs.Compared.{whole_inputs, enough, count_of, found_equal, found_unequal, list_fault, output_fault}
+use Rattle.cu_check.proofs.InputNodes.{calls_of_array, calls_of_more, calls_of_front}
 use Rattle.cu_check.proofs.command.compare_output.Goals as goal
 
 pub whole-requires-clause-types : goal.whole-requires-clause-types
@@ -72,7 +73,7 @@ returns-in-Ok-compare-clause-equal g c entry before =
     let read = subst (λ (inputs : List InputInfo). AreReadArrays entry (arrays_of_nodes inputs job.expr.nodes) c.in-Ok.inputs.items) c.deref.ensures.value (c.in-Ok.ensures.read entry before) in
     found_equal job output c.out.ensures.form c.requires.types c.in-Ok.inputs.items c.in-Ok-whole.plains c.at-plain.result.now
     (λ (env : NodeElements) (h : HoldInputs job.expr job.types env c.in-Ok.inputs.items). c.in-Ok-whole.ensures env (subst (HoldInputs job.expr job.types env) (sym c.make.ensures) h))
-    entry c.in-Ok-read_array.stored.items c.requires.node read (rw c.out.ensures.out at c.at-plain.ensures)
+    entry c.in-Ok-read_array.stored.items c.requires.layout.grid c.requires.node read (rw c.out.ensures.out at c.at-plain.ensures)
     (c.in-Ok-read_array.ensures.read entry (stepped_then before c.read_nodes.ensures.step))
     (rw (c.deref-2.ensures.value, c.element_count.ensures.value, c.requires.node.shape) at c.in-Ok-compare.ensures.same)
 
@@ -84,6 +85,35 @@ returns-clause-cause g c entry before =
     subst (IsCompareFault (c.args.retries + 1) entry (g.D.Depot.shown c.args.depot.now) (g.D.Depot.shown c.read_array.new.depot) c.args.compared.now) (sym c.unequal.ensures)
     (found_unequal job output c.out.ensures.form c.requires.types c.in-Ok.inputs.items c.in-Ok-whole.plains c.at-plain.result.now
     (λ (env : NodeElements) (h : HoldInputs job.expr job.types env c.in-Ok.inputs.items). c.in-Ok-whole.ensures env (subst (HoldInputs job.expr job.types env) (sym c.make.ensures) h))
-    (c.args.retries + 1) entry (g.D.Depot.shown c.args.depot.now) (g.D.Depot.shown c.read_array.new.depot) c.in-Ok-read_array.stored.items c.in-Err-compare.difference c.requires.node read
+    (c.args.retries + 1) entry (g.D.Depot.shown c.args.depot.now) (g.D.Depot.shown c.read_array.new.depot) c.in-Ok-read_array.stored.items c.in-Err-compare.difference c.requires.layout.grid c.requires.node read
     (rw c.out.ensures.out at c.at-plain.ensures) (c.in-Ok-read_array.ensures.read entry (stepped_then before c.read_nodes.ensures.step))
     (rw c.deref-2.ensures.value at c.in-Err-compare.ensures.differs))
+
+pub returns-in-Err-clause-calls : goal.returns-in-Err-clause-calls
+returns-in-Err-clause-calls g c =
+    calls_of_front (c.args.retries + 1) (arrays_of_nodes c.args.compared.now.job.inputs.items c.args.compared.now.job.expr.nodes) (c.args.compared.now.output ∷ [])
+    (g.D.Depot.shown c.args.depot.now) (g.D.Depot.shown c.read_nodes.new.depot) (rw c.deref.ensures.value at c.read_nodes.ensures.calls)
+
+pub returns-in-Err-read_array-clause-calls : goal.returns-in-Err-read_array-clause-calls
+returns-in-Err-read_array-clause-calls g c =
+    calls_of_more (c.args.retries + 1) (arrays_of_nodes c.args.compared.now.job.inputs.items c.args.compared.now.job.expr.nodes) (c.args.compared.now.output ∷ [])
+    (g.D.Depot.shown c.args.depot.now) (g.D.Depot.shown c.read_nodes.new.depot) (g.D.Depot.shown c.read_array.new.depot) (rw c.deref.ensures.value at c.read_nodes.ensures.calls)
+    (calls_of_array (c.args.retries + 1) c.args.compared.now.output (g.D.Depot.shown c.read_nodes.new.depot) (g.D.Depot.shown c.read_array.new.depot) c.read_array.ensures.calls)
+
+pub returns-in_default-clause-calls : goal.returns-in_default-clause-calls
+returns-in_default-clause-calls g c =
+    calls_of_more (c.args.retries + 1) (arrays_of_nodes c.args.compared.now.job.inputs.items c.args.compared.now.job.expr.nodes) (c.args.compared.now.output ∷ [])
+    (g.D.Depot.shown c.args.depot.now) (g.D.Depot.shown c.read_nodes.new.depot) (g.D.Depot.shown c.read_array.new.depot) (rw c.deref.ensures.value at c.read_nodes.ensures.calls)
+    (calls_of_array (c.args.retries + 1) c.args.compared.now.output (g.D.Depot.shown c.read_nodes.new.depot) (g.D.Depot.shown c.read_array.new.depot) c.read_array.ensures.calls)
+
+pub returns-in-Ok-compare-clause-calls : goal.returns-in-Ok-compare-clause-calls
+returns-in-Ok-compare-clause-calls g c =
+    calls_of_more (c.args.retries + 1) (arrays_of_nodes c.args.compared.now.job.inputs.items c.args.compared.now.job.expr.nodes) (c.args.compared.now.output ∷ [])
+    (g.D.Depot.shown c.args.depot.now) (g.D.Depot.shown c.read_nodes.new.depot) (g.D.Depot.shown c.read_array.new.depot) (rw c.deref.ensures.value at c.read_nodes.ensures.calls)
+    (calls_of_array (c.args.retries + 1) c.args.compared.now.output (g.D.Depot.shown c.read_nodes.new.depot) (g.D.Depot.shown c.read_array.new.depot) c.read_array.ensures.calls)
+
+pub returns-clause-calls : goal.returns-clause-calls
+returns-clause-calls g c =
+    calls_of_more (c.args.retries + 1) (arrays_of_nodes c.args.compared.now.job.inputs.items c.args.compared.now.job.expr.nodes) (c.args.compared.now.output ∷ [])
+    (g.D.Depot.shown c.args.depot.now) (g.D.Depot.shown c.read_nodes.new.depot) (g.D.Depot.shown c.read_array.new.depot) (rw c.deref.ensures.value at c.read_nodes.ensures.calls)
+    (calls_of_array (c.args.retries + 1) c.args.compared.now.output (g.D.Depot.shown c.read_nodes.new.depot) (g.D.Depot.shown c.read_array.new.depot) c.read_array.ensures.calls)

@@ -3,7 +3,7 @@ use Rattle.cu_op.specs.declared.layout.Layout.{Layout}
 use Rattle.cu_check.specs.Arrays.{form_arrays}
 use Rattle.cu_check.specs.Chunks.{IsArrayFault}
 use Rattle.cu_check.specs.Plains.{IsReadArray}
-use Rattle.cu_check.proofs.InputNodes.{read_input}
+use Rattle.cu_check.proofs.InputNodes.{read_input, array_named, calls_of_one}
 use Rattle.cu_check.proofs.Layouts.{named_fits}
 use Rattle.cu_check.proofs.inputs.read_node.Goals as goal
 use Rattle.cu_expr.specs.Inputs.{layout_named}
@@ -29,3 +29,18 @@ returns-in-Err-push-clause-cause g c = (
   ap (form_arrays c.args.inputs.now) c.in-Input.is,
   λ entry before. tt,
 )
+
+pub returns-clause-calls : goal.returns-clause-calls
+returns-clause-calls g c =
+    calls_of_one (c.args.retries + 1) c.args.inputs.now c.args.form.now (array_named c.args.inputs.now c.in-Input.name) (g.D.Depot.shown c.args.depot.now) (g.D.Depot.shown c.read_plain.new.depot)
+    (ap (form_arrays c.args.inputs.now) c.in-Input.is) (rw c.named_layout.ensures at c.read_plain.ensures.calls)
+
+pub returns-in-Err-clause-calls : goal.returns-in-Err-clause-calls
+returns-in-Err-clause-calls g c =
+    calls_of_one (c.args.retries + 1) c.args.inputs.now c.args.form.now (array_named c.args.inputs.now c.in-Input.name) (g.D.Depot.shown c.args.depot.now) (g.D.Depot.shown c.read_plain.new.depot)
+    (ap (form_arrays c.args.inputs.now) c.in-Input.is) (rw c.named_layout.ensures at c.read_plain.ensures.calls)
+
+pub returns-in-Err-push-clause-calls : goal.returns-in-Err-push-clause-calls
+returns-in-Err-push-clause-calls g c =
+    calls_of_one (c.args.retries + 1) c.args.inputs.now c.args.form.now (array_named c.args.inputs.now c.in-Input.name) (g.D.Depot.shown c.args.depot.now) (g.D.Depot.shown c.read_plain.new.depot)
+    (ap (form_arrays c.args.inputs.now) c.in-Input.is) (rw c.named_layout.ensures at c.read_plain.ensures.calls)

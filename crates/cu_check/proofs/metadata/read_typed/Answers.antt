@@ -6,7 +6,7 @@ use Rattle.cu_command.specs.Seen.{seen}
 use Rattle.cu_command.specs.declared.status.Status.{Status}
 use Rattle.cu_command.proofs.SeenLemmas.{stepped, stepped_then}
 use Rattle.cu_check.specs.Check.{Compares}
-use Rattle.cu_check.proofs.TextEnds.{inputs_end, output_ends, is_output, untyped_ends}
+use Rattle.cu_check.proofs.TextEnds.{inputs_end, output_ends, is_output, untyped_ends, inputs_within, output_within}
 use Rattle.cu_check.proofs.metadata.read_typed.Goals as goal
 
 pub returns-in-Err-read_inputs-clause-cause : goal.returns-in-Err-read_inputs-clause-cause
@@ -39,3 +39,22 @@ returns-in-Err-types_in-clause-cause g c = λ out next.
 
 pub returns-clause-step : goal.returns-clause-step
 returns-clause-step g c = stepped_then (stepped c.read_inputs.ensures.step) (stepped c.read_output.ensures.step)
+
+pub returns-in-Err-read_inputs-clause-calls : goal.returns-in-Err-read_inputs-clause-calls
+returns-in-Err-read_inputs-clause-calls g c =
+    inputs_within (c.args.retries + 1) c.args.text.now c.in-Ok.said.expr (g.D.Depot.shown c.args.depot.now) (g.D.Depot.shown c.read_inputs.new.depot) c.in-Ok.ensures.said c.read_inputs.ensures.step.calls.1
+
+pub returns-in-Err-read_output-clause-calls : goal.returns-in-Err-read_output-clause-calls
+returns-in-Err-read_output-clause-calls g c =
+    output_within (c.args.retries + 1) c.args.text.now c.in-Ok.said.expr (g.D.Depot.shown c.args.depot.now) (g.D.Depot.shown c.read_inputs.new.depot) (g.D.Depot.shown c.read_output.new.depot) c.in-Ok.ensures.said
+    c.read_inputs.ensures.step.calls.1 c.read_output.ensures.step.calls.1
+
+pub returns-in-Err-types_in-clause-calls : goal.returns-in-Err-types_in-clause-calls
+returns-in-Err-types_in-clause-calls g c =
+    output_within (c.args.retries + 1) c.args.text.now c.in-Ok.said.expr (g.D.Depot.shown c.args.depot.now) (g.D.Depot.shown c.read_inputs.new.depot) (g.D.Depot.shown c.read_output.new.depot) c.in-Ok.ensures.said
+    c.read_inputs.ensures.step.calls.1 c.read_output.ensures.step.calls.1
+
+pub returns-clause-calls : goal.returns-clause-calls
+returns-clause-calls g c =
+    output_within (c.args.retries + 1) c.args.text.now c.in-Ok.said.expr (g.D.Depot.shown c.args.depot.now) (g.D.Depot.shown c.read_inputs.new.depot) (g.D.Depot.shown c.read_output.new.depot) c.in-Ok.ensures.said
+    c.read_inputs.ensures.step.calls.1 c.read_output.ensures.step.calls.1

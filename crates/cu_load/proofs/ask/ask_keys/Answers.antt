@@ -1,6 +1,7 @@
-use Rattle.std.proofs.Common.{subst, List, ℕ}
+use Rattle.std.proofs.Common.{subst, List, ℕ, arith}
 use Rattle.cu_store.specs.Held.{IsGone}
-use Rattle.cu_command.proofs.SeenLemmas.{stepped, stepped_then}
+use Rattle.cu_store.proofs.Steps.{steps_then, steps_wider}
+use Rattle.cu_command.proofs.SeenLemmas.{stepped}
 use Rattle.cu_load.proofs.AskLemmas.{all_free, asked_behind}
 use Rattle.cu_load.proofs.ask.ask_keys.Goals as goal
 
@@ -16,7 +17,7 @@ returns-clause-refused g c =
     (subst (λ (k : List ℕ). IsGone (g.D.Depot.shown c.refuse_held.new.depot).held k) c.record_key-record.ensures c.in_default.ensures.gone) c.ask_metadata.ensures.refused
 
 pub returns-clause-step : goal.returns-clause-step
-returns-clause-step g c = stepped_then (stepped c.refuse_held.ensures.step) c.ask_metadata.ensures.step
+returns-clause-step g c = steps_wider (λ key value own. own) (omega arith) (omega arith) (steps_then c.refuse_held.ensures.step c.ask_metadata.ensures.step)
 
 pub returns-in-Err-clause-step : goal.returns-in-Err-clause-step
-returns-in-Err-clause-step g c = stepped c.refuse_held.ensures.step
+returns-in-Err-clause-step g c = steps_wider (λ key value own. own) (omega arith) (omega arith) c.refuse_held.ensures.step

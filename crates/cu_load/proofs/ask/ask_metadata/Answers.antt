@@ -1,6 +1,7 @@
-use Rattle.std.proofs.Common.{◌∙◌, inr, subst, List, ℕ}
+use Rattle.std.proofs.Common.{◌∙◌, inr, subst, List, ℕ, arith}
 use Rattle.cu_store.specs.Held.{IsGone}
 use Rattle.cu_zarr.specs.Key.{metadata_key_of, zarray_key_of}
+use Rattle.cu_store.proofs.Steps.{steps_then, steps_wider}
 use Rattle.cu_command.proofs.SeenLemmas.{stepped, stepped_then, gone_before}
 use Rattle.cu_load.proofs.AskLemmas.{on_ok, if_err, ask_fault_more}
 use Rattle.cu_load.proofs.ask.ask_metadata.Goals as goal
@@ -21,7 +22,7 @@ returns-clause-refused g c =
     ask_fault_more _ _ _ _ _ _ _ status (λ key same. inr (same ∙ c.zarray_key-zarray.ensures, written_gone)) c.refuse_held.ensures.step.count fault) c.refuse_held-2.ensures.refused
 
 pub returns-clause-step : goal.returns-clause-step
-returns-clause-step g c = stepped_then (stepped c.refuse_held.ensures.step) (stepped c.refuse_held-2.ensures.step)
+returns-clause-step g c = steps_wider (λ key value own. own) (omega arith) (omega arith) (steps_then c.refuse_held.ensures.step c.refuse_held-2.ensures.step)
 
 pub returns-in-Err-clause-step : goal.returns-in-Err-clause-step
-returns-in-Err-clause-step g c = stepped c.refuse_held.ensures.step
+returns-in-Err-clause-step g c = steps_wider (λ key value own. own) (omega arith) (omega arith) c.refuse_held.ensures.step

@@ -1,3 +1,4 @@
+use Rattle.std.proofs.Common.{inr}
 use Rattle.cu_command.specs.Seen.{stream, seen}
 use Rattle.cu_load.specs.LoadForm.{given_by}
 use Rattle.cu_load.proofs.CommandLemmas.{loaded}
@@ -9,4 +10,11 @@ returns g c = record {
       (seen (stream (g.W.Sink.written c.args.out.now) (g.W.Sink.faults c.args.out.now)) (g.D.Depot.shown c.args.depot.now))
       (seen (stream (g.W.Sink.written c.store_form.new.out) (g.W.Sink.faults c.store_form.new.out)) (g.D.Depot.shown c.store_form.new.depot))
       c.in-Ok.text.items (given_by c.in-Ok-read_load.form) c.store_form.result c.in-Ok.ensures.text (rw c.deref.ensures.value at c.in-Ok-read_load.ensures.ok) c.store_form.ensures.answer;
+  calls = inr (record {
+    text = c.in-Ok.text.items;
+    read = c.in-Ok.ensures.text;
+    array = given_by c.in-Ok-read_load.form;
+    gives = rw c.deref.ensures.value at c.in-Ok-read_load.ensures.ok;
+    is_so = c.store_form.ensures.calls;
+  });
 }

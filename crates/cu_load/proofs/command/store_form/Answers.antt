@@ -1,14 +1,22 @@
-use Rattle.std.proofs.Common.{subst, List, ℕ}
-use Rattle.cu_command.proofs.SeenLemmas.{stepped_none, stepped_then}
+use Rattle.std.proofs.Common.{◌+◌, subst, refl, inl, List, ℕ, arith}
+use Rattle.cu_command.proofs.SeenLemmas.{stepped, stepped_none, stepped_then, within_few}
 use Rattle.cu_load.specs.Keys.{AreFree}
+use Rattle.cu_load.specs.Load.{chunks_in}
 use Rattle.cu_load.specs.LoadForm.{given_by}
-use Rattle.cu_load.proofs.CommandLemmas.{ask_ended, store_ended, still_calm}
+use Rattle.cu_load.proofs.CommandLemmas.{ask_ended, store_ended, still_calm, load_calls}
 use Rattle.cu_load.proofs.command.store_form.Goals as goal
 
 pub returns-in-Err : goal.returns-in-Err
 returns-in-Err g c = record {
   answer = ask_ended c.args.retries (given_by c.args.form.now) c.key_of_name-name.result _ (g.D.Depot.shown c.args.depot.now) (g.D.Depot.shown c.ask_keys.new.depot) c.in-Err.status c.key_of_name-name.ensures.key
-      c.ask_keys.ensures.step c.in-Err.ensures.refused;
+      (stepped c.ask_keys.ensures.step) c.in-Err.ensures.refused;
+  calls = within_few 3 (chunks_in (given_by c.args.form.now) + 4) (c.args.retries + 1) (g.D.Depot.shown c.args.depot.now) (g.D.Depot.shown c.ask_keys.new.depot) (omega arith) c.ask_keys.ensures.step.calls.1;
+}
+
+pub returns-in_default-take_room : goal.returns-in_default-take_room
+returns-in_default-take_room g c = record {
+  answer = (refl, inl (stepped c.ask_keys.ensures.step));
+  calls = within_few 3 (chunks_in (given_by c.args.form.now) + 4) (c.args.retries + 1) (g.D.Depot.shown c.args.depot.now) (g.D.Depot.shown c.ask_keys.new.depot) (omega arith) c.ask_keys.ensures.step.calls.1;
 }
 
 pub returns-in-Ok-report : goal.returns-in-Ok-report
@@ -18,12 +26,14 @@ returns-in-Ok-report g c =
       answer = (
         record {
           free = free;
-          step = stepped_then (stepped_none c.ask_keys.ensures.step) c.in-Ok-store_array.ensures.step;
+          step = stepped_then (stepped_none (stepped c.ask_keys.ensures.step)) c.in-Ok-store_array.ensures.step;
           metadata = c.in-Ok-store_array.ensures.metadata;
-          stores = λ calm. c.in-Ok-store_array.ensures.stores (still_calm (given_by c.args.form.now) _ _ c.ask_keys.ensures.step.step.late calm);
+          stores = λ calm. c.in-Ok-store_array.ensures.stores (still_calm (given_by c.args.form.now) _ _ (stepped c.ask_keys.ensures.step).step.late calm);
         },
         c.in-Ok-report.ensures.all,
       );
+      calls = load_calls (chunks_in (given_by c.args.form.now)) (c.args.retries + 1) (g.D.Depot.shown c.args.depot.now) (g.D.Depot.shown c.ask_keys.new.depot) (g.D.Depot.shown c.store_array.new.depot) c.ask_keys.ensures.step.calls.1
+          c.store_array.ensures.calls;
     }
 
 pub returns-in-Ok-store_array : goal.returns-in-Ok-store_array
@@ -34,12 +44,14 @@ returns-in-Ok-store_array g c =
         c.in-Err-report.ensures.cause,
         record {
           free = free;
-          step = stepped_then (stepped_none c.ask_keys.ensures.step) c.in-Ok-store_array.ensures.step;
+          step = stepped_then (stepped_none (stepped c.ask_keys.ensures.step)) c.in-Ok-store_array.ensures.step;
           metadata = c.in-Ok-store_array.ensures.metadata;
-          stores = λ calm. c.in-Ok-store_array.ensures.stores (still_calm (given_by c.args.form.now) _ _ c.ask_keys.ensures.step.step.late calm);
+          stores = λ calm. c.in-Ok-store_array.ensures.stores (still_calm (given_by c.args.form.now) _ _ (stepped c.ask_keys.ensures.step).step.late calm);
         },
         c.in-Err-report.ensures.front,
       );
+      calls = load_calls (chunks_in (given_by c.args.form.now)) (c.args.retries + 1) (g.D.Depot.shown c.args.depot.now) (g.D.Depot.shown c.ask_keys.new.depot) (g.D.Depot.shown c.store_array.new.depot) c.ask_keys.ensures.step.calls.1
+          c.store_array.ensures.calls;
     }
 
 pub returns : goal.returns
@@ -47,5 +59,7 @@ returns g c =
     let free = subst (λ (n : List ℕ). AreFree n (g.D.Depot.shown c.args.depot.now).held) c.key_of_name-name.ensures.key c.in_default.ensures.free in
     record {
       answer = store_ended c.args.retries (given_by c.args.form.now) _ (g.D.Depot.shown c.args.depot.now) (g.D.Depot.shown c.ask_keys.new.depot) (g.D.Depot.shown c.store_array.new.depot) c.in-Err-store_array.status free
-          c.ask_keys.ensures.step c.in-Err-store_array.ensures.failed;
+          (stepped c.ask_keys.ensures.step) c.in-Err-store_array.ensures.failed;
+      calls = load_calls (chunks_in (given_by c.args.form.now)) (c.args.retries + 1) (g.D.Depot.shown c.args.depot.now) (g.D.Depot.shown c.ask_keys.new.depot) (g.D.Depot.shown c.store_array.new.depot) c.ask_keys.ensures.step.calls.1
+          c.store_array.ensures.calls;
     }

@@ -1,9 +1,9 @@
-use Rattle.std.proofs.Common.{◌≡◌, ap, ◌∙◌, arith}
+use Rattle.std.proofs.Common.{◌≡◌, ◌+◌, ap, ◌∙◌, arith}
 use Rattle.cu_zarr.specs.Key.{metadata_key_of}
-use Rattle.cu_command.proofs.SeenLemmas.{stepped, stepped_then, stepped_wider}
+use Rattle.cu_command.proofs.SeenLemmas.{stepped, stepped_then, stepped_wider, within_more, within_few}
 use Rattle.cu_load.specs.Load.{IsArrayCalm, chunks_in}
 use Rattle.cu_load.specs.LoadForm.{given_by}
-use Rattle.cu_load.proofs.AskLemmas.{on_ok, always_ok, if_err}
+use Rattle.cu_load.proofs.AskLemmas.{on_ok, always_ok, if_err, both_errs}
 use Rattle.cu_load.proofs.StoreLemmas.{chunks_put, metadata_put, values_stay, all_stay, stores_given, metadata_fault}
 use Rattle.cu_load.proofs.store.store_array.Goals as goal
 
@@ -25,7 +25,18 @@ returns-clause-failed g c =
     c.requires.given calm before.step.late put.step.lands)
     (c.in_default.ensures.stored calm) in
     if_err c.put_value.result (λ status fault.
-    metadata_fault _ (given_by c.args.form.now) c.metadata_key-key.result (g.D.Depot.shown c.args.depot.now) (g.D.Depot.shown c.store_chunks.new.depot) (g.D.Depot.shown c.put_value.new.depot) status key before.step.count (stepped_then before put) chunks fault) c.put_value.ensures.cause
+    metadata_fault _ (given_by c.args.form.now) c.metadata_key-key.result (g.D.Depot.shown c.args.depot.now) (g.D.Depot.shown c.store_chunks.new.depot) (g.D.Depot.shown c.put_value.new.depot) status key c.in_default.ensures.step (stepped_then before put) chunks
+    fault.0 fault.1) (both_errs _ _ c.put_value.result c.put_value.ensures.cause c.put_value.ensures.unput)
+
+pub returns-clause-calls : goal.returns-clause-calls
+returns-clause-calls g c =
+    within_more (chunks_in (given_by c.args.form.now)) (c.args.retries + 1) (g.D.Depot.shown c.args.depot.now) (g.D.Depot.shown c.store_chunks.new.depot) (g.D.Depot.shown c.put_value.new.depot)
+    c.store_chunks.ensures.calls c.put_value.ensures.step.calls.1
+
+pub returns-in-Err-clause-calls : goal.returns-in-Err-clause-calls
+returns-in-Err-clause-calls g c =
+    within_few (chunks_in (given_by c.args.form.now)) (chunks_in (given_by c.args.form.now) + 1) (c.args.retries + 1) (g.D.Depot.shown c.args.depot.now) (g.D.Depot.shown c.store_chunks.new.depot) (omega arith)
+    c.store_chunks.ensures.calls
 
 pub returns-clause-stores : goal.returns-clause-stores
 returns-clause-stores g c calm =

@@ -1,6 +1,6 @@
-use Rattle.std.proofs.Common.{◌≡◌, ◌<◌, ℕ, subst, arith, sym}
-use Rattle.cu_command.proofs.SeenLemmas.{stepped, stepped_then, stepped_wider}
-use Rattle.cu_command.specs.Seen.{Stepped}
+use Rattle.std.proofs.Common.{◌≡◌, ◌<◌, ◌≤◌, ◌+◌, ◌*◌, ℕ, subst, arith, sym}
+use Rattle.cu_command.proofs.SeenLemmas.{stepped, stepped_then, stepped_wider, within_more, within_few}
+use Rattle.cu_command.specs.Seen.{Stepped, WithinCalls}
 use Rattle.cu_load.specs.Load.{ChunksPut, HoldsChunks, chunks_in}
 use Rattle.cu_load.specs.LoadForm.{given_by}
 use Rattle.cu_load.proofs.StoreLemmas.{next_put, more_put, chunk_put, chunks_put, values_stay, more_stored, chunk_fault, some_stay}
@@ -10,14 +10,26 @@ pub returns-in-Err-clause-failed : goal.returns-in-Err-clause-failed
 returns-in-Err-clause-failed g c =
     let below : c.loop-number.number < chunks_in (given_by c.args.form.now) = omega (arith, c.count-number-end.ensures.count) in
     let so_far = c.loop-number.invariant.step in
-    chunk_fault _ (given_by c.args.form.now) c.loop-number.number (g.D.Depot.shown c.args.depot.now) (g.D.Depot.shown c.loop-number.depot) (g.D.Depot.shown c.store_chunk.new.depot) c.in-Err.status below so_far.step.count
-    (stepped_then (stepped_wider (more_put (given_by c.args.form.now) c.loop-number.number) so_far) (stepped_wider (next_put (given_by c.args.form.now) c.loop-number.number) (stepped c.store_chunk.ensures.step)))
+    chunk_fault _ (given_by c.args.form.now) c.loop-number.number (g.D.Depot.shown c.args.depot.now) (g.D.Depot.shown c.loop-number.depot) (g.D.Depot.shown c.store_chunk.new.depot) c.in-Err.status below so_far
+    (stepped c.store_chunk.ensures.step)
     (λ calm. some_stay (given_by c.args.form.now) (g.D.Depot.shown c.loop-number.depot).held (g.D.Depot.shown c.store_chunk.new.depot).held c.loop-number.number (omega (arith, below))
     (values_stay (given_by c.args.form.now) (g.D.Depot.shown c.args.depot.now).late (g.D.Depot.shown c.loop-number.depot).late (g.D.Depot.shown c.loop-number.depot).held (g.D.Depot.shown c.store_chunk.new.depot).held
     c.requires.given calm (stepped_wider (chunks_put (given_by c.args.form.now) c.loop-number.number (omega (arith, below))) so_far).step.late
     (stepped_wider (chunk_put (given_by c.args.form.now) c.loop-number.number below) (stepped c.store_chunk.ensures.step)).step.lands)
     (c.loop-number.invariant.stored calm))
-    c.in-Err.ensures.cause
+    c.in-Err.ensures.cause c.in-Err.ensures.unput
+
+pub returns-in-Err-clause-calls : goal.returns-in-Err-clause-calls
+returns-in-Err-clause-calls g c =
+    let below : c.loop-number.number + 1 ≤ chunks_in (given_by c.args.form.now) = omega (arith, c.count-number-end.ensures.count) in
+    within_few (c.loop-number.number + 1) (chunks_in (given_by c.args.form.now)) (c.args.retries + 1) (g.D.Depot.shown c.args.depot.now) (g.D.Depot.shown c.store_chunk.new.depot) below
+    (within_more c.loop-number.number (c.args.retries + 1) (g.D.Depot.shown c.args.depot.now) (g.D.Depot.shown c.loop-number.depot) (g.D.Depot.shown c.store_chunk.new.depot)
+    c.loop-number.invariant.calls c.store_chunk.ensures.step.calls.1)
+
+pub returns-clause-calls : goal.returns-clause-calls
+returns-clause-calls g c =
+    let all : chunks_in (given_by c.args.form.now) ≡ c.loop-number.number = omega (arith, c.count-number-end.ensures.count) in
+    subst (λ (n : ℕ). WithinCalls (n * (c.args.retries + 1)) (g.D.Depot.shown c.args.depot.now) (g.D.Depot.shown c.loop-number.depot)) (sym all) c.loop-number.invariant.calls
 
 pub loop-number-preserved : goal.loop-number-preserved
 loop-number-preserved g c =
@@ -31,6 +43,8 @@ loop-number-preserved g c =
           c.requires.given calm (stepped_wider (chunks_put (given_by c.args.form.now) c.loop-number.number (omega arith)) so_far).step.late
           (stepped_wider (chunk_put (given_by c.args.form.now) c.loop-number.number below) (stepped c.store_chunk.ensures.step)).step.lands)
           (c.loop-number.invariant.stored calm) c.in_default.ensures.stored;
+      calls = within_more c.loop-number.number (c.args.retries + 1) (g.D.Depot.shown c.args.depot.now) (g.D.Depot.shown c.loop-number.depot) (g.D.Depot.shown c.store_chunk.new.depot)
+          c.loop-number.invariant.calls c.store_chunk.ensures.step.calls.1;
     }
 
 pub returns-clause-step : goal.returns-clause-step
