@@ -1,14 +1,14 @@
--- Counts of a depot's own, in place of those of the depot in it. This project's own rule.
-use Rattle.std.specs.Prelude.{◌≡◌, ℕ, ◌+◌, min, Result, Err}
-use Rattle.cu_store.specs.Faults.{last_count}
-use Rattle.cu_store.specs.Steps.{Shown}
+-- Counts of a depot's own, in place of those of the depot in it, and the calls that fail. This project's own rules.
+use Rattle.std.specs.Prelude.{◌≡◌, ◌≤◌, ◌<◌, ℕ, ◌+◌, min, Result, Err}
+use Rattle.cu_store.specs.Faults.{last_count, Rose}
 use Rattle.cu_store.specs.Yard.{Known}
 use Rattle.cu_store.specs.declared.faults.DepotFault.{DepotFault}
 use Rattle.cu_store.specs.declared.faults.DepotFault.TheVariants.{Failed}
+use Rattle.cu_failing.specs.declared.span.Span.{Span}
 
--- what is seen of a depot, with these counts
-abbrev pub with_counts : Shown → ℕ → ℕ → Shown
-with_counts shown faults calls = record { held = shown.held; late = shown.late; faults = faults; calls = calls; lacks = shown.lacks }
+-- the call of this number fails
+abbrev pub IsInSpan : Span → ℕ → Type 0
+IsInSpan span number = (span.first ≤ number) × (number < span.first + span.times)
 
 -- what a pass knows, with these counts
 abbrev pub known_with : Known → ℕ → ℕ → Known
@@ -23,3 +23,8 @@ AddsFault old new result = new ≡ old
 abbrev pub IsCountedFault : {A : Type 0} → ℕ → ℕ → Result A DepotFault → Type 0
 IsCountedFault old new (Err Failed) = new ≡ min (old + 1) last_count
 IsCountedFault old new result = ⊥
+
+-- A call of the span fails. Where another fails, a call of the depot in it has failed: its count of faults has risen.
+pub record FailsBy {A : Type 0} (span : Span) (number before after : ℕ) (result : Result A DepotFault) : Type 0 where
+  pub spanned : IsInSpan span number → result ≡ Err Failed
+  pub others : (IsInSpan span number → ⊥) → result ≡ Err Failed → Rose 1 before after

@@ -1,2 +1,4 @@
 pub mod Counts
+pub mod Failing
+pub mod Late
 pub mod Laws

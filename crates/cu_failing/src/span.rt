@@ -1,6 +1,6 @@
 //! Which calls fail.
-ghost use Rattle.std.specs.Prelude.{◌≡◌, ◌≤◌};
-ghost use Rattle.cu_failing.specs.Counts.{AddsFault, IsCountedFault};
+ghost use Rattle.std.specs.Prelude.{◌≡◌, ◌≤◌, ◌↔◌, IsTrue, Err};
+ghost use Rattle.cu_failing.specs.Counts.{AddsFault, IsCountedFault, IsInSpan};
 
 use cu_store::DepotFault;
 
@@ -9,22 +9,33 @@ use cu_store::DepotFault;
 pub struct Span {
     pub first: u64,
     pub times: u64,
+    /// After how many further calls the first put among them lands, if it lands at all.
+    pub land: Option<u32>,
 }
 
 impl Span {
     /// No call.
-    pub fn none() -> Span {
-        Span { first: 0, times: 0 }
+    pub fn none() -> Span
+        ensures { result.times ≡ 0 }
+    {
+        Span {
+            first: 0,
+            times: 0,
+            land: None,
+        }
     }
 
     /// Whether the call of this number fails.
-    pub(crate) fn has(&self, number: u64) -> bool {
+    pub(crate) fn has(&self, number: u64) -> bool
+        ensures { IsTrue result ↔ IsInSpan self.now number }
+    {
         number >= self.first && number - self.first < self.times
     }
 }
 
 /// A call that fails, which is counted.
 pub(crate) fn refuse<A>(faults: &mut u64) -> Result<A, DepotFault>
+    ensures answer { result ≡ Err DepotFault.Failed }
     ensures fault { IsCountedFault faults.old faults.new result }
     ensures count { faults.old ≤ faults.new }
 {

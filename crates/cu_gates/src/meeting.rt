@@ -1,4 +1,6 @@
 //! Tasks that are held until others have come.
+ghost use Rattle.std.specs.Prelude.{◌≡◌, ◌==◌, ◌&&◌};
+ghost use Rattle.cu_gates.specs.Meeting.{is_one_of};
 
 use cu_store::Gate;
 use std::sync::atomic::{AtomicU64, Ordering};
@@ -32,6 +34,13 @@ impl Awaited {
             times,
             came: AtomicU64::new(0),
         }
+    }
+
+    /// Whether it is this task.
+    fn is(&self, op: u32, task: u32) -> bool
+        ensures { result ≡ (self.now.op == op && self.now.task == task) }
+    {
+        self.op == op && self.task == task
     }
 
     /// Whether it has come so often.
@@ -71,6 +80,15 @@ impl Meeting {
             .count()
     }
 
+    /// Whether it holds this task.
+    fn holds(&self, op: u32, task: u32) -> bool
+        ensures { result ≡ is_one_of self.now.held.items op task }
+    {
+        self.held
+            .iter()
+            .any(|held| held.op == op && held.task == task)
+    }
+
     /// Whether all have come, within so many looks.
     fn have_all_come(&self) -> bool {
         for turn in 0..TURNS {
@@ -88,15 +106,11 @@ impl Gate for Meeting {
     /// Notes that the task has come, and holds it if it is to be held.
     fn before(&self, _worker: u32, op: u32, task: u32) {
         for awaited in &self.awaited {
-            if awaited.op == op && awaited.task == task {
+            if awaited.is(op, task) {
                 awaited.came.fetch_add(1, Ordering::SeqCst);
             }
         }
-        let is_held = self
-            .held
-            .iter()
-            .any(|held| held.op == op && held.task == task);
-        if is_held && !self.have_all_come() {
+        if self.holds(op, task) && !self.have_all_come() {
             self.given_up.fetch_add(1, Ordering::SeqCst);
         }
     }
