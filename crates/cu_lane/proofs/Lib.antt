@@ -1,0 +1,6 @@
+mod Blocks
+mod Lowest
+mod Ordered
+mod Summed
+mod Turned
+mod Words

@@ -1,0 +1,4 @@
+pub mod Compared
+pub mod Lanes
+pub mod Folds
+pub mod Swapped
