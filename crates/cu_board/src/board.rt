@@ -126,10 +126,9 @@ impl<Y: Yard> Board<Y> {
     {
         let badge = mem::replace(&mut seat.badge, Badge::blank());
         let (mut state, held) = self.turn.take::<Brand, H>(rt, badge);
-        // Who sleeps was told Idle, and the word stands as then. Until this report each claim since was told Idle too, and each report
-        // left the table so that the next one would be: no claim starts a task then, and so none frees a second copy. So where a claim
-        // would have been told Idle before this report and wouldn't now, all wake; and else nobody sleeps who would be told anything
-        // else. Who is told Idle and doesn't sleep yet finds another word then, and doesn't sleep.
+        // No wake is lost. Who sleeps, or is about to, was told Idle at the word that it keeps. While a claim would be told Idle claims
+        // change nothing, so a report alone ends that. The one that does stores another word, and then wakes all. Where this one doesn't,
+        // a claim would still be told Idle, or it wouldn't have been before, and who slept was woken by the report that ended it.
         let wakes = report_in(&mut state, seat.number, yard, pass, op, task, ended);
         let (badge, word) = self.turn.give_back(state, held, wakes);
         seat.badge = badge;

@@ -51,18 +51,23 @@ pub(crate) fn word_at(bytes: &[u8], at: usize) -> u64
     }
 }
 
-/// Lays the bytes of a word from a place on, as far as there is room.
+/// Lays the bytes of a word from a place on.
 pub(crate) fn lay_word(buf: &mut [u8], at: usize, word: u64)
-    requires { at < length buf.old }
+    requires { at + 8 ≤ length buf.old }
     ensures length { length buf.new ≡ length buf.old }
     ensures before { (i : ℕ) → i < at → slice_index buf.new i ≡ slice_index buf.old i }
-    ensures laid { (j : ℕ) → j < 8 → at + j < length buf.old → slice_index buf.new (at + j) ≡ slice_index (to_le_bytes w64 word) j }
+    ensures laid { (j : ℕ) → j < 8 → slice_index buf.new (at + j) ≡ slice_index (to_le_bytes w64 word) j }
 {
-    let bytes = word.to_le_bytes();
-    let n = (buf.len() - at).min(8);
-    if n == 8 {
-        buf[at..at + 8].copy_from_slice(&bytes);
-    } else {
-        buf[at..at + n].copy_from_slice(&bytes[..n]);
-    }
+    buf[at..at + 8].copy_from_slice(&word.to_le_bytes());
+}
+
+/// Lays the bytes of a word from a place on, as far as there is room, which is for at most eight.
+pub(crate) fn lay_last(buf: &mut [u8], at: usize, word: u64)
+    requires room { (at ≤ length buf.old) × (length buf.old ≤ at + 8) }
+    ensures length { length buf.new ≡ length buf.old }
+    ensures before { (i : ℕ) → i < at → slice_index buf.new i ≡ slice_index buf.old i }
+    ensures laid { (j : ℕ) → at + j < length buf.old → slice_index buf.new (at + j) ≡ slice_index (to_le_bytes w64 word) j }
+{
+    let n = buf.len() - at;
+    buf[at..at + n].copy_from_slice(&word.to_le_bytes()[..n]);
 }
