@@ -1,6 +1,7 @@
 pub mod Asks
 pub mod Blocks
 pub mod Inputs
+pub mod OfTask
 pub mod Serving
 pub mod Task
 pub mod ViewJobs

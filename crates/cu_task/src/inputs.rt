@@ -1,13 +1,12 @@
 //! The regions that a task reads, one behind another in its memory.
-ghost use Rattle.std.specs.Prelude.{◌≡◌, ℕ, ◌+◌, ◌*◌, ◌<◌, ◌≤◌, ◌^◌, [], ◌∷◌, Some, All, length, slice_index_or, IfErr, OnOk};
+ghost use Rattle.std.specs.Prelude.{◌≡◌, ◌+◌, ◌*◌, ◌<◌, ◌≤◌, ◌^◌, [], ◌∷◌, Some, All, length, slice_index_or, IfErr, OnOk};
 ghost use Rattle.cu_num.specs.Dtype.{size_of};
 ghost use Rattle.cu_shape.specs.Index.{product, differences};
 ghost use Rattle.cu_store.specs.Held.{Contents};
 ghost use Rattle.cu_store.specs.Chunks.{StaysOpen};
-ghost use Rattle.cu_task.specs.Asks.{MayReadWalks, MayReadTask};
+ghost use Rattle.cu_task.specs.Asks.{MayReadWalks};
 ghost use Rattle.cu_store.specs.Steps.{NoChange, Steps};
 ghost use Rattle.cu_op.specs.Arrays.{array_at, type_at, chunk_room};
-ghost use Rattle.cu_op.specs.Projection.{scratch_room};
 ghost use Rattle.cu_op.specs.Sound.{Sound};
 ghost use Rattle.cu_op.specs.TaskView.{task_op};
 ghost use Rattle.cu_op.specs.Walks.{walk, IsWalkOver, walk_cells, cells_of_walks, input_walks};
@@ -16,7 +15,8 @@ ghost use Rattle.cu_region.specs.Calls.{Made};
 ghost use Rattle.cu_region.specs.Steady.{IsSteady};
 ghost use Rattle.cu_region.specs.Writing.{AreElements};
 ghost use Rattle.cu_task.specs.Inputs.{walk_room, room_of_walks, HasRegions, lays_from, IsWalkKey, IsTaskInputFault};
-ghost use Rattle.cu_task.specs.Task.{read_calls, ReadsRegions, AreSteadyInputs, IsTaskFault};
+ghost use Rattle.cu_task.specs.OfTask.{scratch_bytes, read_bytes, calls_to_read, MayRead, AreSteady, IsFaultOf};
+ghost use Rattle.cu_task.specs.Task.{ReadsRegions};
 
 use arrayvec::ArrayVec;
 use cu_grid::Region;
@@ -37,16 +37,16 @@ pub(crate) fn read_regions<C: Chunks>(
     scratch: &mut [u8],
 ) -> Result<(), TaskFault>
     requires belongs { C.belongs store.now access.old }
-    requires may { MayReadTask task.now.plan task.now.op task.now.number (C.may_get store.now access.old) }
+    requires may { MayRead task.now (C.may_get store.now access.old) }
     requires regions { ReadsRegions (task_op task.now) }
-    requires room { room_of_walks task.now.plan.arrays (input_walks task.now.plan.arrays (task_op task.now) task.now.number) ≤ length inputs.old }
-    requires scratch { scratch_room task.now.plan.arrays (task_op task.now) ≤ length scratch.old }
+    requires room { read_bytes task.now ≤ length inputs.old }
+    requires scratch { scratch_bytes task.now ≤ length scratch.old }
     ensures open { StaysOpen (C.belongs store.now access.new) (C.may_get store.now access.old) (C.may_get store.now access.new) }
-    ensures read { (held : Contents) → AreSteadyInputs task.now.plan task.now.op task.now.number (C.shown access.old) held
+    ensures read { (held : Contents) → AreSteady task.now (C.shown access.old) held
         → OnOk result (HasRegions task.now.plan.arrays held (input_walks task.now.plan.arrays (task_op task.now) task.now.number) inputs.new) }
-    ensures step { Steps NoChange 0 (read_calls task.now.plan.arrays (task_op task.now) task.now.number) (C.shown access.old) (C.shown access.new) }
-    ensures all { OnOk result (Made (read_calls task.now.plan.arrays (task_op task.now) task.now.number) (C.shown access.old).calls (C.shown access.new).calls) }
-    ensures cause { IfErr result (IsTaskFault (C.shown access.old) (C.shown access.new) task.now.plan task.now.op task.now.number) }
+    ensures step { Steps NoChange 0 (calls_to_read task.now) (C.shown access.old) (C.shown access.new) }
+    ensures all { OnOk result (Made (calls_to_read task.now) (C.shown access.old).calls (C.shown access.new).calls) }
+    ensures cause { IfErr result (IsFaultOf task.now (C.shown access.old) (C.shown access.new)) }
 {
     let walks = task.input_walks();
     read_inputs::<C>(store, access, task, walks, inputs, scratch)
@@ -141,8 +141,8 @@ pub(crate) fn region_bytes(t: Dtype, region: &Region) -> usize
 
 /// The bytes of the regions that a task reads.
 pub(crate) fn input_bytes(task: &PlanTask<'_>) -> usize
-    requires { room_of_walks task.now.plan.arrays (input_walks task.now.plan.arrays (task_op task.now) task.now.number) < 2 ^ 64 }
-    ensures { result ≡ room_of_walks task.now.plan.arrays (input_walks task.now.plan.arrays (task_op task.now) task.now.number) }
+    requires { read_bytes task.now < 2 ^ 64 }
+    ensures { result ≡ read_bytes task.now }
 {
     room_of(task, task.input_walks())
 }

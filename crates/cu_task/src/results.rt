@@ -1,19 +1,19 @@
 //! The regions that a task writes.
-ghost use Rattle.std.specs.Prelude.{◌≡◌, ℕ, ◌<◌, ◌≤◌, List, [], ◌∷◌, Some, length, Contains, IfErr, OnOk};
+ghost use Rattle.std.specs.Prelude.{◌≡◌, ℕ, ◌<◌, ◌≤◌, [], ◌∷◌, Some, length, Contains, IfErr, OnOk};
 ghost use Rattle.cu_store.specs.Chunks.{StaysOpen};
 ghost use Rattle.cu_task.specs.Asks.{MayReadWritten, MayReadRegion, AllowsRegion, AllowsResult, AllowsResults, AllowsFound};
 ghost use Rattle.cu_store.specs.Steps.{Shown, Steps};
 ghost use Rattle.cu_op.specs.Arrays.{array_at, type_at};
 ghost use Rattle.cu_op.specs.Cells.{task_lo, task_hi};
 ghost use Rattle.cu_op.specs.Operation.{target_of, writes_of};
-ghost use Rattle.cu_op.specs.Projection.{scratch_room};
 ghost use Rattle.cu_op.specs.Sound.{Sound};
 ghost use Rattle.cu_op.specs.TaskView.{task_op};
 ghost use Rattle.cu_op.specs.Value.{Elements};
 ghost use Rattle.cu_op.specs.Walks.{walk, walk_cells, written_chunks};
 ghost use Rattle.cu_region.specs.Calls.{Made};
 ghost use Rattle.cu_region.specs.Writing.{AreElements, LateIsOwn, RegionPut, StoresRegion, IsWriteFault};
-ghost use Rattle.cu_task.specs.Task.{IsTaskReady, TaskChange, HoldsCells, compared_array, value_array, result_room, value_room, IsResultOver};
+ghost use Rattle.cu_task.specs.OfTask.{scratch_bytes, made_bytes, IsMadeOver, AreOfItsType, ChangeBy};
+ghost use Rattle.cu_task.specs.Task.{IsTaskReady, HoldsCells, compared_array, value_array, result_room, value_room, IsResultOver};
 
 use crate::inputs::region_bytes;
 use cu_op::{Op, PlanTask};
@@ -22,7 +22,7 @@ use cu_store::{Chunks, TaskFault};
 
 /// The bytes of the elements that a task computes.
 pub(crate) fn result_bytes(task: &PlanTask<'_>) -> usize
-    ensures bytes { result ≡ result_room task.now.plan task.now.op task.now.number (target_of (task_op task.now)) }
+    ensures bytes { result ≡ made_bytes task.now }
     ensures sound { Sound task.now.plan }
 {
     region_room(task, task.operation().target())
@@ -73,7 +73,7 @@ pub(crate) fn write_array<C: Chunks>(
     requires array { Contains (writes_of (task_op task.now)) array }
     requires output { length output.now ≡ result_room task.now.plan task.now.op task.now.number array }
     requires elements { AreElements (type_at task.now.plan.arrays array) output.now }
-    requires scratch { scratch_room task.now.plan.arrays (task_op task.now) ≤ length scratch.old }
+    requires scratch { scratch_bytes task.now ≤ length scratch.old }
     ensures open { StaysOpen (C.belongs store.now access.new) (C.may_get store.now access.old) (C.may_get store.now access.new) }
     ensures got { OnOk result (MayReadRegion task.now.plan task.now.op task.now.number array (C.may_get store.now access.new)) }
     ensures stored { LateIsOwn (array_at task.now.plan.arrays array) (task_lo task.now.plan.arrays (task_op task.now) task.now.number) (task_hi task.now.plan.arrays (task_op task.now) task.now.number) output.now (C.shown access.old).late
@@ -99,15 +99,15 @@ pub(crate) fn write_only<C: Chunks>(
     requires belongs { C.belongs store.now access.old }
     requires puts { AllowsResult task.now.plan task.now.op task.now.number (target_of (task_op task.now)) output.now (C.may_put store.now) }
     requires only { writes_of (task_op task.now) ≡ target_of (task_op task.now) ∷ [] }
-    requires output { length output.now ≡ result_room task.now.plan task.now.op task.now.number (target_of (task_op task.now)) }
-    requires elements { AreElements (type_at task.now.plan.arrays (target_of (task_op task.now))) output.now }
-    requires scratch { scratch_room task.now.plan.arrays (task_op task.now) ≤ length scratch.old }
+    requires output { length output.now ≡ made_bytes task.now }
+    requires elements { AreOfItsType task.now output.now }
+    requires scratch { scratch_bytes task.now ≤ length scratch.old }
     ensures open { StaysOpen (C.belongs store.now access.new) (C.may_get store.now access.old) (C.may_get store.now access.new) }
     ensures got { OnOk result (MayReadWritten task.now.plan task.now.op task.now.number (C.may_get store.now access.new)) }
-    ensures step { (start : Shown) → IsResultOver task.now.plan task.now.op task.now.number (target_of (task_op task.now)) start output.now
-        → Steps (TaskChange task.now.plan task.now.op task.now.number start) 0 (length (written_chunks task.now.plan.arrays (task_op task.now) task.now.number)) (C.shown access.old) (C.shown access.new) }
-    ensures stored { (env : Elements) (start : Shown) (calls : ℕ) → IsResultOver task.now.plan task.now.op task.now.number (target_of (task_op task.now)) start output.now
-        → IsTaskReady task.now.plan task.now.op task.now.number env start → Steps (TaskChange task.now.plan task.now.op task.now.number start) 0 calls start (C.shown access.old) → OnOk result (HoldsCells task.now.plan task.now.op task.now.number env (C.shown access.new)) }
+    ensures step { (start : Shown) → IsMadeOver task.now start output.now
+        → Steps (ChangeBy task.now start) 0 (length (written_chunks task.now.plan.arrays (task_op task.now) task.now.number)) (C.shown access.old) (C.shown access.new) }
+    ensures stored { (env : Elements) (start : Shown) (calls : ℕ) → IsMadeOver task.now start output.now
+        → IsTaskReady task.now.plan task.now.op task.now.number env start → Steps (ChangeBy task.now start) 0 calls start (C.shown access.old) → OnOk result (HoldsCells task.now.plan task.now.op task.now.number env (C.shown access.new)) }
     ensures all { OnOk result (Made (length (written_chunks task.now.plan.arrays (task_op task.now) task.now.number)) (C.shown access.old).calls (C.shown access.new).calls) }
     ensures cause { IfErr result (IsWriteFault (C.shown access.old).faults (C.shown access.new).faults (C.shown access.new).lacks) }
 {
@@ -129,16 +129,16 @@ pub(crate) fn write_both<C: Chunks>(
     requires puts { AllowsResults task.now.plan task.now.op task.now.number array (values.now, places.now) (C.may_put store.now) }
     requires both { writes_of (task_op task.now) ≡ array ∷ target_of (task_op task.now) ∷ [] }
     requires values { length values.now ≡ result_room task.now.plan task.now.op task.now.number array }
-    requires places { length places.now ≡ result_room task.now.plan task.now.op task.now.number (target_of (task_op task.now)) }
+    requires places { length places.now ≡ made_bytes task.now }
     requires value_elements { AreElements (type_at task.now.plan.arrays array) values.now }
-    requires place_elements { AreElements (type_at task.now.plan.arrays (target_of (task_op task.now))) places.now }
-    requires scratch { scratch_room task.now.plan.arrays (task_op task.now) ≤ length scratch.old }
+    requires place_elements { AreOfItsType task.now places.now }
+    requires scratch { scratch_bytes task.now ≤ length scratch.old }
     ensures open { StaysOpen (C.belongs store.now access.new) (C.may_get store.now access.old) (C.may_get store.now access.new) }
     ensures got { OnOk result (MayReadWritten task.now.plan task.now.op task.now.number (C.may_get store.now access.new)) }
-    ensures step { (start : Shown) → IsResultOver task.now.plan task.now.op task.now.number array start values.now → IsResultOver task.now.plan task.now.op task.now.number (target_of (task_op task.now)) start places.now
-        → Steps (TaskChange task.now.plan task.now.op task.now.number start) 0 (length (written_chunks task.now.plan.arrays (task_op task.now) task.now.number)) (C.shown access.old) (C.shown access.new) }
-    ensures stored { (env : Elements) (start : Shown) (calls : ℕ) → IsResultOver task.now.plan task.now.op task.now.number array start values.now → IsResultOver task.now.plan task.now.op task.now.number (target_of (task_op task.now)) start places.now
-        → IsTaskReady task.now.plan task.now.op task.now.number env start → Steps (TaskChange task.now.plan task.now.op task.now.number start) 0 calls start (C.shown access.old) → OnOk result (HoldsCells task.now.plan task.now.op task.now.number env (C.shown access.new)) }
+    ensures step { (start : Shown) → IsResultOver task.now.plan task.now.op task.now.number array start values.now → IsMadeOver task.now start places.now
+        → Steps (ChangeBy task.now start) 0 (length (written_chunks task.now.plan.arrays (task_op task.now) task.now.number)) (C.shown access.old) (C.shown access.new) }
+    ensures stored { (env : Elements) (start : Shown) (calls : ℕ) → IsResultOver task.now.plan task.now.op task.now.number array start values.now → IsMadeOver task.now start places.now
+        → IsTaskReady task.now.plan task.now.op task.now.number env start → Steps (ChangeBy task.now start) 0 calls start (C.shown access.old) → OnOk result (HoldsCells task.now.plan task.now.op task.now.number env (C.shown access.new)) }
     ensures all { OnOk result (Made (length (written_chunks task.now.plan.arrays (task_op task.now) task.now.number)) (C.shown access.old).calls (C.shown access.new).calls) }
     ensures cause { IfErr result (IsWriteFault (C.shown access.old).faults (C.shown access.new).faults (C.shown access.new).lacks) }
 {
@@ -159,17 +159,17 @@ pub(crate) fn write_results<C: Chunks>(
     requires belongs { C.belongs store.now access.old }
     requires puts { AllowsFound task.now.plan task.now.op task.now.number values.now output.now (C.may_put store.now) }
     requires values { (array : ℕ) → value_array (task_op task.now) ≡ Some array → length values.now ≡ result_room task.now.plan task.now.op task.now.number array }
-    requires output { length output.now ≡ result_room task.now.plan task.now.op task.now.number (target_of (task_op task.now)) }
+    requires output { length output.now ≡ made_bytes task.now }
     requires value_elements { (array : ℕ) → value_array (task_op task.now) ≡ Some array → AreElements (type_at task.now.plan.arrays array) values.now }
-    requires output_elements { AreElements (type_at task.now.plan.arrays (target_of (task_op task.now))) output.now }
-    requires scratch { scratch_room task.now.plan.arrays (task_op task.now) ≤ length scratch.old }
+    requires output_elements { AreOfItsType task.now output.now }
+    requires scratch { scratch_bytes task.now ≤ length scratch.old }
     ensures open { StaysOpen (C.belongs store.now access.new) (C.may_get store.now access.old) (C.may_get store.now access.new) }
     ensures got { OnOk result (MayReadWritten task.now.plan task.now.op task.now.number (C.may_get store.now access.new)) }
-    ensures step { (start : Shown) → ((array : ℕ) → value_array (task_op task.now) ≡ Some array → IsResultOver task.now.plan task.now.op task.now.number array start values.now) → IsResultOver task.now.plan task.now.op task.now.number (target_of (task_op task.now)) start output.now
-        → Steps (TaskChange task.now.plan task.now.op task.now.number start) 0 (length (written_chunks task.now.plan.arrays (task_op task.now) task.now.number)) (C.shown access.old) (C.shown access.new) }
+    ensures step { (start : Shown) → ((array : ℕ) → value_array (task_op task.now) ≡ Some array → IsResultOver task.now.plan task.now.op task.now.number array start values.now) → IsMadeOver task.now start output.now
+        → Steps (ChangeBy task.now start) 0 (length (written_chunks task.now.plan.arrays (task_op task.now) task.now.number)) (C.shown access.old) (C.shown access.new) }
     ensures stored { (env : Elements) (start : Shown) (calls : ℕ) → ((array : ℕ) → value_array (task_op task.now) ≡ Some array → IsResultOver task.now.plan task.now.op task.now.number array start values.now)
-        → IsResultOver task.now.plan task.now.op task.now.number (target_of (task_op task.now)) start output.now
-        → IsTaskReady task.now.plan task.now.op task.now.number env start → Steps (TaskChange task.now.plan task.now.op task.now.number start) 0 calls start (C.shown access.old) → OnOk result (HoldsCells task.now.plan task.now.op task.now.number env (C.shown access.new)) }
+        → IsMadeOver task.now start output.now
+        → IsTaskReady task.now.plan task.now.op task.now.number env start → Steps (ChangeBy task.now start) 0 calls start (C.shown access.old) → OnOk result (HoldsCells task.now.plan task.now.op task.now.number env (C.shown access.new)) }
     ensures all { OnOk result (Made (length (written_chunks task.now.plan.arrays (task_op task.now) task.now.number)) (C.shown access.old).calls (C.shown access.new).calls) }
     ensures cause { IfErr result (IsWriteFault (C.shown access.old).faults (C.shown access.new).faults (C.shown access.new).lacks) }
 {

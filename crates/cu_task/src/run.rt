@@ -6,16 +6,14 @@ ghost use Rattle.cu_task.specs.Asks.{MayReadTask, MayReadWritten};
 ghost use Rattle.cu_store.specs.Steps.{NoChange, Steps};
 ghost use Rattle.cu_op.specs.Arrays.{type_at};
 ghost use Rattle.cu_op.specs.Cells.{tasks_of};
-ghost use Rattle.cu_op.specs.Operation.{target_of};
-ghost use Rattle.cu_op.specs.Projection.{projection, scratch_room, instruction_count};
+ghost use Rattle.cu_op.specs.Projection.{projection, instruction_count};
 ghost use Rattle.cu_op.specs.Schedule.{op_of};
 ghost use Rattle.cu_op.specs.TaskView.{task_op};
 ghost use Rattle.cu_op.specs.Value.{Elements};
-ghost use Rattle.cu_op.specs.Walks.{input_walks};
 ghost use Rattle.cu_region.specs.Calls.{Made};
 ghost use Rattle.cu_region.specs.Writing.{AreElements};
-ghost use Rattle.cu_task.specs.Inputs.{room_of_walks};
-ghost use Rattle.cu_task.specs.Task.{IsTaskReady, TaskChange, HoldsCells, read_calls, calls_of, HasSureCalls, IsComputing, kept_room, value_array, value_room, result_room, HasResult, IsComputed, AreSteadyInputs, IsTaskFault};
+ghost use Rattle.cu_task.specs.OfTask.{scratch_bytes, read_bytes, made_bytes, calls_to_read, MayRead, AreSteady, HasMade, IsMadeFrom, AreOfItsType, ChangeBy, IsFaultOf};
+ghost use Rattle.cu_task.specs.Task.{IsTaskReady, TaskChange, HoldsCells, calls_of, HasSureCalls, IsComputing, kept_room, value_array, value_room, HasResult, IsComputed, IsTaskFault};
 
 use crate::copies::copy_region;
 use crate::inputs::{input_bytes, read_regions};
@@ -77,16 +75,16 @@ fn run_plan_task<C: Chunks>(
     words: &mut [u64],
 ) -> Result<(), TaskFault>
     requires belongs { C.belongs store.now access.old }
-    requires may { MayReadTask task.now.plan task.now.op task.now.number (C.may_get store.now access.old) }
-    requires puts { Allows (TaskChange task.now.plan task.now.op task.now.number (C.shown access.old)) (C.may_put store.now) }
+    requires may { MayRead task.now (C.may_get store.now access.old) }
+    requires puts { Allows (ChangeBy task.now (C.shown access.old)) (C.may_put store.now) }
     requires words { length words.old ≡ 64 * instruction_count (task_op task.now) }
     requires room { task.now.plan.reserved + length bytes.old + 8 * length words.old ≡ projection task.now.plan.arrays task.now.plan.reserved (task_op task.now) }
     ensures open { StaysOpen (C.belongs store.now access.new) (C.may_get store.now access.old) (C.may_get store.now access.new) }
     ensures got { OnOk result (MayReadWritten task.now.plan task.now.op task.now.number (C.may_get store.now access.new)) }
     ensures stored { (env : Elements) → IsTaskReady task.now.plan task.now.op task.now.number env (C.shown access.old) → OnOk result (HoldsCells task.now.plan task.now.op task.now.number env (C.shown access.new)) }
-    ensures step { Steps (TaskChange task.now.plan task.now.op task.now.number (C.shown access.old)) 0 (calls_of task.now.plan task.now.op task.now.number) (C.shown access.old) (C.shown access.new) }
+    ensures step { Steps (ChangeBy task.now (C.shown access.old)) 0 (calls_of task.now.plan task.now.op task.now.number) (C.shown access.old) (C.shown access.new) }
     ensures all { HasSureCalls (task_op task.now) → OnOk result (Made (calls_of task.now.plan task.now.op task.now.number) (C.shown access.old).calls (C.shown access.new).calls) }
-    ensures cause { IfErr result (IsTaskFault (C.shown access.old) (C.shown access.new) task.now.plan task.now.op task.now.number) }
+    ensures cause { IfErr result (IsFaultOf task.now (C.shown access.old) (C.shown access.new)) }
 {
     let result = result_bytes(task);
     let found = value_bytes(task);
@@ -108,20 +106,20 @@ fn make_result<C: Chunks>(
     words: &mut [u64],
 ) -> Result<(), TaskFault>
     requires belongs { C.belongs store.now access.old }
-    requires may { MayReadTask task.now.plan task.now.op task.now.number (C.may_get store.now access.old) }
-    requires room { scratch_room task.now.plan.arrays (task_op task.now) + kept_room task.now.plan.arrays (task_op task.now) task.now.number ≤ length room.old }
+    requires may { MayRead task.now (C.may_get store.now access.old) }
+    requires room { scratch_bytes task.now + kept_room task.now.plan.arrays (task_op task.now) task.now.number ≤ length room.old }
     requires values { length values.old ≡ value_room task.now.plan task.now.op task.now.number }
-    requires output { length output.old ≡ result_room task.now.plan task.now.op task.now.number (target_of (task_op task.now)) }
+    requires output { length output.old ≡ made_bytes task.now }
     requires words { length words.old ≡ 64 * instruction_count (task_op task.now) }
     ensures open { StaysOpen (C.belongs store.now access.new) (C.may_get store.now access.old) (C.may_get store.now access.new) }
-    ensures output { (held : Contents) → AreSteadyInputs task.now.plan task.now.op task.now.number (C.shown access.old) held → OnOk result (HasResult task.now.plan task.now.op task.now.number (target_of (task_op task.now)) held output.new) }
-    ensures output_elements { OnOk result (AreElements (type_at task.now.plan.arrays (target_of (task_op task.now))) output.new) }
-    ensures values { (array : ℕ) (held : Contents) → value_array (task_op task.now) ≡ Some array → AreSteadyInputs task.now.plan task.now.op task.now.number (C.shown access.old) held
+    ensures output { (held : Contents) → AreSteady task.now (C.shown access.old) held → OnOk result (HasMade task.now held output.new) }
+    ensures output_elements { OnOk result (AreOfItsType task.now output.new) }
+    ensures values { (array : ℕ) (held : Contents) → value_array (task_op task.now) ≡ Some array → AreSteady task.now (C.shown access.old) held
         → OnOk result (HasResult task.now.plan task.now.op task.now.number array held values.new) }
     ensures value_elements { (array : ℕ) → value_array (task_op task.now) ≡ Some array → OnOk result (AreElements (type_at task.now.plan.arrays array) values.new) }
-    ensures step { Steps NoChange 0 (read_calls task.now.plan.arrays (task_op task.now) task.now.number) (C.shown access.old) (C.shown access.new) }
-    ensures all { HasSureCalls (task_op task.now) → OnOk result (Made (read_calls task.now.plan.arrays (task_op task.now) task.now.number) (C.shown access.old).calls (C.shown access.new).calls) }
-    ensures cause { IfErr result (IsTaskFault (C.shown access.old) (C.shown access.new) task.now.plan task.now.op task.now.number) }
+    ensures step { Steps NoChange 0 (calls_to_read task.now) (C.shown access.old) (C.shown access.new) }
+    ensures all { HasSureCalls (task_op task.now) → OnOk result (Made (calls_to_read task.now) (C.shown access.old).calls (C.shown access.new).calls) }
+    ensures cause { IfErr result (IsFaultOf task.now (C.shown access.old) (C.shown access.new)) }
 {
     match task.operation() {
         Op::Pull { pull, ins, .. } => {
@@ -143,21 +141,21 @@ fn compute_result<C: Chunks>(
     words: &mut [u64],
 ) -> Result<(), TaskFault>
     requires belongs { C.belongs store.now access.old }
-    requires may { MayReadTask task.now.plan task.now.op task.now.number (C.may_get store.now access.old) }
+    requires may { MayRead task.now (C.may_get store.now access.old) }
     requires computing { IsComputing (task_op task.now) }
-    requires room { scratch_room task.now.plan.arrays (task_op task.now) + room_of_walks task.now.plan.arrays (input_walks task.now.plan.arrays (task_op task.now) task.now.number) ≤ length room.old }
+    requires room { scratch_bytes task.now + read_bytes task.now ≤ length room.old }
     requires values { length values.old ≡ value_room task.now.plan task.now.op task.now.number }
-    requires output { length output.old ≡ result_room task.now.plan task.now.op task.now.number (target_of (task_op task.now)) }
+    requires output { length output.old ≡ made_bytes task.now }
     requires words { length words.old ≡ 64 * instruction_count (task_op task.now) }
     ensures open { StaysOpen (C.belongs store.now access.new) (C.may_get store.now access.old) (C.may_get store.now access.new) }
-    ensures output { (held : Contents) → AreSteadyInputs task.now.plan task.now.op task.now.number (C.shown access.old) held → OnOk result (HasResult task.now.plan task.now.op task.now.number (target_of (task_op task.now)) held output.new) }
-    ensures output_elements { OnOk result (AreElements (type_at task.now.plan.arrays (target_of (task_op task.now))) output.new) }
-    ensures values { (array : ℕ) (held : Contents) → value_array (task_op task.now) ≡ Some array → AreSteadyInputs task.now.plan task.now.op task.now.number (C.shown access.old) held
+    ensures output { (held : Contents) → AreSteady task.now (C.shown access.old) held → OnOk result (HasMade task.now held output.new) }
+    ensures output_elements { OnOk result (AreOfItsType task.now output.new) }
+    ensures values { (array : ℕ) (held : Contents) → value_array (task_op task.now) ≡ Some array → AreSteady task.now (C.shown access.old) held
         → OnOk result (HasResult task.now.plan task.now.op task.now.number array held values.new) }
     ensures value_elements { (array : ℕ) → value_array (task_op task.now) ≡ Some array → OnOk result (AreElements (type_at task.now.plan.arrays array) values.new) }
-    ensures step { Steps NoChange 0 (read_calls task.now.plan.arrays (task_op task.now) task.now.number) (C.shown access.old) (C.shown access.new) }
-    ensures all { OnOk result (Made (read_calls task.now.plan.arrays (task_op task.now) task.now.number) (C.shown access.old).calls (C.shown access.new).calls) }
-    ensures cause { IfErr result (IsTaskFault (C.shown access.old) (C.shown access.new) task.now.plan task.now.op task.now.number) }
+    ensures step { Steps NoChange 0 (calls_to_read task.now) (C.shown access.old) (C.shown access.new) }
+    ensures all { OnOk result (Made (calls_to_read task.now) (C.shown access.old).calls (C.shown access.new).calls) }
+    ensures cause { IfErr result (IsFaultOf task.now (C.shown access.old) (C.shown access.new)) }
 {
     let kept = input_bytes(task);
     let (scratch, inputs) = room.split_at_mut(room.len() - kept);
@@ -176,13 +174,13 @@ fn compute(
     words: &mut [u64],
 )
     requires computing { IsComputing (task_op task.now) }
-    requires inputs { length inputs.now ≡ room_of_walks task.now.plan.arrays (input_walks task.now.plan.arrays (task_op task.now) task.now.number) }
+    requires inputs { length inputs.now ≡ read_bytes task.now }
     requires values { length values.old ≡ value_room task.now.plan task.now.op task.now.number }
-    requires output { length output.old ≡ result_room task.now.plan task.now.op task.now.number (target_of (task_op task.now)) }
+    requires output { length output.old ≡ made_bytes task.now }
     requires words { length words.old ≡ 64 * instruction_count (task_op task.now) }
-    ensures output { IsComputed task.now.plan task.now.op task.now.number (target_of (task_op task.now)) inputs.now output.new }
+    ensures output { IsMadeFrom task.now inputs.now output.new }
     ensures values { (array : ℕ) → value_array (task_op task.now) ≡ Some array → IsComputed task.now.plan task.now.op task.now.number array inputs.now values.new }
-    ensures output_elements { AreElements (type_at task.now.plan.arrays (target_of (task_op task.now))) output.new }
+    ensures output_elements { AreOfItsType task.now output.new }
     ensures value_elements { (array : ℕ) → value_array (task_op task.now) ≡ Some array → AreElements (type_at task.now.plan.arrays array) values.new }
 {
     match task.operation() {

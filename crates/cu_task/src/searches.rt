@@ -1,12 +1,11 @@
 //! Searches for least or greatest elements and their places.
 ghost use Rattle.std.specs.Prelude.{◌≡◌, ℕ, Some, length};
 ghost use Rattle.cu_op.specs.Arrays.{type_at};
-ghost use Rattle.cu_op.specs.Operation.{target_of};
 ghost use Rattle.cu_op.specs.TaskView.{task_op};
-ghost use Rattle.cu_op.specs.Walks.{input_walks};
 ghost use Rattle.cu_region.specs.Writing.{AreElements};
-ghost use Rattle.cu_task.specs.Inputs.{room_of_walks, IsSearchOf, IsSearchAmong};
-ghost use Rattle.cu_task.specs.Task.{compared_by, value_array, result_room, found_value_room, IsComputed};
+ghost use Rattle.cu_task.specs.Inputs.{IsSearchOf, IsSearchAmong};
+ghost use Rattle.cu_task.specs.OfTask.{read_bytes, made_bytes, IsMadeFrom, AreOfItsType};
+ghost use Rattle.cu_task.specs.Task.{compared_by, value_array, found_value_room, IsComputed};
 
 use crate::inputs::{input_walk, walk_bytes};
 use crate::reductions::dtype_of;
@@ -25,12 +24,12 @@ pub(crate) fn find_first(
     places: &mut [u8],
 )
     requires search { IsSearchOf (task_op task.now) least axis source }
-    requires inputs { length inputs.now ≡ room_of_walks task.now.plan.arrays (input_walks task.now.plan.arrays (task_op task.now) task.now.number) }
+    requires inputs { length inputs.now ≡ read_bytes task.now }
     requires values { length values.old ≡ found_value_room task.now.plan task.now.op task.now.number }
-    requires places { length places.old ≡ result_room task.now.plan task.now.op task.now.number (target_of (task_op task.now)) }
-    ensures places { IsComputed task.now.plan task.now.op task.now.number (target_of (task_op task.now)) inputs.now places.new }
+    requires places { length places.old ≡ made_bytes task.now }
+    ensures places { IsMadeFrom task.now inputs.now places.new }
     ensures values { (array : ℕ) → value_array (task_op task.now) ≡ Some array → IsComputed task.now.plan task.now.op task.now.number array inputs.now values.new }
-    ensures place_elements { AreElements (type_at task.now.plan.arrays (target_of (task_op task.now))) places.new }
+    ensures place_elements { AreOfItsType task.now places.new }
     ensures value_elements { AreElements (type_at task.now.plan.arrays (compared_by (task_op task.now))) values.new }
 {
     let walk = input_walk(task, 0);
@@ -59,12 +58,12 @@ pub(crate) fn find_again(
     places: &mut [u8],
 )
     requires search { IsSearchAmong (task_op task.now) least axis source }
-    requires inputs { length inputs.now ≡ room_of_walks task.now.plan.arrays (input_walks task.now.plan.arrays (task_op task.now) task.now.number) }
+    requires inputs { length inputs.now ≡ read_bytes task.now }
     requires values { length values.old ≡ found_value_room task.now.plan task.now.op task.now.number }
-    requires places { length places.old ≡ result_room task.now.plan task.now.op task.now.number (target_of (task_op task.now)) }
-    ensures places { IsComputed task.now.plan task.now.op task.now.number (target_of (task_op task.now)) inputs.now places.new }
+    requires places { length places.old ≡ made_bytes task.now }
+    ensures places { IsMadeFrom task.now inputs.now places.new }
     ensures values { (array : ℕ) → value_array (task_op task.now) ≡ Some array → IsComputed task.now.plan task.now.op task.now.number array inputs.now values.new }
-    ensures place_elements { AreElements (type_at task.now.plan.arrays (target_of (task_op task.now))) places.new }
+    ensures place_elements { AreOfItsType task.now places.new }
     ensures value_elements { AreElements (type_at task.now.plan.arrays (compared_by (task_op task.now))) values.new }
 {
     let walk = input_walk(task, 0);

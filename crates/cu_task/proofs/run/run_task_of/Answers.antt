@@ -1,3 +1,7 @@
+use Rattle.std.proofs.Common.{ℕ, subst}
+use Rattle.std.specs.Prelude.{IfErr}
+use Rattle.cu_op.specs.PlanView.{PlanView}
+use Rattle.cu_task.specs.Task.{IsTaskFault}
 use Rattle.cu_task.proofs.run.run_task_of.Goals as goal
 
 pub run_plan_task-requires-clause-may : goal.run_plan_task-requires-clause-may
@@ -25,4 +29,10 @@ pub returns-clause-all : goal.returns-clause-all
 returns-clause-all g c = rw (c.make.ensures.plan, c.make.ensures.operation, c.make.ensures.number) at c.run_plan_task.ensures.all
 
 pub returns-clause-cause : goal.returns-clause-cause
-returns-clause-cause g c = rw (c.make.ensures.plan, c.make.ensures.operation, c.make.ensures.number) at c.run_plan_task.ensures.cause
+returns-clause-cause g c =
+    let old = g.C.Chunks.shown c.args.access.now in
+    let new = g.C.Chunks.shown c.run_plan_task.new.access in
+    let e = c.run_plan_task.result in
+    subst (λ (n : ℕ). IfErr e (IsTaskFault old new c.args.plan.now c.args.op n)) c.make.ensures.number
+    (subst (λ (k : ℕ). IfErr e (IsTaskFault old new c.args.plan.now k c.make.result.number)) c.make.ensures.operation
+    (subst (λ (p : PlanView). IfErr e (IsTaskFault old new p c.make.result.op c.make.result.number)) c.make.ensures.plan c.run_plan_task.ensures.cause))

@@ -1,0 +1,56 @@
+-- What a task reads and makes, where its plan, its operation and its number are one value: the words of Task.antt and Asks.antt for it, and for the array that the tasks of its operation go over.
+use Rattle.std.specs.Prelude.{ℕ, List}
+use Rattle.cu_store.specs.Held.{Contents}
+use Rattle.cu_store.specs.Steps.{Shown, Changes}
+use Rattle.cu_store.specs.declared.faults.TaskFault.{TaskFault}
+use Rattle.cu_op.specs.Arrays.{type_at}
+use Rattle.cu_op.specs.Operation.{target_of}
+use Rattle.cu_op.specs.Projection.{scratch_room}
+use Rattle.cu_op.specs.TaskView.{TaskView, task_op}
+use Rattle.cu_op.specs.Walks.{input_walks}
+use Rattle.cu_region.specs.Writing.{AreElements}
+use Rattle.cu_task.specs.Asks.{MayReadTask}
+use Rattle.cu_task.specs.Inputs.{room_of_walks}
+use Rattle.cu_task.specs.Task.{TaskChange, read_calls, result_room, HasResult, IsComputed, AreSteadyInputs, IsResultOver, IsTaskFault}
+
+-- the bytes through which it reads and writes chunks, of the regions that it reads, and of the elements that it makes
+abbrev pub scratch_bytes : TaskView → ℕ
+scratch_bytes t = scratch_room t.plan.arrays (task_op t)
+
+abbrev pub read_bytes : TaskView → ℕ
+read_bytes t = room_of_walks t.plan.arrays (input_walks t.plan.arrays (task_op t) t.number)
+
+abbrev pub made_bytes : TaskView → ℕ
+made_bytes t = result_room t.plan t.op t.number (target_of (task_op t))
+
+-- the calls by which it reads
+abbrev pub calls_to_read : TaskView → ℕ
+calls_to_read t = read_calls t.plan.arrays (task_op t) t.number
+
+-- it may ask for what it reads, and nothing of that changes late
+abbrev pub MayRead : TaskView → (List ℕ → Type 0) → Type 0
+MayRead t K = MayReadTask t.plan t.op t.number K
+
+abbrev pub AreSteady : TaskView → Shown → Contents → Type 0
+AreSteady t shown held = AreSteadyInputs t.plan t.op t.number shown held
+
+-- the buffer has its elements: over what is held, from the bytes of the regions that it reads, and over what is held in a depot that is steady
+abbrev pub HasMade : TaskView → Contents → List ℕ → Type 0
+HasMade t held output = HasResult t.plan t.op t.number (target_of (task_op t)) held output
+
+abbrev pub IsMadeFrom : TaskView → List ℕ → List ℕ → Type 0
+IsMadeFrom t inputs output = IsComputed t.plan t.op t.number (target_of (task_op t)) inputs output
+
+abbrev pub IsMadeOver : TaskView → Shown → List ℕ → Type 0
+IsMadeOver t shown output = IsResultOver t.plan t.op t.number (target_of (task_op t)) shown output
+
+-- each of them is an element of its array's type
+abbrev pub AreOfItsType : TaskView → List ℕ → Type 0
+AreOfItsType t output = AreElements (type_at t.plan.arrays (target_of (task_op t))) output
+
+-- what it changes, and why it fails
+abbrev pub ChangeBy : TaskView → Shown → Changes
+ChangeBy t shown = TaskChange t.plan t.op t.number shown
+
+abbrev pub IsFaultOf : TaskView → Shown → Shown → TaskFault → Type 0
+IsFaultOf t old new e = IsTaskFault old new t.plan t.op t.number e
