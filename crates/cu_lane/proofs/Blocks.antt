@@ -1,5 +1,5 @@
 -- A block of lanes written into a slice.
-use Rattle.std.proofs.Common.{◌≡◌, ℕ, ◌+◌, ◌-◌, ◌*◌, ◌<◌, ◌≤◌, ◌%◌, ◌^◌, List, length, ◌++◌, take, drop, get_or, refl, ap, sym, ◌∙◌, arith, length-append, length-take-le, length-take, length-drop, ⊎_elim}
+use Rattle.std.proofs.Common.{◌≡◌, ℕ, ◌+◌, ◌-◌, ◌*◌, ◌<◌, ◌≤◌, List, length, ◌++◌, take, drop, get_or, ap, sym, ◌∙◌, arith, length-append, length-take-le, length-take, length-drop, ⊎_elim}
 use Rattle.std.proofs.lemmas.List.{get_or-take, get_or-drop, get_or_append_left, get_or-append_right}
 use Rattle.std.proofs.lemmas.Bool.{cases_lt}
 use Rattle.std.proofs.lemmas.Simd.{put_chunk_whole, get_or-zip2, length-zip2}

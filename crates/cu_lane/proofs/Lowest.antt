@@ -1,14 +1,13 @@
 -- The first lowest rank, by blocks.
-use Rattle.std.proofs.Common.{◌≡◌, ◌≢◌, ℕ, zero, suc, ◌+◌, ◌-◌, ◌*◌, ◌/◌, ◌^◌, ◌<◌, ◌≤◌, true, false, List, length, take, drop, get_or, min, refl, ap, sym, ◌∙◌, subst, arith, ℤ, pos, ⊎_elim}
+use Rattle.std.proofs.Common.{◌≡◌, ◌≢◌, ℕ, ◌+◌, ◌-◌, ◌^◌, ◌<◌, ◌≤◌, true, false, List, length, take, drop, get_or, ap, sym, ◌∙◌, arith, ℤ, pos, ⊎_elim}
 use Rattle.std.specs.Prelude.{Bool as Test, ◌+ℤ◌}
 use Rattle.std.proofs.lemmas.Int.{ints}
 use Rattle.std.proofs.lemmas.Bool.{cases_lt}
-use Rattle.std.proofs.Math.Nat.{mod-lt}
 use Rattle.cu_num.specs.Word.{IsWord}
 use Rattle.cu_num.specs.declared.types.Dtype.{Dtype}
 use Rattle.cu_lane.specs.Compared.{bias_of, key, rank}
 use Rattle.cu_lane.specs.Folds.{IsAsGood, IsBetter, IsFirstBest, IsLowest, IsFirstLowest}
-use Rattle.cu_lane.proofs.Blocks.{lane, length_part}
+use Rattle.cu_lane.proofs.Blocks.{lane}
 use Rattle.cu_lane.proofs.Ordered.{key_is}
 
 -- after the first `seen` ranks: r is one of those from `start` on, none of the seen is lower, and those before `start` are higher

@@ -4,6 +4,7 @@ pub mod BlockSteps
 pub mod ColumnSteps
 mod Examples
 pub mod Leading
+mod FewColumns
 pub mod Ordered
 pub mod Parts
 pub mod RunSteps

@@ -28,6 +28,10 @@ sought_place None places i at = element_at Little Int64 places at
 abbrev pub found_in : Table → ℕ → ℕ → Found
 found_in r k i = record { value = element_at Little r.t r.bytes (i * r.width + k); place = sought_place r.first r.places i (i * r.width + k) }
 
+-- the number in row i of a column
+abbrev pub column_of : Dtype → ℕ → List ℕ → ℕ → ℕ → ℤ
+column_of t width bytes k i = element_at Little t bytes (i * width + k)
+
 -- the bytes have so many rows, and where places aren't counted their bytes too
 abbrev pub HasPlacesBeside : Option ℕ → List ℕ → ℕ → Type 0
 HasPlacesBeside (Some first) places count = Unit {0}

@@ -4,6 +4,7 @@ ghost use Rattle.cu_num.specs.Dtype.{size_of};
 ghost use Rattle.cu_pairs.specs.Columns.{table, HasRows, HasBests};
 
 use crate::columns::{Rows, best_of_columns};
+use crate::few::{ROWS, WIDTH, best_of_few_columns};
 use cu_num::Dtype;
 
 /// The best of each column of so many rows.
@@ -48,10 +49,122 @@ fn counted(
         first: Some(first),
         places: rows.places,
     };
-    if least {
+    if rows.width <= WIDTH && count >= ROWS {
+        few(least, t, first, rows, count, values, places);
+    } else if least {
         by_type(true, t, rows, count, values, places);
     } else {
         by_type(false, t, rows, count, values, places);
+    }
+}
+
+/// The same of rows of few elements.
+fn few(
+    least: bool,
+    t: Dtype,
+    first: u64,
+    rows: Rows<'_>,
+    count: usize,
+    values: &mut [u8],
+    places: &mut [u8],
+)
+    requires counted { rows.first ≡ Some first }
+    requires some { 0 < count }
+    requires rows { HasRows (table t rows.width rows.bytes.now rows.first rows.places.now) count }
+    requires values { length values.old ≡ rows.width * size_of t }
+    requires places { length places.old ≡ rows.width * 8 }
+    ensures { HasBests least (table t rows.entry.width rows.entry.bytes.now rows.entry.first rows.entry.places.now) count values.new places.new }
+{
+    if least {
+        few_by_type(true, t, first, rows, count, values, places);
+    } else {
+        few_by_type(false, t, first, rows, count, values, places);
+    }
+}
+
+#[inline(always)]
+fn few_by_type(
+    least: bool,
+    t: Dtype,
+    first: u64,
+    rows: Rows<'_>,
+    count: usize,
+    values: &mut [u8],
+    places: &mut [u8],
+)
+    requires counted { rows.first ≡ Some first }
+    requires some { 0 < count }
+    requires rows { HasRows (table t rows.width rows.bytes.now rows.first rows.places.now) count }
+    requires values { length values.old ≡ rows.width * size_of t }
+    requires places { length places.old ≡ rows.width * 8 }
+    ensures { HasBests least (table t rows.entry.width rows.entry.bytes.now rows.entry.first rows.entry.places.now) count values.new places.new }
+{
+    match t {
+        Dtype::Bool => best_of_few_columns(least, Dtype::Bool, first, rows, count, values, places),
+        Dtype::Int8 => best_of_few_columns(least, Dtype::Int8, first, rows, count, values, places),
+        Dtype::Int16 => best_of_few_columns(
+            least,
+            Dtype::Int16,
+            first,
+            rows,
+            count,
+            values,
+            places,
+        ),
+        Dtype::Int32 => best_of_few_columns(
+            least,
+            Dtype::Int32,
+            first,
+            rows,
+            count,
+            values,
+            places,
+        ),
+        Dtype::Int64 => best_of_few_columns(
+            least,
+            Dtype::Int64,
+            first,
+            rows,
+            count,
+            values,
+            places,
+        ),
+        Dtype::Uint8 => best_of_few_columns(
+            least,
+            Dtype::Uint8,
+            first,
+            rows,
+            count,
+            values,
+            places,
+        ),
+        Dtype::Uint16 => best_of_few_columns(
+            least,
+            Dtype::Uint16,
+            first,
+            rows,
+            count,
+            values,
+            places,
+        ),
+        Dtype::Uint32 => best_of_few_columns(
+            least,
+            Dtype::Uint32,
+            first,
+            rows,
+            count,
+            values,
+            places,
+        ),
+        Dtype::Uint64 => best_of_few_columns(
+            least,
+            Dtype::Uint64,
+            first,
+            rows,
+            count,
+            values,
+            places,
+        ),
     }
 }
 

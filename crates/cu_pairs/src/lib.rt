@@ -5,6 +5,7 @@
 mod blocks;
 mod column_types;
 mod columns;
+mod few;
 mod pairs;
 mod run_types;
 mod runs;

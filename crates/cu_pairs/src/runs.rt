@@ -10,7 +10,7 @@ ghost use Rattle.cu_pairs.specs.Runs.{elements, IsBestValue, IsFirstBest};
 use cu_num::{Dtype, load, save, size};
 
 /// How many elements a block has.
-const BLOCK: usize = 256;
+pub(crate) const BLOCK: usize = 256;
 
 /// Whether `y` is less than `x`, or greater.
 #[inline(always)]
@@ -28,16 +28,17 @@ pub(crate) fn chosen(choice: bool, x: i128, y: i128) -> i128
     if choice { x } else { y }
 }
 
-/// The least or the greatest of at least one element.
+/// The least or the greatest of at least one element. The loop takes the first element again, so that a whole block is a whole number
+/// of vectors.
 #[inline(always)]
-fn best_value(least: bool, t: Dtype, bytes: &[u8]) -> i128
+pub(crate) fn best_value(least: bool, t: Dtype, bytes: &[u8]) -> i128
     requires some { size_of t ≤ length bytes.now }
     ensures best { IsBestValue least (elements t bytes.now) (length bytes.now / size_of t) result }
 {
     let count = bytes.len() / size(t) as usize;
     let mut best = [0; 8];
     save(t, load(t, bytes, 0), &mut best, 0);
-    for at in 1..count {
+    for at in 0..count {
         let x = load(t, bytes, at);
         let value = load(t, &best, 0);
         let choice = is_beyond(least, x, value);

@@ -1,6 +1,6 @@
-use Rattle.std.proofs.Common.{◌≡◌, ◌≤◌, ◌<◌, ◌+◌, ◌-◌, ◌*◌, ◌/◌, ℕ, min, length, take, drop, get_or, sym, ap, ◌∙◌, subst, arith}
+use Rattle.std.proofs.Common.{◌≡◌, ◌≤◌, ◌<◌, ◌+◌, ◌-◌, ◌*◌, ℕ, min, length, take, drop, get_or, sym, subst, arith}
 use Rattle.cu_lane.specs.Compared.{rank}
-use Rattle.cu_lane.specs.Folds.{IsLowest, IsFirstLowest}
+use Rattle.cu_lane.specs.Folds.{IsLowest}
 use Rattle.cu_lane.proofs.Blocks.{length_part}
 use Rattle.cu_lane.proofs.Lowest.{IsLeading, leading_none, leading_more, leading_kept, first_found, part_rank}
 use Rattle.cu_lane.proofs.best.first_lowest.Goals as goal

@@ -1,4 +1,4 @@
-use Rattle.std.proofs.Common.{◌≡◌, ◌<◌, ◌≤◌, ◌+◌, ℕ, length, get_or, arith, ⊎_elim, below_more, ◌∙◌, sym, min}
+use Rattle.std.proofs.Common.{◌≡◌, ◌<◌, ◌≤◌, length, get_or, arith, ⊎_elim, below_more, ◌∙◌, sym, min}
 use Rattle.std.proofs.lemmas.Bool.{cases_lt}
 use Rattle.cu_lane.specs.Compared.{rank}
 use Rattle.cu_lane.proofs.best.lowest.Goals as goal

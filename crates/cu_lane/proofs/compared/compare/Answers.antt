@@ -1,5 +1,4 @@
 use Rattle.std.proofs.Common.{◌∙◌, ap, sym, get_or}
-use Rattle.cu_num.specs.declared.types.Dtype.TheVariants.{Int64}
 use Rattle.cu_lane.specs.Compared.{bias_of, compared}
 use Rattle.cu_lane.proofs.Ordered.{place_compared, bias_of_others}
 use Rattle.cu_lane.proofs.compared.compare.Goals as goal

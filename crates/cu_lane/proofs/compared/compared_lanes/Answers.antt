@@ -1,4 +1,4 @@
-use Rattle.std.proofs.Common.{◌≡◌, ◌∙◌, ◌+◌, ◌%◌, ◌^◌, ◌==◌, ℕ, ap, sym, nat_lt, nat_le, w64}
+use Rattle.std.proofs.Common.{◌∙◌, ◌+◌, ◌%◌, ◌^◌, ◌==◌, ℕ, ap, sym, nat_lt, nat_le, w64}
 use Rattle.std.specs.Prelude.{Bool as Test, not, replicate, map}
 use Rattle.std.specs.Simd.Lanes.{zip2}
 use Rattle.std.proofs.lemmas.Simd.{tops_compared}

@@ -1,4 +1,4 @@
-use Rattle.std.proofs.Common.{◌≡◌, ◌≤◌, ◌+◌, ◌*◌, ◌-◌, ◌∙◌, length, refl, arith, ◌/◌}
+use Rattle.std.proofs.Common.{◌≤◌, ◌+◌, ◌*◌, ◌-◌, ◌∙◌, length, refl, arith}
 use Rattle.cu_lane.specs.Compared.{compared}
 use Rattle.cu_lane.proofs.Blocks.{long, more}
 use Rattle.cu_lane.proofs.compared.each_compared.Goals as goal

@@ -1,9 +1,9 @@
-use Rattle.std.proofs.Common.{◌≡◌, ◌≤◌, ◌+◌, ◌-◌, ◌*◌, ◌/◌, arith, ◌∙◌, ap, sym, ◌%◌, ◌^◌, length, take, drop, ℕ, subst}
+use Rattle.std.proofs.Common.{◌≡◌, ◌≤◌, ◌+◌, ◌-◌, ◌*◌, ◌/◌, arith, ◌∙◌, ap, sym, ◌%◌, ◌^◌, length, take}
 use Rattle.std.proofs.lemmas.List.{take_all}
 use Rattle.std.proofs.lemmas.Simd.{length-zip2, length-chunk}
 use Rattle.std.specs.List.{sum}
-use Rattle.std.specs.Simd.Lanes.{zip2, sum_l, chunk}
-use Rattle.cu_lane.proofs.Blocks.{all_of_part, length_part}
+use Rattle.std.specs.Simd.Lanes.{zip2, sum_l}
+use Rattle.cu_lane.proofs.Blocks.{all_of_part}
 use Rattle.cu_lane.proofs.Summed.{sum_more, block_more, folded}
 use Rattle.cu_lane.proofs.sums.lane_sum.Goals as goal
 
