@@ -6,8 +6,8 @@
 Prints a 1000 by 1000 int32 array in chunks of 250 by 250, and in one chunk, with the program and with NumPy over the same
 files; and loads a text of 100,000 numbers with the program and with Python's json and NumPy. The texts and the stored
 bytes are compared. For each the least of the runs stands; NumPy's time is without the start of Python and the import.
-Then it prints an array of 16 columns in chunks of one column and in chunks of whole rows, with the program alone, and
-compares both times: each row of the first meets every chunk.
+Then it prints arrays in tall, narrow chunks and in chunks of whole rows, with the program alone, in turns, and compares
+both times: each row of the first meets many chunks. The ratio should be at most 2.
 """
 import argparse
 import json
@@ -22,6 +22,9 @@ import numpy
 
 HERE = os.path.dirname(os.path.abspath(__file__))
 PROGRAM = os.path.join(HERE, "..", "crates", "cu_bin", "out", "cu_bin")
+# each shape with chunks of whole rows, and with narrow ones
+NARROW = [((131400, 12), (10950, 12), [(131400, 1), (131400, 5), (10950, 1)]),
+          ((360, 60, 60), (10, 60, 60), [(360, 1, 60), (360, 10, 10)])]
 
 
 def put(folder, key, data):
@@ -94,20 +97,30 @@ def measure_print(program, folder, runs, side):
     report(f"print, chunks of {side} by {side}", ours, peer)
 
 
-def measure_narrow(program, folder, runs):
-    """Prints the same array in tall, narrow chunks and in wide ones."""
-    rows, columns, side = 8000, 16, 500
-    elements = numpy.random.default_rng(1).integers(-2 ** 31, 2 ** 31, size=(rows, columns), dtype="<i4")
-    put(folder, "narrow/zarr.json", metadata([rows, columns], [rows, 1]))
-    for column in range(columns):
-        put(folder, f"narrow/c/0/{column}", elements[:, column].tobytes())
-    put(folder, "wide/zarr.json", metadata([rows, columns], [side, columns]))
-    for low in range(0, rows, side):
-        put(folder, f"wide/c/{low // side}/0", elements[low:low + side].tobytes())
-    narrow, wide = [[timed(lambda: program_output([program, folder, "print", name])) for _ in range(runs)] for name in ("narrow", "wide")]
-    if narrow[0][1].partition(b"\n")[2] != wide[0][1].partition(b"\n")[2]:
+def store_chunks(folder, name, elements, chunk):
+    """Stores an array in chunks of any shape, with zeros past its edges."""
+    put(folder, f"{name}/zarr.json", metadata(list(elements.shape), list(chunk)))
+    counts = [-(-size // part) for size, part in zip(elements.shape, chunk)]
+    for coord in numpy.ndindex(*counts):
+        whole = numpy.zeros(chunk, "<i4")
+        part = elements[tuple(slice(number * size, (number + 1) * size) for number, size in zip(coord, chunk))]
+        whole[tuple(slice(size) for size in part.shape)] = part
+        put(folder, "/".join([name, "c", *map(str, coord)]), whole.tobytes())
+
+
+def measure_narrow(program, folder, runs, shape, wide, narrow):
+    """Prints the same array in tall, narrow chunks and in wide ones, in turns."""
+    elements = numpy.random.default_rng(1).integers(-2 ** 31, 2 ** 31, size=shape, dtype="<i4")
+    times = {"narrow": [], "wide": []}
+    for name, chunk in (("narrow", narrow), ("wide", wide)):
+        shutil.rmtree(os.path.join(folder, name), ignore_errors=True)
+        store_chunks(folder, name, elements, chunk)
+    for number in range(runs):
+        for name in list(times)[::1 if number % 2 == 0 else -1]:
+            times[name].append(timed(lambda: program_output([program, folder, "print", name])))
+    if times["narrow"][0][1].partition(b"\n")[2] != times["wide"][0][1].partition(b"\n")[2]:
         raise SystemExit("the texts differ")
-    report(f"print of {rows} rows, tall and narrow chunks beside wide ones", narrow, wide, "narrow", "wide")
+    report(f"print of {list(shape)}, chunks of {list(narrow)} beside {list(wide)}", times["narrow"], times["wide"], "narrow", "wide")
 
 
 def measure_load(program, folder, runs):
@@ -142,7 +155,9 @@ def main():
         for side in (250, 1000):
             measure_print(program, folder, given.runs, side)
         measure_load(program, folder, given.runs)
-        measure_narrow(program, folder, min(given.runs, 3))
+        for shape, wide, narrows in NARROW:
+            for narrow in narrows:
+                measure_narrow(program, folder, given.runs, shape, wide, narrow)
 
 
 if __name__ == "__main__":

@@ -1,0 +1,194 @@
+//! Bands that are read from the depot, chunk by chunk.
+ghost use Rattle.std.specs.Prelude.{◌≡◌, ◌≢◌, ℕ, ◌+◌, ◌*◌, ◌<◌, ◌≤◌, List, Option, All, length, max, IfErr, OnOk, OnErr};
+ghost use Rattle.cu_num.specs.Dtype.{size_of};
+ghost use Rattle.cu_shape.specs.Index.{product, axis_by_axis, quotients, differences};
+ghost use Rattle.cu_grid.specs.Counts.{chunk_lo, IsRegion, IsWithin};
+ghost use Rattle.cu_grid.specs.Cover.{Meets};
+ghost use Rattle.cu_codec.specs.Parts.{part_at, place_within};
+ghost use Rattle.cu_region.specs.Reading.{bytes_of, HasChunk, HasChunkPart, key_at};
+ghost use Rattle.cu_region.specs.Steady.{IsSteady};
+ghost use Rattle.cu_store.specs.Steps.{Shown, NoChange};
+ghost use Rattle.cu_command.specs.Seen.{Stepped};
+ghost use Rattle.cu_print.specs.Bands.{HasFirst, IsUnread};
+ghost use Rattle.cu_print.specs.Runs.{IsPrintable, IsTried, IsReadEnd, read_end};
+
+use crate::runs::extents;
+use cu_codec::{chunk_bytes, chunk_key, take_part};
+use cu_command::Status;
+use cu_grid::{Grid, Region};
+use cu_num::{Endian, size};
+use cu_op::ArrayInfo;
+use cu_region::read_chunk;
+use cu_shape::{Dims, difference, place};
+use cu_store::{Depot, InDepot, Key, TaskFault};
+
+/// Why a band wasn't read whole.
+#[derive(Clone, Copy)]
+pub(crate) struct Unread {
+    /// How many of its first elements were read: those before the first one of the chunk that wasn't.
+    pub(crate) ready: u64,
+    /// Why that chunk wasn't read.
+    pub(crate) status: Status,
+}
+
+/// Reads a chunk once.
+fn read_once<D: Depot>(
+    depot: &mut D,
+    info: &ArrayInfo,
+    coord: &Dims,
+    buf: &mut [u8],
+) -> Result<(), TaskFault>
+    requires shown { IsPrintable info.now }
+    requires coordinate { All (λ i. i < 1048576) coord.now }
+    requires length { length buf.old ≡ bytes_of info.now.layout }
+    ensures read { (entry : Shown) → Stepped NoChange entry (D.shown depot.old)
+        → IsSteady (λ key. key ≡ key_at info.now coord.now) entry.held entry.late → OnOk result (HasChunk info.now coord.now entry.held buf.new) }
+    ensures step { Stepped NoChange (D.shown depot.old) (D.shown depot.new) }
+    ensures cause { IfErr result (IsTried 1 (D.shown depot.old) (D.shown depot.new) info.now.layout (key_at info.now coord.now)) }
+{
+    read_chunk::<InDepot<D>>(&(), depot, info, coord, buf)
+}
+
+/// Reads a chunk, again where the store failed.
+fn read_tries<D: Depot>(
+    depot: &mut D,
+    info: &ArrayInfo,
+    coord: &Dims,
+    retries: u32,
+    buf: &mut [u8],
+) -> Result<(), TaskFault>
+    requires shown { IsPrintable info.now }
+    requires coordinate { All (λ i. i < 1048576) coord.now }
+    requires length { length buf.old ≡ bytes_of info.now.layout }
+    ensures read { (entry : Shown) → Stepped NoChange entry (D.shown depot.old)
+        → IsSteady (λ key. key ≡ key_at info.now coord.now) entry.held entry.late → OnOk result (HasChunk info.now coord.now entry.held buf.new) }
+    ensures step { Stepped NoChange (D.shown depot.old) (D.shown depot.new) }
+    ensures cause { IfErr result (IsTried (retries + 1) (D.shown depot.old) (D.shown depot.new) info.now.layout (key_at info.now coord.now)) }
+{
+    for _ in 0..retries {
+        match read_once(depot, info, coord, buf) {
+            Err(TaskFault::Store) => {}
+            ended => return ended,
+        }
+    }
+    read_once(depot, info, coord, buf)
+}
+
+/// What is answered where reading this chunk ends so.
+fn read_end(fault: &TaskFault, key: &Key) -> Status
+    ensures { result ≡ read_end key.now fault.now }
+{
+    match fault {
+        TaskFault::Store => Status::DepotFailed { key: *key },
+        TaskFault::BadChunk { key, got, want } => Status::BadChunk {
+            key: *key,
+            got: *got,
+            want: *want,
+        },
+        TaskFault::NoMemory => Status::NoMemory,
+    }
+}
+
+/// Reads a chunk, again where the store failed, and copies what of it lies in the region into the region's buffer. Else it says
+/// why reading it ended.
+fn read_part<D: Depot>(
+    depot: &mut D,
+    info: &ArrayInfo,
+    coord: &Dims,
+    region: &Region,
+    retries: u32,
+    out: &mut [u8],
+    scratch: &mut [u8],
+) -> Result<(), Status>
+    requires shown { IsPrintable info.now }
+    requires region { IsRegion info.now.layout.grid.shape region.now.lo region.now.hi }
+    requires meets { Meets info.now.layout.grid region.now.lo region.now.hi coord.now }
+    requires out_length { length out.old ≡ product (differences region.now.hi region.now.lo) * size_of info.now.layout.dtype }
+    requires scratch_length { bytes_of info.now.layout ≤ length scratch.old }
+    ensures part { (entry : Shown) → Stepped NoChange entry (D.shown depot.old) → IsSteady (λ key. key ≡ key_at info.now coord.now) entry.held entry.late
+        → OnOk result (HasChunkPart info.now coord.now region.now.lo region.now.hi entry.held out.new) }
+    ensures others { OnOk result ((idx : List ℕ) → IsWithin region.now.lo region.now.hi idx → quotients idx info.now.layout.grid.chunk ≢ coord.now
+        → part_at (size_of info.now.layout.dtype) out.new (place_within region.now.lo region.now.hi idx)
+        ≡ part_at (size_of info.now.layout.dtype) out.old (place_within region.now.lo region.now.hi idx)) }
+    ensures same { OnErr result (out.new ≡ out.old) }
+    ensures step { Stepped NoChange (D.shown depot.old) (D.shown depot.new) }
+    ensures cause { IfErr result (IsReadEnd (retries + 1) (D.shown depot.old) (D.shown depot.new) info.now.layout (key_at info.now coord.now)) }
+{
+    let layout = &info.layout;
+    let _shape = layout.grid.shape();
+    let key = chunk_key(&info.prefix, layout.encoding, coord);
+    let chunk = &mut scratch[..chunk_bytes(&layout.grid, layout.dtype)];
+    match read_tries(depot, info, coord, retries, chunk) {
+        Ok(()) => {}
+        Err(fault) => return Err(read_end(&fault, &key)),
+    }
+    take_part(
+        &layout.grid,
+        size(layout.dtype),
+        Endian::Little,
+        coord,
+        chunk,
+        region,
+        out,
+    );
+    Ok(())
+}
+
+/// The first index of a region that lies in the chunk at this coordinate.
+fn first_in(grid: &Grid, coord: &Dims, region: &Region) -> Dims
+    requires region { IsRegion grid.now.shape region.now.lo region.now.hi }
+    requires meets { Meets grid.now region.now.lo region.now.hi coord.now }
+    ensures { result ≡ axis_by_axis max (chunk_lo grid.now.chunk coord.now) region.now.lo }
+{
+    let own = grid.chunk_region(coord);
+    let mut first = region.lo;
+    for axis in 0..region.lo.rank() {
+        first.put(axis, own.lo.at(axis).max(region.lo.at(axis)));
+    }
+    first
+}
+
+/// How many elements of a region stand before the first one that lies in the chunk at this coordinate.
+fn ready_before(grid: &Grid, coord: &Dims, region: &Region) -> u64
+    requires region { IsRegion grid.now.shape region.now.lo region.now.hi }
+    requires meets { Meets grid.now region.now.lo region.now.hi coord.now }
+    ensures { result ≡ place_within region.now.lo region.now.hi (axis_by_axis max (chunk_lo grid.now.chunk coord.now) region.now.lo) }
+{
+    let _shape = grid.shape();
+    let first = first_in(grid, coord, region);
+    place(&extents(region), &difference(&first, &region.lo))
+}
+
+/// Reads a region into its buffer, row-major and little-endian: each chunk that shares an element with it once, in row-major
+/// order, and again where the store failed.
+pub(crate) fn read_band<D: Depot>(
+    depot: &mut D,
+    info: &ArrayInfo,
+    region: &Region,
+    retries: u32,
+    out: &mut [u8],
+    scratch: &mut [u8],
+) -> Result<(), Unread>
+    requires shown { IsPrintable info.now }
+    requires region { IsRegion info.now.layout.grid.shape region.now.lo region.now.hi }
+    requires out_length { length out.old ≡ product (differences region.now.hi region.now.lo) * size_of info.now.layout.dtype }
+    requires scratch_length { bytes_of info.now.layout ≤ length scratch.old }
+    ensures all { OnOk result (HasFirst info.now region.now (D.shown depot.old) (product (differences region.now.hi region.now.lo)) out.new) }
+    ensures front { IfErr result (λ unread. HasFirst info.now region.now (D.shown depot.old) unread.ready out.new) }
+    ensures unread { IfErr result (IsUnread (retries + 1) (D.shown depot.old) (D.shown depot.new) info.now region.now) }
+    ensures step { Stepped NoChange (D.shown depot.old) (D.shown depot.new) }
+{
+    let grid = &info.layout.grid;
+    for coord in grid.cover(region) {
+        match read_part(depot, info, &coord, region, retries, out, scratch) {
+            Ok(()) => {}
+            Err(status) => {
+                return Err(Unread {
+                    ready: ready_before(grid, &coord, region),
+                    status,
+                });
+            }
+        }
+    }
+    Ok(())
+}
