@@ -15,7 +15,7 @@ use Rattle.cu_region.specs.Reading.{key_at}
 use Rattle.cu_command.specs.Seen.{Seen}
 use Rattle.cu_command.specs.declared.status.Status.{Status}
 use Rattle.cu_command.specs.declared.status.Status.TheVariants.{WriteFault}
-use Rattle.cu_print.specs.Bands.{HasFirst, IsUnread, IsBandFault}
+use Rattle.cu_print.specs.Bands.{HasFirst, IsBandUnread, IsBandFault}
 use Rattle.cu_print.specs.Runs.{PrintsRun, PrintsPart, IsReadEnd, IsRunPrintFault}
 use Rattle.cu_print.specs.Text.{WroteAll}
 use Rattle.cu_print.specs.declared.reads.Unread.{Unread}
@@ -25,7 +25,7 @@ use Rattle.cu_print.proofs.ChunkReads.{run_fault}
 pub ready_read : {T : Type 0} → (read : Result T Unread) (info : ArrayInfo) (r : Region) (tries : ℕ) (old new : Shown) (out : List ℕ) (ready : ℕ)
     → OnOk read (ready ≡ product (differences r.hi r.lo)) → IfErr read (λ unread. ready ≡ unread.ready)
     → OnOk read (HasFirst info r old (product (differences r.hi r.lo)) out) → IfErr read (λ unread. HasFirst info r old unread.ready out)
-    → IfErr read (IsUnread tries old new info r) → (ready ≤ product (differences r.hi r.lo)) × HasFirst info r old ready out
+    → IfErr read (IsBandUnread tries old new info r) → (ready ≤ product (differences r.hi r.lo)) × HasFirst info r old ready out
 ready_read (Ok x) info r tries old new out ready same before all front unread = (omega arith, subst (λ (n : ℕ). HasFirst info r old n out) (sym same) all)
 ready_read (Err e) info r tries old new out ready same before all front unread =
     let place = unread.place in

@@ -26,7 +26,7 @@ use Rattle.cu_region.specs.Steady.{IsSteady}
 use Rattle.cu_region.proofs.SteadyKeys.{same_or_not, first_or_rest, none_contained}
 use Rattle.cu_command.proofs.SeenLemmas.{stepped_then}
 use Rattle.cu_command.specs.Seen.{Stepped}
-use Rattle.cu_print.specs.Bands.{IsKeyOf, HasFirst, IsUnread}
+use Rattle.cu_print.specs.Bands.{IsKeyOf, HasFirst, IsBandUnread}
 use Rattle.cu_print.specs.Runs.{IsReadEnd}
 use Rattle.cu_print.specs.declared.reads.Unread.{Unread}
 use Rattle.cu_print.proofs.ChunkReads.{end_since}
@@ -121,7 +121,7 @@ front_read info r coord rest shown out ok region meets up reads entry step idx w
 
 pub unread_of : (tries : ℕ) (old mid new : Shown) (info : ArrayInfo) (r : Region) (coord : List ℕ) (unread : Unread) → IsGrid info.layout.grid
     → Meets info.layout.grid r.lo r.hi coord → Stepped NoChange old mid → unread.ready ≡ place_within r.lo r.hi (first_of info r coord)
-    → IsReadEnd tries mid new info.layout (key_at info coord) unread.status → IsUnread tries old new info r unread
+    → IsReadEnd tries mid new info.layout (key_at info coord) unread.status → IsBandUnread tries old new info r unread
 unread_of tries old mid new info r coord unread ok meets step ready ended =
     let f = first_within (chunk_lo info.layout.grid.chunk coord) _ r.lo r.hi meets.1.0 meets.1.2 meets.1.1 in
     record {

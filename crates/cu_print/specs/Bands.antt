@@ -33,7 +33,7 @@ HasFirst info r shown n out = (entry : Shown) → Stepped NoChange entry shown �
     → IsSteady (IsKeyOf info idx) entry.held entry.late → IsStoredAt info r.lo r.hi entry.held out idx
 
 -- the first element of a region that wasn't read, and why its chunk wasn't
-pub record IsUnread (tries : ℕ) (old new : Shown) (info : ArrayInfo) (r : Region) (unread : Unread) : Type 0 where
+pub record IsBandUnread (tries : ℕ) (old new : Shown) (info : ArrayInfo) (r : Region) (unread : Unread) : Type 0 where
   pub idx : List ℕ
   pub within : IsWithin r.lo r.hi idx
   pub place : place_within r.lo r.hi idx ≡ unread.ready

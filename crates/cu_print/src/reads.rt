@@ -9,7 +9,7 @@ ghost use Rattle.cu_region.specs.Reading.{bytes_of, HasChunk, HasChunkPart, key_
 ghost use Rattle.cu_region.specs.Steady.{IsSteady};
 ghost use Rattle.cu_store.specs.Steps.{Shown, NoChange};
 ghost use Rattle.cu_command.specs.Seen.{Stepped};
-ghost use Rattle.cu_print.specs.Bands.{HasFirst, IsUnread};
+ghost use Rattle.cu_print.specs.Bands.{HasFirst, IsBandUnread};
 ghost use Rattle.cu_print.specs.Runs.{IsPrintable, IsTried, IsReadEnd, read_end};
 
 use crate::runs::extents;
@@ -175,7 +175,7 @@ pub(crate) fn read_band<D: Depot>(
     requires scratch_length { bytes_of info.now.layout ≤ length scratch.old }
     ensures all { OnOk result (HasFirst info.now region.now (D.shown depot.old) (product (differences region.now.hi region.now.lo)) out.new) }
     ensures front { IfErr result (λ unread. HasFirst info.now region.now (D.shown depot.old) unread.ready out.new) }
-    ensures unread { IfErr result (IsUnread (retries + 1) (D.shown depot.old) (D.shown depot.new) info.now region.now) }
+    ensures unread { IfErr result (IsBandUnread (retries + 1) (D.shown depot.old) (D.shown depot.new) info.now region.now) }
     ensures step { Stepped NoChange (D.shown depot.old) (D.shown depot.new) }
 {
     let grid = &info.layout.grid;

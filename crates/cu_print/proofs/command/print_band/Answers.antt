@@ -9,7 +9,7 @@ use Rattle.cu_codec.proofs.BoxRuns.{run_positive}
 use Rattle.cu_grid.proofs.Covers.{bounds_of}
 use Rattle.cu_grid.proofs.Products.{product_within}
 use Rattle.cu_command.specs.Seen.{stream, seen}
-use Rattle.cu_print.specs.Bands.{HasFirst, IsUnread}
+use Rattle.cu_print.specs.Bands.{HasFirst, IsBandUnread}
 use Rattle.cu_print.specs.Runs.{AreFrom, PrintsRun, numbers_of}
 use Rattle.cu_print.specs.Text.{elements_text, WroteAll, WroteSome}
 use Rattle.cu_print.proofs.BandPrints.{ready_read, ok_is, err_is, read_fault, write_fault}
@@ -103,7 +103,7 @@ returns-in-Ok-read-clause-prints g c =
 
 pub returns-in-Err-read-clause-fault : goal.returns-in-Err-read-clause-fault
 returns-in-Err-read-clause-fault g c =
-    let unread = err_is c.read_band-read.result (IsUnread (c.args.retries + 1) (g.D.Depot.shown c.args.depot.now) (g.D.Depot.shown c.read_band-read.new.depot) c.args.place.array.info.now c.run_from-region.result) c.in-Err-read.unread c.in-Err-read.is c.read_band-read.ensures.unread in
+    let unread = err_is c.read_band-read.result (IsBandUnread (c.args.retries + 1) (g.D.Depot.shown c.args.depot.now) (g.D.Depot.shown c.read_band-read.new.depot) c.args.place.array.info.now c.run_from-region.result) c.in-Err-read.unread c.in-Err-read.is c.read_band-read.ensures.unread in
     let same = err_is c.read_band-read.result (λ unread. c.ready_of-ready.result ≡ unread.ready) c.in-Err-read.unread c.in-Err-read.is c.ready_of-ready.ensures.front in
     let here = run_place c.args.place.array.info.now c.args.place.array.bands.now c.run_from-region.result c.args.place.start c.requires.bands.shape c.run_from-region.ensures.run c.requires.start (first_is g (goal.at.returns-in-Err-read-clause-fault g c).After-row_of-row) unread.idx unread.within in
     let place : c.args.place.start + place_within c.run_from-region.result.lo c.run_from-region.result.hi unread.idx ≡ c.args.place.start + c.ready_of-ready.result = ap (λ n. c.args.place.start + n) (unread.place ∙ sym same) in
