@@ -39,7 +39,7 @@ use Rattle.cu_command.specs.Stored.{IsArrayChunk}
 use Rattle.cu_command.specs.declared.job.Job.{Job}
 use Rattle.cu_command.specs.declared.status.Status.{Status}
 use Rattle.cu_command.specs.declared.status.Status.TheVariants.{BadChunk, DepotFailed, NoMemory}
-use Rattle.cu_check.specs.Arrays.{form_arrays, node_arrays, arrays_of_nodes, HasAllElements, IsReadChunk, IsOwnTurn, AreChunksSeen, key_of_index, numbered_key, chunks_of, chunks_of_all}
+use Rattle.cu_check.specs.Arrays.{form_arrays, node_arrays, arrays_of_nodes, HasAllElements, IsReadChunk, IsOwnTurn, AreChunksSeen, key_of_index, numbered_key, input_chunk_count, chunks_of_all}
 use Rattle.cu_check.specs.Chunks.{IsChunkFault}
 use Rattle.cu_check.proofs.ChunkReads.{steady_as}
 use Rattle.cu_check.specs.Elements.{form_element, used_element, elements_of}
@@ -333,10 +333,10 @@ all_seen entry (a ∷ xs) (p ∷ ps) read = All-cons (AreChunksSeen entry) a xs 
 -- ---- how many calls are made
 
 -- for the chunks of one array
-pub calls_of_array : (tries : ℕ) (a : InputInfo) (old new : Shown) → WithinCalls (chunks_of a * tries) old new → WithinCalls (chunks_of_all (a ∷ []) * tries) old new
-calls_of_array tries a old new calls = within_few (chunks_of a) (chunks_of_all (a ∷ [])) tries old new (let one = sum_by-cons chunks_of a [] in omega (arith, one)) calls
+pub calls_of_array : (tries : ℕ) (a : InputInfo) (old new : Shown) → WithinCalls (input_chunk_count a * tries) old new → WithinCalls (chunks_of_all (a ∷ []) * tries) old new
+calls_of_array tries a old new calls = within_few (input_chunk_count a) (chunks_of_all (a ∷ [])) tries old new (let one = sum_by-cons input_chunk_count a [] in omega (arith, one)) calls
 
-pub calls_of_one : (tries : ℕ) (inputs : List InputInfo) (form : Form) (a : InputInfo) (old new : Shown) → form_arrays inputs form ≡ a ∷ [] → WithinCalls (chunks_of a * tries) old new
+pub calls_of_one : (tries : ℕ) (inputs : List InputInfo) (form : Form) (a : InputInfo) (old new : Shown) → form_arrays inputs form ≡ a ∷ [] → WithinCalls (input_chunk_count a * tries) old new
     → WithinCalls (chunks_of_all (form_arrays inputs form) * tries) old new
 calls_of_one tries inputs form a old new own calls =
     subst (λ (xs : List InputInfo). WithinCalls (chunks_of_all xs * tries) old new) (sym own) (calls_of_array tries a old new calls)
@@ -345,13 +345,13 @@ calls_of_one tries inputs form a old new own calls =
 pub calls_of_more : (tries : ℕ) (xs ys : List InputInfo) (a b c : Shown) → WithinCalls (chunks_of_all xs * tries) a b → WithinCalls (chunks_of_all ys * tries) b c
     → WithinCalls (chunks_of_all (xs ++ ys) * tries) a c
 calls_of_more tries xs ys a b c first next =
-    within_few (chunks_of_all xs + chunks_of_all ys) (chunks_of_all (xs ++ ys)) tries a c (let both = sum_by-append chunks_of xs ys in omega (arith, both))
+    within_few (chunks_of_all xs + chunks_of_all ys) (chunks_of_all (xs ++ ys)) tries a c (let both = sum_by-append input_chunk_count xs ys in omega (arith, both))
     (within_then (chunks_of_all xs) (chunks_of_all ys) tries a b c first next)
 
 -- for those of the first arrays of a list
 pub calls_of_front : (tries : ℕ) (xs ys : List InputInfo) (a b : Shown) → WithinCalls (chunks_of_all xs * tries) a b → WithinCalls (chunks_of_all (xs ++ ys) * tries) a b
 calls_of_front tries xs ys a b calls =
-    within_few (chunks_of_all xs) (chunks_of_all (xs ++ ys)) tries a b (let both = sum_by-append chunks_of xs ys in omega (arith, both)) calls
+    within_few (chunks_of_all xs) (chunks_of_all (xs ++ ys)) tries a b (let both = sum_by-append input_chunk_count xs ys in omega (arith, both)) calls
 
 -- the array of this node ended it
 pub node_calls : (tries : ℕ) (inputs : List InputInfo) (nodes : List Node) (k : ℕ) (node : Node) (a b c : Shown) → k < length nodes → node ≡ get_or nodes k node

@@ -60,11 +60,11 @@ abbrev pub WhereKeyCalm : Shown → List ℕ → (Contents → Type 0) → Type 
 WhereKeyCalm entry key fact = (held : Contents) → entry.held ≡ Some held → IsSteady (λ other. other ≡ key) (Some held) entry.late → fact held
 
 -- how many chunks an array has, and arrays together
-abbrev pub chunks_of : InputInfo → ℕ
-chunks_of a = product (counts_of a.layout.grid.shape a.layout.grid.chunk)
+abbrev pub input_chunk_count : InputInfo → ℕ
+input_chunk_count a = product (counts_of a.layout.grid.shape a.layout.grid.chunk)
 
 abbrev pub chunks_of_all : List InputInfo → ℕ
-chunks_of_all arrays = sum_by chunks_of arrays
+chunks_of_all arrays = sum_by input_chunk_count arrays
 
 -- the key of chunk number n, row-major, and that of the chunk in which an index lies
 abbrev pub numbered_key : InputInfo → ℕ → List ℕ
@@ -79,12 +79,12 @@ IsChunkSeen entry a n = WhereKeyCalm entry (numbered_key a n) (λ held. IsChunkT
 
 -- each chunk of the array is
 abbrev pub AreChunksSeen : Shown → InputInfo → Type 0
-AreChunksSeen entry a = (n : ℕ) → n < chunks_of a → IsChunkSeen entry a n
+AreChunksSeen entry a = (n : ℕ) → n < input_chunk_count a → IsChunkSeen entry a n
 
 -- The turn of a chunk among those of its array: the chunks before it, row-major, are there.
 pub record IsOwnTurn (entry : Shown) (a : InputInfo) (turn : List ℕ) : Type 0 where
   pub number : ℕ
-  pub below : number < chunks_of a
+  pub below : number < input_chunk_count a
   pub key : turn ≡ numbered_key a number
   pub there : (n : ℕ) → n < number → IsChunkSeen entry a n
 

@@ -7,7 +7,7 @@ ghost use Rattle.cu_store.specs.Steps.{Shown, NoChange};
 ghost use Rattle.cu_command.specs.Seen.{Stepped, WithinCalls};
 ghost use Rattle.cu_command.specs.Stored.{IsArrayLayout};
 ghost use Rattle.cu_mean.specs.Plain.{IsPlain};
-ghost use Rattle.cu_check.specs.Arrays.{IsOwnTurn, chunks_of};
+ghost use Rattle.cu_check.specs.Arrays.{IsOwnTurn, input_chunk_count};
 ghost use Rattle.cu_check.specs.Chunks.{HasAllSteady, AtEachEntry, IsChunkFault, IsArrayFault};
 ghost use Rattle.cu_check.specs.Plains.{AreNumbers, IsReadArray};
 
@@ -49,7 +49,7 @@ pub(crate) fn read_array<D: Depot>(
     ensures read { IfOk result (λ bytes. AtEachEntry (D.shown depot.old) (HasAllSteady array.now bytes.items)) }
     ensures step { Stepped NoChange (D.shown depot.old) (D.shown depot.new) }
     ensures cause { IfErr result (IsArrayFault (retries + 1) (D.shown depot.old) (D.shown depot.new) array.now) }
-    ensures calls { WithinCalls (chunks_of array.now * (retries + 1)) (D.shown depot.old) (D.shown depot.new) }
+    ensures calls { WithinCalls (input_chunk_count array.now * (retries + 1)) (D.shown depot.old) (D.shown depot.new) }
 {
     let layout = &array.layout;
     let bytes = element_count(layout) * u64::from(size(layout.dtype));
@@ -115,7 +115,7 @@ pub(crate) fn read_plain<D: Depot>(
     ensures read { IfOk result (λ p. (entry : Shown) → Stepped NoChange entry (D.shown depot.old) → IsReadArray entry array.now p) }
     ensures step { Stepped NoChange (D.shown depot.old) (D.shown depot.new) }
     ensures cause { IfErr result (IsArrayFault (retries + 1) (D.shown depot.old) (D.shown depot.new) array.now) }
-    ensures calls { WithinCalls (chunks_of array.now * (retries + 1)) (D.shown depot.old) (D.shown depot.new) }
+    ensures calls { WithinCalls (input_chunk_count array.now * (retries + 1)) (D.shown depot.old) (D.shown depot.new) }
 {
     let bytes = match read_array(alloc, depot, array, retries) {
         Ok(bytes) => bytes,

@@ -7,7 +7,7 @@ ghost use Rattle.cu_grid.specs.Grid.{IsCoordinate, coordinate_of};
 ghost use Rattle.cu_region.specs.Reading.{bytes_of, key_at};
 ghost use Rattle.cu_store.specs.Steps.{Shown, NoChange};
 ghost use Rattle.cu_command.specs.Seen.{Stepped, WithinCalls};
-ghost use Rattle.cu_check.specs.Arrays.{chunks_of};
+ghost use Rattle.cu_check.specs.Arrays.{input_chunk_count};
 ghost use Rattle.cu_check.specs.Chunks.{IsStoredArray, input_of, HasHeldChunk, IsPartFault, part_end, IsChunkFault, IsPlaced, HasChunksBelow, HasAllSteady, AtEachEntry, IsArrayFault};
 
 use cu_codec::{chunk_key, take_part};
@@ -148,7 +148,7 @@ pub(crate) fn read_chunks<D: Depot>(
     ensures read { OnOk result (AtEachEntry (D.shown depot.old) (HasAllSteady (input_of info.now) all.new)) }
     ensures step { Stepped NoChange (D.shown depot.old) (D.shown depot.new) }
     ensures cause { IfErr result (IsArrayFault (retries + 1) (D.shown depot.old) (D.shown depot.new) (input_of info.now)) }
-    ensures calls { WithinCalls (chunks_of (input_of info.now) * (retries + 1)) (D.shown depot.old) (D.shown depot.new) }
+    ensures calls { WithinCalls (input_chunk_count (input_of info.now) * (retries + 1)) (D.shown depot.old) (D.shown depot.new) }
 {
     for number in 0..info.layout.grid.count() {
         match read_numbered(depot, info, number, retries, chunk, all) {

@@ -7,8 +7,8 @@ use Rattle.cu_store.specs.declared.faults.DepotFault.TheVariants.{Failed}
 use Rattle.cu_failing.specs.declared.span.Span.{Span}
 
 -- the call of this number fails
-abbrev pub IsInSpan : Span → ℕ → Type 0
-IsInSpan span number = (span.first ≤ number) × (number < span.first + span.times)
+abbrev pub IsCallOfSpan : Span → ℕ → Type 0
+IsCallOfSpan span number = (span.first ≤ number) × (number < span.first + span.times)
 
 -- what a pass knows, with these counts
 abbrev pub known_with : Known → ℕ → ℕ → Known
@@ -26,5 +26,5 @@ IsCountedFault old new result = ⊥
 
 -- A call of the span fails. Where another fails, a call of the depot in it has failed: its count of faults has risen.
 pub record FailsBy {A : Type 0} (span : Span) (number before after : ℕ) (result : Result A DepotFault) : Type 0 where
-  pub spanned : IsInSpan span number → result ≡ Err Failed
-  pub others : (IsInSpan span number → ⊥) → result ≡ Err Failed → Rose 1 before after
+  pub spanned : IsCallOfSpan span number → result ≡ Err Failed
+  pub others : (IsCallOfSpan span number → ⊥) → result ≡ Err Failed → Rose 1 before after

@@ -15,8 +15,8 @@ abbrev pub span_of : {D : Type 0} → Failing D → Span
 span_of d = d.span
 
 -- the number of the next call
-abbrev pub number_of : {D : Type 0} → Failing D → ℕ
-number_of d = d.made
+abbrev pub call_number : {D : Type 0} → Failing D → ℕ
+call_number d = d.made
 
 -- the put that is late
 abbrev pub late_of : {D : Type 0} → Failing D → Option LatePut

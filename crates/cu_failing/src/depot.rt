@@ -3,9 +3,9 @@ ghost use Rattle.std.specs.Prelude.{◌≡◌, ◌+◌, ◌≤◌, min, true, fa
 ghost use Rattle.cu_store.specs.Faults.{last_count};
 ghost use Rattle.cu_store.specs.Held.{Gets, Answers, Holds, IsGone};
 ghost use Rattle.cu_store.specs.Steps.{NoChange, PutOf, RemovalOf, Steps, LandsLate, AddsOnlyFailed, Caused, MadeCalls};
-ghost use Rattle.cu_failing.specs.Counts.{IsInSpan, FailsBy};
-ghost use Rattle.cu_failing.specs.Failing.{seen_of, span_of, number_of, late_of};
-ghost use Rattle.cu_failing.specs.Late.{shown_with, lands_now, still_late, KeepsAtMost, LandsOnly};
+ghost use Rattle.cu_failing.specs.Counts.{IsCallOfSpan, FailsBy};
+ghost use Rattle.cu_failing.specs.Failing.{seen_of, span_of, call_number, late_of};
+ghost use Rattle.cu_failing.specs.Late.{shown_with, lands_next, still_late, KeepsAtMost, LandsOnly};
 
 use crate::late::{LatePut, keep, land};
 use crate::silent::Silent;
@@ -50,7 +50,7 @@ impl<D: Depot + Drop> Failing<D> {
     /// From now on the calls of this span fail, counted from the next one. A put that is late stays so.
     pub fn set_span(&mut self, span: Span)
         ensures span { span_of self.new ≡ span }
-        ensures number { number_of self.new ≡ 0 }
+        ensures number { call_number self.new ≡ 0 }
         ensures late { late_of self.new ≡ late_of self.old }
         ensures seen { seen_of D.shown self.new ≡ seen_of D.shown self.old }
     {
@@ -60,21 +60,21 @@ impl<D: Depot + Drop> Failing<D> {
 
     /// How many calls were made since the span was set.
     pub fn made(&self) -> u64
-        ensures { result ≡ number_of self.now }
+        ensures { result ≡ call_number self.now }
     {
         self.made
     }
 
     /// What each call does first: it is numbered, the late put lands if it is due, and the span says whether the call fails.
     fn begin(&mut self) -> bool
-        ensures spanned { result ≡ true → IsInSpan self.old.span self.old.made }
-        ensures free { result ≡ false → IsInSpan self.old.span self.old.made → ⊥ }
+        ensures spanned { result ≡ true → IsCallOfSpan self.old.span self.old.made }
+        ensures free { result ≡ false → IsCallOfSpan self.old.span self.old.made → ⊥ }
         ensures span { self.new.span ≡ self.old.span }
         ensures made { self.new.made ≡ min (self.old.made + 1) last_count }
         ensures faults { self.new.faults ≡ self.old.faults }
         ensures calls { self.new.calls ≡ min (self.old.calls + 1) last_count }
         ensures waits { self.new.late ≡ still_late self.old.late }
-        ensures lands { IfSome (lands_now self.old.late) (λ put. MadeCalls 1 1 (D.shown self.old.depot).calls (D.shown self.new.depot).calls) }
+        ensures lands { IfSome (lands_next self.old.late) (λ put. MadeCalls 1 1 (D.shown self.old.depot).calls (D.shown self.new.depot).calls) }
         ensures count { (D.shown self.old.depot).faults ≤ (D.shown self.new.depot).faults }
         ensures landed { LandsOnly (shown_with (D.shown self.old.depot) self.old.late 0 0) (shown_with (D.shown self.new.depot) self.new.late 0 0) }
     {
@@ -95,8 +95,8 @@ impl<D: Depot + Drop> Depot for Failing<D> {
         ensures step { Steps NoChange 1 1 (seen_of D.shown self.old) (seen_of D.shown self.new) }
         ensures cause { Caused 1 (seen_of D.shown self.old) (seen_of D.shown self.new) result }
 
-        ensures fails { FailsBy (span_of self.old) (number_of self.old) (D.shown self.old.depot).faults (D.shown self.new.depot).faults result }
-        ensures number { number_of self.new ≡ min (number_of self.old + 1) last_count }
+        ensures fails { FailsBy (span_of self.old) (call_number self.old) (D.shown self.old.depot).faults (D.shown self.new.depot).faults result }
+        ensures number { call_number self.new ≡ min (call_number self.old + 1) last_count }
         ensures waits { late_of self.new ≡ still_late (late_of self.old) }
     {
         if self.begin() {
@@ -112,8 +112,8 @@ impl<D: Depot + Drop> Depot for Failing<D> {
         ensures step { Steps NoChange 1 1 (seen_of D.shown self.old) (seen_of D.shown self.new) }
         ensures cause { Caused 1 (seen_of D.shown self.old) (seen_of D.shown self.new) result }
 
-        ensures fails { FailsBy (span_of self.old) (number_of self.old) (D.shown self.old.depot).faults (D.shown self.new.depot).faults result }
-        ensures number { number_of self.new ≡ min (number_of self.old + 1) last_count }
+        ensures fails { FailsBy (span_of self.old) (call_number self.old) (D.shown self.old.depot).faults (D.shown self.new.depot).faults result }
+        ensures number { call_number self.new ≡ min (call_number self.old + 1) last_count }
         ensures waits { late_of self.new ≡ still_late (late_of self.old) }
     {
         if self.begin() {
@@ -131,8 +131,8 @@ impl<D: Depot + Drop> Depot for Failing<D> {
         ensures late_unless_failed { AddsOnlyFailed result (seen_of D.shown self.old).late (seen_of D.shown self.new).late }
         ensures cause { Caused 1 (seen_of D.shown self.old) (seen_of D.shown self.new) result }
 
-        ensures fails { FailsBy (span_of self.old) (number_of self.old) (D.shown self.old.depot).faults (D.shown self.new.depot).faults result }
-        ensures number { number_of self.new ≡ min (number_of self.old + 1) last_count }
+        ensures fails { FailsBy (span_of self.old) (call_number self.old) (D.shown self.old.depot).faults (D.shown self.new.depot).faults result }
+        ensures number { call_number self.new ≡ min (call_number self.old + 1) last_count }
         ensures kept { KeepsAtMost (span_of self.old).land key.now bytes.now (still_late (late_of self.old)) (late_of self.new) }
     {
         if self.begin() {
@@ -150,8 +150,8 @@ impl<D: Depot + Drop> Depot for Failing<D> {
         ensures refused { OnErr result (LandsLate (seen_of D.shown self.old) (seen_of D.shown self.new)) }
         ensures cause { Caused 1 (seen_of D.shown self.old) (seen_of D.shown self.new) result }
 
-        ensures fails { FailsBy (span_of self.old) (number_of self.old) (D.shown self.old.depot).faults (D.shown self.new.depot).faults result }
-        ensures number { number_of self.new ≡ min (number_of self.old + 1) last_count }
+        ensures fails { FailsBy (span_of self.old) (call_number self.old) (D.shown self.old.depot).faults (D.shown self.new.depot).faults result }
+        ensures number { call_number self.new ≡ min (call_number self.old + 1) last_count }
         ensures waits { late_of self.new ≡ still_late (late_of self.old) }
     {
         if self.begin() {

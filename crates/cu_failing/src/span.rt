@@ -1,6 +1,6 @@
 //! Which calls fail.
 ghost use Rattle.std.specs.Prelude.{◌≡◌, ◌≤◌, ◌↔◌, IsTrue, Err};
-ghost use Rattle.cu_failing.specs.Counts.{AddsFault, IsCountedFault, IsInSpan};
+ghost use Rattle.cu_failing.specs.Counts.{AddsFault, IsCountedFault, IsCallOfSpan};
 
 use cu_store::DepotFault;
 
@@ -27,7 +27,7 @@ impl Span {
 
     /// Whether the call of this number fails.
     pub(crate) fn has(&self, number: u64) -> bool
-        ensures { IsTrue result ↔ IsInSpan self.now number }
+        ensures { IsTrue result ↔ IsCallOfSpan self.now number }
     {
         number >= self.first && number - self.first < self.times
     }

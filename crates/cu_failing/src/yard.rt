@@ -1,7 +1,7 @@
 //! A yard of which the calls of a span fail, whichever pass makes them.
 ghost use Rattle.std.specs.Prelude.{◌≡◌, ◌↔◌, ℕ, IsTrue, IfSome};
 ghost use Rattle.cu_store.specs.Yard.{is_made};
-ghost use Rattle.cu_failing.specs.Counts.{known_with, IsInSpan};
+ghost use Rattle.cu_failing.specs.Counts.{known_with, IsCallOfSpan};
 ghost use Rattle.cu_failing.specs.Laws.{same_with, fits_with, IsOwnWith, MakesAtMost};
 
 use crate::late::{LatePut, due, keep};
@@ -62,7 +62,7 @@ fn due_here(specs: &[Spec], late: &mut Option<LatePut>) -> Option<LatePut>
 
 /// Numbers a call, and says whether it fails: some number decides it.
 fn fails(span: Span, made: &AtomicU64) -> bool
-    ensures { (number : ℕ) × (IsTrue result ↔ IsInSpan span number) }
+    ensures { (number : ℕ) × (IsTrue result ↔ IsCallOfSpan span number) }
 {
     span.has(made.fetch_add(1, Ordering::SeqCst))
 }

@@ -6,7 +6,7 @@ use Rattle.std.proofs.lemmas.Bool.{cases_lt}
 use Rattle.cu_num.specs.Word.{IsWord}
 use Rattle.cu_num.specs.declared.types.Dtype.{Dtype}
 use Rattle.cu_lane.specs.Compared.{bias_of, key, rank}
-use Rattle.cu_lane.specs.Folds.{IsAsGood, IsBetter, IsFirstBest, IsLowest, IsFirstLowest}
+use Rattle.cu_lane.specs.Folds.{IsAsGood, IsBetter, IsFirstPlace, IsLowest, IsFirstLowest}
 use Rattle.cu_lane.proofs.Blocks.{lane}
 use Rattle.cu_lane.proofs.Ordered.{key_is}
 
@@ -111,7 +111,7 @@ better true b v w x y e f h = omega (arith, ints)
 better false b v w x y e f h = let p = key_small b v in let q = key_small b w in omega (arith, ints)
 
 pub first_best : (t : Dtype) (least : Test) (ws : List ℕ) (p : ℕ) (xs : ℕ → ℤ) → IsFirstLowest (λ k. rank least (bias_of t) (get_or ws k 0)) (length ws) p
-    → ((k : ℕ) → k < length ws → IsWord t (get_or ws k 0) (xs k)) → IsFirstBest least xs (length ws) p
+    → ((k : ℕ) → k < length ws → IsWord t (get_or ws k 0) (xs k)) → IsFirstPlace least xs (length ws) p
 first_best t least ws p xs low words =
     let is = λ (k : ℕ) (b : k < length ws). key_is t (get_or ws k 0) (xs k) (words k b) in
     let inside = low.inside in

@@ -6,7 +6,7 @@ use Rattle.std.proofs.lemmas.Nat.{mul-mod_first}
 use Rattle.std.proofs.lemmas.List.{drop-take, take-take}
 use Rattle.std.proofs.lemmas.Simd.{length-chunk}
 use Rattle.std.proofs.lemmas.List.Sums.{sum_by-cons, sum_by-take-drop, sum_by_more, fold_more}
-use Rattle.cu_lane.specs.Folds.{product}
+use Rattle.cu_lane.specs.Folds.{product_of_words}
 
 -- one word more
 pub sum_more : (xs : List ℕ) (k total : ℕ) → k < length xs → total ≡ sum (take k xs) % 2 ^ 64 → (total + get_or xs k 0) % 2 ^ 64 ≡ sum (take (k + 1) xs) % 2 ^ 64
@@ -14,9 +14,9 @@ sum_more xs k total b e =
     let more : sum (take (k + 1) xs) ≡ sum (take k xs) + get_or xs k 0 = sum_by_more (λ x. x) xs k 0 b in
     omega arith
 
-pub product_more : (xs : List ℕ) (k total : ℕ) → k < length xs → total ≡ product (take k xs) % 2 ^ 64 → (total * get_or xs k 0) % 2 ^ 64 ≡ product (take (k + 1) xs) % 2 ^ 64
+pub product_more : (xs : List ℕ) (k total : ℕ) → k < length xs → total ≡ product_of_words (take k xs) % 2 ^ 64 → (total * get_or xs k 0) % 2 ^ 64 ≡ product_of_words (take (k + 1) xs) % 2 ^ 64
 product_more xs k total b e =
-    ap (λ p. (p * get_or xs k 0) % 2 ^ 64) e ∙ mul-mod_first (product (take k xs)) (get_or xs k 0) (2 ^ 64)
+    ap (λ p. (p * get_or xs k 0) % 2 ^ 64) e ∙ mul-mod_first (product_of_words (take k xs)) (get_or xs k 0) (2 ^ 64)
     ∙ ap (λ p. p % 2 ^ 64) (sym (fold_more (λ a x. a * x) 1 xs k 0 b))
 
 sum_of_lanes : (xs : List ℕ) → sum_l xs ≡ sum xs

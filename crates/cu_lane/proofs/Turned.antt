@@ -7,7 +7,7 @@ use Rattle.std.proofs.lemmas.List.{length-reverse, get_or-reverse}
 use Rattle.std.proofs.Math.Nat.{le-div_iff_mul-le}
 use borrow.Rule.Slice.PartMut.{put_mid}
 use Rattle.cu_num.specs.Element.{IsSize}
-use Rattle.cu_lane.specs.Swapped.{IsSwapped}
+use Rattle.cu_lane.specs.Swapped.{IsReversedEach}
 use Rattle.cu_lane.proofs.Blocks.{length-put_mid, below, inside, above, lane, length_part}
 
 -- the elements below `done` are reversed, and the bytes behind them are as before
@@ -61,7 +61,7 @@ module _ (size at n : ℕ) (old before run : List ℕ) (was : TurnedTo size at o
     others = λ k b. above (at * size) n before run k long (omega arith) room ∙ was.others k (omega arith);
   }
 
-pub turned_all : (size done : ℕ) (old new : List ℕ) → IsSize size → length old / size ≤ done → TurnedTo size done old new → IsSwapped size old new
+pub turned_all : (size done : ℕ) (old new : List ℕ) → IsSize size → length old / size ≤ done → TurnedTo size done old new → IsReversedEach size old new
 turned_all size done old new sized all to = record {
   same_length = to.same_length;
   swapped = λ p j b fits. to.swapped p j (let some : 0 < size = omega arith in let whole : suc p ≤ length old / size = (le-div_iff_mul-le some).1 (omega arith) in omega arith) b;

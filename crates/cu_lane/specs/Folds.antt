@@ -4,8 +4,8 @@ use Rattle.std.specs.Prelude.{Bool as Test, true, false}
 use Rattle.std.specs.List.{fold}
 
 -- the product of the numbers, 1 of none
-abbrev pub product : List ℕ → ℕ
-product xs = fold (λ a x. a * x) 1 xs
+abbrev pub product_of_words : List ℕ → ℕ
+product_of_words xs = fold (λ a x. a * x) 1 xs
 
 -- y is as good as x at least, and y is better: less, or greater
 abbrev pub IsAsGood : Test → ℤ → ℤ → Type 0
@@ -17,7 +17,7 @@ IsBetter true y x = y <ℤ x
 IsBetter false y x = x <ℤ y
 
 -- of the first `count` numbers none is better than number p, and those before it aren't as good
-pub record IsFirstBest (least : Test) (xs : ℕ → ℤ) (count p : ℕ) : Type 0 where
+pub record IsFirstPlace (least : Test) (xs : ℕ → ℤ) (count p : ℕ) : Type 0 where
   pub inside : p < count
   pub best : (k : ℕ) → k < count → IsAsGood least (xs p) (xs k)
   pub first : (k : ℕ) → k < p → IsBetter least (xs p) (xs k)

@@ -13,12 +13,12 @@ use Rattle.cu_lane.specs.declared.compared.Order.{Order}
 use Rattle.cu_lane.specs.Compared.{numbers_in_order}
 
 -- of a function of one argument: the argument has the function's type, of Astype any
-abbrev pub HasValues1 : Fn1 → Dtype → List ℕ → List ℕ → Type 0
-HasValues1 f t xs out = (k : ℕ) (from : Dtype) (x : ℤ) → k < length out → (from ≡ t) ⊎ (f ≡ Astype)
+abbrev pub HasResults1 : Fn1 → Dtype → List ℕ → List ℕ → Type 0
+HasResults1 f t xs out = (k : ℕ) (from : Dtype) (x : ℤ) → k < length out → (from ≡ t) ⊎ (f ≡ Astype)
     → IsWord from (slice_index xs k) x → IsWord (result_type1 f t) (slice_index out k) (op1 f t x)
 
-abbrev pub HasValues2 : Fn2 → Dtype → List ℕ → List ℕ → List ℕ → Type 0
-HasValues2 f t xs ys out = (k : ℕ) (x y : ℤ) → k < length out → IsWord t (slice_index xs k) x → IsWord t (slice_index ys k) y
+abbrev pub HasResults2 : Fn2 → Dtype → List ℕ → List ℕ → List ℕ → Type 0
+HasResults2 f t xs ys out = (k : ℕ) (x y : ℤ) → k < length out → IsWord t (slice_index xs k) x → IsWord t (slice_index ys k) y
     → IsWord (result_type2 f t) (slice_index out k) (op2 f t x y)
 
 -- 1 where two numbers are in this order, else 0
@@ -27,12 +27,12 @@ HasOrder order t xs ys out = (k : ℕ) (x y : ℤ) → k < length out → IsWord
     → IsWord Bool (slice_index out k) (truth_number (numbers_in_order order x y))
 
 -- where the first word is 1 the second, else the third
-abbrev pub HasSelected : List ℕ → List ℕ → List ℕ → List ℕ → Type 0
-HasSelected cs xs ys out = (k : ℕ) → k < length out → slice_index out k ≡ (if slice_index cs k == 1 then slice_index xs k else slice_index ys k)
+abbrev pub HasChoices : List ℕ → List ℕ → List ℕ → List ℕ → Type 0
+HasChoices cs xs ys out = (k : ℕ) → k < length out → slice_index out k ≡ (if slice_index cs k == 1 then slice_index xs k else slice_index ys k)
 
 -- the words of elements, and the bytes of words
-abbrev pub HasWords : Dtype → List ℕ → List ℕ → Type 0
-HasWords t bytes out = (k : ℕ) → k < length out → IsWord t (slice_index out k) (element_at Little t bytes k)
+abbrev pub HasLoaded : Dtype → List ℕ → List ℕ → Type 0
+HasLoaded t bytes out = (k : ℕ) → k < length out → IsWord t (slice_index out k) (element_at Little t bytes k)
 
-abbrev pub HasBytesOfWords : Dtype → List ℕ → List ℕ → Type 0
-HasBytesOfWords t xs out = (k : ℕ) (x : ℤ) → k < length xs → IsWord t (slice_index xs k) x → bytes_at t out k ≡ element_bytes Little t x
+abbrev pub HasSaved : Dtype → List ℕ → List ℕ → Type 0
+HasSaved t xs out = (k : ℕ) (x : ℤ) → k < length xs → IsWord t (slice_index xs k) x → bytes_at t out k ≡ element_bytes Little t x

@@ -2,6 +2,6 @@
 use Rattle.std.specs.Prelude.{◌≡◌, ℕ, ◌+◌, ◌-◌, ◌*◌, ◌<◌, ◌≤◌, List, length, slice_index}
 
 -- as many bytes, and byte j of each element is byte j from its end of the old one
-pub record IsSwapped (size : ℕ) (old new : List ℕ) : Type 0 where
+pub record IsReversedEach (size : ℕ) (old new : List ℕ) : Type 0 where
   pub same_length : length new ≡ length old
   pub swapped : (p j : ℕ) → j < size → p * size + size ≤ length old → slice_index new (p * size + j) ≡ slice_index old (p * size + (size - 1 - j))

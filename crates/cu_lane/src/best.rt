@@ -2,7 +2,7 @@
 ghost use Rattle.std.specs.Prelude.{◌≡◌, ◌≢◌, ◌↔◌, ◌<◌, ◌≤◌, ℕ, ℤ, IsNone, IfSome, length, slice_index};
 ghost use Rattle.cu_num.specs.Word.{IsWord};
 ghost use Rattle.cu_lane.specs.Compared.{bias_of, rank};
-ghost use Rattle.cu_lane.specs.Folds.{IsFirstBest, IsLowest, IsFirstLowest};
+ghost use Rattle.cu_lane.specs.Folds.{IsFirstPlace, IsLowest, IsFirstLowest};
 
 use crate::compared::bias;
 use cu_num::Dtype;
@@ -13,7 +13,7 @@ const BLOCK: usize = 256;
 /// The first place of the least number, or of the greatest; `None` exactly for an empty slice. The words are numbers of `t`.
 pub fn lane_least(t: Dtype, least: bool, x: &[u64]) -> Option<usize>
     ensures none { IsNone result ↔ (length x.now ≡ 0) }
-    ensures some { IfSome result (λ p. (xs : ℕ → ℤ) → ((k : ℕ) → k < length x.now → IsWord t (slice_index x.now k) (xs k)) → IsFirstBest least xs (length x.now) p) }
+    ensures some { IfSome result (λ p. (xs : ℕ → ℤ) → ((k : ℕ) → k < length x.now → IsWord t (slice_index x.now k) (xs k)) → IsFirstPlace least xs (length x.now) p) }
 {
     if x.is_empty() {
         return None;

@@ -1,7 +1,7 @@
 //! Calls on words that choose, load and save.
 ghost use Rattle.std.specs.Prelude.{◌≡◌, ◌*◌, length};
 ghost use Rattle.cu_num.specs.Dtype.{size_of};
-ghost use Rattle.cu_lane.specs.Lanes.{HasSelected, HasWords, HasBytesOfWords};
+ghost use Rattle.cu_lane.specs.Lanes.{HasChoices, HasLoaded, HasSaved};
 
 use crate::loops::{load_each, save_each};
 use cu_num::Dtype;
@@ -11,7 +11,7 @@ pub fn lane_select(c: &[u64], x: &[u64], y: &[u64], out: &mut [u64])
     requires choice { length c.now ≡ length out.old }
     requires first { length x.now ≡ length out.old }
     requires second { length y.now ≡ length out.old }
-    ensures { HasSelected c.now x.now y.now out.new }
+    ensures { HasChoices c.now x.now y.now out.new }
 {
     for at in 0..out.len() {
         out[at] = if c[at] == 1 { x[at] } else { y[at] };
@@ -22,7 +22,7 @@ pub fn lane_select(c: &[u64], x: &[u64], y: &[u64], out: &mut [u64])
 #[inline(never)]
 pub fn lane_load(t: Dtype, bytes: &[u8], out: &mut [u64])
     requires { length bytes.now ≡ length out.old * size_of t }
-    ensures { HasWords t bytes.now out.new }
+    ensures { HasLoaded t bytes.now out.new }
 {
     match t {
         Dtype::Bool => load_each(Dtype::Bool, bytes, out),
@@ -41,7 +41,7 @@ pub fn lane_load(t: Dtype, bytes: &[u8], out: &mut [u64])
 #[inline(never)]
 pub fn lane_save(t: Dtype, x: &[u64], out: &mut [u8])
     requires { length out.old ≡ length x.now * size_of t }
-    ensures { HasBytesOfWords t x.now out.new }
+    ensures { HasSaved t x.now out.new }
 {
     match t {
         Dtype::Bool => save_each(Dtype::Bool, x, out),

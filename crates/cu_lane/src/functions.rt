@@ -1,7 +1,7 @@
 //! Calls on words: each does at every place what a scalar call does for one number. There is one a function, so that the loops of
 //! each are built apart.
 ghost use Rattle.std.specs.Prelude.{◌≡◌, length};
-ghost use Rattle.cu_lane.specs.Lanes.{HasValues1, HasValues2};
+ghost use Rattle.cu_lane.specs.Lanes.{HasResults1, HasResults2};
 
 use crate::compared::{Order, compare};
 use crate::loops::{by_type1, by_type2};
@@ -10,7 +10,7 @@ use cu_num::{Dtype, Fn1, Fn2};
 /// The words of a function of one argument.
 pub fn lane1(f: Fn1, t: Dtype, x: &[u64], out: &mut [u64])
     requires { length x.now ≡ length out.old }
-    ensures { HasValues1 f t x.now out.new }
+    ensures { HasResults1 f t x.now out.new }
 {
     match f {
         Fn1::Negative => lane_negative(t, x, out),
@@ -28,7 +28,7 @@ pub fn lane1(f: Fn1, t: Dtype, x: &[u64], out: &mut [u64])
 pub fn lane2(f: Fn2, t: Dtype, x: &[u64], y: &[u64], out: &mut [u64])
     requires first { length x.now ≡ length out.old }
     requires second { length y.now ≡ length out.old }
-    ensures { HasValues2 f t x.now y.now out.new }
+    ensures { HasResults2 f t x.now y.now out.new }
 {
     match f {
         Fn2::Add => lane_add(t, x, y, out),
@@ -56,7 +56,7 @@ pub fn lane2(f: Fn2, t: Dtype, x: &[u64], y: &[u64], out: &mut [u64])
 #[inline(never)]
 fn lane_negative(t: Dtype, x: &[u64], out: &mut [u64])
     requires { length x.now ≡ length out.old }
-    ensures { HasValues1 Fn1.Negative t x.now out.new }
+    ensures { HasResults1 Fn1.Negative t x.now out.new }
 {
     by_type1(Fn1::Negative, t, x, out);
 }
@@ -64,7 +64,7 @@ fn lane_negative(t: Dtype, x: &[u64], out: &mut [u64])
 #[inline(never)]
 fn lane_positive(t: Dtype, x: &[u64], out: &mut [u64])
     requires { length x.now ≡ length out.old }
-    ensures { HasValues1 Fn1.Positive t x.now out.new }
+    ensures { HasResults1 Fn1.Positive t x.now out.new }
 {
     by_type1(Fn1::Positive, t, x, out);
 }
@@ -72,7 +72,7 @@ fn lane_positive(t: Dtype, x: &[u64], out: &mut [u64])
 #[inline(never)]
 fn lane_abs(t: Dtype, x: &[u64], out: &mut [u64])
     requires { length x.now ≡ length out.old }
-    ensures { HasValues1 Fn1.Abs t x.now out.new }
+    ensures { HasResults1 Fn1.Abs t x.now out.new }
 {
     by_type1(Fn1::Abs, t, x, out);
 }
@@ -80,7 +80,7 @@ fn lane_abs(t: Dtype, x: &[u64], out: &mut [u64])
 #[inline(never)]
 fn lane_square(t: Dtype, x: &[u64], out: &mut [u64])
     requires { length x.now ≡ length out.old }
-    ensures { HasValues1 Fn1.Square t x.now out.new }
+    ensures { HasResults1 Fn1.Square t x.now out.new }
 {
     by_type1(Fn1::Square, t, x, out);
 }
@@ -88,7 +88,7 @@ fn lane_square(t: Dtype, x: &[u64], out: &mut [u64])
 #[inline(never)]
 fn lane_sign(t: Dtype, x: &[u64], out: &mut [u64])
     requires { length x.now ≡ length out.old }
-    ensures { HasValues1 Fn1.Sign t x.now out.new }
+    ensures { HasResults1 Fn1.Sign t x.now out.new }
 {
     by_type1(Fn1::Sign, t, x, out);
 }
@@ -96,7 +96,7 @@ fn lane_sign(t: Dtype, x: &[u64], out: &mut [u64])
 #[inline(never)]
 fn lane_bitwise_invert(t: Dtype, x: &[u64], out: &mut [u64])
     requires { length x.now ≡ length out.old }
-    ensures { HasValues1 Fn1.BitwiseInvert t x.now out.new }
+    ensures { HasResults1 Fn1.BitwiseInvert t x.now out.new }
 {
     by_type1(Fn1::BitwiseInvert, t, x, out);
 }
@@ -104,7 +104,7 @@ fn lane_bitwise_invert(t: Dtype, x: &[u64], out: &mut [u64])
 #[inline(never)]
 fn lane_logical_not(t: Dtype, x: &[u64], out: &mut [u64])
     requires { length x.now ≡ length out.old }
-    ensures { HasValues1 Fn1.LogicalNot t x.now out.new }
+    ensures { HasResults1 Fn1.LogicalNot t x.now out.new }
 {
     by_type1(Fn1::LogicalNot, t, x, out);
 }
@@ -112,7 +112,7 @@ fn lane_logical_not(t: Dtype, x: &[u64], out: &mut [u64])
 #[inline(never)]
 fn lane_astype(t: Dtype, x: &[u64], out: &mut [u64])
     requires { length x.now ≡ length out.old }
-    ensures { HasValues1 Fn1.Astype t x.now out.new }
+    ensures { HasResults1 Fn1.Astype t x.now out.new }
 {
     by_type1(Fn1::Astype, t, x, out);
 }
@@ -121,7 +121,7 @@ fn lane_astype(t: Dtype, x: &[u64], out: &mut [u64])
 fn lane_add(t: Dtype, x: &[u64], y: &[u64], out: &mut [u64])
     requires first { length x.now ≡ length out.old }
     requires second { length y.now ≡ length out.old }
-    ensures { HasValues2 Fn2.Add t x.now y.now out.new }
+    ensures { HasResults2 Fn2.Add t x.now y.now out.new }
 {
     by_type2(Fn2::Add, t, x, y, out);
 }
@@ -130,7 +130,7 @@ fn lane_add(t: Dtype, x: &[u64], y: &[u64], out: &mut [u64])
 fn lane_subtract(t: Dtype, x: &[u64], y: &[u64], out: &mut [u64])
     requires first { length x.now ≡ length out.old }
     requires second { length y.now ≡ length out.old }
-    ensures { HasValues2 Fn2.Subtract t x.now y.now out.new }
+    ensures { HasResults2 Fn2.Subtract t x.now y.now out.new }
 {
     by_type2(Fn2::Subtract, t, x, y, out);
 }
@@ -139,7 +139,7 @@ fn lane_subtract(t: Dtype, x: &[u64], y: &[u64], out: &mut [u64])
 fn lane_multiply(t: Dtype, x: &[u64], y: &[u64], out: &mut [u64])
     requires first { length x.now ≡ length out.old }
     requires second { length y.now ≡ length out.old }
-    ensures { HasValues2 Fn2.Multiply t x.now y.now out.new }
+    ensures { HasResults2 Fn2.Multiply t x.now y.now out.new }
 {
     by_type2(Fn2::Multiply, t, x, y, out);
 }
@@ -148,7 +148,7 @@ fn lane_multiply(t: Dtype, x: &[u64], y: &[u64], out: &mut [u64])
 fn lane_floor_divide(t: Dtype, x: &[u64], y: &[u64], out: &mut [u64])
     requires first { length x.now ≡ length out.old }
     requires second { length y.now ≡ length out.old }
-    ensures { HasValues2 Fn2.FloorDivide t x.now y.now out.new }
+    ensures { HasResults2 Fn2.FloorDivide t x.now y.now out.new }
 {
     by_type2(Fn2::FloorDivide, t, x, y, out);
 }
@@ -157,7 +157,7 @@ fn lane_floor_divide(t: Dtype, x: &[u64], y: &[u64], out: &mut [u64])
 fn lane_remainder(t: Dtype, x: &[u64], y: &[u64], out: &mut [u64])
     requires first { length x.now ≡ length out.old }
     requires second { length y.now ≡ length out.old }
-    ensures { HasValues2 Fn2.Remainder t x.now y.now out.new }
+    ensures { HasResults2 Fn2.Remainder t x.now y.now out.new }
 {
     by_type2(Fn2::Remainder, t, x, y, out);
 }
@@ -166,7 +166,7 @@ fn lane_remainder(t: Dtype, x: &[u64], y: &[u64], out: &mut [u64])
 fn lane_bitwise_and(t: Dtype, x: &[u64], y: &[u64], out: &mut [u64])
     requires first { length x.now ≡ length out.old }
     requires second { length y.now ≡ length out.old }
-    ensures { HasValues2 Fn2.BitwiseAnd t x.now y.now out.new }
+    ensures { HasResults2 Fn2.BitwiseAnd t x.now y.now out.new }
 {
     by_type2(Fn2::BitwiseAnd, t, x, y, out);
 }
@@ -175,7 +175,7 @@ fn lane_bitwise_and(t: Dtype, x: &[u64], y: &[u64], out: &mut [u64])
 fn lane_bitwise_or(t: Dtype, x: &[u64], y: &[u64], out: &mut [u64])
     requires first { length x.now ≡ length out.old }
     requires second { length y.now ≡ length out.old }
-    ensures { HasValues2 Fn2.BitwiseOr t x.now y.now out.new }
+    ensures { HasResults2 Fn2.BitwiseOr t x.now y.now out.new }
 {
     by_type2(Fn2::BitwiseOr, t, x, y, out);
 }
@@ -184,7 +184,7 @@ fn lane_bitwise_or(t: Dtype, x: &[u64], y: &[u64], out: &mut [u64])
 fn lane_bitwise_xor(t: Dtype, x: &[u64], y: &[u64], out: &mut [u64])
     requires first { length x.now ≡ length out.old }
     requires second { length y.now ≡ length out.old }
-    ensures { HasValues2 Fn2.BitwiseXor t x.now y.now out.new }
+    ensures { HasResults2 Fn2.BitwiseXor t x.now y.now out.new }
 {
     by_type2(Fn2::BitwiseXor, t, x, y, out);
 }
@@ -193,7 +193,7 @@ fn lane_bitwise_xor(t: Dtype, x: &[u64], y: &[u64], out: &mut [u64])
 fn lane_left_shift(t: Dtype, x: &[u64], y: &[u64], out: &mut [u64])
     requires first { length x.now ≡ length out.old }
     requires second { length y.now ≡ length out.old }
-    ensures { HasValues2 Fn2.LeftShift t x.now y.now out.new }
+    ensures { HasResults2 Fn2.LeftShift t x.now y.now out.new }
 {
     by_type2(Fn2::LeftShift, t, x, y, out);
 }
@@ -202,7 +202,7 @@ fn lane_left_shift(t: Dtype, x: &[u64], y: &[u64], out: &mut [u64])
 fn lane_right_shift(t: Dtype, x: &[u64], y: &[u64], out: &mut [u64])
     requires first { length x.now ≡ length out.old }
     requires second { length y.now ≡ length out.old }
-    ensures { HasValues2 Fn2.RightShift t x.now y.now out.new }
+    ensures { HasResults2 Fn2.RightShift t x.now y.now out.new }
 {
     by_type2(Fn2::RightShift, t, x, y, out);
 }
@@ -211,7 +211,7 @@ fn lane_right_shift(t: Dtype, x: &[u64], y: &[u64], out: &mut [u64])
 fn lane_equal(t: Dtype, x: &[u64], y: &[u64], out: &mut [u64])
     requires first { length x.now ≡ length out.old }
     requires second { length y.now ≡ length out.old }
-    ensures { HasValues2 Fn2.Equal t x.now y.now out.new }
+    ensures { HasResults2 Fn2.Equal t x.now y.now out.new }
 {
     compare(Order::Equal, t, x, y, out);
 }
@@ -220,7 +220,7 @@ fn lane_equal(t: Dtype, x: &[u64], y: &[u64], out: &mut [u64])
 fn lane_not_equal(t: Dtype, x: &[u64], y: &[u64], out: &mut [u64])
     requires first { length x.now ≡ length out.old }
     requires second { length y.now ≡ length out.old }
-    ensures { HasValues2 Fn2.NotEqual t x.now y.now out.new }
+    ensures { HasResults2 Fn2.NotEqual t x.now y.now out.new }
 {
     compare(Order::NotEqual, t, x, y, out);
 }
@@ -229,7 +229,7 @@ fn lane_not_equal(t: Dtype, x: &[u64], y: &[u64], out: &mut [u64])
 fn lane_less(t: Dtype, x: &[u64], y: &[u64], out: &mut [u64])
     requires first { length x.now ≡ length out.old }
     requires second { length y.now ≡ length out.old }
-    ensures { HasValues2 Fn2.Less t x.now y.now out.new }
+    ensures { HasResults2 Fn2.Less t x.now y.now out.new }
 {
     compare(Order::Less, t, x, y, out);
 }
@@ -238,7 +238,7 @@ fn lane_less(t: Dtype, x: &[u64], y: &[u64], out: &mut [u64])
 fn lane_less_equal(t: Dtype, x: &[u64], y: &[u64], out: &mut [u64])
     requires first { length x.now ≡ length out.old }
     requires second { length y.now ≡ length out.old }
-    ensures { HasValues2 Fn2.LessEqual t x.now y.now out.new }
+    ensures { HasResults2 Fn2.LessEqual t x.now y.now out.new }
 {
     compare(Order::LessEqual, t, x, y, out);
 }
@@ -247,7 +247,7 @@ fn lane_less_equal(t: Dtype, x: &[u64], y: &[u64], out: &mut [u64])
 fn lane_greater(t: Dtype, x: &[u64], y: &[u64], out: &mut [u64])
     requires first { length x.now ≡ length out.old }
     requires second { length y.now ≡ length out.old }
-    ensures { HasValues2 Fn2.Greater t x.now y.now out.new }
+    ensures { HasResults2 Fn2.Greater t x.now y.now out.new }
 {
     compare(Order::Less, t, y, x, out);
 }
@@ -256,7 +256,7 @@ fn lane_greater(t: Dtype, x: &[u64], y: &[u64], out: &mut [u64])
 fn lane_greater_equal(t: Dtype, x: &[u64], y: &[u64], out: &mut [u64])
     requires first { length x.now ≡ length out.old }
     requires second { length y.now ≡ length out.old }
-    ensures { HasValues2 Fn2.GreaterEqual t x.now y.now out.new }
+    ensures { HasResults2 Fn2.GreaterEqual t x.now y.now out.new }
 {
     compare(Order::LessEqual, t, y, x, out);
 }
@@ -265,7 +265,7 @@ fn lane_greater_equal(t: Dtype, x: &[u64], y: &[u64], out: &mut [u64])
 fn lane_logical_and(t: Dtype, x: &[u64], y: &[u64], out: &mut [u64])
     requires first { length x.now ≡ length out.old }
     requires second { length y.now ≡ length out.old }
-    ensures { HasValues2 Fn2.LogicalAnd t x.now y.now out.new }
+    ensures { HasResults2 Fn2.LogicalAnd t x.now y.now out.new }
 {
     by_type2(Fn2::LogicalAnd, t, x, y, out);
 }
@@ -274,7 +274,7 @@ fn lane_logical_and(t: Dtype, x: &[u64], y: &[u64], out: &mut [u64])
 fn lane_logical_or(t: Dtype, x: &[u64], y: &[u64], out: &mut [u64])
     requires first { length x.now ≡ length out.old }
     requires second { length y.now ≡ length out.old }
-    ensures { HasValues2 Fn2.LogicalOr t x.now y.now out.new }
+    ensures { HasResults2 Fn2.LogicalOr t x.now y.now out.new }
 {
     by_type2(Fn2::LogicalOr, t, x, y, out);
 }
@@ -283,7 +283,7 @@ fn lane_logical_or(t: Dtype, x: &[u64], y: &[u64], out: &mut [u64])
 fn lane_logical_xor(t: Dtype, x: &[u64], y: &[u64], out: &mut [u64])
     requires first { length x.now ≡ length out.old }
     requires second { length y.now ≡ length out.old }
-    ensures { HasValues2 Fn2.LogicalXor t x.now y.now out.new }
+    ensures { HasResults2 Fn2.LogicalXor t x.now y.now out.new }
 {
     by_type2(Fn2::LogicalXor, t, x, y, out);
 }

@@ -1,7 +1,7 @@
 //! Loops over words, one for each function and type: the calls give both as literals, and the loops are built for them.
 ghost use Rattle.std.specs.Prelude.{◌≡◌, ◌*◌, length};
 ghost use Rattle.cu_num.specs.Dtype.{size_of};
-ghost use Rattle.cu_lane.specs.Lanes.{HasValues1, HasValues2, HasWords, HasBytesOfWords};
+ghost use Rattle.cu_lane.specs.Lanes.{HasResults1, HasResults2, HasLoaded, HasSaved};
 
 use cu_num::{Dtype, Fn1, Fn2, load, number, save, scalar1, scalar2, word};
 
@@ -9,7 +9,7 @@ use cu_num::{Dtype, Fn1, Fn2, load, number, save, scalar1, scalar2, word};
 #[inline(always)]
 pub(crate) fn by_type1(f: Fn1, t: Dtype, x: &[u64], out: &mut [u64])
     requires { length x.now ≡ length out.old }
-    ensures { HasValues1 f t x.now out.new }
+    ensures { HasResults1 f t x.now out.new }
 {
     match t {
         Dtype::Bool => each1(f, Dtype::Bool, x, out),
@@ -27,7 +27,7 @@ pub(crate) fn by_type1(f: Fn1, t: Dtype, x: &[u64], out: &mut [u64])
 #[inline(always)]
 fn each1(f: Fn1, t: Dtype, x: &[u64], out: &mut [u64])
     requires { length x.now ≡ length out.old }
-    ensures { HasValues1 f t x.now out.new }
+    ensures { HasResults1 f t x.now out.new }
 {
     for at in 0..out.len() {
         out[at] = word(scalar1(f, t, number(t, x[at])));
@@ -39,7 +39,7 @@ fn each1(f: Fn1, t: Dtype, x: &[u64], out: &mut [u64])
 pub(crate) fn by_type2(f: Fn2, t: Dtype, x: &[u64], y: &[u64], out: &mut [u64])
     requires first { length x.now ≡ length out.old }
     requires second { length y.now ≡ length out.old }
-    ensures { HasValues2 f t x.now y.now out.new }
+    ensures { HasResults2 f t x.now y.now out.new }
 {
     match t {
         Dtype::Bool => each2(f, Dtype::Bool, x, y, out),
@@ -58,7 +58,7 @@ pub(crate) fn by_type2(f: Fn2, t: Dtype, x: &[u64], y: &[u64], out: &mut [u64])
 fn each2(f: Fn2, t: Dtype, x: &[u64], y: &[u64], out: &mut [u64])
     requires first { length x.now ≡ length out.old }
     requires second { length y.now ≡ length out.old }
-    ensures { HasValues2 f t x.now y.now out.new }
+    ensures { HasResults2 f t x.now y.now out.new }
 {
     for at in 0..out.len() {
         out[at] = word(scalar2(f, t, number(t, x[at]), number(t, y[at])));
@@ -68,7 +68,7 @@ fn each2(f: Fn2, t: Dtype, x: &[u64], y: &[u64], out: &mut [u64])
 #[inline(always)]
 pub(crate) fn load_each(t: Dtype, bytes: &[u8], out: &mut [u64])
     requires { length bytes.now ≡ length out.old * size_of t }
-    ensures { HasWords t bytes.now out.new }
+    ensures { HasLoaded t bytes.now out.new }
 {
     for at in 0..out.len() {
         out[at] = word(load(t, bytes, at));
@@ -78,7 +78,7 @@ pub(crate) fn load_each(t: Dtype, bytes: &[u8], out: &mut [u64])
 #[inline(always)]
 pub(crate) fn save_each(t: Dtype, x: &[u64], out: &mut [u8])
     requires { length out.old ≡ length x.now * size_of t }
-    ensures { HasBytesOfWords t x.now out.new }
+    ensures { HasSaved t x.now out.new }
 {
     for at in 0..x.len() {
         save(t, number(t, x[at]), out, at);

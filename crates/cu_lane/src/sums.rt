@@ -2,7 +2,7 @@
 ghost use Rattle.std.specs.Prelude.{◌≡◌, ◌%◌, ◌^◌, length};
 ghost use Rattle.std.specs.List.{sum};
 ghost use Rattle.std.specs.Simd.Lanes.{zip2};
-ghost use Rattle.cu_lane.specs.Folds.{product};
+ghost use Rattle.cu_lane.specs.Folds.{product_of_words};
 
 use crate::compared::WIDE;
 use std::simd::prelude::*;
@@ -26,7 +26,7 @@ pub fn lane_sum(x: &[u64]) -> u64
 
 /// The product modulo 2^64.
 pub fn lane_prod(x: &[u64]) -> u64
-    ensures { result ≡ product x.now % 2 ^ 64 }
+    ensures { result ≡ product_of_words x.now % 2 ^ 64 }
 {
     let mut total = 1u64;
     for k in 0..x.len() {

@@ -14,19 +14,19 @@ use Rattle.cu_num.specs.TypeName.{dtype_named}
 use Rattle.cu_shape.specs.Index.{product}
 use Rattle.cu_grid.specs.Limits.{first_fault}
 use Rattle.cu_meta.specs.Members.{fill_of}
-use Rattle.cu_meta.specs.Said.{grid_of}
+use Rattle.cu_meta.specs.Said.{said_grid}
 use Rattle.cu_zarr.specs.Layout.{ArrayLayout}
 use Rattle.cu_command.specs.Name.{name_in}
 use Rattle.cu_load.proofs.LoadLemmas.{some_of, true_of, none_is_no_some, code_is_no_head, code_is_no_array, no_fault, same_head, same_array}
 use Rattle.cu_load.specs.LoadForm.{NamedLayout, GivenArray, has_form, text_member, list_member, sizes_at, layout_given, elements_after, head_in, array_in, load_of}
-use Rattle.cu_load.specs.Said.{AreElements, SaysArray, IsTextOf}
+use Rattle.cu_load.specs.Said.{SayElements, SaysArray, IsTextOf}
 
 -- ---- the elements
 
 record IsSplit (t : Dtype) (front all : List ℤ) (items : Items) : Type 0 where
   rest : List ℤ
   whole : all ≡ front ++ rest
-  are : AreElements t items rest
+  are : SayElements t items rest
 
 elements_split : (t : Dtype) (front all : List ℤ) (items : Items) → elements_after t front items ≡ Some all → IsSplit t front all items
 elements_split t front all no_items h =
@@ -37,7 +37,7 @@ elements_split t front all (item d ds) h =
     let behind = elements_split t (front ++ x ∷ []) all ds (rw e at h) in
     record { rest = x ∷ behind.rest; whole = behind.whole ∙ append_assoc front (x ∷ []) behind.rest; are = (e, behind.are) })
 
-elements_joined : (t : Dtype) (front rest : List ℤ) (items : Items) → AreElements t items rest → elements_after t front items ≡ Some (front ++ rest)
+elements_joined : (t : Dtype) (front rest : List ℤ) (items : Items) → SayElements t items rest → elements_after t front items ≡ Some (front ++ rest)
 elements_joined t front [] no_items are = ap Some (sym (append-nil front))
 elements_joined t front (x ∷ xs) (item d ds) are =
     rw are.0 (elements_joined t (front ++ x ∷ []) xs ds are.1 ∙ ap Some (append_assoc front (x ∷ []) xs))
@@ -52,7 +52,7 @@ record SaysHead (d : Data) (head : NamedLayout) : Type 0 where
   shape : sizes_at (codes "shape") d ≡ Some head.layout.shape
   chunk : sizes_at (codes "chunk_shape") d ≡ Some head.layout.chunk
   grid : first_fault head.layout.shape head.layout.chunk (size_of head.layout.dtype) ≡ None
-  layout : head.layout ≡ layout_given head.layout.dtype (grid_of head.layout)
+  layout : head.layout ≡ layout_given head.layout.dtype (said_grid head.layout)
 
 head_said : (d : Data) (head : NamedLayout) → head_in d ≡ Ok head → SaysHead d head
 head_said d head h =
@@ -73,7 +73,7 @@ head_said d head h =
     let said : SaysHead d made = record { form = form; name = e2; dtype = e3; shape = e4; chunk = e5; grid = no_fault _ fits; layout = refl } in
     subst (SaysHead d) same said))))
 
-said_head : (d : Data) (a : GivenArray) → SaysArray d a → head_in d ≡ Ok (record { name = a.name; layout = layout_given a.layout.dtype (grid_of a.layout) })
+said_head : (d : Data) (a : GivenArray) → SaysArray d a → head_in d ≡ Ok (record { name = a.name; layout = layout_given a.layout.dtype (said_grid a.layout) })
 said_head d a says = rw (says.form, says.name, says.dtype, says.shape, says.chunk, says.grid) refl
 
 -- ---- the whole
@@ -106,7 +106,7 @@ array_said d a h = head_found (head_in d) refl
           items = items;
           listed = e2;
           count = eqb-true (items_len items) (product head.layout.shape) many;
-          elements = subst (AreElements head.layout.dtype items) (sym split.whole) split.are;
+          elements = subst (SayElements head.layout.dtype items) (sym split.whole) split.are;
         } in
         subst (SaysArray d) same said))
 

@@ -11,16 +11,16 @@ use Rattle.cu_num.specs.TypeName.{dtype_named}
 use Rattle.cu_shape.specs.Index.{product}
 use Rattle.cu_grid.specs.Limits.{first_fault}
 use Rattle.cu_meta.specs.Members.{fill_of}
-use Rattle.cu_meta.specs.Said.{grid_of}
+use Rattle.cu_meta.specs.Said.{said_grid}
 use Rattle.cu_command.specs.Name.{name_in}
 use Rattle.cu_load.specs.LoadForm.{GivenArray, has_form, text_member, list_member, sizes_at, layout_given}
 
 -- each item is the element of its place: true or false for bool, and else an integer of the type
-abbrev pub AreElements : Dtype → Items → List ℤ → Type 0
-AreElements t no_items [] = Unit {0}
-AreElements t (item d ds) (x ∷ xs) = (fill_of t d ≡ Some x) × AreElements t ds xs
-AreElements t no_items (x ∷ xs) = ⊥
-AreElements t (item d ds) [] = ⊥
+abbrev pub SayElements : Dtype → Items → List ℤ → Type 0
+SayElements t no_items [] = Unit {0}
+SayElements t (item d ds) (x ∷ xs) = (fill_of t d ≡ Some x) × SayElements t ds xs
+SayElements t no_items (x ∷ xs) = ⊥
+SayElements t (item d ds) [] = ⊥
 
 -- the value is an object of the five members, and each says its part of the array
 pub record SaysArray (d : Data) (a : GivenArray) : Type 0 where
@@ -30,11 +30,11 @@ pub record SaysArray (d : Data) (a : GivenArray) : Type 0 where
   pub shape : sizes_at (codes "shape") d ≡ Some a.layout.shape
   pub chunk : sizes_at (codes "chunk_shape") d ≡ Some a.layout.chunk
   pub grid : first_fault a.layout.shape a.layout.chunk (size_of a.layout.dtype) ≡ None
-  pub layout : a.layout ≡ layout_given a.layout.dtype (grid_of a.layout)
+  pub layout : a.layout ≡ layout_given a.layout.dtype (said_grid a.layout)
   pub items : Items
   pub listed : list_member (codes "elements") d ≡ Some items
   pub count : items_len items ≡ product a.layout.shape
-  pub elements : AreElements a.layout.dtype items a.elements
+  pub elements : SayElements a.layout.dtype items a.elements
 
 -- the text is the JSON text of such a value, in UTF-8, and of at most 1048576 bytes
 pub record IsTextOf (text : List ℕ) (a : GivenArray) : Type 0 where

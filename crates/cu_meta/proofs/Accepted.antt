@@ -22,7 +22,7 @@ use Rattle.cu_meta.specs.Fault.{Fault}
 use Rattle.cu_meta.specs.Part.{is_part_of, configuration_member}
 use Rattle.cu_meta.specs.Members.{data_type_of, chunk_grid_of, encoding_of, within, truth, whole_of, fill_of, endian_of, are_attributes, are_dimension_names, are_no_transformers, are_understood}
 use Rattle.cu_meta.specs.Metadata.{layout_in, read_metadata}
-use Rattle.cu_meta.specs.Said.{grid_of, SaysLayout, IsMetadataOf}
+use Rattle.cu_meta.specs.Said.{said_grid, SaysLayout, IsMetadataOf}
 use Rattle.cu_meta.specs.Storable.{IsStorable}
 
 -- ---- a value that cannot be absent is there
@@ -155,7 +155,7 @@ says_storable d l says =
     let (shape, at_shape, (part, at_part, grid)) = says.grid in
     let (value, at_value, filled) = says.fill in
     let (list, at_list, ordered) = says.endian in
-    let fits = grid_accepted l.dtype shape part (grid_of l) grid in
+    let fits = grid_accepted l.dtype shape part (said_grid l) grid in
     record {
       axes = fits.0;
       grid = fits.1;

@@ -16,13 +16,13 @@ abbrev pub HasMember : List ℕ → Data → (Data → Type 0) → Type 0
 HasMember name d fact = (value : Data) × (get name d ≡ Some value) × fact value
 
 -- the array's shape and the shape of a whole chunk
-abbrev pub grid_of : ArrayLayout → RegularGrid
-grid_of l = record { shape = l.shape; chunk = l.chunk }
+abbrev pub said_grid : ArrayLayout → RegularGrid
+said_grid l = record { shape = l.shape; chunk = l.chunk }
 
 -- the two members that say the grid
 abbrev pub SaysGrid : Data → ArrayLayout → Type 0
 SaysGrid d l = HasMember (codes "shape") d (λ shape.
-    HasMember (codes "chunk_grid") d (λ part. chunk_grid_of l.dtype shape part ≡ Some (grid_of l)))
+    HasMember (codes "chunk_grid") d (λ part. chunk_grid_of l.dtype shape part ≡ Some (said_grid l)))
 
 -- The value is an object that says it is an array's of format 3. Each member that has to be there says its part of the layout, those
 -- that may be there are of their forms, and each other one may be passed over.

@@ -26,7 +26,7 @@ use Rattle.cu_region.specs.Steady.{IsSteady}
 use Rattle.cu_region.proofs.SteadyKeys.{same_or_not, first_or_rest, none_contained}
 use Rattle.cu_command.proofs.SeenLemmas.{stepped_then}
 use Rattle.cu_command.specs.Seen.{Stepped}
-use Rattle.cu_print.specs.Bands.{IsKeyOf, HasFirst, IsBandUnread}
+use Rattle.cu_print.specs.Bands.{IsBandKey, HasFirst, IsBandUnread}
 use Rattle.cu_print.specs.Runs.{IsReadEnd}
 use Rattle.cu_print.specs.declared.reads.Unread.{Unread}
 use Rattle.cu_print.proofs.ChunkReads.{end_since}
@@ -56,7 +56,7 @@ stays info r idx old new (Some held) same stored =
 
 -- each element of the region has its chunk among those that are left, or was read
 abbrev pub ReadsLeft : ArrayInfo → Region → Shown → List (List ℕ) → List ℕ → Type 0
-ReadsLeft info r shown left out = (entry : Shown) → Stepped NoChange entry shown → (idx : List ℕ) → IsWithin r.lo r.hi idx → IsSteady (IsKeyOf info idx) entry.held entry.late
+ReadsLeft info r shown left out = (entry : Shown) → Stepped NoChange entry shown → (idx : List ℕ) → IsWithin r.lo r.hi idx → IsSteady (IsBandKey info idx) entry.held entry.late
     → Contains left (quotients idx info.layout.grid.chunk) ⊎ IsStoredAt info r.lo r.hi entry.held out idx
 
 pub reads_more : (info : ArrayInfo) (r : Region) (coord old new : List ℕ) (rest : List (List ℕ)) (first now : Shown) → Stepped NoChange first now

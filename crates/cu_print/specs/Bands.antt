@@ -23,14 +23,14 @@ pub record IsBanding (bands : RegularGrid) (l : Layout) : Type 0 where
   pub bytes : product bands.chunk * size_of l.dtype ≤ 2 ^ 28
 
 -- the key is that of the chunk in which the element at this index lies
-abbrev pub IsKeyOf : ArrayInfo → List ℕ → List ℕ → Type 0
-IsKeyOf info idx key = key ≡ key_at info (quotients idx info.layout.grid.chunk)
+abbrev pub IsBandKey : ArrayInfo → List ℕ → List ℕ → Type 0
+IsBandKey info idx key = key ≡ key_at info (quotients idx info.layout.grid.chunk)
 
 -- So many elements of a region, from its first on. Each is the one that was held at any moment since which only late puts landed, where
 -- each that was late then on the key of its chunk carries what was held there.
 abbrev pub HasFirst : ArrayInfo → Region → Shown → ℕ → List ℕ → Type 0
 HasFirst info r shown n out = (entry : Shown) → Stepped NoChange entry shown → (idx : List ℕ) → IsWithin r.lo r.hi idx → place_within r.lo r.hi idx < n
-    → IsSteady (IsKeyOf info idx) entry.held entry.late → IsStoredAt info r.lo r.hi entry.held out idx
+    → IsSteady (IsBandKey info idx) entry.held entry.late → IsStoredAt info r.lo r.hi entry.held out idx
 
 -- the first element of a region that wasn't read, and why its chunk wasn't
 pub record IsBandUnread (tries : ℕ) (old new : Shown) (info : ArrayInfo) (r : Region) (unread : Unread) : Type 0 where

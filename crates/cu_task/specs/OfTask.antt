@@ -52,5 +52,5 @@ AreOfItsType t output = AreElements (type_at t.plan.arrays (target_of (task_op t
 abbrev pub ChangeBy : TaskView → Shown → Changes
 ChangeBy t shown = TaskChange t.plan t.op t.number shown
 
-abbrev pub IsFaultOf : TaskView → Shown → Shown → TaskFault → Type 0
-IsFaultOf t old new e = IsTaskFault old new t.plan t.op t.number e
+abbrev pub IsOwnFault : TaskView → Shown → Shown → TaskFault → Type 0
+IsOwnFault t old new e = IsTaskFault old new t.plan t.op t.number e

@@ -5,7 +5,7 @@ ghost use Rattle.cu_store.specs.Chunks.{StaysOpen};
 ghost use Rattle.cu_store.specs.Steps.{NoChange, Steps};
 ghost use Rattle.cu_op.specs.TaskView.{task_op};
 ghost use Rattle.cu_region.specs.Calls.{Made};
-ghost use Rattle.cu_task.specs.OfTask.{scratch_bytes, made_bytes, calls_to_read, MayRead, AreSteady, HasMade, AreOfItsType, IsFaultOf};
+ghost use Rattle.cu_task.specs.OfTask.{scratch_bytes, made_bytes, calls_to_read, MayRead, AreSteady, HasMade, AreOfItsType, IsOwnFault};
 ghost use Rattle.cu_task.specs.Task.{IsCopy};
 
 use crate::inputs::{input_walk, read_walk};
@@ -30,7 +30,7 @@ pub(crate) fn copy_region<C: Chunks>(
     ensures elements { OnOk result (AreOfItsType task.now output.new) }
     ensures step { Steps NoChange 0 (calls_to_read task.now) (C.shown access.old) (C.shown access.new) }
     ensures all { OnOk result (Made (calls_to_read task.now) (C.shown access.old).calls (C.shown access.new).calls) }
-    ensures cause { IfErr result (IsFaultOf task.now (C.shown access.old) (C.shown access.new)) }
+    ensures cause { IfErr result (IsOwnFault task.now (C.shown access.old) (C.shown access.new)) }
 {
     let walk = input_walk(task, 0);
     read_walk::<C>(store, access, task, &walk, output, scratch)

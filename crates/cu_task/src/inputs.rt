@@ -15,7 +15,7 @@ ghost use Rattle.cu_region.specs.Calls.{Made};
 ghost use Rattle.cu_region.specs.Steady.{IsSteady};
 ghost use Rattle.cu_region.specs.Writing.{AreElements};
 ghost use Rattle.cu_task.specs.Inputs.{walk_room, room_of_walks, HasRegions, lays_from, IsWalkKey, IsTaskInputFault};
-ghost use Rattle.cu_task.specs.OfTask.{scratch_bytes, read_bytes, calls_to_read, MayRead, AreSteady, IsFaultOf};
+ghost use Rattle.cu_task.specs.OfTask.{scratch_bytes, read_bytes, calls_to_read, MayRead, AreSteady, IsOwnFault};
 ghost use Rattle.cu_task.specs.Task.{ReadsRegions};
 
 use arrayvec::ArrayVec;
@@ -46,7 +46,7 @@ pub(crate) fn read_regions<C: Chunks>(
         → OnOk result (HasRegions task.now.plan.arrays held (input_walks task.now.plan.arrays (task_op task.now) task.now.number) inputs.new) }
     ensures step { Steps NoChange 0 (calls_to_read task.now) (C.shown access.old) (C.shown access.new) }
     ensures all { OnOk result (Made (calls_to_read task.now) (C.shown access.old).calls (C.shown access.new).calls) }
-    ensures cause { IfErr result (IsFaultOf task.now (C.shown access.old) (C.shown access.new)) }
+    ensures cause { IfErr result (IsOwnFault task.now (C.shown access.old) (C.shown access.new)) }
 {
     let walks = task.input_walks();
     read_inputs::<C>(store, access, task, walks, inputs, scratch)

@@ -10,7 +10,7 @@ ghost use Rattle.cu_op.specs.Sound.{Sound};
 ghost use Rattle.cu_op.specs.TaskView.{task_op};
 ghost use Rattle.cu_region.specs.Calls.{Made};
 ghost use Rattle.cu_task.specs.Inputs.{IsPullOf};
-ghost use Rattle.cu_task.specs.OfTask.{scratch_bytes, made_bytes, calls_to_read, MayRead, AreSteady, HasMade, AreOfItsType, IsFaultOf};
+ghost use Rattle.cu_task.specs.OfTask.{scratch_bytes, made_bytes, calls_to_read, MayRead, AreSteady, HasMade, AreOfItsType, IsOwnFault};
 ghost use Rattle.cu_task.specs.ViewJobs.{IsViewJob, view_task_of};
 ghost use Rattle.cu_task.specs.Task.{view_task, HasSureCalls};
 
@@ -41,7 +41,7 @@ pub(crate) fn pull_result<C: Chunks>(
     ensures elements { OnOk result (AreOfItsType task.now output.new) }
     ensures step { Steps NoChange 0 (calls_to_read task.now) (C.shown access.old) (C.shown access.new) }
     ensures all { HasSureCalls (task_op task.now) → OnOk result (Made (calls_to_read task.now) (C.shown access.old).calls (C.shown access.new).calls) }
-    ensures cause { IfErr result (IsFaultOf task.now (C.shown access.old) (C.shown access.new)) }
+    ensures cause { IfErr result (IsOwnFault task.now (C.shown access.old) (C.shown access.new)) }
 {
     let out = task.operation().target();
     let shapes = shapes_of(task, ins);
@@ -71,7 +71,7 @@ fn pull_region<C: Chunks>(
     ensures elements { OnOk result (AreOfItsType task.now output.new) }
     ensures step { Steps NoChange 0 (calls_to_read task.now) (C.shown access.old) (C.shown access.new) }
     ensures all { HasSureCalls (task_op task.now) → OnOk result (Rose (calls_to_read task.now) (C.shown access.old).calls (C.shown access.new).calls) }
-    ensures cause { IfErr result (IsFaultOf task.now (C.shown access.old) (C.shown access.new)) }
+    ensures cause { IfErr result (IsOwnFault task.now (C.shown access.old) (C.shown access.new)) }
 {
     lay_numbers(job, output);
     read_sources::<C>(store, access, job, output, scratch)

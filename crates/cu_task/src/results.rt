@@ -13,7 +13,7 @@ ghost use Rattle.cu_op.specs.Walks.{walk, walk_cells, written_chunks};
 ghost use Rattle.cu_region.specs.Calls.{Made};
 ghost use Rattle.cu_region.specs.Writing.{AreElements, LateIsOwn, RegionPut, StoresRegion, IsWriteFault};
 ghost use Rattle.cu_task.specs.OfTask.{scratch_bytes, made_bytes, IsMadeOver, AreOfItsType, ChangeBy};
-ghost use Rattle.cu_task.specs.Task.{IsTaskReady, HoldsCells, compared_array, value_array, result_room, value_room, IsResultOver};
+ghost use Rattle.cu_task.specs.Task.{IsTaskReady, HoldsCells, compared_array, value_array, result_room, found_room, IsResultOver};
 
 use crate::inputs::region_bytes;
 use cu_op::{Op, PlanTask};
@@ -30,7 +30,7 @@ pub(crate) fn result_bytes(task: &PlanTask<'_>) -> usize
 
 /// The bytes of the values that a task finds: none but of a search.
 pub(crate) fn value_bytes(task: &PlanTask<'_>) -> usize
-    ensures { result ≡ value_room task.now.plan task.now.op task.now.number }
+    ensures { result ≡ found_room task.now.plan task.now.op task.now.number }
 {
     match compared(task.operation()) {
         Some(array) => region_room(task, array),

@@ -12,8 +12,8 @@ ghost use Rattle.cu_op.specs.TaskView.{task_op};
 ghost use Rattle.cu_op.specs.Value.{Elements};
 ghost use Rattle.cu_region.specs.Calls.{Made};
 ghost use Rattle.cu_region.specs.Writing.{AreElements};
-ghost use Rattle.cu_task.specs.OfTask.{scratch_bytes, read_bytes, made_bytes, calls_to_read, MayRead, AreSteady, HasMade, IsMadeFrom, AreOfItsType, ChangeBy, IsFaultOf};
-ghost use Rattle.cu_task.specs.Task.{IsTaskReady, TaskChange, HoldsCells, calls_of, HasSureCalls, IsComputing, kept_room, value_array, value_room, HasResult, IsComputed, IsTaskFault};
+ghost use Rattle.cu_task.specs.OfTask.{scratch_bytes, read_bytes, made_bytes, calls_to_read, MayRead, AreSteady, HasMade, IsMadeFrom, AreOfItsType, ChangeBy, IsOwnFault};
+ghost use Rattle.cu_task.specs.Task.{IsTaskReady, TaskChange, HoldsCells, calls_of, HasSureCalls, IsComputing, kept_room, value_array, found_room, HasResult, IsComputed, IsTaskFault};
 
 use crate::copies::copy_region;
 use crate::inputs::{input_bytes, read_regions};
@@ -84,7 +84,7 @@ fn run_plan_task<C: Chunks>(
     ensures stored { (env : Elements) → IsTaskReady task.now.plan task.now.op task.now.number env (C.shown access.old) → OnOk result (HoldsCells task.now.plan task.now.op task.now.number env (C.shown access.new)) }
     ensures step { Steps (ChangeBy task.now (C.shown access.old)) 0 (calls_of task.now.plan task.now.op task.now.number) (C.shown access.old) (C.shown access.new) }
     ensures all { HasSureCalls (task_op task.now) → OnOk result (Made (calls_of task.now.plan task.now.op task.now.number) (C.shown access.old).calls (C.shown access.new).calls) }
-    ensures cause { IfErr result (IsFaultOf task.now (C.shown access.old) (C.shown access.new)) }
+    ensures cause { IfErr result (IsOwnFault task.now (C.shown access.old) (C.shown access.new)) }
 {
     let result = result_bytes(task);
     let found = value_bytes(task);
@@ -108,7 +108,7 @@ fn make_result<C: Chunks>(
     requires belongs { C.belongs store.now access.old }
     requires may { MayRead task.now (C.may_get store.now access.old) }
     requires room { scratch_bytes task.now + kept_room task.now.plan.arrays (task_op task.now) task.now.number ≤ length room.old }
-    requires values { length values.old ≡ value_room task.now.plan task.now.op task.now.number }
+    requires values { length values.old ≡ found_room task.now.plan task.now.op task.now.number }
     requires output { length output.old ≡ made_bytes task.now }
     requires words { length words.old ≡ 64 * instruction_count (task_op task.now) }
     ensures open { StaysOpen (C.belongs store.now access.new) (C.may_get store.now access.old) (C.may_get store.now access.new) }
@@ -119,7 +119,7 @@ fn make_result<C: Chunks>(
     ensures value_elements { (array : ℕ) → value_array (task_op task.now) ≡ Some array → OnOk result (AreElements (type_at task.now.plan.arrays array) values.new) }
     ensures step { Steps NoChange 0 (calls_to_read task.now) (C.shown access.old) (C.shown access.new) }
     ensures all { HasSureCalls (task_op task.now) → OnOk result (Made (calls_to_read task.now) (C.shown access.old).calls (C.shown access.new).calls) }
-    ensures cause { IfErr result (IsFaultOf task.now (C.shown access.old) (C.shown access.new)) }
+    ensures cause { IfErr result (IsOwnFault task.now (C.shown access.old) (C.shown access.new)) }
 {
     match task.operation() {
         Op::Pull { pull, ins, .. } => {
@@ -144,7 +144,7 @@ fn compute_result<C: Chunks>(
     requires may { MayRead task.now (C.may_get store.now access.old) }
     requires computing { IsComputing (task_op task.now) }
     requires room { scratch_bytes task.now + read_bytes task.now ≤ length room.old }
-    requires values { length values.old ≡ value_room task.now.plan task.now.op task.now.number }
+    requires values { length values.old ≡ found_room task.now.plan task.now.op task.now.number }
     requires output { length output.old ≡ made_bytes task.now }
     requires words { length words.old ≡ 64 * instruction_count (task_op task.now) }
     ensures open { StaysOpen (C.belongs store.now access.new) (C.may_get store.now access.old) (C.may_get store.now access.new) }
@@ -155,7 +155,7 @@ fn compute_result<C: Chunks>(
     ensures value_elements { (array : ℕ) → value_array (task_op task.now) ≡ Some array → OnOk result (AreElements (type_at task.now.plan.arrays array) values.new) }
     ensures step { Steps NoChange 0 (calls_to_read task.now) (C.shown access.old) (C.shown access.new) }
     ensures all { OnOk result (Made (calls_to_read task.now) (C.shown access.old).calls (C.shown access.new).calls) }
-    ensures cause { IfErr result (IsFaultOf task.now (C.shown access.old) (C.shown access.new)) }
+    ensures cause { IfErr result (IsOwnFault task.now (C.shown access.old) (C.shown access.new)) }
 {
     let kept = input_bytes(task);
     let (scratch, inputs) = room.split_at_mut(room.len() - kept);
@@ -175,7 +175,7 @@ fn compute(
 )
     requires computing { IsComputing (task_op task.now) }
     requires inputs { length inputs.now ≡ read_bytes task.now }
-    requires values { length values.old ≡ value_room task.now.plan task.now.op task.now.number }
+    requires values { length values.old ≡ found_room task.now.plan task.now.op task.now.number }
     requires output { length output.old ≡ made_bytes task.now }
     requires words { length words.old ≡ 64 * instruction_count (task_op task.now) }
     ensures output { IsMadeFrom task.now inputs.now output.new }

@@ -1,7 +1,7 @@
 use Rattle.std.proofs.Common.{◌+◌, arith}
 use Rattle.cu_command.proofs.SeenLemmas.{stepped_same, stepped_then, within_more, within_few}
 use Rattle.cu_store.specs.Steps.{NoChange}
-use Rattle.cu_check.specs.Arrays.{chunks_of}
+use Rattle.cu_check.specs.Arrays.{input_chunk_count}
 use Rattle.cu_check.specs.Chunks.{input_of}
 use Rattle.cu_check.proofs.ChunkReads.{none_below, all_below, turn_fault}
 use Rattle.cu_check.proofs.chunks.read_chunks.Goals as goal
@@ -35,11 +35,11 @@ returns-clause-read g c entry before =
 
 pub returns-clause-calls : goal.returns-clause-calls
 returns-clause-calls g c =
-    within_few c.loop-number.number (chunks_of (input_of c.args.info.now)) (c.args.retries + 1) (g.D.Depot.shown c.args.depot.now) (g.D.Depot.shown c.loop-number.depot) (omega (arith, c.count-number-end.ensures.count))
+    within_few c.loop-number.number (input_chunk_count (input_of c.args.info.now)) (c.args.retries + 1) (g.D.Depot.shown c.args.depot.now) (g.D.Depot.shown c.loop-number.depot) (omega (arith, c.count-number-end.ensures.count))
     c.loop-number.invariant.calls
 
 pub returns-in-Err-clause-calls : goal.returns-in-Err-clause-calls
 returns-in-Err-clause-calls g c =
-    within_few (c.loop-number.number + 1) (chunks_of (input_of c.args.info.now)) (c.args.retries + 1) (g.D.Depot.shown c.args.depot.now) (g.D.Depot.shown c.read_numbered.new.depot) (omega (arith, c.count-number-end.ensures.count))
+    within_few (c.loop-number.number + 1) (input_chunk_count (input_of c.args.info.now)) (c.args.retries + 1) (g.D.Depot.shown c.args.depot.now) (g.D.Depot.shown c.read_numbered.new.depot) (omega (arith, c.count-number-end.ensures.count))
     (within_more c.loop-number.number (c.args.retries + 1) (g.D.Depot.shown c.args.depot.now) (g.D.Depot.shown c.loop-number.depot) (g.D.Depot.shown c.read_numbered.new.depot)
     c.loop-number.invariant.calls c.read_numbered.ensures.calls)
