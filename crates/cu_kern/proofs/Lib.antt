@@ -10,3 +10,4 @@ pub mod DirectValues
 pub mod RowResults
 pub mod RowSteps
 pub mod FirstPlaces
+pub mod SameQuotient

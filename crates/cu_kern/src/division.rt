@@ -47,7 +47,7 @@ fn round_down(t: Dtype, x: i128, y: i128) -> i128
 
 /// The number, or where `below` holds the one whose bits are its complement.
 #[inline]
-fn flip(below: bool, x: i128) -> i128
+pub(crate) fn flip(below: bool, x: i128) -> i128
     requires least { neg_ℤ (pos (2 ^ 64)) ≤ℤ x }
     requires most { x ≤ℤ pos (2 ^ 64) }
     ensures { result ≡ complemented below x }

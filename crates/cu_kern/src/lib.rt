@@ -9,6 +9,7 @@ mod lane_functions;
 mod lane_loops;
 mod lanes;
 mod lays;
+mod reciprocals;
 mod rows;
 mod run;
 mod sources;

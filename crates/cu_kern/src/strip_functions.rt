@@ -3,6 +3,7 @@ ghost use Rattle.std.specs.Prelude.{◌≡◌, ◌≢◌, ◌≤◌, length};
 ghost use Rattle.cu_kern.specs.Strips.{strip, IsCall, HasArguments, HasResults};
 
 use crate::calls::Call;
+use crate::reciprocals::divide_by_type;
 use crate::strip_loops::{
     astype_by_types, compare_long_by_type, compare_short_by_type, one_by_type, pair_by_type,
     select_by_type,
@@ -165,6 +166,11 @@ fn pair_floor_divide(t: Dtype, x: &[u8], x_step: usize, y: &[u8], y_step: usize,
     requires arguments { HasArguments (Call.Two Fn2.FloorDivide t) (strip x.now x_step) (strip y.now y_step) (strip y.now y_step) (length out.old) }
     ensures { HasResults (Call.Two Fn2.FloorDivide t) (strip x.now x_step) (strip y.now y_step) (strip y.now y_step) out.new }
 {
+    if x_step != 0 && y_step == 0 {
+        if divide_by_type(Fn2::FloorDivide, t, x, y, out) {
+            return;
+        }
+    }
     pair_by_type(Fn2::FloorDivide, t, x, x_step, y, y_step, out);
 }
 
@@ -173,6 +179,11 @@ fn pair_remainder(t: Dtype, x: &[u8], x_step: usize, y: &[u8], y_step: usize, ou
     requires arguments { HasArguments (Call.Two Fn2.Remainder t) (strip x.now x_step) (strip y.now y_step) (strip y.now y_step) (length out.old) }
     ensures { HasResults (Call.Two Fn2.Remainder t) (strip x.now x_step) (strip y.now y_step) (strip y.now y_step) out.new }
 {
+    if x_step != 0 && y_step == 0 {
+        if divide_by_type(Fn2::Remainder, t, x, y, out) {
+            return;
+        }
+    }
     pair_by_type(Fn2::Remainder, t, x, x_step, y, y_step, out);
 }
 
