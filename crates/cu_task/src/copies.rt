@@ -25,11 +25,15 @@ pub(crate) fn copy_region<C: Chunks>(
     requires copy { IsCopy (task_op task.now) }
     requires output { length output.old ≡ made_bytes task.now }
     requires scratch { scratch_bytes task.now ≤ length scratch.old }
-    ensures open { StaysOpen (C.belongs store.now access.new) (C.may_get store.now access.old) (C.may_get store.now access.new) }
-    ensures values { (held : Contents) → AreSteady task.now (C.shown access.old) held → OnOk result (HasMade task.now held output.new) }
+    ensures open { StaysOpen (C.belongs store.now access.new) (C.may_get store.now access.old)
+        (C.may_get store.now access.new) }
+    ensures values { (held : Contents) → AreSteady task.now (C.shown access.old) held
+        → OnOk result (HasMade task.now held output.new) }
     ensures elements { OnOk result (AreOfItsType task.now output.new) }
-    ensures step { Steps NoChange 0 (calls_to_read task.now) (C.shown access.old) (C.shown access.new) }
-    ensures all { OnOk result (Made (calls_to_read task.now) (C.shown access.old).calls (C.shown access.new).calls) }
+    ensures step { Steps NoChange 0 (calls_to_read task.now) (C.shown access.old)
+        (C.shown access.new) }
+    ensures all { OnOk result (Made (calls_to_read task.now) (C.shown access.old).calls
+        (C.shown access.new).calls) }
     ensures cause { IfErr result (IsOwnFault task.now (C.shown access.old) (C.shown access.new)) }
 {
     let walk = input_walk(task, 0);

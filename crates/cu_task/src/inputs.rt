@@ -41,11 +41,15 @@ pub(crate) fn read_regions<C: Chunks>(
     requires regions { ReadsRegions (task_op task.now) }
     requires room { read_bytes task.now ≤ length inputs.old }
     requires scratch { scratch_bytes task.now ≤ length scratch.old }
-    ensures open { StaysOpen (C.belongs store.now access.new) (C.may_get store.now access.old) (C.may_get store.now access.new) }
+    ensures open { StaysOpen (C.belongs store.now access.new) (C.may_get store.now access.old)
+        (C.may_get store.now access.new) }
     ensures read { (held : Contents) → AreSteady task.now (C.shown access.old) held
-        → OnOk result (HasRegions task.now.plan.arrays held (input_walks task.now.plan.arrays (task_op task.now) task.now.number) inputs.new) }
-    ensures step { Steps NoChange 0 (calls_to_read task.now) (C.shown access.old) (C.shown access.new) }
-    ensures all { OnOk result (Made (calls_to_read task.now) (C.shown access.old).calls (C.shown access.new).calls) }
+        → OnOk result (HasRegions task.now.plan.arrays held
+        (input_walks task.now.plan.arrays (task_op task.now) task.now.number) inputs.new) }
+    ensures step { Steps NoChange 0 (calls_to_read task.now) (C.shown access.old)
+        (C.shown access.new) }
+    ensures all { OnOk result (Made (calls_to_read task.now) (C.shown access.old).calls
+        (C.shown access.new).calls) }
     ensures cause { IfErr result (IsOwnFault task.now (C.shown access.old) (C.shown access.new)) }
 {
     let walks = task.input_walks();
@@ -65,13 +69,18 @@ fn read_inputs<C: Chunks>(
     requires may { MayReadWalks task.now.plan.arrays walks.now (C.may_get store.now access.old) }
     requires walks { All (IsWalkOver task.now.plan.arrays) walks.now }
     requires room { room_of_walks task.now.plan.arrays walks.now ≤ length inputs.old }
-    requires scratch { All (λ w. chunk_room task.now.plan.arrays w.array ≤ length scratch.old) walks.now }
-    ensures open { StaysOpen (C.belongs store.now access.new) (C.may_get store.now access.old) (C.may_get store.now access.new) }
+    requires scratch { All (λ w. chunk_room task.now.plan.arrays w.array ≤ length scratch.old)
+        walks.now }
+    ensures open { StaysOpen (C.belongs store.now access.new) (C.may_get store.now access.old)
+        (C.may_get store.now access.new) }
     ensures read { (held : Contents) → (C.shown access.old).held ≡ Some held → IsSteady (IsWalkKey task.now.plan.arrays walks.now) (Some held) (C.shown access.old).late
         → OnOk result (HasRegions task.now.plan.arrays held walks.now inputs.new) }
-    ensures step { Steps NoChange 0 (length (cells_of_walks task.now.plan.arrays walks.now)) (C.shown access.old) (C.shown access.new) }
-    ensures all { OnOk result (Made (length (cells_of_walks task.now.plan.arrays walks.now)) (C.shown access.old).calls (C.shown access.new).calls) }
-    ensures cause { IfErr result (IsTaskInputFault (C.shown access.old) (C.shown access.new) task.now.plan.arrays walks.now) }
+    ensures step { Steps NoChange 0 (length (cells_of_walks task.now.plan.arrays walks.now))
+        (C.shown access.old) (C.shown access.new) }
+    ensures all { OnOk result (Made (length (cells_of_walks task.now.plan.arrays walks.now))
+        (C.shown access.old).calls (C.shown access.new).calls) }
+    ensures cause { IfErr result (IsTaskInputFault (C.shown access.old) (C.shown access.new)
+        task.now.plan.arrays walks.now) }
 {
     match walks {
         [] => Ok(()),
@@ -93,17 +102,24 @@ pub(crate) fn read_walk<C: Chunks>(
     scratch: &mut [u8],
 ) -> Result<(), TaskFault>
     requires belongs { C.belongs store.now access.old }
-    requires may { MayReadWalks task.now.plan.arrays (walk.now ∷ []) (C.may_get store.now access.old) }
+    requires may { MayReadWalks task.now.plan.arrays (walk.now ∷ [])
+        (C.may_get store.now access.old) }
     requires walk { IsWalkOver task.now.plan.arrays walk.now }
     requires room { length out.old ≡ walk_room task.now.plan.arrays walk.now }
     requires scratch { chunk_room task.now.plan.arrays walk.now.array ≤ length scratch.old }
-    ensures open { StaysOpen (C.belongs store.now access.new) (C.may_get store.now access.old) (C.may_get store.now access.new) }
+    ensures open { StaysOpen (C.belongs store.now access.new) (C.may_get store.now access.old)
+        (C.may_get store.now access.new) }
     ensures read { (held : Contents) → (C.shown access.old).held ≡ Some held → IsSteady (IsWalkKey task.now.plan.arrays (walk.now ∷ [])) (Some held) (C.shown access.old).late
-        → OnOk result (ReadsRegion (array_at task.now.plan.arrays walk.now.array) walk.now.region.lo walk.now.region.hi (Some held) out.new) }
-    ensures elements { OnOk result (AreElements (type_at task.now.plan.arrays walk.now.array) out.new) }
-    ensures step { Steps NoChange 0 (length (walk_cells task.now.plan.arrays walk.now)) (C.shown access.old) (C.shown access.new) }
-    ensures all { OnOk result (Made (length (walk_cells task.now.plan.arrays walk.now)) (C.shown access.old).calls (C.shown access.new).calls) }
-    ensures cause { IfErr result (IsTaskInputFault (C.shown access.old) (C.shown access.new) task.now.plan.arrays (walk.now ∷ [])) }
+        → OnOk result (ReadsRegion (array_at task.now.plan.arrays walk.now.array) walk.now.region.lo
+        walk.now.region.hi (Some held) out.new) }
+    ensures elements { OnOk result (AreElements (type_at task.now.plan.arrays walk.now.array)
+        out.new) }
+    ensures step { Steps NoChange 0 (length (walk_cells task.now.plan.arrays walk.now))
+        (C.shown access.old) (C.shown access.new) }
+    ensures all { OnOk result (Made (length (walk_cells task.now.plan.arrays walk.now))
+        (C.shown access.old).calls (C.shown access.new).calls) }
+    ensures cause { IfErr result (IsTaskInputFault (C.shown access.old) (C.shown access.new)
+        task.now.plan.arrays (walk.now ∷ [])) }
 {
     read_region_of::<C>(
         store,
@@ -183,7 +199,9 @@ pub(crate) fn lays_of(task: &PlanTask<'_>, walks: &[Walk]) -> ArrayVec<Lay, 8>
 /// The region of an array that a task reads, by its place among them.
 pub(crate) fn input_walk(task: &PlanTask<'_>, at: usize) -> Walk
     requires { at < length (input_walks task.now.plan.arrays (task_op task.now) task.now.number) }
-    ensures walk { result ≡ slice_index_or (input_walks task.now.plan.arrays (task_op task.now) task.now.number) at (walk 0 [] []) }
+    ensures walk { result
+        ≡ slice_index_or (input_walks task.now.plan.arrays (task_op task.now) task.now.number) at
+        (walk 0 [] []) }
     ensures over { IsWalkOver task.now.plan.arrays result }
     ensures sound { Sound task.now.plan }
 {

@@ -36,11 +36,16 @@ pub(crate) fn pull_result<C: Chunks>(
     requires few { length ins.now ≤ 8 }
     requires output { length output.old ≡ made_bytes task.now }
     requires scratch { scratch_bytes task.now ≤ length scratch.old }
-    ensures open { StaysOpen (C.belongs store.now access.new) (C.may_get store.now access.old) (C.may_get store.now access.new) }
-    ensures values { (held : Contents) → AreSteady task.now (C.shown access.old) held → OnOk result (HasMade task.now held output.new) }
+    ensures open { StaysOpen (C.belongs store.now access.new) (C.may_get store.now access.old)
+        (C.may_get store.now access.new) }
+    ensures values { (held : Contents) → AreSteady task.now (C.shown access.old) held
+        → OnOk result (HasMade task.now held output.new) }
     ensures elements { OnOk result (AreOfItsType task.now output.new) }
-    ensures step { Steps NoChange 0 (calls_to_read task.now) (C.shown access.old) (C.shown access.new) }
-    ensures all { HasSureCalls (task_op task.now) → OnOk result (Made (calls_to_read task.now) (C.shown access.old).calls (C.shown access.new).calls) }
+    ensures step { Steps NoChange 0 (calls_to_read task.now) (C.shown access.old)
+        (C.shown access.new) }
+    ensures all { HasSureCalls (task_op task.now)
+        → OnOk result (Made (calls_to_read task.now) (C.shown access.old).calls
+        (C.shown access.new).calls) }
     ensures cause { IfErr result (IsOwnFault task.now (C.shown access.old) (C.shown access.new)) }
 {
     let out = task.operation().target();
@@ -63,14 +68,23 @@ fn pull_region<C: Chunks>(
     requires sound { Sound task.now.plan }
     requires pull { IsPullOf (task_op task.now) job.now.pull.now job.now.ins.now }
     requires job { IsViewJob job.now }
-    requires view { view_task_of job.now ≡ view_task task.now.plan.arrays job.now.pull.now job.now.ins.now (target_of (task_op task.now)) (task_lo task.now.plan.arrays (task_op task.now) task.now.number) (task_hi task.now.plan.arrays (task_op task.now) task.now.number) }
+    requires view { view_task_of job.now
+        ≡ view_task task.now.plan.arrays job.now.pull.now job.now.ins.now
+        (target_of (task_op task.now))
+        (task_lo task.now.plan.arrays (task_op task.now) task.now.number)
+        (task_hi task.now.plan.arrays (task_op task.now) task.now.number) }
     requires output { length output.old ≡ made_bytes task.now }
     requires scratch { scratch_bytes task.now ≤ length scratch.old }
-    ensures open { StaysOpen (C.belongs store.now access.new) (C.may_get store.now access.old) (C.may_get store.now access.new) }
-    ensures values { (held : Contents) → AreSteady task.now (C.shown access.old) held → OnOk result (HasMade task.now held output.new) }
+    ensures open { StaysOpen (C.belongs store.now access.new) (C.may_get store.now access.old)
+        (C.may_get store.now access.new) }
+    ensures values { (held : Contents) → AreSteady task.now (C.shown access.old) held
+        → OnOk result (HasMade task.now held output.new) }
     ensures elements { OnOk result (AreOfItsType task.now output.new) }
-    ensures step { Steps NoChange 0 (calls_to_read task.now) (C.shown access.old) (C.shown access.new) }
-    ensures all { HasSureCalls (task_op task.now) → OnOk result (Rose (calls_to_read task.now) (C.shown access.old).calls (C.shown access.new).calls) }
+    ensures step { Steps NoChange 0 (calls_to_read task.now) (C.shown access.old)
+        (C.shown access.new) }
+    ensures all { HasSureCalls (task_op task.now)
+        → OnOk result (Rose (calls_to_read task.now) (C.shown access.old).calls
+        (C.shown access.new).calls) }
     ensures cause { IfErr result (IsOwnFault task.now (C.shown access.old) (C.shown access.new)) }
 {
     lay_numbers(job, output);
@@ -91,7 +105,11 @@ fn view_job<'a>(
     requires out { out ≡ target_of (task_op task.now) }
     ensures job { IsViewJob result }
     ensures pull { IsPullOf (task_op task.now) result.pull.now result.ins.now }
-    ensures view { view_task_of result ≡ view_task task.now.plan.arrays result.pull.now result.ins.now (target_of (task_op task.now)) (task_lo task.now.plan.arrays (task_op task.now) task.now.number) (task_hi task.now.plan.arrays (task_op task.now) task.now.number) }
+    ensures view { view_task_of result
+        ≡ view_task task.now.plan.arrays result.pull.now result.ins.now
+        (target_of (task_op task.now))
+        (task_lo task.now.plan.arrays (task_op task.now) task.now.number)
+        (task_hi task.now.plan.arrays (task_op task.now) task.now.number) }
     ensures sound { Sound task.now.plan }
 {
     ViewJob {

@@ -1,7 +1,7 @@
-//! The regions that a task writes.
+//! What a task has made: its rooms, and the chunks of its region.
 ghost use Rattle.std.specs.Prelude.{◌≡◌, ℕ, ◌<◌, ◌≤◌, [], ◌∷◌, Some, length, Contains, IfErr, OnOk};
 ghost use Rattle.cu_store.specs.Chunks.{StaysOpen};
-ghost use Rattle.cu_task.specs.Asks.{MayReadWritten, MayReadRegion, AllowsRegion, AllowsResult, AllowsResults, AllowsFound};
+ghost use Rattle.cu_task.specs.Asks.{MayReadRegion, AllowsRegion, AllowsResult, AllowsResults, AllowsFound};
 ghost use Rattle.cu_store.specs.Steps.{Shown, Steps};
 ghost use Rattle.cu_op.specs.Arrays.{array_at, type_at};
 ghost use Rattle.cu_op.specs.Cells.{task_lo, task_hi};
@@ -9,11 +9,11 @@ ghost use Rattle.cu_op.specs.Operation.{target_of, writes_of};
 ghost use Rattle.cu_op.specs.Sound.{Sound};
 ghost use Rattle.cu_op.specs.TaskView.{task_op};
 ghost use Rattle.cu_op.specs.Value.{Elements};
-ghost use Rattle.cu_op.specs.Walks.{walk, walk_cells, written_chunks};
+ghost use Rattle.cu_op.specs.Walks.{walk, walk_cells};
 ghost use Rattle.cu_region.specs.Calls.{Made};
 ghost use Rattle.cu_region.specs.Writing.{AreElements, LateIsOwn, RegionPut, StoresRegion, IsWriteFault};
-ghost use Rattle.cu_task.specs.OfTask.{scratch_bytes, made_bytes, IsMadeOver, AreOfItsType, ChangeBy};
-ghost use Rattle.cu_task.specs.Task.{IsTaskReady, HoldsCells, compared_array, value_array, result_room, found_room, IsResultOver};
+ghost use Rattle.cu_task.specs.OfTask.{found_bytes, calls_to_write, MayReadMade, IsReadyFor, HoldsMade, scratch_bytes, made_bytes, IsMadeOver, AreOfItsType, ChangeBy};
+ghost use Rattle.cu_task.specs.Task.{compared_array, value_array, result_room, IsResultOver};
 
 use crate::inputs::region_bytes;
 use cu_op::{Op, PlanTask};
@@ -30,7 +30,7 @@ pub(crate) fn result_bytes(task: &PlanTask<'_>) -> usize
 
 /// The bytes of the values that a task finds: none but of a search.
 pub(crate) fn value_bytes(task: &PlanTask<'_>) -> usize
-    ensures { result ≡ found_room task.now.plan task.now.op task.now.number }
+    ensures { result ≡ found_bytes task.now }
 {
     match compared(task.operation()) {
         Some(array) => region_room(task, array),
@@ -60,7 +60,7 @@ fn region_room(task: &PlanTask<'_>, array: u32) -> usize
 }
 
 /// Stores the chunks of an array that lie in the region of a task, through `scratch`, which has the bytes of a chunk.
-pub(crate) fn write_array<C: Chunks>(
+fn write_array<C: Chunks>(
     store: &C::Store,
     access: &mut C::Access,
     task: &PlanTask<'_>,
@@ -69,27 +69,35 @@ pub(crate) fn write_array<C: Chunks>(
     scratch: &mut [u8],
 ) -> Result<(), TaskFault>
     requires belongs { C.belongs store.now access.old }
-    requires puts { AllowsRegion task.now.plan task.now.op task.now.number array output.now (C.may_put store.now) }
+    requires puts { AllowsRegion task.now.plan task.now.op task.now.number array output.now
+        (C.may_put store.now) }
     requires array { Contains (writes_of (task_op task.now)) array }
-    requires output { length output.now ≡ result_room task.now.plan task.now.op task.now.number array }
+    requires output { length output.now
+        ≡ result_room task.now.plan task.now.op task.now.number array }
     requires elements { AreElements (type_at task.now.plan.arrays array) output.now }
     requires scratch { scratch_bytes task.now ≤ length scratch.old }
-    ensures open { StaysOpen (C.belongs store.now access.new) (C.may_get store.now access.old) (C.may_get store.now access.new) }
-    ensures got { OnOk result (MayReadRegion task.now.plan task.now.op task.now.number array (C.may_get store.now access.new)) }
+    ensures open { StaysOpen (C.belongs store.now access.new) (C.may_get store.now access.old)
+        (C.may_get store.now access.new) }
+    ensures got { OnOk result (MayReadRegion task.now.plan task.now.op task.now.number array
+        (C.may_get store.now access.new)) }
     ensures stored { LateIsOwn (array_at task.now.plan.arrays array) (task_lo task.now.plan.arrays (task_op task.now) task.now.number) (task_hi task.now.plan.arrays (task_op task.now) task.now.number) output.now (C.shown access.old).late
-        → OnOk result (StoresRegion (array_at task.now.plan.arrays array) (task_lo task.now.plan.arrays (task_op task.now) task.now.number) (task_hi task.now.plan.arrays (task_op task.now) task.now.number) output.now (C.shown access.new).held) }
+        → OnOk result (StoresRegion (array_at task.now.plan.arrays array)
+        (task_lo task.now.plan.arrays (task_op task.now) task.now.number)
+        (task_hi task.now.plan.arrays (task_op task.now) task.now.number) output.now
+        (C.shown access.new).held) }
     ensures step { Steps (RegionPut (array_at task.now.plan.arrays array) (task_lo task.now.plan.arrays (task_op task.now) task.now.number) (task_hi task.now.plan.arrays (task_op task.now) task.now.number) output.now)
         0 (length (walk_cells task.now.plan.arrays (walk array (task_lo task.now.plan.arrays (task_op task.now) task.now.number) (task_hi task.now.plan.arrays (task_op task.now) task.now.number)))) (C.shown access.old) (C.shown access.new) }
     ensures all { OnOk result (Made (length (walk_cells task.now.plan.arrays (walk array (task_lo task.now.plan.arrays (task_op task.now) task.now.number) (task_hi task.now.plan.arrays (task_op task.now) task.now.number))))
         (C.shown access.old).calls (C.shown access.new).calls) }
-    ensures cause { IfErr result (IsWriteFault (C.shown access.old).faults (C.shown access.new).faults (C.shown access.new).lacks) }
+    ensures cause { IfErr result (IsWriteFault (C.shown access.old).faults
+        (C.shown access.new).faults (C.shown access.new).lacks) }
 {
     let region = task.region();
     write_region_of::<C>(store, access, task.array(array), region, output, scratch)
 }
 
 /// Stores the chunks of the one array that an operation writes.
-pub(crate) fn write_only<C: Chunks>(
+fn write_only<C: Chunks>(
     store: &C::Store,
     access: &mut C::Access,
     task: &PlanTask<'_>,
@@ -97,26 +105,33 @@ pub(crate) fn write_only<C: Chunks>(
     scratch: &mut [u8],
 ) -> Result<(), TaskFault>
     requires belongs { C.belongs store.now access.old }
-    requires puts { AllowsResult task.now.plan task.now.op task.now.number (target_of (task_op task.now)) output.now (C.may_put store.now) }
+    requires puts { AllowsResult task.now.plan task.now.op task.now.number
+        (target_of (task_op task.now)) output.now (C.may_put store.now) }
     requires only { writes_of (task_op task.now) ≡ target_of (task_op task.now) ∷ [] }
     requires output { length output.now ≡ made_bytes task.now }
     requires elements { AreOfItsType task.now output.now }
     requires scratch { scratch_bytes task.now ≤ length scratch.old }
-    ensures open { StaysOpen (C.belongs store.now access.new) (C.may_get store.now access.old) (C.may_get store.now access.new) }
-    ensures got { OnOk result (MayReadWritten task.now.plan task.now.op task.now.number (C.may_get store.now access.new)) }
+    ensures open { StaysOpen (C.belongs store.now access.new) (C.may_get store.now access.old)
+        (C.may_get store.now access.new) }
+    ensures got { OnOk result (MayReadMade task.now (C.may_get store.now access.new)) }
     ensures step { (start : Shown) → IsMadeOver task.now start output.now
-        → Steps (ChangeBy task.now start) 0 (length (written_chunks task.now.plan.arrays (task_op task.now) task.now.number)) (C.shown access.old) (C.shown access.new) }
+        → Steps (ChangeBy task.now start) 0 (calls_to_write task.now) (C.shown access.old)
+        (C.shown access.new) }
     ensures stored { (env : Elements) (start : Shown) (calls : ℕ) → IsMadeOver task.now start output.now
-        → IsTaskReady task.now.plan task.now.op task.now.number env start → Steps (ChangeBy task.now start) 0 calls start (C.shown access.old) → OnOk result (HoldsCells task.now.plan task.now.op task.now.number env (C.shown access.new)) }
-    ensures all { OnOk result (Made (length (written_chunks task.now.plan.arrays (task_op task.now) task.now.number)) (C.shown access.old).calls (C.shown access.new).calls) }
-    ensures cause { IfErr result (IsWriteFault (C.shown access.old).faults (C.shown access.new).faults (C.shown access.new).lacks) }
+        → IsReadyFor task.now env start
+        → Steps (ChangeBy task.now start) 0 calls start (C.shown access.old)
+        → OnOk result (HoldsMade task.now env (C.shown access.new)) }
+    ensures all { OnOk result (Made (calls_to_write task.now) (C.shown access.old).calls
+        (C.shown access.new).calls) }
+    ensures cause { IfErr result (IsWriteFault (C.shown access.old).faults
+        (C.shown access.new).faults (C.shown access.new).lacks) }
 {
     let array = task.operation().target();
     write_array::<C>(store, access, task, array, output, scratch)
 }
 
 /// Stores the chunks of both arrays that a search writes: the values before the places.
-pub(crate) fn write_both<C: Chunks>(
+fn write_both<C: Chunks>(
     store: &C::Store,
     access: &mut C::Access,
     task: &PlanTask<'_>,
@@ -126,21 +141,29 @@ pub(crate) fn write_both<C: Chunks>(
     scratch: &mut [u8],
 ) -> Result<(), TaskFault>
     requires belongs { C.belongs store.now access.old }
-    requires puts { AllowsResults task.now.plan task.now.op task.now.number array (values.now, places.now) (C.may_put store.now) }
+    requires puts { AllowsResults task.now.plan task.now.op task.now.number array
+        (values.now, places.now) (C.may_put store.now) }
     requires both { writes_of (task_op task.now) ≡ array ∷ target_of (task_op task.now) ∷ [] }
-    requires values { length values.now ≡ result_room task.now.plan task.now.op task.now.number array }
+    requires values { length values.now
+        ≡ result_room task.now.plan task.now.op task.now.number array }
     requires places { length places.now ≡ made_bytes task.now }
     requires value_elements { AreElements (type_at task.now.plan.arrays array) values.now }
     requires place_elements { AreOfItsType task.now places.now }
     requires scratch { scratch_bytes task.now ≤ length scratch.old }
-    ensures open { StaysOpen (C.belongs store.now access.new) (C.may_get store.now access.old) (C.may_get store.now access.new) }
-    ensures got { OnOk result (MayReadWritten task.now.plan task.now.op task.now.number (C.may_get store.now access.new)) }
+    ensures open { StaysOpen (C.belongs store.now access.new) (C.may_get store.now access.old)
+        (C.may_get store.now access.new) }
+    ensures got { OnOk result (MayReadMade task.now (C.may_get store.now access.new)) }
     ensures step { (start : Shown) → IsResultOver task.now.plan task.now.op task.now.number array start values.now → IsMadeOver task.now start places.now
-        → Steps (ChangeBy task.now start) 0 (length (written_chunks task.now.plan.arrays (task_op task.now) task.now.number)) (C.shown access.old) (C.shown access.new) }
+        → Steps (ChangeBy task.now start) 0 (calls_to_write task.now) (C.shown access.old)
+        (C.shown access.new) }
     ensures stored { (env : Elements) (start : Shown) (calls : ℕ) → IsResultOver task.now.plan task.now.op task.now.number array start values.now → IsMadeOver task.now start places.now
-        → IsTaskReady task.now.plan task.now.op task.now.number env start → Steps (ChangeBy task.now start) 0 calls start (C.shown access.old) → OnOk result (HoldsCells task.now.plan task.now.op task.now.number env (C.shown access.new)) }
-    ensures all { OnOk result (Made (length (written_chunks task.now.plan.arrays (task_op task.now) task.now.number)) (C.shown access.old).calls (C.shown access.new).calls) }
-    ensures cause { IfErr result (IsWriteFault (C.shown access.old).faults (C.shown access.new).faults (C.shown access.new).lacks) }
+        → IsReadyFor task.now env start
+        → Steps (ChangeBy task.now start) 0 calls start (C.shown access.old)
+        → OnOk result (HoldsMade task.now env (C.shown access.new)) }
+    ensures all { OnOk result (Made (calls_to_write task.now) (C.shown access.old).calls
+        (C.shown access.new).calls) }
+    ensures cause { IfErr result (IsWriteFault (C.shown access.old).faults
+        (C.shown access.new).faults (C.shown access.new).lacks) }
 {
     let target = task.operation().target();
     write_array::<C>(store, access, task, array, values, scratch)?;
@@ -157,21 +180,30 @@ pub(crate) fn write_results<C: Chunks>(
     scratch: &mut [u8],
 ) -> Result<(), TaskFault>
     requires belongs { C.belongs store.now access.old }
-    requires puts { AllowsFound task.now.plan task.now.op task.now.number values.now output.now (C.may_put store.now) }
-    requires values { (array : ℕ) → value_array (task_op task.now) ≡ Some array → length values.now ≡ result_room task.now.plan task.now.op task.now.number array }
+    requires puts { AllowsFound task.now.plan task.now.op task.now.number values.now output.now
+        (C.may_put store.now) }
+    requires values { (array : ℕ) → value_array (task_op task.now) ≡ Some array
+        → length values.now ≡ result_room task.now.plan task.now.op task.now.number array }
     requires output { length output.now ≡ made_bytes task.now }
-    requires value_elements { (array : ℕ) → value_array (task_op task.now) ≡ Some array → AreElements (type_at task.now.plan.arrays array) values.now }
+    requires value_elements { (array : ℕ) → value_array (task_op task.now) ≡ Some array
+        → AreElements (type_at task.now.plan.arrays array) values.now }
     requires output_elements { AreOfItsType task.now output.now }
     requires scratch { scratch_bytes task.now ≤ length scratch.old }
-    ensures open { StaysOpen (C.belongs store.now access.new) (C.may_get store.now access.old) (C.may_get store.now access.new) }
-    ensures got { OnOk result (MayReadWritten task.now.plan task.now.op task.now.number (C.may_get store.now access.new)) }
+    ensures open { StaysOpen (C.belongs store.now access.new) (C.may_get store.now access.old)
+        (C.may_get store.now access.new) }
+    ensures got { OnOk result (MayReadMade task.now (C.may_get store.now access.new)) }
     ensures step { (start : Shown) → ((array : ℕ) → value_array (task_op task.now) ≡ Some array → IsResultOver task.now.plan task.now.op task.now.number array start values.now) → IsMadeOver task.now start output.now
-        → Steps (ChangeBy task.now start) 0 (length (written_chunks task.now.plan.arrays (task_op task.now) task.now.number)) (C.shown access.old) (C.shown access.new) }
+        → Steps (ChangeBy task.now start) 0 (calls_to_write task.now) (C.shown access.old)
+        (C.shown access.new) }
     ensures stored { (env : Elements) (start : Shown) (calls : ℕ) → ((array : ℕ) → value_array (task_op task.now) ≡ Some array → IsResultOver task.now.plan task.now.op task.now.number array start values.now)
         → IsMadeOver task.now start output.now
-        → IsTaskReady task.now.plan task.now.op task.now.number env start → Steps (ChangeBy task.now start) 0 calls start (C.shown access.old) → OnOk result (HoldsCells task.now.plan task.now.op task.now.number env (C.shown access.new)) }
-    ensures all { OnOk result (Made (length (written_chunks task.now.plan.arrays (task_op task.now) task.now.number)) (C.shown access.old).calls (C.shown access.new).calls) }
-    ensures cause { IfErr result (IsWriteFault (C.shown access.old).faults (C.shown access.new).faults (C.shown access.new).lacks) }
+        → IsReadyFor task.now env start
+        → Steps (ChangeBy task.now start) 0 calls start (C.shown access.old)
+        → OnOk result (HoldsMade task.now env (C.shown access.new)) }
+    ensures all { OnOk result (Made (calls_to_write task.now) (C.shown access.old).calls
+        (C.shown access.new).calls) }
+    ensures cause { IfErr result (IsWriteFault (C.shown access.old).faults
+        (C.shown access.new).faults (C.shown access.new).lacks) }
 {
     match stored_values(task.operation()) {
         Some(array) => { write_both::<C>(store, access, task, array, values, output, scratch) }

@@ -12,8 +12,8 @@ ghost use Rattle.cu_op.specs.TaskView.{task_op};
 ghost use Rattle.cu_op.specs.Value.{Elements};
 ghost use Rattle.cu_region.specs.Calls.{Made};
 ghost use Rattle.cu_region.specs.Writing.{AreElements};
-ghost use Rattle.cu_task.specs.OfTask.{scratch_bytes, read_bytes, made_bytes, calls_to_read, MayRead, AreSteady, HasMade, IsMadeFrom, AreOfItsType, ChangeBy, IsOwnFault};
-ghost use Rattle.cu_task.specs.Task.{IsTaskReady, TaskChange, HoldsCells, calls_of, HasSureCalls, IsComputing, kept_room, value_array, found_room, HasResult, IsComputed, IsTaskFault};
+ghost use Rattle.cu_task.specs.OfTask.{found_bytes, calls_to_write, MayReadMade, IsReadyFor, HoldsMade, scratch_bytes, read_bytes, made_bytes, calls_to_read, MayRead, AreSteady, HasMade, IsMadeFrom, AreOfItsType, ChangeBy, IsOwnFault};
+ghost use Rattle.cu_task.specs.Task.{IsTaskReady, TaskChange, HoldsCells, calls_of, HasSureCalls, IsComputing, kept_room, value_array, HasResult, IsComputed, IsTaskFault};
 
 use crate::copies::copy_region;
 use crate::inputs::{input_bytes, read_regions};
@@ -78,12 +78,18 @@ fn run_plan_task<C: Chunks>(
     requires may { MayRead task.now (C.may_get store.now access.old) }
     requires puts { Allows (ChangeBy task.now (C.shown access.old)) (C.may_put store.now) }
     requires words { length words.old ≡ 64 * instruction_count (task_op task.now) }
-    requires room { task.now.plan.reserved + length bytes.old + 8 * length words.old ≡ projection task.now.plan.arrays task.now.plan.reserved (task_op task.now) }
-    ensures open { StaysOpen (C.belongs store.now access.new) (C.may_get store.now access.old) (C.may_get store.now access.new) }
-    ensures got { OnOk result (MayReadWritten task.now.plan task.now.op task.now.number (C.may_get store.now access.new)) }
-    ensures stored { (env : Elements) → IsTaskReady task.now.plan task.now.op task.now.number env (C.shown access.old) → OnOk result (HoldsCells task.now.plan task.now.op task.now.number env (C.shown access.new)) }
-    ensures step { Steps (ChangeBy task.now (C.shown access.old)) 0 (calls_of task.now.plan task.now.op task.now.number) (C.shown access.old) (C.shown access.new) }
-    ensures all { HasSureCalls (task_op task.now) → OnOk result (Made (calls_of task.now.plan task.now.op task.now.number) (C.shown access.old).calls (C.shown access.new).calls) }
+    requires room { task.now.plan.reserved + length bytes.old + 8 * length words.old
+        ≡ projection task.now.plan.arrays task.now.plan.reserved (task_op task.now) }
+    ensures open { StaysOpen (C.belongs store.now access.new) (C.may_get store.now access.old)
+        (C.may_get store.now access.new) }
+    ensures got { OnOk result (MayReadMade task.now (C.may_get store.now access.new)) }
+    ensures stored { (env : Elements) → IsReadyFor task.now env (C.shown access.old)
+        → OnOk result (HoldsMade task.now env (C.shown access.new)) }
+    ensures step { Steps (ChangeBy task.now (C.shown access.old)) 0
+        (calls_to_read task.now + calls_to_write task.now) (C.shown access.old) (C.shown access.new) }
+    ensures all { HasSureCalls (task_op task.now)
+        → OnOk result (Made (calls_to_read task.now + calls_to_write task.now)
+        (C.shown access.old).calls (C.shown access.new).calls) }
     ensures cause { IfErr result (IsOwnFault task.now (C.shown access.old) (C.shown access.new)) }
 {
     let result = result_bytes(task);
@@ -94,8 +100,8 @@ fn run_plan_task<C: Chunks>(
     write_results::<C>(store, access, task, values, output, room)
 }
 
-/// The elements of the result in the region of a task, row-major and little-endian. `room` has the scratch and, in front of them, the
-/// regions that are read.
+/// The elements of the result in the region of a task, and the values that a search finds, row-major and little-endian. `room` has the
+/// scratch and, behind it, the regions that are read.
 fn make_result<C: Chunks>(
     store: &C::Store,
     access: &mut C::Access,
@@ -107,18 +113,25 @@ fn make_result<C: Chunks>(
 ) -> Result<(), TaskFault>
     requires belongs { C.belongs store.now access.old }
     requires may { MayRead task.now (C.may_get store.now access.old) }
-    requires room { scratch_bytes task.now + kept_room task.now.plan.arrays (task_op task.now) task.now.number ≤ length room.old }
-    requires values { length values.old ≡ found_room task.now.plan task.now.op task.now.number }
+    requires room { scratch_bytes task.now + kept_room task.now.plan.arrays (task_op task.now)
+        task.now.number ≤ length room.old }
+    requires values { length values.old ≡ found_bytes task.now }
     requires output { length output.old ≡ made_bytes task.now }
     requires words { length words.old ≡ 64 * instruction_count (task_op task.now) }
-    ensures open { StaysOpen (C.belongs store.now access.new) (C.may_get store.now access.old) (C.may_get store.now access.new) }
-    ensures output { (held : Contents) → AreSteady task.now (C.shown access.old) held → OnOk result (HasMade task.now held output.new) }
+    ensures open { StaysOpen (C.belongs store.now access.new) (C.may_get store.now access.old)
+        (C.may_get store.now access.new) }
+    ensures output { (held : Contents) → AreSteady task.now (C.shown access.old) held
+        → OnOk result (HasMade task.now held output.new) }
     ensures output_elements { OnOk result (AreOfItsType task.now output.new) }
     ensures values { (array : ℕ) (held : Contents) → value_array (task_op task.now) ≡ Some array → AreSteady task.now (C.shown access.old) held
         → OnOk result (HasResult task.now.plan task.now.op task.now.number array held values.new) }
-    ensures value_elements { (array : ℕ) → value_array (task_op task.now) ≡ Some array → OnOk result (AreElements (type_at task.now.plan.arrays array) values.new) }
-    ensures step { Steps NoChange 0 (calls_to_read task.now) (C.shown access.old) (C.shown access.new) }
-    ensures all { HasSureCalls (task_op task.now) → OnOk result (Made (calls_to_read task.now) (C.shown access.old).calls (C.shown access.new).calls) }
+    ensures value_elements { (array : ℕ) → value_array (task_op task.now) ≡ Some array
+        → OnOk result (AreElements (type_at task.now.plan.arrays array) values.new) }
+    ensures step { Steps NoChange 0 (calls_to_read task.now) (C.shown access.old)
+        (C.shown access.new) }
+    ensures all { HasSureCalls (task_op task.now)
+        → OnOk result (Made (calls_to_read task.now) (C.shown access.old).calls
+        (C.shown access.new).calls) }
     ensures cause { IfErr result (IsOwnFault task.now (C.shown access.old) (C.shown access.new)) }
 {
     match task.operation() {
@@ -144,17 +157,22 @@ fn compute_result<C: Chunks>(
     requires may { MayRead task.now (C.may_get store.now access.old) }
     requires computing { IsComputing (task_op task.now) }
     requires room { scratch_bytes task.now + read_bytes task.now ≤ length room.old }
-    requires values { length values.old ≡ found_room task.now.plan task.now.op task.now.number }
+    requires values { length values.old ≡ found_bytes task.now }
     requires output { length output.old ≡ made_bytes task.now }
     requires words { length words.old ≡ 64 * instruction_count (task_op task.now) }
-    ensures open { StaysOpen (C.belongs store.now access.new) (C.may_get store.now access.old) (C.may_get store.now access.new) }
-    ensures output { (held : Contents) → AreSteady task.now (C.shown access.old) held → OnOk result (HasMade task.now held output.new) }
+    ensures open { StaysOpen (C.belongs store.now access.new) (C.may_get store.now access.old)
+        (C.may_get store.now access.new) }
+    ensures output { (held : Contents) → AreSteady task.now (C.shown access.old) held
+        → OnOk result (HasMade task.now held output.new) }
     ensures output_elements { OnOk result (AreOfItsType task.now output.new) }
     ensures values { (array : ℕ) (held : Contents) → value_array (task_op task.now) ≡ Some array → AreSteady task.now (C.shown access.old) held
         → OnOk result (HasResult task.now.plan task.now.op task.now.number array held values.new) }
-    ensures value_elements { (array : ℕ) → value_array (task_op task.now) ≡ Some array → OnOk result (AreElements (type_at task.now.plan.arrays array) values.new) }
-    ensures step { Steps NoChange 0 (calls_to_read task.now) (C.shown access.old) (C.shown access.new) }
-    ensures all { OnOk result (Made (calls_to_read task.now) (C.shown access.old).calls (C.shown access.new).calls) }
+    ensures value_elements { (array : ℕ) → value_array (task_op task.now) ≡ Some array
+        → OnOk result (AreElements (type_at task.now.plan.arrays array) values.new) }
+    ensures step { Steps NoChange 0 (calls_to_read task.now) (C.shown access.old)
+        (C.shown access.new) }
+    ensures all { OnOk result (Made (calls_to_read task.now) (C.shown access.old).calls
+        (C.shown access.new).calls) }
     ensures cause { IfErr result (IsOwnFault task.now (C.shown access.old) (C.shown access.new)) }
 {
     let kept = input_bytes(task);
@@ -164,8 +182,7 @@ fn compute_result<C: Chunks>(
     Ok(())
 }
 
-/// The elements of the result in the region of a task, from the regions of the arrays that it reads, which stand one behind another in
-/// `inputs`.
+/// The same from the regions of the arrays that a task reads, which stand one behind another in `inputs`.
 fn compute(
     task: &PlanTask<'_>,
     inputs: &[u8],
@@ -175,13 +192,15 @@ fn compute(
 )
     requires computing { IsComputing (task_op task.now) }
     requires inputs { length inputs.now ≡ read_bytes task.now }
-    requires values { length values.old ≡ found_room task.now.plan task.now.op task.now.number }
+    requires values { length values.old ≡ found_bytes task.now }
     requires output { length output.old ≡ made_bytes task.now }
     requires words { length words.old ≡ 64 * instruction_count (task_op task.now) }
     ensures output { IsMadeFrom task.now inputs.now output.new }
-    ensures values { (array : ℕ) → value_array (task_op task.now) ≡ Some array → IsComputed task.now.plan task.now.op task.now.number array inputs.now values.new }
+    ensures values { (array : ℕ) → value_array (task_op task.now) ≡ Some array
+        → IsComputed task.now.plan task.now.op task.now.number array inputs.now values.new }
     ensures output_elements { AreOfItsType task.now output.new }
-    ensures value_elements { (array : ℕ) → value_array (task_op task.now) ≡ Some array → AreElements (type_at task.now.plan.arrays array) values.new }
+    ensures value_elements { (array : ℕ) → value_array (task_op task.now) ≡ Some array
+        → AreElements (type_at task.now.plan.arrays array) values.new }
 {
     match task.operation() {
         Op::Map { kernel, .. } => run_map(task, kernel, inputs, output, words),

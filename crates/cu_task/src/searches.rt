@@ -5,7 +5,7 @@ ghost use Rattle.cu_op.specs.TaskView.{task_op};
 ghost use Rattle.cu_region.specs.Writing.{AreElements};
 ghost use Rattle.cu_task.specs.Inputs.{IsSearchOf, IsSearchAmong};
 ghost use Rattle.cu_task.specs.OfTask.{read_bytes, made_bytes, IsMadeFrom, AreOfItsType};
-ghost use Rattle.cu_task.specs.Task.{compared_by, value_array, found_value_room, IsComputed};
+ghost use Rattle.cu_task.specs.Task.{compared_by, value_array, result_room, IsComputed};
 
 use crate::inputs::{input_walk, walk_bytes};
 use crate::reductions::dtype_of;
@@ -25,12 +25,15 @@ pub(crate) fn find_first(
 )
     requires search { IsSearchOf (task_op task.now) least axis source }
     requires inputs { length inputs.now ≡ read_bytes task.now }
-    requires values { length values.old ≡ found_value_room task.now.plan task.now.op task.now.number }
+    requires values { length values.old
+        ≡ result_room task.now.plan task.now.op task.now.number (compared_by (task_op task.now)) }
     requires places { length places.old ≡ made_bytes task.now }
     ensures places { IsMadeFrom task.now inputs.now places.new }
-    ensures values { (array : ℕ) → value_array (task_op task.now) ≡ Some array → IsComputed task.now.plan task.now.op task.now.number array inputs.now values.new }
+    ensures values { (array : ℕ) → value_array (task_op task.now) ≡ Some array
+        → IsComputed task.now.plan task.now.op task.now.number array inputs.now values.new }
     ensures place_elements { AreOfItsType task.now places.new }
-    ensures value_elements { AreElements (type_at task.now.plan.arrays (compared_by (task_op task.now))) values.new }
+    ensures value_elements { AreElements (type_at task.now.plan.arrays
+        (compared_by (task_op task.now))) values.new }
 {
     let walk = input_walk(task, 0);
     let layout = &task.array(source).layout;
@@ -59,12 +62,15 @@ pub(crate) fn find_again(
 )
     requires search { IsSearchAmong (task_op task.now) least axis source }
     requires inputs { length inputs.now ≡ read_bytes task.now }
-    requires values { length values.old ≡ found_value_room task.now.plan task.now.op task.now.number }
+    requires values { length values.old
+        ≡ result_room task.now.plan task.now.op task.now.number (compared_by (task_op task.now)) }
     requires places { length places.old ≡ made_bytes task.now }
     ensures places { IsMadeFrom task.now inputs.now places.new }
-    ensures values { (array : ℕ) → value_array (task_op task.now) ≡ Some array → IsComputed task.now.plan task.now.op task.now.number array inputs.now values.new }
+    ensures values { (array : ℕ) → value_array (task_op task.now) ≡ Some array
+        → IsComputed task.now.plan task.now.op task.now.number array inputs.now values.new }
     ensures place_elements { AreOfItsType task.now places.new }
-    ensures value_elements { AreElements (type_at task.now.plan.arrays (compared_by (task_op task.now))) values.new }
+    ensures value_elements { AreElements (type_at task.now.plan.arrays
+        (compared_by (task_op task.now))) values.new }
 {
     let walk = input_walk(task, 0);
     let (values_from, places_from) = inputs.split_at(walk_bytes(task, &walk));
