@@ -1,5 +1,5 @@
 //! Tasks of copies.
-ghost use Rattle.std.specs.Prelude.{◌≡◌, ◌<◌, ◌≤◌, length, IfErr, OnOk};
+ghost use Rattle.std.specs.Prelude.{◌≡◌, ◌≤◌, length, IfErr, OnOk};
 ghost use Rattle.cu_store.specs.Held.{Contents};
 ghost use Rattle.cu_store.specs.Chunks.{StaysOpen};
 ghost use Rattle.cu_store.specs.Steps.{NoChange, Steps};

@@ -1,5 +1,5 @@
 //! The regions that a task reads, one behind another in its memory.
-ghost use Rattle.std.specs.Prelude.{◌≡◌, ◌+◌, ◌*◌, ◌<◌, ◌≤◌, ◌^◌, [], ◌∷◌, Some, All, length, slice_index_or, IfErr, OnOk};
+ghost use Rattle.std.specs.Prelude.{◌≡◌, ◌*◌, ◌<◌, ◌≤◌, ◌^◌, [], ◌∷◌, Some, All, length, slice_index_or, IfErr, OnOk};
 ghost use Rattle.cu_num.specs.Dtype.{size_of};
 ghost use Rattle.cu_shape.specs.Index.{product, differences};
 ghost use Rattle.cu_store.specs.Held.{Contents};

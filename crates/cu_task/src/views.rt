@@ -1,5 +1,5 @@
 //! Tasks of views: the chunks of their sources that they need, read one at a time.
-ghost use Rattle.std.specs.Prelude.{◌≡◌, ℕ, ◌*◌, ◌<◌, ◌≤◌, true, List, Option, IsTrue, All, length, slice_index, IfErr, OnOk};
+ghost use Rattle.std.specs.Prelude.{◌≡◌, ℕ, ◌<◌, ◌≤◌, true, Option, IsTrue, All, length, slice_index, IfErr, OnOk};
 ghost use Rattle.cu_shape.specs.Index.{differences};
 ghost use Rattle.cu_grid.specs.Counts.{chunk_lo, chunk_hi, IsRegion};
 ghost use Rattle.cu_grid.specs.Grid.{IsCoordinate};
