@@ -7,7 +7,7 @@ use Rattle.cu_store.specs.declared.faults.DepotFault.{DepotFault}
 use Rattle.cu_store.specs.declared.faults.DepotFault.TheVariants.{Failed, NoMemory}
 use Rattle.cu_store.proofs.Steps.{lands_same, lands_then, lands_wider, steps_none, steps_then}
 use Rattle.cu_failing.specs.Counts.{FailsBy, IsCallOfSpan}
-use Rattle.cu_failing.specs.Late.{KeepsAtMost, LandsOnly, lands_next, late_with, shown_with, still_late}
+use Rattle.cu_failing.specs.Late.{KeepsAtMost, LandsOnly, due_put, late_with, shown_with, still_late}
 use Rattle.cu_failing.specs.declared.late.LatePut.{LatePut}
 use Rattle.cu_failing.specs.declared.span.Span.{Span}
 
@@ -39,7 +39,7 @@ landed_put a b put step = record {
 }
 
 -- the put that is due has been made
-pub due_landed : (a b : Shown) (late : Option LatePut) (put : LatePut) → Some put ≡ lands_next late → Steps (PutOf put.key put.bytes.items) 1 1 a b
+pub due_landed : (a b : Shown) (late : Option LatePut) (put : LatePut) → Some put ≡ due_put late → Steps (PutOf put.key put.bytes.items) 1 1 a b
     → LandsOnly (shown_with a late 0 0) (shown_with b (still_late late) 0 0)
 due_landed a b None put is step = absurd (cc)
 due_landed a b (Some q) put is step = at (q.wait == 0) is
@@ -48,7 +48,7 @@ due_landed a b (Some q) put is step = at (q.wait == 0) is
     at true e = let same : put ≡ q = cc in subst (λ (p : LatePut). LandsOnly (shown_with a (Some p) 0 0) (shown_with b None 0 0)) same (landed_put a b put step)
     at false e = absurd (cc)
 
-waits : (h : Option Contents) (late : Option LatePut) (writes : List Write) → lands_next late ≡ None → AllLateIn (late_with h (still_late late) writes) (OrLate NoChange (late_with h late writes))
+waits : (h : Option Contents) (late : Option LatePut) (writes : List Write) → due_put late ≡ None → AllLateIn (late_with h (still_late late) writes) (OrLate NoChange (late_with h late writes))
 waits None late writes is = λ key bytes among. absurd among
 waits (Some h) None writes is = λ key bytes among. inr (bytes, refl, among)
 waits (Some h) (Some put) writes is = at (put.wait == 0) is
@@ -58,7 +58,7 @@ waits (Some h) (Some put) writes is = at (put.wait == 0) is
     at false e = λ key bytes among. inr (bytes, refl, among)
 
 -- no put is due
-pub none_landed : (a : Shown) (late : Option LatePut) → lands_next late ≡ None → LandsOnly (shown_with a late 0 0) (shown_with a (still_late late) 0 0)
+pub none_landed : (a : Shown) (late : Option LatePut) → due_put late ≡ None → LandsOnly (shown_with a late 0 0) (shown_with a (still_late late) 0 0)
 none_landed a late is = record { lands = lands_same (OrLate NoChange (late_with a.held late a.late)) a.held; late = waits a.held late a.late is; lacks = refl }
 
 -- ---- a step of the depot in it, with this late put

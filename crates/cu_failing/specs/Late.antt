@@ -5,9 +5,9 @@ use Rattle.cu_store.specs.Steps.{Shown, AllLateIn, LandsLate, NoChange, OrLate}
 use Rattle.cu_failing.specs.declared.late.LatePut.{LatePut}
 
 -- the put that lands at the next call
-abbrev pub lands_next : Option LatePut → Option LatePut
-lands_next None = None
-lands_next (Some put) = if put.wait == 0 then Some put else None
+abbrev pub due_put : Option LatePut → Option LatePut
+due_put None = None
+due_put (Some put) = if put.wait == 0 then Some put else None
 
 -- the put that is late after the next call: it waits for one call less
 abbrev pub still_late : Option LatePut → Option LatePut

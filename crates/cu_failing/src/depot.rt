@@ -5,7 +5,7 @@ ghost use Rattle.cu_store.specs.Held.{Gets, Answers, Holds, IsGone};
 ghost use Rattle.cu_store.specs.Steps.{NoChange, PutOf, RemovalOf, Steps, LandsLate, AddsOnlyFailed, Caused, MadeCalls};
 ghost use Rattle.cu_failing.specs.Counts.{IsCallOfSpan, FailsBy};
 ghost use Rattle.cu_failing.specs.Failing.{seen_of, span_of, call_number, late_of};
-ghost use Rattle.cu_failing.specs.Late.{shown_with, lands_next, still_late, KeepsAtMost, LandsOnly};
+ghost use Rattle.cu_failing.specs.Late.{shown_with, due_put, still_late, KeepsAtMost, LandsOnly};
 
 use crate::late::{LatePut, keep, land};
 use crate::silent::Silent;
@@ -74,7 +74,7 @@ impl<D: Depot + Drop> Failing<D> {
         ensures faults { self.new.faults ≡ self.old.faults }
         ensures calls { self.new.calls ≡ min (self.old.calls + 1) last_count }
         ensures waits { self.new.late ≡ still_late self.old.late }
-        ensures lands { IfSome (lands_next self.old.late) (λ put. MadeCalls 1 1 (D.shown self.old.depot).calls (D.shown self.new.depot).calls) }
+        ensures lands { IfSome (due_put self.old.late) (λ put. MadeCalls 1 1 (D.shown self.old.depot).calls (D.shown self.new.depot).calls) }
         ensures count { (D.shown self.old.depot).faults ≤ (D.shown self.new.depot).faults }
         ensures landed { LandsOnly (shown_with (D.shown self.old.depot) self.old.late 0 0) (shown_with (D.shown self.new.depot) self.new.late 0 0) }
     {

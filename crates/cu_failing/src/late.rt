@@ -1,7 +1,7 @@
 //! Puts that failed and land later.
 ghost use Rattle.std.specs.Prelude.{◌≡◌, ◌≤◌, IfOk, IfSome};
 ghost use Rattle.cu_store.specs.Steps.{MadeCalls};
-ghost use Rattle.cu_failing.specs.Late.{lands_next, still_late, shown_with, KeepsAtMost, LandsOnly};
+ghost use Rattle.cu_failing.specs.Late.{due_put, still_late, shown_with, KeepsAtMost, LandsOnly};
 
 use cu_store::{Depot, Key};
 use std::alloc::{AllocError, Global};
@@ -17,7 +17,7 @@ pub(crate) struct LatePut {
 
 /// What becomes of a late put at a call: it lands, if it has waited for so many calls, and else waits for one call less.
 pub(crate) fn due(late: &mut Option<LatePut>) -> Option<LatePut>
-    ensures lands { result ≡ lands_next late.old }
+    ensures lands { result ≡ due_put late.old }
     ensures waits { late.new ≡ still_late late.old }
 {
     match late.take() {
@@ -41,7 +41,7 @@ pub(crate) fn due(late: &mut Option<LatePut>) -> Option<LatePut>
 pub(crate) fn land<D: Depot>(depot: &mut D, late: &mut Option<LatePut>)
     ensures waits { late.new ≡ still_late late.old }
     ensures landed { LandsOnly (shown_with (D.shown depot.old) late.old 0 0) (shown_with (D.shown depot.new) late.new 0 0) }
-    ensures made { IfSome (lands_next late.old) (λ put. MadeCalls 1 1 (D.shown depot.old).calls (D.shown depot.new).calls) }
+    ensures made { IfSome (due_put late.old) (λ put. MadeCalls 1 1 (D.shown depot.old).calls (D.shown depot.new).calls) }
     ensures count { (D.shown depot.old).faults ≤ (D.shown depot.new).faults }
 {
     if let Some(put) = due(late) {
