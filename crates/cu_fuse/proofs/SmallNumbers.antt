@@ -7,9 +7,9 @@ use Rattle.cu_num.specs.declared.types.Dtype.TheVariants.{Bool}
 use Rattle.cu_op.specs.declared.kernel.Instr.{Instr}
 use Rattle.cu_op.specs.declared.kernel.Instr.TheVariants.{Load, Const, One, Two, Select}
 use Rattle.cu_op.specs.KernelTypes.{Operand, Typed, GivesOperand, KernelFits}
-use Rattle.cu_fuse.specs.Splice.{HasSmallNumbers}
+use Rattle.cu_fuse.specs.Splice.{AreNumbersBelow}
 
-small_one : (i : Instr) (types : List Dtype) (os : List Operand) (r : Operand) → GivesOperand i types os r → length types < 2 ^ 31 → length os < 2 ^ 31 → HasSmallNumbers i
+small_one : (i : Instr) (types : List Dtype) (os : List Operand) (r : Operand) → GivesOperand i types os r → length types < 2 ^ 31 → length os < 2 ^ 31 → AreNumbersBelow i
 small_one (Load k) types os r (t, at, is) a b = let w = slice_get_within types k t at in omega arith
 small_one (Const x) types os r gives a b = tt
 small_one (One f t n) types os r (d, at, rest, accepted, is) a b = let w = slice_get_within os n (Typed d) at in omega arith
@@ -18,8 +18,8 @@ small_one (Two f t n m) types os r (x, y, at, bt, rest, accepted, is) a b =
 small_one (Select c n m) types os r (x, y, t, ct, at, bt, rest, is) a b =
     let u = slice_get_within os c (Typed Bool) ct in let v = slice_get_within os n x at in let w = slice_get_within os m y bt in (omega arith, omega arith, omega arith)
 
-pub small_numbers : (code : List Instr) (types : List Dtype) (os : List Operand) (t : Dtype) → KernelFits code types os t → length types < 2 ^ 31 → length os + length code < 2 ^ 31 → All HasSmallNumbers code
+pub small_numbers : (code : List Instr) (types : List Dtype) (os : List Operand) (t : Dtype) → KernelFits code types os t → length types < 2 ^ 31 → length os + length code < 2 ^ 31 → All AreNumbersBelow code
 small_numbers [] types os t fits a b = λ k d h. absurd (omega arith)
 small_numbers (i ∷ is) types os t (r, gives, fits) a b =
     let n = length-append os (r ∷ []) in
-    All-cons HasSmallNumbers i is (small_one i types os r gives a (omega arith)) (small_numbers is types (os ++ r ∷ []) t fits a (omega (arith, n)))
+    All-cons AreNumbersBelow i is (small_one i types os r gives a (omega arith)) (small_numbers is types (os ++ r ∷ []) t fits a (omega (arith, n)))

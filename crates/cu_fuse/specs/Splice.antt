@@ -40,9 +40,9 @@ abbrev pub spliced : ℕ → ℕ → List Instr → List Instr → List Instr
 spliced j width inner outer = spliced_from j width inner [] 0 outer
 
 -- the numbers in an instruction are small
-abbrev pub HasSmallNumbers : Instr → Type 0
-HasSmallNumbers (Load k) = k < 2 ^ 31
-HasSmallNumbers (Const x) = Unit {0}
-HasSmallNumbers (One f t a) = a < 2 ^ 31
-HasSmallNumbers (Two f t a b) = (a < 2 ^ 31) × (b < 2 ^ 31)
-HasSmallNumbers (Select c a b) = (c < 2 ^ 31) × (a < 2 ^ 31) × (b < 2 ^ 31)
+abbrev pub AreNumbersBelow : Instr → Type 0
+AreNumbersBelow (Load k) = k < 2 ^ 31
+AreNumbersBelow (Const x) = Unit {0}
+AreNumbersBelow (One f t a) = a < 2 ^ 31
+AreNumbersBelow (Two f t a b) = (a < 2 ^ 31) × (b < 2 ^ 31)
+AreNumbersBelow (Select c a b) = (c < 2 ^ 31) × (a < 2 ^ 31) × (b < 2 ^ 31)

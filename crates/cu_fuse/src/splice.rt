@@ -1,6 +1,6 @@
 //! A kernel in place of the loads of one input of another.
 ghost use Rattle.std.specs.Prelude.{◌≡◌, ◌+◌, ◌<◌, ◌≤◌, ◌++◌, ◌∷◌, [], All, IfSome, IsTrue, None, false, length, map, slice_index};
-ghost use Rattle.cu_fuse.specs.Splice.{HasSmallNumbers, moved_behind, in_place, input_behind, spliced};
+ghost use Rattle.cu_fuse.specs.Splice.{AreNumbersBelow, moved_behind, in_place, input_behind, spliced};
 
 use arrayvec::ArrayVec;
 use cu_op::Instr;
@@ -20,7 +20,7 @@ pub(crate) struct Inner<'a> {
 fn moved_behind(count: u32, first: u32, instr: Instr) -> Instr
     requires count { count ≤ 32 }
     requires first { first ≤ 8 }
-    requires small { HasSmallNumbers instr }
+    requires small { AreNumbersBelow instr }
     ensures { result ≡ moved_behind count first instr }
 {
     match instr {
@@ -59,7 +59,7 @@ fn input_behind(j: u32, width: u32, k: u32) -> u32
 fn push_inner(inner: Inner<'_>, code: &mut ArrayVec<Instr, 32>) -> bool
     requires few { length code.old.items ≤ 32 }
     requires input { inner.input ≤ 8 }
-    requires small { All HasSmallNumbers inner.code.now }
+    requires small { All AreNumbersBelow inner.code.now }
     ensures taken { IsTrue result → code.new.items ≡ code.old.items ++ map (moved_behind (length code.old.items) inner.entry.input) inner.entry.code.now }
     ensures refused { result ≡ false → 32 < length code.old.items + length inner.entry.code.now }
 {
@@ -91,8 +91,8 @@ fn push_in_place(
     requires few { length code.old.items ≤ 32 }
     requires input { inner.input ≤ 8 }
     requires width { inner.width ≤ 8 }
-    requires small { All HasSmallNumbers inner.code.now }
-    requires own { HasSmallNumbers instr }
+    requires small { All AreNumbersBelow inner.code.now }
+    requires own { AreNumbersBelow instr }
     ensures taken { IsTrue result → code.new.items ≡ code.old.items ++ in_place inner.entry.input inner.entry.width inner.entry.code.now places.now (length code.old.items) instr }
     ensures refused { result ≡ false → 32 < length code.old.items + length (in_place inner.entry.input inner.entry.width inner.entry.code.now places.now (length code.old.items) instr) }
 {
@@ -123,8 +123,8 @@ pub(crate) fn spliced(inner: Inner<'_>, outer: &[Instr]) -> Option<ArrayVec<Inst
     requires width { inner.width ≤ 8 }
     requires some { 0 < length inner.code.now }
     requires few { length outer.now ≤ 32 }
-    requires small { All HasSmallNumbers inner.code.now }
-    requires own { All HasSmallNumbers outer.now }
+    requires small { All AreNumbersBelow inner.code.now }
+    requires own { All AreNumbersBelow outer.now }
     ensures code { IfSome result (λ code. code.items ≡ spliced inner.entry.input inner.entry.width inner.entry.code.now outer.now) }
     ensures few { IfSome result (λ code. length code.items ≤ 32) }
     ensures long { result ≡ None → 32 < length (spliced inner.entry.input inner.entry.width inner.entry.code.now outer.now) }

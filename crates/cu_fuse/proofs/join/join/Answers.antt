@@ -6,7 +6,7 @@ use Rattle.cu_op.specs.declared.operation.Op.TheVariants.{Map}
 use Rattle.cu_op.specs.Arrays.{type_at}
 use Rattle.cu_op.specs.Operation.{reads_of, writes_of, Fits}
 use Rattle.cu_fuse.specs.Fused.{stands_in, number_in}
-use Rattle.cu_fuse.specs.Splice.{HasSmallNumbers, put_in}
+use Rattle.cu_fuse.specs.Splice.{AreNumbersBelow, put_in}
 use Rattle.cu_fuse.proofs.Fusing.{at_place}
 use Rattle.cu_fuse.proofs.Merging.{all_put_in}
 use Rattle.cu_fuse.proofs.SmallNumbers.{small_numbers}
@@ -19,7 +19,7 @@ spliced-requires-clause-small c =
     let l = length-map c.in-Map.inner_ins.items (type_at arrays) in
     let few = c.len.ensures in
     let code = c.as_slice-in-Map-op.ensures in
-    subst (All HasSmallNumbers) (sym code.value)
+    subst (All AreNumbersBelow) (sym code.value)
     (small_numbers c.in-Map.inner.code.items (map (type_at arrays) c.in-Map.inner_ins.items) [] (type_at arrays c.in-Map.out) fits.kernel (omega (arith, l)) (let v = ap length code.value in let f = code.fits in omega (arith, v, f)))
 
 pub spliced-requires-clause-own : goal.spliced-requires-clause-own
@@ -29,7 +29,7 @@ spliced-requires-clause-own c =
     let l = length-map c.in-Map-op.outer_ins.items (type_at arrays) in
     let ins = c.as_slice.ensures in
     let code = c.as_slice-in-Map-op-2.ensures in
-    subst (All HasSmallNumbers) (sym code.value)
+    subst (All AreNumbersBelow) (sym code.value)
     (small_numbers c.in-Map-op.outer.code.items (map (type_at arrays) c.in-Map-op.outer_ins.items) [] (type_at arrays c.in-Map-op.out) fits.kernel
     (let v = ap length ins.value in let f = ins.fits in omega (arith, l, v, f)) (let v = ap length code.value in let f = code.fits in omega (arith, v, f)))
 
