@@ -153,7 +153,8 @@ put_step tries a old new key (inr (same, step, before)) = step
 -- an array that wasn't stored whole
 pub store_step : (tries : ℕ) (a : GivenArray) (old new : Shown) (status : Status) → IsStoreFault tries a old new status → Stepped (ArrayPut a) old new
 store_step tries a old new (DepotFailed key) fault = put_step tries a old new key fault.1
-store_step tries a old new NoMemory (key, fault) = put_step tries a old new key fault
+store_step tries a old new NoMemory (lacks, inl (n, few, step, before)) = stepped_wider (chunks_put a n few) step
+store_step tries a old new NoMemory (lacks, inr (rose, (key, fault))) = put_step tries a old new key fault
 store_step tries a old new status fault = absurd fault
 
 pub store_end : (tries : ℕ) (a : GivenArray) (old new : Shown) (status : Status) → IsStoreFault tries a old new status → IsInputPutEnd tries a old new status

@@ -13,6 +13,7 @@ mod DemoWay
 mod DemoWhole
 mod DriveLemmas
 mod DropLemmas
+mod FewFailures
 mod HeldLemmas
 mod LawLemmas
 mod PlanLemmas
@@ -23,5 +24,6 @@ mod RecordLemmas
 mod ReopenLemmas
 mod ResumeServed
 mod RunLemmas
+mod SampleLemmas
 mod VersionLemmas
 mod WordsExample

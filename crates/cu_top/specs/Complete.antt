@@ -1,5 +1,6 @@
--- When a run and a plan are served: what their premises are, and what they then answer.
-use Rattle.std.specs.Prelude.{◌≡◌, ℕ, List, length, All, Some, None, Ok}
+-- When a run and a plan are served: what their premises are, and what they then answer. What no command answers where few calls fail.
+use Rattle.std.specs.Prelude.{◌≡◌, ℕ, ◌+◌, ◌<◌, ◌≤◌, List, length, All, Some, None, Ok}
+use Rattle.cu_store.specs.Faults.{last_count}
 use Rattle.cu_store.specs.Held.{Contents, IsAmong}
 use Rattle.cu_store.specs.Steps.{Shown}
 use Rattle.cu_op.specs.declared.cells.Cell.{Cell}
@@ -21,7 +22,7 @@ use Rattle.cu_plan.specs.Refusal.{refusal_of}
 use Rattle.cu_top.specs.Prepare.{job_plan, asked_keys, HasNoOwnInput}
 use Rattle.cu_top.specs.Quiet.{run_of_job}
 use Rattle.cu_top.specs.Record.{record_text}
-use Rattle.cu_top.specs.Words.{command_of, plan, resume, run}
+use Rattle.cu_top.specs.Words.{Command, command_of, check, demo, drop, load, plan, print, resume, run}
 
 -- each chunk of an input is absent or whole
 abbrev pub AreWhole : PlanView → Contents → Type 0
@@ -92,3 +93,26 @@ IsResumeCause (BadChunk key got want) = Unit {0}
 IsResumeCause (DepotFailed key) = Unit {0}
 IsResumeCause NoMemory = Unit {0}
 IsResumeCause status = ⊥
+
+-- ---- where few calls fail
+
+-- how often a command calls again for a key where the store failed
+abbrev pub retries_of : Command → ℕ
+retries_of (run options) = options.retries
+retries_of (resume options) = options.retries
+retries_of (drop options) = options.retries
+retries_of (plan options) = options.retries
+retries_of (load retries) = retries
+retries_of (check retries) = retries
+retries_of (print name retries) = retries
+retries_of (demo size options) = options.retries
+
+-- at most so many calls of the depot failed, and the count doesn't stand at its last value
+abbrev pub FewFailed : ℕ → Shown → Shown → Type 0
+FewFailed most old new = (new.faults ≤ old.faults + most) × (new.faults < last_count)
+
+-- neither a task nor a key was given up
+abbrev pub IsNotGivenUp : Status → Type 0
+IsNotGivenUp (TaskFailed op task) = ⊥
+IsNotGivenUp (DepotFailed key) = ⊥
+IsNotGivenUp status = Unit {0}

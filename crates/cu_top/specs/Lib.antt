@@ -13,5 +13,6 @@ pub mod Record
 pub mod Report
 pub mod Resume
 pub mod Run
+pub mod Sample
 pub mod Versions
 pub mod Words

@@ -1,26 +1,26 @@
 //! The program's one call.
-ghost use Rattle.std.specs.Prelude.{◌≡◌, ℕ, ◌^◌, ◌≤◌, ℤ, List, Option, Some, Ok, Err, map, string_bytes};
+ghost use Rattle.std.specs.Prelude.{◌≡◌, ℕ, ◌+◌, ◌^◌, ◌≤◌, ℤ, List, Option, Some, Ok, Err, map, string_bytes};
 ghost use Rattle.cu_read.specs.Read.{expression_of};
 ghost use Rattle.cu_read.specs.declared.faults.ReadFault.{ReadFault as ExpressionFault};
-ghost use Rattle.cu_check.specs.Check.{Checked, IsFoundEqual, IsUnequal, ReadsText};
+ghost use Rattle.cu_check.specs.Check.{Checked, ChecksWithin, IsFoundEqual, IsUnequal, ReadsText};
 ghost use Rattle.cu_store.specs.Held.{Contents};
 ghost use Rattle.cu_command.specs.Job.{StoodStill};
 ghost use Rattle.cu_store.specs.Steps.{NoChange};
 ghost use Rattle.cu_command.specs.Seen.{Stepped, stream, seen};
 ghost use Rattle.cu_command.specs.Streams.{ReadsAll};
-ghost use Rattle.cu_load.specs.Load.{Loaded};
+ghost use Rattle.cu_load.specs.Load.{Loaded, LoadsWithin};
 ghost use Rattle.cu_lower.specs.declared.options.Options.{Options};
 ghost use Rattle.cu_print.specs.Print.{Printed};
 ghost use Rattle.cu_top.specs.Call.{CameToRun, DidNothing, IsReadFault, IsShort, IsExpressionRefused, IsWordsRefused, RunTells};
-ghost use Rattle.cu_top.specs.Complete.{HasWholeInputs, IsPlannable, IsResumable, IsResumeCause, IsServable, IsServed};
-ghost use Rattle.cu_top.specs.Planned.{IsPrinted, PlanTells};
+ghost use Rattle.cu_top.specs.Complete.{FewFailed, HasWholeInputs, IsNotGivenUp, IsPlannable, IsResumable, IsResumeCause, IsServable, IsServed, retries_of};
+ghost use Rattle.cu_top.specs.Planned.{IsPrinted, PlansWithin, PlanTells};
 ghost use Rattle.cu_top.specs.Quiet.{IsCalm};
 ghost use Rattle.cu_top.specs.Run.{scene, IsRunDone, IsUnreported, IsTaskFailed, IsBadInput, IsDepotFailed, HasNoPlan, IsBlocked, IsMissing, IsRefused, IsBadExpr, IsBadType, PrintsOnly};
 ghost use Rattle.cu_top.specs.Demo.{DemoTells, IsDemoAtRest, IsDemoCalm, IsDemoDone, WhereTold, demo_case};
 ghost use Rattle.cu_top.specs.Drop.{DropTells};
 ghost use Rattle.cu_top.specs.Held.{IsLeftEntry};
 ghost use Rattle.cu_top.specs.Resume.{ResumeTells};
-ghost use Rattle.cu_top.specs.Words.{run, resume, drop, plan, load, check, print, demo, command_of};
+ghost use Rattle.cu_top.specs.Words.{Command, run, resume, drop, plan, load, check, print, demo, command_of};
 ghost use Rattle.cu_top.specs.Words.{IsInRange};
 
 use crate::demo::demo;
@@ -170,6 +170,13 @@ pub fn top<H: Threads + Wait + Sync, R: Source, W: Sink, D: Share, G: Gate>(
     // Where its plan is accepted, nothing is in the way and no count of faults rises, it is carried out, or memory is wanted.
     ensures demo_complete { (size : ℕ) (options : Options) (entry : Contents) → command_of (map string_bytes words.now) ≡ Ok (demo size options) → (D.shown depot.old).held ≡ Some entry
         → IsDemoAtRest options size entry (D.shown depot.old) → StoodStill (W.faults out.old) (W.faults out.new) → StoodStill (D.shown depot.old).faults (D.shown depot.new).faults → IsServed result }
+    // How many calls `plan`, `load` and `check` make at most: for each key one, and as many more as it is tried again.
+    ensures plan_calls { (options : Options) → command_of (map string_bytes words.now) ≡ Ok (plan options) → PlansWithin (options.retries + 1) (stream (R.left src.old) (R.faults src.old)) (stream (R.left src.new) (R.faults src.new)) (D.shown depot.old) (D.shown depot.new) }
+    ensures load_calls { (retries : ℕ) → command_of (map string_bytes words.now) ≡ Ok (load retries) → LoadsWithin retries (R.left src.old) (R.left src.new) (D.shown depot.old) (D.shown depot.new) }
+    ensures check_calls { (retries : ℕ) → command_of (map string_bytes words.now) ≡ Ok (check retries) → ChecksWithin (retries + 1) (stream (R.left src.old) (R.faults src.old)) (stream (R.left src.new) (R.faults src.new)) (D.shown depot.old) (D.shown depot.new) }
+    // Where at most as many calls fail in all as a key is tried again, neither a task nor a key is given up.
+    ensures few_failures { (command : Command) → command_of (map string_bytes words.now) ≡ Ok command
+        → FewFailed (retries_of command) (D.shown depot.old) (D.shown depot.new) → IsNotGivenUp result }
 {
     carry(rt, alloc, words, src, out, depot, gate)
 }
@@ -215,6 +222,9 @@ fn carry<H: Threads + Wait + Sync, R: Source, W: Sink, D: Share, G: Gate>(
     ensures demos { (size : ℕ) (options : Options) → command_of (map string_bytes words.now) ≡ Ok (demo size options) → DemoTells (D.yards_lack depot.new)
         (demo_case options size (seen (stream (W.written out.old) (W.faults out.old)) (D.shown depot.old)) (seen (stream (W.written out.new) (W.faults out.new)) (D.shown depot.new))) result }
     ensures demo_kept { (size : ℕ) (options : Options) → command_of (map string_bytes words.now) ≡ Ok (demo size options) → R.left src.new ≡ R.left src.old }
+    ensures plan_calls { (options : Options) → command_of (map string_bytes words.now) ≡ Ok (plan options) → PlansWithin (options.retries + 1) (stream (R.left src.old) (R.faults src.old)) (stream (R.left src.new) (R.faults src.new)) (D.shown depot.old) (D.shown depot.new) }
+    ensures load_calls { (retries : ℕ) → command_of (map string_bytes words.now) ≡ Ok (load retries) → LoadsWithin retries (R.left src.old) (R.left src.new) (D.shown depot.old) (D.shown depot.new) }
+    ensures check_calls { (retries : ℕ) → command_of (map string_bytes words.now) ≡ Ok (check retries) → ChecksWithin (retries + 1) (stream (R.left src.old) (R.faults src.old)) (stream (R.left src.new) (R.faults src.new)) (D.shown depot.old) (D.shown depot.new) }
 {
     let asked = match read_words(alloc, words) {
         Reading::Asked(asked) => asked,
@@ -311,6 +321,7 @@ fn plan_command<R: Source, W: Sink, D: Depot>(
     ensures answer { PlanTells options.now (scene (stream (R.left src.old) (R.faults src.old)) (stream (W.written out.old) (W.faults out.old)) (D.shown depot.old))
         (scene (stream (R.left src.new) (R.faults src.new)) (stream (W.written out.new) (W.faults out.new)) (D.shown depot.new)) result }
     ensures prints { PrintsOnly result (W.written out.old) (W.written out.new) }
+    ensures calls { PlansWithin (options.now.retries + 1) (stream (R.left src.old) (R.faults src.old)) (stream (R.left src.new) (R.faults src.new)) (D.shown depot.old) (D.shown depot.new) }
 {
     match read_all(alloc, src) {
         Ok(text) => print_plan(alloc, options, &text, out, depot),

@@ -1,5 +1,5 @@
-//! A law of the commands of one plan: a call that does nothing and whose clauses are the law.
-ghost use Rattle.std.specs.Prelude.{Bool, List, All};
+//! Laws of the commands: calls that do nothing and whose clauses are the laws.
+ghost use Rattle.std.specs.Prelude.{◌∷◌, [], ℕ, Bool, List, All, Some, codes};
 ghost use Rattle.cu_store.specs.Steps.{Shown};
 ghost use Rattle.cu_op.specs.Value.{Elements};
 ghost use Rattle.cu_state.specs.Left.{IsLeft};
@@ -7,10 +7,15 @@ ghost use Rattle.cu_state.specs.Pieces.{PlanRun};
 ghost use Rattle.cu_work.specs.Commands.{AreCommands, IsCommand};
 ghost use Rattle.cu_command.specs.declared.job.Job.{Job};
 ghost use Rattle.cu_command.specs.declared.status.Status.{Status};
+ghost use Rattle.cu_region.specs.Steady.{IsSteady};
+ghost use Rattle.cu_check.specs.Arrays.{IsReadChunk};
+ghost use Rattle.cu_print.specs.Print.{IsArrayMetadata, IsChunkAt};
+ghost use Rattle.cu_top.specs.Complete.{IsPlannable, IsServable};
 ghost use Rattle.cu_top.specs.Drop.{Dropped};
 ghost use Rattle.cu_top.specs.Laws.{IsOfPlan};
 ghost use Rattle.cu_top.specs.Resume.{WasResumed};
 ghost use Rattle.cu_top.specs.Run.{RunCase, job_run, IsSpared, Ran};
+ghost use Rattle.cu_top.specs.Sample.{sample_held, sample_input, sample_late, sample_layout, sample_plan, sample_run, sample_shown, sample_text};
 
 use cu_work::commands_law;
 
@@ -27,3 +32,13 @@ pub fn list_law()
 {
     commands_law();
 }
+
+/// The premises of the commands are met by a small store, which holds the metadata and one chunk of an array, and where a put of this
+/// chunk is late: `run` is served there, and so is `plan`; and what `print` and `check` say of keys that no late put changes holds.
+pub fn premises_law()
+    ensures run { IsServable sample_run sample_text sample_held sample_shown }
+    ensures plan { IsPlannable sample_plan sample_text sample_shown }
+    ensures print_metadata { IsSteady (IsArrayMetadata (codes "x")) (Some sample_held) sample_late }
+    ensures print_chunks { (place : ℕ) → IsSteady (IsChunkAt (codes "x") sample_layout place) (Some sample_held) sample_late }
+    ensures check { IsSteady (IsReadChunk (sample_input ∷ [])) (Some sample_held) sample_late }
+{}

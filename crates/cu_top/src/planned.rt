@@ -1,6 +1,7 @@
 //! The command that says what a plan does.
-ghost use Rattle.cu_command.specs.Seen.{Stream, stream};
-ghost use Rattle.cu_top.specs.Planned.{Plans};
+ghost use Rattle.std.specs.Prelude.{◌+◌};
+ghost use Rattle.cu_command.specs.Seen.{Stream, WithinCalls, stream};
+ghost use Rattle.cu_top.specs.Planned.{Plans, plan_calls};
 ghost use Rattle.cu_top.specs.Run.{scene, case, PrintsOnly};
 ghost use Rattle.cu_top.specs.Words.{IsInRange};
 
@@ -23,6 +24,7 @@ pub fn print_plan<W: Sink, D: Depot>(
     ensures answer { (source next : Stream) → Plans (case options.now text.now (scene source (stream (W.written out.old) (W.faults out.old)) (D.shown depot.old))
         (scene next (stream (W.written out.new) (W.faults out.new)) (D.shown depot.new))) result }
     ensures prints { PrintsOnly result (W.written out.old) (W.written out.new) }
+    ensures calls { WithinCalls (plan_calls (options.now.retries + 1) text.now) (D.shown depot.old) (D.shown depot.new) }
 {
     let prepared = match plan_job(alloc, options, text, depot) {
         Ok(prepared) => prepared,

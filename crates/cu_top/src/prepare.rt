@@ -1,10 +1,10 @@
 //! What is checked before anything is stored: the text, the inputs' metadata, the types, the plan, and the keys in the way.
-ghost use Rattle.std.specs.Prelude.{◌≡◌, Bool, IfErr, IfOk};
+ghost use Rattle.std.specs.Prelude.{◌≡◌, ◌+◌, Bool, IfErr, IfOk};
 ghost use Rattle.cu_op.specs.Sound.{Sound};
 ghost use Rattle.cu_store.specs.Steps.{NoChange};
 ghost use Rattle.cu_command.specs.Job.{IsJob};
-ghost use Rattle.cu_command.specs.Seen.{Stepped, Stream};
-ghost use Rattle.cu_top.specs.Planned.{IsPlanRefused};
+ghost use Rattle.cu_command.specs.Seen.{Stepped, Stream, WithinCalls};
+ghost use Rattle.cu_top.specs.Planned.{IsPlanRefused, plan_calls};
 ghost use Rattle.cu_top.specs.Prepare.{job_plan, unplanned_status, HasPlan};
 ghost use Rattle.cu_top.specs.Run.{scene, case, Ran, IsCleared};
 ghost use Rattle.cu_top.specs.Words.{IsInRange};
@@ -58,6 +58,7 @@ pub fn plan_job<D: Depot>(
     ensures step { Stepped NoChange (D.shown depot.old) (D.shown depot.new) }
     ensures refused { (source next sink after : Stream)
         → IfErr result (IsPlanRefused (case options.now text.now (scene source sink (D.shown depot.old)) (scene next after (D.shown depot.new)))) }
+    ensures calls { WithinCalls (plan_calls (options.now.retries + 1) text.now) (D.shown depot.old) (D.shown depot.new) }
 {
     let job = match read_job(alloc, depot, text, options.retries) {
         Ok(job) => job,

@@ -1,3 +1,8 @@
+use Rattle.std.specs.Prelude.{◌+◌, ℕ, map, string_bytes}
+use Rattle.std.proofs.Common.{sym, subst}
+use Rattle.cu_check.specs.Check.{ChecksWithin}
+use Rattle.cu_command.specs.Seen.{stream}
+use Rattle.cu_top.proofs.CheckLemmas.{same_tries}
 use Rattle.cu_top.proofs.call.carry.Goals as goal
 
 pub run_command-requires-clause-options : goal.run_command-requires-clause-options
@@ -32,3 +37,9 @@ demo-requires-clause-few g c κs within = (rw c.in-Demo.is at c.in-Asked.ensures
 
 pub demo-requires-clause-quiet : goal.demo-requires-clause-quiet
 demo-requires-clause-quiet g c κs within = c.requires.demo_quiet c.in-Demo.size c.in-Demo.options (rw c.in-Demo.is at c.in-Asked.ensures.answer.0)
+
+pub returns-in-Check-clause-check_calls : goal.returns-in-Check-clause-check_calls
+returns-in-Check-clause-check_calls g c = λ retries words.
+    let same = same_tries (map string_bytes c.args.words.now) retries c.in-Check.retries words (rw c.in-Check.is at c.in-Asked.ensures.answer.0) in
+    subst (λ (n : ℕ). ChecksWithin (n + 1) (stream (g.R.Source.left c.args.src.now) (g.R.Source.faults c.args.src.now)) (stream (g.R.Source.left c.check.new.src) (g.R.Source.faults c.check.new.src))
+    (g.D.Depot.shown c.args.depot.now) (g.D.Depot.shown c.check.new.depot)) (sym same) c.check.ensures.calls

@@ -1,4 +1,4 @@
-use Rattle.std.proofs.Common.{subst, List, ℕ}
+use Rattle.std.proofs.Common.{subst, inr, List, ℕ}
 use Rattle.cu_command.specs.Seen.{stream}
 use Rattle.cu_top.proofs.PlannedLemmas.{told_plan}
 use Rattle.cu_top.specs.Planned.{Plans}
@@ -13,3 +13,6 @@ returns-in-Ok-clause-answer g c =
     let new = scene next (stream (g.W.Sink.written c.print_plan.new.out) (g.W.Sink.faults c.print_plan.new.out)) (g.D.Depot.shown c.print_plan.new.depot) in
     told_plan c.args.options.now old new c.in-Ok.text.items c.print_plan.result c.in-Ok.ensures.text
     (subst (λ (text : List ℕ). Plans (case c.args.options.now text old new) c.print_plan.result) c.deref.ensures.value (c.print_plan.ensures.answer source next))
+
+pub returns-in-Ok-clause-calls : goal.returns-in-Ok-clause-calls
+returns-in-Ok-clause-calls g c = inr (c.in-Ok.text.items, c.in-Ok.ensures.text, rw c.deref.ensures.value at c.print_plan.ensures.calls)

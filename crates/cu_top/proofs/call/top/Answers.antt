@@ -1,9 +1,11 @@
+use Rattle.std.specs.Prelude.{map, string_bytes}
 use Rattle.cu_command.specs.Seen.{stream, seen}
 use Rattle.cu_top.proofs.CallLemmas.{refused_text}
 use Rattle.cu_top.proofs.CheckLemmas.{found_equal, found_unequal}
 use Rattle.cu_top.proofs.Completeness.{served}
 use Rattle.cu_top.proofs.DemoLemmas.{was_demonstrated}
 use Rattle.cu_top.proofs.DemoServed.{demo_served}
+use Rattle.cu_top.proofs.FewFailures.{not_given_up}
 use Rattle.cu_top.proofs.ResumeServed.{caused, went_on}
 use Rattle.cu_top.proofs.PlannedLemmas.{plan_printed, plan_spared, plan_refused_text, plan_served}
 use Rattle.cu_top.specs.Demo.{demo_case}
@@ -78,3 +80,18 @@ returns-clause-demo_complete g c = λ size options entry words told rest sink de
     (demo_case options size (seen (stream (g.W.Sink.written c.args.out.now) (g.W.Sink.faults c.args.out.now)) (g.D.Depot.shown c.args.depot.now))
     (seen (stream (g.W.Sink.written c.carry.new.out) (g.W.Sink.faults c.carry.new.out)) (g.D.Depot.shown c.carry.new.depot))) entry told rest sink depot
     (g.D.Share.yards_lack c.carry.new.depot) c.carry.result (c.carry.ensures.demos size options words)
+
+pub returns-clause-few_failures : goal.returns-clause-few_failures
+returns-clause-few_failures g c = λ command words few.
+    not_given_up (stream (g.R.Source.left c.args.src.now) (g.R.Source.faults c.args.src.now)) (stream (g.R.Source.left c.carry.new.src) (g.R.Source.faults c.carry.new.src))
+    (seen (stream (g.W.Sink.written c.args.out.now) (g.W.Sink.faults c.args.out.now)) (g.D.Depot.shown c.args.depot.now))
+    (seen (stream (g.W.Sink.written c.carry.new.out) (g.W.Sink.faults c.carry.new.out)) (g.D.Depot.shown c.carry.new.depot)) (g.D.Share.yards_lack c.carry.new.depot) (map string_bytes c.args.words.now) c.carry.result command (record {
+      runs = c.carry.ensures.runs;
+      resumes = c.carry.ensures.resumes;
+      drops = c.carry.ensures.drops;
+      plans = c.carry.ensures.plans;
+      loads = c.carry.ensures.loads;
+      checks = c.carry.ensures.checks;
+      prints = c.carry.ensures.prints_array;
+      demos = c.carry.ensures.demos;
+    }) words few

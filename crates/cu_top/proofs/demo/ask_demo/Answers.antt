@@ -1,5 +1,5 @@
 use Rattle.std.proofs.Common.{◌≡◌, ◌+◌, ◌∙◌, subst, sym, ap, false, ℕ, List}
-use Rattle.cu_command.proofs.SeenLemmas.{stepped_then}
+use Rattle.cu_command.proofs.SeenLemmas.{stepped, stepped_then}
 use Rattle.cu_demo.specs.Input.{demo_name}
 use Rattle.cu_demo.specs.declared.input.DemoInput.TheVariants.{Columns}
 use Rattle.cu_load.specs.Keys.{AreFree}
@@ -14,8 +14,11 @@ returns-in-Err-clause-refused g c = λ options same.
     rows_end (c.args.retries + 1) (asked_keys options c.args.prepared.now.job) (g.D.Depot.shown c.args.depot.now) (g.D.Depot.shown c.ask_keys.new.depot)
     c.key_of_name-rows.result c.in-Err.status (c.key_of_name-rows.ensures.key ∙ c.demo_name.ensures.name) c.in-Err.ensures.refused
 
+pub returns-in-Err-clause-step : goal.returns-in-Err-clause-step
+returns-in-Err-clause-step g c = stepped c.ask_keys.ensures.step
+
 pub returns-in-Err-ask_keys-clause-step : goal.returns-in-Err-ask_keys-clause-step
-returns-in-Err-ask_keys-clause-step g c = stepped_then c.ask_keys.ensures.step c.ask_keys-2.ensures.step
+returns-in-Err-ask_keys-clause-step g c = stepped_then (stepped c.ask_keys.ensures.step) (stepped c.ask_keys-2.ensures.step)
 
 pub returns-in-Err-ask_keys-clause-refused : goal.returns-in-Err-ask_keys-clause-refused
 returns-in-Err-ask_keys-clause-refused g c = λ options same.
@@ -24,27 +27,27 @@ returns-in-Err-ask_keys-clause-refused g c = λ options same.
     columns_end (c.args.retries + 1) (asked_keys options c.args.prepared.now.job) old mid (g.D.Depot.shown c.ask_keys-2.new.depot)
     c.key_of_name-columns.result c.in-Err-ask_keys.status (c.key_of_name-columns.ensures.key ∙ c.demo_name-2.ensures.name)
     (subst (λ (n : List ℕ). AreFree n old.held) (c.key_of_name-rows.ensures.key ∙ c.demo_name.ensures.name) c.in_default.ensures.free)
-    c.ask_keys.ensures.step c.in-Err-ask_keys.ensures.refused
+    (stepped c.ask_keys.ensures.step) c.in-Err-ask_keys.ensures.refused
 
 pub returns-in-Ok-clause-inputs : goal.returns-in-Ok-clause-inputs
 returns-in-Ok-clause-inputs g c =
     let old = g.D.Depot.shown c.args.depot.now in
     let mid = g.D.Depot.shown c.ask_keys.new.depot in (
       subst (λ (n : List ℕ). AreFree n old.held) (c.key_of_name-rows.ensures.key ∙ c.demo_name.ensures.name) c.in_default.ensures.free,
-      free_before old mid (demo_name Columns) c.ask_keys.ensures.step
+      free_before old mid (demo_name Columns) (stepped c.ask_keys.ensures.step)
           (subst (λ (n : List ℕ). AreFree n mid.held) (c.key_of_name-columns.ensures.key ∙ c.demo_name-2.ensures.name) c.in_default-ask_keys.ensures.free),
     )
 
 pub returns-in-Ok-clause-keys : goal.returns-in-Ok-clause-keys
 returns-in-Ok-clause-keys g c = λ options entry plan told.
-    all_free (g.D.Depot.shown c.args.depot.now) (g.D.Depot.shown c.ask_keys-2.new.depot) (stepped_then c.ask_keys.ensures.step c.ask_keys-2.ensures.step) entry told
+    all_free (g.D.Depot.shown c.args.depot.now) (g.D.Depot.shown c.ask_keys-2.new.depot) (stepped_then (stepped c.ask_keys.ensures.step) (stepped c.ask_keys-2.ensures.step)) entry told
     (asked_keys options c.args.prepared.now.job) (λ now is. c.in-Ok.ensures.free options now plan is)
 
 pub returns-in-Ok-clause-step : goal.returns-in-Ok-clause-step
-returns-in-Ok-clause-step g c = stepped_then (stepped_then c.ask_keys.ensures.step c.ask_keys-2.ensures.step) c.ask_plan.ensures.step
+returns-in-Ok-clause-step g c = stepped_then (stepped_then (stepped c.ask_keys.ensures.step) (stepped c.ask_keys-2.ensures.step)) c.ask_plan.ensures.step
 
 pub returns-in-Err-ask_plan-clause-step : goal.returns-in-Err-ask_plan-clause-step
-returns-in-Err-ask_plan-clause-step g c = stepped_then (stepped_then c.ask_keys.ensures.step c.ask_keys-2.ensures.step) c.ask_plan.ensures.step
+returns-in-Err-ask_plan-clause-step g c = stepped_then (stepped_then (stepped c.ask_keys.ensures.step) (stepped c.ask_keys-2.ensures.step)) c.ask_plan.ensures.step
 
 pub returns-in-Err-ask_plan-clause-refused : goal.returns-in-Err-ask_plan-clause-refused
 returns-in-Err-ask_plan-clause-refused g c = λ options same.
@@ -56,7 +59,7 @@ returns-in-Err-ask_plan-clause-refused g c = λ options same.
     subst (IsDemoAskEnd (c.args.retries + 1) (asked_keys options c.args.prepared.now.job) old new) (sym c.answer_of.ensures)
     (plan_end (c.args.retries + 1) (asked_keys options c.args.prepared.now.job) old asked new c.args.prepared.now.job.expr c.in-Err-ask_plan.fault own (
       subst (λ (n : List ℕ). AreFree n old.held) (c.key_of_name-rows.ensures.key ∙ c.demo_name.ensures.name) c.in_default.ensures.free,
-      free_before old mid (demo_name Columns) c.ask_keys.ensures.step
+      free_before old mid (demo_name Columns) (stepped c.ask_keys.ensures.step)
           (subst (λ (n : List ℕ). AreFree n mid.held) (c.key_of_name-columns.ensures.key ∙ c.demo_name-2.ensures.name) c.in_default-ask_keys.ensures.free),
     )
-    (stepped_then c.ask_keys.ensures.step c.ask_keys-2.ensures.step) (c.in-Err-ask_plan.ensures.refused options same))
+    (stepped_then (stepped c.ask_keys.ensures.step) (stepped c.ask_keys-2.ensures.step)) (c.in-Err-ask_plan.ensures.refused options same))

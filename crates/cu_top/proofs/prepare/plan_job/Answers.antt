@@ -16,3 +16,12 @@ pub returns-in-Err-plan-clause-refused : goal.returns-in-Err-plan-clause-refused
 returns-in-Err-plan-clause-refused g c = λ source next sink after.
     let run = case c.args.options.now c.args.text.now (scene source sink (g.D.Depot.shown c.args.depot.now)) (scene next after (g.D.Depot.shown c.read_job.new.depot)) in
     subst (IsPlanRefused run) (sym c.unplanned_status.ensures) (plan_refused run c.in-Ok.job c.in-Err-plan.fault (stepped c.read_job.ensures.step) c.in-Ok.ensures.job c.in-Err-plan.ensures.refused)
+
+pub returns-in-Err-clause-calls : goal.returns-in-Err-clause-calls
+returns-in-Err-clause-calls g c = c.read_job.ensures.step.calls.1
+
+pub returns-in-Err-plan-clause-calls : goal.returns-in-Err-plan-clause-calls
+returns-in-Err-plan-clause-calls g c = c.read_job.ensures.step.calls.1
+
+pub returns-in-Ok-plan-clause-calls : goal.returns-in-Ok-plan-clause-calls
+returns-in-Ok-plan-clause-calls g c = c.read_job.ensures.step.calls.1

@@ -1,0 +1,15 @@
+use Rattle.std.proofs.Common.{◌∷◌, [], codes}
+use Rattle.cu_check.specs.Arrays.{IsReadChunk}
+use Rattle.cu_print.specs.Print.{IsArrayMetadata, IsChunkAt}
+use Rattle.cu_top.specs.Sample.{sample_input, sample_layout}
+use Rattle.cu_top.proofs.SampleLemmas.{servable, plannable, steady}
+use Rattle.cu_top.proofs.laws.premises_law.Goals as goal
+
+pub returns : goal.returns
+returns c = record {
+  run = servable;
+  plan = plannable;
+  print_metadata = steady (IsArrayMetadata (codes "x"));
+  print_chunks = λ place. steady (IsChunkAt (codes "x") sample_layout place);
+  check = steady (IsReadChunk (sample_input ∷ []));
+}

@@ -1,0 +1,54 @@
+-- A small store and the text of an expression over it, which meet the premises of the commands.
+use Rattle.std.specs.Prelude.{ℕ, false, List, [], ◌∷◌, codes, bytes_eq, Some, None, if◌then◌else◌}
+use Rattle.cu_expr.specs.declared.inputs.InputInfo.{InputInfo}
+use Rattle.cu_lower.specs.Parts.{made_layout}
+use Rattle.cu_node.specs.Info.{info_of}
+use Rattle.cu_node.specs.declared.info.NodeInfo.{NodeInfo}
+use Rattle.cu_num.specs.declared.types.Dtype.TheVariants.{Int16}
+use Rattle.cu_op.specs.Layout.{layout_view}
+use Rattle.cu_op.specs.declared.layout.Layout.{Layout}
+use Rattle.cu_store.specs.Held.{Contents, Write}
+use Rattle.cu_store.specs.Steps.{Shown}
+use Rattle.cu_zarr.specs.Metadata.{metadata_text}
+
+-- 7 numbers of 2 bytes in chunks of 5
+abbrev pub sample_info : NodeInfo
+sample_info = info_of Int16 (7 ∷ []) (5 ∷ [])
+
+abbrev pub sample_layout : Layout
+sample_layout = made_layout sample_info
+
+abbrev pub sample_input : InputInfo
+sample_input = record { name = codes "x"; layout = sample_layout }
+
+abbrev pub sample_metadata : List ℕ
+sample_metadata = metadata_text (layout_view sample_layout)
+
+-- the bytes of 1 to 5
+abbrev pub sample_chunk : List ℕ
+sample_chunk = 1 ∷ 0 ∷ 2 ∷ 0 ∷ 3 ∷ 0 ∷ 4 ∷ 0 ∷ 5 ∷ 0 ∷ []
+
+-- held are its metadata and its first chunk; the second is absent
+abbrev pub sample_held : Contents
+sample_held key =
+    if bytes_eq key (codes "x/zarr.json") then Some sample_metadata
+    else if bytes_eq key (codes "x/c/0") then Some sample_chunk
+    else None
+
+-- a put of that chunk is late
+abbrev pub sample_late : List Write
+sample_late = (codes "x/c/0", sample_chunk) ∷ []
+
+abbrev pub sample_shown : Shown
+sample_shown = record { held = Some sample_held; late = sample_late; faults = 0; calls = 0; lacks = false }
+
+-- a copy of it in chunks of 3
+unfoldable pub sample_text : List ℕ
+sample_text = codes "{\"nodes\":[{\"id\":\"x\",\"op\":\"input\",\"name\":\"x\"},{\"id\":\"t\",\"op\":\"rechunk\",\"args\":[\"x\"],\"chunk\":[3]}],\"out\":\"t\",\"store_as\":\"y\"}"
+
+-- the words of a run and of a plan
+abbrev pub sample_run : List (List ℕ)
+sample_run = codes "run" ∷ codes "--allowed-mem" ∷ codes "64" ∷ []
+
+abbrev pub sample_plan : List (List ℕ)
+sample_plan = codes "plan" ∷ codes "--allowed-mem" ∷ codes "64" ∷ []
