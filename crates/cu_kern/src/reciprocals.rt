@@ -133,7 +133,9 @@ fn divide_each(f: Fn2, t: Dtype, x: &[u8], y: &[u8], by: Reciprocal, out: &mut [
     }
 }
 
-/// The reciprocal of a number, where it has one.
+/// The reciprocal of a number, where it has one. It is never inlined: a compiler that sees how the factor is made forgets that it has
+/// 32 bits, and multiplies by 64.
+#[inline(never)]
 fn reciprocal_at(y: i128) -> Option<Reciprocal>
     ensures exact { IfSome result (λ r. IsReciprocal r.divisor r.factor r.shift) }
     ensures own { IfSome result (λ r. pos r.divisor ≡ y) }
