@@ -1,5 +1,5 @@
 #!/usr/bin/env python3
-"""Runs all stops and failing calls over a folder, of which the gate runs some: see `tools/stop_cases.py`.
+"""Runs all stops, failing calls and late puts over a folder, of which the gate runs some: see `tools/stop_cases.py` and `tools/late_cases.py`.
 
 usage: tools/tables_by_stops.py PROGRAM [PART..]     PROGRAM is the built cu_cases; a case is run if its name has one of these parts
 
@@ -12,6 +12,7 @@ import sys
 import tempfile
 
 sys.path.insert(0, os.path.dirname(os.path.realpath(__file__)))
+import late_cases  # noqa: E402
 import stop_cases  # noqa: E402
 
 
@@ -41,7 +42,8 @@ def main():
     with tempfile.TemporaryDirectory(prefix="cubed-stops-") as folder:
         sys.argv = [sys.argv[0], folder]
         stop_cases.main()
-        failed = [run_table(program, folder, file, parts) for file in ("resume_stops.json", "failing_calls.json")]
+        late_cases.main()
+        failed = [run_table(program, folder, file, parts) for file in ("resume_stops.json", "failing_calls.json", "late_puts.json")]
     raise SystemExit(any(failed))
 
 

@@ -3,7 +3,6 @@ use Rattle.std.proofs.Common.{◌≡◌, List, ℕ, [], ◌∷◌, Bool, true, f
 use Rattle.cu_store.specs.Held.{Contents, Write}
 use Rattle.cu_store.specs.Steps.{Shown}
 use Rattle.cu_op.specs.Value.{stored_inputs}
-use Rattle.cu_command.specs.declared.job.Job.{Job}
 use Rattle.cu_lower.specs.declared.options.Options.{Options}
 use Rattle.cu_state.specs.Left.{IsQuiet}
 use Rattle.cu_state.specs.Pieces.{PlanRun}

@@ -1,6 +1,7 @@
 //! The kind of case that calls the program over a folder of the system.
 
 use crate::case::{Case, add_contents};
+use crate::script::small;
 use anyhow::{Result, bail};
 use cu_dir::DirDepot;
 use cu_failing::{Failing, Span};
@@ -14,7 +15,7 @@ use std::thread::Threads;
 const FOLDER: &str = "folder_of_a_case";
 
 /// What a step may say, and a case of all its steps.
-const MEMBERS: [&str; 18] = [
+const MEMBERS: [&str; 19] = [
     "name",
     "steps",
     "holds",
@@ -33,11 +34,13 @@ const MEMBERS: [&str; 18] = [
     "until",
     "fail_from",
     "fail_times",
+    "land",
 ];
 
 /// Makes the calls of a case one after another over an empty folder, and reads back by `get` what each has left. What a step holds is put
 /// or removed first, as if a run had been stopped there. Of the calls of the folder that a step makes, whichever worker makes them,
-/// those fail whose number lies from `fail_from` to below `fail_times` more, or all from there on.
+/// those fail whose number lies from `fail_from` to below `fail_times` more, or all from there on. The first put among them lands after
+/// `land` further calls, of this step or of later ones.
 pub(crate) fn run_folder(
     rt: &HostRuntime,
     threads: &(impl Threads + Wait + Sync),
@@ -51,7 +54,7 @@ pub(crate) fn run_folder(
     let Ok(depot) = DirDepot::make(rt, texts.alloc, FOLDER) else {
         bail!("no memory");
     };
-    let mut depot = Failing::new(depot);
+    let mut depot = Failing::new(texts.alloc, depot);
     for (at, row) in said.list("steps")?.iter().enumerate() {
         refuse_others(row, &MEMBERS)?;
         let said = Said { row, ..*said };
@@ -79,18 +82,23 @@ fn run_step(
     let mut held = Vec::new(texts.alloc);
     add_contents(&mut held, texts, said.list("holds")?, false)?;
     let case = Case::read(texts, said, held)?;
-    case.fill(depot)?;
+    // What is late waits while the folder is filled and read.
+    case.fill(&mut depot.depot)?;
     depot.set_span(span_of(said)?);
     case.answer(threads, depot, case.room, &case.wanted(), place, findings)?;
-    depot.set_span(Span::none());
-    case.read_back(depot, place, findings)
+    case.read_back(&mut depot.depot, place, findings)
 }
 
 /// The calls that fail.
 fn span_of(said: &Said<'_>) -> Result<Span> {
     let times = said.number("fail_times")?.unwrap_or(u64::MAX);
+    let land = match said.number("land")? {
+        None => None,
+        Some(wait) => Some(small(wait)?),
+    };
     Ok(match said.number("fail_from")? {
+        Some(first) => Span { first, times, land },
+        None if land.is_some() => bail!("no put fails that is to land"),
         None => Span::none(),
-        Some(first) => Span { first, times },
     })
 }

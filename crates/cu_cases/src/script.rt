@@ -75,7 +75,8 @@ fn kind_of(name: &str) -> Result<CallKind> {
     }
 }
 
-fn small(number: u64) -> Result<u32> {
+/// A small number.
+pub(crate) fn small(number: u64) -> Result<u32> {
     match u32::try_from(number) {
         Ok(small) => Ok(small),
         Err(_) => bail!("{number} is too large"),
