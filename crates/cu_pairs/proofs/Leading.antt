@@ -1,5 +1,5 @@
 -- The best value of numbers that follow one another, and the first that has it.
-use Rattle.std.proofs.Common.{◌≡◌, ◌≢◌, ℕ, suc, ℤ, ◌+◌, ◌-◌, ◌*◌, ◌/◌, List, length, take, drop, ◌<◌, ◌≤◌, true, false, refl, sym, ap, ◌∙◌, subst, arith, below_more, ⊎_elim, max, if◌then◌else◌}
+use Rattle.std.proofs.Common.{◌≡◌, ◌≢◌, ℕ, suc, ℤ, ◌+◌, ◌-◌, ◌*◌, ◌/◌, List, length, take, drop, ◌<◌, ◌≤◌, true, false, refl, sym, ap, ◌∙◌, subst, arith, below_more, ⊎_elim, if◌then◌else◌}
 use Rattle.std.specs.Prelude.{Bool as Test, int_lt}
 use Rattle.std.proofs.lemmas.Int.{ints}
 use Rattle.std.proofs.lemmas.Bool.{cases_lt}
@@ -68,27 +68,6 @@ value_more least f at b x new false h is e n = record {
       (λ j below. subst (λ v. is_beyond least (f j) v ≡ false) (sym n) (h.none j below))
       (subst (λ v. is_beyond least (f at) v ≡ false) (sym n) (subst (λ v. is_beyond least v b ≡ false) (sym is) (sym e)));
 }
-
--- the first number, which `b` is, taken again
-value_again : (least : Test) (f : ℕ → ℤ) (b x new : ℤ) (choice : Test) → IsBestValue least f 1 b → f 0 ≡ x → new ≡ (if choice then x else b) → IsBestValue least f 1 new
-value_again least f b x new choice h is n =
-    let own : f 0 ≡ b = (let w = h.within in let zero_th : 0 ≡ h.number = omega arith in ap f zero_th) ∙ h.is in
-    first_value least f new (one_of (λ v. f 0 ≡ v) choice x b is own ∙ sym n)
-
--- after `at` numbers, of which the first counts as taken before the loop
-pub value_taken : (least : Test) (f : ℕ → ℤ) (at : ℕ) (b x new : ℤ) (choice : Test) → IsBestValue least f (max 1 at) b → f at ≡ x → choice ≡ is_beyond least x b → new ≡ (if choice then x else b)
-    → IsBestValue least f (max 1 (at + 1)) new
-value_taken least f at b x new choice h is e n = ⊎_elim
-    (λ none.
-    let zero_th : at ≡ 0 = omega arith in
-    let P : ℕ → Type 0 = λ m. IsBestValue least f m b in
-    subst (λ m. IsBestValue least f m new) (let one : 1 ≡ max 1 (at + 1) = omega arith in one)
-    (value_again least f b x new choice (subst P (let one : max 1 at ≡ 1 = omega arith in one) h) (ap f (sym zero_th) ∙ is) n))
-    (λ some.
-    let P : ℕ → Type 0 = λ m. IsBestValue least f m b in
-    subst (λ m. IsBestValue least f m new) (let more : at + 1 ≡ max 1 (at + 1) = omega arith in more)
-    (value_more least f at b x new choice (subst P (let same : max 1 at ≡ at = omega arith in same) h) is e n))
-    (cases_lt at 1)
 
 -- ---- one block more
 

@@ -4,7 +4,7 @@ ghost use Rattle.cu_num.specs.Dtype.{size_of};
 ghost use Rattle.cu_pairs.specs.Columns.{table, HasRows, HasBests};
 
 use crate::columns::{Rows, best_of_columns};
-use crate::few::{ROWS, WIDTH, best_of_few_columns};
+use crate::few::{BYTES, ROWS, best_of_few_columns};
 use cu_num::Dtype;
 
 /// The best of each column of so many rows.
@@ -49,7 +49,7 @@ fn counted(
         first: Some(first),
         places: rows.places,
     };
-    if rows.width <= WIDTH && count >= ROWS {
+    if values.len() <= BYTES && count >= ROWS {
         few(least, t, first, rows, count, values, places);
     } else if least {
         by_type(true, t, rows, count, values, places);
@@ -58,7 +58,7 @@ fn counted(
     }
 }
 
-/// The same of rows of few elements.
+/// The same of rows of few bytes.
 fn few(
     least: bool,
     t: Dtype,

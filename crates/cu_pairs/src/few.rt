@@ -1,4 +1,4 @@
-//! The best of each column of rows of few elements: the elements of a column are put side by side, a block at a time, so that a block is
+//! The best of each column of rows of few bytes: the elements of a column are put side by side, a block at a time, so that a block is
 //! searched as one run.
 ghost use Rattle.std.specs.Prelude.{◌≡◌, ◌+◌, ◌-◌, ◌*◌, ◌/◌, ◌<◌, ◌≤◌, ◌≢◌, ℕ, length, Some};
 ghost use Rattle.cu_num.specs.Dtype.{size_of};
@@ -11,8 +11,8 @@ use crate::columns::Rows;
 use crate::runs::{BLOCK, best_value, is_beyond};
 use cu_num::{Dtype, load, save, size};
 
-/// Rows have at most so many elements, and at least so many follow one another: else going row by row is faster.
-pub(crate) const WIDTH: usize = 8;
+/// Rows have at most so many bytes, and at least so many follow one another: else going row by row is faster.
+pub(crate) const BYTES: usize = 8;
 
 pub(crate) const ROWS: usize = 64;
 

@@ -28,8 +28,7 @@ pub(crate) fn chosen(choice: bool, x: i128, y: i128) -> i128
     if choice { x } else { y }
 }
 
-/// The least or the greatest of at least one element. The loop takes the first element again, so that a whole block is a whole number
-/// of vectors.
+/// The least or the greatest of at least one element.
 #[inline(always)]
 pub(crate) fn best_value(least: bool, t: Dtype, bytes: &[u8]) -> i128
     requires some { size_of t ≤ length bytes.now }
@@ -38,7 +37,7 @@ pub(crate) fn best_value(least: bool, t: Dtype, bytes: &[u8]) -> i128
     let count = bytes.len() / size(t) as usize;
     let mut best = [0; 8];
     save(t, load(t, bytes, 0), &mut best, 0);
-    for at in 0..count {
+    for at in 1..count {
         let x = load(t, bytes, at);
         let value = load(t, &best, 0);
         let choice = is_beyond(least, x, value);
