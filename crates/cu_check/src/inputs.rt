@@ -39,7 +39,7 @@ fn no_layout() -> Layout
 }
 
 /// The layout of the first input with this name.
-fn layout_named(inputs: &[InputInfo], name: &IdText) -> Layout
+fn named_layout(inputs: &[InputInfo], name: &IdText) -> Layout
     ensures { result ≡ layout_named inputs.now name.now }
 {
     for input in inputs {
@@ -72,7 +72,7 @@ fn read_node<D: Depot>(
     };
     let array = InputInfo {
         name: *name,
-        layout: layout_named(inputs, name),
+        layout: named_layout(inputs, name),
     };
     let plain = match read_plain(alloc, depot, &array, retries) {
         Ok(plain) => plain,

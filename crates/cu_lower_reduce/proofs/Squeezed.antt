@@ -6,7 +6,7 @@ use Rattle.cu_pull.specs.Pull.{has_axis}
 use Rattle.cu_pull.specs.declared.axes.Axes.{Axes}
 use Rattle.cu_op.specs.Partial.{IsSqueezedAlong}
 use Rattle.cu_op.specs.Partial.{partial_chunk as chunk_of_groups}
-use Rattle.cu_tree.specs.Partials.{partial_chunk}
+use Rattle.cu_tree.specs.Partials.{partial_chunk_from}
 
 -- such axes change neither the number of elements nor that of a chunk
 pub same_elements : (ns cs ms ds : List ℕ) → IsSqueezedAlong ns cs ms ds → product ns ≡ product ms
@@ -38,13 +38,13 @@ without_last (n ∷ ns) [] e = absurd (omega arith)
 without_last (n ∷ ns) (c ∷ cs) e = inl (refl, refl, without_last ns cs (omega arith))
 
 -- the chunks of partial results, by groups and by axes
-pub same_chunks : (axes : Axes) (first : ℕ) (ss cs : List ℕ) → length ss ≡ length cs → chunk_of_groups (groups_from (has_axis axes) first ss) cs ≡ partial_chunk axes first cs
+pub same_chunks : (axes : Axes) (first : ℕ) (ss cs : List ℕ) → length ss ≡ length cs → chunk_of_groups (groups_from (has_axis axes) first ss) cs ≡ partial_chunk_from axes first cs
 same_chunks axes first [] [] e = refl
 same_chunks axes first [] (c ∷ cs) e = absurd (omega arith)
 same_chunks axes first (s ∷ ss) [] e = absurd (omega arith)
 same_chunks axes first (s ∷ ss) (c ∷ cs) e = by_axis axes first s c ss cs (has_axis axes first) refl (same_chunks axes (first + 1) ss cs (omega arith))
   where
-    by_axis : (axes : Axes) (first s c : ℕ) (ss cs : List ℕ) (b : Bool) → has_axis axes first ≡ b → chunk_of_groups (groups_from (has_axis axes) (first + 1) ss) cs ≡ partial_chunk axes (first + 1) cs
-        → chunk_of_groups (groups_from (has_axis axes) first (s ∷ ss)) (c ∷ cs) ≡ partial_chunk axes first (c ∷ cs)
+    by_axis : (axes : Axes) (first s c : ℕ) (ss cs : List ℕ) (b : Bool) → has_axis axes first ≡ b → chunk_of_groups (groups_from (has_axis axes) (first + 1) ss) cs ≡ partial_chunk_from axes (first + 1) cs
+        → chunk_of_groups (groups_from (has_axis axes) first (s ∷ ss)) (c ∷ cs) ≡ partial_chunk_from axes first (c ∷ cs)
     by_axis axes first s c ss cs true h e = rw (h, e) refl
     by_axis axes first s c ss cs false h e = rw (h, e) refl

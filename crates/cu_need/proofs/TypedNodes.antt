@@ -19,7 +19,7 @@ use Rattle.cu_node.specs.declared.info.NodeInfo.{NodeInfo}
 use Rattle.cu_typing.specs.Accepted.{GoesInto, IsElementwise}
 use Rattle.cu_typing.specs.Joined.{aligned_chunk}
 use Rattle.cu_typing.specs.Matmul.{typed_matmul}
-use Rattle.cu_typing.specs.Reduction.{Rule, reduced, typed_arg_place, place_rule, fold_rule, kept_sizes}
+use Rattle.cu_typing.specs.Reduction.{ReductionRule, reduced, typed_arg_place, place_rule, fold_rule, kept_sizes}
 use Rattle.cu_typing.proofs.Passed.{passed}
 use Rattle.cu_typing.proofs.PassedTogether.{reduction_passed, product_passed}
 use Rattle.cu_tree.specs.Marks.{marked_axes}
@@ -39,7 +39,7 @@ module _ (infos : List NodeInfo) (kept : (k : ℕ) → IsInfo (info_at infos k))
   bytes_are : (k : ℕ) (t : Dtype) (shape chunk : List ℕ) → info_at infos k ≡ info_of t shape chunk → product chunk * size_of t ≤ 2 ^ 28
   bytes_are k t shape chunk is = subst (λ (i : NodeInfo). product i.chunk * size_of i.dtype ≤ 2 ^ 28) is (kept k).bytes
 
-  reduction_within : (rule : Rule) (axes : Option (List ℤ)) (keepdims : Bool) (source : NodeInfo) (k : ℕ) → reduced rule axes keepdims source ≡ Ok (info_at infos k)
+  reduction_within : (rule : ReductionRule) (axes : Option (List ℤ)) (keepdims : Bool) (source : NodeInfo) (k : ℕ) → reduced rule axes keepdims source ≡ Ok (info_at infos k)
       → is_chunk_within (info_at infos k).dtype (partial_chunk_from (axes_reduced source axes) 0 source.chunk) ≡ true
   reduction_within rule axes keepdims source k typed =
       let p = reduction_passed rule axes keepdims source (info_at infos k) typed in

@@ -21,7 +21,6 @@ use Rattle.cu_expr.specs.declared.inputs.InputInfo.{InputInfo}
 use Rattle.cu_plan.specs.Refusal.{IsRefusal}
 use Rattle.cu_plan.specs.declared.fault.PlanFault.{PlanFault}
 use Rattle.cu_plan.specs.declared.fault.PlanFault.TheVariants as plan
-use Rattle.cu_work.specs.Order.{IsHeldIn as IsHeldAt}
 use Rattle.cu_work.specs.declared.way.WayFault.{WayFault}
 use Rattle.cu_work.specs.declared.way.WayFault.TheVariants as way
 use Rattle.cu_command.proofs.SeenLemmas.{gone_before, stepped_wider}
@@ -95,10 +94,6 @@ no_plan options n job plan.NoMemory is refused = tt
 
 -- ---- asking
 
-held_same : (held : Option Contents) (key : List ℕ) → IsHeldAt held key → IsHeldIn held key
-held_same None key is = tt
-held_same (Some held) key is = is
-
 module _ (tries : ℕ) (keys : List (List ℕ)) where
   -- for the keys of the first input
   pub rows_end : (old new : Shown) (name : List ℕ) (status : Status) → name ≡ demo_name Rows
@@ -132,7 +127,7 @@ module _ (tries : ℕ) (keys : List (List ℕ)) where
   -- for those of the plan, where all of these were absent
   pub plan_end : (old mid new : Shown) (e : Expression) (f : WayFault) → is_own_input e ≡ false → AreInputsFree old.held → Stepped NoChange old mid
       → IsAskEnd tries e keys mid new f → IsDemoAskEnd tries keys old new (answer_of f)
-  plan_end old mid new e (way.Held key) own free step (first, inl held, rest) = (inr (inr (free, first_of old mid keys key step first)), held_same new.held key held)
+  plan_end old mid new e (way.Held key) own free step (first, inl held, rest) = (inr (inr (free, first_of old mid keys key step first)), held)
   plan_end old mid new e (way.Held key) own free step (first, inr (is, holds), rest) = absurd (not_own e true own holds)
   plan_end old mid new e (way.Failed key) own free step (first, rose, rest) =
       (inr (inr (free, first_of old mid keys key step first)), rose_earlier tries old.faults mid.faults new.faults step.step.count rose)

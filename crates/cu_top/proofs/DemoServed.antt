@@ -3,7 +3,6 @@ use Rattle.std.proofs.Common.{◌≡◌, ◌⊎◌, inl, inr, ℕ, zero, suc, �
 use Rattle.cu_store.specs.Faults.{Rose}
 use Rattle.cu_store.specs.Held.{Contents, Write, IsHeldIn}
 use Rattle.cu_store.specs.Steps.{Shown, Changes, NoChange, OrLate, Lands}
-use Rattle.cu_work.specs.Order.{IsHeldIn as IsHeldAt}
 use Rattle.cu_command.specs.Job.{StoodStill}
 use Rattle.cu_command.specs.Seen.{WroteNothing}
 use Rattle.cu_command.specs.declared.job.Job.{Job}
@@ -34,10 +33,6 @@ asked_key options job old key (inl rows) = inl (of_array (demo_name Rows) key ol
 asked_key options job old key (inr (inl (free, columns))) = inr (inl (of_array (demo_name Columns) key old.held columns))
 asked_key options job old key (inr (inr (free, first))) = inr (inr first.0)
 
-held_at : (held : Option Contents) (key : List ℕ) → IsHeldIn held key → IsHeldAt held key
-held_at None key is = tt
-held_at (Some held) key is = is
-
 -- what was told is told
 still_told : (W V : Changes) (late after : List Write) (a b new : Option Contents) (entry : Contents) → a ≡ Some entry → Lands (OrLate W late) a b → Lands (OrLate V after) b new → new ≡ None → ⊥
 still_told W V late after a None new entry was first second gone = lands_told (OrLate W late) entry None (subst (λ (h : Option Contents). Lands (OrLate W late) h None) was first) refl
@@ -59,7 +54,7 @@ module _ (c : DemoCase) (entry : Contents) (told : c.old.depot.held ≡ Some ent
       let lands : Lands (OrLate NoChange c.old.depot.late) (Some entry) c.new.depot.held =
       subst (λ (h : Option Contents). Lands (OrLate NoChange c.old.depot.late) h c.new.depot.held) told quiet.0.step.lands in
       key_before c.old.depot.late entry c.new.depot.held key lands (λ bytes among. rest.settled job key bytes is listed among) (rest.free job key is listed)
-      (lands_told (OrLate NoChange c.old.depot.late) entry c.new.depot.held lands) (held_at c.new.depot.held key held)
+      (lands_told (OrLate NoChange c.old.depot.late) entry c.new.depot.held lands) held
 
   -- the depot that told its contents tells them
   tells_still : (job : Job) (found : Shown) → IsDemoStarted c job found → (other : Job) → IsStarted (demo_run c found) other → c.new.depot.held ≡ None → ⊥

@@ -39,7 +39,7 @@ use Rattle.cu_command.proofs.SeenLemmas.{stepped, stepped_then, stepped_wider, s
 use Rattle.cu_command.specs.declared.job.Job.{Job}
 use Rattle.cu_command.specs.declared.status.Status.{Status}
 use Rattle.cu_command.specs.declared.status.Status.TheVariants.{Done, TaskFailed, WriteFault, BadChunk, DepotFailed, NoMemory}
-use Rattle.cu_command.specs.Keys.{IsKeyFault, IsHeldIn as IsKeyHeld}
+use Rattle.cu_command.specs.Keys.{IsKeyFault}
 use Rattle.cu_lower.specs.declared.options.Options.{Options}
 use Rattle.cu_top.specs.Driven.{Driven, HasEnded, IsUnrun, MissingPut, IsMissingText, AreHeld, run_counts_in, outcome_answer, fault_answer, drive_answer}
 use Rattle.cu_top.specs.Held.{IsFoundAgain, IsLeftBy, IsLeftEntry, IsNotReopened, IsReopened, WhereEntryTold}
@@ -138,14 +138,10 @@ module _ (options : Options) (job : Job) (old between new : Shown) (first : Step
   pub texts_record : (held : HeldTexts) → held ≡ given.Record → AreHeld held (run_of_job options job) new.held
   texts_record held is = subst (λ (h : HeldTexts). AreHeld h (run_of_job options job) new.held) (sym is) record_later
 
-  pub texts_both : (held : HeldTexts) (key : List ℕ) → held ≡ given.Both → key ≡ metadata_key_of job.expr.store_as → IsKeyHeld between.held key → AreHeld held (run_of_job options job) new.held
+  pub texts_both : (held : HeldTexts) (key : List ℕ) → held ≡ given.Both → key ≡ metadata_key_of job.expr.store_as → IsHeldIn between.held key → AreHeld held (run_of_job options job) new.held
   texts_both held key is key_is there =
       subst (λ (h : HeldTexts). AreHeld h (run_of_job options job) new.held) (sym is)
-      (record_later, still_held between new (metadata_key_of job.expr.store_as) second (subst (λ (k : List ℕ). IsHeldIn between.held k) key_is (same_held between.held key there)))
-    where
-      same_held : (h : Option Contents) (key : List ℕ) → IsKeyHeld h key → IsHeldIn h key
-      same_held None key there = tt
-      same_held (Some held) key there = there
+      (record_later, still_held between new (metadata_key_of job.expr.store_as) second (subst (λ (k : List ℕ). IsHeldIn between.held k) key_is there))
 
 -- ---- what it comes to
 
