@@ -1,11 +1,11 @@
 -- The arrays of the input nodes, as they were read, and the elements of the input nodes.
-use Rattle.std.proofs.Common.{◌≡◌, ℕ, zero, suc, ◌+◌, ◌*◌, ◌<◌, ◌≤◌, true, cond, ℤ, pos, List, [], ◌∷◌, ◌++◌, length, take, drop, get_or, All, Contains, Option, Some, None, Result, Ok, refl, sym, ap, ◌∙◌, subst, inl, inr, append_assoc, arith}
+use Rattle.std.proofs.Common.{◌≡◌, ℕ, zero, suc, ◌+◌, ◌<◌, ◌≤◌, true, cond, ℤ, pos, List, [], ◌∷◌, ◌++◌, length, take, drop, get_or, All, Contains, Option, Some, None, Result, Ok, refl, sym, ap, ◌∙◌, subst, inl, inr, append_assoc, arith}
 use Rattle.std.specs.Prelude.{slice_get, count_by, unwrap_or, bytes_eq}
 use Rattle.std.proofs.lemmas.Bool.{cases_Bool}
 use Rattle.std.proofs.lemmas.List.{take_more, take-append-drop, drop_more, flat_map_more, append-nil}
 use Rattle.std.proofs.lemmas.List.Concat.{flat_map-append}
 use Rattle.std.proofs.lemmas.List.Elements.{All-nil, All-cons}
-use Rattle.std.proofs.lemmas.List.Sums.{sum_by-cons, sum_by-append}
+use Rattle.std.proofs.lemmas.List.Sums.{sum_by-cons}
 use Rattle.std.proofs.lemmas.Option.{slice_get-get_or, slice_get_within, get_or_from_slice_get}
 use Rattle.cu_shape.specs.Index.{product, place_of, index_at, quotients, IsInside}
 use Rattle.cu_shape.proofs.Places.{place-index, index-place, index-inside, place-below}
@@ -33,13 +33,11 @@ use Rattle.cu_store.specs.Steps.{Shown}
 use Rattle.cu_zarr.specs.Key.{chunk_key_of}
 use Rattle.cu_zarr.specs.Stored.{stored_element}
 use Rattle.cu_region.specs.Steady.{IsSteady}
-use Rattle.cu_command.proofs.SeenLemmas.{within_then, within_few}
-use Rattle.cu_command.specs.Seen.{WithinCalls}
 use Rattle.cu_command.specs.Stored.{IsArrayChunk}
 use Rattle.cu_command.specs.declared.job.Job.{Job}
 use Rattle.cu_command.specs.declared.status.Status.{Status}
 use Rattle.cu_command.specs.declared.status.Status.TheVariants.{BadChunk, DepotFailed, NoMemory}
-use Rattle.cu_check.specs.Arrays.{form_arrays, node_arrays, arrays_of_nodes, HasAllElements, IsReadChunk, IsOwnTurn, AreChunksSeen, key_of_index, numbered_key, input_chunk_count, chunks_of_all}
+use Rattle.cu_check.specs.Arrays.{form_arrays, node_arrays, arrays_of_nodes, HasAllElements, IsReadChunk, IsOwnTurn, AreChunksSeen, key_of_index, numbered_key}
 use Rattle.cu_check.specs.Chunks.{IsChunkFault}
 use Rattle.cu_check.proofs.ChunkReads.{steady_as}
 use Rattle.cu_check.specs.Elements.{form_element, used_element, elements_of}
@@ -329,36 +327,3 @@ all_seen entry [] [] read = All-nil (AreChunksSeen entry)
 all_seen entry [] (p ∷ ps) read = absurd read
 all_seen entry (a ∷ xs) [] read = absurd read
 all_seen entry (a ∷ xs) (p ∷ ps) read = All-cons (AreChunksSeen entry) a xs (chunks_seen entry a p read.0) (all_seen entry xs ps read.1)
-
--- ---- how many calls are made
-
--- for the chunks of one array
-pub calls_of_array : (tries : ℕ) (a : InputInfo) (old new : Shown) → WithinCalls (input_chunk_count a * tries) old new → WithinCalls (chunks_of_all (a ∷ []) * tries) old new
-calls_of_array tries a old new calls = within_few (input_chunk_count a) (chunks_of_all (a ∷ [])) tries old new (let one = sum_by-cons input_chunk_count a [] in omega (arith, one)) calls
-
-pub calls_of_one : (tries : ℕ) (inputs : List InputInfo) (form : Form) (a : InputInfo) (old new : Shown) → form_arrays inputs form ≡ a ∷ [] → WithinCalls (input_chunk_count a * tries) old new
-    → WithinCalls (chunks_of_all (form_arrays inputs form) * tries) old new
-calls_of_one tries inputs form a old new own calls =
-    subst (λ (xs : List InputInfo). WithinCalls (chunks_of_all xs * tries) old new) (sym own) (calls_of_array tries a old new calls)
-
--- for those of arrays, and then of others
-pub calls_of_more : (tries : ℕ) (xs ys : List InputInfo) (a b c : Shown) → WithinCalls (chunks_of_all xs * tries) a b → WithinCalls (chunks_of_all ys * tries) b c
-    → WithinCalls (chunks_of_all (xs ++ ys) * tries) a c
-calls_of_more tries xs ys a b c first next =
-    within_few (chunks_of_all xs + chunks_of_all ys) (chunks_of_all (xs ++ ys)) tries a c (let both = sum_by-append input_chunk_count xs ys in omega (arith, both))
-    (within_then (chunks_of_all xs) (chunks_of_all ys) tries a b c first next)
-
--- for those of the first arrays of a list
-pub calls_of_front : (tries : ℕ) (xs ys : List InputInfo) (a b : Shown) → WithinCalls (chunks_of_all xs * tries) a b → WithinCalls (chunks_of_all (xs ++ ys) * tries) a b
-calls_of_front tries xs ys a b calls =
-    within_few (chunks_of_all xs) (chunks_of_all (xs ++ ys)) tries a b (let both = sum_by-append input_chunk_count xs ys in omega (arith, both)) calls
-
--- the array of this node ended it
-pub node_calls : (tries : ℕ) (inputs : List InputInfo) (nodes : List Node) (k : ℕ) (node : Node) (a b c : Shown) → k < length nodes → node ≡ get_or nodes k node
-    → WithinCalls (chunks_of_all (arrays_of_nodes inputs (take k nodes)) * tries) a b → WithinCalls (chunks_of_all (form_arrays inputs node.form) * tries) b c
-    → WithinCalls (chunks_of_all (arrays_of_nodes inputs nodes) * tries) a c
-node_calls tries inputs nodes k node a b c below at first next =
-    let whole = arrays_split inputs nodes k node below at ∙ sym (append_assoc (arrays_of_nodes inputs (take k nodes)) (form_arrays inputs node.form) (arrays_of_nodes inputs (drop (k + 1) nodes))) in
-    subst (λ (xs : List InputInfo). WithinCalls (chunks_of_all xs * tries) a c) (sym whole)
-    (calls_of_front tries (arrays_of_nodes inputs (take k nodes) ++ form_arrays inputs node.form) (arrays_of_nodes inputs (drop (k + 1) nodes)) a c
-    (calls_of_more tries (arrays_of_nodes inputs (take k nodes)) (form_arrays inputs node.form) a b c first next))

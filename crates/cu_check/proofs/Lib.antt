@@ -1,3 +1,4 @@
+mod ArrayCalls
 mod ChunkReads
 mod Compared
 mod Ends

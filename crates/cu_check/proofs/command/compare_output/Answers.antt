@@ -9,7 +9,7 @@ use Rattle.cu_check.specs.Arrays.{arrays_of_nodes}
 use Rattle.cu_check.specs.Check.{IsCompareFault}
 use Rattle.cu_check.specs.Plains.{AreReadArrays, IsListFault}
 use Rattle.cu_check.proofs.Compared.{whole_inputs, enough, count_of, found_equal, found_unequal, list_fault, output_fault}
-use Rattle.cu_check.proofs.InputNodes.{calls_of_array, calls_of_more, calls_of_front}
+use Rattle.cu_check.proofs.ArrayCalls.{calls_of_array, calls_of_more, calls_of_front}
 use Rattle.cu_check.proofs.command.compare_output.Goals as goal
 
 pub whole-requires-clause-types : goal.whole-requires-clause-types

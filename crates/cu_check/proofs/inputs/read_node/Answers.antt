@@ -3,7 +3,8 @@ use Rattle.cu_op.specs.declared.layout.Layout.{Layout}
 use Rattle.cu_check.specs.Arrays.{form_arrays}
 use Rattle.cu_check.specs.Chunks.{IsArrayFault}
 use Rattle.cu_check.specs.Plains.{IsReadArray}
-use Rattle.cu_check.proofs.InputNodes.{read_input, array_named, calls_of_one}
+use Rattle.cu_check.proofs.InputNodes.{read_input, array_named}
+use Rattle.cu_check.proofs.ArrayCalls.{calls_of_one}
 use Rattle.cu_check.proofs.Layouts.{named_fits}
 use Rattle.cu_check.proofs.inputs.read_node.Goals as goal
 use Rattle.cu_expr.specs.Inputs.{layout_named}

@@ -7,7 +7,8 @@ use Rattle.cu_command.proofs.SeenLemmas.{stepped_then}
 use Rattle.cu_command.specs.Seen.{WithinCalls}
 use Rattle.cu_check.specs.Arrays.{arrays_of_nodes, form_arrays, chunks_of_all}
 use Rattle.cu_check.specs.Plains.{AreReadArrays}
-use Rattle.cu_check.proofs.InputNodes.{arrays_more, node_fault, calls_of_more, node_calls}
+use Rattle.cu_check.proofs.InputNodes.{arrays_more, node_fault}
+use Rattle.cu_check.proofs.ArrayCalls.{calls_of_more, node_calls}
 use Rattle.cu_check.proofs.inputs.read_nodes.Goals as goal
 
 pub read_node-requires-clause-ranges : goal.read_node-requires-clause-ranges
