@@ -6,12 +6,10 @@ use Rattle.std.proofs.lemmas.Int.{ints}
 use Rattle.std.proofs.Math.Nat.{mul-le-mul_right}
 use Rattle.std.proofs.lemmas.Nat.{mul-add-lt}
 use Rattle.cu_num.specs.Dtype.{size_of}
-use Rattle.cu_num.specs.Element.{element_at, bytes_at}
 use Rattle.cu_num.specs.declared.types.Dtype.{Dtype}
 use Rattle.cu_num.specs.declared.types.Dtype.TheVariants.{Int64}
-use Rattle.cu_num.specs.declared.layout.Endian.TheVariants.{Little}
 use Rattle.cu_reduce.specs.Numbers.{HasNumber}
-use Rattle.cu_reduce.specs.Places.{Found, is_beyond}
+use Rattle.cu_reduce.specs.Places.{is_beyond}
 use Rattle.cu_pairs.specs.Elements.{found}
 use Rattle.cu_pairs.specs.Runs.{elements, IsBestValue, IsFirstBest, IsLeading}
 use Rattle.cu_pairs.specs.Columns.{table, found_in, sought_place, column_of, HasBest}

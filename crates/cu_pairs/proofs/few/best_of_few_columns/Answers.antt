@@ -1,4 +1,4 @@
-use Rattle.std.proofs.Common.{◌≡◌, ◌≢◌, ◌≤◌, ◌<◌, ◌+◌, ◌*◌, ℕ, length, ap, ◌∙◌, below_more, arith}
+use Rattle.std.proofs.Common.{◌≡◌, ◌≢◌, ◌≤◌, ◌+◌, ◌*◌, ℕ, length, ap, ◌∙◌, below_more, arith}
 use Rattle.std.proofs.lemmas.Int.{ints}
 use Rattle.std.proofs.Math.Nat.{mul-le-mul_right}
 use Rattle.cu_num.specs.Dtype.{size_of}
@@ -6,7 +6,7 @@ use Rattle.cu_num.specs.Element.{bytes_at}
 use Rattle.cu_num.specs.declared.types.Dtype.TheVariants.{Int64}
 use Rattle.cu_num.specs.declared.layout.Endian.TheVariants.{Little}
 use Rattle.cu_num.proofs.ElementBytes.{bytes_at-written_at_same, bytes_at-written_at_other, length-written_at, length-element_bytes}
-use Rattle.cu_pairs.specs.Columns.{table, HasBest}
+use Rattle.cu_pairs.specs.Columns.{table}
 use Rattle.cu_pairs.proofs.Parts.{kept}
 use Rattle.cu_pairs.proofs.ColumnSteps.{same_column}
 use Rattle.cu_pairs.proofs.FewColumns.{column_done}

@@ -1,4 +1,4 @@
-use Rattle.std.proofs.Common.{◌≡◌, ◌+◌, ◌-◌, ◌*◌, ◌/◌, ◌<◌, ◌≤◌, min, ap, sym, ◌∙◌, subst, arith}
+use Rattle.std.proofs.Common.{◌≡◌, ◌+◌, ◌-◌, ◌*◌, ◌<◌, min, sym, ◌∙◌, subst, arith}
 use Rattle.std.specs.Int.{w128, cast_signed}
 use Rattle.cu_shape.proofs.Rounded.{before_end}
 use Rattle.cu_reduce.specs.Places.{is_beyond}
