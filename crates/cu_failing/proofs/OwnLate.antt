@@ -48,19 +48,6 @@ due_landed a b (Some q) put is step = at (q.wait == 0) is
     at true e = let same : put ≡ q = cc in subst (λ (p : LatePut). LandsOnly (shown_with a (Some p) 0 0) (shown_with b None 0 0)) same (landed_put a b put step)
     at false e = absurd (cc)
 
-waits : (h : Option Contents) (late : Option LatePut) (writes : List Write) → due_put late ≡ None → AllLateIn (late_with h (still_late late) writes) (OrLate NoChange (late_with h late writes))
-waits None late writes is = λ key bytes among. absurd among
-waits (Some h) None writes is = λ key bytes among. inr (bytes, refl, among)
-waits (Some h) (Some put) writes is = at (put.wait == 0) is
-  where
-    at : (due : Bool) → (if due then Some put else None) ≡ None → AllLateIn (late_with (Some h) (if due then None else Some (record put { wait = put.wait - 1 })) writes) (OrLate NoChange (late_with (Some h) (Some put) writes))
-    at true e = absurd (cc)
-    at false e = λ key bytes among. inr (bytes, refl, among)
-
--- no put is due
-pub none_landed : (a : Shown) (late : Option LatePut) → due_put late ≡ None → LandsOnly (shown_with a late 0 0) (shown_with a (still_late late) 0 0)
-none_landed a late is = record { lands = lands_same (OrLate NoChange (late_with a.held late a.late)) a.held; late = waits a.held late a.late is; lacks = refl }
-
 -- ---- a step of the depot in it, with this late put
 
 inner_within : (W : Changes) (h : Contents) (put : Option LatePut) (late : List Write) → Within (OrLate W late) (OrLate W (late_with (Some h) put late))

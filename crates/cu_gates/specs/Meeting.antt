@@ -1,5 +1,5 @@
 -- Which tasks a gate holds. This project's own rules.
-use Rattle.std.specs.Prelude.{◌≡◌, ℕ, Bool, ◌==◌, ◌&&◌, List}
+use Rattle.std.specs.Prelude.{ℕ, Bool, ◌==◌, ◌&&◌, List}
 use Rattle.std.specs.List.{list_any}
 use Rattle.cu_gates.specs.declared.meeting.Held.{Held}
 

@@ -1,5 +1,5 @@
-use Rattle.std.proofs.Common.{◌∙◌, sym, rules}
-use Rattle.cu_failing.proofs.OwnLate.{due_landed, none_landed}
+use Rattle.std.proofs.Common.{◌∙◌, sym}
+use Rattle.cu_failing.proofs.OwnLate.{due_landed}
 use Rattle.cu_failing.proofs.late.land.Goals as goal
 
 pub returns-in-Some-clause-landed : goal.returns-in-Some-clause-landed
