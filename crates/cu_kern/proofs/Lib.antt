@@ -11,3 +11,5 @@ pub mod RowResults
 pub mod RowSteps
 pub mod FirstPlaces
 pub mod SameQuotient
+pub mod Spreads
+pub mod Repeats

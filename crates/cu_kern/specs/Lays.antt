@@ -1,6 +1,6 @@
 -- The regions that a kernel reads: each an array of elements, row-major and little-endian, at a place of one buffer. Where a region
 -- has size 1 on an axis, or lacks a leading one, it is stretched there over the result (Python array API, "Broadcasting").
-use Rattle.std.specs.Prelude.{◌≡◌, ◌⊎◌, ℕ, ◌+◌, ◌-◌, ◌*◌, ◌%◌, ◌<◌, ◌≤◌, ℤ, List, [], ◌∷◌, length, map, drop, Option, Some, None, option_map}
+use Rattle.std.specs.Prelude.{◌≡◌, ◌⊎◌, ℕ, ◌+◌, ◌-◌, ◌*◌, ◌/◌, ◌%◌, ◌<◌, ◌≤◌, ℤ, List, [], ◌∷◌, length, map, drop, Option, Some, None, option_map}
 use Rattle.std.specs.List.{slice_get}
 use Rattle.cu_num.specs.Dtype.{size_of, InRange}
 use Rattle.cu_num.specs.Element.{element_at, element_bytes, bytes_at}
@@ -54,6 +54,10 @@ IsRun shape result run step = (p i : ℕ) → p + i < product result → p % run
 -- after each `period` places of the result the same places are read again
 abbrev pub IsPeriod : List ℕ → List ℕ → ℕ → Type 0
 IsPeriod shape result period = (p i : ℕ) → p + i < product result → p % period + i < period → place_read shape result (p % period + i) ≡ place_read shape result (p + i)
+
+-- each place of the region is read by `run` places of the result, one after another
+abbrev pub IsSpread : List ℕ → List ℕ → ℕ → Type 0
+IsSpread shape result run = (p : ℕ) → p < product result → place_read shape result p ≡ p / run
 
 -- the region has this type and can be read for a result of these sizes
 pub record IsSource (t : Dtype) (result : List ℕ) (l : Lay) (ins : List ℕ) : Type 0 where

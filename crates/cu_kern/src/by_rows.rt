@@ -11,6 +11,7 @@ use crate::rows::{Earlier, Plan, Row, Span, is_literal, kind_at, leave_row, row_
 use crate::sources::Inputs;
 use cu_num::{Dtype, promote, result1, result2, size};
 use cu_op::Instr;
+use cu_shape::Dims;
 
 /// The most steps of a kernel.
 const STEPS: usize = 32;
@@ -179,8 +180,13 @@ fn is_kept(instr: Instr, inputs: Inputs<'_>) -> bool {
     if j as usize >= inputs.lays.len() {
         return true;
     }
-    match inputs.lays[j as usize].dims.elements() {
-        Some(own) => own != 1 && Some(own) != inputs.dims.elements(),
+    is_stretched(&inputs.lays[j as usize], inputs.dims)
+}
+
+/// Whether a region has neither as many elements as the result nor one.
+pub(crate) fn is_stretched(lay: &Lay, dims: &Dims) -> bool {
+    match lay.dims.elements() {
+        Some(own) => own != 1 && Some(own) != dims.elements(),
         None => true,
     }
 }

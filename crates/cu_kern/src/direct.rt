@@ -8,6 +8,7 @@ ghost use Rattle.cu_kern.specs.Lays.{LayFits, IsSource, HasValue, lay_element, l
 ghost use Rattle.cu_kern.specs.Strips.{IsCall, first_type, other_type, call_type, call_value};
 ghost use Rattle.cu_kern.specs.Steps.{value_by_place};
 
+use crate::by_rows::is_stretched;
 use crate::calls::{Call, call_type};
 use crate::lays::pace_of;
 use crate::sources::{
@@ -17,6 +18,9 @@ use crate::strip_functions::call_strips;
 use cu_num::{Dtype, Fn1, Fn2, size};
 use cu_op::Instr;
 use cu_shape::Dims;
+
+/// Rows of fewer places are short.
+const SHORT: u64 = 32;
 
 /// The elements of a call of at most two arguments over regions of their types; a call of one takes its own twice.
 fn pieces(call: Call, x: Source<'_>, y: Source<'_>, dims: &Dims, out: &mut [u8])
@@ -105,6 +109,9 @@ pub(crate) fn run_direct(code: &[Instr], inputs: Inputs<'_>, t: Dtype, out: &mut
     requires out { length out.old ≡ product inputs.dims.now * size_of t }
     ensures { IsTrue result → (p : ℕ) → p < product inputs.entry.dims.now → HasValue t out.new p (value_by_place code.now inputs.entry.lays.now inputs.entry.ins.now inputs.entry.dims.now p) }
 {
+    if has_short_rows(inputs) {
+        return false;
+    }
     match code {
         [first, last] => by_one(*first, *last, inputs, t, out),
         [first, second, last] => by_two(*first, *second, *last, inputs, t, out),
@@ -116,6 +123,20 @@ pub(crate) fn run_direct(code: &[Instr], inputs: Inputs<'_>, t: Dtype, out: &mut
         }
         _ => false,
     }
+}
+
+/// Whether a region is stretched over rows so short that a piece takes longer than to fill a row of bytes with many beforehand.
+fn has_short_rows(inputs: Inputs<'_>) -> bool {
+    let rank = inputs.dims.rank();
+    if rank == 0 || inputs.dims.at(rank - 1) >= SHORT {
+        return false;
+    }
+    for lay in inputs.lays.iter() {
+        if is_stretched(lay, inputs.dims) {
+            return true;
+        }
+    }
+    false
 }
 
 /// Whether a step is a choice of the first three.

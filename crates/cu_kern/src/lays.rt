@@ -1,11 +1,11 @@
 //! Regions of elements that a kernel reads, stretched over its result.
-ghost use Rattle.std.specs.Prelude.{◌≡◌, ◌+◌, ◌-◌, ◌*◌, ◌%◌, ◌^◌, ◌≤◌, ℕ, ◌<◌, ◌==◌, if◌then◌else◌, IsTrue, length, slice_index, drop};
+ghost use Rattle.std.specs.Prelude.{◌≡◌, ◌+◌, ◌-◌, ◌*◌, ◌%◌, ◌^◌, ◌≤◌, ℕ, ◌<◌, ◌==◌, if◌then◌else◌, IfSome, IsTrue, length, slice_index, drop};
 ghost use Rattle.cu_num.specs.Dtype.{size_of};
 ghost use Rattle.cu_num.specs.Element.{element_at};
 ghost use Rattle.cu_num.specs.Word.{IsWord};
 ghost use Rattle.cu_num.specs.declared.layout.Endian.TheVariants.{Little};
 ghost use Rattle.cu_shape.specs.Index.{product, index_at};
-ghost use Rattle.cu_kern.specs.Lays.{LayFits, BroadcastsTo, IsRun, IsPeriod, lay_element, place_read};
+ghost use Rattle.cu_kern.specs.Lays.{LayFits, BroadcastsTo, IsRun, IsPeriod, IsSpread, lay_element, place_read};
 
 use crate::lanes::{lane_fill, lane_load};
 use cu_num::{Dtype, load, size, word};
@@ -176,6 +176,34 @@ fn resting_run(shape: &Dims, dims: &Dims) -> u64
         run *= dims.at(axis);
     }
     run
+}
+
+/// How many places of the result read each place of a region, one after another; none where they aren't read so.
+pub(crate) fn spread_of(shape: &Dims, dims: &Dims) -> Option<u64>
+    requires some { 0 < product dims.now }
+    requires small { product dims.now < 2 ^ 63 }
+    ensures spread { IfSome result (λ run. IsSpread shape.now dims.now run) }
+    ensures some { IfSome result (λ run. 0 < run) }
+{
+    if shape.rank() != dims.rank() {
+        return None;
+    }
+    let mut axis = dims.rank();
+    let mut own = 1;
+    let mut run = 1;
+    while axis > 0 {
+        axis -= 1;
+        let size = dims.at(axis);
+        let part = shape.at(axis);
+        if part == size {
+            own *= size;
+        } else if part == 1 && own == 1 {
+            run *= size;
+        } else {
+            return None;
+        }
+    }
+    Some(run)
 }
 
 /// Whether a region that lacks the first `lead` axes of the result is stretched on this axis of it.

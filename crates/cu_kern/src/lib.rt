@@ -5,6 +5,7 @@ mod by_rows;
 mod calls;
 mod direct;
 mod division;
+mod fills;
 mod lane_functions;
 mod lane_loops;
 mod lanes;

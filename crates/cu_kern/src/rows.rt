@@ -10,13 +10,14 @@ ghost use Rattle.cu_num.specs.declared.layout.Endian.TheVariants.{Little};
 ghost use Rattle.cu_shape.specs.Index.{product, index_at};
 ghost use Rattle.cu_op.specs.declared.kernel.Instr.TheVariants.{Load, Const, One, Two, Select};
 ghost use Rattle.cu_op.specs.KernelTypes.{IsArgument};
-ghost use Rattle.cu_kern.specs.Lays.{LayFits, HasValue, lay_element};
+ghost use Rattle.cu_kern.specs.Lays.{LayFits};
 ghost use Rattle.cu_kern.specs.Strips.{strip, strip_element, HasPlaces};
 ghost use Rattle.cu_kern.specs.Rows.{Rows, rows_before, loads_along, HasResultsOf, HasSameElements, Computes, Leaves};
 
 use crate::calls::Call;
+use crate::fills::row_of_region;
 use crate::lays::pace_of;
-use crate::sources::{Inputs, Source, left_in, spelled, strip_from};
+use crate::sources::{Inputs, Source, spelled, strip_from};
 use crate::strip_functions::call_strips;
 use crate::strips::Strip;
 use cu_num::{Dtype, Fn1, Fn2, in_range, promote, result1, result2, size};
@@ -368,31 +369,6 @@ fn row_of_select(
     true
 }
 
-/// The elements of a region that `all` places from `from` on read.
-fn row_of_region(source: Source<'_>, dims: &Dims, from: u64, all: usize, out: &mut [u8])
-    requires fits { LayFits dims.now (length source.ins.now) source.lay.now }
-    requires small { product dims.now < 2 ^ 63 }
-    requires within { from + all ≤ product dims.now }
-    requires room { length out.old ≡ all * size_of source.lay.now.dtype }
-    ensures { (k : ℕ) → k < all → HasValue source.entry.lay.now.dtype out.new k (Some (lay_element source.entry.lay.now source.entry.ins.now (index_at dims.now (from + k)))) }
-{
-    if all == 0 {
-        return;
-    }
-    let t = source.lay.dtype;
-    let size = size(t) as usize;
-    let pace = pace_of(&source.lay.dims, dims);
-    let mut done = 0;
-    while done < all {
-        let place = from + done as u64;
-        let count = (all - done).min(left_in(pace, place) as usize);
-        let strip = strip_from(source, pace, dims, place, count);
-        let part = &mut out[done * size..(done + count) * size];
-        call_strips(Call::One(Fn1::Astype, t, t), strip, strip, strip, part);
-        done += count;
-    }
-}
-
 /// A region along the places; `false` where its type is another.
 fn row_of_load(j: u32, t: Dtype, inputs: Inputs<'_>, span: Span, out: &mut [u8]) -> bool
     requires lays { All (LayFits inputs.dims.now (length inputs.ins.now)) inputs.lays.now }
@@ -412,7 +388,7 @@ fn row_of_load(j: u32, t: Dtype, inputs: Inputs<'_>, span: Span, out: &mut [u8])
         lay,
         ins: inputs.ins,
     };
-    row_of_region(source, inputs.dims, span.from, span.count, out);
+    row_of_region(source, inputs.dims, span, out);
     true
 }
 

@@ -56,8 +56,34 @@ pub(crate) fn strip_from<'a>(
     ensures elements { (k : ℕ) → k < count
         → strip_element source.entry.lay.now.dtype (strip result.bytes.now result.step) k ≡ lay_element source.entry.lay.now source.entry.ins.now (index_at dims.now (place + k)) }
 {
+    let at = place_at(pace, &source.lay.dims, dims, place);
+    strip_at(source, pace, dims, place, at, count)
+}
+
+/// `strip_from` where the first of them reads place `at` of the region.
+#[inline(always)]
+pub(crate) fn strip_at<'a>(
+    source: Source<'a>,
+    pace: Pace,
+    dims: &Dims,
+    place: u64,
+    at: u64,
+    count: usize,
+) -> Strip<'a>
+    requires fits { LayFits dims.now (length source.ins.now) source.lay.now }
+    requires pace { IsRun source.lay.now.dims dims.now pace.run pace.step }
+    requires step { pace.step ≤ 1 }
+    requires some { 0 < count }
+    requires within { place + count ≤ product dims.now }
+    requires row { place % pace.run + count ≤ pace.run }
+    requires at { at ≡ place_read source.lay.now.dims dims.now place }
+    requires below { at < product source.lay.now.dims }
+    ensures places { HasPlaces source.entry.lay.now.dtype (strip result.bytes.now result.step) count }
+    ensures elements { (k : ℕ) → k < count
+        → strip_element source.entry.lay.now.dtype (strip result.bytes.now result.step) k ≡ lay_element source.entry.lay.now source.entry.ins.now (index_at dims.now (place + k)) }
+{
     let own = size(source.lay.dtype) as usize;
-    let from = source.lay.at + place_at(pace, &source.lay.dims, dims, place) as usize * own;
+    let from = source.lay.at + at as usize * own;
     Strip {
         bytes: &source.ins[from..],
         step: pace.step as usize,

@@ -1,14 +1,14 @@
 use Rattle.std.proofs.Common.{◌≡◌, ◌+◌, ◌<◌, ◌≤◌, ◌-◌, ℕ, Some, length}
 use Rattle.cu_shape.specs.Index.{index_at}
 use Rattle.cu_kern.specs.Lays.{HasValue, lay_element}
-use Rattle.cu_kern.proofs.rows.row_of_region.Given as goal
+use Rattle.cu_kern.proofs.fills.pieces_of_region.Given as goal
 
 abbrev pub invariant-loop-done : goal.invariant-loop-done
 invariant-loop-done l = record {
-  within : l.done ≤ l.all;
+  within : l.done ≤ l.span.count;
   out_length : length l.out ≡ length l.fn.out;
-  values : (k : ℕ) → k < l.done → HasValue l.source.lay.now.dtype l.out k (Some (lay_element l.source.lay.now l.source.ins.now (index_at l.dims (l.from + k))));
+  values : (k : ℕ) → k < l.done → HasValue l.source.lay.now.dtype l.out k (Some (lay_element l.source.lay.now l.source.ins.now (index_at l.dims (l.span.from + k))));
 }
 
 abbrev pub decreases-loop-done : goal.decreases-loop-done
-decreases-loop-done l = l.all - l.done
+decreases-loop-done l = l.span.count - l.done

@@ -1,6 +1,6 @@
 use Rattle.std.proofs.Common.{◌+◌, ◌*◌, refl}
 use Rattle.cu_kern.proofs.Pieces.{Piece, strip_places, strip_read}
-use Rattle.cu_kern.proofs.sources.strip_from.Goals as goal
+use Rattle.cu_kern.proofs.sources.strip_at.Goals as goal
 
 pub returns-clause-places : goal.returns-clause-places
 returns-clause-places c =
@@ -13,7 +13,7 @@ returns-clause-places c =
       some = c.requires.some;
       within = c.requires.within;
       row = c.requires.row;
-      begins = (λ i. c.args.source.lay.now.at + c.place_at.ensures.place i * c.size-own.ensures i);
+      begins = (λ i. c.args.source.lay.now.at + c.requires.at i * c.size-own.ensures i);
     }) refl
 
 pub returns-clause-elements : goal.returns-clause-elements
@@ -27,5 +27,5 @@ returns-clause-elements c k h =
       some = c.requires.some;
       within = c.requires.within;
       row = c.requires.row;
-      begins = (λ i. c.args.source.lay.now.at + c.place_at.ensures.place i * c.size-own.ensures i);
+      begins = (λ i. c.args.source.lay.now.at + c.requires.at i * c.size-own.ensures i);
     }) h

@@ -1,0 +1,61 @@
+use Rattle.std.proofs.Common.{◌≡◌, ℕ, suc, ◌+◌, ◌-◌, ◌*◌, ◌%◌, ◌<◌, ◌≤◌, length, ◌++◌, take, drop, refl, ap, sym, ◌∙◌, arith, length-append, length-drop, ⊎_elim}
+use Rattle.std.proofs.Math.Nat.{mod_self, mod-eq_of_lt, mul-le-mul_right}
+use Rattle.std.proofs.lemmas.Bool.{cases_lt}
+use Rattle.std.proofs.lemmas.List.{length-take-le}
+use Rattle.cu_num.specs.Dtype.{size_of}
+use Rattle.cu_num.specs.Element.{bytes_at}
+use Rattle.cu_kern.proofs.Repeats.{bytes_in_front, bytes_in_back, bytes_in_part, same_rest, twice_whole}
+use Rattle.cu_kern.proofs.fills.repeat.Goals as goal
+
+pub loop-done-init : goal.loop-done-init
+loop-done-init c = record {
+  begun = omega arith;
+  within = c.requires.first;
+  out_length = refl;
+  whole = λ less. mod_self c.args.first;
+  values = λ k b. ap (bytes_at c.args.t c.args.out.now) (sym (mod-eq_of_lt b));
+}
+
+pub loop-done-preserved : goal.loop-done-preserved
+loop-done-preserved c =
+    let t = c.args.t in
+    let size = c.size-size.result in
+    let own : size ≡ size_of t = c.size-size.ensures in
+    let done = c.loop-done.done in
+    let count = c.min-count.result in
+    let front = c.split_at_mut-front.result.0.now in
+    let back = c.split_at_mut-front.result.1.now in
+    let copied = c.copy_from_slice.new.self in
+    let long : length front ≡ done * size_of t = c.split_at_mut-front.ensures.front_len ∙ ap (λ s. done * s) own in
+    let out : length c.loop-done.out ≡ c.args.all * size_of t = c.loop-done.invariant.out_length ∙ c.requires.room in
+    let within : done + count ≤ c.args.all = omega (arith, c.min-count.ensures, c.loop-done-test.true) in
+    let n : count * size ≡ count * size_of t = ap (λ s. count * s) own in
+    let less : count * size_of t ≤ done * size_of t = mul-le-mul_right (size_of t) (let l : count ≤ done = omega (arith, c.min-count.ensures) in l) in
+    let far : (done + count) * size_of t ≤ c.args.all * size_of t = mul-le-mul_right (size_of t) within in
+    let copy : copied ≡ take (count * size) front = c.copy_from_slice.ensures.after in
+    let copied_long : length copied ≡ count * size_of t = ap length copy ∙ length-take-le (count * size) front (omega (arith, n, less, long)) ∙ n in
+    let whole : done % c.args.first ≡ 0 = c.loop-done.invariant.whole c.loop-done-test.true in
+    let front_same : (k : ℕ) → k < done → bytes_at t front k ≡ bytes_at t c.args.out.now (k % c.args.first) = λ k b.
+    let room : k * size_of t + size_of t ≤ done * size = omega (arith, mul-le-mul_right {m = suc k} (size_of t) b, ap (λ s. done * s) own) in
+    ap (λ xs. bytes_at t xs k) c.split_at_mut-front.ensures.front ∙ bytes_in_part t (done * size) k c.loop-done.out room ∙ c.loop-done.invariant.values k b in
+    let back_long = c.split_at_mut-front.ensures.back_len in
+    record {
+      begun = omega (arith, c.loop-done.invariant.begun);
+      within = within;
+      out_length = length-append front _ ∙ ap (λ q. length front + q) (length-append copied _ ∙ ap (λ q. length copied + q) (length-drop (count * size) back)) ∙ omega (arith, long, copied_long, back_long, n, far, out, c.loop-done.invariant.out_length, ap (λ s. done * s) own);
+      whole = λ more. ap (λ q. (done + q) % c.args.first) (let all : count ≡ done = omega (arith, c.min-count.ensures, more) in all) ∙ twice_whole done c.args.first whole;
+      values = λ k b. ⊎_elim
+          (λ before. bytes_in_front t front _ k (omega (arith, mul-le-mul_right {m = suc k} (size_of t) before, long)) ∙ front_same k before)
+          (λ behind.
+          let j = k - done in
+          let sum : k ≡ done + j = omega (arith, behind) in
+          let inside : suc j * size_of t ≤ count * size_of t = mul-le-mul_right (size_of t) (let l : suc j ≤ count = omega (arith, b, behind) in l) in
+          ap (bytes_at t (front ++ (copied ++ drop (count * size) back))) sum
+          ∙ bytes_in_back t front (copied ++ drop (count * size) back) done j long
+          ∙ bytes_in_front t copied _ j (omega (arith, inside, copied_long))
+          ∙ ap (λ xs. bytes_at t xs j) copy
+          ∙ bytes_in_part t (count * size) j front (omega (arith, inside, n))
+          ∙ front_same j (omega (arith, c.min-count.ensures, b, behind))
+          ∙ ap (bytes_at t c.args.out.now) (sym (ap (λ q. q % c.args.first) sum ∙ same_rest done c.args.first j whole)))
+          (cases_lt k done);
+    }

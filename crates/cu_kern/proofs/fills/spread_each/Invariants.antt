@@ -1,0 +1,16 @@
+use Rattle.std.proofs.Common.{◌≡◌, ◌+◌, ◌<◌, ◌≤◌, ◌-◌, ◌/◌, ◌%◌, ℕ, Some, length}
+use Rattle.cu_shape.specs.Index.{index_at}
+use Rattle.cu_kern.specs.Lays.{HasValue, lay_element}
+use Rattle.cu_kern.proofs.fills.spread_each.Given as goal
+
+abbrev pub invariant-loop-done : goal.invariant-loop-done
+invariant-loop-done l = record {
+  within : l.done ≤ l.span.count;
+  out_length : length l.out ≡ length l.fn.out;
+  at_run : l.done < l.span.count → l.at ≡ (l.span.from + l.done) / l.run;
+  in_run : l.done < l.span.count → (l.span.from + l.done) % l.run + l.left ≡ l.run;
+  values : (k : ℕ) → k < l.done → HasValue l.t l.out k (Some (lay_element l.source.lay.now l.source.ins.now (index_at l.dims (l.span.from + k))));
+}
+
+abbrev pub decreases-loop-done : goal.decreases-loop-done
+decreases-loop-done l = l.span.count - l.done
