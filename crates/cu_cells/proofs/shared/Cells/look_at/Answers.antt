@@ -33,7 +33,7 @@ returns-clause-there c = λ is key.
     let own = c.requires.own in
     let l = c.args.self.now.layout in
     let told = c.look.ensures.set is in
-    let promised = promised_there l c.args.at (subst (λ (x : Laid). Rattle.std.proofs.Common.IsTrue (Rattle.cu_cells.specs.Layout.is_named x c.args.at)) own.sound.key told.1) in
+    let promised = promised_there l c.args.at (subst (λ (x : Laid). Rattle.std.proofs.Common.IsTrue (Rattle.cu_cells.specs.Layout.is_named_cell x c.args.at)) own.sound.key told.1) in
     let place = place_own l.specs c.args.at own.sound.fair.apart c.requires.at in
     ap (λ m. has_cell_in m.0.laid m.0.seen key) told.0 ∙ (ap (λ (x : Laid). has_cell_in x (c.args.at ∷ c.args.pass.now.seat.me.0.seen) key) own.laid
     ∙ (seen_more l c.args.pass.now.seat.me.0.seen c.args.at key (spec_key l.specs c.args.at) promised.0 c.requires.made promised.1 place
