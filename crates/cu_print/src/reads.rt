@@ -6,9 +6,10 @@ ghost use Rattle.cu_grid.specs.Counts.{chunk_lo, IsRegion, IsWithin};
 ghost use Rattle.cu_grid.specs.Cover.{Meets};
 ghost use Rattle.cu_codec.specs.Parts.{part_at, place_within};
 ghost use Rattle.cu_region.specs.Reading.{bytes_of, HasChunk, HasChunkPart, key_at};
+ghost use Rattle.cu_region.specs.Calls.{chunks_met};
 ghost use Rattle.cu_region.specs.Steady.{IsSteady};
 ghost use Rattle.cu_store.specs.Steps.{Shown, NoChange};
-ghost use Rattle.cu_command.specs.Seen.{Stepped};
+ghost use Rattle.cu_command.specs.Seen.{Stepped, WithinCalls};
 ghost use Rattle.cu_print.specs.Bands.{HasFirst, IsBandUnread};
 ghost use Rattle.cu_print.specs.Runs.{IsPrintable, IsTried, IsReadEnd, read_end};
 
@@ -45,6 +46,7 @@ fn read_once<D: Depot>(
         → IsSteady (λ key. key ≡ key_at info.now coord.now) entry.held entry.late → OnOk result (HasChunk info.now coord.now entry.held buf.new) }
     ensures step { Stepped NoChange (D.shown depot.old) (D.shown depot.new) }
     ensures cause { IfErr result (IsTried 1 (D.shown depot.old) (D.shown depot.new) info.now.layout (key_at info.now coord.now)) }
+    ensures calls { WithinCalls 1 (D.shown depot.old) (D.shown depot.new) }
 {
     read_chunk::<InDepot<D>>(&(), depot, info, coord, buf)
 }
@@ -64,6 +66,7 @@ fn read_tries<D: Depot>(
         → IsSteady (λ key. key ≡ key_at info.now coord.now) entry.held entry.late → OnOk result (HasChunk info.now coord.now entry.held buf.new) }
     ensures step { Stepped NoChange (D.shown depot.old) (D.shown depot.new) }
     ensures cause { IfErr result (IsTried (retries + 1) (D.shown depot.old) (D.shown depot.new) info.now.layout (key_at info.now coord.now)) }
+    ensures calls { WithinCalls (retries + 1) (D.shown depot.old) (D.shown depot.new) }
 {
     for _ in 0..retries {
         match read_once(depot, info, coord, buf) {
@@ -113,6 +116,7 @@ fn read_part<D: Depot>(
     ensures same { OnErr result (out.new ≡ out.old) }
     ensures step { Stepped NoChange (D.shown depot.old) (D.shown depot.new) }
     ensures cause { IfErr result (IsReadEnd (retries + 1) (D.shown depot.old) (D.shown depot.new) info.now.layout (key_at info.now coord.now)) }
+    ensures calls { WithinCalls (retries + 1) (D.shown depot.old) (D.shown depot.new) }
 {
     let layout = &info.layout;
     let _shape = layout.grid.shape();
@@ -177,6 +181,7 @@ pub(crate) fn read_band<D: Depot>(
     ensures front { IfErr result (λ unread. HasFirst info.now region.now (D.shown depot.old) unread.ready out.new) }
     ensures unread { IfErr result (IsBandUnread (retries + 1) (D.shown depot.old) (D.shown depot.new) info.now region.now) }
     ensures step { Stepped NoChange (D.shown depot.old) (D.shown depot.new) }
+    ensures calls { WithinCalls (chunks_met info.now.layout.grid region.now.lo region.now.hi * (retries + 1)) (D.shown depot.old) (D.shown depot.new) }
 {
     let grid = &info.layout.grid;
     for coord in grid.cover(region) {

@@ -4,7 +4,7 @@ use Rattle.cu_check.specs.Check.{Checked, CheckEnds, ReadsText, IsFoundEqual, Is
 use Rattle.cu_command.specs.Seen.{Stream, Seen}
 use Rattle.cu_command.specs.declared.status.Status.{Status}
 use Rattle.cu_command.specs.declared.status.Status.TheVariants.{Done, Unequal}
-use Rattle.cu_top.specs.Words.{check, command_of}
+use Rattle.cu_top.specs.Words.{check, print, command_of}
 
 module _ (retries : ℕ) (src next : Stream) (old new : Seen) (status : Status) (checked : Checked retries src next old new status) where
   pub found_equal : status ≡ Done → ReadsText src next (λ text. IsFoundEqual text old new)
@@ -16,3 +16,7 @@ module _ (retries : ℕ) (src next : Stream) (old new : Seen) (status : Status) 
 -- the words ask for one number of tries
 pub same_tries : (words : List (List ℕ)) (a b : ℕ) → command_of words ≡ Ok (check a) → command_of words ≡ Ok (check b) → a ≡ b
 same_tries words a b one other = cc
+
+-- and for one array
+pub same_print : (words : List (List ℕ)) (name other : List ℕ) (a b : ℕ) → command_of words ≡ Ok (print name a) → command_of words ≡ Ok (print other b) → (name ≡ other) × (a ≡ b)
+same_print words name other a b one next = (cc, cc)

@@ -10,7 +10,7 @@ ghost use Rattle.cu_command.specs.Seen.{Stepped, stream, seen};
 ghost use Rattle.cu_command.specs.Streams.{ReadsAll};
 ghost use Rattle.cu_load.specs.Load.{Loaded, LoadsWithin};
 ghost use Rattle.cu_lower.specs.declared.options.Options.{Options};
-ghost use Rattle.cu_print.specs.Print.{Printed};
+ghost use Rattle.cu_print.specs.Print.{Printed, PrintsWithin};
 ghost use Rattle.cu_top.specs.Call.{CameToRun, DidNothing, IsReadFault, IsShort, IsExpressionRefused, IsWordsRefused, RunTells};
 ghost use Rattle.cu_top.specs.Complete.{FewFailed, HasWholeInputs, IsNotGivenUp, IsPlannable, IsResumable, IsResumeCause, IsServable, IsServed, retries_of};
 ghost use Rattle.cu_top.specs.Planned.{IsPrinted, PlansWithin, PlanTells};
@@ -170,10 +170,12 @@ pub fn top<H: Threads + Wait + Sync, R: Source, W: Sink, D: Share, G: Gate>(
     // Where its plan is accepted, nothing is in the way and no count of faults rises, it is carried out, or memory is wanted.
     ensures demo_complete { (size : ℕ) (options : Options) (entry : Contents) → command_of (map string_bytes words.now) ≡ Ok (demo size options) → (D.shown depot.old).held ≡ Some entry
         → IsDemoAtRest options size entry (D.shown depot.old) → StoodStill (W.faults out.old) (W.faults out.new) → StoodStill (D.shown depot.old).faults (D.shown depot.new).faults → IsServed result }
-    // How many calls `plan`, `load` and `check` make at most: for each key one, and as many more as it is tried again.
+    // How many calls `plan`, `load` and `check` make at most: for each key one, and as many more as it is tried again; and `print`, for
+    // each key of metadata and each element.
     ensures plan_calls { (options : Options) → command_of (map string_bytes words.now) ≡ Ok (plan options) → PlansWithin (options.retries + 1) (stream (R.left src.old) (R.faults src.old)) (stream (R.left src.new) (R.faults src.new)) (D.shown depot.old) (D.shown depot.new) }
     ensures load_calls { (retries : ℕ) → command_of (map string_bytes words.now) ≡ Ok (load retries) → LoadsWithin retries (R.left src.old) (R.left src.new) (D.shown depot.old) (D.shown depot.new) }
     ensures check_calls { (retries : ℕ) → command_of (map string_bytes words.now) ≡ Ok (check retries) → ChecksWithin (retries + 1) (stream (R.left src.old) (R.faults src.old)) (stream (R.left src.new) (R.faults src.new)) (D.shown depot.old) (D.shown depot.new) }
+    ensures print_calls { (name : List ℕ) (retries : ℕ) → command_of (map string_bytes words.now) ≡ Ok (print name retries) → PrintsWithin (retries + 1) name (D.shown depot.old) (D.shown depot.new) }
     // Where at most as many calls fail in all as a key is tried again, neither a task nor a key is given up.
     ensures few_failures { (command : Command) → command_of (map string_bytes words.now) ≡ Ok command
         → FewFailed (retries_of command) (D.shown depot.old) (D.shown depot.new) → IsNotGivenUp result }
@@ -225,6 +227,7 @@ fn carry<H: Threads + Wait + Sync, R: Source, W: Sink, D: Share, G: Gate>(
     ensures plan_calls { (options : Options) → command_of (map string_bytes words.now) ≡ Ok (plan options) → PlansWithin (options.retries + 1) (stream (R.left src.old) (R.faults src.old)) (stream (R.left src.new) (R.faults src.new)) (D.shown depot.old) (D.shown depot.new) }
     ensures load_calls { (retries : ℕ) → command_of (map string_bytes words.now) ≡ Ok (load retries) → LoadsWithin retries (R.left src.old) (R.left src.new) (D.shown depot.old) (D.shown depot.new) }
     ensures check_calls { (retries : ℕ) → command_of (map string_bytes words.now) ≡ Ok (check retries) → ChecksWithin (retries + 1) (stream (R.left src.old) (R.faults src.old)) (stream (R.left src.new) (R.faults src.new)) (D.shown depot.old) (D.shown depot.new) }
+    ensures print_calls { (name : List ℕ) (retries : ℕ) → command_of (map string_bytes words.now) ≡ Ok (print name retries) → PrintsWithin (retries + 1) name (D.shown depot.old) (D.shown depot.new) }
 {
     let asked = match read_words(alloc, words) {
         Reading::Asked(asked) => asked,

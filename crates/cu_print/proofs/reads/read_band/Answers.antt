@@ -1,4 +1,4 @@
-use Rattle.std.proofs.Common.{◌≡◌, ◌+◌, ◌∷◌, [], List, ℕ, map, Contains, sym, subst, inl}
+use Rattle.std.proofs.Common.{◌≡◌, ◌+◌, ◌*◌, ◌∷◌, [], List, ℕ, length, map, Contains, ap, sym, ◌∙◌, subst, inl, arith, add-mul, one-mul}
 use Rattle.std.specs.List.Sorted.{IsStrictlyIncreasing}
 use Rattle.cu_shape.specs.Index.{place_of, quotients}
 use Rattle.cu_grid.specs.Counts.{counts_of}
@@ -20,6 +20,7 @@ loop-coord-init g c =
       read = λ entry step idx w steady. inl (subst (λ (x : List (List ℕ)). Contains x (quotients idx c.args.info.now.layout.grid.chunk)) (sym e)
           ((c.cover-coord-items.ensures.exactly (quotients idx c.args.info.now.layout.grid.chunk)).1
           (meets_own c.args.info.now c.args.region.now.lo c.args.region.now.hi idx c.cover-coord-items.ensures.kept c.requires.region w)));
+      calls = let all = ap (λ xs. length xs * (c.args.retries + 1)) (e ∙ c.cover-coord-items.ensures.chunks) in omega (arith, all);
     }
 
 pub read_part-requires-clause-meets : goal.read_part-requires-clause-meets
@@ -39,6 +40,7 @@ loop-coord-preserved g c =
       read = reads_more c.args.info.now c.args.region.now c.in-Some.coord c.loop-coord.out c.read_part.new.out c.next.new.self
           (g.D.Depot.shown c.args.depot.now) (g.D.Depot.shown c.loop-coord.depot) c.loop-coord.invariant.step c.in-Ok.ensures.part c.in-Ok.ensures.others
           (subst (λ (x : List (List ℕ)). ReadsLeft c.args.info.now c.args.region.now (g.D.Depot.shown c.args.depot.now) x c.loop-coord.out) e c.loop-coord.invariant.read);
+      calls = let one = ap (λ xs. length xs * (c.args.retries + 1)) e in omega (arith, one, c.loop-coord.invariant.calls, c.read_part.ensures.calls, add-mul 1 (length c.next.new.self) (c.args.retries + 1), one-mul (c.args.retries + 1));
     }
 
 pub returns-clause-all : goal.returns-clause-all
@@ -71,3 +73,12 @@ returns-in-Err-clause-unread g c =
 
 pub returns-in-Err-clause-step : goal.returns-in-Err-clause-step
 returns-in-Err-clause-step g c = stepped_then c.loop-coord.invariant.step c.read_part.ensures.step
+
+pub returns-in-Err-clause-calls : goal.returns-in-Err-clause-calls
+returns-in-Err-clause-calls g c =
+    let e : c.loop-coord.coord-iterator ≡ c.in-Some.coord ∷ c.next.new.self = c.in-Some.ensures.steps in
+    let one = ap (λ xs. length xs * (c.args.retries + 1)) e in
+    omega (arith, one, c.loop-coord.invariant.calls, c.read_part.ensures.calls, add-mul 1 (length c.next.new.self) (c.args.retries + 1), one-mul (c.args.retries + 1))
+
+pub returns-clause-calls : goal.returns-clause-calls
+returns-clause-calls g c = omega (arith, c.loop-coord.invariant.calls)

@@ -1,8 +1,9 @@
-use Rattle.std.specs.Prelude.{◌+◌, ℕ, map, string_bytes}
-use Rattle.std.proofs.Common.{sym, subst}
+use Rattle.std.specs.Prelude.{◌+◌, ℕ, List, map, string_bytes}
+use Rattle.std.proofs.Common.{◌≡◌, ◌∙◌, sym, subst}
 use Rattle.cu_check.specs.Check.{ChecksWithin}
 use Rattle.cu_command.specs.Seen.{stream}
-use Rattle.cu_top.proofs.CheckLemmas.{same_tries}
+use Rattle.cu_print.specs.Print.{PrintsWithin}
+use Rattle.cu_top.proofs.CheckLemmas.{same_tries, same_print}
 use Rattle.cu_top.proofs.call.carry.Goals as goal
 
 pub run_command-requires-clause-options : goal.run_command-requires-clause-options
@@ -43,3 +44,10 @@ returns-in-Check-clause-check_calls g c = λ retries words.
     let same = same_tries (map string_bytes c.args.words.now) retries c.in-Check.retries words (rw c.in-Check.is at c.in-Asked.ensures.answer.0) in
     subst (λ (n : ℕ). ChecksWithin (n + 1) (stream (g.R.Source.left c.args.src.now) (g.R.Source.faults c.args.src.now)) (stream (g.R.Source.left c.check.new.src) (g.R.Source.faults c.check.new.src))
     (g.D.Depot.shown c.args.depot.now) (g.D.Depot.shown c.check.new.depot)) (sym same) c.check.ensures.calls
+
+pub returns-in-Print-clause-print_calls : goal.returns-in-Print-clause-print_calls
+returns-in-Print-clause-print_calls g c = λ name retries words.
+    let same = same_print (map string_bytes c.args.words.now) name _ retries _ words (rw c.in-Print.is at c.in-Asked.ensures.answer.0) in
+    let named : name ≡ c.key_of_name.result = same.0 ∙ sym c.key_of_name.ensures.key in
+    let calls = subst (λ (n : ℕ). PrintsWithin (n + 1) c.key_of_name.result (g.D.Depot.shown c.args.depot.now) (g.D.Depot.shown c.print.new.depot)) (sym same.1) c.print.ensures.calls in
+    subst (λ (key : List ℕ). PrintsWithin (retries + 1) key (g.D.Depot.shown c.args.depot.now) (g.D.Depot.shown c.print.new.depot)) (sym named) calls
