@@ -16,7 +16,7 @@ Of each call these things are looked at:
 - the files that the command may not touch are the same, byte by byte, also beside the folder: all of them after a refusal and under
   `plan`, `print` and `check`, and otherwise all but those of the array and the plan that the text names;
 - `run` changes no file that was there, `resume` no record and no metadata, and `drop` makes none;
-- neither `resume` nor `drop` goes on where the record is another than the run wrote.
+- neither `resume` nor `drop` goes on where the record is another than the run wrote, and than a run by the same words writes.
 
 There is no other oracle. Prints how often each answer came. It ends with 1 at the first case that is wrong, whose folder is kept. A case
 comes again by its seed and its number: `--first` goes on there.
@@ -306,7 +306,7 @@ class Case:
             raise Wrong(f"{told}: it didn't end in {self.given.longest} seconds") from None
         command = words[0] if words and words[0] in self.given.options else None
         counts[f"{command or 'no command'} {status}"] += 1
-        wrong = self.wrong_end(command, status, out, err) or self.wrong_files(command, status, text, folder, before, entries_of(self.room))
+        wrong = self.wrong_end(command, status, out, err) or self.wrong_files(words, status, text, folder, before, entries_of(self.room))
         if wrong:
             raise Wrong(f"{told}: {wrong}")
         if "arrays/_cubed/y/plan.json" not in before:
@@ -337,8 +337,9 @@ class Case:
             is_right = is_right and (not out or command == "print" and re.match(r"\w+ shape \[[\d,]*\] chunk \[[\d,]*\]\n[-\da-z \n]*\Z", out))
         return None if is_right else f"the status is {status}, and printed are {out!r} and {err!r}"
 
-    def wrong_files(self, command, status, text, folder, before, after):
+    def wrong_files(self, words, status, text, folder, before, after):
         """Why a file is another that may not be, or nothing."""
+        command = words[0] if words and words[0] in self.given.options else None
         top = os.path.relpath(os.path.normpath(os.path.join(self.room, folder)), self.room)
         name = stored_name(command, text) if status in STARTED else None
         for key in sorted(set(before) | set(after)):
@@ -347,9 +348,27 @@ class Case:
             own = os.path.relpath(key, top)
             if not name or not may_change(command, name, own, before.get(key), after.get(key)):
                 return f"the status is {status}, and {key} was {short(before.get(key))} and is {short(after.get(key))}"
-        if command in ("resume", "drop") and status in (0, 10, 12, 13) and self.record and before.get(f"{top}/_cubed/y/plan.json", ("", b""))[1] != self.record:
-            return f"the status is {status}, and the record was another than the run wrote"
+        if command in ("resume", "drop") and status in (0, 10, 12, 13) and self.record:
+            found = before.get(f"{top}/_cubed/y/plan.json", ("", b""))[1]
+            if found not in (self.record, self.record_of(words, text)):
+                return f"the status is {status}, and the record was another than the run wrote"
         return None
+
+    def record_of(self, words, text):
+        """The record that a run by these words writes over the same metadata, or nothing. Damaged words may ask for what a damaged
+        record says."""
+        with tempfile.TemporaryDirectory(dir=self.given.dir, prefix="cubed-damage-") as other:
+            for name in (one.name for one in self.inputs):
+                for part in ("zarr.json", ".zarray"):
+                    if os.path.isfile(os.path.join(self.folder, name, part)):
+                        os.makedirs(os.path.join(other, name), exist_ok=True)
+                        shutil.copy(os.path.join(self.folder, name, part), os.path.join(other, name, part))
+            subprocess.run([self.given.program, other, "run", *words[1:]], input=text, capture_output=True, check=False, timeout=self.given.longest)
+            path = os.path.join(other, "_cubed", "y", "plan.json")
+            if not os.path.isfile(path):
+                return None
+            with open(path, "rb") as file:
+                return file.read()
 
 
 def spoil_version_2(pick, members):
