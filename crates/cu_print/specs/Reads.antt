@@ -14,7 +14,7 @@ band_sizes zero (n ∷ ns) (c ∷ cs) = c ∷ ns
 band_sizes (suc axis) (n ∷ ns) (c ∷ cs) = c ∷ band_sizes axis ns cs
 band_sizes axis shape chunk = []
 
--- how many chunks such bands meet: all chunks, for each index of the axes before it again
+-- how many chunks such bands meet at most: those along this axis and the later ones, for each index of the axes before it again
 abbrev pub band_reads : ℕ → List ℕ → List ℕ → ℕ
 band_reads zero shape chunk = product (counts_of shape chunk)
 band_reads (suc axis) (n ∷ ns) (c ∷ cs) = n * band_reads axis ns cs
