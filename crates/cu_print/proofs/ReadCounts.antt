@@ -1,38 +1,45 @@
--- A region meets at most as many chunks as it has elements.
-use Rattle.std.proofs.Common.{◌≡◌, ℕ, zero, suc, ◌+◌, ◌-◌, ◌*◌, ◌/◌, ◌<◌, ◌≤◌, List, [], ◌∷◌, length, All, refl, ◌∙◌, arith, add-mul, one-mul}
-use Rattle.std.proofs.lemmas.Nat.{mul-le}
-use Rattle.std.proofs.Math.Nat.{lt-div-mul-add}
+-- The calls for a band, from the number of chunks that it meets.
+use Rattle.std.proofs.Common.{◌≡◌, ℕ, ◌+◌, ◌*◌, ◌<◌, ◌≤◌, List, ap, ◌∙◌, arith, add-mul}
+use Rattle.std.specs.List.{range_with_len}
 use Rattle.std.proofs.lemmas.List.{length-map}
 use Rattle.std.proofs.lemmas.List.FromFn.{length-range_with_len}
-use Rattle.std.specs.List.{range_with_len}
-use Rattle.std.proofs.lemmas.List.Elements.{All-head, All-tail}
+use Rattle.std.proofs.lemmas.Nat.{mul-le}
 use Rattle.cu_shape.specs.Index.{product, index_at, quotients, sums, differences}
-use Rattle.cu_grid.specs.Counts.{IsRegion}
-use Rattle.cu_grid.specs.Cover.{span_on, spans_of}
-use Rattle.cu_grid.specs.Grid.{RegularGrid, IsGrid}
-use Rattle.cu_grid.proofs.Meeting.{axis_meets}
+use Rattle.cu_grid.specs.Cover.{spans_of}
+use Rattle.cu_grid.specs.Grid.{RegularGrid}
 use Rattle.cu_region.specs.Calls.{chunks_met}
+use Rattle.cu_store.specs.Steps.{Shown}
+use Rattle.cu_command.specs.Seen.{WithinCalls}
+use Rattle.cu_print.specs.Reads.{band_reads, reads_before, IsBandStart, IsBandRead, IsBandEnd}
+use Rattle.cu_print.specs.Runs.{ends}
+use Rattle.cu_print.proofs.BandSteps.{BandStep}
 
-span_fits : (l h c s : ℕ) → 0 < c → span_on l h c ≡ s → s ≤ h - l
-span_fits l h c zero p e = omega arith
-span_fits l h c (suc zero) p e = let m = axis_meets h l h c 0 p (omega arith) (omega (arith, e)) in omega (arith, m.0, m.1)
-span_fits l h c (suc (suc k)) p e =
-    let m = axis_meets h l h c (k + 1) p (omega arith) (omega (arith, e)) in
-    let a : l < l / c * c + c = lt-div-mul-add {a = l} {b = c} p in
-    let b : k * 1 ≤ k * c = mul-le k 1 k c (omega arith) (omega arith) in
-    omega (arith, m.2, m.1, a, b, add-mul (l / c) (k + 1) c, add-mul k 1 c, one-mul c)
+pub same_ends : {s t b c i j : List ℕ} → s ≡ t → b ≡ c → i ≡ j → ends s b i ≡ ends t c j
+same_ends p q r = cc
 
-spans_fit : (shape lo hi chunk : List ℕ) → length chunk ≡ length shape → All (λ c. 0 < c) chunk → IsRegion shape lo hi → product (spans_of lo hi chunk) ≤ product (differences hi lo)
-spans_fit [] [] [] chunk r p region = omega arith
-spans_fit (n ∷ ns) (l ∷ ls) (h ∷ hs) [] r p region = absurd (omega arith)
-spans_fit (n ∷ ns) (l ∷ ls) (h ∷ hs) (c ∷ cs) r p region =
-    mul-le (span_on l h c) (product (spans_of ls hs cs)) (h - l) (product (differences hs ls)) (span_fits l h c (span_on l h c) (All-head (λ c. 0 < c) c cs p) refl)
-    (spans_fit ns ls hs cs (omega arith) (All-tail (λ c. 0 < c) c cs p) region.2)
-spans_fit shape lo hi chunk r p region = absurd assumption
-
-pub chunks_fit : (g : RegularGrid) (lo hi : List ℕ) → IsGrid g → IsRegion g.shape lo hi → chunks_met g lo hi ≤ product (differences hi lo)
-chunks_fit g lo hi ok region =
+met_is : (g : RegularGrid) (lo hi : List ℕ) → chunks_met g lo hi ≡ product (spans_of lo hi g.chunk)
+met_is g lo hi =
     let spans = spans_of lo hi g.chunk in
-    let long : chunks_met g lo hi ≡ product (spans_of lo hi g.chunk) =
-    length-map (range_with_len 0 (product spans)) (λ p. sums (quotients lo g.chunk) (index_at spans p)) ∙ length-range_with_len 0 (product spans) in
-    omega (arith, long, spans_fit g.shape lo hi g.chunk ok.ranks ok.positive region)
+    length-map (range_with_len 0 (product spans)) (λ p. sums (quotients lo g.chunk) (index_at spans p)) ∙ length-range_with_len 0 (product spans)
+
+-- so many calls for each chunk that is met
+for_each : (before met after tries : ℕ) → before + met ≤ after → before * tries + met * tries ≤ after * tries
+for_each before met after tries few = let b = mul-le (before + met) tries after tries few (omega arith) in omega (arith, b, add-mul before met tries)
+
+module _ (tries axis : ℕ) (g : RegularGrid) (start : ℕ) (lo hi : List ℕ) (old new : Shown) (step : BandStep axis g.shape g.chunk start lo hi) (calls : WithinCalls (chunks_met g lo hi * tries) old new) where
+  pub band_read : IsBandRead tries axis g start old new (product (differences hi lo))
+  band_read =
+      let same = ap (λ k. k * tries) (met_is g lo hi) in
+      let each = for_each (reads_before axis g.shape g.chunk start) (product (spans_of lo hi g.chunk)) (reads_before axis g.shape g.chunk (start + product (differences hi lo))) tries step.more in
+      record { next = step.next; calls = omega (arith, calls, same, each) }
+
+  pub band_end : IsBandEnd tries axis g start old new
+  band_end =
+      let same = ap (λ k. k * tries) (met_is g lo hi) in
+      let each = for_each (reads_before axis g.shape g.chunk start) (product (spans_of lo hi g.chunk)) (band_reads axis g.shape g.chunk) tries step.most in
+      omega (arith, calls, same, each)
+
+-- what was read before this place, where a band may begin
+pub record ReadTo (tries axis : ℕ) (g : RegularGrid) (old new : Shown) (start : ℕ) : Type 0 where
+  pub next : start < product g.shape → IsBandStart axis g.shape g.chunk start
+  pub calls : new.calls ≤ old.calls + reads_before axis g.shape g.chunk start * tries

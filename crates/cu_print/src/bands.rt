@@ -1,10 +1,11 @@
 //! Bands: consecutive elements of an array that are read together.
-ghost use Rattle.std.specs.Prelude.{◌*◌, ◌^◌, ◌≤◌};
-ghost use Rattle.std.specs.Bool.{OnTrue};
+ghost use Rattle.std.specs.Prelude.{◌*◌, ◌^◌, ◌<◌, ◌≤◌};
+ghost use Rattle.std.specs.Bool.{OnTrue, OnFalse};
 ghost use Rattle.cu_num.specs.Dtype.{size_of};
 ghost use Rattle.cu_shape.specs.Index.{product};
 ghost use Rattle.cu_command.specs.Stored.{IsArrayLayout};
 ghost use Rattle.cu_print.specs.Bands.{IsBanding};
+ghost use Rattle.cu_print.specs.Reads.{IsFirstBanding};
 
 use cu_grid::Grid;
 use cu_num::{Dtype, size};
@@ -19,7 +20,8 @@ const MOST_BYTES: u64 = 67_108_864;
 /// `MOST_BYTES`; where there is none before the last, the bands are the chunks.
 pub(crate) fn bands_of(layout: &Layout) -> Grid
     requires { IsArrayLayout layout.now }
-    ensures { IsBanding result layout.now }
+    ensures banding { IsBanding result layout.now }
+    ensures first { IsFirstBanding result layout.now }
 {
     let shape = layout.grid.shape();
     let chunk = layout.grid.chunk();
@@ -36,7 +38,8 @@ pub(crate) fn bands_of(layout: &Layout) -> Grid
 
 /// Whether as many elements have at most `MOST_BYTES`.
 fn is_small(sizes: &Dims, dtype: Dtype) -> bool
-    ensures { OnTrue result (product sizes.now * size_of dtype ≤ 2 ^ 26) }
+    ensures small { OnTrue result (product sizes.now * size_of dtype ≤ 2 ^ 26) }
+    ensures large { OnFalse result (2 ^ 26 < product sizes.now * size_of dtype) }
 {
     match sizes.elements() {
         Some(count) => count * size(dtype) <= MOST_BYTES,

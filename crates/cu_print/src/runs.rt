@@ -1,7 +1,7 @@
 //! Runs of elements.
 ghost use Rattle.std.specs.Prelude.{◌≡◌, ◌^◌, ◌<◌, ◌≤◌, ◌&&◌, ◌==◌, nat_le, length};
 ghost use Rattle.cu_shape.specs.Index.{IsInside, differences};
-ghost use Rattle.cu_print.specs.Runs.{run_end_on, IsChunkRun};
+ghost use Rattle.cu_print.specs.Runs.{run_end_on, ends, IsChunkRun};
 
 use cu_grid::{Grid, Region};
 use cu_shape::Dims;
@@ -11,6 +11,7 @@ use cu_shape::Dims;
 pub(crate) fn run_from(grid: &Grid, first: &Dims) -> Region
     requires { IsInside grid.now.shape first.now }
     ensures lo { result.lo ≡ first.now }
+    ensures hi { result.hi ≡ ends grid.now.shape grid.now.chunk first.now }
     ensures run { IsChunkRun grid.now result.lo result.hi }
 {
     let shape = grid.shape();

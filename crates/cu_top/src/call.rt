@@ -170,8 +170,8 @@ pub fn top<H: Threads + Wait + Sync, R: Source, W: Sink, D: Share, G: Gate>(
     // Where its plan is accepted, nothing is in the way and no count of faults rises, it is carried out, or memory is wanted.
     ensures demo_complete { (size : ℕ) (options : Options) (entry : Contents) → command_of (map string_bytes words.now) ≡ Ok (demo size options) → (D.shown depot.old).held ≡ Some entry
         → IsDemoAtRest options size entry (D.shown depot.old) → StoodStill (W.faults out.old) (W.faults out.new) → StoodStill (D.shown depot.old).faults (D.shown depot.new).faults → IsServed result }
-    // How many calls `plan`, `load` and `check` make at most: for each key one, and as many more as it is tried again; and `print`, for
-    // each key of metadata and each element.
+    // How many calls `plan`, `load` and `check` make at most: for each key one, and as many more as it is tried again. So does `print`, for
+    // each key of metadata and each chunk that a band meets.
     ensures plan_calls { (options : Options) → command_of (map string_bytes words.now) ≡ Ok (plan options) → PlansWithin (options.retries + 1) (stream (R.left src.old) (R.faults src.old)) (stream (R.left src.new) (R.faults src.new)) (D.shown depot.old) (D.shown depot.new) }
     ensures load_calls { (retries : ℕ) → command_of (map string_bytes words.now) ≡ Ok (load retries) → LoadsWithin retries (R.left src.old) (R.left src.new) (D.shown depot.old) (D.shown depot.new) }
     ensures check_calls { (retries : ℕ) → command_of (map string_bytes words.now) ≡ Ok (check retries) → ChecksWithin (retries + 1) (stream (R.left src.old) (R.faults src.old)) (stream (R.left src.new) (R.faults src.new)) (D.shown depot.old) (D.shown depot.new) }

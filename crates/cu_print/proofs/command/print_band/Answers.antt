@@ -1,4 +1,4 @@
-use Rattle.std.proofs.Common.{◌≡◌, ◌<◌, ℕ, List, Option, refl, ◌+◌, ◌-◌, ◌*◌, ◌≤◌, sym, ap, ◌∙◌, subst, arith}
+use Rattle.std.proofs.Common.{◌≡◌, ◌<◌, ℕ, List, Option, refl, ◌+◌, ◌*◌, ◌≤◌, sym, ap, ◌∙◌, subst, arith}
 use Rattle.std.proofs.lemmas.List.{length-take-le}
 use Rattle.std.proofs.lemmas.Nat.{mul-le}
 use Rattle.cu_num.specs.Dtype.{size_of}
@@ -6,18 +6,18 @@ use Rattle.cu_shape.specs.Index.{product, index_at, differences}
 use Rattle.cu_codec.specs.Box.{run_length}
 use Rattle.cu_codec.specs.Parts.{place_within}
 use Rattle.cu_codec.proofs.BoxRuns.{run_positive}
-use Rattle.cu_grid.specs.Counts.{IsRegion}
 use Rattle.cu_grid.proofs.Covers.{bounds_of}
 use Rattle.cu_grid.proofs.Products.{product_within}
-use Rattle.cu_command.specs.Seen.{WithinCalls, stream, seen}
-use Rattle.cu_command.proofs.SeenLemmas.{within_few}
-use Rattle.cu_region.specs.Calls.{chunks_met}
+use Rattle.cu_command.specs.Seen.{stream, seen}
 use Rattle.cu_print.specs.Bands.{HasFirst, IsBandUnread}
 use Rattle.cu_print.specs.Runs.{AreFrom, PrintsRun, numbers_of}
 use Rattle.cu_print.specs.Text.{elements_text, WroteAll, WroteSome}
 use Rattle.cu_print.proofs.BandPrints.{ready_read, ok_is, err_is, read_fault, write_fault}
 use Rattle.cu_print.proofs.ChunkReads.{limits_of, on_ok}
-use Rattle.cu_print.proofs.ReadCounts.{chunks_fit}
+use Rattle.cu_print.specs.Reads.{band_sizes, IsBandStart, IsBandRead}
+use Rattle.cu_print.specs.Runs.{ends}
+use Rattle.cu_print.proofs.BandSteps.{BandStep, band_step}
+use Rattle.cu_print.proofs.ReadCounts.{same_ends, band_read, band_end}
 use Rattle.cu_print.proofs.RunElements.{run_elements, run_within, run_place}
 use Rattle.cu_print.proofs.Written.{length-numbers_of}
 use Rattle.cu_print.proofs.command.print_band.Goals as goal
@@ -122,28 +122,32 @@ returns-in-Err-read-clause-fault g c =
           (subst (λ (n : ℕ). index_at c.args.place.array.info.now.layout.grid.shape n ≡ unread.idx) place here.1) unread.ended;
     }
 
-calls : (g : Over) (c : After-row_of-row g)
-    → WithinCalls (product (differences c.run_from-region.result.hi c.run_from-region.result.lo) * (c.args.retries + 1)) (g.D.Depot.shown c.args.depot.now) (g.D.Depot.shown c.read_band-read.new.depot)
-calls g c =
-    let inside = subst (λ (shape : List ℕ). IsRegion shape c.run_from-region.result.lo c.run_from-region.result.hi) c.requires.bands.shape c.run_from-region.ensures.run.region in
-    within_few (chunks_met c.args.place.array.info.now.layout.grid c.run_from-region.result.lo c.run_from-region.result.hi) (product (differences c.run_from-region.result.hi c.run_from-region.result.lo))
-    (c.args.retries + 1) (g.D.Depot.shown c.args.depot.now) (g.D.Depot.shown c.read_band-read.new.depot)
-    (chunks_fit c.args.place.array.info.now.layout.grid c.run_from-region.result.lo c.run_from-region.result.hi c.shape-shape.ensures.kept inside) c.read_band-read.ensures.calls
-
-calls_left : (g : Over) (c : After-row_of-row g)
-    → WithinCalls ((product c.args.place.array.info.now.layout.grid.shape - c.args.place.start) * (c.args.retries + 1)) (g.D.Depot.shown c.args.depot.now) (g.D.Depot.shown c.read_band-read.new.depot)
-calls_left g c =
-    within_few (product (differences c.run_from-region.result.hi c.run_from-region.result.lo)) (product c.args.place.array.info.now.layout.grid.shape - c.args.place.start)
-    (c.args.retries + 1) (g.D.Depot.shown c.args.depot.now) (g.D.Depot.shown c.read_band-read.new.depot) (let all = within g c in omega arith) (calls g c)
+step : (g : Over) (c : After-row_of-row g) (axis : ℕ) → c.args.place.array.bands.now.chunk ≡ band_sizes axis c.args.place.array.info.now.layout.grid.shape c.args.place.array.info.now.layout.grid.chunk
+    → IsBandStart axis c.args.place.array.info.now.layout.grid.shape c.args.place.array.info.now.layout.grid.chunk c.args.place.start
+    → BandStep axis c.args.place.array.info.now.layout.grid.shape c.args.place.array.info.now.layout.grid.chunk c.args.place.start c.run_from-region.result.lo c.run_from-region.result.hi
+step g c axis sizes starts =
+    let grid = c.args.place.array.info.now.layout.grid in
+    let ok = c.shape-shape.ensures.kept in
+    let hi : c.run_from-region.result.hi ≡ ends c.args.place.array.info.now.layout.grid.shape (band_sizes axis c.args.place.array.info.now.layout.grid.shape c.args.place.array.info.now.layout.grid.chunk) (index_at c.args.place.array.info.now.layout.grid.shape c.args.place.start) =
+    c.run_from-region.ensures.hi ∙ same_ends c.requires.bands.shape sizes (c.index_of.ensures.index ∙ ap (λ shape. index_at shape c.args.place.start) c.shape-shape.ensures.value) in
+    subst (λ (xs : List ℕ). BandStep axis c.args.place.array.info.now.layout.grid.shape c.args.place.array.info.now.layout.grid.chunk c.args.place.start xs c.run_from-region.result.hi) (sym (first_is g c))
+    (subst (λ (xs : List ℕ). BandStep axis c.args.place.array.info.now.layout.grid.shape c.args.place.array.info.now.layout.grid.chunk c.args.place.start (index_at c.args.place.array.info.now.layout.grid.shape c.args.place.start) xs) (sym hi)
+    (band_step axis grid.shape grid.chunk c.args.place.start ok.positive ok.ranks c.requires.start starts))
 
 pub returns-in-Ok-read-clause-calls : goal.returns-in-Ok-read-clause-calls
-returns-in-Ok-read-clause-calls g c =
+returns-in-Ok-read-clause-calls g c axis sizes starts =
+    let here = (goal.at.returns-in-Ok-read-clause-calls g c).After-row_of-row in
     let whole : product (differences c.run_from-region.result.hi c.run_from-region.result.lo) ≡ c.elements-count.result = sym (c.elements-count.ensures ∙ ap product c.extents.ensures) in
-    subst (λ (n : ℕ). WithinCalls (n * (c.args.retries + 1)) (g.D.Depot.shown c.args.depot.now) (g.D.Depot.shown c.read_band-read.new.depot)) whole
-    (calls g (goal.at.returns-in-Ok-read-clause-calls g c).After-row_of-row)
+    subst (IsBandRead (c.args.retries + 1) axis c.args.place.array.info.now.layout.grid c.args.place.start (g.D.Depot.shown c.args.depot.now) (g.D.Depot.shown c.read_band-read.new.depot)) whole
+    (band_read (c.args.retries + 1) axis c.args.place.array.info.now.layout.grid c.args.place.start c.run_from-region.result.lo c.run_from-region.result.hi (g.D.Depot.shown c.args.depot.now) (g.D.Depot.shown c.read_band-read.new.depot)
+    (step g here axis sizes starts) c.read_band-read.ensures.calls)
 
 pub returns-in-Err-clause-calls_end : goal.returns-in-Err-clause-calls_end
-returns-in-Err-clause-calls_end g c = calls_left g (goal.at.returns-in-Err-clause-calls_end g c).After-row_of-row
+returns-in-Err-clause-calls_end g c axis sizes starts =
+    band_end (c.args.retries + 1) axis c.args.place.array.info.now.layout.grid c.args.place.start c.run_from-region.result.lo c.run_from-region.result.hi (g.D.Depot.shown c.args.depot.now) (g.D.Depot.shown c.read_band-read.new.depot)
+    (step g (goal.at.returns-in-Err-clause-calls_end g c).After-row_of-row axis sizes starts) c.read_band-read.ensures.calls
 
 pub returns-in-Err-read-clause-calls_end : goal.returns-in-Err-read-clause-calls_end
-returns-in-Err-read-clause-calls_end g c = calls_left g (goal.at.returns-in-Err-read-clause-calls_end g c).After-row_of-row
+returns-in-Err-read-clause-calls_end g c axis sizes starts =
+    band_end (c.args.retries + 1) axis c.args.place.array.info.now.layout.grid c.args.place.start c.run_from-region.result.lo c.run_from-region.result.hi (g.D.Depot.shown c.args.depot.now) (g.D.Depot.shown c.read_band-read.new.depot)
+    (step g (goal.at.returns-in-Err-read-clause-calls_end g c).After-row_of-row axis sizes starts) c.read_band-read.ensures.calls
