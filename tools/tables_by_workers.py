@@ -4,7 +4,8 @@
 usage: tools/tables_by_workers.py PROGRAM [N..]     PROGRAM is the built cu_cases; N is 2 and 4 if it isn't given
 
 Left out of a row are the count and the order of its calls and what is tried call by call, since these are those of one worker. A row
-whose store fails by a script is left out whole, and with a step the steps that go on from it. The program compares each answer, each output and each chunk with the table's.
+whose store fails by a script, or whose run ends amid its tasks, is left out whole, and with a step the steps that go on from it. The
+program compares each answer, each output and each chunk with the table's.
 """
 import json
 import os
@@ -16,6 +17,8 @@ TOP = os.path.dirname(os.path.dirname(os.path.realpath(__file__)))
 CRATE = f"{TOP}/crates/cu_cases"
 OF_ONE = ("calls", "loops", "ends", "once", "late", "sinks", "fronts")
 SCRIPTED = ("faults", "stop_after", "fail_from")
+# How a run ends amid its tasks, of which another worker may have stored one more.
+ENDED_AMID = ("error 10 ", "error 13 ")
 
 
 def is_run(words):
@@ -24,7 +27,7 @@ def is_run(words):
 
 def by_workers(row, count):
     """The row with so many workers, or None if its store fails by a script."""
-    if any(name in row for name in SCRIPTED):
+    if any(name in row for name in SCRIPTED) or is_run(row.get("words")) and row.get("line", "").startswith(ENDED_AMID):
         return None
     told = {name: value for name, value in row.items() if name not in OF_ONE}
     if is_run(told.get("words")):
