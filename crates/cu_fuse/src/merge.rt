@@ -17,32 +17,14 @@ use std::alloc::{AllocError, Global};
 fn reads(op: &Op, a: u32) -> bool
     ensures { result ≡ stands_in (reads_of op.now) a }
 {
-    match op {
-        Op::Map { ins, .. } => stands_in(ins.as_slice(), a),
-        Op::Pull { ins, .. } => stands_in(ins.as_slice(), a),
-        Op::Copy { source, .. }
-        | Op::Fold { source, .. }
-        | Op::Merge { source, .. }
-        | Op::PairFold { source, .. } => *source == a,
-        Op::PairMerge {
-            value_source,
-            place_source,
-            ..
-        } => *value_source == a || *place_source == a,
-        Op::Mul { left, right, .. } => *left == a || *right == a,
-    }
+    stands_in(op.reads().as_slice(), a)
 }
 
 /// Whether an operation writes the array.
 fn writes(op: &Op, a: u32) -> bool
     ensures { result ≡ stands_in (writes_of op.now) a }
 {
-    match op {
-        Op::PairFold { values, out, .. } | Op::PairMerge { values, out, .. } => {
-            *values == Some(a) || *out == a
-        }
-        other => other.target() == a,
-    }
+    stands_in(op.writes().as_slice(), a)
 }
 
 /// The number of the first operation that writes the array, and how many operations there are where none does.

@@ -5,3 +5,4 @@ pub mod Meeting
 pub mod Parting
 pub mod Products
 pub mod Regions
+pub mod WholeRegions

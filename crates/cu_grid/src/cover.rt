@@ -5,7 +5,6 @@ ghost use Rattle.cu_grid.specs.Counts.{IsRegion};
 ghost use Rattle.cu_grid.specs.Cover.{covering, spans_of, span_on};
 ghost use Rattle.cu_grid.specs.Grid.{IsGrid};
 
-use crate::sizes::total;
 use cu_shape::{Dims, index_of};
 use std::marker::Model;
 
@@ -59,7 +58,7 @@ pub(crate) fn cover_of(shape: &Dims, chunk: &Dims, lo: &Dims, hi: &Dims) -> Cove
         corner: corner(chunk, lo),
         spans,
         place: 0,
-        left: total(&spans),
+        left: spans.product(),
     }
 }
 

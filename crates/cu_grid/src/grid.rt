@@ -9,7 +9,7 @@ ghost use Rattle.cu_grid.specs.Limits.{first_fault, IsWithinLimits};
 use crate::cover::{Cover, cover_of};
 use crate::fault::GridFault;
 use crate::region::{Region, region_of_chunk};
-use crate::sizes::{has_zero, is_chunk_above, total};
+use crate::sizes::is_chunk_above;
 use cu_shape::{Dims, chunk_counts, is_above};
 use std::marker::Model;
 
@@ -51,7 +51,7 @@ impl Grid {
         ensures kept { IfOk result IsGrid }
         ensures limits { IfOk result (λ g. IsWithinLimits g size) }
     {
-        if has_zero(&chunk) {
+        if chunk.has_zero() {
             return Err(GridFault::ZeroChunk);
         }
         if shape.rank() != chunk.rank() {
@@ -112,7 +112,7 @@ impl Grid {
         ensures small { result ≤ 2 ^ 56 }
         ensures kept { IsGrid self.now }
     {
-        total(&chunk_counts(&self.shape, &self.chunk))
+        chunk_counts(&self.shape, &self.chunk).product()
     }
 
     /// The indices of a chunk; at the edge it ends with the array.

@@ -35,7 +35,7 @@ pub fn info_at(infos: &[NodeInfo], node: u32) -> NodeInfo
 pub fn size_at(dims: &Dims, axis: u32) -> u64
     ensures { result ≡ slice_index dims.now axis }
 {
-    if axis < dims.rank() { dims.at(axis) } else { 0 }
+    dims.at_or(axis, 0)
 }
 
 /// The sizes with one more axis behind.
@@ -43,11 +43,7 @@ pub fn grown(dims: &Dims, size: u64) -> Dims
     requires { length dims.now < 6 }
     ensures { result ≡ dims.now ++ size ∷ [] }
 {
-    let rank = dims.rank();
-    let mut sizes = [0u64; 6];
-    for axis in 0..rank {
-        sizes[axis as usize] = dims.at(axis);
-    }
-    sizes[rank as usize] = size;
-    Dims::make(&sizes[..rank as usize + 1]).unwrap()
+    let mut more = *dims;
+    more.push(size);
+    more
 }

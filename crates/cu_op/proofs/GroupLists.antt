@@ -17,16 +17,6 @@ use Rattle.cu_op.proofs.Grouped.{begins_on}
 cons_same : (x y : ℕ) (xs ys : List ℕ) → x ≡ y → xs ≡ ys → x ∷ xs ≡ y ∷ ys
 cons_same x y xs ys e f = cc
 
--- one number on each axis
-pub same_from : (xs ns : List ℕ) (number : ℕ) → length xs ≡ length ns → ((k : ℕ) → k < length ns → get_or xs k 0 ≡ number) → xs ≡ map (λ n. number) ns
-same_from [] [] number e h = refl
-same_from [] (n ∷ ns) number e h = absurd (omega arith)
-same_from (x ∷ xs) [] number e h = absurd (omega arith)
-same_from (x ∷ xs) (n ∷ ns) number e h =
-    let first : x ≡ number = h 0 (omega arith) in
-    let rest = same_from xs ns number (omega arith) (λ k l. h (suc k) (omega arith)) in
-    cons_same x number xs (map (λ n. number) ns) first rest
-
 -- an axis more
 abbrev group_on : Bool → ℕ → Option ℕ
 group_on t s = if t then Some s else None

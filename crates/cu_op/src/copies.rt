@@ -9,7 +9,9 @@ use cu_pull::Pull;
 use std::alloc::{AllocError, Global};
 
 /// The same list.
-fn same_list<T: Copy + Default, const CAP: usize>(list: &ArrayVec<T, CAP>) -> ArrayVec<T, CAP>
+pub(crate) fn same_list<T: Copy + Default, const CAP: usize>(
+    list: &ArrayVec<T, CAP>,
+) -> ArrayVec<T, CAP>
     ensures { result ≡ list.now }
 {
     let mut same = ArrayVec::new();

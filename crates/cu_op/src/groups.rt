@@ -77,7 +77,7 @@ pub(crate) fn merge_walk(
 {
     let grid = grid_of(arrays, source);
     let result = grid_of(arrays, out);
-    let sizes = filled(grid.shape(), u64::from(group));
+    let sizes = grid.shape().filled(u64::from(group));
     Walk {
         array: source,
         region: group_region(
@@ -88,17 +88,6 @@ pub(crate) fn merge_walk(
             region,
         ),
     }
-}
-
-/// A list that has one number on each axis.
-fn filled(shape: &Dims, number: u64) -> Dims
-    ensures { result ≡ map (λ n. number) shape.now }
-{
-    let mut numbers = *shape;
-    for axis in 0..shape.rank() {
-        numbers.put(axis, number);
-    }
-    numbers
 }
 
 /// The region of a source from which a region of the result is made.
@@ -120,22 +109,11 @@ fn group_region(
 {
     let counts = group_counts(reduced, sizes, shape);
     let first = index_of(&counts, place(made, &region.lo));
-    let last = index_of(&counts, place(made, &last_of(&region.hi)));
+    let last = index_of(&counts, place(made, &region.last()));
     Region {
         lo: group_start(reduced, sizes, shape, &first),
         hi: group_end(reduced, sizes, shape, &last),
     }
-}
-
-/// The last index of a region that ends before `hi`.
-fn last_of(hi: &Dims) -> Dims
-    ensures { result ≡ map pred hi.now }
-{
-    let mut last = *hi;
-    for axis in 0..hi.rank() {
-        last.put(axis, hi.at(axis).saturating_sub(1));
-    }
-    last
 }
 
 /// How many groups each axis has.

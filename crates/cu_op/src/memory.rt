@@ -20,7 +20,10 @@ pub fn projection_of(arrays: &[ArrayInfo], reserved: u64, op: &Op) -> u64
     ensures { result ≡ projection arrays.now reserved op.now }
 {
     let code = 512 * u64::from(op.steps());
-    let scratch = greatest_read(arrays, op).max(greatest_written(arrays, op));
+    let scratch = greatest_room(arrays, op.reads().as_slice()).max(greatest_room(
+        arrays,
+        op.writes().as_slice(),
+    ));
     let inputs = input_room(arrays, op);
     let outputs = output_room(arrays, op);
     reserved + scratch + inputs + outputs + code
@@ -33,36 +36,17 @@ fn room_of(arrays: &[ArrayInfo], array: u32) -> u64
     ensures small { result ≤ 2 ^ 43 }
 {
     let layout = &arrays[array as usize].layout;
-    match layout.grid.chunk().elements() {
-        Some(elements) => elements * size(layout.dtype),
-        None => unreachable!(),
-    }
+    layout.grid.chunk().product() * size(layout.dtype)
 }
 
-/// The greatest of the chunks of the arrays that the operation reads, in bytes.
-fn greatest_read(arrays: &[ArrayInfo], op: &Op) -> u64
-    requires { All (λ a. a < length arrays.now) (reads_of op.now) }
-    ensures { result ≡ largest (map (chunk_room arrays.now) (reads_of op.now)) }
+/// The greatest of the chunks of these arrays, in bytes.
+fn greatest_room(arrays: &[ArrayInfo], numbers: &[u32]) -> u64
+    requires { All (λ a. a < length arrays.now) numbers.now }
+    ensures { result ≡ largest (map (chunk_room arrays.now) numbers.now) }
 {
     let mut room = 0;
-    for at in 0..op.read_count() {
-        if let Some(array) = op.read_at(at) {
-            room = room_of(arrays, array).max(room);
-        }
-    }
-    room
-}
-
-/// The greatest of the chunks of those that it writes.
-fn greatest_written(arrays: &[ArrayInfo], op: &Op) -> u64
-    requires { All (λ a. a < length arrays.now) (writes_of op.now) }
-    ensures { result ≡ largest (map (chunk_room arrays.now) (writes_of op.now)) }
-{
-    let mut room = 0;
-    for at in 0..2 {
-        if let Some(array) = op.written(at) {
-            room = room_of(arrays, array).max(room);
-        }
+    for number in numbers {
+        room = room_of(arrays, *number).max(room);
     }
     room
 }
@@ -114,19 +98,7 @@ fn bytes_of(arrays: &[ArrayInfo], array: u32, sizes: &Dims) -> u64
     requires small { product sizes.now * size_of (type_at arrays.now array) < 2 ^ 64 }
     ensures { result ≡ product sizes.now * size_of (type_at arrays.now array) }
 {
-    product_of(sizes) * size(arrays[array as usize].layout.dtype)
-}
-
-/// The product of these sizes.
-fn product_of(sizes: &Dims) -> u64
-    requires { product sizes.now < 2 ^ 64 }
-    ensures { result ≡ product sizes.now }
-{
-    let mut count: u64 = 1;
-    for axis in 0..sizes.rank() {
-        count = count.saturating_mul(sizes.at(axis));
-    }
-    count
+    sizes.product() * size(arrays[array as usize].layout.dtype)
 }
 
 /// The bytes of the values of a chunk of `out`, whose elements are those of `source`.

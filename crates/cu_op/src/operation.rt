@@ -1,7 +1,8 @@
-ghost use Rattle.std.specs.Prelude.{◌≡◌, slice_get, OnSome, ◌<◌, ◌≤◌, ◌∷◌, [], length};
-ghost use Rattle.cu_op.specs.Operation.{reads_of, writes_of, pair_writes, target_of};
+ghost use Rattle.std.specs.Prelude.{◌≡◌, ◌≤◌, length};
+ghost use Rattle.cu_op.specs.Operation.{reads_of, writes_of, target_of};
 ghost use Rattle.cu_op.specs.Projection.{instruction_count};
 
+use crate::copies::same_list;
 use crate::kernel::Kernel;
 use arrayvec::ArrayVec;
 use cu_num::FoldKind;
@@ -104,50 +105,42 @@ pub enum Op {
 }
 
 impl Op {
-    /// The number of arrays that it reads, an array that stands twice counted twice.
-    pub fn read_count(&self) -> u32
-        ensures count { result ≡ length (reads_of self.now) }
-        ensures few { result ≤ 8 }
+    /// The arrays that it reads, in order; one that it reads twice stands twice.
+    pub fn reads(&self) -> ArrayVec<u32, 8>
+        ensures { result.items ≡ reads_of self.now }
     {
         match self {
-            Op::Map { ins, .. } => ins.len() as u32,
-            Op::Pull { ins, .. } => ins.len() as u32,
-            Op::Copy { .. } | Op::Fold { .. } | Op::Merge { .. } | Op::PairFold { .. } => 1,
-            Op::PairMerge { .. } | Op::Mul { .. } => 2,
-        }
-    }
-
-    /// An array that it reads, by its place among them.
-    pub fn read_at(&self, at: u32) -> Option<u32>
-        ensures array { result ≡ slice_get (reads_of self.now) at }
-        ensures few { OnSome result (at < 8) }
-    {
-        match self {
-            Op::Map { ins, .. } => ins.as_slice().get(at as usize).copied(),
-            Op::Pull { ins, .. } => ins.as_slice().get(at as usize).copied(),
+            Op::Map { ins, .. } => same_list(ins),
+            Op::Pull { ins, .. } => same_list(ins),
             Op::Copy { source, .. }
             | Op::Fold { source, .. }
             | Op::Merge { source, .. }
-            | Op::PairFold { source, .. } => only(*source, at),
+            | Op::PairFold { source, .. } => list_of(&[*source]),
             Op::PairMerge {
                 value_source,
                 place_source,
                 ..
-            } => either(*value_source, *place_source, at),
-            Op::Mul { left, right, .. } => either(*left, *right, at),
+            } => list_of(&[*value_source, *place_source]),
+            Op::Mul { left, right, .. } => list_of(&[*left, *right]),
         }
     }
 
-    /// An array that it writes, by its place among them.
-    pub fn written(&self, at: u32) -> Option<u32>
-        ensures array { result ≡ slice_get (writes_of self.now) at }
-        ensures few { OnSome result (at < 2) }
+    /// The arrays that it writes, in order.
+    pub fn writes(&self) -> ArrayVec<u32, 2>
+        ensures { result.items ≡ writes_of self.now }
     {
         match self {
-            Op::PairFold { values, out, .. } | Op::PairMerge { values, out, .. } => {
-                pair_written(*values, *out, at)
+            Op::PairFold {
+                values: Some(values),
+                out,
+                ..
             }
-            other => only(other.target(), at),
+            | Op::PairMerge {
+                values: Some(values),
+                out,
+                ..
+            } => list_of(&[*values, *out]),
+            other => list_of(&[other.target()]),
         }
     }
 
@@ -179,34 +172,15 @@ impl Op {
     }
 }
 
-/// The only array of a list, by its place.
-fn only(array: u32, at: u32) -> Option<u32>
-    ensures array { result ≡ slice_get (array ∷ []) at }
-    ensures few { OnSome result (at < 1) }
+/// The list of these arrays.
+fn list_of<const CAP: usize>(arrays: &[u32]) -> ArrayVec<u32, CAP>
+    requires { length arrays.now ≤ CAP }
+    ensures { result.items ≡ arrays.now }
 {
-    if at == 0 { Some(array) } else { None }
-}
-
-/// An array of a list of two, by its place.
-fn either(first: u32, second: u32, at: u32) -> Option<u32>
-    ensures array { result ≡ slice_get (first ∷ second ∷ []) at }
-    ensures few { OnSome result (at < 2) }
-{
-    match at {
-        0 => Some(first),
-        1 => Some(second),
-        _ => None,
-    }
-}
-
-/// An array that a reduction to places writes, by its place.
-fn pair_written(values: Option<u32>, out: u32, at: u32) -> Option<u32>
-    ensures array { result ≡ slice_get (pair_writes values out) at }
-    ensures few { OnSome result (at < 2) }
-{
-    match values {
-        Some(stored) => either(stored, out, at),
-        None => only(out, at),
+    let mut list = ArrayVec::new();
+    match list.try_extend_from_slice(arrays) {
+        Ok(()) => list,
+        Err(_) => unreachable!(),
     }
 }
 

@@ -1,6 +1,6 @@
 //! The regions of the operands from which a region of a product of matrices is computed.
-ghost use Rattle.std.specs.Prelude.{◌≡◌, ◌<◌, ◌≤◌, ◌+◌, ◌∷◌, [], length, take, slice_index_or};
-ghost use Rattle.cu_reduce.specs.Products.{batch_of, outer_axes};
+ghost use Rattle.std.specs.Prelude.{◌≡◌, ◌<◌, ◌≤◌, ◌+◌, ◌∷◌, [], length, take};
+ghost use Rattle.cu_reduce.specs.Products.{batch_of};
 ghost use Rattle.cu_op.specs.Arrays.{grid_at};
 ghost use Rattle.cu_op.specs.Broadcast.{back_as};
 ghost use Rattle.cu_op.specs.Matrix.{batch_rank, product_rank, left_numbers, right_numbers, first_inner, end_inner, IsProductRegion};
@@ -59,20 +59,9 @@ fn inner_bounds(a: &Grid, b: &Grid, region: &Region) -> (u64, u64)
     let rank = product_rank(a.shape(), b.shape());
     let axis = a.shape().rank() - 1;
     let size = a.chunk().at(axis);
-    let first = number_at(&region.lo, rank, 0) * size;
-    let end = number_at(&region.hi, rank, 1) * size;
+    let first = region.lo.at_or(rank, 0) * size;
+    let end = region.hi.at_or(rank, 1) * size;
     (first, a.shape().at(axis).min(end))
-}
-
-/// The number on an axis, and another one where there is no such axis.
-fn number_at(numbers: &Dims, axis: u32, other: u64) -> u64
-    ensures { result ≡ slice_index_or numbers.now axis other }
-{
-    if axis < numbers.rank() {
-        numbers.at(axis)
-    } else {
-        other
-    }
 }
 
 /// How many axes the result has before the matrix.
@@ -87,41 +76,17 @@ fn batch_rank(a: &Dims, b: &Dims) -> u32
 fn product_rank(a: &Dims, b: &Dims) -> u32
     ensures { result ≡ product_rank a.now b.now }
 {
-    batch_rank(a, b) + outer_axes(a) + outer_axes(b)
-}
-
-/// Whether an operand has an axis besides the inner one: 1, else 0.
-fn outer_axes(shape: &Dims) -> u32
-    ensures axes { result ≡ outer_axes shape.now }
-    ensures few { result ≤ 1 }
-{
-    if shape.rank() >= 2 { 1 } else { 0 }
-}
-
-/// The first numbers of a list.
-fn leading(numbers: &Dims, count: u32) -> Dims
-    requires { count ≤ length numbers.now }
-    ensures { result ≡ take count numbers.now }
-{
-    let _short = numbers.rank();
-    let mut first = Dims::default();
-    first.push_range(numbers, 0, count);
-    first
+    batch_rank(a, b) + a.outer_axes() + b.outer_axes()
 }
 
 /// The numbers of the axes before the matrix.
 fn batch_numbers(one: u64, shape: &Dims, batch: u32, numbers: &Dims) -> Dims
     requires axes { length shape.now ≤ batch + 2 }
     requires within { batch ≤ length numbers.now }
-    requires matrix { 2 ≤ length shape.now }
     ensures numbers { result ≡ back_as one (batch_of shape.now) (take batch numbers.now) }
     ensures short { length result ≤ 4 }
 {
-    back_as(
-        one,
-        &leading(shape, shape.rank() - 2),
-        &leading(numbers, batch),
-    )
+    back_as(one, &shape.batch(), &numbers.first(batch))
 }
 
 /// A list of one number.
@@ -159,6 +124,6 @@ fn right_numbers(one: u64, a: &Dims, b: &Dims, numbers: &Dims, inner: u64) -> Di
     let batch = batch_rank(a, b);
     let mut read = batch_numbers(one, b, batch, numbers);
     read.push(inner);
-    read.push(numbers.at(batch + outer_axes(a)));
+    read.push(numbers.at(batch + a.outer_axes()));
     read
 }

@@ -34,13 +34,12 @@ pub(crate) fn output_walks(op: &Op, region: &Region) -> ArrayVec<Walk, 8>
     ensures { result.items ≡ map (λ a. walk a region.now.lo region.now.hi) (writes_of op.now) }
 {
     let mut walks = ArrayVec::new();
-    for at in 0..2 {
-        if let Some(array) = op.written(at) {
-            walks.push(Walk {
-                array,
-                region: *region,
-            });
-        }
+    let writes = op.writes();
+    for array in writes.as_slice() {
+        walks.push(Walk {
+            array: *array,
+            region: *region,
+        });
     }
     walks
 }
@@ -146,22 +145,10 @@ fn whole_walks(arrays: &[ArrayInfo], numbers: &[u32]) -> ArrayVec<Walk, 8>
     for array in numbers {
         walks.push(Walk {
             array: *array,
-            region: whole(arrays[*array as usize].layout.grid.shape()),
+            region: Region::whole(arrays[*array as usize].layout.grid.shape()),
         });
     }
     walks
-}
-
-/// The region of all indices of an array of this shape.
-fn whole(shape: &Dims) -> Region
-    ensures lo { result.lo ≡ map (λ n. 0) shape.now }
-    ensures hi { result.hi ≡ shape.now }
-{
-    let mut lo = *shape;
-    for axis in 0..shape.rank() {
-        lo.put(axis, 0);
-    }
-    Region { lo, hi: *shape }
 }
 
 /// The region of an array of this shape from which a region of a result is read through broadcasting.

@@ -38,10 +38,9 @@ pub(crate) fn cells_of(arrays: &[ArrayInfo], op: &Op) -> u64
     ensures { result ≡ cells_of arrays.now op.now }
 {
     let mut count = 0;
-    for at in 0..2 {
-        if let Some(array) = op.written(at) {
-            count += chunk_count(&arrays[array as usize]);
-        }
+    let writes = op.writes();
+    for array in writes.as_slice() {
+        count += chunk_count(&arrays[*array as usize]);
     }
     count
 }

@@ -1,7 +1,7 @@
 //! Sizes axis by axis.
 
-ghost use Rattle.std.specs.Prelude.{◌≡◌, ◌<◌, ◌≤◌, ◌^◌, All, length, min, max};
-ghost use Rattle.cu_shape.specs.Index.{axis_by_axis, product};
+ghost use Rattle.std.specs.Prelude.{◌≡◌, ◌<◌, ◌≤◌, All, length};
+ghost use Rattle.cu_shape.specs.Index.{product};
 ghost use Rattle.cu_rechunk.specs.Stages.{cut};
 
 use cu_shape::Dims;
@@ -20,41 +20,4 @@ pub(crate) fn cut(shape: &Dims, chunk: &Dims) -> Dims
         sizes.put(axis, chunk.at(axis).min(shape.at(axis).max(1)));
     }
     sizes
-}
-
-/// The smaller of two sizes on each axis.
-pub(crate) fn smaller(a: &Dims, b: &Dims) -> Dims
-    requires { length b.now ≡ length a.now }
-    ensures sizes { result ≡ axis_by_axis min a.now b.now }
-    ensures ranks { length result ≡ length a.now }
-{
-    let mut sizes = *a;
-    for axis in 0..a.rank() {
-        sizes.put(axis, a.at(axis).min(b.at(axis)));
-    }
-    sizes
-}
-
-/// The greater of two sizes on each axis.
-pub(crate) fn greater(a: &Dims, b: &Dims) -> Dims
-    requires { length b.now ≡ length a.now }
-    ensures sizes { result ≡ axis_by_axis max a.now b.now }
-    ensures ranks { length result ≡ length a.now }
-{
-    let mut sizes = *a;
-    for axis in 0..a.rank() {
-        sizes.put(axis, a.at(axis).max(b.at(axis)));
-    }
-    sizes
-}
-
-/// The number of elements of a chunk.
-pub(crate) fn elements_of(chunk: &Dims) -> u64
-    requires { product chunk.now ≤ 2 ^ 40 }
-    ensures { result ≡ product chunk.now }
-{
-    match chunk.elements() {
-        Some(count) => count,
-        None => 0,
-    }
 }

@@ -4,7 +4,6 @@ ghost use Rattle.std.specs.Prelude.{◌≡◌, ◌<◌, ◌≤◌, ◌^◌, All,
 ghost use Rattle.cu_shape.specs.Index.{product};
 ghost use Rattle.cu_rechunk.specs.Stages.{consolidated, grown, lowered_size, lowered_along};
 
-use crate::axes::elements_of;
 use cu_shape::Dims;
 
 /// A chunk made larger from the last axis on, on each axis up to the array's size and to `limit`, as far as at most `room`
@@ -20,7 +19,7 @@ pub(crate) fn consolidate(shape: &Dims, chunk: &Dims, limit: &Dims, room: u64) -
     ensures positive { All (λ c. 0 < c) result }
 {
     let mut sizes = *chunk;
-    let mut elements = elements_of(chunk);
+    let mut elements = chunk.product();
     for axis in (0..chunk.rank()).rev() {
         let size = chunk.at(axis);
         let others = elements / size;

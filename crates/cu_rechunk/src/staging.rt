@@ -4,9 +4,9 @@ ghost use Rattle.cu_shape.specs.Counts.{at_least_one};
 ghost use Rattle.cu_rechunk.specs.Stages.{cut, greater_bytes, write_sizes, read_sizes, middle_sizes, consolidated};
 ghost use Rattle.cu_rechunk.specs.Tiles.{Tiles};
 
-use crate::axes::{cut, elements_of, greater, smaller};
+use crate::axes::cut;
 use crate::consolidation::{consolidate, lower_to};
-use cu_shape::Dims;
+use cu_shape::{Dims, greater, smaller};
 
 /// The sizes by which an array is copied to another grid, first from regions of the size `read` into an array of chunks of the
 /// size `middle`, and from there in regions of the size `write`. Where `read` and `write` are equal one copy does.
@@ -85,6 +85,6 @@ fn greater_bytes(source: &Dims, target: &Dims, item: u64) -> u64
     requires word { item ≤ 8 }
     ensures { result ≡ greater_bytes source.now target.now item }
 {
-    let elements = elements_of(source).max(elements_of(target));
+    let elements = source.product().max(target.product());
     elements * item
 }

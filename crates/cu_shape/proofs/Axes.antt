@@ -1,5 +1,5 @@
 -- Functions axis by axis, read at an axis.
-use Rattle.std.proofs.Common.{◌≡◌, ℕ, zero, suc, ◌<◌, List, [], ◌∷◌, length, get_or, refl, ap, ◌∙◌, sym, arith}
+use Rattle.std.proofs.Common.{◌≡◌, ℕ, zero, suc, ◌<◌, List, [], ◌∷◌, length, map, get_or, refl, ap, ◌∙◌, sym, arith}
 use Rattle.std.proofs.lemmas.List.{ext_get_or}
 use Rattle.cu_shape.specs.Index.{axis_by_axis}
 
@@ -19,3 +19,16 @@ pub axis_by_axis_from : (f : ℕ → ℕ → ℕ) (r xs ys : List ℕ) → lengt
 axis_by_axis_from f r xs ys p q h =
     ext_get_or 0 r (axis_by_axis f xs ys) (p ∙ sym (length-axis_by_axis f xs ys q))
     (λ k b. h k (omega arith) ∙ sym (get_or-axis_by_axis f xs ys k (omega arith) (omega arith)))
+
+-- a list that has one number on each axis
+pub same_from : (xs ns : List ℕ) (number : ℕ) → length xs ≡ length ns → ((k : ℕ) → k < length ns → get_or xs k 0 ≡ number) → xs ≡ map (λ n. number) ns
+same_from [] [] number e h = refl
+same_from [] (n ∷ ns) number e h = absurd (omega arith)
+same_from (x ∷ xs) [] number e h = absurd (omega arith)
+same_from (x ∷ xs) (n ∷ ns) number e h =
+    let first : x ≡ number = h 0 (omega arith) in
+    let rest = same_from xs ns number (omega arith) (λ k l. h (suc k) (omega arith)) in
+    cons_same x number xs (map (λ n. number) ns) first rest
+  where
+    cons_same : (x y : ℕ) (xs ys : List ℕ) → x ≡ y → xs ≡ ys → x ∷ xs ≡ y ∷ ys
+    cons_same x y xs ys e f = cc

@@ -1,7 +1,7 @@
 -- Products of sizes, and chunks on one axis.
-use Rattle.std.proofs.Common.{◌≡◌, ◌<◌, ◌≤◌, ℕ, zero, suc, ◌+◌, ◌^◌, ◌*◌, ◌/◌, ◌%◌, List, [], ◌∷◌, length, max, get_or, drop, All, refl, ap, arith}
+use Rattle.std.proofs.Common.{◌≡◌, ◌⊎◌, inl, inr, ◌<◌, ◌≤◌, ℕ, zero, suc, ◌+◌, ◌-◌, ◌^◌, ◌*◌, ◌/◌, ◌%◌, List, [], ◌∷◌, length, max, min, get_or, drop, All, refl, ap, sym, ◌∙◌, arith}
 use Rattle.std.specs.Int.{div_ceil}
-use Rattle.std.proofs.Math.Nat.{div-lt_iff_lt-mul, le-mul_of_pos_right}
+use Rattle.std.proofs.Math.Nat.{div-lt_iff_lt-mul, le-mul_of_pos_right, mul_assoc}
 use Rattle.std.proofs.lemmas.Nat.{mul-le, div-add-mod'}
 use Rattle.std.proofs.lemmas.List.{drop_more}
 use Rattle.cu_shape.specs.Index.{product}
@@ -78,3 +78,23 @@ total_step xs k count h b =
     mul-le (count * get_or xs k 0) (product (at_least_one (drop (k + 1) xs))) (count * max 1 (get_or xs k 0)) (product (at_least_one (drop (k + 1) xs))) p (omega arith) in
     let t : count * get_or xs k 0 ≤ count * get_or xs k 0 * product (at_least_one (drop (k + 1) xs)) = le-mul_of_pos_right (count * get_or xs k 0) r in
     (omega arith, omega arith)
+
+-- a product that saturates: what is so far is exact, or a later factor is 0
+pub saturated_step : (count size rest whole next : ℕ) → next ≡ min (count * size) (2 ^ 64 - 1) → whole < 2 ^ 64
+    → (count * (size * rest) ≡ whole) ⊎ ((size * rest ≡ 0) × (whole ≡ 0)) → (next * rest ≡ whole) ⊎ ((rest ≡ 0) × (whole ≡ 0))
+saturated_step count size zero whole next e small (inl exact) =
+    let none : count * (size * 0) ≡ 0 = omega arith in
+    inr (refl, sym exact ∙ none)
+saturated_step count size zero whole next e small (inr none) = inr (refl, none.1)
+saturated_step count size (suc r) whole next e small (inl exact) =
+    let again : count * size * suc r ≡ count * (size * suc r) = mul_assoc count size (suc r) in
+    let most : count * size ≤ count * size * suc r = le-mul_of_pos_right (count * size) (let p : 0 < suc r = omega arith in p) in
+    let same : next ≡ count * size = omega (arith, e, most, again, exact, small) in
+    inl (ap (λ x. x * suc r) same ∙ again ∙ exact)
+saturated_step count zero (suc r) whole next e small (inr none) =
+    let same : next ≡ 0 = (let z : count * 0 ≡ 0 = omega arith in omega (arith, e, z)) in
+    inl (ap (λ x. x * suc r) same ∙ (let z : 0 * suc r ≡ 0 = omega arith in z) ∙ sym none.1)
+saturated_step count (suc s) (suc r) whole next e small (inr none) =
+    let some : suc s ≤ suc s * suc r = le-mul_of_pos_right (suc s) (let p : 0 < suc r = omega arith in p) in
+    let z = none.0 in
+    absurd (omega (arith, some, z))

@@ -1,5 +1,5 @@
-//! Sizes with an axis more, an axis less, or another size on an axis.
-ghost use Rattle.std.specs.Prelude.{◌≡◌, ◌+◌, ◌-◌, ◌<◌, ◌≤◌, ◌++◌, length, insert, remove, slice_set};
+//! Sizes with an axis more, fewer axes, or other sizes.
+ghost use Rattle.std.specs.Prelude.{◌≡◌, ◌+◌, ◌-◌, ◌<◌, ◌≤◌, ◌++◌, length, insert, map, remove, slice_set, take};
 ghost use Rattle.std.specs.List.{slice_range};
 
 use crate::dims::Dims;
@@ -50,5 +50,27 @@ impl Dims {
         let mut other = *self;
         other.put(axis, number);
         other
+    }
+
+    /// The numbers of the first axes.
+    pub fn first(&self, count: u32) -> Dims
+        requires { count ≤ length self.now }
+        ensures { result ≡ take count self.now }
+    {
+        let _short = self.rank();
+        let mut first = Dims::default();
+        first.push_range(self, 0, count);
+        first
+    }
+
+    /// The same number on each axis.
+    pub fn filled(&self, number: u64) -> Dims
+        ensures { result ≡ map (λ n. number) self.now }
+    {
+        let mut same = *self;
+        for axis in 0..self.rank() {
+            same.put(axis, number);
+        }
+        same
     }
 }

@@ -1,5 +1,5 @@
-ghost use Rattle.std.specs.Prelude.{◌≡◌, ◌<◌, ◌≤◌, ◌^◌, ◌↔◌, IsTrue, length};
-ghost use Rattle.cu_shape.specs.Index.{product, place_of, index_at, is_inside, back, differences, IsInside};
+ghost use Rattle.std.specs.Prelude.{◌≡◌, ◌<◌, ◌≤◌, ◌^◌, ◌↔◌, IsTrue, length, max, min};
+ghost use Rattle.cu_shape.specs.Index.{product, place_of, index_at, is_inside, back, differences, axis_by_axis, IsInside};
 
 use crate::dims::Dims;
 
@@ -86,4 +86,30 @@ pub fn difference(from: &Dims, to: &Dims) -> Dims
         sizes.put(axis, from.at(axis).saturating_sub(to.at(axis)));
     }
     sizes
+}
+
+/// The greater number on each axis.
+pub fn greater(a: &Dims, b: &Dims) -> Dims
+    requires { length b.now ≡ length a.now }
+    ensures numbers { result ≡ axis_by_axis max a.now b.now }
+    ensures ranks { length result ≡ length a.now }
+{
+    let mut most = *a;
+    for axis in 0..a.rank() {
+        most.put(axis, a.at(axis).max(b.at(axis)));
+    }
+    most
+}
+
+/// The smaller number on each axis.
+pub fn smaller(a: &Dims, b: &Dims) -> Dims
+    requires { length b.now ≡ length a.now }
+    ensures numbers { result ≡ axis_by_axis min a.now b.now }
+    ensures ranks { length result ≡ length a.now }
+{
+    let mut least = *a;
+    for axis in 0..a.rank() {
+        least.put(axis, a.at(axis).min(b.at(axis)));
+    }
+    least
 }

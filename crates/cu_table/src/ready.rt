@@ -1,8 +1,5 @@
 //! What keeps a task waiting.
 ghost use Rattle.std.specs.Prelude.{◌≡◌, ◌≢◌, ◌<◌, ◌≤◌, ◌+◌, ℕ, IsTrue, ◌↔◌, length, MatchOption, slice_index_or};
-ghost use Rattle.cu_op.specs.Arrays.{maker_at};
-ghost use Rattle.cu_op.specs.Operation.{reads_of};
-ghost use Rattle.cu_op.specs.Schedule.{op_of};
 ghost use Rattle.cu_op.specs.Cells.{IsChunk};
 ghost use Rattle.cu_table.specs.declared.state.TaskId.{TaskId as Id};
 ghost use Rattle.cu_table.specs.Numbers.{IsTask, task_count, task_number};
@@ -14,26 +11,15 @@ use crate::state::{TaskId, TaskState};
 use crate::tasks::Tasks;
 use cu_op::{Cell, Op, Plan, inputs, maker};
 
-/// The operation that makes the array at a place among those that an operation reads; none where it is an input.
-fn source_at(plan: &Plan, op: u32, at: u32) -> Option<u32>
-    requires operation { op < length plan.now.ops }
-    requires place { at < length (reads_of (op_of plan.now op)) }
-    ensures { result ≡ maker_at plan.now.arrays (slice_index_or (reads_of (op_of plan.now op)) at 0) }
-{
-    match plan.operation(op).op.read_at(at) {
-        None => None,
-        Some(array) => plan.array(array).maker,
-    }
-}
-
 /// An operation that makes what an operation reads and not all of whose tasks are done; none where there is none.
 fn undone_source(plan: &Plan, undone: &[usize], op: u32) -> Option<u32>
     requires operation { op < length plan.now.ops }
     requires counts { length undone.now ≡ length plan.now.ops }
     ensures { MatchOption result (AreSourcesDone plan.now undone.now op) (λ k. IsSourceOf plan.now op k × (slice_index_or undone.now k 0 ≢ 0)) }
 {
-    for at in 0..plan.operation(op).op.read_count() {
-        if let Some(source) = source_at(plan, op, at) {
+    let reads = plan.operation(op).op.reads();
+    for array in reads.as_slice() {
+        if let Some(source) = plan.array(*array).maker {
             if undone[source as usize] != 0 {
                 return Some(source);
             }

@@ -1,7 +1,7 @@
-ghost use Rattle.std.specs.Prelude.{◌≡◌, ◌+◌, ◌-◌, ◌<◌, ◌≤◌, ◌++◌, ◌∷◌, All, IfOk, length, take, drop, [], ℕ};
+ghost use Rattle.std.specs.Prelude.{◌≡◌, ◌+◌, ◌-◌, ◌<◌, ◌≤◌, ◌++◌, ◌∷◌, All, IfOk, length, drop, [], ℕ};
 ghost use Rattle.cu_node.specs.Info.{IsInfo};
 ghost use Rattle.cu_typing.specs.Joined.{arrays_of, aligned_chunk};
-ghost use Rattle.cu_typing.specs.Matmul.{leading, rows, columns, left_summed, right_summed, leading_array, leading_arrays, leading_chunk, left_aligned, right_aligned, product_shape, product_chunk, are_within, product_type, product_lead, product_limited, product_array, typed_matmul};
+ghost use Rattle.cu_typing.specs.Matmul.{rows, columns, left_summed, right_summed, leading_array, leading_arrays, leading_chunk, left_aligned, right_aligned, product_shape, product_chunk, are_within, product_type, product_lead, product_limited, product_array, typed_matmul};
 
 use crate::argument::Argument;
 use crate::joining::{chunk_aligned, chunk_joined, shape_joined};
@@ -12,18 +12,6 @@ use cu_node::{
 };
 use cu_num::Dtype;
 use cu_shape::Dims;
-
-/// The sizes before the last two.
-fn lead(sizes: &Dims) -> Dims
-    ensures sizes { result ≡ leading sizes.now }
-    ensures short { length result ≤ 4 }
-{
-    let mut front = Dims::make(&[]).unwrap();
-    for axis in 0..sizes.rank().saturating_sub(2) {
-        front = grown(&front, sizes.at(axis));
-    }
-    front
-}
 
 /// These sizes with the rows of a left operand behind.
 fn with_rows(front: &Dims, sizes: &Dims) -> Dims
@@ -71,8 +59,8 @@ fn lead_array(i: &NodeInfo) -> NodeInfo
 {
     NodeInfo {
         dtype: i.dtype,
-        dims: lead(&i.dims),
-        chunk: lead(&i.chunk),
+        dims: i.dims.batch(),
+        chunk: i.chunk.batch(),
     }
 }
 

@@ -10,7 +10,7 @@ use Rattle.cu_shape.specs.Counts.{largest}
 whole : (c : goal.After-output_room-outputs) → c.args.reserved + c.max-scratch.result + c.input_room-inputs.result + c.output_room-outputs.result + 512 * instruction_count c.args.op.now ≡ projection c.args.arrays.now c.args.reserved c.args.op.now
 whole c =
     let a : c.max-scratch.result ≡ max (largest (map (chunk_room c.args.arrays.now) (reads_of c.args.op.now))) (largest (map (chunk_room c.args.arrays.now) (writes_of c.args.op.now))) =
-    rw (c.max-scratch.ensures, c.greatest_read.ensures, c.greatest_written.ensures) refl in
+    rw (c.max-scratch.ensures, c.greatest_room.ensures, c.greatest_room-2.ensures, c.as_slice.ensures.value, c.as_slice-2.ensures.value, c.reads.ensures, c.writes.ensures) refl in
     projection_parts c.args.op.now c.args.arrays.now c.args.reserved c.max-scratch.result c.input_room-inputs.result c.output_room-outputs.result a c.input_room-inputs.ensures c.output_room-outputs.ensures
 
 pub overflow_add-result : goal.overflow_add-result

@@ -4,7 +4,7 @@ use Rattle.cu_rechunk.proofs.Walk.{IsWalk, walk_none, walk_all, walk_positive, w
 use Rattle.cu_rechunk.proofs.consolidation.consolidate.Goals as goal
 
 pub loop-axis-init : goal.loop-axis-init
-loop-axis-init c = walk_none c.args.room c.args.shape.now c.args.chunk.now c.args.limit.now _ _ c.requires.shape_rank c.requires.limit_rank (omega arith) c.elements_of-elements.ensures (omega arith)
+loop-axis-init c = walk_none c.args.room c.args.shape.now c.args.chunk.now c.args.limit.now _ _ c.requires.shape_rank c.requires.limit_rank (omega arith) c.product-elements.ensures (omega arith)
 
 pub returns-clause-sizes : goal.returns-clause-sizes
 returns-clause-sizes c = walk_all c.args.room c.args.shape.now c.args.chunk.now c.args.limit.now c.loop-axis.sizes c.loop-axis.axis c.loop-axis.elements (omega arith) c.loop-axis.invariant

@@ -1,8 +1,0 @@
-use Rattle.std.proofs.Common.{◌≡◌, take, map}
-use Rattle.cu_op.specs.Arrays.{chunk_room}
-use Rattle.cu_op.specs.Operation.{writes_of}
-use Rattle.cu_op.proofs.memory.greatest_written.Given as goal
-use Rattle.cu_shape.specs.Counts.{largest}
-
-abbrev pub invariant-loop-at : goal.invariant-loop-at
-invariant-loop-at l = l.room ≡ largest (map (chunk_room l.arrays) (take l.at (writes_of l.op)))

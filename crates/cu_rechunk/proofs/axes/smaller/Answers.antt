@@ -1,7 +1,0 @@
-use Rattle.std.proofs.Common.{sym, arith, min}
-use Rattle.cu_shape.proofs.Axes.{axis_by_axis_from}
-use Rattle.cu_rechunk.proofs.axes.smaller.Goals as goal
-
-pub returns-clause-sizes : goal.returns-clause-sizes
-returns-clause-sizes c = axis_by_axis_from (min) c.loop-axis.sizes c.args.a.now c.args.b.now c.loop-axis.invariant.ranks (sym c.requires)
-    (λ k h. c.loop-axis.invariant.done k (omega arith))
