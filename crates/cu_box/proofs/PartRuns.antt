@@ -1,8 +1,7 @@
 -- Elements in bytes into which a run of elements was copied.
-use Rattle.std.proofs.Common.{◌≡◌, ◌≢◌, ℕ, suc, ◌+◌, ◌-◌, ◌*◌, ◌<◌, ◌≤◌, List, ◌++◌, length, take, drop, sym, ap, ◌∙◌, arith, inl, inr, length-append, length-drop}
-use Rattle.std.proofs.lemmas.Bool.{cases_lt}
+use Rattle.std.proofs.Common.{◌≡◌, ℕ, suc, ◌+◌, ◌-◌, ◌*◌, ◌<◌, ◌≤◌, List, ◌++◌, length, take, drop, sym, ap, ◌∙◌, arith, length-append, length-drop}
 use Rattle.std.proofs.Math.Nat.{mul-le-mul_right}
-use Rattle.std.proofs.lemmas.List.{drop-drop, drop-take, take-take, length-take, length-take-le}
+use Rattle.std.proofs.lemmas.List.{drop-drop, drop-take, take-take, length-take}
 use Rattle.std.proofs.lemmas.Slice.{take-put_mid_below, drop-put_mid, between-put_mid}
 use borrow.Rule.Slice.PartMut.{put_mid}
 use Rattle.cu_num.specs.Element.{in_order}

@@ -5,7 +5,7 @@ use Rattle.std.proofs.Math.Nat.{mul-le-mul_right}
 use Rattle.cu_num.specs.Element.{in_order}
 use Rattle.cu_num.specs.declared.layout.Endian.{Endian}
 use Rattle.cu_shape.specs.Index.{product, place_of, index_at, sums, IsInside}
-use Rattle.cu_shape.proofs.Places.{inside-positive, place-below, index-inside, place-index, index-place}
+use Rattle.cu_shape.proofs.Places.{place-below, index-inside, place-index, index-place}
 use Rattle.cu_box.specs.Box.{IsBox, IsCopied}
 use Rattle.cu_box.specs.Order.{part_at}
 use Rattle.cu_box.specs.Rows.{spaced, FitRows, AreApart, AreRowsCopied}
@@ -13,7 +13,7 @@ use Rattle.cu_box.specs.Slices.{with_two, IsSpacedFrom}
 use Rattle.cu_box.specs.declared.boxes.Placing.{Placing}
 use Rattle.cu_box.specs.declared.rows.Rows.{Rows}
 use Rattle.cu_box.specs.declared.rows.Spacing.{Spacing}
-use Rattle.cu_box.proofs.Slices.{positive_at, same_index, row_places, row_room, long, long_slice, place_two, inside_two, inside_slice, again, slice_again, spaced_is, row_at, number_two}
+use Rattle.cu_box.proofs.Slices.{positive_at, same_index, row_places, row_room, long, inside_two, inside_slice, again, slice_again, spaced_is, row_at, number_two}
 
 -- ---- a box of one row
 

@@ -1,11 +1,11 @@
 -- The indices of a box by slices that go along an axis and the last one, and their places in an array.
-use Rattle.std.proofs.Common.{◌≡◌, ◌≢◌, inl, inr, ℕ, zero, suc, ◌<◌, ◌≤◌, ◌+◌, ◌-◌, ◌*◌, ◌^◌, List, [], ◌∷◌, length, drop, get_or, set, refl, ap, sym, ◌∙◌, subst, arith}
+use Rattle.std.proofs.Common.{◌≡◌, ◌≢◌, inl, inr, ℕ, zero, suc, ◌<◌, ◌≤◌, ◌+◌, ◌-◌, ◌*◌, List, [], ◌∷◌, length, drop, get_or, set, refl, ap, sym, ◌∙◌, subst, arith}
 use Rattle.std.proofs.Math.Nat.{le-mul_of_pos_right}
 use Rattle.std.proofs.lemmas.Nat.{mul-le}
 use Rattle.std.proofs.lemmas.Bool.Decides.{eqb_tells}
 use Rattle.std.proofs.lemmas.List.{length-set, get_or-set_same, get_or-set_other, set-set, set_comm, set-get_or}
 use Rattle.cu_shape.specs.Index.{product, place_of, index_at, sums, IsInside}
-use Rattle.cu_shape.proofs.Places.{inside-length, inside-positive, place-below, index-inside, place-index, index-place}
+use Rattle.cu_shape.proofs.Places.{inside-length, inside-positive, place-below, index-inside, index-place}
 use Rattle.cu_box.specs.Box.{IsBox}
 use Rattle.cu_box.specs.Rows.{spaced}
 use Rattle.cu_box.specs.Slices.{with_two, IsSpacedFrom}

@@ -7,4 +7,4 @@ mod rows;
 
 pub use boxes::{Placing, copy_box};
 pub use order::{reorder, swap};
-pub use rows::{Rows, Spacing, copy_rows};
+pub use rows::{Rows, Spacing, copy_rows, place_on};

@@ -97,9 +97,9 @@ fn copy_each(size: u64, order: Endian, bytes: u64, rows: &Rows, source: &[u8], t
     }
 }
 
-/// Place number `row` of a spacing, which goes up or down.
+/// Place number `row` of a spacing, which goes up or down, in elements.
 #[inline(always)]
-fn place_on(spacing: &Spacing, row: u64) -> u64
+pub fn place_on(spacing: &Spacing, row: u64) -> u64
     requires natural { row * spacing.now.first ≤ spacing.now.first + row * spacing.now.next }
     requires small { spaced spacing.now row < 2 ^ 64 }
     ensures { result ≡ spaced spacing.now row }

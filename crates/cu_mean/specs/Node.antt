@@ -7,8 +7,10 @@ use Rattle.cu_node.specs.declared.info.NodeInfo.{NodeInfo}
 use Rattle.cu_meaning.specs.Argument.{NodeElements}
 use Rattle.cu_meaning.specs.Rule.{rule_of}
 use Rattle.cu_expr.specs.Typing.{told_of, typed_form}
+use Rattle.cu_shape.specs.Index.{IsInside}
 use Rattle.cu_mean.specs.Plain.{PlainArray}
 use Rattle.cu_mean.specs.Reading.{elements_in, HaveTypesAndShapes}
+use Rattle.cu_mean.specs.declared.scope.Scope.{Scope}
 
 -- a node that is an input
 abbrev pub is_input : Form → Bool
@@ -28,3 +30,11 @@ pub record IsReadyNode (form : Form) (infos : List NodeInfo) (info : NodeInfo) (
 -- x is the node's element at the index, whatever number the node has
 abbrev pub IsElement : Form → List NodeInfo → NodeInfo → List PlainArray → List ℕ → ℤ → Type 0
 IsElement form infos info plains idx x = (env : NodeElements) (k : ℕ) → info_at infos k ≡ info → x ≡ rule_of infos env (elements_in plains) k form idx
+
+-- the node is ready, and the index is one of its array
+pub record IsReadyAt (form : Form) (scope : Scope) : Type 0 where
+  pub ready : IsReadyNode form scope.infos.now scope.info.now scope.plains.now
+  pub inside : IsInside scope.info.now.dims scope.idx.now
+
+abbrev pub IsElementAt : Form → Scope → ℤ → Type 0
+IsElementAt form scope x = IsElement form scope.infos.now scope.info.now scope.plains.now scope.idx.now x

@@ -3,8 +3,9 @@ use Rattle.std.specs.Prelude.{◌≡◌, ℕ, ℤ, pos, List, Option, Some, None
 use Rattle.cu_shape.specs.Index.{place_of, is_inside}
 use Rattle.cu_node.specs.Info.{info_at}
 use Rattle.cu_node.specs.declared.info.NodeInfo.{NodeInfo}
-use Rattle.cu_meaning.specs.Argument.{NodeElements}
+use Rattle.cu_meaning.specs.Argument.{NodeElements, source_at}
 use Rattle.cu_mean.specs.Plain.{PlainArray}
+use Rattle.cu_mean.specs.declared.reading.NamedArrays.{NamedArrays}
 
 -- the element at an index; 0 at an index outside
 abbrev pub plain_at : PlainArray → List ℕ → ℤ
@@ -18,6 +19,10 @@ element_or_zero None idx = pos 0
 -- the elements of the arrays of a list, by their numbers
 abbrev pub elements_in : List PlainArray → NodeElements
 elements_in plains n idx = element_or_zero (slice_get plains n) idx
+
+-- the element at an index of the array that an argument of a number names
+abbrev pub named_element : NamedArrays → ℕ → List ℕ → ℤ
+named_element arrays number idx = source_at (elements_in arrays.plains.now) arrays.args.now number idx
 
 -- the array has the type and the shape
 pub record HasTypeAndShape (i : NodeInfo) (p : PlainArray) : Type 0 where

@@ -2,7 +2,7 @@
 ghost use Rattle.std.specs.Prelude.{◌≡◌, ◌==◌, ◌<◌, ◌≤ℤ◌, ◌-◌, ◌^◌, pos};
 ghost use Rattle.std.specs.List.{list_any};
 ghost use Rattle.cu_meaning.specs.Index.{axis_in, is_named, natural};
-ghost use Rattle.cu_mean.specs.Axes.{axes_from};
+ghost use Rattle.cu_mean.specs.Axes.{axes_in};
 
 use cu_form::Items;
 use cu_node::axis_of;
@@ -39,20 +39,35 @@ pub(crate) fn is_named(rank: u32, axes: &Option<Items<i64>>, axis: u32) -> bool
     }
 }
 
-/// The same where the axes are all, or those of a list.
-pub(crate) fn is_named_in(rank: u32, all: bool, numbers: &[i64], axis: u32) -> bool
-    ensures { result ≡ is_named rank (axes_from all numbers.now) axis }
-{
-    all || is_among(rank, numbers, axis)
+/// Axes of an array: all of them, or those of these numbers.
+#[derive(Clone, Copy)]
+pub(crate) struct NamedAxes<'a> {
+    /// Whether they are all.
+    pub(crate) all: bool,
+    /// The numbers if they aren't.
+    pub(crate) numbers: &'a [i64],
 }
 
-/// Whether the axes are all, and the list of those that are named.
-pub(crate) fn axes_listed(axes: &Option<Items<i64>>) -> (bool, &[i64])
-    ensures { axes_from result.0 result.1.now ≡ axes.now }
+/// Whether the axis is one of these.
+pub(crate) fn is_named_in(rank: u32, axes: &NamedAxes<'_>, axis: u32) -> bool
+    ensures { result ≡ is_named rank (axes_in axes.now) axis }
+{
+    axes.all || is_among(rank, axes.numbers, axis)
+}
+
+/// The axes that are named; all where none are.
+pub(crate) fn axes_listed(axes: &Option<Items<i64>>) -> NamedAxes<'_>
+    ensures { axes_in result ≡ axes.now }
 {
     match axes {
-        Some(numbers) => (false, numbers.as_slice()),
-        None => (true, &[]),
+        Some(numbers) => NamedAxes {
+            all: false,
+            numbers: numbers.as_slice(),
+        },
+        None => NamedAxes {
+            all: true,
+            numbers: &[],
+        },
     }
 }
 

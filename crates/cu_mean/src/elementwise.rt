@@ -1,29 +1,32 @@
 //! Elementwise functions at an index of the result.
 ghost use Rattle.std.specs.Prelude.{◌≡◌, ◌∷◌, [], map, All, Ok, if◌then◌else◌};
 ghost use Rattle.cu_num.specs.Scalar.{op1, op2, is_nonzero};
-ghost use Rattle.cu_meaning.specs.Argument.{argument_at};
 ghost use Rattle.cu_meaning.specs.Rule.{function_value};
 ghost use Rattle.cu_typing.specs.Types.{pair_type, typed_elements};
 ghost use Rattle.cu_expr.specs.Typing.{argument_of};
-ghost use Rattle.cu_mean.specs.Elementwise.{GoesBack, MayBe};
-ghost use Rattle.cu_mean.specs.Reading.{elements_in, HaveTypesAndShapes};
+ghost use Rattle.cu_mean.specs.Elementwise.{argument_in, GoesBack, MayBe};
+ghost use Rattle.cu_mean.specs.Reading.{HaveTypesAndShapes};
 
-use crate::plain::Plain;
 use crate::reading::stretched;
+use crate::scope::Scope;
 use cu_form::{Arg, ElementOp};
 use cu_node::{NodeInfo, info_at};
 use cu_num::{Dtype, Fn1, Fn2, promote, scalar1, scalar2};
-use cu_shape::Dims;
 
 /// An argument's element at an index of the result.
-fn argument(infos: &[NodeInfo], plains: &[Plain], arg: Arg, idx: &Dims) -> i128
-    requires rank { GoesBack infos.now idx.now arg }
-    requires infos { HaveTypesAndShapes infos.now plains.now }
-    ensures value { result ≡ argument_at infos.now (elements_in plains.now) idx.now arg }
-    ensures range { MayBe infos.now arg result }
+fn argument(arg: Arg, scope: &Scope<'_>) -> i128
+    requires rank { GoesBack scope.now.infos.now scope.now.idx.now arg }
+    requires arrays { HaveTypesAndShapes scope.now.infos.now scope.now.plains.now }
+    ensures value { result ≡ argument_in scope.now arg }
+    ensures range { MayBe scope.now.infos.now arg result }
 {
     match arg {
-        Arg::Node(node) => stretched(plains, &info_at(infos, node).dims, node, idx),
+        Arg::Node(node) => stretched(
+            scope.plains,
+            &info_at(scope.infos, node).dims,
+            node,
+            scope.idx,
+        ),
         Arg::Int(number) => number,
         Arg::Truth(truth) => i128::from(truth),
     }
@@ -44,75 +47,58 @@ fn pair_type(infos: &[NodeInfo], x: Arg, y: Arg) -> Dtype
 }
 
 /// A function of one argument, whose result has the type `t`.
-fn one(f: Fn1, t: Dtype, x: Arg, infos: &[NodeInfo], plains: &[Plain], idx: &Dims) -> i128
-    requires typed { typed_elements (ElementOp.One f) (argument_of infos.now x ∷ []) ≡ Ok t }
-    requires rank { GoesBack infos.now idx.now x }
-    requires infos { HaveTypesAndShapes infos.now plains.now }
-    ensures { result ≡ op1 f t (argument_at infos.now (elements_in plains.now) idx.now x) }
+fn one(f: Fn1, t: Dtype, x: Arg, scope: &Scope<'_>) -> i128
+    requires typed { typed_elements (ElementOp.One f) (argument_of scope.now.infos.now x ∷ []) ≡ Ok t }
+    requires rank { GoesBack scope.now.infos.now scope.now.idx.now x }
+    requires arrays { HaveTypesAndShapes scope.now.infos.now scope.now.plains.now }
+    ensures { result ≡ op1 f t (argument_in scope.now x) }
 {
-    let value = argument(infos, plains, x, idx);
+    let value = argument(x, scope);
     match x {
-        Arg::Node(node) => scalar1(f, info_at(infos, node).dtype, value),
+        Arg::Node(node) => scalar1(f, info_at(scope.infos, node).dtype, value),
         _ => 0,
     }
 }
 
 /// A function of two arguments, whose result has the type `t`.
-fn two(f: Fn2, t: Dtype, a: Arg, b: Arg, infos: &[NodeInfo], plains: &[Plain], idx: &Dims) -> i128
-    requires typed { typed_elements (ElementOp.Two f) (argument_of infos.now a ∷ argument_of infos.now b ∷ []) ≡ Ok t }
-    requires first { GoesBack infos.now idx.now a }
-    requires second { GoesBack infos.now idx.now b }
-    requires infos { HaveTypesAndShapes infos.now plains.now }
-    ensures { result ≡ op2 f t (argument_at infos.now (elements_in plains.now) idx.now a) (argument_at infos.now (elements_in plains.now) idx.now b) }
+fn two(f: Fn2, t: Dtype, a: Arg, b: Arg, scope: &Scope<'_>) -> i128
+    requires typed { typed_elements (ElementOp.Two f) (argument_of scope.now.infos.now a ∷ argument_of scope.now.infos.now b ∷ []) ≡ Ok t }
+    requires first { GoesBack scope.now.infos.now scope.now.idx.now a }
+    requires second { GoesBack scope.now.infos.now scope.now.idx.now b }
+    requires arrays { HaveTypesAndShapes scope.now.infos.now scope.now.plains.now }
+    ensures { result ≡ op2 f t (argument_in scope.now a) (argument_in scope.now b) }
 {
-    let x = argument(infos, plains, a, idx);
-    let y = argument(infos, plains, b, idx);
-    scalar2(f, pair_type(infos, a, b), x, y)
+    let x = argument(a, scope);
+    let y = argument(b, scope);
+    scalar2(f, pair_type(scope.infos, a, b), x, y)
 }
 
 /// The second of three arguments where the first is true, else the third.
-fn selected(
-    condition: Arg,
-    a: Arg,
-    b: Arg,
-    infos: &[NodeInfo],
-    plains: &[Plain],
-    idx: &Dims,
-) -> i128
-    requires condition { GoesBack infos.now idx.now condition }
-    requires first { GoesBack infos.now idx.now a }
-    requires second { GoesBack infos.now idx.now b }
-    requires infos { HaveTypesAndShapes infos.now plains.now }
-    ensures { result ≡ if is_nonzero (argument_at infos.now (elements_in plains.now) idx.now condition) then argument_at infos.now (elements_in plains.now) idx.now a
-        else argument_at infos.now (elements_in plains.now) idx.now b }
+fn selected(condition: Arg, a: Arg, b: Arg, scope: &Scope<'_>) -> i128
+    requires condition { GoesBack scope.now.infos.now scope.now.idx.now condition }
+    requires first { GoesBack scope.now.infos.now scope.now.idx.now a }
+    requires second { GoesBack scope.now.infos.now scope.now.idx.now b }
+    requires arrays { HaveTypesAndShapes scope.now.infos.now scope.now.plains.now }
+    ensures { result ≡ if is_nonzero (argument_in scope.now condition) then argument_in scope.now a else argument_in scope.now b }
 {
-    if argument(infos, plains, condition, idx) == 0 {
-        return argument(infos, plains, b, idx);
+    if argument(condition, scope) == 0 {
+        return argument(b, scope);
     }
-    argument(infos, plains, a, idx)
+    argument(a, scope)
 }
 
 /// The element of an elementwise function at an index of the result, which has the type `t`.
-pub(crate) fn function_at(
-    op: ElementOp,
-    t: Dtype,
-    args: &[Arg],
-    infos: &[NodeInfo],
-    plains: &[Plain],
-    idx: &Dims,
-) -> i128
-    requires typed { typed_elements op (map (argument_of infos.now) args.now) ≡ Ok t }
-    requires ranks { All (GoesBack infos.now idx.now) args.now }
-    requires infos { HaveTypesAndShapes infos.now plains.now }
-    ensures { result ≡ function_value op t (map (argument_at infos.now (elements_in plains.now) idx.now) args.now) }
+pub(crate) fn function_at(op: ElementOp, t: Dtype, args: &[Arg], scope: &Scope<'_>) -> i128
+    requires typed { typed_elements op (map (argument_of scope.now.infos.now) args.now) ≡ Ok t }
+    requires ranks { All (GoesBack scope.now.infos.now scope.now.idx.now) args.now }
+    requires arrays { HaveTypesAndShapes scope.now.infos.now scope.now.plains.now }
+    ensures { result ≡ function_value op t (map (argument_in scope.now) args.now) }
 {
     match (op, args) {
-        (ElementOp::One(f), [x]) => one(f, t, *x, infos, plains, idx),
-        (ElementOp::Two(f), [x, y]) => two(f, t, *x, *y, infos, plains, idx),
-        (ElementOp::Where, [condition, x, y]) => {
-            selected(*condition, *x, *y, infos, plains, idx)
-        }
-        (ElementOp::Astype(d), [x]) => scalar1(Fn1::Astype, d, argument(infos, plains, *x, idx)),
+        (ElementOp::One(f), [x]) => one(f, t, *x, scope),
+        (ElementOp::Two(f), [x, y]) => two(f, t, *x, *y, scope),
+        (ElementOp::Where, [condition, x, y]) => { selected(*condition, *x, *y, scope) }
+        (ElementOp::Astype(d), [x]) => scalar1(Fn1::Astype, d, argument(*x, scope)),
         _ => 0,
     }
 }

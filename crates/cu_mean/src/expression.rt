@@ -1,17 +1,18 @@
 //! All nodes of an expression, element by element.
 ghost use Rattle.std.specs.Prelude.{◌≡◌, ◌≤◌, ◌<◌, ◌^◌, ◌+◌, List, true, false, All, length, IfOk, OnOk};
-ghost use Rattle.cu_shape.specs.Index.{product};
+ghost use Rattle.cu_shape.specs.Index.{product, index_at};
 ghost use Rattle.cu_form.specs.Expression.{IsExpression};
 ghost use Rattle.cu_node.specs.Info.{IsInfo};
 ghost use Rattle.cu_meaning.specs.Argument.{NodeElements};
 ghost use Rattle.cu_mean.specs.Going.{HasCells, KeepType, IsEvaluated, AddsComputed, MovesInput, IsGoing, HoldFirst, input_elements};
-ghost use Rattle.cu_mean.specs.Node.{IsReadyNode};
+ghost use Rattle.cu_mean.specs.Node.{IsReadyAt, IsReadyNode};
 ghost use Rattle.cu_mean.specs.Plain.{PlainArray};
 ghost use Rattle.cu_mean.specs.Whole.{AreTypes, AreInputNodes, HoldInputs, HoldMeaning};
 
 use crate::digits::index_at;
 use crate::element::{element_at, is_input};
 use crate::plain::{Plain, Plains};
+use crate::scope::Scope;
 use cu_expr::Types;
 use cu_form::{Expr, Form};
 use cu_node::NodeInfo;
@@ -27,22 +28,19 @@ fn count_of(info: &NodeInfo) -> u64
     info.dims.elements().unwrap()
 }
 
-/// Appends the element of a node at a place.
+/// Appends the element of a node at a place, whose index the scope has.
 fn push_element(
     cells: &mut Vec<i128>,
     form: &Form,
-    infos: &[NodeInfo],
-    info: &NodeInfo,
-    plains: &[Plain],
+    scope: &Scope<'_>,
     place: u64,
 ) -> Result<(), AllocError>
-    requires ready { IsReadyNode form.now infos.now info.now plains.now }
-    requires place { place < product info.now.dims }
-    requires done { HasCells form.now infos.now info.now plains.now place cells.old.items }
-    ensures { OnOk result (HasCells form.now infos.now info.now plains.now (place + 1) cells.new.items) }
+    requires ready { IsReadyAt form.now scope.now }
+    requires index { scope.now.idx.now ≡ index_at scope.now.info.now.dims place }
+    requires done { HasCells form.now scope.now.infos.now scope.now.info.now scope.now.plains.now place cells.old.items }
+    ensures { OnOk result (HasCells form.now scope.now.infos.now scope.now.info.now scope.now.plains.now (place + 1) cells.new.items) }
 {
-    let idx = index_at(&info.dims, place);
-    let element = element_at(form, infos, info, plains, &idx);
+    let element = element_at(form, scope);
     cells.push(element)?;
     Ok(())
 }
@@ -61,7 +59,14 @@ fn cells_of(
     let count = count_of(info);
     let mut cells = Vec::with_capacity(alloc, count as usize)?;
     for place in 0..count {
-        push_element(&mut cells, form, infos, info, plains, place)?;
+        let idx = index_at(&info.dims, place);
+        let scope = Scope {
+            infos,
+            info,
+            plains,
+            idx: &idx,
+        };
+        push_element(&mut cells, form, &scope, place)?;
     }
     Ok(cells)
 }
@@ -111,7 +116,6 @@ fn push_input(rest: &mut Vec<Plain>, plains: &mut Vec<Plain>) -> Result<(), Allo
 
 /// Appends the array of the next node: that of an input is the first of those that are left.
 fn push_node(
-    alloc: Global,
     expr: &Expr,
     number: usize,
     infos: &[NodeInfo],
@@ -127,6 +131,7 @@ fn push_node(
     if is_input(form) {
         return push_input(rest, plains);
     }
+    let alloc = *plains.allocator();
     push_computed(alloc, form, infos, &infos[number], plains)
 }
 
@@ -160,7 +165,7 @@ fn arrays(
     let mut rest = inputs.into_list();
     let mut plains = Vec::with_capacity(alloc, count)?;
     for number in 0..count {
-        push_node(alloc, expr, number, &infos, &mut rest, &mut plains)?;
+        push_node(expr, number, &infos, &mut rest, &mut plains)?;
     }
     Ok(plains)
 }

@@ -106,19 +106,20 @@ fn take_place(x: i64, shape: &Dims, idx: &Dims, front: &mut Front) -> Taken
     Taken::Next
 }
 
-/// Takes a slice.
-fn take_slice(
+/// The bounds of a slice, as they are written.
+#[derive(Clone, Copy)]
+struct SliceBounds {
     start: Option<i64>,
     stop: Option<i64>,
     step: Option<i64>,
-    shape: &Dims,
-    idx: &Dims,
-    front: &mut Front,
-) -> Taken
-    requires step { unwrap_or step (pos 1) ≢ pos 0 }
+}
+
+/// Takes a slice.
+fn take_slice(bounds: SliceBounds, shape: &Dims, idx: &Dims, front: &mut Front) -> Taken
+    requires step { unwrap_or bounds.step (pos 1) ≢ pos 0 }
     requires front { IsFront shape.now idx.now front.old }
     ensures front { IsFront shape.now idx.now front.new }
-    ensures taken { (spare : ℕ) → TakesEntry (read_from spare shape.now idx.now) idx.now (IndexItem.Slice start stop step) front.old front.new result }
+    ensures taken { (spare : ℕ) → TakesEntry (read_from spare shape.now idx.now) idx.now (IndexItem.Slice bounds.start bounds.stop bounds.step) front.old front.new result }
 {
     if front.axis == shape.rank() {
         return Taken::Rest;
@@ -126,10 +127,14 @@ fn take_slice(
     if front.at == idx.rank() {
         return Taken::Rest;
     }
-    if !push_number(
-        &mut front.read,
-        slice_at(start, stop, step, shape.at(front.axis), idx.at(front.at)),
-    ) {
+    let number = slice_at(
+        bounds.start,
+        bounds.stop,
+        bounds.step,
+        shape.at(front.axis),
+        idx.at(front.at),
+    );
+    if !push_number(&mut front.read, number) {
         return Taken::Outside;
     }
     front.axis += 1;
@@ -180,7 +185,10 @@ fn take_item(item: &IndexItem, spare: u32, shape: &Dims, idx: &Dims, front: &mut
 {
     match *item {
         IndexItem::At(x) => take_place(x, shape, idx, front),
-        IndexItem::Slice { start, stop, step } => take_slice(start, stop, step, shape, idx, front),
+        IndexItem::Slice { start, stop, step } => {
+            let bounds = SliceBounds { start, stop, step };
+            take_slice(bounds, shape, idx, front)
+        }
         IndexItem::New => take_new(shape, idx, front),
         IndexItem::Ellipsis => take_spare(spare, shape, idx, front),
     }

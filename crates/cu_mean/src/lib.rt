@@ -17,6 +17,7 @@ mod plain;
 mod products;
 mod reading;
 mod reductions;
+mod scope;
 mod views;
 
 pub use expression::whole;

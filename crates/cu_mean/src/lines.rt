@@ -1,10 +1,10 @@
 //! Elements over which is reduced that lie evenly apart in an array, as along one axis or over axes that are next to one another.
 ghost use Rattle.std.specs.Prelude.{◌≡◌, ◌≤◌, ◌+◌, ◌*◌, ℕ, ℤ, List, ◌∷◌, IfSome, Some, length, slice_get};
-ghost use Rattle.cu_meaning.specs.Argument.{source_at};
 ghost use Rattle.cu_mean.specs.Evenly.{AreEven, IsSpan, LieEvenly};
-ghost use Rattle.cu_mean.specs.Reading.{elements_in, plain_at};
+ghost use Rattle.cu_mean.specs.Reading.{named_element, plain_at};
 
 use crate::plain::Plain;
+use crate::reading::NamedArrays;
 use cu_form::Arg;
 use cu_shape::Dims;
 
@@ -102,23 +102,22 @@ fn line_in<'a>(plain: &'a Plain, start: &Dims, sizes: &Dims) -> Option<EvenLine<
 
 /// The elements of a box of the array that the first argument names; none where they don't lie evenly apart.
 pub(crate) fn line_of<'a>(
-    plains: &'a [Plain],
-    args: &[Arg],
+    arrays: &NamedArrays<'a>,
     start: &Dims,
     sizes: &Dims,
 ) -> Option<EvenLine<'a>>
     requires { length sizes.now ≡ length start.now }
-    ensures { IfSome result (λ l. LieEvenly (source_at (elements_in plains.now) args.now 0) start.now sizes.now l.cells.now l.first l.stride) }
+    ensures { IfSome result (λ l. LieEvenly (named_element arrays.now 0) start.now sizes.now l.cells.now l.first l.stride) }
 {
-    if args.len() == 0 {
+    if arrays.args.len() == 0 {
         return None;
     }
-    match args[0] {
+    match arrays.args[0] {
         Arg::Node(node) => {
-            if node as usize >= plains.len() {
+            if node as usize >= arrays.plains.len() {
                 return None;
             }
-            line_in(&plains[node as usize], start, sizes)
+            line_in(&arrays.plains[node as usize], start, sizes)
         }
         Arg::Int(_) | Arg::Truth(_) => None,
     }

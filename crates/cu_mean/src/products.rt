@@ -3,15 +3,12 @@ ghost use Rattle.std.specs.Prelude.{◌≡◌, ◌<◌, ◌≤◌, ℕ, List, �
 ghost use Rattle.cu_num.specs.Dtype.{IsInteger};
 ghost use Rattle.cu_num.specs.Wrap.{wrapped};
 ghost use Rattle.cu_shape.specs.Index.{back};
-ghost use Rattle.cu_meaning.specs.Argument.{source_at};
 ghost use Rattle.cu_meaning.specs.Matmul.{matmul_at};
 ghost use Rattle.cu_reduce.specs.Products.{batch_of, outer_axes, batch_axes, left_index, right_index};
-ghost use Rattle.cu_mean.specs.Reading.{elements_in};
+ghost use Rattle.cu_mean.specs.Reading.{named_element};
 
-use crate::plain::Plain;
-use crate::reading::source;
+use crate::reading::{NamedArrays, source};
 use crate::reductions::sum_with;
-use cu_form::Arg;
 use cu_node::size_at;
 use cu_num::{Dtype, Fn2, scalar2, wrap};
 use cu_shape::{Dims, back};
@@ -127,45 +124,31 @@ fn right_on(right: &Dims, inner: u64) -> Dims
 }
 
 /// The product of the operands' elements at an inner place, wrapped; `left` and `right` are their indices at the inner place 0.
-fn product_at(
-    t: Dtype,
-    plains: &[Plain],
-    args: &[Arg],
-    left: &Dims,
-    right: &Dims,
-    inner: u64,
-) -> i128
+fn product_at(t: Dtype, arrays: &NamedArrays<'_>, left: &Dims, right: &Dims, inner: u64) -> i128
     requires left { 0 < length left.now }
     requires right { 0 < length right.now }
     ensures { (a b idx : List ℕ) → left.now ≡ left_index a b idx 0 → right.now ≡ right_index a b idx 0
-        → result ≡ wrapped t (source_at (elements_in plains.now) args.now 0 (left_index a b idx inner)
-        *ℤ source_at (elements_in plains.now) args.now 1 (right_index a b idx inner)) }
+        → result ≡ wrapped t (named_element arrays.now 0 (left_index a b idx inner)
+        *ℤ named_element arrays.now 1 (right_index a b idx inner)) }
 {
-    let x = source(plains, args, 0, &left_on(left, inner));
-    let y = source(plains, args, 1, &right_on(right, inner));
+    let x = source(arrays.plains, arrays.args, 0, &left_on(left, inner));
+    let y = source(arrays.plains, arrays.args, 1, &right_on(right, inner));
     product_of(t, x, y)
 }
 
 /// The sum of the products over the inner axis of operands with the shapes `a` and `b`, wrapped to the type.
-pub(crate) fn matmul_at(
-    t: Dtype,
-    plains: &[Plain],
-    args: &[Arg],
-    a: &Dims,
-    b: &Dims,
-    idx: &Dims,
-) -> i128
+pub(crate) fn matmul_at(t: Dtype, arrays: &NamedArrays<'_>, a: &Dims, b: &Dims, idx: &Dims) -> i128
     requires integer { IsInteger t }
     requires left { length (batch_of a.now) ≤ batch_axes a.now b.now idx.now }
     requires right { length (batch_of b.now) ≤ batch_axes a.now b.now idx.now }
-    ensures { result ≡ wrapped t (matmul_at (source_at (elements_in plains.now) args.now 0) a.now (source_at (elements_in plains.now) args.now 1) b.now idx.now) }
+    ensures { result ≡ wrapped t (matmul_at (named_element arrays.now 0) a.now (named_element arrays.now 1) b.now idx.now) }
 {
     let count = size_at(a, a.rank().saturating_sub(1));
     let left = left_index(a, b, idx, 0);
     let right = right_index(a, b, idx, 0);
     let mut total = 0;
     for inner in (0..count).rev() {
-        let product = product_at(t, plains, args, &left, &right, inner);
+        let product = product_at(t, arrays, &left, &right, inner);
         total = sum_with(t, product, total);
     }
     wrap(t, total)

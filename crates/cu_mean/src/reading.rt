@@ -12,6 +12,13 @@ use cu_form::Arg;
 use cu_node::{NodeInfo, info_at};
 use cu_shape::{Dims, back, is_inside, place};
 
+/// Arrays by their numbers, and the arguments of a node, which name some of them.
+#[derive(Clone, Copy)]
+pub(crate) struct NamedArrays<'a> {
+    pub(crate) plains: &'a [Plain],
+    pub(crate) args: &'a [Arg],
+}
+
 /// The element of an array at an index; 0 at an index outside.
 pub(crate) fn plain_at(plain: &Plain, idx: &Dims) -> i128
     ensures value { result ≡ plain_at plain.now idx.now }

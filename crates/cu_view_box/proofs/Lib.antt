@@ -9,5 +9,5 @@ pub mod Rows
 pub mod Runs
 pub mod SharedBoxes
 pub mod Slices
-pub mod Spans
+pub mod Intervals
 pub mod Stretches

@@ -1,10 +1,6 @@
--- Elements that are written at the places of a line, one after another.
-use Rattle.std.proofs.Common.{◌≡◌, ◌≢◌, ℕ, suc, ◌+◌, ◌-◌, ◌*◌, ◌<◌, ◌≤◌, List, ◌++◌, length, take, drop, refl, sym, ap, ◌∙◌, arith, inl, inr, length-append, length-drop, append_assoc, below_more, ℤ}
-use Rattle.std.proofs.lemmas.Bool.{cases_lt}
-use Rattle.std.proofs.Math.Nat.{mul-le-mul_right}
-use Rattle.std.proofs.lemmas.List.{drop-drop, drop-take, take-take, length-take-le, length-take}
-use Rattle.std.proofs.lemmas.Slice.{take-put_mid_below, drop-put_mid, between-put_mid}
-use borrow.Rule.Slice.PartMut.{put_mid}
+-- Elements that are written at the places of a line, one after another, and lines that are copied as rows.
+use Rattle.std.proofs.Common.{◌≡◌, ◌≢◌, ℕ, ◌+◌, ◌-◌, ◌*◌, ◌<◌, ◌≤◌, ◌⊎◌, List, ◌++◌, length, take, drop, refl, sym, ap, ◌∙◌, subst, arith, inl, inr, length-append, length-drop, below_more, ℤ}
+use Rattle.std.proofs.lemmas.List.{length-take}
 use Rattle.cu_num.specs.Dtype.{size_of}
 use Rattle.cu_num.specs.Element.{bytes_at, element_at, element_bytes, low_bytes}
 use Rattle.cu_num.specs.Wrap.{wrapped, residue}
@@ -12,8 +8,12 @@ use Rattle.cu_num.specs.declared.types.Dtype.{Dtype}
 use Rattle.cu_num.specs.declared.layout.Endian.TheVariants.{Little}
 use Rattle.cu_num.proofs.ElementBytes.{written_at, bytes_at-written_at_same, bytes_at-written_at_other, length-element_bytes, element_at_own, element_at-element_bytes}
 use Rattle.cu_num.proofs.Wrapped.{wrapped-wrapped}
+use Rattle.cu_box.specs.Order.{part_at}
+use Rattle.cu_box.specs.Rows.{spaced, FitRows, AreApart, AreRowsCopied}
+use Rattle.cu_box.specs.declared.rows.Rows.{Rows}
+use Rattle.cu_box.specs.declared.rows.Spacing.{Spacing}
 use Rattle.cu_view_box.specs.Block.{AreSpelled}
-use Rattle.cu_view_box.specs.Line.{on_line, FitsLine, IsOneEach, AreCopied, AreConverted, AreOthersKept}
+use Rattle.cu_view_box.specs.Line.{on_line, IsDense, AreRowsOfLines, FitsLine, IsOneEach, AreCopied, AreConverted, AreOthersKept}
 use Rattle.cu_view_box.specs.declared.lines.Line.{Line}
 
 pub length_written : (at count : ℕ) (bytes own : List ℕ) → length own ≡ count → at + count ≤ length bytes → length (take at bytes ++ own ++ drop (at + count) bytes) ≡ length bytes
@@ -53,19 +53,6 @@ spelled_own t bytes p spelled fits =
     e ∙ ap (λ y. low_bytes (size_of t) (residue (8 * size_of t) y)) (sym (wrapped-wrapped t x) ∙ ap (wrapped t) (sym number))
 
 -- ---- one element more
-pub lined_copied : (source target : Line) (size count done from at : ℕ) (bytes old now new : List ℕ)
-    → size ≡ size_of target.dtype → source.dtype ≡ target.dtype → FitsLine source count bytes → FitsLine target count old → IsOneEach target count → done < count
-    → from ≡ on_line source done → at ≡ on_line target done
-    → new ≡ take (at * size) now ++ take size (drop (from * size) bytes) ++ drop (at * size + size) now
-    → IsLined target (λ j. bytes_at target.dtype bytes (on_line source j)) done old now
-    → IsLined target (λ j. bytes_at target.dtype bytes (on_line source j)) (done + 1) old new
-lined_copied source target size count done from at bytes old now new es same here there one below ef ea wrote was =
-    let h = (here done below).1 in
-    let fits : on_line source done * size_of target.dtype + size_of target.dtype ≤ length bytes = rw (← same) h in
-    lined_more target (λ j. bytes_at target.dtype bytes (on_line source j)) done count old now new (bytes_at target.dtype bytes (on_line source done)) one below (there done below).1
-    (length-take-le (size_of target.dtype) (drop (on_line source done * size_of target.dtype) bytes) (rw (length-drop (on_line source done * size_of target.dtype) bytes) (omega arith)))
-    refl (wrote ∙ rw (es, ef, ea) refl) was
-
 pub lined_converted : (source target : Line) (count done at : ℕ) (number : ℤ) (bytes old now new : List ℕ)
     → FitsLine target count old → IsOneEach target count → done < count
     → at ≡ on_line target done → number ≡ element_at Little source.dtype bytes (on_line source done)
@@ -83,87 +70,105 @@ pub copied_converted : (source target : Line) (count : ℕ) (bytes new : List �
 copied_converted source target count bytes new same spelled fits copied j b =
     copied j b ∙ (rw (← same) (spelled_own source.dtype bytes (on_line source j) spelled (fits j b).1))
 
--- ---- a run
-dense : (line : Line) (j : ℕ) → line.next ≡ line.first + 1 → on_line line j ≡ line.first + j
-dense line j e = rw e (omega arith)
+-- ---- two lines as rows
+dense : (places : Spacing) (j : ℕ) → IsDense places → spaced places 0 + j ≡ spaced places j
+dense places j e = rw e (omega arith)
 
--- an element of a run is an element of what the run was taken from
-of_run : (size first count j : ℕ) (bytes : List ℕ) → j < count → take size (drop (j * size) (take (count * size) (drop (first * size) bytes))) ≡ take size (drop ((first + j) * size) bytes)
-of_run size first count j bytes below =
-    let rest = (count - suc j) * size in
-    let split : count * size ≡ j * size + (size + rest) = (let e : count ≡ suc j + (count - suc j) = omega arith in ap (λ n. n * size) e ∙ omega arith) in
-    let seam : first * size + j * size ≡ (first + j) * size = omega arith in
-    ap (λ n. take size (drop (j * size) (take n (drop (first * size) bytes)))) split
-    ∙ ap (take size) (drop-take (j * size) (size + rest) (drop (first * size) bytes))
-    ∙ take-take size (size + rest) (drop (j * size) (drop (first * size) bytes)) (omega arith)
-    ∙ ap (take size) (drop-drop (j * size) (first * size) bytes)
-    ∙ ap (λ n. take size (drop n bytes)) seam
+-- the rows that are read, or that are written, lie in the buffer
+pub rows_fit : (line : Line) (size count : ℕ) (rows : Rows) (places : Spacing) (bytes : List ℕ) → 0 < count → size ≡ size_of line.dtype → places ≡ line.places
+    → ((rows.run ≡ 1) × (rows.count ≡ count)) ⊎ (IsDense line.places × (rows.run ≡ count) × (rows.count ≡ 1)) → FitsLine line count bytes → FitRows size rows places bytes
+rows_fit line size count rows places bytes some es own are fits r b = subst Room (sym own) (elim are [
+  | inl p ↦
+      let n = p.1 in
+      let h = fits r (omega (arith, b, n)) in
+      let room : spaced line.places r * size + size ≤ length bytes = rw es h.1 in
+      let one : rows.run * size ≡ size = ap (λ n. n * size) p.0 ∙ omega arith in
+      (h.0, omega (arith, room, one))
+  | inr p ↦
+      let n = p.2 in
+      let none : r ≡ 0 = omega (arith, b, n) in
+      let last : spaced line.places (count - 1) ≡ spaced line.places 0 + (count - 1) = sym (dense line.places (count - 1) p.0) in
+      let h : spaced line.places (count - 1) * size + size ≤ length bytes = rw es (fits (count - 1) (omega arith)).1 in
+      let room : (spaced line.places 0 + (count - 1)) * size + size ≤ length bytes = rw last at h in
+      let whole : (count - 1) + 1 ≡ rows.run = (let m = p.1 in omega arith) in
+      let scaled : ((count - 1) + 1) * size ≡ rows.run * size = ap (λ n. n * size) whole in
+      let all : (count - 1) * size + size ≡ rows.run * size = omega (arith, scaled) in
+      subst (λ (k : ℕ). (k * line.places.first ≤ line.places.first + k * line.places.next) × (spaced line.places k * size + rows.run * size ≤ length bytes)) (sym none)
+      (omega arith, omega (arith, room, all))
+])
+  where
+    Room : Spacing → Type 0
+    Room p = (r * p.first ≤ p.first + r * p.next) × (spaced p r * size + rows.run * size ≤ length bytes)
 
--- `bytes` with a run of `count` elements written from element `at` on
-abbrev with_run : ℕ → ℕ → ℕ → List ℕ → List ℕ → List ℕ
-with_run size at count bytes run = put_mid (at * size) (count * size) bytes run
+-- element number j of two lines is number i of row r
+record IsOfRow (source target : Spacing) (rows : Rows) (r i j : ℕ) : Type 0 where
+  pub row : r < rows.count
+  pub within : i < rows.run
+  pub from : spaced rows.from r + i ≡ spaced source j
+  pub to : spaced rows.to r + i ≡ spaced target j
 
-run_is : (size at count : ℕ) (bytes run : List ℕ) → take (at * size) bytes ++ run ++ drop (at * size + count * size) bytes ≡ with_run size at count bytes run
-run_is size at count bytes run =
-    append_assoc (take (at * size) bytes) run (drop (at * size + count * size) bytes)
-    ∙ ap (λ rest. take (at * size) bytes ++ (run ++ rest)) (sym (drop-drop (count * size) (at * size) bytes))
+module _ (source target : Line) (size count : ℕ) (rows : Rows) (es : size ≡ size_of target.dtype)
+    (from : rows.from ≡ source.places) (to : rows.to ≡ target.places) (are : AreRowsOfLines source.places target.places count rows.run rows.count) where
+  row_of : (j : ℕ) → j < count → (r : ℕ) × (i : ℕ) × IsOfRow source.places target.places rows r i j
+  row_of j b = elim are [
+    | inl p ↦
+        let m = p.0 in
+        let n = p.1 in (
+          j,
+          0,
+          record {
+            row = omega arith;
+            within = omega arith;
+            from = ap (λ (s : Spacing). spaced s j + 0) from ∙ omega arith;
+            to = ap (λ (s : Spacing). spaced s j + 0) to ∙ omega arith;
+          },
+        )
+    | inr p ↦
+        let m = p.2 in
+        let n = p.3 in (
+          0,
+          j,
+          record {
+            row = omega arith;
+            within = omega arith;
+            from = ap (λ (s : Spacing). spaced s 0 + j) from ∙ dense source.places j p.0;
+            to = ap (λ (s : Spacing). spaced s 0 + j) to ∙ dense target.places j p.1;
+          },
+        )
+  ]
 
-in_run : (size at count j : ℕ) (bytes run : List ℕ) → j < count → length run ≡ count * size → at * size + count * size ≤ length bytes
-    → take size (drop ((at + j) * size) (with_run size at count bytes run)) ≡ take size (drop (j * size) run)
-in_run size at count j bytes run below long fits =
-    let all = with_run size at count bytes run in
-    let back : take (at * size + count * size - at * size) (drop (at * size) all) ≡ run =
-    between-put_mid (at * size) (count * size) bytes run (at * size + count * size) (omega arith) (omega arith) in
-    let width : at * size + count * size - at * size ≡ count * size = omega arith in
-    let same : take (count * size) (drop (at * size) all) ≡ run = ap (λ n. take n (drop (at * size) all)) (sym width) ∙ back in
-    sym (of_run size at count j all below) ∙ ap (λ own. take size (drop (j * size) own)) same
+  element_of : (r i : ℕ) → r < rows.count → i < rows.run → (j : ℕ) × (j < count) × (spaced rows.to r + i ≡ spaced target.places j)
+  element_of r i br bi = elim are [
+    | inl p ↦
+        let m = p.0 in
+        let n = p.1 in
+        let none : i ≡ 0 = omega arith in
+        (r, omega arith, ap (λ (s : Spacing). spaced s r + i) to ∙ rw none (omega arith))
+    | inr p ↦
+        let m = p.2 in
+        let n = p.3 in
+        let none : r ≡ 0 = omega arith in
+        (i, omega arith, ap (λ (s : Spacing). spaced s r + i) to ∙ rw none (dense target.places i p.1))
+  ]
 
-before_run : (size at count q : ℕ) (bytes run : List ℕ) → q < at → at * size + count * size ≤ length bytes
-    → take size (drop (q * size) (with_run size at count bytes run)) ≡ take size (drop (q * size) bytes)
-before_run size at count q bytes run less fits =
-    let far : suc q * size ≤ at * size = mul-le-mul_right size less in
-    sym (drop-take (q * size) size (with_run size at count bytes run))
-    ∙ ap (drop (q * size)) (take-put_mid_below (at * size) (count * size) bytes run (q * size + size) (omega arith) (omega arith))
-    ∙ drop-take (q * size) size bytes
+  pub rows_apart : IsOneEach target count → AreApart rows
+  rows_apart one r s j i br bs bj bi e = elim are [
+    | inl p ↦
+        let m = p.0 in
+        let n = p.1 in
+        let nj : j ≡ 0 = omega arith in
+        let ni : i ≡ 0 = omega arith in
+        let y : spaced rows.to r + 0 ≡ spaced rows.to s + 0 = rw (nj, ni) at e in
+        let x : spaced rows.to r ≡ spaced rows.to s = omega (arith, y) in
+        one r s (omega arith) (omega arith) (ap (λ (s : Spacing). spaced s r) (sym to) ∙ x ∙ ap (λ (p : Spacing). spaced p s) to)
+    | inr p ↦ let n = p.3 in omega arith
+  ]
 
-after_run : (size at count q : ℕ) (bytes run : List ℕ) → at + count ≤ q → length run ≡ count * size → at * size + count * size ≤ length bytes
-    → take size (drop (q * size) (with_run size at count bytes run)) ≡ take size (drop (q * size) bytes)
-after_run size at count q bytes run more long fits =
-    let far : (at + count) * size ≤ q * size = mul-le-mul_right size more in
-    ap (take size) (drop-put_mid (at * size) (count * size) bytes run (q * size) (omega arith) (omega arith) long)
+  pub rows_copied : (bytes old new : List ℕ) → AreRowsCopied size Little rows bytes old new → AreCopied source bytes target new count
+  rows_copied bytes old new c j b =
+      let (r, i, at) = row_of j b in
+      rw (← es) (ap (part_at size new) (sym at.to) ∙ c.copied r i at.row at.within ∙ ap (part_at size bytes) at.from)
 
-pub run_fits : (line : Line) (count size : ℕ) (bytes : List ℕ) → 0 < count → line.next ≡ line.first + 1 → size ≡ size_of line.dtype → FitsLine line count bytes
-    → line.first * size + count * size ≤ length bytes
-run_fits line count size bytes some e es fits =
-    let h = (fits (count - 1) (omega arith)).1 in
-    let p : (line.first + (count - 1)) * size_of line.dtype + size_of line.dtype ≤ length bytes = rw (dense line (count - 1) e) at h in
-    let n : count ≡ suc (count - 1) = omega arith in
-    rw es (let m : line.first * size_of line.dtype + suc (count - 1) * size_of line.dtype ≤ length bytes = omega arith in rw (← n) at m)
-
-pub run_lined : (source target : Line) (size count : ℕ) (bytes old new : List ℕ) → 0 < count → size ≡ size_of target.dtype → source.dtype ≡ target.dtype
-    → source.next ≡ source.first + 1 → target.next ≡ target.first + 1 → FitsLine source count bytes → FitsLine target count old
-    → new ≡ take (target.first * size) old ++ take (count * size) (drop (source.first * size) bytes) ++ drop (target.first * size + count * size) old
-    → IsLined target (λ j. bytes_at target.dtype bytes (on_line source j)) count old new
-run_lined source target size count bytes old new some es same ds dt here there wrote =
-    let run = take (count * size) (drop (source.first * size) bytes) in
-    let fits = run_fits source count size bytes some ds (es ∙ ap size_of (sym same)) here in
-    let room = run_fits target count size old some dt es there in
-    let long : length (take (count * size) (drop (source.first * size) bytes)) ≡ count * size =
-    length-take-le (count * size) (drop (source.first * size) bytes) (rw (length-drop (source.first * size) bytes) (omega arith)) in
-    let is : new ≡ with_run size target.first count old (take (count * size) (drop (source.first * size) bytes)) = wrote ∙ run_is size target.first count old run in
-    record {
-      same_length = ap length wrote ∙ length_written (target.first * size) (count * size) old run long room;
-      values = λ j b.
-          rw (← es, dense target j dt, dense source j ds)
-          (ap (λ all. take size (drop ((target.first + j) * size) all)) is ∙ in_run size target.first count j old run b long room ∙ of_run size source.first count j bytes b);
-      others = λ q off.
-          rw (← es)
-          (ap (λ all. take size (drop (q * size) all)) is
-          ∙ elim (cases_lt q target.first) [
-            | inl less ↦ before_run size target.first count q old run less room
-            | inr more ↦ elim (cases_lt q (target.first + count)) [
-              | inl within ↦ absurd (off (q - target.first) (omega arith) (dense target (q - target.first) dt ∙ omega arith))
-              | inr past ↦ after_run size target.first count q old run past long room
-            ]
-          ]);
-    }
+  pub rows_kept : (bytes old new : List ℕ) → AreRowsCopied size Little rows bytes old new → AreOthersKept target count old new
+  rows_kept bytes old new c q off =
+      rw (← es) (c.others q (λ r i br bi e. (let (j, b, own) = element_of r i br bi in off j b (sym own ∙ e))))

@@ -124,7 +124,7 @@ place_one block bytes idx other ok w v e =
     omega arith)
 
 abbrev pub line_from : Dtype → ℕ → ℕ → Line
-line_from t first next = record { dtype = t; first = first; next = next }
+line_from t first next = record { dtype = t; places = record { first = first; next = next } }
 
 -- ---- the two lines of a row
 module _ (piece : Piece) (part : Region) (axis count : ℕ) (from to : Block) (bytes old : List ℕ) (source_first source_next target_first target_next : ℕ) (second : List ℕ)

@@ -1,21 +1,31 @@
 -- Elements at evenly spaced places of a buffer. This project's own rules.
-use Rattle.std.specs.Prelude.{◌≡◌, ◌≢◌, ℕ, ◌+◌, ◌-◌, ◌*◌, ◌<◌, ◌≤◌, List, length}
+use Rattle.std.specs.Prelude.{◌≡◌, ◌≢◌, ℕ, ◌+◌, ◌*◌, ◌<◌, ◌≤◌, ◌⊎◌, List, length}
 use Rattle.cu_num.specs.Dtype.{size_of}
 use Rattle.cu_num.specs.Element.{bytes_at, element_at, element_bytes}
 use Rattle.cu_num.specs.declared.layout.Endian.TheVariants.{Little}
+use Rattle.cu_box.specs.Rows.{spaced}
+use Rattle.cu_box.specs.declared.rows.Spacing.{Spacing}
 use Rattle.cu_view_box.specs.declared.lines.Line.{Line}
 
--- place number j of a line: as far from the first as j times the second is
+-- the place of element number j of a line
 abbrev pub on_line : Line → ℕ → ℕ
-on_line line j = line.first + j * line.next - j * line.first
+on_line line j = spaced line.places j
 
 -- the line has so many places, which lie in the buffer
 abbrev pub FitsLine : Line → ℕ → List ℕ → Type 0
-FitsLine line count bytes = (j : ℕ) → j < count → (j * line.first ≤ line.first + j * line.next) × (on_line line j * size_of line.dtype + size_of line.dtype ≤ length bytes)
+FitsLine line count bytes = (j : ℕ) → j < count → (j * line.places.first ≤ line.places.first + j * line.places.next) × (on_line line j * size_of line.dtype + size_of line.dtype ≤ length bytes)
 
 -- no place stands on the line twice
 abbrev pub IsOneEach : Line → ℕ → Type 0
 IsOneEach line count = (i j : ℕ) → i < count → j < count → on_line line i ≡ on_line line j → i ≡ j
+
+-- the places follow one another
+abbrev pub IsDense : Spacing → Type 0
+IsDense places = places.next ≡ places.first + 1
+
+-- so many elements at the places of two lines are `rows` rows of `run` elements: a row each, or one row if they stand together in both
+abbrev pub AreRowsOfLines : Spacing → Spacing → ℕ → ℕ → ℕ → Type 0
+AreRowsOfLines source target count run rows = ((run ≡ 1) × (rows ≡ count)) ⊎ (IsDense source × IsDense target × (run ≡ count) × (rows ≡ 1))
 
 -- the elements of a line have the bytes of those of another
 abbrev pub AreCopied : Line → List ℕ → Line → List ℕ → ℕ → Type 0

@@ -1,6 +1,6 @@
 -- How an axis of a source is read along an axis of a result, from the first index of a box of the result on. This project's own rules.
 use Rattle.std.specs.Prelude.{ℕ, ◌+◌, ◌-◌, ◌*◌, ◌^◌, ◌<◌, ◌≤◌}
-use Rattle.cu_view_box.specs.declared.way.Span.{Span}
+use Rattle.cu_view_box.specs.declared.way.Interval.{Interval}
 use Rattle.cu_view_box.specs.declared.way.Way.{Way}
 use Rattle.cu_view_box.specs.declared.way.Way.TheVariants.{Fixed, Up, Down}
 
@@ -16,9 +16,9 @@ IsWay extent (Fixed index) = Unit {0}
 IsWay extent (Up axis first step) = 0 < step
 IsWay extent (Down axis first step) = (0 < step) × (first < 2 ^ 63) × ((t : ℕ) → t < extent → t * step ≤ first)
 
--- a count of the span
-abbrev pub IsInSpan : Span → ℕ → Type 0
-IsInSpan span t = (span.from ≤ t) × (t < span.to)
+-- a count of the interval
+abbrev pub IsInInterval : Interval → ℕ → Type 0
+IsInInterval interval t = (interval.from ≤ t) × (t < interval.to)
 
 -- a count below the extent at which an index from `low` to below `high` is read
 abbrev pub IsRead : Way → ℕ → ℕ → ℕ → ℕ → Type 0

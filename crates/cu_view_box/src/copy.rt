@@ -10,6 +10,7 @@ use crate::block::Block;
 use crate::lines::{Line, move_line};
 use crate::piece::Piece;
 use crate::reads::read_from;
+use cu_box::Spacing;
 use cu_grid::Region;
 use cu_shape::{Dims, difference, place};
 
@@ -140,13 +141,17 @@ fn copy_row(
     let next = second_of_row(part, axis, count);
     let source = Line {
         dtype: from.dtype,
-        first: source_place(piece, from, bytes, &part.lo),
-        next: source_place(piece, from, bytes, &next),
+        places: Spacing {
+            first: source_place(piece, from, bytes, &part.lo),
+            next: source_place(piece, from, bytes, &next),
+        },
     };
     let target = Line {
         dtype: to.dtype,
-        first: result_place(to, output, &part.lo),
-        next: result_place(to, output, &next),
+        places: Spacing {
+            first: result_place(to, output, &part.lo),
+            next: result_place(to, output, &next),
+        },
     };
     move_line(&source, bytes, &target, output, count);
 }

@@ -18,4 +18,4 @@ pub use piece::Piece;
 pub use reads::read_hull;
 pub use reshape::{reshape_hull, reshape_touches};
 pub use shared::shared_box;
-pub use way::{Span, Way};
+pub use way::{Interval, Way};

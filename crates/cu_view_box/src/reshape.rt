@@ -9,7 +9,7 @@ ghost use Rattle.cu_view_box.specs.Reshape.{reshaped, IsReshape, IsBetweenUpToDi
 use crate::copy::slice_at;
 use crate::reads::last_index;
 use crate::shared::{common, is_empty};
-use crate::way::Span;
+use crate::way::Interval;
 use cu_grid::Region;
 use cu_shape::{Dims, index_of, place};
 
@@ -56,18 +56,18 @@ fn hull_of_some(source: &Dims, shape: &Dims, out: &Region) -> Region
 }
 
 /// The indices on an axis of this size between two that agree on the axes before `apart`: all of them on an axis behind it.
-fn ends_on(axis: u32, apart: u32, first: u64, last: u64, size: u64) -> Span
+fn ends_on(axis: u32, apart: u32, first: u64, last: u64, size: u64) -> Interval
     requires { last < size }
     ensures before { axis ≤ apart → (result.from ≡ first) × (result.to ≡ last + 1) }
     ensures behind { apart < axis → (result.from ≡ 0) × (result.to ≡ size) }
 {
     if axis <= apart {
-        Span {
+        Interval {
             from: first,
             to: last + 1,
         }
     } else {
-        Span { from: 0, to: size }
+        Interval { from: 0, to: size }
     }
 }
 

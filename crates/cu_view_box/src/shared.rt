@@ -112,8 +112,8 @@ fn narrowed_on(region: &Region, base: &Region, way: &Way, axis: u32, low: u64, h
 {
     let first = base.lo.at(axis);
     let extent = base.hi.at(axis).saturating_sub(first);
-    let span = way.read_within(extent, low, high);
-    cut(region, axis, first + span.from, first + span.to)
+    let interval = way.read_within(extent, low, high);
+    cut(region, axis, first + interval.from, first + interval.to)
 }
 
 /// Whether a region has no index.

@@ -1,5 +1,5 @@
 ghost use Rattle.std.specs.Prelude.{◌≡◌, ◌<◌, ◌≤◌, ◌↔◌, ◌+◌, ◌-◌, ◌*◌, ◌^◌, ℕ, min};
-ghost use Rattle.cu_view_box.specs.Way.{IsWay, IsInSpan, IsRead};
+ghost use Rattle.cu_view_box.specs.Way.{IsWay, IsInInterval, IsRead};
 ghost use Rattle.cu_view_box.specs.declared.way.Way.TheVariants.{Fixed, Up, Down};
 
 /// How an axis of a source is read over a box of a result. Counts along an axis of the result begin at the box's first index.
@@ -40,7 +40,7 @@ impl Default for Way {
 
 /// The counts from `from` to below `to`.
 #[derive(Clone, Copy, Debug)]
-pub struct Span {
+pub struct Interval {
     /// The first count.
     pub from: u64,
     /// One past the last count.
@@ -49,9 +49,9 @@ pub struct Span {
 
 impl Way {
     /// The counts below `extent` at which an index from `low` to below `high` is read.
-    pub fn read_within(&self, extent: u64, low: u64, high: u64) -> Span
+    pub fn read_within(&self, extent: u64, low: u64, high: u64) -> Interval
         requires { IsWay extent self.now }
-        ensures exact { (t : ℕ) → IsInSpan result t ↔ IsRead self.now extent low high t }
+        ensures exact { (t : ℕ) → IsInInterval result t ↔ IsRead self.now extent low high t }
         ensures within { (result.from ≤ extent) × (result.to ≤ extent) }
     {
         match *self {
@@ -63,21 +63,21 @@ impl Way {
 }
 
 /// The counts at which one index is read: all or none.
-fn fixed(index: u64, extent: u64, low: u64, high: u64) -> Span
-    ensures exact { (t : ℕ) → IsInSpan result t ↔ IsRead (Fixed index) extent low high t }
+fn fixed(index: u64, extent: u64, low: u64, high: u64) -> Interval
+    ensures exact { (t : ℕ) → IsInInterval result t ↔ IsRead (Fixed index) extent low high t }
     ensures within { (result.from ≤ extent) × (result.to ≤ extent) }
 {
     let is_read = low <= index && index < high;
-    Span {
+    Interval {
         from: 0,
         to: if is_read { extent } else { 0 },
     }
 }
 
 /// The counts at which a way upward reads in the range.
-fn upward(first: u64, step: u64, extent: u64, low: u64, high: u64) -> Span
+fn upward(first: u64, step: u64, extent: u64, low: u64, high: u64) -> Interval
     requires { 0 < step }
-    ensures exact { (t : ℕ) → IsInSpan result t ↔ IsRead (Up 0 first step) extent low high t }
+    ensures exact { (t : ℕ) → IsInInterval result t ↔ IsRead (Up 0 first step) extent low high t }
     ensures within { (result.from ≤ extent) × (result.to ≤ extent) }
 {
     let from = low.saturating_sub(first).div_ceil(step);
@@ -86,11 +86,11 @@ fn upward(first: u64, step: u64, extent: u64, low: u64, high: u64) -> Span
 }
 
 /// The counts at which a way downward reads in the range. It passes the range's last index first.
-fn downward(first: u64, step: u64, extent: u64, low: u64, high: u64) -> Span
+fn downward(first: u64, step: u64, extent: u64, low: u64, high: u64) -> Interval
     requires step { 0 < step }
     requires small { first < 2 ^ 63 }
     requires inside { (t : ℕ) → t < extent → t * step ≤ first }
-    ensures exact { (t : ℕ) → IsInSpan result t ↔ IsRead (Down 0 first step) extent low high t }
+    ensures exact { (t : ℕ) → IsInInterval result t ↔ IsRead (Down 0 first step) extent low high t }
     ensures within { (result.from ≤ extent) × (result.to ≤ extent) }
 {
     let past = first + 1;
@@ -100,11 +100,11 @@ fn downward(first: u64, step: u64, extent: u64, low: u64, high: u64) -> Span
 }
 
 /// The counts from `from` to below `to` that lie below `extent`.
-fn below_extent(from: u64, to: u64, extent: u64) -> Span
+fn below_extent(from: u64, to: u64, extent: u64) -> Interval
     ensures from { result.from ≡ min from extent }
     ensures to { result.to ≡ min to extent }
 {
-    Span {
+    Interval {
         from: from.min(extent),
         to: to.min(extent),
     }

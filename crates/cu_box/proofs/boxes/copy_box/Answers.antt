@@ -1,4 +1,4 @@
-use Rattle.std.proofs.Common.{◌≡◌, refl, arith}
+use Rattle.std.proofs.Common.{refl, arith}
 use Rattle.cu_shape.proofs.Places.{inside-positive}
 use Rattle.cu_box.proofs.boxes.copy_box.Goals as goal
 

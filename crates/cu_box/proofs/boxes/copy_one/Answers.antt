@@ -1,4 +1,4 @@
-use Rattle.std.proofs.Common.{◌≡◌, ap, sym, ◌∙◌, arith}
+use Rattle.std.proofs.Common.{ap, ◌∙◌, arith}
 use Rattle.cu_shape.specs.Index.{place_of, sums}
 use Rattle.cu_shape.proofs.Places.{inside-length}
 use Rattle.cu_box.proofs.SliceCopies.{row_fits, row_copied}

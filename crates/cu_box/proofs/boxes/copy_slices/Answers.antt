@@ -1,4 +1,4 @@
-use Rattle.std.proofs.Common.{◌≡◌, ℕ, List, ◌<◌, ◌≤◌, ◌+◌, length, sym, ap, ◌∙◌, subst, arith}
+use Rattle.std.proofs.Common.{◌≡◌, ℕ, List, ap, ◌∙◌, subst, arith}
 use Rattle.cu_shape.specs.Index.{product, index_at, IsInside}
 use Rattle.cu_box.specs.Slices.{with_two}
 use Rattle.cu_box.proofs.SliceCopies.{AreRowsOf, source_fits, target_fits, rows_apart, no_slices, slice_more, slices_done}

@@ -1,4 +1,4 @@
-use Rattle.std.proofs.Common.{◌+◌, ◌<◌, ◌≤◌, length}
+use Rattle.std.proofs.Common.{◌+◌, ◌<◌, length}
 use Rattle.cu_box.proofs.boxes.long_axis.Given as goal
 
 abbrev pub invariant-loop-axis : goal.invariant-loop-axis

@@ -1,6 +1,5 @@
-use Rattle.std.proofs.Common.{◌≡◌, ◌<◌, ◌+◌, ◌-◌, length, set, ap, sym, ◌∙◌, subst, arith}
+use Rattle.std.proofs.Common.{length, set, ap, sym, ◌∙◌, arith}
 use Rattle.std.proofs.lemmas.List.{length-set}
-use Rattle.cu_shape.specs.Index.{sums, IsInside}
 use Rattle.cu_box.proofs.Slices.{long_slice, axis_inside, slice_inside}
 use Rattle.cu_box.proofs.boxes.spacing_from.Goals as goal
 

@@ -16,4 +16,4 @@ returns-in-Some c env k e =
     let x = ap (λ (n : ℤ). Some (n ∷ [])) (to_z-of_z w64 c.in-Some.number fits) ∙ sym (ap place_axes c.in-Some.is) in
     to_z-of_z w128 c.place_at.result (record { sfits = c.place_at.type_inv })
     ∙ c.place_at.ensures
-    ∙ (λ i. pos (best_place c.args.least (reduced_elements (source_at (elements_in c.args.plains.now) (s i) 0) (x i) c.args.keepdims (source_shape c.args.infos.now (s i) 0) c.args.idx.now)))
+    ∙ (λ i. pos (best_place c.args.least (reduced_elements (source_at (elements_in c.args.scope.now.plains.now) (s i) 0) (x i) c.args.keepdims (source_shape c.args.scope.now.infos.now (s i) 0) c.args.scope.now.idx.now)))

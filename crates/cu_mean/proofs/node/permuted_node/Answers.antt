@@ -8,8 +8,8 @@ use Rattle.cu_mean.proofs.node.permuted_node.Goals as goal
 
 pub permuted-read-requires : goal.permuted-read-requires
 permuted-read-requires c =
-    let told = arrays_of (map (argument_of c.args.infos.now) c.args.args.now) in
-    let a = permuted_axes (info_at told 0) c.args.axes.now c.args.info.now c.requires.ready.typed in
-    let s = (info_kept told 0 (told_kept c.args.infos.now c.args.args.now c.requires.ready.kept)).short in
+    let told = arrays_of (map (argument_of c.args.scope.now.infos.now) c.args.args.now) in
+    let a = permuted_axes (info_at told 0) c.args.axes.now c.args.scope.now.info.now c.requires.ready.typed in
+    let s = (info_kept told 0 (told_kept c.args.scope.now.infos.now c.args.args.now c.requires.ready.kept)).short in
     let e = ap length c.as_slice.ensures in
     omega arith

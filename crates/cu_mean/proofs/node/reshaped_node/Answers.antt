@@ -9,6 +9,6 @@ use Rattle.cu_mean.proofs.node.reshaped_node.Goals as goal
 
 pub replaced_at-requires-clause-count : goal.replaced_at-requires-clause-count
 replaced_at-requires-clause-count c =
-    let told = arrays_of (map (argument_of c.args.infos.now) c.args.args.now) in
-    ap product (sym (told_shape c.args.infos.now c.args.args.now 0 (all_arrays 1 1 c.args.args.now c.requires.ready.args)))
-    ∙ new_shape_count (info_at told 0) c.args.info.now c.args.shape.now c.requires.ready.ranges c.requires.ready.typed
+    let told = arrays_of (map (argument_of c.args.scope.now.infos.now) c.args.args.now) in
+    ap product (sym (told_shape c.args.scope.now.infos.now c.args.args.now 0 (all_arrays 1 1 c.args.args.now c.requires.ready.args)))
+    ∙ new_shape_count (info_at told 0) c.args.scope.now.info.now c.args.shape.now c.requires.ready.ranges c.requires.ready.typed

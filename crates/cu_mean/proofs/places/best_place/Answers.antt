@@ -1,15 +1,14 @@
 use Rattle.std.proofs.Common.{◌≡◌, ◌+◌, ◌-◌, ◌∷◌, ℕ, ℤ, ap, sym, subst, ◌∙◌, arith}
 use Rattle.std.specs.Int.{w128}
 use Rattle.std.proofs.lemmas.Int.{to_z-of_z}
-use Rattle.cu_meaning.specs.Argument.{source_at}
 use Rattle.cu_mean.specs.Places.{IsBestFrom}
-use Rattle.cu_mean.specs.Reading.{elements_in}
+use Rattle.cu_mean.specs.Reading.{named_element}
 use Rattle.cu_mean.proofs.Along.{along_from, along_front, none_along}
 use Rattle.cu_mean.proofs.places.best_place.Goals as goal
 
 pub loop-place-preserved : goal.loop-place-preserved
 loop-place-preserved c =
-    let element = source_at (elements_in c.args.plains.now) c.args.args.now 0 in
+    let element = named_element c.args.arrays.now 0 in
     let start = c.args.start.now in
     let sizes = c.args.sizes.now in
     let p = c.loop-place.place in

@@ -4,9 +4,8 @@ use Rattle.std.specs.Int.{w128}
 use Rattle.std.proofs.lemmas.Int.{to_z-of_z}
 use Rattle.cu_num.specs.Wrap.{wrapped}
 use Rattle.cu_num.proofs.Wrapped.{wrapped-wrapped}
-use Rattle.cu_meaning.specs.Argument.{source_at}
 use Rattle.cu_reduce.specs.Folds.{exact_sum}
-use Rattle.cu_mean.specs.Reading.{elements_in}
+use Rattle.cu_mean.specs.Reading.{named_element}
 use Rattle.cu_mean.proofs.InnerProducts.{product_on, products_from, products_none, products_front, products_whole}
 use Rattle.cu_mean.proofs.InnerPlaces.{left_some, right_some}
 use Rattle.cu_mean.proofs.Steps.{sum_of_wrapped}
@@ -14,12 +13,12 @@ use Rattle.cu_mean.proofs.products.matmul_at.Goals as goal
 
 pub loop-inner-init : goal.loop-inner-init
 loop-inner-init c =
-    products_none (source_at (elements_in c.args.plains.now) c.args.args.now 0) c.args.a.now (source_at (elements_in c.args.plains.now) c.args.args.now 1) c.args.b.now c.args.idx.now c.args.t c.size_at-count.result
+    products_none (named_element c.args.arrays.now 0) c.args.a.now (named_element c.args.arrays.now 1) c.args.b.now c.args.idx.now c.args.t c.size_at-count.result
 
 pub loop-inner-preserved : goal.loop-inner-preserved
 loop-inner-preserved c =
-    let left = source_at (elements_in c.args.plains.now) c.args.args.now 0 in
-    let right = source_at (elements_in c.args.plains.now) c.args.args.now 1 in
+    let left = named_element c.args.arrays.now 0 in
+    let right = named_element c.args.arrays.now 1 in
     let a = c.args.a.now in
     let b = c.args.b.now in
     let idx = c.args.idx.now in
@@ -35,8 +34,8 @@ loop-inner-preserved c =
 
 pub returns : goal.returns
 returns c =
-    let left = source_at (elements_in c.args.plains.now) c.args.args.now 0 in
-    let right = source_at (elements_in c.args.plains.now) c.args.args.now 1 in
+    let left = named_element c.args.arrays.now 0 in
+    let right = named_element c.args.arrays.now 1 in
     let last : c.saturating_sub.result ≡ length c.args.a.now - 1 = omega arith in
     let count = c.size_at-count.ensures ∙ ap (slice_index c.args.a.now) last in
     let whole = products_whole left c.args.a.now right c.args.b.now c.args.idx.now c.loop-inner.inner c.size_at-count.result c.loop-inner-test.false count in

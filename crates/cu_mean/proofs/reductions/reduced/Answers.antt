@@ -2,8 +2,7 @@ use Rattle.std.proofs.Common.{◌∷◌, ℤ, ap, sym, ◌∙◌}
 use Rattle.std.specs.Int.{w128}
 use Rattle.std.proofs.lemmas.Int.{to_z-of_z}
 use Rattle.cu_num.specs.Wrap.{wrapped}
-use Rattle.cu_meaning.specs.Argument.{source_at}
-use Rattle.cu_mean.specs.Reading.{elements_in}
+use Rattle.cu_mean.specs.Reading.{named_element}
 use Rattle.cu_mean.specs.Reductions.{kept_of}
 use Rattle.cu_mean.proofs.Along.{along_from, along_front, none_along, whole_along}
 use Rattle.cu_mean.proofs.Steps.{wrapped_kept}
@@ -11,7 +10,7 @@ use Rattle.cu_mean.proofs.reductions.reduced.Goals as goal
 
 pub loop-place-preserved : goal.loop-place-preserved
 loop-place-preserved c =
-    let element = source_at (elements_in c.args.plains.now) c.args.args.now 0 in
+    let element = named_element c.args.arrays.now 0 in
     let start = c.args.start.now in
     let sizes = c.args.sizes.now in
     let p = c.loop-place.place in
@@ -26,7 +25,7 @@ loop-place-preserved c =
 
 pub returns : goal.returns
 returns c =
-    let element = source_at (elements_in c.args.plains.now) c.args.args.now 0 in
+    let element = named_element c.args.arrays.now 0 in
     let counted = rw c.unwrap-count.ensures at c.elements.ensures.count in
     let whole = whole_along element c.args.start.now c.args.sizes.now c.loop-place.place c.unwrap-count.result c.loop-place-test.false counted in
     to_z-of_z w128 c.wrap.result (record { sfits = c.wrap.type_inv })

@@ -10,9 +10,9 @@ use Rattle.cu_view_box.proofs.lines.convert_line.Goals as goal
 pub loop-j-preserved : goal.loop-j-preserved
 loop-j-preserved c =
     let t = c.args.target.now.dtype in
-    let at = c.place_on-in-loop-j.result in
-    lined_converted c.args.source.now c.args.target.now c.args.count c.loop-j.j c.place_on-in-loop-j.result c.load-number.result c.args.bytes.now c.args.output.now c.loop-j.output c.save.new.bytes
-    c.requires.target_fits c.requires.one_each (omega arith) c.place_on-in-loop-j.ensures
+    let at = c.place_on-at.result in
+    lined_converted c.args.source.now c.args.target.now c.args.count c.loop-j.j c.place_on-at.result c.load-number.result c.args.bytes.now c.args.output.now c.loop-j.output c.save.new.bytes
+    c.requires.target_fits c.requires.one_each (omega arith) c.place_on-at.ensures
     (c.load-number.ensures.value ∙ ap (λ p. element_at Little c.args.source.now.dtype c.args.bytes.now p) c.place_on.ensures)
     (c.save.ensures
     ∙ ap (λ x. take (at * size_of t) c.loop-j.output ++ element_bytes Little t x ++ drop (at * size_of t + size_of t) c.loop-j.output)

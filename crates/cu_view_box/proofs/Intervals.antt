@@ -17,9 +17,9 @@ covered n s t h e = elim (leb_tells (div_ceil n s) t) [
   | inr p ↦ absurd (let q : t * s < n = before_end n s t h p.1 in omega arith)
 ]
 
-pub upward_span : (first step extent low high from to t : ℕ) → 0 < step → from ≡ min (div_ceil (low - first) step) extent → to ≡ min (div_ceil (high - first) step) extent
+pub upward_interval : (first step extent low high from to t : ℕ) → 0 < step → from ≡ min (div_ceil (low - first) step) extent → to ≡ min (div_ceil (high - first) step) extent
     → ((from ≤ t) × (t < to)) ↔ ((t < extent) × (low ≤ first + t * step) × (first + t * step < high))
-upward_span first step extent low high from to t h ef et = (forth, back)
+upward_interval first step extent low high from to t h ef et = (forth, back)
   where
     forth : (from ≤ t) × (t < to) → (t < extent) × (low ≤ first + t * step) × (first + t * step < high)
     forth p =
@@ -38,9 +38,9 @@ upward_span first step extent low high from to t h ef et = (forth, back)
         let y : t < div_ceil (high - first) step = within_counts (high - first) step t h (omega arith) in
         (omega arith, omega arith)
 
-pub downward_span : (first step extent low high from to t : ℕ) → 0 < step → ((k : ℕ) → k < extent → k * step ≤ first) → from ≡ min (div_ceil (first + 1 - high) step) extent → to ≡ min (div_ceil (first + 1 - low) step) extent
+pub downward_interval : (first step extent low high from to t : ℕ) → 0 < step → ((k : ℕ) → k < extent → k * step ≤ first) → from ≡ min (div_ceil (first + 1 - high) step) extent → to ≡ min (div_ceil (first + 1 - low) step) extent
     → ((from ≤ t) × (t < to)) ↔ ((t < extent) × (low ≤ first - t * step) × (first - t * step < high))
-downward_span first step extent low high from to t h g ef et = (forth, back)
+downward_interval first step extent low high from to t h g ef et = (forth, back)
   where
     forth : (from ≤ t) × (t < to) → (t < extent) × (low ≤ first - t * step) × (first - t * step < high)
     forth p =
