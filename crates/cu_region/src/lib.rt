@@ -2,6 +2,7 @@
 #![tactic(auto)]
 
 mod laws;
+mod part;
 mod read;
 mod settle;
 mod write;

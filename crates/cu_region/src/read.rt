@@ -4,14 +4,15 @@ ghost use Rattle.cu_num.specs.Dtype.{size_of, InRange};
 ghost use Rattle.cu_shape.specs.Index.{product, differences};
 ghost use Rattle.cu_grid.specs.Counts.{IsRegion};
 ghost use Rattle.cu_grid.specs.Cover.{Meets};
-ghost use Rattle.cu_grid.specs.Grid.{IsGrid};
 ghost use Rattle.cu_store.specs.Chunks.{Keeps, StaysOpen};
 ghost use Rattle.cu_store.specs.Steps.{NoChange, Steps};
-ghost use Rattle.cu_region.specs.Reading.{key_at, IsChunkKey, bytes_of, Fetches, ReadsChunk, HasChunk, ReadsRegion, ReadsPart, IsChunkReadFault};
+ghost use Rattle.cu_region.specs.Reading.{key_at, IsChunkKey, bytes_of, Fetches, ReadsChunk, HasChunk, ReadsRegion, IsChunkReadFault};
+ghost use Rattle.cu_region.specs.RegionPart.{IsRegionPart, key_of_part, bytes_of_chunk, bytes_of_region, ReadsRegionPart};
 ghost use Rattle.cu_region.specs.Calls.{chunks_met, Made};
 ghost use Rattle.cu_region.specs.Steady.{IsSteady, HoldSame};
 ghost use Rattle.cu_region.specs.Writing.{AreElements};
 
+use crate::part::RegionPart;
 use crate::settle::settle;
 use cu_codec::{chunk_bytes, chunk_key, fill_with, is_one_chunk, reorder, take_part};
 use cu_grid::Region;
@@ -54,7 +55,12 @@ pub fn read_region_of<C: Chunks>(
     ensures calls_all { OnOk result (Made (chunks_met info.now.layout.grid region.now.lo region.now.hi) (C.shown access.old).calls (C.shown access.new).calls) }
 {
     for coord in info.layout.grid.cover(region) {
-        read_part::<C>(store, access, info, &coord, region, out, scratch)?;
+        let part = RegionPart {
+            info,
+            region,
+            coord,
+        };
+        read_part::<C>(store, access, &part, out, scratch)?;
     }
     settle(info.layout.dtype, out);
     Ok(())
@@ -89,35 +95,29 @@ pub fn read_chunk<C: Chunks>(
     Ok(())
 }
 
-/// Reads the elements of one chunk that lie in the region.
+/// Reads the elements of a part into the region's buffer.
 fn read_part<C: Chunks>(
     store: &C::Store,
     access: &mut C::Access,
-    info: &ArrayInfo,
-    coord: &Dims,
-    region: &Region,
+    part: &RegionPart<'_>,
     out: &mut [u8],
     scratch: &mut [u8],
 ) -> Result<(), TaskFault>
     requires belongs { C.belongs store.now access.old }
-    requires may { C.may_get store.now access.old (key_at info.now coord.now) }
-    requires short { length info.now.prefix ≤ 45 }
-    requires fill { InRange info.now.layout.dtype info.now.layout.fill }
-    requires region { IsRegion info.now.layout.grid.shape region.now.lo region.now.hi }
-    requires grid { IsGrid info.now.layout.grid }
-    requires meets { Meets info.now.layout.grid region.now.lo region.now.hi coord.now }
-    requires coordinate { All (λ i. i < 1048576) coord.now }
-    requires out_length { length out.old ≡ product (differences region.now.hi region.now.lo) * size_of info.now.layout.dtype }
-    requires scratch_length { bytes_of info.now.layout ≤ length scratch.old }
-    ensures part { OnOk result (ReadsPart info.now coord.now region.now (C.shown access.new).held out.old out.new) }
+    requires part { IsRegionPart part.now }
+    requires may { C.may_get store.now access.old (key_of_part part.now) }
+    requires out_length { length out.old ≡ bytes_of_region part.now }
+    requires scratch_length { bytes_of_chunk part.now ≤ length scratch.old }
+    ensures part { OnOk result (ReadsRegionPart part.now (C.shown access.new).held out.old
+        out.new) }
     ensures open { StaysOpen (C.belongs store.now access.new) (C.may_get store.now access.old) (C.may_get store.now access.new) }
     ensures step { Steps NoChange 1 1 (C.shown access.old) (C.shown access.new) }
     ensures cause { IfErr result (IsChunkReadFault (C.shown access.old) (C.shown access.new)
-        (λ key. key ≡ key_at info.now coord.now) (bytes_of info.now.layout)) }
+        (λ key. key ≡ key_of_part part.now) (bytes_of_chunk part.now)) }
 {
-    let layout = &info.layout;
-    let key = chunk_key(&info.prefix, layout.encoding, coord);
-    if is_one_chunk(&layout.grid, coord, region) {
+    let layout = &part.info.layout;
+    let key = chunk_key(&part.info.prefix, layout.encoding, &part.coord);
+    if is_one_chunk(&layout.grid, &part.coord, part.region) {
         return read_bytes::<C>(store, access, &key, layout, out);
     }
     let chunk = &mut scratch[..chunk_bytes(&layout.grid, layout.dtype)];
@@ -126,9 +126,9 @@ fn read_part<C: Chunks>(
         &layout.grid,
         u64::from(size(layout.dtype)),
         order,
-        coord,
+        &part.coord,
         chunk,
-        region,
+        part.region,
         out,
     );
     Ok(())

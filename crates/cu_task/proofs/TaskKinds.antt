@@ -1,5 +1,5 @@
 -- Operations of a kind: their fields, what they read and write, and the rooms of their tasks.
-use Rattle.std.proofs.Common.{◌≡◌, ◌+◌, ◌*◌, ◌≤◌, ◌<◌, ℕ, Bool, List, [], ◌∷◌, Contains, Option, Some, None, refl, sym, ap, subst, arith}
+use Rattle.std.proofs.Common.{◌≡◌, ◌+◌, ◌*◌, ◌^◌, ◌≤◌, ◌<◌, ℕ, Bool, List, [], ◌∷◌, Contains, Option, Some, None, refl, sym, ap, subst, arith}
 use Rattle.cu_num.specs.Dtype.{size_of}
 use Rattle.cu_num.specs.declared.types.Dtype.{Dtype}
 use Rattle.cu_shape.specs.Index.{product, differences}
@@ -8,8 +8,9 @@ use Rattle.cu_op.specs.Arrays.{type_at}
 use Rattle.cu_op.specs.Cells.{tasks_of, task_lo, task_hi}
 use Rattle.cu_op.specs.Operation.{reads_of, writes_of, pair_writes, target_of}
 use Rattle.cu_op.specs.PlanView.{PlanView}
-use Rattle.cu_op.specs.Projection.{input_room, output_room}
+use Rattle.cu_op.specs.Projection.{projection, instruction_count, input_room, output_room}
 use Rattle.cu_op.specs.Sound.{Sound}
+use Rattle.cu_op.specs.TaskView.{TaskView, task_op}
 use Rattle.cu_op.specs.declared.kernel.Kernel.{Kernel}
 use Rattle.cu_op.specs.declared.layout.ArrayInfo.{ArrayInfo}
 use Rattle.cu_op.specs.declared.operation.Op.{Op}
@@ -18,10 +19,12 @@ use Rattle.arrayvec.specs.declared.ArrayVec.{ArrayVec}
 use Rattle.cu_pull.specs.declared.axes.Axes.{Axes}
 use Rattle.cu_pull.specs.declared.pull.Pull.{Pull as View}
 use Rattle.cu_op.proofs.Operations.{Fit}
+use Rattle.cu_op.proofs.TaskCells.{fit_of}
 use Rattle.cu_task.specs.Inputs.{IsMergeOf, IsSearchOf, IsSearchAmong}
+use Rattle.cu_task.specs.OfTask.{scratch_bytes, kept_bytes, found_bytes, made_bytes}
 use Rattle.cu_task.specs.Task.{IsPlaceSearch, IsComputing, kept_room, compared_by, compared_array, value_array, room_beside}
 use Rattle.cu_task.proofs.SearchTask.{search_room}
-use Rattle.cu_task.proofs.TaskRegions.{type_stored}
+use Rattle.cu_task.proofs.TaskRegions.{type_stored, lent_to}
 use Rattle.cu_task.proofs.TaskRooms.{single_room}
 
 pub record Merged (op : Op) (kind : FoldKind) (axis out : ℕ) : Type 0 where
@@ -140,3 +143,16 @@ pub rooms_fit : (p : PlanView) (s : Sound p) (k : ℕ) (op : Op) (task : ℕ) �
 rooms_fit p s k (PairFold least axis source values out) task fit h = search_room p s k (PairFold least axis source values out) task fit h tt
 rooms_fit p s k (PairMerge least axis group value_source place_source values out) task fit h = search_room p s k (PairMerge least axis group value_source place_source values out) task fit h tt
 rooms_fit p s k op task fit h = let most = single_room p s k op task fit h tt in omega (arith, most)
+
+-- the parts of what a task is lent fit into it
+pub record LentParts (t : TaskView) (bytes : ℕ) : Type 0 where
+  pub fit : scratch_bytes t + kept_bytes t + found_bytes t + made_bytes t ≤ bytes
+  pub small : bytes < 2 ^ 64
+
+pub lent_parts : (t : TaskView) → Sound t.plan → (bytes words : ℕ) → words ≡ 64 * instruction_count (task_op t)
+    → t.plan.reserved + bytes + 8 * words ≡ projection t.plan.arrays t.plan.reserved (task_op t) → LentParts t bytes
+lent_parts t sound bytes words count room =
+    let lent = lent_to t.plan t.op bytes words sound t.operation count room in
+    let parts = lent.parts in
+    let rooms = rooms_fit t.plan sound t.op (task_op t) t.number (fit_of t.plan sound t.op t.operation) t.within in
+    record { fit = omega (arith, parts, rooms); small = lent.small }

@@ -1,7 +1,6 @@
 -- What a task wants of the store where its chunks are. This project's own rules.
-use Rattle.std.specs.Prelude.{◌≡◌, ℕ, List, ◌<◌, length, Contains, Some}
+use Rattle.std.specs.Prelude.{ℕ, List, ◌<◌, length, Contains}
 use Rattle.cu_store.specs.Steps.{Shown}
-use Rattle.cu_op.specs.Operation.{target_of}
 use Rattle.cu_op.specs.PlanView.{PlanView}
 use Rattle.cu_op.specs.Arrays.{array_at}
 use Rattle.cu_op.specs.Cells.{task_lo, task_hi}
@@ -14,7 +13,7 @@ use Rattle.cu_region.specs.Reading.{IsChunkKey}
 use Rattle.cu_region.specs.Writing.{RegionPut}
 use Rattle.cu_store.specs.Chunks.{Keeps, Allows}
 use Rattle.cu_task.specs.Inputs.{IsWalkKey}
-use Rattle.cu_task.specs.Task.{TaskChange, IsResultOver, value_array}
+use Rattle.cu_task.specs.Task.{TaskChange, IsResultOver}
 use Rattle.cu_task.specs.Views.{ViewTask, IsSourceKey}
 
 -- the chunks of these walks may be asked for
@@ -40,15 +39,6 @@ MayReadRegion p k task array K = Keeps (IsChunkKey (array_at p.arrays array) (ta
 abbrev pub AllowsRegion : PlanView → ℕ → ℕ → ℕ → List ℕ → (List ℕ → List ℕ → Type 0) → Type 0
 AllowsRegion p k task array output P = Allows (RegionPut (array_at p.arrays array) (task_lo p.arrays (op_of p k) task) (task_hi p.arrays (op_of p k) task) output) P
 
--- the changes of a task that began at some moment may be made, and the buffers have its results over what was held then
+-- the changes of a task that began at some moment may be made, and the buffer has an array's result over what was held then
 abbrev pub AllowsResult : PlanView → ℕ → ℕ → ℕ → List ℕ → (List ℕ → List ℕ → Type 0) → Type 0
 AllowsResult p k task array output P = (start : Shown) × IsResultOver p k task array start output × Allows (TaskChange p k task start) P
-
--- the same of an array's values and of the result, one buffer each
-abbrev pub AllowsResults : PlanView → ℕ → ℕ → ℕ → List ℕ × List ℕ → (List ℕ → List ℕ → Type 0) → Type 0
-AllowsResults p k task array found P = (start : Shown) × IsResultOver p k task array start found.0 × IsResultOver p k task (target_of (op_of p k)) start found.1 × Allows (TaskChange p k task start) P
-
--- the places that a search finds, and its values where it stores them
-abbrev pub AllowsFound : PlanView → ℕ → ℕ → List ℕ → List ℕ → (List ℕ → List ℕ → Type 0) → Type 0
-AllowsFound p k task values places P = (start : Shown) × ((array : ℕ) → value_array (op_of p k) ≡ Some array → IsResultOver p k task array start values)
-    × IsResultOver p k task (target_of (op_of p k)) start places × Allows (TaskChange p k task start) P

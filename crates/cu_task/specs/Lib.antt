@@ -4,5 +4,6 @@ pub mod Inputs
 pub mod OfTask
 pub mod Serving
 pub mod Task
+pub mod TaskRoom
 pub mod ViewJobs
 pub mod Views

@@ -12,7 +12,7 @@ use Rattle.cu_op.specs.Walks.{input_walks, written_chunks}
 use Rattle.cu_region.specs.Writing.{AreElements}
 use Rattle.cu_task.specs.Asks.{MayReadTask, MayReadWritten}
 use Rattle.cu_task.specs.Inputs.{room_of_walks}
-use Rattle.cu_task.specs.Task.{IsTaskReady, TaskChange, HoldsCells, read_calls, result_room, found_room, HasResult, IsComputed, AreSteadyInputs, IsResultOver, IsTaskFault}
+use Rattle.cu_task.specs.Task.{IsTaskReady, TaskChange, HoldsCells, read_calls, kept_room, result_room, found_room, HasResult, IsComputed, AreSteadyInputs, IsResultOver, IsTaskFault}
 
 -- the bytes through which it reads and writes chunks, of the regions that it reads, and of the elements that it makes
 abbrev pub scratch_bytes : TaskView → ℕ
@@ -23,6 +23,10 @@ read_bytes t = room_of_walks t.plan.arrays (input_walks t.plan.arrays (task_op t
 
 abbrev pub made_bytes : TaskView → ℕ
 made_bytes t = result_room t.plan t.op t.number (target_of (task_op t))
+
+-- of the regions that it keeps beside these: none of a view, or of a copy, which reads into its result
+abbrev pub kept_bytes : TaskView → ℕ
+kept_bytes t = kept_room t.plan.arrays (task_op t) t.number
 
 -- and of the values that it finds
 abbrev pub found_bytes : TaskView → ℕ

@@ -9,6 +9,7 @@ mod products;
 mod pulls;
 mod reductions;
 mod results;
+mod room;
 mod run;
 mod searches;
 mod views;

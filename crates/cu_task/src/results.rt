@@ -1,7 +1,7 @@
 //! What a task has made: its rooms, and the chunks of its region.
 ghost use Rattle.std.specs.Prelude.{◌≡◌, ℕ, ◌<◌, ◌≤◌, [], ◌∷◌, Some, length, Contains, IfErr, OnOk};
 ghost use Rattle.cu_store.specs.Chunks.{StaysOpen};
-ghost use Rattle.cu_task.specs.Asks.{MayReadRegion, AllowsRegion, AllowsResult, AllowsResults, AllowsFound};
+ghost use Rattle.cu_task.specs.Asks.{MayReadRegion, AllowsRegion, AllowsResult};
 ghost use Rattle.cu_store.specs.Steps.{Shown, Steps};
 ghost use Rattle.cu_op.specs.Arrays.{array_at, type_at};
 ghost use Rattle.cu_op.specs.Cells.{task_lo, task_hi};
@@ -13,9 +13,11 @@ ghost use Rattle.cu_op.specs.Walks.{walk, walk_cells};
 ghost use Rattle.cu_region.specs.Calls.{Made};
 ghost use Rattle.cu_region.specs.Writing.{AreElements, LateIsOwn, RegionPut, StoresRegion, IsWriteFault};
 ghost use Rattle.cu_task.specs.OfTask.{found_bytes, calls_to_write, MayReadMade, IsReadyFor, HoldsMade, scratch_bytes, made_bytes, IsMadeOver, AreOfItsType, ChangeBy};
-ghost use Rattle.cu_task.specs.Task.{compared_array, value_array, result_room, IsResultOver};
+ghost use Rattle.cu_task.specs.Task.{compared_array, value_array, result_room};
+ghost use Rattle.cu_task.specs.TaskRoom.{IsRoomOf, IsAllMadeOver, AreAllOfTheirTypes, AllowsMade};
 
 use crate::inputs::region_bytes;
+use crate::room::TaskRoom;
 use cu_op::{Op, PlanTask};
 use cu_region::write_region_of;
 use cu_store::{Chunks, TaskFault};
@@ -136,27 +138,21 @@ fn write_both<C: Chunks>(
     access: &mut C::Access,
     task: &PlanTask<'_>,
     array: u32,
-    values: &[u8],
-    places: &[u8],
-    scratch: &mut [u8],
+    room: &mut TaskRoom<'_>,
 ) -> Result<(), TaskFault>
     requires belongs { C.belongs store.now access.old }
-    requires puts { AllowsResults task.now.plan task.now.op task.now.number array
-        (values.now, places.now) (C.may_put store.now) }
-    requires both { writes_of (task_op task.now) ≡ array ∷ target_of (task_op task.now) ∷ [] }
-    requires values { length values.now
-        ≡ result_room task.now.plan task.now.op task.now.number array }
-    requires places { length places.now ≡ made_bytes task.now }
-    requires value_elements { AreElements (type_at task.now.plan.arrays array) values.now }
-    requires place_elements { AreOfItsType task.now places.now }
-    requires scratch { scratch_bytes task.now ≤ length scratch.old }
+    requires puts { AllowsMade task.now room.old (C.may_put store.now) }
+    requires stored { value_array (task_op task.now) ≡ Some array }
+    requires room { IsRoomOf task.now room.old }
+    requires elements { AreAllOfTheirTypes task.now room.old }
     ensures open { StaysOpen (C.belongs store.now access.new) (C.may_get store.now access.old)
         (C.may_get store.now access.new) }
     ensures got { OnOk result (MayReadMade task.now (C.may_get store.now access.new)) }
-    ensures step { (start : Shown) → IsResultOver task.now.plan task.now.op task.now.number array start values.now → IsMadeOver task.now start places.now
+    ensures step { (start : Shown) → IsAllMadeOver task.now start room.old
         → Steps (ChangeBy task.now start) 0 (calls_to_write task.now) (C.shown access.old)
         (C.shown access.new) }
-    ensures stored { (env : Elements) (start : Shown) (calls : ℕ) → IsResultOver task.now.plan task.now.op task.now.number array start values.now → IsMadeOver task.now start places.now
+    ensures stored { (env : Elements) (start : Shown) (calls : ℕ)
+        → IsAllMadeOver task.now start room.old
         → IsReadyFor task.now env start
         → Steps (ChangeBy task.now start) 0 calls start (C.shown access.old)
         → OnOk result (HoldsMade task.now env (C.shown access.new)) }
@@ -166,6 +162,9 @@ fn write_both<C: Chunks>(
         (C.shown access.new).faults (C.shown access.new).lacks) }
 {
     let target = task.operation().target();
+    let values = &mut *room.values;
+    let places = &mut *room.output;
+    let scratch = &mut *room.scratch;
     write_array::<C>(store, access, task, array, values, scratch)?;
     write_array::<C>(store, access, task, target, places, scratch)
 }
@@ -175,28 +174,20 @@ pub(crate) fn write_results<C: Chunks>(
     store: &C::Store,
     access: &mut C::Access,
     task: &PlanTask<'_>,
-    values: &[u8],
-    output: &[u8],
-    scratch: &mut [u8],
+    room: &mut TaskRoom<'_>,
 ) -> Result<(), TaskFault>
     requires belongs { C.belongs store.now access.old }
-    requires puts { AllowsFound task.now.plan task.now.op task.now.number values.now output.now
-        (C.may_put store.now) }
-    requires values { (array : ℕ) → value_array (task_op task.now) ≡ Some array
-        → length values.now ≡ result_room task.now.plan task.now.op task.now.number array }
-    requires output { length output.now ≡ made_bytes task.now }
-    requires value_elements { (array : ℕ) → value_array (task_op task.now) ≡ Some array
-        → AreElements (type_at task.now.plan.arrays array) values.now }
-    requires output_elements { AreOfItsType task.now output.now }
-    requires scratch { scratch_bytes task.now ≤ length scratch.old }
+    requires puts { AllowsMade task.now room.old (C.may_put store.now) }
+    requires room { IsRoomOf task.now room.old }
+    requires elements { AreAllOfTheirTypes task.now room.old }
     ensures open { StaysOpen (C.belongs store.now access.new) (C.may_get store.now access.old)
         (C.may_get store.now access.new) }
     ensures got { OnOk result (MayReadMade task.now (C.may_get store.now access.new)) }
-    ensures step { (start : Shown) → ((array : ℕ) → value_array (task_op task.now) ≡ Some array → IsResultOver task.now.plan task.now.op task.now.number array start values.now) → IsMadeOver task.now start output.now
+    ensures step { (start : Shown) → IsAllMadeOver task.now start room.old
         → Steps (ChangeBy task.now start) 0 (calls_to_write task.now) (C.shown access.old)
         (C.shown access.new) }
-    ensures stored { (env : Elements) (start : Shown) (calls : ℕ) → ((array : ℕ) → value_array (task_op task.now) ≡ Some array → IsResultOver task.now.plan task.now.op task.now.number array start values.now)
-        → IsMadeOver task.now start output.now
+    ensures stored { (env : Elements) (start : Shown) (calls : ℕ)
+        → IsAllMadeOver task.now start room.old
         → IsReadyFor task.now env start
         → Steps (ChangeBy task.now start) 0 calls start (C.shown access.old)
         → OnOk result (HoldsMade task.now env (C.shown access.new)) }
@@ -206,8 +197,12 @@ pub(crate) fn write_results<C: Chunks>(
         (C.shown access.new).faults (C.shown access.new).lacks) }
 {
     match stored_values(task.operation()) {
-        Some(array) => { write_both::<C>(store, access, task, array, values, output, scratch) }
-        None => write_only::<C>(store, access, task, output, scratch),
+        Some(array) => write_both::<C>(store, access, task, array, room),
+        None => {
+            let output = &mut *room.output;
+            let scratch = &mut *room.scratch;
+            write_only::<C>(store, access, task, output, scratch)
+        }
     }
 }
 

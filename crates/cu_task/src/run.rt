@@ -1,5 +1,5 @@
 //! Tasks that are run.
-ghost use Rattle.std.specs.Prelude.{◌≡◌, ℕ, ◌+◌, ◌*◌, ◌<◌, ◌≤◌, length, Some, IfErr, OnOk};
+ghost use Rattle.std.specs.Prelude.{◌≡◌, ℕ, ◌+◌, ◌*◌, ◌<◌, length, Some, IfErr, OnOk};
 ghost use Rattle.cu_store.specs.Held.{Contents};
 ghost use Rattle.cu_store.specs.Chunks.{Allows, StaysOpen};
 ghost use Rattle.cu_task.specs.Asks.{MayReadTask, MayReadWritten};
@@ -12,17 +12,20 @@ ghost use Rattle.cu_op.specs.TaskView.{task_op};
 ghost use Rattle.cu_op.specs.Value.{Elements};
 ghost use Rattle.cu_region.specs.Calls.{Made};
 ghost use Rattle.cu_region.specs.Writing.{AreElements};
-ghost use Rattle.cu_task.specs.OfTask.{found_bytes, calls_to_write, MayReadMade, IsReadyFor, HoldsMade, scratch_bytes, read_bytes, made_bytes, calls_to_read, MayRead, AreSteady, HasMade, IsMadeFrom, AreOfItsType, ChangeBy, IsOwnFault};
-ghost use Rattle.cu_task.specs.Task.{IsTaskReady, TaskChange, HoldsCells, calls_of, HasSureCalls, IsComputing, kept_room, value_array, HasResult, IsComputed, IsTaskFault};
+ghost use Rattle.cu_task.specs.OfTask.{found_bytes, calls_to_write, MayReadMade, IsReadyFor, HoldsMade, read_bytes, made_bytes, calls_to_read, MayRead, AreSteady, IsMadeFrom, AreOfItsType, ChangeBy, IsOwnFault};
+ghost use Rattle.cu_task.specs.Task.{IsTaskReady, TaskChange, HoldsCells, calls_of, HasSureCalls, IsComputing, value_array, IsComputed, IsTaskFault};
+ghost use Rattle.cu_task.specs.TaskRoom.{IsRoomOf, HasMadeAll, AreAllOfTheirTypes};
 
 use crate::copies::copy_region;
-use crate::inputs::{input_bytes, read_regions};
+use crate::inputs::read_regions;
 use crate::maps::run_map;
 use crate::products::multiply;
 use crate::pulls::pull_result;
 use crate::reductions::{fold, merge};
-use crate::results::{result_bytes, value_bytes, write_results};
+use crate::results::write_results;
+use crate::room::TaskRoom;
 use crate::searches::{find_again, find_first};
+use crate::views::{ViewJob, shapes_of};
 use cu_op::{Op, Plan, PlanTask};
 use cu_store::{Chunks, TaskFault};
 
@@ -66,7 +69,8 @@ pub fn run_task_of<C: Chunks>(
     run_plan_task::<C>(store, access, &PlanTask::make(plan, op, task), bytes, words)
 }
 
-/// The same of a task that is at hand: its result stands last, the values that a search finds before it, both behind the other rooms.
+/// The same of a task that is at hand: it parts what it is lent, and makes and stores its result
+/// in these parts.
 fn run_plan_task<C: Chunks>(
     store: &C::Store,
     access: &mut C::Access,
@@ -92,41 +96,28 @@ fn run_plan_task<C: Chunks>(
         (C.shown access.old).calls (C.shown access.new).calls) }
     ensures cause { IfErr result (IsOwnFault task.now (C.shown access.old) (C.shown access.new)) }
 {
-    let result = result_bytes(task);
-    let found = value_bytes(task);
-    let (front, output) = bytes.split_at_mut(bytes.len() - result);
-    let (room, values) = front.split_at_mut(front.len() - found);
-    make_result::<C>(store, access, task, room, values, output, words)?;
-    write_results::<C>(store, access, task, values, output, room)
+    let mut room = TaskRoom::split(task, bytes, words);
+    make_result::<C>(store, access, task, &mut room)?;
+    write_results::<C>(store, access, task, &mut room)
 }
 
-/// The elements of the result in the region of a task, and the values that a search finds, row-major and little-endian. `room` has the
-/// scratch and, behind it, the regions that are read.
+/// The elements of the result in the region of a task, and the values that a search finds,
+/// row-major and little-endian.
 fn make_result<C: Chunks>(
     store: &C::Store,
     access: &mut C::Access,
     task: &PlanTask<'_>,
-    room: &mut [u8],
-    values: &mut [u8],
-    output: &mut [u8],
-    words: &mut [u64],
+    room: &mut TaskRoom<'_>,
 ) -> Result<(), TaskFault>
     requires belongs { C.belongs store.now access.old }
     requires may { MayRead task.now (C.may_get store.now access.old) }
-    requires room { scratch_bytes task.now + kept_room task.now.plan.arrays (task_op task.now)
-        task.now.number ≤ length room.old }
-    requires values { length values.old ≡ found_bytes task.now }
-    requires output { length output.old ≡ made_bytes task.now }
-    requires words { length words.old ≡ 64 * instruction_count (task_op task.now) }
+    requires room { IsRoomOf task.now room.old }
     ensures open { StaysOpen (C.belongs store.now access.new) (C.may_get store.now access.old)
         (C.may_get store.now access.new) }
-    ensures output { (held : Contents) → AreSteady task.now (C.shown access.old) held
-        → OnOk result (HasMade task.now held output.new) }
-    ensures output_elements { OnOk result (AreOfItsType task.now output.new) }
-    ensures values { (array : ℕ) (held : Contents) → value_array (task_op task.now) ≡ Some array → AreSteady task.now (C.shown access.old) held
-        → OnOk result (HasResult task.now.plan task.now.op task.now.number array held values.new) }
-    ensures value_elements { (array : ℕ) → value_array (task_op task.now) ≡ Some array
-        → OnOk result (AreElements (type_at task.now.plan.arrays array) values.new) }
+    ensures room { IsRoomOf task.now room.new }
+    ensures made { (held : Contents) → AreSteady task.now (C.shown access.old) held
+        → OnOk result (HasMadeAll task.now held room.new) }
+    ensures elements { OnOk result (AreAllOfTheirTypes task.now room.new) }
     ensures step { Steps NoChange 0 (calls_to_read task.now) (C.shown access.old)
         (C.shown access.new) }
     ensures all { HasSureCalls (task_op task.now)
@@ -136,10 +127,24 @@ fn make_result<C: Chunks>(
 {
     match task.operation() {
         Op::Pull { pull, ins, .. } => {
-            pull_result::<C>(store, access, task, pull, ins.as_slice(), output, room)
+            let ins = ins.as_slice();
+            let shapes = shapes_of(task, ins);
+            let job = ViewJob {
+                task: &*task,
+                pull,
+                ins,
+                shapes: shapes.as_slice(),
+            };
+            let output = &mut *room.output;
+            let scratch = &mut *room.scratch;
+            pull_result::<C>(store, access, &job, output, scratch)
         }
-        Op::Copy { .. } => copy_region::<C>(store, access, task, output, room),
-        _ => compute_result::<C>(store, access, task, room, values, output, words),
+        Op::Copy { .. } => {
+            let output = &mut *room.output;
+            let scratch = &mut *room.scratch;
+            copy_region::<C>(store, access, task, output, scratch)
+        }
+        _ => compute_result::<C>(store, access, task, room),
     }
 }
 
@@ -148,36 +153,30 @@ fn compute_result<C: Chunks>(
     store: &C::Store,
     access: &mut C::Access,
     task: &PlanTask<'_>,
-    room: &mut [u8],
-    values: &mut [u8],
-    output: &mut [u8],
-    words: &mut [u64],
+    room: &mut TaskRoom<'_>,
 ) -> Result<(), TaskFault>
     requires belongs { C.belongs store.now access.old }
     requires may { MayRead task.now (C.may_get store.now access.old) }
     requires computing { IsComputing (task_op task.now) }
-    requires room { scratch_bytes task.now + read_bytes task.now ≤ length room.old }
-    requires values { length values.old ≡ found_bytes task.now }
-    requires output { length output.old ≡ made_bytes task.now }
-    requires words { length words.old ≡ 64 * instruction_count (task_op task.now) }
+    requires room { IsRoomOf task.now room.old }
     ensures open { StaysOpen (C.belongs store.now access.new) (C.may_get store.now access.old)
         (C.may_get store.now access.new) }
-    ensures output { (held : Contents) → AreSteady task.now (C.shown access.old) held
-        → OnOk result (HasMade task.now held output.new) }
-    ensures output_elements { OnOk result (AreOfItsType task.now output.new) }
-    ensures values { (array : ℕ) (held : Contents) → value_array (task_op task.now) ≡ Some array → AreSteady task.now (C.shown access.old) held
-        → OnOk result (HasResult task.now.plan task.now.op task.now.number array held values.new) }
-    ensures value_elements { (array : ℕ) → value_array (task_op task.now) ≡ Some array
-        → OnOk result (AreElements (type_at task.now.plan.arrays array) values.new) }
+    ensures room { IsRoomOf task.now room.new }
+    ensures made { (held : Contents) → AreSteady task.now (C.shown access.old) held
+        → OnOk result (HasMadeAll task.now held room.new) }
+    ensures elements { OnOk result (AreAllOfTheirTypes task.now room.new) }
     ensures step { Steps NoChange 0 (calls_to_read task.now) (C.shown access.old)
         (C.shown access.new) }
     ensures all { OnOk result (Made (calls_to_read task.now) (C.shown access.old).calls
         (C.shown access.new).calls) }
     ensures cause { IfErr result (IsOwnFault task.now (C.shown access.old) (C.shown access.new)) }
 {
-    let kept = input_bytes(task);
-    let (scratch, inputs) = room.split_at_mut(room.len() - kept);
+    let inputs = &mut *room.inputs;
+    let scratch = &mut *room.scratch;
     read_regions::<C>(store, access, task, inputs, scratch)?;
+    let values = &mut *room.values;
+    let output = &mut *room.output;
+    let words = &mut *room.words;
     compute(task, inputs, values, output, words);
     Ok(())
 }

@@ -1,24 +1,21 @@
 //! Tasks of views: the chunks of their sources that they need, read one at a time.
-ghost use Rattle.std.specs.Prelude.{◌≡◌, ℕ, ◌<◌, ◌≤◌, true, Option, IsTrue, All, length, slice_index, IfErr, OnOk};
+ghost use Rattle.std.specs.Prelude.{◌≡◌, ℕ, ◌<◌, ◌≤◌, true, Option, IsTrue, All, length, IfErr, OnOk};
 ghost use Rattle.cu_shape.specs.Index.{differences};
-ghost use Rattle.cu_grid.specs.Counts.{chunk_lo, chunk_hi, IsRegion};
-ghost use Rattle.cu_grid.specs.Grid.{IsCoordinate};
 ghost use Rattle.cu_store.specs.Faults.{Rose};
 ghost use Rattle.cu_store.specs.Held.{Contents};
 ghost use Rattle.cu_store.specs.Chunks.{Keeps, StaysOpen};
 ghost use Rattle.cu_task.specs.Asks.{MayReadSources};
 ghost use Rattle.cu_store.specs.Steps.{NoChange, Steps};
-ghost use Rattle.cu_op.specs.Arrays.{type_at, chunk_room};
 ghost use Rattle.cu_op.specs.Operation.{shapes_at};
 ghost use Rattle.cu_region.specs.Reading.{IsChunkReadFault};
 ghost use Rattle.cu_region.specs.Writing.{AreElements};
-ghost use Rattle.cu_task.specs.Views.{source_in, needs_chunk, is_exact, calls_for, source_calls, sure_calls, view_calls, IsSourceKey, IsKnown, HaveCome, IsAny, IsInPart, HasPulled};
-ghost use Rattle.cu_task.specs.ViewJobs.{IsViewJob, view_task_of, buffer_room, IsMovedFrom, HasHull, IsViewFault};
+ghost use Rattle.cu_task.specs.Views.{source_in, is_exact, source_calls, sure_calls, view_calls, IsSourceKey, IsKnown, HaveCome, IsAny, HasPulled};
+ghost use Rattle.cu_task.specs.ViewJobs.{IsViewJob, view_task_of, made_in, buffer_room, source_room, view_of_part, IsSourceRegion, IsSourceChunk, IsChunkRegion, view_of_chunk, source_of_chunk, room_for_chunk, IsKeyOfSource, is_needed_chunk, calls_for_chunk, HaveComeFrom, IsMovedFrom, HasHull, IsViewFault};
 
 use arrayvec::ArrayVec;
 use cu_codec::chunk_bytes;
 use cu_grid::Region;
-use cu_op::{ArrayInfo, Plan, PlanTask};
+use cu_op::{ArrayInfo, PlanTask};
 use cu_pull::Pull;
 use cu_region::read_chunk;
 use cu_shape::{Dims, difference};
@@ -26,21 +23,39 @@ use cu_store::{Chunks, TaskFault};
 use cu_view::{gather, hull_of, lay_constants, touches_of};
 use cu_view_box::Block;
 
-/// A task of a view: from what it takes elements, and the region of its result.
+/// A task of a view, with the shapes of its sources.
 #[derive(Drop)]
 pub(crate) struct ViewJob<'a> {
-    /// The plan.
-    pub(crate) plan: &'a Plan,
-    /// The view.
+    /// The task.
+    pub(crate) task: &'a PlanTask<'a>,
+    /// The view that it is of.
     pub(crate) pull: &'a Pull,
-    /// Its sources.
+    /// The view's sources.
     pub(crate) ins: &'a [u32],
-    /// The shapes of its sources.
+    /// Their shapes.
     pub(crate) shapes: &'a [Dims],
-    /// The array that it makes.
-    pub(crate) out: u32,
-    /// The region of it that the task makes.
+}
+
+/// A source of a view, and a region of it with all that is needed of it.
+#[derive(Drop)]
+pub(crate) struct SourceRegion<'a> {
+    /// The task of the view.
+    pub(crate) job: &'a ViewJob<'a>,
+    /// The number of the source.
+    pub(crate) source: u32,
+    /// The region.
     pub(crate) region: Region,
+}
+
+/// A chunk of a source of a view.
+#[derive(Drop)]
+pub(crate) struct SourceChunk<'a> {
+    /// The task of the view.
+    pub(crate) job: &'a ViewJob<'a>,
+    /// The number of the source.
+    pub(crate) source: u32,
+    /// The coordinate of the chunk.
+    pub(crate) coord: Dims,
 }
 
 /// The shapes of arrays of a plan.
@@ -62,7 +77,7 @@ pub(crate) fn lay_numbers(job: &ViewJob<'_>, output: &mut [u8])
     requires output { length output.old ≡ buffer_room (view_task_of job.now) }
     ensures { (told : Option Contents) → HasPulled (view_task_of job.now) 0 told output.new }
 {
-    let made = job.plan.array(job.out);
+    let made = made_array(job);
     lay_constants(
         job.pull,
         job.shapes,
@@ -72,17 +87,27 @@ pub(crate) fn lay_numbers(job: &ViewJob<'_>, output: &mut [u8])
     );
 }
 
-/// The region in its buffer.
+/// The array that a view makes.
+fn made_array<'a>(job: &ViewJob<'a>) -> &'a ArrayInfo
+    requires { IsViewJob job.now }
+    ensures { result.now ≡ made_in (view_task_of job.now) }
+{
+    job.task.array(job.task.operation().target())
+}
+
+/// The region of the task in its buffer.
 fn result_block(job: &ViewJob<'_>) -> Block
     requires { IsViewJob job.now }
-    ensures region { result.region ≡ job.now.region }
-    ensures dims { result.dims ≡ differences job.now.region.hi job.now.region.lo }
-    ensures dtype { result.dtype ≡ type_at job.now.plan.now.arrays job.now.out }
+    ensures lo { result.region.lo ≡ (view_task_of job.now).lo }
+    ensures hi { result.region.hi ≡ (view_task_of job.now).hi }
+    ensures dims { result.dims ≡ differences (view_task_of job.now).hi (view_task_of job.now).lo }
+    ensures dtype { result.dtype ≡ (made_in (view_task_of job.now)).layout.dtype }
 {
+    let region = *job.task.region();
     Block {
-        region: job.region,
-        dims: difference(&job.region.hi, &job.region.lo),
-        dtype: job.plan.array(job.out).layout.dtype,
+        region,
+        dims: difference(&region.hi, &region.lo),
+        dtype: made_array(job).layout.dtype,
     }
 }
 
@@ -99,13 +124,22 @@ pub(crate) fn read_sources<C: Chunks>(
     requires may { MayReadSources (view_task_of job.now) (C.may_get store.now access.old) }
     requires job { IsViewJob job.now }
     requires output { length output.old ≡ buffer_room (view_task_of job.now) }
-    requires scratch { (source : ℕ) → source < length (view_task_of job.now).ins → chunk_room (view_task_of job.now).arrays (slice_index (view_task_of job.now).ins source) ≤ length scratch.old }
-    ensures open { StaysOpen (C.belongs store.now access.new) (C.may_get store.now access.old) (C.may_get store.now access.new) }
-    ensures pulled { (told : Option Contents) → ((source : ℕ) → source < length (view_task_of job.now).ins → IsKnown (IsSourceKey (view_task_of job.now) source) told (C.shown access.old)) → HasPulled (view_task_of job.now) 0 told output.old
-        → OnOk result (HasPulled (view_task_of job.now) (length (view_task_of job.now).ins) told output.new) }
-    ensures step { Steps NoChange 0 (view_calls (view_task_of job.now) (length (view_task_of job.now).ins)) (C.shown access.old) (C.shown access.new) }
-    ensures all { OnOk result (Rose (sure_calls (view_task_of job.now).pull (view_calls (view_task_of job.now) (length (view_task_of job.now).ins))) (C.shown access.old).calls (C.shown access.new).calls) }
-    ensures cause { IfErr result (IsViewFault (C.shown access.old) (C.shown access.new) (view_task_of job.now)) }
+    requires scratch { (source : ℕ) → source < length job.now.ins.now
+        → source_room (view_task_of job.now) source ≤ length scratch.old }
+    ensures open { StaysOpen (C.belongs store.now access.new) (C.may_get store.now access.old)
+        (C.may_get store.now access.new) }
+    ensures pulled { (told : Option Contents)
+        → ((source : ℕ) → source < length job.now.ins.now
+        → IsKnown (IsSourceKey (view_task_of job.now) source) told (C.shown access.old))
+        → HasPulled (view_task_of job.now) 0 told output.old
+        → OnOk result (HasPulled (view_task_of job.now) (length job.now.ins.now) told output.new) }
+    ensures step { Steps NoChange 0 (view_calls (view_task_of job.now) (length job.now.ins.now))
+        (C.shown access.old) (C.shown access.new) }
+    ensures all { OnOk result (Rose
+        (sure_calls job.now.pull.now (view_calls (view_task_of job.now) (length job.now.ins.now)))
+        (C.shown access.old).calls (C.shown access.new).calls) }
+    ensures cause { IfErr result (IsViewFault (C.shown access.old) (C.shown access.new)
+        (view_task_of job.now)) }
 {
     for source in 0..job.ins.len() as u32 {
         read_source::<C>(store, access, job, source, output, scratch)?;
@@ -127,16 +161,30 @@ fn read_source<C: Chunks>(
     requires job { IsViewJob job.now }
     requires source { source < length job.now.ins.now }
     requires output { length output.old ≡ buffer_room (view_task_of job.now) }
-    requires scratch { chunk_room job.now.plan.now.arrays (slice_index job.now.ins.now source) ≤ length scratch.old }
-    ensures open { StaysOpen (C.belongs store.now access.new) (C.may_get store.now access.old) (C.may_get store.now access.new) }
-    ensures takes { (told : Option Contents) → IsKnown (IsSourceKey (view_task_of job.now) source) told (C.shown access.old) → OnOk result (HaveCome (view_task_of job.now) source IsAny told output.old output.new) }
-    ensures step { Steps NoChange 0 (source_calls (view_task_of job.now) source) (C.shown access.old) (C.shown access.new) }
-    ensures all { OnOk result (Rose (sure_calls job.now.pull.now (source_calls (view_task_of job.now) source)) (C.shown access.old).calls (C.shown access.new).calls) }
-    ensures cause { IfErr result (IsChunkReadFault (C.shown access.old) (C.shown access.new) (IsSourceKey (view_task_of job.now) source) (chunk_room job.now.plan.now.arrays (slice_index job.now.ins.now source))) }
+    requires scratch { source_room (view_task_of job.now) source ≤ length scratch.old }
+    ensures open { StaysOpen (C.belongs store.now access.new) (C.may_get store.now access.old)
+        (C.may_get store.now access.new) }
+    ensures takes { (told : Option Contents)
+        → IsKnown (IsSourceKey (view_task_of job.now) source) told (C.shown access.old)
+        → OnOk result (HaveCome (view_task_of job.now) source IsAny told output.old output.new) }
+    ensures step { Steps NoChange 0 (source_calls (view_task_of job.now) source)
+        (C.shown access.old) (C.shown access.new) }
+    ensures all { OnOk result (Rose
+        (sure_calls job.now.pull.now (source_calls (view_task_of job.now) source))
+        (C.shown access.old).calls (C.shown access.new).calls) }
+    ensures cause { IfErr result (IsChunkReadFault (C.shown access.old) (C.shown access.new)
+        (IsSourceKey (view_task_of job.now) source) (source_room (view_task_of job.now) source)) }
 {
     match needed_hull(job, source) {
         None => Ok(()),
-        Some(hull) => read_within::<C>(store, access, job, source, &hull, output, scratch),
+        Some(region) => {
+            let part = SourceRegion {
+                job: &*job,
+                source,
+                region,
+            };
+            read_within::<C>(store, access, &part, output, scratch)
+        }
     }
 }
 
@@ -146,13 +194,13 @@ fn needed_hull(job: &ViewJob<'_>, source: u32) -> Option<Region>
     requires source { source < length job.now.ins.now }
     ensures { HasHull (view_task_of job.now) source result }
 {
-    let made = job.plan.array(job.out);
+    let made = made_array(job);
     hull_of(
         job.pull,
         job.shapes,
         made.layout.grid.shape(),
         source,
-        &job.region,
+        job.task.region(),
     )
 }
 
@@ -160,28 +208,39 @@ fn needed_hull(job: &ViewJob<'_>, source: u32) -> Option<Region>
 fn read_within<C: Chunks>(
     store: &C::Store,
     access: &mut C::Access,
-    job: &ViewJob<'_>,
-    source: u32,
-    hull: &Region,
+    part: &SourceRegion<'_>,
     output: &mut [u8],
     scratch: &mut [u8],
 ) -> Result<(), TaskFault>
     requires belongs { C.belongs store.now access.old }
-    requires may { Keeps (IsSourceKey (view_task_of job.now) source) (C.may_get store.now access.old) }
-    requires job { IsViewJob job.now }
-    requires source { source < length job.now.ins.now }
-    requires hull { HasHull (view_task_of job.now) source (Option.Some hull.now) }
-    requires output { length output.old ≡ buffer_room (view_task_of job.now) }
-    requires scratch { chunk_room job.now.plan.now.arrays (slice_index job.now.ins.now source) ≤ length scratch.old }
-    ensures open { StaysOpen (C.belongs store.now access.new) (C.may_get store.now access.old) (C.may_get store.now access.new) }
-    ensures takes { (told : Option Contents) → IsKnown (IsSourceKey (view_task_of job.now) source) told (C.shown access.old) → OnOk result (HaveCome (view_task_of job.now) source IsAny told output.old output.new) }
-    ensures step { Steps NoChange 0 (source_calls (view_task_of job.now) source) (C.shown access.old) (C.shown access.new) }
-    ensures all { OnOk result (Rose (sure_calls job.now.pull.now (source_calls (view_task_of job.now) source)) (C.shown access.old).calls (C.shown access.new).calls) }
-    ensures cause { IfErr result (IsChunkReadFault (C.shown access.old) (C.shown access.new) (IsSourceKey (view_task_of job.now) source) (chunk_room job.now.plan.now.arrays (slice_index job.now.ins.now source))) }
+    requires may { Keeps (IsSourceKey (view_of_part part.now) part.now.source)
+        (C.may_get store.now access.old) }
+    requires part { IsSourceRegion part.now }
+    requires output { length output.old ≡ buffer_room (view_of_part part.now) }
+    requires scratch { source_room (view_of_part part.now) part.now.source ≤ length scratch.old }
+    ensures open { StaysOpen (C.belongs store.now access.new) (C.may_get store.now access.old)
+        (C.may_get store.now access.new) }
+    ensures takes { (told : Option Contents)
+        → IsKnown (IsSourceKey (view_of_part part.now) part.now.source) told (C.shown access.old)
+        → OnOk result (HaveCome (view_of_part part.now) part.now.source IsAny told output.old
+        output.new) }
+    ensures step { Steps NoChange 0 (source_calls (view_of_part part.now) part.now.source)
+        (C.shown access.old) (C.shown access.new) }
+    ensures all { OnOk result (Rose (sure_calls part.now.job.now.pull.now
+        (source_calls (view_of_part part.now) part.now.source))
+        (C.shown access.old).calls (C.shown access.new).calls) }
+    ensures cause { IfErr result (IsChunkReadFault (C.shown access.old) (C.shown access.new)
+        (IsSourceKey (view_of_part part.now) part.now.source)
+        (source_room (view_of_part part.now) part.now.source)) }
 {
-    let from = source_array(job, source);
-    for coord in from.layout.grid.cover(hull) {
-        read_piece::<C>(store, access, job, source, &coord, output, scratch)?;
+    let from = source_array(part.job, part.source);
+    for coord in from.layout.grid.cover(&part.region) {
+        let chunk = SourceChunk {
+            job: part.job,
+            source: part.source,
+            coord,
+        };
+        read_piece::<C>(store, access, &chunk, output, scratch)?;
     }
     Ok(())
 }
@@ -192,83 +251,80 @@ fn source_array<'a>(job: &ViewJob<'a>, source: u32) -> &'a ArrayInfo
     requires source { source < length job.now.ins.now }
     ensures { result.now ≡ source_in (view_task_of job.now) source }
 {
-    job.plan.array(job.ins[source as usize])
+    job.task.array(job.ins[source as usize])
 }
 
 /// Takes the elements of the region that come from one chunk of a source, which is read only where some do.
 fn read_piece<C: Chunks>(
     store: &C::Store,
     access: &mut C::Access,
-    job: &ViewJob<'_>,
-    source: u32,
-    coord: &Dims,
+    chunk: &SourceChunk<'_>,
     output: &mut [u8],
     scratch: &mut [u8],
 ) -> Result<(), TaskFault>
     requires belongs { C.belongs store.now access.old }
-    requires may { Keeps (IsSourceKey (view_task_of job.now) source) (C.may_get store.now access.old) }
-    requires job { IsViewJob job.now }
-    requires source { source < length job.now.ins.now }
-    requires coordinate { IsCoordinate (source_in (view_task_of job.now) source).layout.grid coord.now }
-    requires output { length output.old ≡ buffer_room (view_task_of job.now) }
-    requires scratch { chunk_room job.now.plan.now.arrays (slice_index job.now.ins.now source) ≤ length scratch.old }
-    ensures open { StaysOpen (C.belongs store.now access.new) (C.may_get store.now access.old) (C.may_get store.now access.new) }
-    ensures takes { (told : Option Contents) → IsKnown (IsSourceKey (view_task_of job.now) source) told (C.shown access.old) → OnOk result (HaveCome (view_task_of job.now) source (IsInPart (view_task_of job.now) source coord.now) told output.old output.new) }
-    ensures step { Steps NoChange (sure_calls job.now.pull.now (calls_for (view_task_of job.now) source coord.now)) (calls_for (view_task_of job.now) source coord.now) (C.shown access.old) (C.shown access.new) }
-    ensures cause { IfErr result (IsChunkReadFault (C.shown access.old) (C.shown access.new) (IsSourceKey (view_task_of job.now) source) (chunk_room job.now.plan.now.arrays (slice_index job.now.ins.now source))) }
+    requires may { Keeps (IsKeyOfSource chunk.now) (C.may_get store.now access.old) }
+    requires chunk { IsSourceChunk chunk.now }
+    requires output { length output.old ≡ buffer_room (view_of_chunk chunk.now) }
+    requires scratch { room_for_chunk chunk.now ≤ length scratch.old }
+    ensures open { StaysOpen (C.belongs store.now access.new) (C.may_get store.now access.old)
+        (C.may_get store.now access.new) }
+    ensures takes { (told : Option Contents)
+        → IsKnown (IsKeyOfSource chunk.now) told (C.shown access.old)
+        → OnOk result (HaveComeFrom chunk.now told output.old output.new) }
+    ensures step { Steps NoChange (sure_calls chunk.now.job.now.pull.now (calls_for_chunk chunk.now))
+        (calls_for_chunk chunk.now)
+        (C.shown access.old) (C.shown access.new) }
+    ensures cause { IfErr result (IsChunkReadFault (C.shown access.old) (C.shown access.new)
+        (IsKeyOfSource chunk.now) (room_for_chunk chunk.now)) }
 {
-    if !is_needed(job, source, coord) {
+    if !is_needed(chunk) {
         return Ok(());
     }
-    take_chunk::<C>(store, access, job, source, coord, output, scratch)
+    take_chunk::<C>(store, access, chunk, output, scratch)
 }
 
 /// Whether an element of the region comes from a chunk of a source; of a reshaped source it may be that none does.
-fn is_needed(job: &ViewJob<'_>, source: u32, coord: &Dims) -> bool
-    requires job { IsViewJob job.now }
-    requires source { source < length job.now.ins.now }
-    requires coordinate { IsCoordinate (source_in (view_task_of job.now) source).layout.grid coord.now }
-    ensures needed { needs_chunk (view_task_of job.now) source coord.now ≡ true → IsTrue result }
-    ensures only { is_exact job.now.pull.now ≡ true → IsTrue result → needs_chunk (view_task_of job.now) source coord.now ≡ true }
+fn is_needed(chunk: &SourceChunk<'_>) -> bool
+    requires { IsSourceChunk chunk.now }
+    ensures needed { is_needed_chunk chunk.now ≡ true → IsTrue result }
+    ensures only { is_exact chunk.now.job.now.pull.now ≡ true → IsTrue result
+        → is_needed_chunk chunk.now ≡ true }
 {
-    let made = job.plan.array(job.out);
-    let part = chunk_part(job, source, coord);
+    let job = chunk.job;
+    let made = made_array(job);
+    let part = chunk_part(chunk);
     touches_of(
         job.pull,
         job.shapes,
         made.layout.grid.shape(),
-        source,
-        &job.region,
+        chunk.source,
+        job.task.region(),
         &part,
     )
 }
 
 /// The region of a source that a chunk of it has.
-fn chunk_part(job: &ViewJob<'_>, source: u32, coord: &Dims) -> Region
-    requires job { IsViewJob job.now }
-    requires source { source < length job.now.ins.now }
-    requires coordinate { IsCoordinate (source_in (view_task_of job.now) source).layout.grid coord.now }
-    ensures lo { result.lo ≡ chunk_lo (source_in (view_task_of job.now) source).layout.grid.chunk coord.now }
-    ensures hi { result.hi ≡ chunk_hi (source_in (view_task_of job.now) source).layout.grid.shape (source_in (view_task_of job.now) source).layout.grid.chunk coord.now }
-    ensures inside { IsRegion (source_in (view_task_of job.now) source).layout.grid.shape result.lo result.hi }
+fn chunk_part(chunk: &SourceChunk<'_>) -> Region
+    requires { IsSourceChunk chunk.now }
+    ensures { IsChunkRegion chunk.now result }
 {
-    source_array(job, source).layout.grid.chunk_region(coord)
+    source_array(chunk.job, chunk.source)
+        .layout
+        .grid
+        .chunk_region(&chunk.coord)
 }
 
 /// A chunk of a source in its buffer, which also has the places past the source's edge.
-fn chunk_block(job: &ViewJob<'_>, source: u32, coord: &Dims) -> Block
-    requires job { IsViewJob job.now }
-    requires source { source < length job.now.ins.now }
-    requires coordinate { IsCoordinate (source_in (view_task_of job.now) source).layout.grid coord.now }
-    ensures lo { result.region.lo ≡ chunk_lo (source_in (view_task_of job.now) source).layout.grid.chunk coord.now }
-    ensures hi { result.region.hi ≡ chunk_hi (source_in (view_task_of job.now) source).layout.grid.shape (source_in (view_task_of job.now) source).layout.grid.chunk coord.now }
-    ensures inside { IsRegion (source_in (view_task_of job.now) source).layout.grid.shape result.region.lo result.region.hi }
-    ensures dims { result.dims ≡ (source_in (view_task_of job.now) source).layout.grid.chunk }
-    ensures dtype { result.dtype ≡ (source_in (view_task_of job.now) source).layout.dtype }
+fn chunk_block(chunk: &SourceChunk<'_>) -> Block
+    requires { IsSourceChunk chunk.now }
+    ensures region { IsChunkRegion chunk.now result.region }
+    ensures dims { result.dims ≡ (source_of_chunk chunk.now).layout.grid.chunk }
+    ensures dtype { result.dtype ≡ (source_of_chunk chunk.now).layout.dtype }
 {
-    let from = source_array(job, source);
+    let from = source_array(chunk.job, chunk.source);
     Block {
-        region: chunk_part(job, source, coord),
+        region: chunk_part(chunk),
         dims: *from.layout.grid.chunk(),
         dtype: from.layout.dtype,
     }
@@ -278,51 +334,51 @@ fn chunk_block(job: &ViewJob<'_>, source: u32, coord: &Dims) -> Block
 fn take_chunk<C: Chunks>(
     store: &C::Store,
     access: &mut C::Access,
-    job: &ViewJob<'_>,
-    source: u32,
-    coord: &Dims,
+    chunk: &SourceChunk<'_>,
     output: &mut [u8],
     scratch: &mut [u8],
 ) -> Result<(), TaskFault>
     requires belongs { C.belongs store.now access.old }
-    requires may { Keeps (IsSourceKey (view_task_of job.now) source) (C.may_get store.now access.old) }
-    requires job { IsViewJob job.now }
-    requires source { source < length job.now.ins.now }
-    requires coordinate { IsCoordinate (source_in (view_task_of job.now) source).layout.grid coord.now }
-    requires output { length output.old ≡ buffer_room (view_task_of job.now) }
-    requires scratch { chunk_room job.now.plan.now.arrays (slice_index job.now.ins.now source) ≤ length scratch.old }
-    ensures open { StaysOpen (C.belongs store.now access.new) (C.may_get store.now access.old) (C.may_get store.now access.new) }
-    ensures takes { (told : Option Contents) → IsKnown (IsSourceKey (view_task_of job.now) source) told (C.shown access.old) → OnOk result (HaveCome (view_task_of job.now) source (IsInPart (view_task_of job.now) source coord.now) told output.old output.new) }
+    requires may { Keeps (IsKeyOfSource chunk.now) (C.may_get store.now access.old) }
+    requires chunk { IsSourceChunk chunk.now }
+    requires output { length output.old ≡ buffer_room (view_of_chunk chunk.now) }
+    requires scratch { room_for_chunk chunk.now ≤ length scratch.old }
+    ensures open { StaysOpen (C.belongs store.now access.new) (C.may_get store.now access.old)
+        (C.may_get store.now access.new) }
+    ensures takes { (told : Option Contents)
+        → IsKnown (IsKeyOfSource chunk.now) told (C.shown access.old)
+        → OnOk result (HaveComeFrom chunk.now told output.old output.new) }
     ensures step { Steps NoChange 1 1 (C.shown access.old) (C.shown access.new) }
-    ensures cause { IfErr result (IsChunkReadFault (C.shown access.old) (C.shown access.new) (IsSourceKey (view_task_of job.now) source) (chunk_room job.now.plan.now.arrays (slice_index job.now.ins.now source))) }
+    ensures cause { IfErr result (IsChunkReadFault (C.shown access.old) (C.shown access.new)
+        (IsKeyOfSource chunk.now) (room_for_chunk chunk.now)) }
 {
-    let from = source_array(job, source);
-    let chunk = &mut scratch[..chunk_bytes(&from.layout.grid, from.layout.dtype)];
-    read_chunk::<C>(store, access, from, coord, chunk)?;
-    move_chunk(job, source, coord, chunk, output);
+    let from = source_array(chunk.job, chunk.source);
+    let bytes = &mut scratch[..chunk_bytes(&from.layout.grid, from.layout.dtype)];
+    read_chunk::<C>(store, access, from, &chunk.coord, bytes)?;
+    move_chunk(chunk, bytes, output);
     Ok(())
 }
 
 /// Takes the elements of the region that come from a chunk of a source, which was read.
-fn move_chunk(job: &ViewJob<'_>, source: u32, coord: &Dims, chunk: &[u8], output: &mut [u8])
-    requires job { IsViewJob job.now }
-    requires source { source < length job.now.ins.now }
-    requires coordinate { IsCoordinate (source_in (view_task_of job.now) source).layout.grid coord.now }
-    requires chunk { length chunk.now ≡ chunk_room job.now.plan.now.arrays (slice_index job.now.ins.now source) }
-    requires elements { AreElements (type_at job.now.plan.now.arrays (slice_index job.now.ins.now source)) chunk.now }
-    requires output { length output.old ≡ buffer_room (view_task_of job.now) }
-    ensures { IsMovedFrom (view_task_of job.now) source coord.now chunk.now output.old output.new }
+fn move_chunk(chunk: &SourceChunk<'_>, bytes: &[u8], output: &mut [u8])
+    requires chunk { IsSourceChunk chunk.now }
+    requires bytes { length bytes.now ≡ room_for_chunk chunk.now }
+    requires elements { AreElements (source_of_chunk chunk.now).layout.dtype bytes.now }
+    requires output { length output.old ≡ buffer_room (view_of_chunk chunk.now) }
+    ensures { IsMovedFrom (view_of_chunk chunk.now) chunk.now.source chunk.now.coord bytes.now
+        output.old output.new }
 {
-    let made = job.plan.array(job.out);
-    let part = chunk_block(job, source, coord);
+    let job = chunk.job;
+    let made = made_array(job);
+    let part = chunk_block(chunk);
     let shape = made.layout.grid.shape();
     gather(
         job.pull,
         job.shapes,
         shape,
-        source,
+        chunk.source,
         &part,
-        chunk,
+        bytes,
         &result_block(job),
         output,
     );

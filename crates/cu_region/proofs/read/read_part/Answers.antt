@@ -15,27 +15,27 @@ on_ok_then (Err e) f p = tt
 
 pub read_bytes-requires-clause-length : goal.read_bytes-requires-clause-length
 read_bytes-requires-clause-length g c =
-    let one : IsOneChunk c.args.info.now.layout.grid.chunk c.args.coord.now c.args.region.now.lo c.args.region.now.hi = c.is_one_chunk.ensures.0 (search rules) in
-    c.requires.out_length ∙ ap (λ x. product x * size_of c.args.info.now.layout.dtype)
-    (one_chunk_differences c.args.info.now.layout.grid c.args.coord.now c.args.region.now.lo c.args.region.now.hi c.requires.grid c.requires.meets.0 c.requires.region one)
+    let one : IsOneChunk c.args.part.now.info.now.layout.grid.chunk c.args.part.now.coord c.args.part.now.region.now.lo c.args.part.now.region.now.hi = c.is_one_chunk.ensures.0 (search rules) in
+    c.requires.out_length ∙ ap (λ x. product x * size_of c.args.part.now.info.now.layout.dtype)
+    (one_chunk_differences c.args.part.now.info.now.layout.grid c.args.part.now.coord c.args.part.now.region.now.lo c.args.part.now.region.now.hi c.requires.part.grid c.requires.part.meets.0 c.requires.part.region one)
 
 pub returns-then-is_one_chunk-clause-part : goal.returns-then-is_one_chunk-clause-part
 returns-then-is_one_chunk-clause-part g c =
-    let one : IsOneChunk c.args.info.now.layout.grid.chunk c.args.coord.now c.args.region.now.lo c.args.region.now.hi = c.is_one_chunk.ensures.0 (search rules) in
-    let sized = c.requires.out_length ∙ ap (λ x. product x * size_of c.args.info.now.layout.dtype)
-    (one_chunk_differences c.args.info.now.layout.grid c.args.coord.now c.args.region.now.lo c.args.region.now.hi c.requires.grid c.requires.meets.0 c.requires.region one) in
-    let long : length c.read_bytes.new.buf ≡ bytes_of c.args.info.now.layout = omega arith in
+    let one : IsOneChunk c.args.part.now.info.now.layout.grid.chunk c.args.part.now.coord c.args.part.now.region.now.lo c.args.part.now.region.now.hi = c.is_one_chunk.ensures.0 (search rules) in
+    let sized = c.requires.out_length ∙ ap (λ x. product x * size_of c.args.part.now.info.now.layout.dtype)
+    (one_chunk_differences c.args.part.now.info.now.layout.grid c.args.part.now.coord c.args.part.now.region.now.lo c.args.part.now.region.now.hi c.requires.part.grid c.requires.part.meets.0 c.requires.part.region one) in
+    let long : length c.read_bytes.new.buf ≡ bytes_of c.args.part.now.info.now.layout = omega arith in
     on_ok_then c.read_bytes.result
-    (λ read. reads_whole c.args.info.now c.args.coord.now c.args.region.now c.args.out.now c.read_bytes.new.buf (g.C.Chunks.shown c.read_bytes.new.access).held
-    c.requires.grid c.requires.region c.requires.meets.0 one read long c.requires.fill)
+    (λ read. reads_whole c.args.part.now.info.now c.args.part.now.coord c.args.part.now.region.now c.args.out.now c.read_bytes.new.buf (g.C.Chunks.shown c.read_bytes.new.access).held
+    c.requires.part.grid c.requires.part.region c.requires.part.meets.0 one read long c.requires.part.fill)
     (rw c.chunk_key-key.ensures at c.read_bytes.ensures.read)
 
 pub returns-clause-part : goal.returns-clause-part
 returns-clause-part g c =
-    let wide : c.from.result ≡ size_of c.args.info.now.layout.dtype = omega arith in
+    let wide : c.from.result ≡ size_of c.args.part.now.info.now.layout.dtype = omega arith in
     let took = rw wide at c.take_part.ensures.taken in
     let cut = length-take-le c.chunk_bytes.result c.args.scratch.now (omega arith) in
-    let long : length c.fetch.new.buf ≡ bytes_of c.args.info.now.layout = omega arith in
+    let long : length c.fetch.new.buf ≡ bytes_of c.args.part.now.info.now.layout = omega arith in
     let read = rw c.chunk_key-key.ensures at c.in_ok-order.ensures.fetched in
-    reads_part c.args.info.now c.in_ok-order.order c.args.coord.now c.args.region.now c.fetch.new.buf c.args.out.now c.take_part.new.out (g.C.Chunks.shown c.fetch.new.access).held
-    c.requires.grid c.requires.region read long c.requires.fill took
+    reads_part c.args.part.now.info.now c.in_ok-order.order c.args.part.now.coord c.args.part.now.region.now c.fetch.new.buf c.args.out.now c.take_part.new.out (g.C.Chunks.shown c.fetch.new.access).held
+    c.requires.part.grid c.requires.part.region read long c.requires.part.fill took

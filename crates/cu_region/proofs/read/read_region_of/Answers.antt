@@ -25,10 +25,18 @@ loop-coord-init g c =
           (meets_own c.args.info.now c.args.region.now.lo c.args.region.now.hi idx c.cover-coord-items.ensures.kept c.requires.region w)));
     }
 
-pub read_part-requires-clause-meets : goal.read_part-requires-clause-meets
-read_part-requires-clause-meets g c =
+pub read_part-requires-clause-part : goal.read_part-requires-clause-part
+read_part-requires-clause-part g c =
     let e : c.loop-coord.coord-iterator ≡ c.in-Some.coord ∷ c.next.new.self = c.in-Some.ensures.steps in
-    c.loop-coord.invariant.left c.in-Some.coord (subst (λ (x : List (List ℕ)). Contains x c.in-Some.coord) (sym e) (first_contains c.in-Some.coord c.next.new.self))
+    let meets = c.loop-coord.invariant.left c.in-Some.coord (subst (λ (x : List (List ℕ)). Contains x c.in-Some.coord) (sym e) (first_contains c.in-Some.coord c.next.new.self)) in
+    record {
+      short = c.requires.short;
+      fill = c.requires.fill;
+      grid = c.cover-coord-items.ensures.kept;
+      region = c.requires.region;
+      meets = meets;
+      small = c.requires.coordinates c.in-Some.coord meets;
+    }
 
 pub loop-coord-preserved : goal.loop-coord-preserved
 loop-coord-preserved g c =

@@ -1,33 +1,49 @@
-use Rattle.std.proofs.Common.{◌+◌, ◌≤◌, ℕ, length, sym, ap, ◌∙◌, subst}
-use Rattle.cu_op.specs.Projection.{scratch_room}
+use Rattle.std.proofs.Common.{◌≤◌, length, refl, sym, ap, ◌∙◌, subst, rules}
 use Rattle.cu_op.specs.Schedule.{op_of}
+use Rattle.cu_op.specs.declared.operation.Op.{Op}
+use Rattle.cu_op.proofs.TaskCells.{fit_of}
+use Rattle.cu_task.specs.Inputs.{IsPullOf}
 use Rattle.cu_task.specs.Task.{IsComputing, value_array}
+use Rattle.cu_task.proofs.InputReads.{on_ok_then}
+use Rattle.cu_task.proofs.JobViews.{job_is_view}
+use Rattle.cu_task.proofs.PullTask.{of_pull}
 use Rattle.cu_task.proofs.TaskKinds.{computing, none_stored}
-use Rattle.cu_task.proofs.TaskRooms.{kept_computing}
 use Rattle.cu_task.proofs.run.make_result.Goals as goal
 
-pub compute_result-requires : goal.compute_result-requires
-compute_result-requires g c =
-    let is : IsComputing (op_of c.args.task.now.plan c.args.task.now.op) = subst IsComputing c.operation.ensures.operation (computing c.operation.result.now c.in_default.not-Pull c.in_default.not-Copy) in
-    let kept = kept_computing c.args.task.now.plan.arrays (op_of c.args.task.now.plan c.args.task.now.op) c.args.task.now.number is in
-    record {
-      belongs = c.requires.belongs;
-      may = c.requires.may;
-      computing = is;
-      room = subst (λ (n : ℕ). scratch_room c.args.task.now.plan.arrays (op_of c.args.task.now.plan c.args.task.now.op) + n ≤ length c.args.room.now) kept c.requires.room;
-      values = c.requires.values;
-      output = c.requires.output;
-      words = c.requires.words;
-    }
+pub compute_result-requires-clause-computing : goal.compute_result-requires-clause-computing
+compute_result-requires-clause-computing g c = subst IsComputing c.operation.ensures.operation (computing c.operation.result.now c.in_default.not-Pull c.in_default.not-Copy)
 
-pub returns-in-Pull-clause-values : goal.returns-in-Pull-clause-values
-returns-in-Pull-clause-values g c array held is known = absurd (none_stored array (sym (ap value_array (sym c.operation.ensures.operation ∙ c.in-Pull.is)) ∙ is))
+pub shapes_of-shapes-requires-clause-within : goal.shapes_of-shapes-requires-clause-within
+shapes_of-shapes-requires-clause-within g c =
+    let is : IsPullOf (op_of c.args.task.now.plan c.args.task.now.op) c.in-Pull.pull c.as_slice-ins.result.now = subst (λ (o : Op). IsPullOf o c.in-Pull.pull c.as_slice-ins.result.now) (sym (sym c.operation.ensures.operation ∙ c.in-Pull.is)) (refl, c.as_slice-ins.ensures.value) in
+    (of_pull c.args.task.now.plan c.args.task.now.op (op_of c.args.task.now.plan c.args.task.now.op) c.args.task.now.number c.in-Pull.pull c.as_slice-ins.result.now (fit_of c.args.task.now.plan c.operation.ensures.sound c.args.task.now.op c.args.task.now.operation) is).reads
 
-pub returns-in-Pull-clause-value_elements : goal.returns-in-Pull-clause-value_elements
-returns-in-Pull-clause-value_elements g c array is = absurd (none_stored array (sym (ap value_array (sym c.operation.ensures.operation ∙ c.in-Pull.is)) ∙ is))
+pub pull_result-requires-clause-job : goal.pull_result-requires-clause-job
+pull_result-requires-clause-job g c =
+    let is : IsPullOf (op_of c.args.task.now.plan c.args.task.now.op) c.in-Pull.pull c.as_slice-ins.result.now = subst (λ (o : Op). IsPullOf o c.in-Pull.pull c.as_slice-ins.result.now) (sym (sym c.operation.ensures.operation ∙ c.in-Pull.is)) (refl, c.as_slice-ins.ensures.value) in
+    let few : length c.as_slice-ins.result.now ≤ 8 = search rules in
+    job_is_view _ c.operation.ensures.sound is few (search rules)
 
-pub returns-in-Copy-clause-values : goal.returns-in-Copy-clause-values
-returns-in-Copy-clause-values g c array held is known = absurd (none_stored array (sym (ap value_array (sym c.operation.ensures.operation ∙ c.in-Copy.is)) ∙ is))
+pub returns-in-Pull-clause-made : goal.returns-in-Pull-clause-made
+returns-in-Pull-clause-made g c held known =
+    on_ok_then c.pull_result.result
+    (λ made. record { output = made; values = λ array is. absurd (none_stored array (sym (ap value_array (sym c.operation.ensures.operation ∙ c.in-Pull.is)) ∙ is)) })
+    (c.pull_result.ensures.values held known)
 
-pub returns-in-Copy-clause-value_elements : goal.returns-in-Copy-clause-value_elements
-returns-in-Copy-clause-value_elements g c array is = absurd (none_stored array (sym (ap value_array (sym c.operation.ensures.operation ∙ c.in-Copy.is)) ∙ is))
+pub returns-in-Pull-clause-elements : goal.returns-in-Pull-clause-elements
+returns-in-Pull-clause-elements g c =
+    on_ok_then c.pull_result.result
+    (λ elements. record { output = elements; values = λ array is. absurd (none_stored array (sym (ap value_array (sym c.operation.ensures.operation ∙ c.in-Pull.is)) ∙ is)) })
+    c.pull_result.ensures.elements
+
+pub returns-in-Copy-clause-made : goal.returns-in-Copy-clause-made
+returns-in-Copy-clause-made g c held known =
+    on_ok_then c.copy_region.result
+    (λ made. record { output = made; values = λ array is. absurd (none_stored array (sym (ap value_array (sym c.operation.ensures.operation ∙ c.in-Copy.is)) ∙ is)) })
+    (c.copy_region.ensures.values held known)
+
+pub returns-in-Copy-clause-elements : goal.returns-in-Copy-clause-elements
+returns-in-Copy-clause-elements g c =
+    on_ok_then c.copy_region.result
+    (λ elements. record { output = elements; values = λ array is. absurd (none_stored array (sym (ap value_array (sym c.operation.ensures.operation ∙ c.in-Copy.is)) ∙ is)) })
+    c.copy_region.ensures.elements

@@ -8,14 +8,14 @@ use Rattle.cu_task.proofs.views.read_piece.Goals as goal
 
 pub returns-then-not-is_needed-clause-takes : goal.returns-then-not-is_needed-clause-takes
 returns-then-not-is_needed-clause-takes g c told known =
-    takes_nothing (view_task_of c.args.job.now) c.args.source (IsInPart (view_task_of c.args.job.now) c.args.source c.args.coord.now) told c.args.output.now
-    (λ idx i w o part. true≢false (sym (c.is_needed.ensures.needed (needed (view_task_of c.args.job.now) c.args.source c.args.coord.now (record { idx = idx; i = i; within = w; origin = o; part = part }))) ∙ c.if-not-is_needed.true))
+    takes_nothing (view_task_of c.args.chunk.now.job.now) c.args.chunk.now.source (IsInPart (view_task_of c.args.chunk.now.job.now) c.args.chunk.now.source c.args.chunk.now.coord) told c.args.output.now
+    (λ idx i w o part. true≢false (sym (c.is_needed.ensures.needed (needed (view_task_of c.args.chunk.now.job.now) c.args.chunk.now.source c.args.chunk.now.coord (record { idx = idx; i = i; within = w; origin = o; part = part }))) ∙ c.if-not-is_needed.true))
 
 pub returns-then-not-is_needed-clause-step : goal.returns-then-not-is_needed-clause-step
 returns-then-not-is_needed-clause-step g c =
-    calls_unneeded (view_task_of c.args.job.now) c.args.source c.args.coord.now (g.C.Chunks.shown c.args.access.now) (λ needs. true≢false (sym (c.is_needed.ensures.needed needs) ∙ c.if-not-is_needed.true))
+    calls_unneeded (view_task_of c.args.chunk.now.job.now) c.args.chunk.now.source c.args.chunk.now.coord (g.C.Chunks.shown c.args.access.now) (λ needs. true≢false (sym (c.is_needed.ensures.needed needs) ∙ c.if-not-is_needed.true))
 
 pub returns-clause-step : goal.returns-clause-step
 returns-clause-step g c =
-    calls_needed (view_task_of c.args.job.now) c.args.source c.args.coord.now (g.C.Chunks.shown c.args.access.now) (g.C.Chunks.shown c.take_chunk.new.access)
+    calls_needed (view_task_of c.args.chunk.now.job.now) c.args.chunk.now.source c.args.chunk.now.coord (g.C.Chunks.shown c.args.access.now) (g.C.Chunks.shown c.take_chunk.new.access)
     (λ exact. c.is_needed.ensures.only exact c.if-not-is_needed.false) c.take_chunk.ensures.step

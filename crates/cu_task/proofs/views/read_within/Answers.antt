@@ -1,14 +1,12 @@
 use Rattle.std.proofs.Common.{◌≡◌, ℕ, List, [], ◌∷◌, Contains, ap, sym, ◌∙◌, subst}
-use Rattle.std.specs.Prelude.{slice_index}
 use Rattle.std.specs.List.{count_by}
 use Rattle.std.proofs.lemmas.Result.{err_from_is_err_and}
 use Rattle.cu_grid.specs.Counts.{IsRegion}
 use Rattle.cu_grid.specs.Cover.{covering}
-use Rattle.cu_op.specs.Arrays.{chunk_room}
 use Rattle.cu_op.specs.declared.layout.ArrayInfo.{ArrayInfo}
 use Rattle.cu_region.proofs.SteadyKeys.{first_contains, rest_contains}
 use Rattle.cu_region.proofs.StoredReads.{fault_more}
-use Rattle.cu_task.specs.ViewJobs.{view_task_of}
+use Rattle.cu_task.specs.ViewJobs.{view_task_of, source_room}
 use Rattle.cu_task.specs.Views.{source_in, may_read, IsSourceKey, IsInPart}
 use Rattle.cu_task.proofs.JobViews.{fitting}
 use Rattle.cu_task.proofs.ViewChunks.{CallsSoFar, calls_none_yet, calls_one_more, calls_most, cover_calls, cover_coordinate, all_calls, sure_made}
@@ -17,74 +15,78 @@ use Rattle.cu_store.proofs.StaysOpen.{open_same, open_then}
 use Rattle.cu_task.proofs.views.read_within.Goals as goal
 
 pub cover-coord-items-requires : goal.cover-coord-items-requires
-cover-coord-items-requires g c = subst (λ (a : ArrayInfo). IsRegion a.layout.grid.shape c.args.hull.now.lo c.args.hull.now.hi) (sym c.source_array-from.ensures) c.requires.hull.0
+cover-coord-items-requires g c = subst (λ (a : ArrayInfo). IsRegion a.layout.grid.shape c.args.part.now.region.lo c.args.part.now.region.hi) (sym c.source_array-from.ensures) c.requires.part.hull.0
 
 pub loop-coord-init : goal.loop-coord-init
 loop-coord-init g c =
-    let e : c.into_iter-coord-iterator.result ≡ covering (source_in (view_task_of c.args.job.now) c.args.source).layout.grid.chunk c.args.hull.now.lo c.args.hull.now.hi
-    = c.into_iter-coord-iterator.ensures.into_iter_gives ∙ c.cover-coord-items.ensures.chunks ∙ ap (λ (a : ArrayInfo). covering a.layout.grid.chunk c.args.hull.now.lo c.args.hull.now.hi) c.source_array-from.ensures in
-    let fit = fitting c.args.job.now c.requires.job in
+    let e : c.into_iter-coord-iterator.result ≡ covering (source_in (view_task_of c.args.part.now.job.now) c.args.part.now.source).layout.grid.chunk c.args.part.now.region.lo c.args.part.now.region.hi
+    = c.into_iter-coord-iterator.ensures.into_iter_gives ∙ c.cover-coord-items.ensures.chunks ∙ ap (λ (a : ArrayInfo). covering a.layout.grid.chunk c.args.part.now.region.lo c.args.part.now.region.hi) c.source_array-from.ensures in
+    let fit = fitting c.args.part.now.job.now c.requires.part.job in
     record {
-      left = λ coord has. cover_coordinate (view_task_of c.args.job.now) fit c.args.source c.requires.source c.args.hull.now c.requires.hull coord (subst (λ (x : List (List ℕ)). Contains x coord) e has);
-      calls = calls_none_yet (view_task_of c.args.job.now) c.args.source (count_by (may_read (view_task_of c.args.job.now) c.args.source) (covering (source_in (view_task_of c.args.job.now) c.args.source).layout.grid.chunk c.args.hull.now.lo c.args.hull.now.hi)) c.into_iter-coord-iterator.result (g.C.Chunks.shown c.args.access.now)
-          (ap (count_by (may_read (view_task_of c.args.job.now) c.args.source)) e);
+      left = λ coord has. cover_coordinate (view_task_of c.args.part.now.job.now) fit c.args.part.now.source c.requires.part.source c.args.part.now.region c.requires.part.hull coord (subst (λ (x : List (List ℕ)). Contains x coord) e has);
+      calls = calls_none_yet (view_task_of c.args.part.now.job.now) c.args.part.now.source (count_by (may_read (view_task_of c.args.part.now.job.now) c.args.part.now.source) (covering (source_in (view_task_of c.args.part.now.job.now) c.args.part.now.source).layout.grid.chunk c.args.part.now.region.lo c.args.part.now.region.hi)) c.into_iter-coord-iterator.result (g.C.Chunks.shown c.args.access.now)
+          (ap (count_by (may_read (view_task_of c.args.part.now.job.now) c.args.part.now.source)) e);
       open_ = open_same (g.C.Chunks.may_get c.args.store.now c.args.access.now) c.requires.belongs;
-      takes = λ told known. so_far_none (view_task_of c.args.job.now) fit c.args.source c.requires.source c.args.hull.now c.requires.hull told c.into_iter-coord-iterator.result c.args.output.now (λ coord has. subst (λ (x : List (List ℕ)). Contains x coord) (sym e) has);
+      takes = λ told known. so_far_none (view_task_of c.args.part.now.job.now) fit c.args.part.now.source c.requires.part.source c.args.part.now.region c.requires.part.hull told c.into_iter-coord-iterator.result c.args.output.now (λ coord has. subst (λ (x : List (List ℕ)). Contains x coord) (sym e) has);
     }
 
-pub read_piece-requires-clause-coordinate : goal.read_piece-requires-clause-coordinate
-read_piece-requires-clause-coordinate g c =
+pub read_piece-requires-clause-chunk : goal.read_piece-requires-clause-chunk
+read_piece-requires-clause-chunk g c =
     let e : c.loop-coord.coord-iterator ≡ c.in-Some.coord ∷ c.next.new.self = c.in-Some.ensures.steps in
-    c.loop-coord.invariant.left c.in-Some.coord (subst (λ (x : List (List ℕ)). Contains x c.in-Some.coord) (sym e) (first_contains c.in-Some.coord c.next.new.self))
+    record {
+      job = c.requires.part.job;
+      source = c.requires.part.source;
+      coordinate = c.loop-coord.invariant.left c.in-Some.coord (subst (λ (x : List (List ℕ)). Contains x c.in-Some.coord) (sym e) (first_contains c.in-Some.coord c.next.new.self));
+    }
 
 pub loop-coord-preserved : goal.loop-coord-preserved
 loop-coord-preserved g c =
     let e : c.loop-coord.coord-iterator ≡ c.in-Some.coord ∷ c.next.new.self = c.in-Some.ensures.steps in
-    let total = count_by (may_read (view_task_of c.args.job.now) c.args.source) (covering (source_in (view_task_of c.args.job.now) c.args.source).layout.grid.chunk c.args.hull.now.lo c.args.hull.now.hi) in
-    let so_far = subst (λ (x : List (List ℕ)). CallsSoFar (view_task_of c.args.job.now) c.args.source (count_by (may_read (view_task_of c.args.job.now) c.args.source) (covering (source_in (view_task_of c.args.job.now) c.args.source).layout.grid.chunk c.args.hull.now.lo c.args.hull.now.hi)) x (g.C.Chunks.shown c.args.access.now) (g.C.Chunks.shown c.loop-coord.access)) e c.loop-coord.invariant.calls in
+    let total = count_by (may_read (view_task_of c.args.part.now.job.now) c.args.part.now.source) (covering (source_in (view_task_of c.args.part.now.job.now) c.args.part.now.source).layout.grid.chunk c.args.part.now.region.lo c.args.part.now.region.hi) in
+    let so_far = subst (λ (x : List (List ℕ)). CallsSoFar (view_task_of c.args.part.now.job.now) c.args.part.now.source (count_by (may_read (view_task_of c.args.part.now.job.now) c.args.part.now.source) (covering (source_in (view_task_of c.args.part.now.job.now) c.args.part.now.source).layout.grid.chunk c.args.part.now.region.lo c.args.part.now.region.hi)) x (g.C.Chunks.shown c.args.access.now) (g.C.Chunks.shown c.loop-coord.access)) e c.loop-coord.invariant.calls in
     record {
       left = λ coord has. c.loop-coord.invariant.left coord (subst (λ (x : List (List ℕ)). Contains x coord) (sym e) (rest_contains c.in-Some.coord c.next.new.self coord has));
-      calls = calls_one_more (view_task_of c.args.job.now) c.args.source total c.in-Some.coord c.next.new.self (g.C.Chunks.shown c.args.access.now) (g.C.Chunks.shown c.loop-coord.access) (g.C.Chunks.shown c.read_piece.new.access) so_far c.read_piece.ensures.step;
+      calls = calls_one_more (view_task_of c.args.part.now.job.now) c.args.part.now.source total c.in-Some.coord c.next.new.self (g.C.Chunks.shown c.args.access.now) (g.C.Chunks.shown c.loop-coord.access) (g.C.Chunks.shown c.read_piece.new.access) so_far c.read_piece.ensures.step;
       open_ = open_then c.loop-coord.invariant.open_ c.read_piece.ensures.open;
       takes = λ told known.
-          let later = known_after (view_task_of c.args.job.now) c.args.source told total c.loop-coord.coord-iterator (g.C.Chunks.shown c.args.access.now) (g.C.Chunks.shown c.loop-coord.access) known c.loop-coord.invariant.calls in
-          so_far_more (view_task_of c.args.job.now) c.args.source told c.in-Some.coord c.next.new.self c.args.output.now c.loop-coord.output c.read_piece.new.output
-          (subst (λ (x : List (List ℕ)). SoFar (view_task_of c.args.job.now) c.args.source told x c.args.output.now c.loop-coord.output) e (c.loop-coord.invariant.takes told known))
-          (takes_before (view_task_of c.args.job.now) (fitting c.args.job.now c.requires.job) c.args.source (IsInPart (view_task_of c.args.job.now) c.args.source c.in-Some.coord) told (g.C.Chunks.shown c.loop-coord.access) later c.loop-coord.output c.read_piece.new.output (c.in_ok-read_piece.ensures.takes later.now later.known));
+          let later = known_after (view_task_of c.args.part.now.job.now) c.args.part.now.source told total c.loop-coord.coord-iterator (g.C.Chunks.shown c.args.access.now) (g.C.Chunks.shown c.loop-coord.access) known c.loop-coord.invariant.calls in
+          so_far_more (view_task_of c.args.part.now.job.now) c.args.part.now.source told c.in-Some.coord c.next.new.self c.args.output.now c.loop-coord.output c.read_piece.new.output
+          (subst (λ (x : List (List ℕ)). SoFar (view_task_of c.args.part.now.job.now) c.args.part.now.source told x c.args.output.now c.loop-coord.output) e (c.loop-coord.invariant.takes told known))
+          (takes_before (view_task_of c.args.part.now.job.now) (fitting c.args.part.now.job.now c.requires.part.job) c.args.part.now.source (IsInPart (view_task_of c.args.part.now.job.now) c.args.part.now.source c.in-Some.coord) told (g.C.Chunks.shown c.loop-coord.access) later c.loop-coord.output c.read_piece.new.output (c.in_ok-read_piece.ensures.takes later.now later.known));
     }
 
 pub returns-clause-takes : goal.returns-clause-takes
 returns-clause-takes g c told known =
     let e : c.loop-coord.coord-iterator ≡ [] = c.in-None.ensures.steps.0 in
-    so_far_all (view_task_of c.args.job.now) c.args.source told c.args.output.now c.loop-coord.output (subst (λ (x : List (List ℕ)). SoFar (view_task_of c.args.job.now) c.args.source told x c.args.output.now c.loop-coord.output) e (c.loop-coord.invariant.takes told known))
+    so_far_all (view_task_of c.args.part.now.job.now) c.args.part.now.source told c.args.output.now c.loop-coord.output (subst (λ (x : List (List ℕ)). SoFar (view_task_of c.args.part.now.job.now) c.args.part.now.source told x c.args.output.now c.loop-coord.output) e (c.loop-coord.invariant.takes told known))
 
 pub returns-clause-step : goal.returns-clause-step
 returns-clause-step g c =
-    calls_most (view_task_of c.args.job.now) c.args.source (count_by (may_read (view_task_of c.args.job.now) c.args.source) (covering (source_in (view_task_of c.args.job.now) c.args.source).layout.grid.chunk c.args.hull.now.lo c.args.hull.now.hi)) c.loop-coord.coord-iterator (g.C.Chunks.shown c.args.access.now) (g.C.Chunks.shown c.loop-coord.access) c.loop-coord.invariant.calls
-    (cover_calls (view_task_of c.args.job.now) (fitting c.args.job.now c.requires.job) c.args.source c.requires.source c.args.hull.now c.requires.hull)
+    calls_most (view_task_of c.args.part.now.job.now) c.args.part.now.source (count_by (may_read (view_task_of c.args.part.now.job.now) c.args.part.now.source) (covering (source_in (view_task_of c.args.part.now.job.now) c.args.part.now.source).layout.grid.chunk c.args.part.now.region.lo c.args.part.now.region.hi)) c.loop-coord.coord-iterator (g.C.Chunks.shown c.args.access.now) (g.C.Chunks.shown c.loop-coord.access) c.loop-coord.invariant.calls
+    (cover_calls (view_task_of c.args.part.now.job.now) (fitting c.args.part.now.job.now c.requires.part.job) c.args.part.now.source c.requires.part.source c.args.part.now.region c.requires.part.hull)
 
 pub returns-clause-all : goal.returns-clause-all
 returns-clause-all g c =
     let e : c.loop-coord.coord-iterator ≡ [] = c.in-None.ensures.steps.0 in
-    let total = count_by (may_read (view_task_of c.args.job.now) c.args.source) (covering (source_in (view_task_of c.args.job.now) c.args.source).layout.grid.chunk c.args.hull.now.lo c.args.hull.now.hi) in
-    sure_made (view_task_of c.args.job.now) c.args.source total (g.C.Chunks.shown c.args.access.now) (g.C.Chunks.shown c.loop-coord.access)
-    (subst (λ (x : List (List ℕ)). CallsSoFar (view_task_of c.args.job.now) c.args.source (count_by (may_read (view_task_of c.args.job.now) c.args.source) (covering (source_in (view_task_of c.args.job.now) c.args.source).layout.grid.chunk c.args.hull.now.lo c.args.hull.now.hi)) x (g.C.Chunks.shown c.args.access.now) (g.C.Chunks.shown c.loop-coord.access)) e c.loop-coord.invariant.calls)
-    (all_calls (view_task_of c.args.job.now) (fitting c.args.job.now c.requires.job) c.args.source c.requires.source c.args.hull.now c.requires.hull)
+    let total = count_by (may_read (view_task_of c.args.part.now.job.now) c.args.part.now.source) (covering (source_in (view_task_of c.args.part.now.job.now) c.args.part.now.source).layout.grid.chunk c.args.part.now.region.lo c.args.part.now.region.hi) in
+    sure_made (view_task_of c.args.part.now.job.now) c.args.part.now.source total (g.C.Chunks.shown c.args.access.now) (g.C.Chunks.shown c.loop-coord.access)
+    (subst (λ (x : List (List ℕ)). CallsSoFar (view_task_of c.args.part.now.job.now) c.args.part.now.source (count_by (may_read (view_task_of c.args.part.now.job.now) c.args.part.now.source) (covering (source_in (view_task_of c.args.part.now.job.now) c.args.part.now.source).layout.grid.chunk c.args.part.now.region.lo c.args.part.now.region.hi)) x (g.C.Chunks.shown c.args.access.now) (g.C.Chunks.shown c.loop-coord.access)) e c.loop-coord.invariant.calls)
+    (all_calls (view_task_of c.args.part.now.job.now) (fitting c.args.part.now.job.now c.requires.part.job) c.args.part.now.source c.requires.part.source c.args.part.now.region c.requires.part.hull)
 
 pub returns-in_err-read_piece-clause-step : goal.returns-in_err-read_piece-clause-step
 returns-in_err-read_piece-clause-step g c =
     let e : c.loop-coord.coord-iterator ≡ c.in-Some.coord ∷ c.next.new.self = c.in-Some.ensures.steps in
-    let total = count_by (may_read (view_task_of c.args.job.now) c.args.source) (covering (source_in (view_task_of c.args.job.now) c.args.source).layout.grid.chunk c.args.hull.now.lo c.args.hull.now.hi) in
-    let so_far = subst (λ (x : List (List ℕ)). CallsSoFar (view_task_of c.args.job.now) c.args.source (count_by (may_read (view_task_of c.args.job.now) c.args.source) (covering (source_in (view_task_of c.args.job.now) c.args.source).layout.grid.chunk c.args.hull.now.lo c.args.hull.now.hi)) x (g.C.Chunks.shown c.args.access.now) (g.C.Chunks.shown c.loop-coord.access)) e c.loop-coord.invariant.calls in
-    calls_most (view_task_of c.args.job.now) c.args.source total c.next.new.self (g.C.Chunks.shown c.args.access.now) (g.C.Chunks.shown c.read_piece.new.access)
-    (calls_one_more (view_task_of c.args.job.now) c.args.source total c.in-Some.coord c.next.new.self (g.C.Chunks.shown c.args.access.now) (g.C.Chunks.shown c.loop-coord.access) (g.C.Chunks.shown c.read_piece.new.access) so_far c.read_piece.ensures.step)
-    (cover_calls (view_task_of c.args.job.now) (fitting c.args.job.now c.requires.job) c.args.source c.requires.source c.args.hull.now c.requires.hull)
+    let total = count_by (may_read (view_task_of c.args.part.now.job.now) c.args.part.now.source) (covering (source_in (view_task_of c.args.part.now.job.now) c.args.part.now.source).layout.grid.chunk c.args.part.now.region.lo c.args.part.now.region.hi) in
+    let so_far = subst (λ (x : List (List ℕ)). CallsSoFar (view_task_of c.args.part.now.job.now) c.args.part.now.source (count_by (may_read (view_task_of c.args.part.now.job.now) c.args.part.now.source) (covering (source_in (view_task_of c.args.part.now.job.now) c.args.part.now.source).layout.grid.chunk c.args.part.now.region.lo c.args.part.now.region.hi)) x (g.C.Chunks.shown c.args.access.now) (g.C.Chunks.shown c.loop-coord.access)) e c.loop-coord.invariant.calls in
+    calls_most (view_task_of c.args.part.now.job.now) c.args.part.now.source total c.next.new.self (g.C.Chunks.shown c.args.access.now) (g.C.Chunks.shown c.read_piece.new.access)
+    (calls_one_more (view_task_of c.args.part.now.job.now) c.args.part.now.source total c.in-Some.coord c.next.new.self (g.C.Chunks.shown c.args.access.now) (g.C.Chunks.shown c.loop-coord.access) (g.C.Chunks.shown c.read_piece.new.access) so_far c.read_piece.ensures.step)
+    (cover_calls (view_task_of c.args.part.now.job.now) (fitting c.args.part.now.job.now c.requires.part.job) c.args.part.now.source c.requires.part.source c.args.part.now.region c.requires.part.hull)
 
 pub returns-in_err-read_piece-clause-cause : goal.returns-in_err-read_piece-clause-cause
 returns-in_err-read_piece-clause-cause g c =
     let p = err_from_is_err_and c.from_residual.result c.from_residual.ensures.1 in
-    rw (p.1, p.2) (fault_more (g.C.Chunks.shown c.args.access.now) (g.C.Chunks.shown c.loop-coord.access) (g.C.Chunks.shown c.read_piece.new.access) (IsSourceKey (view_task_of c.args.job.now) c.args.source) (IsSourceKey (view_task_of c.args.job.now) c.args.source)
-    (chunk_room c.args.job.now.plan.now.arrays (slice_index c.args.job.now.ins.now c.args.source)) c.in_err-read_piece.field-0.0 c.loop-coord.invariant.calls.2.count (λ key here. here) c.in_err-read_piece.ensures.cause)
+    rw (p.1, p.2) (fault_more (g.C.Chunks.shown c.args.access.now) (g.C.Chunks.shown c.loop-coord.access) (g.C.Chunks.shown c.read_piece.new.access) (IsSourceKey (view_task_of c.args.part.now.job.now) c.args.part.now.source) (IsSourceKey (view_task_of c.args.part.now.job.now) c.args.part.now.source)
+    (source_room (view_task_of c.args.part.now.job.now) c.args.part.now.source) c.in_err-read_piece.field-0.0 c.loop-coord.invariant.calls.2.count (λ key here. here) c.in_err-read_piece.ensures.cause)
 
 pub read_piece-requires-clause-belongs : goal.read_piece-requires-clause-belongs
 read_piece-requires-clause-belongs g c = c.loop-coord.invariant.open_.belongs

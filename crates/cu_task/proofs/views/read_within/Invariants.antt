@@ -12,9 +12,9 @@ use Rattle.cu_task.proofs.views.read_within.Given as goal
 
 abbrev pub invariant-loop-coord : goal.invariant-loop-coord
 invariant-loop-coord g l = record {
-  left : (coord : List ℕ) → Contains l.coord-iterator coord → IsCoordinate (source_in (view_task_of l.job) l.source).layout.grid coord;
-  calls : CallsSoFar (view_task_of l.job) l.source (count_by (may_read (view_task_of l.job) l.source) (covering (source_in (view_task_of l.job) l.source).layout.grid.chunk l.hull.lo l.hull.hi)) l.coord-iterator
+  left : (coord : List ℕ) → Contains l.coord-iterator coord → IsCoordinate (source_in (view_task_of l.part.job.now) l.part.source).layout.grid coord;
+  calls : CallsSoFar (view_task_of l.part.job.now) l.part.source (count_by (may_read (view_task_of l.part.job.now) l.part.source) (covering (source_in (view_task_of l.part.job.now) l.part.source).layout.grid.chunk l.part.region.lo l.part.region.hi)) l.coord-iterator
       (g.C.Chunks.shown l.initial.access) (g.C.Chunks.shown l.access);
   open_ : StaysOpen (g.C.Chunks.belongs l.store l.access) (g.C.Chunks.may_get l.store l.initial.access) (g.C.Chunks.may_get l.store l.access);
-  takes : (told : Option Contents) → IsKnown (IsSourceKey (view_task_of l.job) l.source) told (g.C.Chunks.shown l.initial.access) → SoFar (view_task_of l.job) l.source told l.coord-iterator l.initial.output l.output;
+  takes : (told : Option Contents) → IsKnown (IsSourceKey (view_task_of l.part.job.now) l.part.source) told (g.C.Chunks.shown l.initial.access) → SoFar (view_task_of l.part.job.now) l.part.source told l.coord-iterator l.initial.output l.output;
 }

@@ -12,29 +12,29 @@ use Rattle.cu_task.proofs.ViewElements.{takes_chunk}
 use Rattle.cu_task.proofs.views.take_chunk.Goals as goal
 
 pub read_chunk-requires-clause-short : goal.read_chunk-requires-clause-short
-read_chunk-requires-clause-short g c = (source_array_ok c.args.job.now c.requires.job c.args.source c.source_array-from.result.now c.requires.source c.source_array-from.ensures).short
+read_chunk-requires-clause-short g c = (source_array_ok c.args.chunk.now.job.now c.requires.chunk.job c.args.chunk.now.source c.source_array-from.result.now c.requires.chunk.source c.source_array-from.ensures).short
 
 pub read_chunk-requires-clause-fill : goal.read_chunk-requires-clause-fill
-read_chunk-requires-clause-fill g c = (source_array_ok c.args.job.now c.requires.job c.args.source c.source_array-from.result.now c.requires.source c.source_array-from.ensures).fill
+read_chunk-requires-clause-fill g c = (source_array_ok c.args.chunk.now.job.now c.requires.chunk.job c.args.chunk.now.source c.source_array-from.result.now c.requires.chunk.source c.source_array-from.ensures).fill
 
 pub read_chunk-requires-clause-small : goal.read_chunk-requires-clause-small
 read_chunk-requires-clause-small g c =
-    coordinates_small c.args.job.now.plan.now _ c.args.coord.now c.requires.job.sound (source_below c.args.job.now c.requires.job c.args.source c.requires.source) c.requires.coordinate
+    coordinates_small c.args.chunk.now.job.now.task.now.plan _ c.args.chunk.now.coord c.requires.chunk.job.sound (source_below c.args.chunk.now.job.now c.requires.chunk.job c.args.chunk.now.source c.requires.chunk.source) c.requires.chunk.coordinate
 
 pub move_chunk-requires-clause-elements : goal.move_chunk-requires-clause-elements
 move_chunk-requires-clause-elements g c = subst (λ (a : ArrayInfo). AreElements a.layout.dtype c.read_chunk.new.buf) c.source_array-from.ensures c.in_ok-read_chunk.ensures.elements
 
 pub returns-clause-takes : goal.returns-clause-takes
 returns-clause-takes g c told known =
-    takes_chunk (view_task_of c.args.job.now) (fitting c.args.job.now c.requires.job) c.args.source c.args.coord.now c.read_chunk.new.buf c.args.output.now c.move_chunk.new.output told 1 1
-    (g.C.Chunks.shown c.args.access.now) (g.C.Chunks.shown c.read_chunk.new.access) c.requires.source known c.read_chunk.ensures.step
-    (subst (λ (a : ArrayInfo). HasChunk a c.args.coord.now (g.C.Chunks.shown c.read_chunk.new.access).held c.read_chunk.new.buf) c.source_array-from.ensures c.in_ok-read_chunk.ensures.read)
+    takes_chunk (view_task_of c.args.chunk.now.job.now) (fitting c.args.chunk.now.job.now c.requires.chunk.job) c.args.chunk.now.source c.args.chunk.now.coord c.read_chunk.new.buf c.args.output.now c.move_chunk.new.output told 1 1
+    (g.C.Chunks.shown c.args.access.now) (g.C.Chunks.shown c.read_chunk.new.access) c.requires.chunk.source known c.read_chunk.ensures.step
+    (subst (λ (a : ArrayInfo). HasChunk a c.args.chunk.now.coord (g.C.Chunks.shown c.read_chunk.new.access).held c.read_chunk.new.buf) c.source_array-from.ensures c.in_ok-read_chunk.ensures.read)
     c.move_chunk.ensures
 
 pub returns-in_err-read_chunk-clause-cause : goal.returns-in_err-read_chunk-clause-cause
 returns-in_err-read_chunk-clause-cause g c =
     let p = err_from_is_err_and c.from_residual.result c.from_residual.ensures.1 in
-    let cause = subst (λ (a : ArrayInfo). IsChunkReadFault (g.C.Chunks.shown c.args.access.now) (g.C.Chunks.shown c.read_chunk.new.access) (λ key. key ≡ key_at a c.args.coord.now) (bytes_of a.layout) c.in_err-read_chunk.field-0.0)
+    let cause = subst (λ (a : ArrayInfo). IsChunkReadFault (g.C.Chunks.shown c.args.access.now) (g.C.Chunks.shown c.read_chunk.new.access) (λ key. key ≡ key_at a c.args.chunk.now.coord) (bytes_of a.layout) c.in_err-read_chunk.field-0.0)
     c.source_array-from.ensures c.in_err-read_chunk.ensures.cause in
-    rw (p.1, p.2) (fault_more (g.C.Chunks.shown c.args.access.now) (g.C.Chunks.shown c.args.access.now) (g.C.Chunks.shown c.read_chunk.new.access) (λ key. key ≡ key_at (source_in (view_task_of c.args.job.now) c.args.source) c.args.coord.now)
-    (IsSourceKey (view_task_of c.args.job.now) c.args.source) (bytes_of (source_in (view_task_of c.args.job.now) c.args.source).layout) c.in_err-read_chunk.field-0.0 (omega arith) (λ key is. (c.args.coord.now, c.requires.coordinate, is)) cause)
+    rw (p.1, p.2) (fault_more (g.C.Chunks.shown c.args.access.now) (g.C.Chunks.shown c.args.access.now) (g.C.Chunks.shown c.read_chunk.new.access) (λ key. key ≡ key_at (source_in (view_task_of c.args.chunk.now.job.now) c.args.chunk.now.source) c.args.chunk.now.coord)
+    (IsSourceKey (view_task_of c.args.chunk.now.job.now) c.args.chunk.now.source) (bytes_of (source_in (view_task_of c.args.chunk.now.job.now) c.args.chunk.now.source).layout) c.in_err-read_chunk.field-0.0 (omega arith) (λ key is. (c.args.chunk.now.coord, c.requires.chunk.coordinate, is)) cause)
