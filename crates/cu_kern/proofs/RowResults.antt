@@ -37,9 +37,9 @@ pub if_some : {T : Type 0} (o : Option T) (P Q S : T → Type 0) → ((x : T) �
 if_some None P Q S f p q = tt
 if_some (Some x) P Q S f p q = f x p q
 
-pub if_some_of_four : {T : Type 0} (o : Option T) (P Q R U S : T → Type 0) → ((x : T) → P x → Q x → R x → U x → S x) → IfSome o P → IfSome o Q → IfSome o R → IfSome o U → IfSome o S
-if_some_of_four None P Q R U S f p q r u = tt
-if_some_of_four (Some x) P Q R U S f p q r u = f x p q r u
+pub if_some_of_three : {T : Type 0} (o : Option T) (P Q R S : T → Type 0) → ((x : T) → P x → Q x → R x → S x) → IfSome o P → IfSome o Q → IfSome o R → IfSome o S
+if_some_of_three None P Q R S f p q r = tt
+if_some_of_three (Some x) P Q R S f p q r = f x p q r
 
 result_there : (r : Rows) (load : ℕ → Option ℤ) (k a : ℕ) (results : List ℤ) → HasStepResults r load k results → a < r.number → slice_get results a ≡ Some (get_or results a (pos 0))
 result_there r load k a results h b = let done = h.done in slice_get-get_or results a (pos 0) (omega arith)

@@ -17,7 +17,7 @@ use Rattle.cu_kern.specs.Lays.{HasValue, lay_element, loaded_at}
 use Rattle.cu_kern.specs.declared.rows.Row.{Row}
 use Rattle.cu_shape.specs.Index.{index_at}
 use Rattle.cu_kern.specs.declared.lays.Lay.{Lay}
-use Rattle.cu_kern.specs.Rows.{Rows, step_rows, rows_before, loads_along, Stands, HasElement, HasStepResults, RowsAt, Computes, Leaves}
+use Rattle.cu_kern.specs.Rows.{Rows, step_rows, rows_before, loads_along, Stands, HasElement, HasStepResults, RowsAt, Computes, left_row, Leaves}
 use Rattle.cu_kern.proofs.Parts.{part_inside, has_value_element}
 use Rattle.cu_kern.proofs.Running.{slice_get_push}
 
@@ -67,7 +67,7 @@ element_left t front rest at used k x long (inside, same) = (omega arith, ap (λ
 
 pub next_rows : (code : List Instr) (rows : List Row) (bank front back rest : List ℕ) (number filled count used k : ℕ) (i : Instr) (s : Row) (loads : ℕ → ℕ → Option ℤ)
     → bank ≡ front ++ back → length front ≡ s.at → filled ≤ s.at → drop number code ≡ i ∷ drop (number + 1) code → slice_get code number ≡ Some i → slice_get rows number ≡ Some s → k < count
-    → RowsAt (step_rows code rows bank number filled) (loads k) k → Leaves i s (rows_before code rows front number) loads count used rest → RowsAt (step_rows code rows (front ++ rest) (number + 1) (s.at + used)) (loads k) k
+    → RowsAt (step_rows code rows bank number filled) (loads k) k → Leaves i s (rows_before code rows front number) loads count (left_row used rest) → RowsAt (step_rows code rows (front ++ rest) (number + 1) (s.at + used)) (loads k) k
 next_rows code rows bank front back rest number filled count used k i s loads e long less more here own below at leaves =
     let results = at.results in
     let load = loads k in
@@ -141,17 +141,17 @@ from_value i kept t out more k used load results other room short h = (element_a
     stands (Select c a b) other is = row
 
 pub left_of_computed : (i : Instr) (s : Row) (r : Rows) (loads : ℕ → ℕ → Option ℤ) (count used : ℕ) (out more : List ℕ) → ((y : ℤ) → i ≢ Const y)
-    → ((k : ℕ) → k < count → k * size_of s.dtype + size_of s.dtype ≤ length out) → length out ≤ used → Computes i s.dtype r loads out → Leaves i s r loads count used (out ++ more)
+    → ((k : ℕ) → k < count → k * size_of s.dtype + size_of s.dtype ≤ length out) → length out ≤ used → Computes i s.dtype r loads out → Leaves i s r loads count (left_row used (out ++ more))
 left_of_computed i s r loads count used out more other room short computes k results below stand =
     let fits = room k below in
     from_value i s.kept s.dtype out more k used (loads k) results other fits short (computes k results fits stand)
 
-pub left_of_literal : (y : ℤ) (s : Row) (r : Rows) (loads : ℕ → ℕ → Option ℤ) (count used : ℕ) (rest : List ℕ) → Leaves (Const y) s r loads count used rest
+pub left_of_literal : (y : ℤ) (s : Row) (r : Rows) (loads : ℕ → ℕ → Option ℤ) (count used : ℕ) (rest : List ℕ) → Leaves (Const y) s r loads count (left_row used rest)
 left_of_literal y s r loads count used rest k results below stand = (y, refl, refl)
 
 -- what is loaded where no row is kept
 pub left_in_place : (j : ℕ) (s : Row) (r : Rows) (lays : List Lay) (ins dims : List ℕ) (from count used : ℕ) (rest : List ℕ) → s.kept ≡ false → j < length lays
-    → Leaves (Load j) s r (loads_along lays ins dims from) count used rest
+    → Leaves (Load j) s r (loads_along lays ins dims from) count (left_row used rest)
 left_in_place j s r lays ins dims from count used rest none below k results less stand =
     let l = get_or lays j d in
     let there : slice_get lays j ≡ Some l = slice_get-get_or lays j d below in

@@ -14,7 +14,7 @@ use Rattle.cu_op.specs.KernelTypes.{Operand, Typed, GivesOperand, KernelFits}
 use Rattle.cu_kern.specs.declared.lays.Lay.{Lay}
 use Rattle.cu_kern.specs.Lays.{lay_types, HasValue}
 use Rattle.cu_kern.specs.Steps.{loaded_by_place, IsOf, HoldsResults, StepHolds, NamesBefore}
-use Rattle.cu_kern.proofs.LaneWords.{is_word, word_range}
+use Rattle.cu_lane.proofs.Words.{is_word, word_range}
 use Rattle.cu_kern.proofs.StepResults.{of_push, of_length, of_last, gives_names}
 
 -- a kernel over places: the elements that each loads

@@ -1,5 +1,5 @@
 -- What one step of a kernel leaves at a place.
-use Rattle.std.proofs.Common.{◌≡◌, ℕ, zero, suc, ◌+◌, ◌*◌, List, [], ◌∷◌, ◌++◌, length, get_or, Option, Some, refl, ap, sym, ◌∙◌, subst, arith, ℤ}
+use Rattle.std.proofs.Common.{◌≡◌, ℕ, zero, suc, ◌+◌, ◌*◌, ◌==◌, if◌then◌else◌, List, [], ◌∷◌, ◌++◌, length, get_or, Option, Some, refl, ap, sym, ◌∙◌, subst, arith, ℤ}
 use Rattle.std.specs.List.{slice_get, AllZip}
 use Rattle.std.specs.Option.{option_map, option_and_then}
 use Rattle.std.proofs.lemmas.Option.{same_Some, slice_get_within, slice_get-map}
@@ -18,7 +18,8 @@ use Rattle.cu_op.specs.KernelTypes.{Operand, Typed, Literal, HaveType, GivesOper
 use Rattle.cu_kern.specs.declared.lays.Lay.{Lay}
 use Rattle.cu_kern.specs.Lays.{lay_types, lay_element, loaded_at}
 use Rattle.cu_kern.specs.Steps.{HasRow, NamesBefore, IsOf, HoldsResults, StepHolds}
-use Rattle.cu_kern.proofs.LaneWords.{is_word, word_is, word_range, Place1, Place2, PlaceSelected}
+use Rattle.cu_lane.proofs.Words.{is_word, word_is, word_range, Place1, Place2}
+use Rattle.cu_kern.proofs.LaneWords.{taken_as, place_selected}
 
 -- ---- operands and results
 
@@ -83,7 +84,7 @@ pub one_holds : (f : Fn1) (t : Dtype) (a : ℕ) (types : List Dtype) (load : ℕ
     → StepHolds (One f t a) types load before k word
 one_holds f t a types load before k w word e place operands r results (d, ea, arg, acc, er) of holds =
     let (x, at, range) = result_of operands results a (Typed d) of ea in
-    let is = place d x arg (earlier before k a w d results x holds at range e) in
+    let is = place d x (taken_as f d t arg) (earlier before k a w d results x holds at range e) in
     let P : Operand → Type 0 = λ q. IsOf q (op1 f t x) in
     (op1 f t x, ap (option_map (op1 f t)) at, subst P (sym er) (word_range (result_type1 f t) word (op1 f t x) is), word_is (result_type1 f t) word (op1 f t x) is)
 
@@ -101,12 +102,12 @@ two_holds f t a b types load before k v w word ev ew place operands r results (o
     )
 
 pub select_holds : (c a b : ℕ) (types : List Dtype) (load : ℕ → Option ℤ) (before : List ℕ) (k u v w word : ℕ) → u ≡ get_or before (64 * c + k) 0 → v ≡ get_or before (64 * a + k) 0 → w ≡ get_or before (64 * b + k) 0
-    → PlaceSelected u v w word → StepHolds (Select c a b) types load before k word
-select_holds c a b types load before k u v w word eu ev ew place operands r results (o, p, t, ec, eo, ep, have, er) of holds =
+    → word ≡ (if u == 1 then v else w) → StepHolds (Select c a b) types load before k word
+select_holds c a b types load before k u v w word eu ev ew chosen operands r results (o, p, t, ec, eo, ep, have, er) of holds =
     let (s, sat, of_s) = result_of operands results c (Typed Bool) of ec in
     let (x, ax, of_x) = result_of operands results a o of eo in
     let (y, ay, of_y) = result_of operands results b p of ep in
-    let is = place t s x y (earlier before k c u Bool results s holds sat of_s eu) (earlier before k a v t results x holds ax (joint_left o p t x have of_x) ev)
+    let is = place_selected u v w word chosen t s x y (earlier before k c u Bool results s holds sat of_s eu) (earlier before k a v t results x holds ax (joint_left o p t x have of_x) ev)
     (earlier before k b w t results y holds ay (joint_right o p t y have of_y) ew) in
     let P : Operand → Type 0 = λ q. IsOf q (selected s x y) in (
       selected s x y,

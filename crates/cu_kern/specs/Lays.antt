@@ -60,6 +60,6 @@ abbrev pub IsSpread : List ℕ → List ℕ → ℕ → Type 0
 IsSpread shape result run = (p : ℕ) → p < product result → place_read shape result p ≡ p / run
 
 -- the region has this type and can be read for a result of these sizes
-pub record IsSource (t : Dtype) (result : List ℕ) (l : Lay) (ins : List ℕ) : Type 0 where
+pub record IsLaidRegion (t : Dtype) (result : List ℕ) (l : Lay) (ins : List ℕ) : Type 0 where
   pub fits : LayFits result (length ins) l
   pub dtype : l.dtype ≡ t

@@ -1,5 +1,4 @@
 pub mod Lays
-pub mod Lanes
 pub mod Steps
 pub mod Division
 pub mod Strips

@@ -62,10 +62,18 @@ pub record RowsAt (r : Rows) (load : ℕ → Option ℤ) (k : ℕ) : Type 0 wher
   pub stand : HasStepResults r load k results
   pub value : kernel_value r.code load ≡ option_and_then last_of (results_from (drop r.number r.code) load results)
 
--- at the first places of `rest`, of which `used` bytes are its row, a step's result stands, whatever the results before it are
-abbrev pub Leaves : Instr → Row → Rows → (ℕ → ℕ → Option ℤ) → ℕ → ℕ → List ℕ → Type 0
-Leaves i s r loads count used rest = (k : ℕ) (results : List ℤ) → k < count → HasStepResults r (loads k) k results
-    → (x : ℤ) × (instruction_value i (loads k) results ≡ Some x) × Stands i s.kept (loads k) x (HasElement s.dtype 0 used rest k x)
+-- bytes of which the first are a row
+pub record LeftRow : Type 0 where
+  pub bytes : List ℕ
+  pub used : ℕ
+
+abbrev pub left_row : ℕ → List ℕ → LeftRow
+left_row used bytes = record { bytes = bytes; used = used }
+
+-- at the first places of the row a step's result stands, whatever the results before it are
+abbrev pub Leaves : Instr → Row → Rows → (ℕ → ℕ → Option ℤ) → ℕ → LeftRow → Type 0
+Leaves i s r loads count left = (k : ℕ) (results : List ℤ) → k < count → HasStepResults r (loads k) k results
+    → (x : ℤ) × (instruction_value i (loads k) results ≡ Some x) × Stands i s.kept (loads k) x (HasElement s.dtype 0 left.used left.bytes k x)
 
 -- the strip has the results of step a at the first places, as elements of the type
 pub record HasResultsOf (r : Rows) (loads : ℕ → ℕ → Option ℤ) (count a : ℕ) (t : Dtype) (s : Strip) : Type 0 where

@@ -7,8 +7,9 @@ ghost use Rattle.cu_kern.specs.Steps.{value_by_place};
 ghost use Rattle.cu_kern.specs.Rows.{step_rows, loads_along, RowsAt};
 
 use crate::lays::Lay;
-use crate::rows::{Earlier, Plan, Row, Span, is_literal, kind_at, leave_row, row_of_step, step_at};
-use crate::sources::Inputs;
+use crate::regions::Inputs;
+use crate::row_steps::{leave_row, row_of_step};
+use crate::rows::{Earlier, PlaceRange, Row, RowKernel, is_literal, kind_at, step_at};
 use cu_num::{Dtype, promote, result1, result2, size};
 use cu_op::Instr;
 use cu_shape::Dims;
@@ -19,37 +20,42 @@ const STEPS: usize = 32;
 /// The bytes of the largest bank: with as many of the regions and the result they stay in the first cache.
 const BANK: usize = 24576;
 
-/// The most bytes of a row. Rows of 4,096 bytes were measured to be slower, since all then lie alike within a page.
-const WIDTH: usize = 3072;
+/// The most bytes of a row. Each row costs a step some forty nanoseconds beside its loop, as much as two or three kilobytes do.
+const WIDTH: usize = 6144;
 
 /// Rows begin at multiples of so many bytes.
 const LINE: usize = 64;
 
 /// The rows of the first `last` steps, and how many bytes of the bank they fill; none where one isn't of its type or has no room.
-fn leave_rows(plan: Plan<'_>, span: Span, last: usize, bank: &mut [u8]) -> Option<usize>
-    requires steps { last ≤ length plan.code.now }
-    requires rows { last ≤ length plan.rows.now }
-    requires lays { All (LayFits plan.inputs.dims.now (length plan.inputs.ins.now)) plan.inputs.lays.now }
-    requires small { product plan.inputs.dims.now < 2 ^ 63 }
-    requires within { span.from + span.count ≤ product plan.inputs.dims.now }
-    ensures stand { IfSome result (λ filled. (k : ℕ) → k < span.count → RowsAt (step_rows plan.entry.code.now plan.entry.rows.now bank.new last filled)
-        (loads_along plan.entry.inputs.lays.now plan.entry.inputs.ins.now plan.entry.inputs.dims.now span.from k) k) }
+fn leave_rows(
+    kernel: RowKernel<'_>,
+    range: PlaceRange,
+    last: usize,
+    bank: &mut [u8],
+) -> Option<usize>
+    requires steps { last ≤ length kernel.code.now }
+    requires rows { last ≤ length kernel.rows.now }
+    requires lays { All (LayFits kernel.inputs.dims.now (length kernel.inputs.ins.now)) kernel.inputs.lays.now }
+    requires small { product kernel.inputs.dims.now < 2 ^ 63 }
+    requires within { range.from + range.count ≤ product kernel.inputs.dims.now }
+    ensures stand { IfSome result (λ filled. (k : ℕ) → k < range.count → RowsAt (step_rows kernel.entry.code.now kernel.entry.rows.now bank.new last filled)
+        (loads_along kernel.entry.inputs.lays.now kernel.entry.inputs.ins.now kernel.entry.inputs.dims.now range.from k) k) }
     ensures room { IfSome result (λ filled. filled ≤ length bank.new) }
 {
     let mut filled = 0;
     for number in 0..last {
-        let row = plan.rows[number];
+        let row = kernel.rows[number];
         if row.at < filled || row.at > bank.len() {
             return None;
         }
         let (before, rest) = bank.split_at_mut(row.at);
         let earlier = Earlier {
-            plan,
-            span,
+            kernel,
+            range,
             bytes: before,
             number,
         };
-        let Some(used) = leave_row(plan.code[number], row, earlier, rest) else {
+        let Some(used) = leave_row(kernel.code[number], row, earlier, rest) else {
             return None;
         };
         filled = row.at + used;
@@ -58,51 +64,57 @@ fn leave_rows(plan: Plan<'_>, span: Span, last: usize, bank: &mut [u8]) -> Optio
 }
 
 /// The elements of the kernel's result at a row of places; `false` where types differ.
-fn run_row(plan: Plan<'_>, t: Dtype, span: Span, bank: &mut [u8], out: &mut [u8]) -> bool
-    requires some { 0 < length plan.code.now }
-    requires rows { length plan.code.now ≤ length plan.rows.now }
-    requires lays { All (LayFits plan.inputs.dims.now (length plan.inputs.ins.now)) plan.inputs.lays.now }
-    requires small { product plan.inputs.dims.now < 2 ^ 63 }
-    requires within { span.from + span.count ≤ product plan.inputs.dims.now }
-    requires room { length out.old ≡ span.count * size_of t }
-    ensures { IsTrue result → (k : ℕ) → k < span.count
-        → HasValue t out.new k (value_by_place plan.entry.code.now plan.entry.inputs.lays.now plan.entry.inputs.ins.now plan.entry.inputs.dims.now (span.from + k)) }
+fn run_row(
+    kernel: RowKernel<'_>,
+    t: Dtype,
+    range: PlaceRange,
+    bank: &mut [u8],
+    out: &mut [u8],
+) -> bool
+    requires some { 0 < length kernel.code.now }
+    requires rows { length kernel.code.now ≤ length kernel.rows.now }
+    requires lays { All (LayFits kernel.inputs.dims.now (length kernel.inputs.ins.now)) kernel.inputs.lays.now }
+    requires small { product kernel.inputs.dims.now < 2 ^ 63 }
+    requires within { range.from + range.count ≤ product kernel.inputs.dims.now }
+    requires room { length out.old ≡ range.count * size_of t }
+    ensures { IsTrue result → (k : ℕ) → k < range.count
+        → HasValue t out.new k (value_by_place kernel.entry.code.now kernel.entry.inputs.lays.now kernel.entry.inputs.ins.now kernel.entry.inputs.dims.now (range.from + k)) }
 {
-    let last = plan.code.len() - 1;
-    let Some(filled) = leave_rows(plan, span, last, bank) else {
+    let last = kernel.code.len() - 1;
+    let Some(filled) = leave_rows(kernel, range, last, bank) else {
         return false;
     };
     let (before, spare) = bank.split_at_mut(filled);
     let earlier = Earlier {
-        plan,
-        span,
+        kernel,
+        range,
         bytes: before,
         number: last,
     };
-    row_of_step(plan.code[last], t, earlier, out, spare)
+    row_of_step(kernel.code[last], t, earlier, out, spare)
 }
 
 /// The elements of the kernel's result, rows of at most `most` places at a time; `false` where types differ.
-fn run_each(plan: Plan<'_>, t: Dtype, most: usize, bank: &mut [u8], out: &mut [u8]) -> bool
-    requires some { 0 < length plan.code.now }
+fn run_each(kernel: RowKernel<'_>, t: Dtype, most: usize, bank: &mut [u8], out: &mut [u8]) -> bool
+    requires some { 0 < length kernel.code.now }
     requires most { 0 < most }
-    requires rows { length plan.code.now ≤ length plan.rows.now }
-    requires lays { All (LayFits plan.inputs.dims.now (length plan.inputs.ins.now)) plan.inputs.lays.now }
-    requires out { length out.old ≡ product plan.inputs.dims.now * size_of t }
-    ensures { IsTrue result → (p : ℕ) → p < product plan.entry.inputs.dims.now
-        → HasValue t out.new p (value_by_place plan.entry.code.now plan.entry.inputs.lays.now plan.entry.inputs.ins.now plan.entry.inputs.dims.now p) }
+    requires rows { length kernel.code.now ≤ length kernel.rows.now }
+    requires lays { All (LayFits kernel.inputs.dims.now (length kernel.inputs.ins.now)) kernel.inputs.lays.now }
+    requires out { length out.old ≡ product kernel.inputs.dims.now * size_of t }
+    ensures { IsTrue result → (p : ℕ) → p < product kernel.entry.inputs.dims.now
+        → HasValue t out.new p (value_by_place kernel.entry.code.now kernel.entry.inputs.lays.now kernel.entry.inputs.ins.now kernel.entry.inputs.dims.now p) }
 {
     let size = size(t) as usize;
     let all = out.len() / size;
     let mut done = 0;
     while done < all {
         let count = (all - done).min(most);
-        let span = Span {
+        let range = PlaceRange {
             from: done as u64,
             count,
         };
         let part = &mut out[done * size..(done + count) * size];
-        if !run_row(plan, t, span, bank, part) {
+        if !run_row(kernel, t, range, bank, part) {
             return false;
         }
         done += count;
@@ -124,33 +136,33 @@ pub(crate) fn run_by_rows(code: &[Instr], inputs: Inputs<'_>, t: Dtype, out: &mu
     let mut rows = rows_of(code, inputs);
     let most = places_of(code, &rows, out.len() / size(t) as usize);
     let need = lay_out(code, most, &mut rows);
-    let plan = Plan {
+    let kernel = RowKernel {
         code,
         rows: &rows,
         inputs,
     };
-    run_in_bank(plan, t, most, need, out)
+    run_in_bank(kernel, t, most, need, out)
 }
 
 /// `run_each` with a bank that has at least `need` bytes, where that is possible: what a small task doesn't use isn't zeroed.
-fn run_in_bank(plan: Plan<'_>, t: Dtype, most: usize, need: usize, out: &mut [u8]) -> bool
-    requires some { 0 < length plan.code.now }
+fn run_in_bank(kernel: RowKernel<'_>, t: Dtype, most: usize, need: usize, out: &mut [u8]) -> bool
+    requires some { 0 < length kernel.code.now }
     requires most { 0 < most }
-    requires rows { length plan.code.now ≤ length plan.rows.now }
-    requires lays { All (LayFits plan.inputs.dims.now (length plan.inputs.ins.now)) plan.inputs.lays.now }
-    requires out { length out.old ≡ product plan.inputs.dims.now * size_of t }
-    ensures { IsTrue result → (p : ℕ) → p < product plan.entry.inputs.dims.now
-        → HasValue t out.new p (value_by_place plan.entry.code.now plan.entry.inputs.lays.now plan.entry.inputs.ins.now plan.entry.inputs.dims.now p) }
+    requires rows { length kernel.code.now ≤ length kernel.rows.now }
+    requires lays { All (LayFits kernel.inputs.dims.now (length kernel.inputs.ins.now)) kernel.inputs.lays.now }
+    requires out { length out.old ≡ product kernel.inputs.dims.now * size_of t }
+    ensures { IsTrue result → (p : ℕ) → p < product kernel.entry.inputs.dims.now
+        → HasValue t out.new p (value_by_place kernel.entry.code.now kernel.entry.inputs.lays.now kernel.entry.inputs.ins.now kernel.entry.inputs.dims.now p) }
 {
     if need <= 2048 {
         let mut bank = [0; 2048];
-        run_each(plan, t, most, &mut bank, out)
+        run_each(kernel, t, most, &mut bank, out)
     } else if need <= 8192 {
         let mut bank = [0; 8192];
-        run_each(plan, t, most, &mut bank, out)
+        run_each(kernel, t, most, &mut bank, out)
     } else {
         let mut bank = [0; BANK];
-        run_each(plan, t, most, &mut bank, out)
+        run_each(kernel, t, most, &mut bank, out)
     }
 }
 

@@ -4,15 +4,15 @@ ghost use Rattle.cu_num.specs.Dtype.{size_of};
 ghost use Rattle.cu_num.specs.Scalar.{result_type1, result_type2};
 ghost use Rattle.cu_shape.specs.Index.{product, index_at};
 ghost use Rattle.cu_op.specs.KernelTypes.{KernelFits};
-ghost use Rattle.cu_kern.specs.Lays.{LayFits, IsSource, HasValue, lay_element, lay_types};
+ghost use Rattle.cu_kern.specs.Lays.{LayFits, IsLaidRegion, HasValue, lay_element, lay_types};
 ghost use Rattle.cu_kern.specs.Strips.{IsCall, first_type, other_type, call_type, call_value};
 ghost use Rattle.cu_kern.specs.Steps.{value_by_place};
 
 use crate::by_rows::is_stretched;
 use crate::calls::{Call, call_type};
 use crate::lays::pace_of;
-use crate::sources::{
-    Inputs, Source, left_at, literal_of, place_after, source_of, strip_in_period,
+use crate::regions::{
+    Inputs, LaidRegion, argument_region, left_at, literal_of, place_after, strip_in_period,
 };
 use crate::strip_functions::call_strips;
 use cu_num::{Dtype, Fn1, Fn2, size};
@@ -23,10 +23,10 @@ use cu_shape::Dims;
 const SHORT: u64 = 32;
 
 /// The elements of a call of at most two arguments over regions of their types; a call of one takes its own twice.
-fn pieces(call: Call, x: Source<'_>, y: Source<'_>, dims: &Dims, out: &mut [u8])
+fn pieces(call: Call, x: LaidRegion<'_>, y: LaidRegion<'_>, dims: &Dims, out: &mut [u8])
     requires call { IsCall call }
-    requires first { IsSource (first_type call) dims.now x.lay.now x.ins.now }
-    requires second { IsSource (other_type call) dims.now y.lay.now y.ins.now }
+    requires first { IsLaidRegion (first_type call) dims.now x.lay.now x.ins.now }
+    requires second { IsLaidRegion (other_type call) dims.now y.lay.now y.ins.now }
     requires out { length out.old ≡ product dims.now * size_of (call_type call) }
     ensures { (p : ℕ) → p < product dims.now → HasValue (call_type call) out.new p
         (Some (call_value call (lay_element x.entry.lay.now x.entry.ins.now (index_at dims.now p)) (lay_element y.entry.lay.now y.entry.ins.now (index_at dims.now p))
@@ -58,16 +58,16 @@ fn pieces(call: Call, x: Source<'_>, y: Source<'_>, dims: &Dims, out: &mut [u8])
 /// `pieces` of a call of three arguments: in short rows a third that isn't read would take as long as one that is.
 fn pieces_of_three(
     call: Call,
-    x: Source<'_>,
-    y: Source<'_>,
-    z: Source<'_>,
+    x: LaidRegion<'_>,
+    y: LaidRegion<'_>,
+    z: LaidRegion<'_>,
     dims: &Dims,
     out: &mut [u8],
 )
     requires call { IsCall call }
-    requires first { IsSource (first_type call) dims.now x.lay.now x.ins.now }
-    requires second { IsSource (other_type call) dims.now y.lay.now y.ins.now }
-    requires third { IsSource (other_type call) dims.now z.lay.now z.ins.now }
+    requires first { IsLaidRegion (first_type call) dims.now x.lay.now x.ins.now }
+    requires second { IsLaidRegion (other_type call) dims.now y.lay.now y.ins.now }
+    requires third { IsLaidRegion (other_type call) dims.now z.lay.now z.ins.now }
     requires out { length out.old ≡ product dims.now * size_of (call_type call) }
     ensures { (p : ℕ) → p < product dims.now → HasValue (call_type call) out.new p
         (Some (call_value call (lay_element x.entry.lay.now x.entry.ins.now (index_at dims.now p)) (lay_element y.entry.lay.now y.entry.ins.now (index_at dims.now p))
@@ -200,12 +200,12 @@ fn one_region(f: Fn1, t: Dtype, k: u32, inputs: Inputs<'_>, out: &mut [u8]) -> b
     ensures { IsTrue result → (p : ℕ) → p < product inputs.entry.dims.now → HasValue (result_type1 f t) out.new p (value_by_place (Instr.Load k ∷ Instr.One f t 0 ∷ []) inputs.entry.lays.now inputs.entry.ins.now inputs.entry.dims.now p) }
 {
     let lay = &inputs.lays[k as usize];
-    let source = Source {
+    let region = LaidRegion {
         lay,
         ins: inputs.ins,
     };
     let call = Call::One(f, lay.dtype, t);
-    pieces(call, source, source, inputs.dims, out);
+    pieces(call, region, region, inputs.dims, out);
     true
 }
 
@@ -225,10 +225,10 @@ fn run_two(
 {
     let first_literal = literal_of(first, t);
     let second_literal = literal_of(second, t);
-    let Some(x) = source_of(first, t, inputs, &first_literal) else {
+    let Some(x) = argument_region(first, t, inputs, &first_literal) else {
         return false;
     };
-    let Some(y) = source_of(second, t, inputs, &second_literal) else {
+    let Some(y) = argument_region(second, t, inputs, &second_literal) else {
         return false;
     };
     pieces(Call::Two(f, t), x, y, inputs.dims, out);
@@ -252,13 +252,13 @@ fn run_select(
     let choice_literal = literal_of(first, Dtype::Bool);
     let second_literal = literal_of(second, t);
     let third_literal = literal_of(third, t);
-    let Some(x) = source_of(first, Dtype::Bool, inputs, &choice_literal) else {
+    let Some(x) = argument_region(first, Dtype::Bool, inputs, &choice_literal) else {
         return false;
     };
-    let Some(y) = source_of(second, t, inputs, &second_literal) else {
+    let Some(y) = argument_region(second, t, inputs, &second_literal) else {
         return false;
     };
-    let Some(z) = source_of(third, t, inputs, &third_literal) else {
+    let Some(z) = argument_region(third, t, inputs, &third_literal) else {
         return false;
     };
     pieces_of_three(Call::Select(t), x, y, z, inputs.dims, out);

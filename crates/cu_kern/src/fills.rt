@@ -3,35 +3,42 @@ ghost use Rattle.std.specs.Prelude.{◌≡◌, ◌+◌, ◌*◌, ◌%◌, ◌^�
 ghost use Rattle.cu_num.specs.Dtype.{size_of};
 ghost use Rattle.cu_num.specs.Element.{bytes_at};
 ghost use Rattle.cu_shape.specs.Index.{product, index_at};
-ghost use Rattle.cu_kern.specs.Lays.{LayFits, IsRun, IsSpread, IsSource, HasValue, lay_element};
+ghost use Rattle.cu_kern.specs.Lays.{LayFits, IsRun, IsSpread, IsLaidRegion, HasValue, lay_element};
 
+use crate::by_type::call_by_type;
 use crate::calls::Call;
 use crate::lays::{Pace, pace_of, spread_of};
-use crate::rows::Span;
-use crate::sources::{Source, left_in, strip_at, strip_from};
+use crate::regions::{LaidRegion, left_in, strip_at, strip_from};
+use crate::rows::PlaceRange;
 use crate::strip_functions::call_strips;
 use crate::strips::one_from;
 use cu_num::{Dtype, Fn1, size};
 use cu_shape::Dims;
 
 /// The elements of a region that the places read, piece by piece.
-fn pieces_of_region(source: Source<'_>, pace: Pace, dims: &Dims, span: Span, out: &mut [u8])
-    requires fits { LayFits dims.now (length source.ins.now) source.lay.now }
-    requires pace { IsRun source.lay.now.dims dims.now pace.run pace.step }
+fn pieces_of_region(
+    region: LaidRegion<'_>,
+    pace: Pace,
+    dims: &Dims,
+    range: PlaceRange,
+    out: &mut [u8],
+)
+    requires fits { LayFits dims.now (length region.ins.now) region.lay.now }
+    requires pace { IsRun region.lay.now.dims dims.now pace.run pace.step }
     requires step { pace.step ≤ 1 }
     requires some { 0 < pace.run }
     requires small { product dims.now < 2 ^ 63 }
-    requires within { span.from + span.count ≤ product dims.now }
-    requires room { length out.old ≡ span.count * size_of source.lay.now.dtype }
-    ensures { (k : ℕ) → k < span.count → HasValue source.entry.lay.now.dtype out.new k (Some (lay_element source.entry.lay.now source.entry.ins.now (index_at dims.now (span.from + k)))) }
+    requires within { range.from + range.count ≤ product dims.now }
+    requires room { length out.old ≡ range.count * size_of region.lay.now.dtype }
+    ensures { (k : ℕ) → k < range.count → HasValue region.entry.lay.now.dtype out.new k (Some (lay_element region.entry.lay.now region.entry.ins.now (index_at dims.now (range.from + k)))) }
 {
-    let t = source.lay.dtype;
+    let t = region.lay.dtype;
     let size = size(t) as usize;
     let mut done = 0;
-    while done < span.count {
-        let place = span.from + done as u64;
-        let count = (span.count - done).min(left_in(pace, place) as usize);
-        let strip = strip_from(source, pace, dims, place, count);
+    while done < range.count {
+        let place = range.from + done as u64;
+        let count = (range.count - done).min(left_in(pace, place) as usize);
+        let strip = strip_from(region, pace, dims, place, count);
         let part = &mut out[done * size..(done + count) * size];
         call_strips(Call::One(Fn1::Astype, t, t), strip, strip, strip, part);
         done += count;
@@ -40,14 +47,21 @@ fn pieces_of_region(source: Source<'_>, pace: Pace, dims: &Dims, span: Span, out
 
 /// `pieces_of_region` where each place of the region is read by `run` places, one after another: without a division in a piece.
 #[inline(always)]
-fn spread_each(t: Dtype, source: Source<'_>, run: u64, dims: &Dims, span: Span, out: &mut [u8])
-    requires source { IsSource t dims.now source.lay.now source.ins.now }
-    requires spread { IsSpread source.lay.now.dims dims.now run }
+fn spread_each(
+    t: Dtype,
+    region: LaidRegion<'_>,
+    run: u64,
+    dims: &Dims,
+    range: PlaceRange,
+    out: &mut [u8],
+)
+    requires region { IsLaidRegion t dims.now region.lay.now region.ins.now }
+    requires spread { IsSpread region.lay.now.dims dims.now run }
     requires some { 0 < run }
     requires small { product dims.now < 2 ^ 63 }
-    requires within { span.from + span.count ≤ product dims.now }
-    requires room { length out.old ≡ span.count * size_of t }
-    ensures { (k : ℕ) → k < span.count → HasValue t out.new k (Some (lay_element source.entry.lay.now source.entry.ins.now (index_at dims.now (span.from + k)))) }
+    requires within { range.from + range.count ≤ product dims.now }
+    requires room { length out.old ≡ range.count * size_of t }
+    ensures { (k : ℕ) → k < range.count → HasValue t out.new k (Some (lay_element region.entry.lay.now region.entry.ins.now (index_at dims.now (range.from + k)))) }
 {
     let size = size(t) as usize;
     let pace = Pace {
@@ -56,12 +70,12 @@ fn spread_each(t: Dtype, source: Source<'_>, run: u64, dims: &Dims, span: Span, 
         period: run,
     };
     let mut done = 0;
-    let mut at = span.from / run;
-    let mut left = run - span.from % run;
-    while done < span.count {
-        let place = span.from + done as u64;
-        let count = (span.count - done).min(left as usize);
-        let strip = strip_at(source, pace, dims, place, at, count);
+    let mut at = range.from / run;
+    let mut left = run - range.from % run;
+    while done < range.count {
+        let place = range.from + done as u64;
+        let count = (range.count - done).min(left as usize);
+        let strip = strip_at(region, pace, dims, place, at, count);
         let part = &mut out[done * size..(done + count) * size];
         one_from(Fn1::Astype, t, t, strip, 0, part);
         done += count;
@@ -71,26 +85,23 @@ fn spread_each(t: Dtype, source: Source<'_>, run: u64, dims: &Dims, span: Span, 
 }
 
 /// `spread_each`, with loops for each type.
-fn spread_by_type(t: Dtype, source: Source<'_>, run: u64, dims: &Dims, span: Span, out: &mut [u8])
-    requires source { IsSource t dims.now source.lay.now source.ins.now }
-    requires spread { IsSpread source.lay.now.dims dims.now run }
+fn spread_by_type(
+    t: Dtype,
+    region: LaidRegion<'_>,
+    run: u64,
+    dims: &Dims,
+    range: PlaceRange,
+    out: &mut [u8],
+)
+    requires region { IsLaidRegion t dims.now region.lay.now region.ins.now }
+    requires spread { IsSpread region.lay.now.dims dims.now run }
     requires some { 0 < run }
     requires small { product dims.now < 2 ^ 63 }
-    requires within { span.from + span.count ≤ product dims.now }
-    requires room { length out.old ≡ span.count * size_of t }
-    ensures { (k : ℕ) → k < span.count → HasValue t out.new k (Some (lay_element source.entry.lay.now source.entry.ins.now (index_at dims.now (span.from + k)))) }
+    requires within { range.from + range.count ≤ product dims.now }
+    requires room { length out.old ≡ range.count * size_of t }
+    ensures { (k : ℕ) → k < range.count → HasValue t out.new k (Some (lay_element region.entry.lay.now region.entry.ins.now (index_at dims.now (range.from + k)))) }
 {
-    match t {
-        Dtype::Bool => spread_each(Dtype::Bool, source, run, dims, span, out),
-        Dtype::Int8 => spread_each(Dtype::Int8, source, run, dims, span, out),
-        Dtype::Int16 => spread_each(Dtype::Int16, source, run, dims, span, out),
-        Dtype::Int32 => spread_each(Dtype::Int32, source, run, dims, span, out),
-        Dtype::Int64 => spread_each(Dtype::Int64, source, run, dims, span, out),
-        Dtype::Uint8 => spread_each(Dtype::Uint8, source, run, dims, span, out),
-        Dtype::Uint16 => spread_each(Dtype::Uint16, source, run, dims, span, out),
-        Dtype::Uint32 => spread_each(Dtype::Uint32, source, run, dims, span, out),
-        Dtype::Uint64 => spread_each(Dtype::Uint64, source, run, dims, span, out),
-    }
+    call_by_type!(spread_each, [], t, [region, run, dims, range, out])
 }
 
 /// Writes the first elements again and again up to the end, each time as many as there are.
@@ -111,35 +122,35 @@ fn repeat(t: Dtype, first: usize, all: usize, out: &mut [u8])
 }
 
 /// The elements of a region that the places read: those of its first period, which is read again and again.
-pub(crate) fn row_of_region(source: Source<'_>, dims: &Dims, span: Span, out: &mut [u8])
-    requires fits { LayFits dims.now (length source.ins.now) source.lay.now }
+pub(crate) fn row_of_region(region: LaidRegion<'_>, dims: &Dims, range: PlaceRange, out: &mut [u8])
+    requires fits { LayFits dims.now (length region.ins.now) region.lay.now }
     requires small { product dims.now < 2 ^ 63 }
-    requires within { span.from + span.count ≤ product dims.now }
-    requires room { length out.old ≡ span.count * size_of source.lay.now.dtype }
-    ensures { (k : ℕ) → k < span.count → HasValue source.entry.lay.now.dtype out.new k (Some (lay_element source.entry.lay.now source.entry.ins.now (index_at dims.now (span.from + k)))) }
+    requires within { range.from + range.count ≤ product dims.now }
+    requires room { length out.old ≡ range.count * size_of region.lay.now.dtype }
+    ensures { (k : ℕ) → k < range.count → HasValue region.entry.lay.now.dtype out.new k (Some (lay_element region.entry.lay.now region.entry.ins.now (index_at dims.now (range.from + k)))) }
 {
-    if span.count == 0 {
+    if range.count == 0 {
         return;
     }
-    let t = source.lay.dtype;
-    let pace = pace_of(&source.lay.dims, dims);
+    let t = region.lay.dtype;
+    let pace = pace_of(&region.lay.dims, dims);
     if pace.step == 0 {
-        if let Some(run) = spread_of(&source.lay.dims, dims) {
-            spread_by_type(t, source, run, dims, span, out);
+        if let Some(run) = spread_of(&region.lay.dims, dims) {
+            spread_by_type(t, region, run, dims, range, out);
             return;
         }
     }
-    let first = pace.period.min(span.count as u64) as usize;
-    let part = Span {
-        from: span.from,
+    let first = pace.period.min(range.count as u64) as usize;
+    let part = PlaceRange {
+        from: range.from,
         count: first,
     };
     pieces_of_region(
-        source,
+        region,
         pace,
         dims,
         part,
         &mut out[..first * size(t) as usize],
     );
-    repeat(t, first, span.count, out);
+    repeat(t, first, range.count, out);
 }

@@ -7,7 +7,7 @@ ghost use Rattle.cu_num.specs.declared.layout.Endian.TheVariants.{Little};
 ghost use Rattle.cu_shape.specs.Index.{product, index_at};
 ghost use Rattle.cu_kern.specs.Lays.{LayFits, BroadcastsTo, IsRun, IsPeriod, IsSpread, lay_element, place_read};
 
-use crate::lanes::{lane_fill, lane_load};
+use cu_lane::lane_load;
 use cu_num::{Dtype, load, size, word};
 use cu_shape::Dims;
 
@@ -83,7 +83,7 @@ fn load_piece(lay: &Lay, ins: &[u8], first: u64, step: u64, out: &mut [u64])
     if step == 1 {
         lane_load(lay.dtype, &ins[from..from + out.len() * size], out);
     } else {
-        lane_fill(word(load(lay.dtype, &ins[from..from + size], 0)), out);
+        out.fill(word(load(lay.dtype, &ins[from..from + size], 0)));
     }
 }
 

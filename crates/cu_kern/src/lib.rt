@@ -1,19 +1,20 @@
 //! Kernels: what a map computes for each element of its result, over regions of elements as bytes.
 #![tactic(auto)]
 
+mod arguments;
 mod by_rows;
+mod by_type;
 mod calls;
+mod comparisons;
 mod direct;
 mod division;
 mod fills;
-mod lane_functions;
-mod lane_loops;
-mod lanes;
 mod lays;
 mod reciprocals;
+mod regions;
+mod row_steps;
 mod rows;
 mod run;
-mod sources;
 mod steps;
 mod strip_functions;
 mod strip_loops;

@@ -12,7 +12,7 @@ ghost use Rattle.cu_kern.specs.Steps.{value_by_place};
 use crate::by_rows::run_by_rows;
 use crate::direct::run_direct;
 use crate::lays::Lay;
-use crate::sources::Inputs;
+use crate::regions::Inputs;
 use crate::steps::{ROW, run_block};
 use arrayvec::ArrayVec;
 use cu_num::{Dtype, size};
@@ -43,51 +43,34 @@ pub fn run_kernel(
 {
     let code = kernel.code.as_slice();
     let lays = lays.as_slice();
-    run_places(code, lays, t, dims, ins, out, words);
+    run_places(code, Inputs { lays, ins, dims }, t, out, words);
 }
 
 /// `run_kernel`, place by place: from bytes to bytes where the kernel is one function, else along rows of bytes, and in blocks of
 /// words where the rows weren't guessed right.
-fn run_places(
-    code: &[Instr],
-    lays: &[Lay],
-    t: Dtype,
-    dims: &Dims,
-    ins: &[u8],
-    out: &mut [u8],
-    words: &mut [u64],
-)
-    requires kernel { KernelFits code.now (lay_types lays.now) [] t }
-    requires lays { All (LayFits dims.now (length ins.now)) lays.now }
-    requires out { length out.old ≡ product dims.now * size_of t }
+fn run_places(code: &[Instr], inputs: Inputs<'_>, t: Dtype, out: &mut [u8], words: &mut [u64])
+    requires kernel { KernelFits code.now (lay_types inputs.lays.now) [] t }
+    requires lays { All (LayFits inputs.dims.now (length inputs.ins.now)) inputs.lays.now }
+    requires out { length out.old ≡ product inputs.dims.now * size_of t }
     requires words { length words.old ≡ 64 * length code.now }
-    ensures { (p : ℕ) → p < product dims.now → HasValue t out.new p (value_by_place code.now lays.now ins.now dims.now p) }
+    ensures { (p : ℕ) → p < product inputs.entry.dims.now → HasValue t out.new p (value_by_place code.now inputs.entry.lays.now inputs.entry.ins.now inputs.entry.dims.now p) }
 {
-    let inputs = Inputs { lays, ins, dims };
     if run_direct(code, inputs, t, out) {
         return;
     }
     if run_by_rows(code, inputs, t, out) {
         return;
     }
-    run_blocks(code, lays, t, dims, ins, out, words);
+    run_blocks(code, inputs, t, out, words);
 }
 
 /// `run_kernel` by blocks of 64 places, the last of which may be shorter.
-fn run_blocks(
-    code: &[Instr],
-    lays: &[Lay],
-    t: Dtype,
-    dims: &Dims,
-    ins: &[u8],
-    out: &mut [u8],
-    words: &mut [u64],
-)
-    requires kernel { KernelFits code.now (lay_types lays.now) [] t }
-    requires lays { All (LayFits dims.now (length ins.now)) lays.now }
-    requires out { length out.old ≡ product dims.now * size_of t }
+fn run_blocks(code: &[Instr], inputs: Inputs<'_>, t: Dtype, out: &mut [u8], words: &mut [u64])
+    requires kernel { KernelFits code.now (lay_types inputs.lays.now) [] t }
+    requires lays { All (LayFits inputs.dims.now (length inputs.ins.now)) inputs.lays.now }
+    requires out { length out.old ≡ product inputs.dims.now * size_of t }
     requires words { length words.old ≡ 64 * length code.now }
-    ensures { (p : ℕ) → p < product dims.now → HasValue t out.new p (value_by_place code.now lays.now ins.now dims.now p) }
+    ensures { (p : ℕ) → p < product inputs.entry.dims.now → HasValue t out.new p (value_by_place code.now inputs.entry.lays.now inputs.entry.ins.now inputs.entry.dims.now p) }
 {
     let size = size(t) as usize;
     let all = out.len() / size;
@@ -95,6 +78,6 @@ fn run_blocks(
         let from = block * ROW;
         let count = (all - from).min(ROW);
         let part = &mut out[from * size..(from + count) * size];
-        run_block(code, lays, t, dims, ins, from as u64, part, words);
+        run_block(code, inputs, t, from as u64, part, words);
     }
 }

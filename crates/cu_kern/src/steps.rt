@@ -6,12 +6,11 @@ ghost use Rattle.cu_op.specs.KernelTypes.{KernelFits};
 ghost use Rattle.cu_kern.specs.Lays.{LayFits, lay_types, HasValue};
 ghost use Rattle.cu_kern.specs.Steps.{HasRow, NamesBefore, StepHolds, loaded_by_place, value_by_place};
 
-use crate::lane_functions::{lane1, lane2};
-use crate::lanes::{lane_fill, lane_save, lane_select};
-use crate::lays::{Lay, load_lay};
+use crate::lays::load_lay;
+use crate::regions::Inputs;
+use cu_lane::{lane_save, lane_select, lane1, lane2};
 use cu_num::{Dtype, size, word};
 use cu_op::Instr;
-use cu_shape::Dims;
 
 /// The words that a step has for its results.
 pub(crate) const ROW: usize = 64;
@@ -28,26 +27,20 @@ fn row(words: &[u64], step: u32, count: usize) -> &[u64]
 }
 
 /// One step at the places of the result from `from` on, over the words of the steps before it.
-fn run_step(
-    instr: Instr,
-    lays: &[Lay],
-    dims: &Dims,
-    ins: &[u8],
-    from: u64,
-    before: &[u64],
-    out: &mut [u64],
-)
-    requires lays { All (LayFits dims.now (length ins.now)) lays.now }
-    requires names { NamesBefore instr (length lays.now) (length before.now) }
-    requires within { from + length out.old ≤ product dims.now }
-    requires small { product dims.now < 2 ^ 63 }
+fn run_step(instr: Instr, inputs: Inputs<'_>, from: u64, before: &[u64], out: &mut [u64])
+    requires lays { All (LayFits inputs.dims.now (length inputs.ins.now)) inputs.lays.now }
+    requires names { NamesBefore instr (length inputs.lays.now) (length before.now) }
+    requires within { from + length out.old ≤ product inputs.dims.now }
+    requires small { product inputs.dims.now < 2 ^ 63 }
     requires count { length out.old ≤ 64 }
-    ensures { (k : ℕ) → k < length out.new → StepHolds instr (lay_types lays.now) (loaded_by_place lays.now ins.now dims.now (from + k)) before.now k (slice_index out.new k) }
+    ensures { (k : ℕ) → k < length out.new → StepHolds instr (lay_types inputs.entry.lays.now) (loaded_by_place inputs.entry.lays.now inputs.entry.ins.now inputs.entry.dims.now (from + k)) before.now k (slice_index out.new k) }
 {
     let count = out.len();
     match instr {
-        Instr::Load(k) => load_lay(&lays[k as usize], dims, ins, from, out),
-        Instr::Const(x) => lane_fill(word(x), out),
+        Instr::Load(k) => {
+            load_lay(&inputs.lays[k as usize], inputs.dims, inputs.ins, from, out);
+        }
+        Instr::Const(x) => out.fill(word(x)),
         Instr::One(f, t, a) => lane1(f, t, row(before, a, count), out),
         Instr::Two(f, t, a, b) => lane2(f, t, row(before, a, count), row(before, b, count), out),
         Instr::Select(c, a, b) => lane_select(
@@ -62,25 +55,23 @@ fn run_step(
 /// The elements of the result from place `from` on, as many as `out` has, at most 64.
 pub(crate) fn run_block(
     code: &[Instr],
-    lays: &[Lay],
+    inputs: Inputs<'_>,
     t: Dtype,
-    dims: &Dims,
-    ins: &[u8],
     from: u64,
     out: &mut [u8],
     words: &mut [u64],
 )
-    requires kernel { KernelFits code.now (lay_types lays.now) [] t }
-    requires lays { All (LayFits dims.now (length ins.now)) lays.now }
-    requires small { product dims.now < 2 ^ 63 }
+    requires kernel { KernelFits code.now (lay_types inputs.lays.now) [] t }
+    requires lays { All (LayFits inputs.dims.now (length inputs.ins.now)) inputs.lays.now }
+    requires small { product inputs.dims.now < 2 ^ 63 }
     requires words { length words.old ≡ 64 * length code.now }
-    requires whole { (count : ℕ) × (length out.old ≡ count * size_of t) × (count ≤ 64) × (from + count ≤ product dims.now) }
-    ensures { (k : ℕ) → k * size_of t + size_of t ≤ length out.new → HasValue t out.new k (value_by_place code.now lays.now ins.now dims.now (from + k)) }
+    requires whole { (count : ℕ) × (length out.old ≡ count * size_of t) × (count ≤ 64) × (from + count ≤ product inputs.dims.now) }
+    ensures { (k : ℕ) → k * size_of t + size_of t ≤ length out.new → HasValue t out.new k (value_by_place code.now inputs.entry.lays.now inputs.entry.ins.now inputs.entry.dims.now (from + k)) }
 {
     let count = out.len() / size(t) as usize;
     for (number, instr) in code.iter().enumerate() {
         let (before, rest) = words.split_at_mut(ROW * number);
-        run_step(*instr, lays, dims, ins, from, before, &mut rest[..count]);
+        run_step(*instr, inputs, from, before, &mut rest[..count]);
     }
     let last = ROW * (code.len() - 1);
     lane_save(t, &words[last..last + count], out);

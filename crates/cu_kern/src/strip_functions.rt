@@ -3,16 +3,13 @@ ghost use Rattle.std.specs.Prelude.{◌≡◌, ◌≢◌, ◌≤◌, length};
 ghost use Rattle.cu_kern.specs.Strips.{strip, IsCall, HasArguments, HasResults};
 
 use crate::calls::Call;
-use crate::reciprocals::divide_by_type;
-use crate::strip_loops::{
-    astype_by_types, compare_long_by_type, compare_short_by_type, one_by_type, pair_by_type,
-    select_by_type,
+use crate::comparisons::{
+    pair_equal, pair_greater, pair_greater_equal, pair_less, pair_less_equal, pair_not_equal,
 };
+use crate::reciprocals::divide_by_type;
+use crate::strip_loops::{astype_by_types, one_by_type, pair_by_type, select_by_type};
 use crate::strips::Strip;
 use cu_num::{Dtype, Fn1, Fn2};
-
-/// From so many elements on a comparison has longer steps.
-const LONG: usize = 128;
 
 /// The elements of a call along a run.
 pub(crate) fn call_strips(call: Call, x: Strip<'_>, y: Strip<'_>, z: Strip<'_>, out: &mut [u8])
@@ -225,126 +222,6 @@ fn pair_right_shift(t: Dtype, x: &[u8], x_step: usize, y: &[u8], y_step: usize, 
     ensures { HasResults (Call.Two Fn2.RightShift t) (strip x.now x_step) (strip y.now y_step) (strip y.now y_step) out.new }
 {
     pair_by_type(Fn2::RightShift, t, x, x_step, y, y_step, out);
-}
-
-#[inline(never)]
-fn pair_equal(t: Dtype, x: &[u8], x_step: usize, y: &[u8], y_step: usize, out: &mut [u8])
-    requires arguments { HasArguments (Call.Two Fn2.Equal t) (strip x.now x_step) (strip y.now y_step) (strip y.now y_step) (length out.old) }
-    ensures { HasResults (Call.Two Fn2.Equal t) (strip x.now x_step) (strip y.now y_step) (strip y.now y_step) out.new }
-{
-    if x_step == 0 || out.len() < 16 {
-        pair_by_type(Fn2::Equal, t, x, x_step, y, y_step, out);
-    } else if y_step == 0 {
-        if out.len() < LONG {
-            compare_short_by_type(Fn2::Equal, t, x, y, 0, out);
-        } else {
-            compare_long_by_type(Fn2::Equal, t, x, y, 0, out);
-        }
-    } else if out.len() < LONG {
-        compare_short_by_type(Fn2::Equal, t, x, y, 1, out);
-    } else {
-        compare_long_by_type(Fn2::Equal, t, x, y, 1, out);
-    }
-}
-
-#[inline(never)]
-fn pair_not_equal(t: Dtype, x: &[u8], x_step: usize, y: &[u8], y_step: usize, out: &mut [u8])
-    requires arguments { HasArguments (Call.Two Fn2.NotEqual t) (strip x.now x_step) (strip y.now y_step) (strip y.now y_step) (length out.old) }
-    ensures { HasResults (Call.Two Fn2.NotEqual t) (strip x.now x_step) (strip y.now y_step) (strip y.now y_step) out.new }
-{
-    if x_step == 0 || out.len() < 16 {
-        pair_by_type(Fn2::NotEqual, t, x, x_step, y, y_step, out);
-    } else if y_step == 0 {
-        if out.len() < LONG {
-            compare_short_by_type(Fn2::NotEqual, t, x, y, 0, out);
-        } else {
-            compare_long_by_type(Fn2::NotEqual, t, x, y, 0, out);
-        }
-    } else if out.len() < LONG {
-        compare_short_by_type(Fn2::NotEqual, t, x, y, 1, out);
-    } else {
-        compare_long_by_type(Fn2::NotEqual, t, x, y, 1, out);
-    }
-}
-
-#[inline(never)]
-fn pair_less(t: Dtype, x: &[u8], x_step: usize, y: &[u8], y_step: usize, out: &mut [u8])
-    requires arguments { HasArguments (Call.Two Fn2.Less t) (strip x.now x_step) (strip y.now y_step) (strip y.now y_step) (length out.old) }
-    ensures { HasResults (Call.Two Fn2.Less t) (strip x.now x_step) (strip y.now y_step) (strip y.now y_step) out.new }
-{
-    if x_step == 0 || out.len() < 16 {
-        pair_by_type(Fn2::Less, t, x, x_step, y, y_step, out);
-    } else if y_step == 0 {
-        if out.len() < LONG {
-            compare_short_by_type(Fn2::Less, t, x, y, 0, out);
-        } else {
-            compare_long_by_type(Fn2::Less, t, x, y, 0, out);
-        }
-    } else if out.len() < LONG {
-        compare_short_by_type(Fn2::Less, t, x, y, 1, out);
-    } else {
-        compare_long_by_type(Fn2::Less, t, x, y, 1, out);
-    }
-}
-
-#[inline(never)]
-fn pair_less_equal(t: Dtype, x: &[u8], x_step: usize, y: &[u8], y_step: usize, out: &mut [u8])
-    requires arguments { HasArguments (Call.Two Fn2.LessEqual t) (strip x.now x_step) (strip y.now y_step) (strip y.now y_step) (length out.old) }
-    ensures { HasResults (Call.Two Fn2.LessEqual t) (strip x.now x_step) (strip y.now y_step) (strip y.now y_step) out.new }
-{
-    if x_step == 0 || out.len() < 16 {
-        pair_by_type(Fn2::LessEqual, t, x, x_step, y, y_step, out);
-    } else if y_step == 0 {
-        if out.len() < LONG {
-            compare_short_by_type(Fn2::LessEqual, t, x, y, 0, out);
-        } else {
-            compare_long_by_type(Fn2::LessEqual, t, x, y, 0, out);
-        }
-    } else if out.len() < LONG {
-        compare_short_by_type(Fn2::LessEqual, t, x, y, 1, out);
-    } else {
-        compare_long_by_type(Fn2::LessEqual, t, x, y, 1, out);
-    }
-}
-
-#[inline(never)]
-fn pair_greater(t: Dtype, x: &[u8], x_step: usize, y: &[u8], y_step: usize, out: &mut [u8])
-    requires arguments { HasArguments (Call.Two Fn2.Greater t) (strip x.now x_step) (strip y.now y_step) (strip y.now y_step) (length out.old) }
-    ensures { HasResults (Call.Two Fn2.Greater t) (strip x.now x_step) (strip y.now y_step) (strip y.now y_step) out.new }
-{
-    if x_step == 0 || out.len() < 16 {
-        pair_by_type(Fn2::Greater, t, x, x_step, y, y_step, out);
-    } else if y_step == 0 {
-        if out.len() < LONG {
-            compare_short_by_type(Fn2::Greater, t, x, y, 0, out);
-        } else {
-            compare_long_by_type(Fn2::Greater, t, x, y, 0, out);
-        }
-    } else if out.len() < LONG {
-        compare_short_by_type(Fn2::Greater, t, x, y, 1, out);
-    } else {
-        compare_long_by_type(Fn2::Greater, t, x, y, 1, out);
-    }
-}
-
-#[inline(never)]
-fn pair_greater_equal(t: Dtype, x: &[u8], x_step: usize, y: &[u8], y_step: usize, out: &mut [u8])
-    requires arguments { HasArguments (Call.Two Fn2.GreaterEqual t) (strip x.now x_step) (strip y.now y_step) (strip y.now y_step) (length out.old) }
-    ensures { HasResults (Call.Two Fn2.GreaterEqual t) (strip x.now x_step) (strip y.now y_step) (strip y.now y_step) out.new }
-{
-    if x_step == 0 || out.len() < 16 {
-        pair_by_type(Fn2::GreaterEqual, t, x, x_step, y, y_step, out);
-    } else if y_step == 0 {
-        if out.len() < LONG {
-            compare_short_by_type(Fn2::GreaterEqual, t, x, y, 0, out);
-        } else {
-            compare_long_by_type(Fn2::GreaterEqual, t, x, y, 0, out);
-        }
-    } else if out.len() < LONG {
-        compare_short_by_type(Fn2::GreaterEqual, t, x, y, 1, out);
-    } else {
-        compare_long_by_type(Fn2::GreaterEqual, t, x, y, 1, out);
-    }
 }
 
 #[inline(never)]

@@ -5,6 +5,7 @@ ghost use Rattle.cu_num.specs.Scalar.{result_type2};
 ghost use Rattle.cu_num.specs.declared.types.Dtype.TheVariants.{Bool};
 ghost use Rattle.cu_kern.specs.Strips.{strip, IsCall, HasArguments, HasResults};
 
+use crate::by_type::call_by_type;
 use crate::calls::Call;
 use crate::strips::{
     Strip, compare_long, compare_short, compare_wide, one_from, pair_each, select_from,
@@ -37,17 +38,7 @@ pub(crate) fn astype_by_types(from: Dtype, t: Dtype, x: Strip<'_>, out: &mut [u8
     requires arguments { HasArguments (Call.One Fn1.Astype from t) (strip x.bytes.now x.step) (strip x.bytes.now x.step) (strip x.bytes.now x.step) (length out.old) }
     ensures { HasResults (Call.One Fn1.Astype from t) (strip x.entry.bytes.now x.entry.step) (strip x.entry.bytes.now x.entry.step) (strip x.entry.bytes.now x.entry.step) out.new }
 {
-    match from {
-        Dtype::Bool => astype_to(Dtype::Bool, t, x, out),
-        Dtype::Int8 => astype_to(Dtype::Int8, t, x, out),
-        Dtype::Int16 => astype_to(Dtype::Int16, t, x, out),
-        Dtype::Int32 => astype_to(Dtype::Int32, t, x, out),
-        Dtype::Int64 => astype_to(Dtype::Int64, t, x, out),
-        Dtype::Uint8 => astype_to(Dtype::Uint8, t, x, out),
-        Dtype::Uint16 => astype_to(Dtype::Uint16, t, x, out),
-        Dtype::Uint32 => astype_to(Dtype::Uint32, t, x, out),
-        Dtype::Uint64 => astype_to(Dtype::Uint64, t, x, out),
-    }
+    call_by_type!(astype_to, [], from, [t, x, out])
 }
 
 #[inline(always)]
@@ -55,17 +46,7 @@ fn astype_to(from: Dtype, t: Dtype, x: Strip<'_>, out: &mut [u8])
     requires arguments { HasArguments (Call.One Fn1.Astype from t) (strip x.bytes.now x.step) (strip x.bytes.now x.step) (strip x.bytes.now x.step) (length out.old) }
     ensures { HasResults (Call.One Fn1.Astype from t) (strip x.entry.bytes.now x.entry.step) (strip x.entry.bytes.now x.entry.step) (strip x.entry.bytes.now x.entry.step) out.new }
 {
-    match t {
-        Dtype::Bool => by_step(Fn1::Astype, from, Dtype::Bool, x, out),
-        Dtype::Int8 => by_step(Fn1::Astype, from, Dtype::Int8, x, out),
-        Dtype::Int16 => by_step(Fn1::Astype, from, Dtype::Int16, x, out),
-        Dtype::Int32 => by_step(Fn1::Astype, from, Dtype::Int32, x, out),
-        Dtype::Int64 => by_step(Fn1::Astype, from, Dtype::Int64, x, out),
-        Dtype::Uint8 => by_step(Fn1::Astype, from, Dtype::Uint8, x, out),
-        Dtype::Uint16 => by_step(Fn1::Astype, from, Dtype::Uint16, x, out),
-        Dtype::Uint32 => by_step(Fn1::Astype, from, Dtype::Uint32, x, out),
-        Dtype::Uint64 => by_step(Fn1::Astype, from, Dtype::Uint64, x, out),
-    }
+    call_by_type!(by_step, [Fn1::Astype, from], t, [x, out])
 }
 
 /// A function of two arguments, with loops for each type.
@@ -82,17 +63,7 @@ pub(crate) fn pair_by_type(
     requires arguments { HasArguments (Call.Two f t) (strip x.now x_step) (strip y.now y_step) (strip y.now y_step) (length out.old) }
     ensures { HasResults (Call.Two f t) (strip x.now x_step) (strip y.now y_step) (strip y.now y_step) out.new }
 {
-    match t {
-        Dtype::Bool => by_first_step(f, Dtype::Bool, x, x_step, y, y_step, out),
-        Dtype::Int8 => by_first_step(f, Dtype::Int8, x, x_step, y, y_step, out),
-        Dtype::Int16 => by_first_step(f, Dtype::Int16, x, x_step, y, y_step, out),
-        Dtype::Int32 => by_first_step(f, Dtype::Int32, x, x_step, y, y_step, out),
-        Dtype::Int64 => by_first_step(f, Dtype::Int64, x, x_step, y, y_step, out),
-        Dtype::Uint8 => by_first_step(f, Dtype::Uint8, x, x_step, y, y_step, out),
-        Dtype::Uint16 => by_first_step(f, Dtype::Uint16, x, x_step, y, y_step, out),
-        Dtype::Uint32 => by_first_step(f, Dtype::Uint32, x, x_step, y, y_step, out),
-        Dtype::Uint64 => by_first_step(f, Dtype::Uint64, x, x_step, y, y_step, out),
-    }
+    call_by_type!(by_first_step, [f], t, [x, x_step, y, y_step, out])
 }
 
 /// A function of at least sixteen arguments of which the first move on, that gives truth values, with loops for each type.
@@ -110,17 +81,7 @@ pub(crate) fn compare_short_by_type(
     requires arguments { HasArguments (Call.Two f t) (strip x.now 1) (strip y.now y_step) (strip y.now y_step) (length out.old) }
     ensures { HasResults (Call.Two f t) (strip x.now 1) (strip y.now y_step) (strip y.now y_step) out.new }
 {
-    match t {
-        Dtype::Bool => compare_short(f, Dtype::Bool, x, y, y_step, out),
-        Dtype::Int8 => compare_short(f, Dtype::Int8, x, y, y_step, out),
-        Dtype::Int16 => compare_short(f, Dtype::Int16, x, y, y_step, out),
-        Dtype::Int32 => compare_short(f, Dtype::Int32, x, y, y_step, out),
-        Dtype::Int64 => compare_short(f, Dtype::Int64, x, y, y_step, out),
-        Dtype::Uint8 => compare_short(f, Dtype::Uint8, x, y, y_step, out),
-        Dtype::Uint16 => compare_short(f, Dtype::Uint16, x, y, y_step, out),
-        Dtype::Uint32 => compare_short(f, Dtype::Uint32, x, y, y_step, out),
-        Dtype::Uint64 => compare_short(f, Dtype::Uint64, x, y, y_step, out),
-    }
+    call_by_type!(compare_short, [f], t, [x, y, y_step, out])
 }
 
 /// `compare_short_by_type` for a run of at least 128 elements.
@@ -157,17 +118,7 @@ pub(crate) fn select_by_type(t: Dtype, x: Strip<'_>, y: Strip<'_>, z: Strip<'_>,
     requires arguments { HasArguments (Call.Select t) (strip x.bytes.now x.step) (strip y.bytes.now y.step) (strip z.bytes.now z.step) (length out.old) }
     ensures { HasResults (Call.Select t) (strip x.entry.bytes.now x.entry.step) (strip y.entry.bytes.now y.entry.step) (strip z.entry.bytes.now z.entry.step) out.new }
 {
-    match t {
-        Dtype::Bool => by_three_steps(Dtype::Bool, x, y, z, out),
-        Dtype::Int8 => by_three_steps(Dtype::Int8, x, y, z, out),
-        Dtype::Int16 => by_three_steps(Dtype::Int16, x, y, z, out),
-        Dtype::Int32 => by_three_steps(Dtype::Int32, x, y, z, out),
-        Dtype::Int64 => by_three_steps(Dtype::Int64, x, y, z, out),
-        Dtype::Uint8 => by_three_steps(Dtype::Uint8, x, y, z, out),
-        Dtype::Uint16 => by_three_steps(Dtype::Uint16, x, y, z, out),
-        Dtype::Uint32 => by_three_steps(Dtype::Uint32, x, y, z, out),
-        Dtype::Uint64 => by_three_steps(Dtype::Uint64, x, y, z, out),
-    }
+    call_by_type!(by_three_steps, [], t, [x, y, z, out])
 }
 
 #[inline(always)]

@@ -3,4 +3,4 @@ mod Lowest
 mod Ordered
 mod Summed
 mod Turned
-mod Words
+pub mod Words

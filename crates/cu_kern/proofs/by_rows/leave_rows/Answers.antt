@@ -10,15 +10,15 @@ pub loop-number-init : goal.loop-number-init
 loop-number-init c = record {
   same_length = refl;
   short = omega arith;
-  stand = λ k h. begin_rows c.args.plan.code.now c.args.plan.rows.now c.args.bank.now
-      (loads_along c.args.plan.inputs.lays.now c.args.plan.inputs.ins.now c.args.plan.inputs.dims.now c.args.span.from k) k;
+  stand = λ k h. begin_rows c.args.kernel.code.now c.args.kernel.rows.now c.args.bank.now
+      (loads_along c.args.kernel.inputs.lays.now c.args.kernel.inputs.ins.now c.args.kernel.inputs.dims.now c.args.range.from k) k;
 }
 
 pub loop-number-preserved : goal.loop-number-preserved
 loop-number-preserved c =
     let number = c.loop-number.number in
-    let code = c.args.plan.code.now in
-    let rows = c.args.plan.rows.now in
+    let code = c.args.kernel.code.now in
+    let rows = c.args.kernel.rows.now in
     let front = c.split_at_mut-before.result.0.now in
     let back = c.split_at_mut-before.result.1.now in
     let rest = c.leave_row.new.rest in
@@ -30,7 +30,7 @@ loop-number-preserved c =
     record {
       same_length = length-append front rest ∙ ap (λ n. length front + n) kept ∙ sym (length-append front back) ∙ sym (ap length value) ∙ c.loop-number.invariant.same_length;
       short = omega (arith, c.split_at_mut-before.ensures.front_len);
-      stand = λ k h. next_rows code rows c.loop-number.bank front back rest number c.loop-number.filled c.args.span.count c.in-Some.used k _ _
-          (loads_along c.args.plan.inputs.lays.now c.args.plan.inputs.ins.now c.args.plan.inputs.dims.now c.args.span.from) value c.split_at_mut-before.ensures.front_len (omega arith)
+      stand = λ k h. next_rows code rows c.loop-number.bank front back rest number c.loop-number.filled c.args.range.count c.in-Some.used k _ _
+          (loads_along c.args.kernel.inputs.lays.now c.args.kernel.inputs.ins.now c.args.kernel.inputs.dims.now c.args.range.from) value c.split_at_mut-before.ensures.front_len (omega arith)
           (drop_more code number (Load 0) (omega arith)) (slice_get-get_or code number (Load 0) (omega arith)) (slice_get-get_or rows number _ (omega arith)) h (c.loop-number.invariant.stand k h) c.in-Some.ensures.leaves;
     }

@@ -6,5 +6,5 @@ abbrev pub invariant-loop-number : goal.invariant-loop-number
 invariant-loop-number l = record {
   same_length : length l.bank ≡ length l.fn.bank;
   short : l.filled ≤ length l.bank;
-  stand : (k : ℕ) → k < l.span.count → RowsAt (step_rows l.plan.code.now l.plan.rows.now l.bank l.number l.filled) (loads_along l.plan.inputs.lays.now l.plan.inputs.ins.now l.plan.inputs.dims.now l.span.from k) k;
+  stand : (k : ℕ) → k < l.range.count → RowsAt (step_rows l.kernel.code.now l.kernel.rows.now l.bank l.number l.filled) (loads_along l.kernel.inputs.lays.now l.kernel.inputs.ins.now l.kernel.inputs.dims.now l.range.from k) k;
 }

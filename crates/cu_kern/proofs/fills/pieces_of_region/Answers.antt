@@ -18,16 +18,16 @@ use Rattle.cu_kern.proofs.fills.pieces_of_region.Goals as goal
 
 pub call_strips-requires-clause-arguments : goal.call_strips-requires-clause-arguments
 call_strips-requires-clause-arguments c =
-    let t = c.args.source.lay.now.dtype in
-    let n = part_count t c.loop-done.out c.loop-done.done c.min-count.result c.args.span.count c.size-size.result c.size-size.ensures (omega (arith, c.min-count.ensures)) (c.loop-done.invariant.out_length ∙ c.requires.room) in
+    let t = c.args.region.lay.now.dtype in
+    let n = part_count t c.loop-done.out c.loop-done.done c.min-count.result c.args.range.count c.size-size.result c.size-size.ensures (omega (arith, c.min-count.ensures)) (c.loop-done.invariant.out_length ∙ c.requires.room) in
     let P : ℕ → Type 0 = λ m. HasPlaces t (strip c.strip_from-strip.result.bytes.now c.strip_from-strip.result.step) m in
     let places = subst P (sym n) c.strip_from-strip.ensures.places in
     record { first = places; second = places; third = places }
 
 pub loop-done-preserved : goal.loop-done-preserved
 loop-done-preserved c =
-    let t = c.args.source.lay.now.dtype in
-    let all = c.args.span.count in
+    let t = c.args.region.lay.now.dtype in
+    let all = c.args.range.count in
     let done = c.loop-done.done in
     let size = c.size-size.result in
     let count = c.min-count.result in
@@ -44,7 +44,7 @@ loop-done-preserved c =
     let part : length new ≡ e - a = c.call_strips.auto.out ∙ length-between out a e whole.0 in
     let fits = whole.0 in
     let order : a ≤ e = mul-le-mul_right size (let less : done ≤ done + count = omega arith in less) in
-    let read : ℕ → ℤ = λ k. lay_element c.args.source.lay.now c.args.source.ins.now (index_at c.args.dims.now (c.args.span.from + k)) in
+    let read : ℕ → ℤ = λ k. lay_element c.args.region.lay.now c.args.region.ins.now (index_at c.args.dims.now (c.args.range.from + k)) in
     record {
       within = within;
       out_length = length-put_mid a (e - a) out new part (omega arith) ∙ c.loop-done.invariant.out_length;
@@ -59,9 +59,9 @@ loop-done-preserved c =
           let inside : j < count = omega arith in
           let last : suc j * size_of t ≤ count * size_of t = mul-le-mul_right (size_of t) (let l : suc j ≤ count = omega arith in l) in
           let room : j * size_of t + size_of t ≤ length new = omega arith in
-          let place : c.args.span.from + done + j ≡ c.args.span.from + k = omega arith in
+          let place : c.args.range.from + done + j ≡ c.args.range.from + k = omega arith in
           let is : strip_element t (strip c.strip_from-strip.result.bytes.now c.strip_from-strip.result.step) j ≡ read k =
-          c.strip_from-strip.ensures.elements j inside ∙ ap (λ p. lay_element c.args.source.lay.now c.args.source.ins.now (index_at c.args.dims.now p)) place in
+          c.strip_from-strip.ensures.elements j inside ∙ ap (λ p. lay_element c.args.region.lay.now c.args.region.ins.now (index_at c.args.dims.now p)) place in
           let range = InRange-element_at Little t _ _ in (
             range,
             bytes_inside t a (e - a) out new k j at room (omega arith) ∙ c.call_strips.ensures j room ∙ ap (λ x. element_bytes Little t (wrapped t x)) is ∙ ap (element_bytes Little t) (wrapped_in_range t (read k) range),

@@ -20,14 +20,14 @@ use Rattle.cu_kern.proofs.Spreads.{spread_is_run, next_run}
 use Rattle.cu_kern.proofs.fills.spread_each.Goals as goal
 
 pub strip_at-strip-requires-clause-pace : goal.strip_at-strip-requires-clause-pace
-strip_at-strip-requires-clause-pace c = spread_is_run c.args.source.lay.now.dims c.args.dims.now c.args.run c.requires.spread c.requires.some
+strip_at-strip-requires-clause-pace c = spread_is_run c.args.region.lay.now.dims c.args.dims.now c.args.run c.requires.spread c.requires.some
 
 pub strip_at-strip-requires-clause-below : goal.strip_at-strip-requires-clause-below
 strip_at-strip-requires-clause-below c =
-    let p = c.args.span.from + c.loop-done.done in
+    let p = c.args.range.from + c.loop-done.done in
     let within = c.requires.within in
     let test = c.loop-done-test.true in
-    let low = read_below c.args.source.lay.now.dims c.args.dims.now p c.requires.source.fits.broadcasts (omega arith) in
+    let low = read_below c.args.region.lay.now.dims c.args.dims.now p c.requires.region.fits.broadcasts (omega arith) in
     let at = c.loop-done.invariant.at_run test in
     let read = c.requires.spread p (omega arith) in
     omega (arith, low, at, read)
@@ -35,16 +35,16 @@ strip_at-strip-requires-clause-below c =
 pub one_from-requires-clause-arguments : goal.one_from-requires-clause-arguments
 one_from-requires-clause-arguments c =
     let t = c.args.t in
-    let n = part_count t c.loop-done.out c.loop-done.done c.min-count.result c.args.span.count c.size-size.result c.size-size.ensures (omega (arith, c.min-count.ensures)) (c.loop-done.invariant.out_length ∙ c.requires.room) in
+    let n = part_count t c.loop-done.out c.loop-done.done c.min-count.result c.args.range.count c.size-size.result c.size-size.ensures (omega (arith, c.min-count.ensures)) (c.loop-done.invariant.out_length ∙ c.requires.room) in
     let P : ℕ → Type 0 = λ m. HasPlaces t (strip c.strip_at-strip.result.bytes.now c.strip_at-strip.result.step) m in
     let Q : Dtype → Type 0 = λ d. HasPlaces d (strip c.strip_at-strip.result.bytes.now c.strip_at-strip.result.step) c.min-count.result in
-    let places = subst P (sym n) (subst Q c.requires.source.dtype c.strip_at-strip.ensures.places) in
+    let places = subst P (sym n) (subst Q c.requires.region.dtype c.strip_at-strip.ensures.places) in
     record { first = places; second = places; third = places }
 
 pub loop-done-preserved : goal.loop-done-preserved
 loop-done-preserved c =
     let t = c.args.t in
-    let all = c.args.span.count in
+    let all = c.args.range.count in
     let done = c.loop-done.done in
     let size = c.size-size.result in
     let count = c.min-count.result in
@@ -61,10 +61,10 @@ loop-done-preserved c =
     let part : length new ≡ e - a = c.one_from.auto.out ∙ length-between out a e whole.0 in
     let fits = whole.0 in
     let order : a ≤ e = mul-le-mul_right size (let less : done ≤ done + count = omega arith in less) in
-    let read : ℕ → ℤ = λ k. lay_element c.args.source.lay.now c.args.source.ins.now (index_at c.args.dims.now (c.args.span.from + k)) in
-    let next = next_run (c.args.span.from + done) c.loop-done.left c.args.run c.requires.some (c.loop-done.invariant.in_run c.loop-done-test.true) in
+    let read : ℕ → ℤ = λ k. lay_element c.args.region.lay.now c.args.region.ins.now (index_at c.args.dims.now (c.args.range.from + k)) in
+    let next = next_run (c.args.range.from + done) c.loop-done.left c.args.run c.requires.some (c.loop-done.invariant.in_run c.loop-done-test.true) in
     let full : done + count < all → count ≡ c.loop-done.left = λ less. omega (arith, c.min-count.ensures, less) in
-    let sum : done + count < all → c.args.span.from + done + c.loop-done.left ≡ c.args.span.from + (done + count) = λ less. omega (arith, full less) in
+    let sum : done + count < all → c.args.range.from + done + c.loop-done.left ≡ c.args.range.from + (done + count) = λ less. omega (arith, full less) in
     record {
       within = within;
       out_length = length-put_mid a (e - a) out new part (omega arith) ∙ c.loop-done.invariant.out_length;
@@ -81,13 +81,13 @@ loop-done-preserved c =
           let inside : j < count = omega arith in
           let last : suc j * size_of t ≤ count * size_of t = mul-le-mul_right (size_of t) (let l : suc j ≤ count = omega arith in l) in
           let room : j * size_of t + size_of t ≤ length new = omega arith in
-          let place : c.args.span.from + done + j ≡ c.args.span.from + k = omega arith in
-          let dtype : t ≡ c.args.source.lay.now.dtype = sym c.requires.source.dtype in
+          let place : c.args.range.from + done + j ≡ c.args.range.from + k = omega arith in
+          let dtype : t ≡ c.args.region.lay.now.dtype = sym c.requires.region.dtype in
           let is : strip_element t (strip c.strip_at-strip.result.bytes.now c.strip_at-strip.result.step) j ≡ read k =
           ap (λ d. strip_element d (strip c.strip_at-strip.result.bytes.now c.strip_at-strip.result.step) j) dtype
-          ∙ c.strip_at-strip.ensures.elements j inside ∙ ap (λ p. lay_element c.args.source.lay.now c.args.source.ins.now (index_at c.args.dims.now p)) place in
+          ∙ c.strip_at-strip.ensures.elements j inside ∙ ap (λ p. lay_element c.args.region.lay.now c.args.region.ins.now (index_at c.args.dims.now p)) place in
           let P : Dtype → Type 0 = λ d. InRange d (read k) in
-          let range : InRange t (read k) = subst P c.requires.source.dtype (InRange-element_at Little c.args.source.lay.now.dtype _ _) in (
+          let range : InRange t (read k) = subst P c.requires.region.dtype (InRange-element_at Little c.args.region.lay.now.dtype _ _) in (
             range,
             bytes_inside t a (e - a) out new k j at room (omega arith) ∙ c.one_from.ensures j room ∙ ap (λ x. element_bytes Little t (wrapped t x)) is ∙ ap (element_bytes Little t) (wrapped_in_range t (read k) range),
           ))

@@ -5,12 +5,12 @@ use Rattle.cu_kern.proofs.fills.spread_each.Given as goal
 
 abbrev pub invariant-loop-done : goal.invariant-loop-done
 invariant-loop-done l = record {
-  within : l.done ≤ l.span.count;
+  within : l.done ≤ l.range.count;
   out_length : length l.out ≡ length l.fn.out;
-  at_run : l.done < l.span.count → l.at ≡ (l.span.from + l.done) / l.run;
-  in_run : l.done < l.span.count → (l.span.from + l.done) % l.run + l.left ≡ l.run;
-  values : (k : ℕ) → k < l.done → HasValue l.t l.out k (Some (lay_element l.source.lay.now l.source.ins.now (index_at l.dims (l.span.from + k))));
+  at_run : l.done < l.range.count → l.at ≡ (l.range.from + l.done) / l.run;
+  in_run : l.done < l.range.count → (l.range.from + l.done) % l.run + l.left ≡ l.run;
+  values : (k : ℕ) → k < l.done → HasValue l.t l.out k (Some (lay_element l.region.lay.now l.region.ins.now (index_at l.dims (l.range.from + k))));
 }
 
 abbrev pub decreases-loop-done : goal.decreases-loop-done
-decreases-loop-done l = l.span.count - l.done
+decreases-loop-done l = l.range.count - l.done

@@ -4,7 +4,8 @@ use Rattle.cu_num.specs.Dtype.{size_of}
 use Rattle.cu_num.specs.Word.{word_of, IsWord}
 use Rattle.cu_num.specs.declared.layout.Endian.TheVariants.{Little}
 use Rattle.cu_num.proofs.ElementBytes.{InRange-element_at}
-use Rattle.cu_kern.proofs.LaneWords.{is_word, kept}
+use Rattle.cu_lane.proofs.Words.{is_word, kept}
+use Rattle.cu_kern.proofs.LaneWords.{word_filled}
 use Rattle.cu_kern.proofs.Parts.{element_moved}
 use Rattle.cu_kern.proofs.lays.load_piece.Goals as goal
 
@@ -28,4 +29,4 @@ returns-else-step-eq1 c k h =
     let same : c.args.first + c.args.step * k ≡ c.args.first + 0 = ap (λ s. c.args.first + s * k) none ∙ omega arith in
     let is = c.word.ensures ∙ ap word_of (kept c.load.result (record { sfits = c.load.type_inv }) ∙ c.load.ensures.value
     ∙ element_moved t c.args.ins.now c.args.lay.now.at c.args.first _ _ 0 (c.args.first + c.args.step * k) (ap (λ s. c.args.lay.now.at + c.args.first * s) size) (omega arith) same) in
-    is_word t _ _ (c.lane_fill.ensures k h ∙ is) (InRange-element_at Little t (drop c.args.lay.now.at c.args.ins.now) (c.args.first + c.args.step * k))
+    is_word t _ _ (word_filled c.fill.new.self (length c.args.out.now) c.word.result k (c.fill.ensures.after (λ y e. e)) (omega (arith, c.fill.ensures.len)) ∙ is) (InRange-element_at Little t (drop c.args.lay.now.at c.args.ins.now) (c.args.first + c.args.step * k))

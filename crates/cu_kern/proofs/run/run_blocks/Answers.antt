@@ -20,14 +20,14 @@ loop-block-preserved c =
     let new = c.run_block.new.out in
     let all = length c.args.out.now / size in
     let count = c.min-count.result in
-    let is : all ≡ product c.args.dims.now = element_count t (product c.args.dims.now) size (length c.args.out.now) same c.requires.out in
+    let is : all ≡ product c.args.inputs.dims.now = element_count t (product c.args.inputs.dims.now) size (length c.args.out.now) same c.requires.out in
     let least : count ≡ min (all - block * 64) 64 = c.min-count.ensures in
     let a = block * 64 * size in
     let e = (block * 64 + count) * size in
     let begins : a ≡ block * 64 * size_of t = ap (λ s. block * 64 * s) same in
     let ends : e ≡ (block * 64 + count) * size_of t = ap (λ s. (block * 64 + count) * s) same in
-    let far : (block * 64 + count) * size_of t ≤ product c.args.dims.now * size_of t = mul-le-mul_right (size_of t)
-    (let begun : block * 64 < all = omega (arith, c.div_ceil-block-end.ensures) in let l : block * 64 + count ≤ product c.args.dims.now = omega arith in l) in
+    let far : (block * 64 + count) * size_of t ≤ product c.args.inputs.dims.now * size_of t = mul-le-mul_right (size_of t)
+    (let begun : block * 64 < all = omega (arith, c.div_ceil-block-end.ensures) in let l : block * 64 + count ≤ product c.args.inputs.dims.now = omega arith in l) in
     let kept = c.loop-block.invariant.out_length in
     let part : length new ≡ e - a = c.run_block.auto.out ∙ length-between out a e (omega arith) in
     record {
@@ -43,7 +43,7 @@ loop-block-preserved c =
           let at : p * size_of t ≡ a + k * size_of t = ap (λ q. q * size_of t) sum ∙ omega arith in
           let last : suc k * size_of t ≤ count * size_of t = mul-le-mul_right (size_of t) (let l : suc k ≤ count = omega arith in l) in
           let fits : k * size_of t + size_of t ≤ length new = omega arith in
-          let P : ℕ → Type 0 = λ q. HasValue t new k (value_by_place c.args.code.now c.args.lays.now c.args.ins.now c.args.dims.now q) in
+          let P : ℕ → Type 0 = λ q. HasValue t new k (value_by_place c.args.code.now c.args.inputs.lays.now c.args.inputs.ins.now c.args.inputs.dims.now q) in
           has_value_same t (put_mid a (e - a) out new) new p k _ (bytes_inside t a (e - a) out new p k at fits (omega arith)) (subst P (sym sum) (c.run_block.ensures k fits)))
           (cases_lt p (64 * block));
     }

@@ -7,5 +7,5 @@ abbrev pub invariant-loop-block : goal.invariant-loop-block
 invariant-loop-block l = record {
   out_length : length l.out ≡ length l.fn.out;
   words_length : length l.words ≡ length l.fn.words;
-  values : (p : ℕ) → p < 64 * l.block → p < l.all → HasValue l.t l.out p (value_by_place l.code l.lays l.ins l.dims p);
+  values : (p : ℕ) → p < 64 * l.block → p < l.all → HasValue l.t l.out p (value_by_place l.code l.inputs.lays.now l.inputs.ins.now l.inputs.dims.now p);
 }

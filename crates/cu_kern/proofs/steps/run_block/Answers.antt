@@ -11,13 +11,13 @@ use Rattle.cu_kern.proofs.steps.run_block.Goals as goal
 pub loop-number-init : goal.loop-number-init
 loop-number-init c = record {
   same_length = refl;
-  running = begin (block_of c.args.code.now c.args.lays.now c.args.t c.args.dims.now c.args.ins.now c.args.from (length c.args.out.now / c.size.result)) c.args.words.now c.requires.kernel;
+  running = begin (block_of c.args.code.now c.args.inputs.lays.now c.args.t c.args.inputs.dims.now c.args.inputs.ins.now c.args.from (length c.args.out.now / c.size.result)) c.args.words.now c.requires.kernel;
 }
 
 pub run_step-requires-clause-names : goal.run_step-requires-clause-names
 run_step-requires-clause-names c =
-    next_names (block_of c.args.code.now c.args.lays.now c.args.t c.args.dims.now c.args.ins.now c.args.from (length c.args.out.now / c.size.result)) c.loop-number.words c.split_at_mut-before.result.0.now c.loop-number.number (length c.args.lays.now) _ c.loop-number.invariant.running
-    (drop_more c.args.code.now c.loop-number.number (Load 0) c.loop-number-test.true) (length-lay_types c.args.lays.now) c.split_at_mut-before.ensures.front_len
+    next_names (block_of c.args.code.now c.args.inputs.lays.now c.args.t c.args.inputs.dims.now c.args.inputs.ins.now c.args.from (length c.args.out.now / c.size.result)) c.loop-number.words c.split_at_mut-before.result.0.now c.loop-number.number (length c.args.inputs.lays.now) _ c.loop-number.invariant.running
+    (drop_more c.args.code.now c.loop-number.number (Load 0) c.loop-number-test.true) (length-lay_types c.args.inputs.lays.now) c.split_at_mut-before.ensures.front_len
 
 pub loop-number-preserved : goal.loop-number-preserved
 loop-number-preserved c =
@@ -33,7 +33,7 @@ loop-number-preserved c =
     let part : length out ≡ count = c.run_step.auto.out ∙ length-take-le count back (omega arith) in
     record {
       same_length = length-stepped front back out c.loop-number.words count c.split_at_mut-before.ensures.value part (omega arith) ∙ same;
-      running = next (block_of c.args.code.now c.args.lays.now c.args.t c.args.dims.now c.args.ins.now c.args.from (length c.args.out.now / c.size.result)) c.loop-number.words _ front number _ (λ k. get_or out k 0) c.loop-number.invariant.running
+      running = next (block_of c.args.code.now c.args.inputs.lays.now c.args.t c.args.inputs.dims.now c.args.inputs.ins.now c.args.from (length c.args.out.now / c.size.result)) c.loop-number.words _ front number _ (λ k. get_or out k 0) c.loop-number.invariant.running
           (drop_more c.args.code.now number (Load 0) c.loop-number-test.true)
           (λ k j b. sym (ap (λ ws. get_or ws j 0) c.split_at_mut-before.ensures.value ∙ get_or_append_left front back 0 j (omega arith)))
           (stepped_of front back out c.loop-number.words number count c.split_at_mut-before.ensures.value c.split_at_mut-before.ensures.front_len (omega arith) part)
@@ -49,9 +49,9 @@ returns c k h =
     let below : k < n = element_below c.args.t k n (length c.args.out.now) bytes (omega arith) in
     let last = 64 * (length c.args.code.now - 1) in
     let fits = c.loop-number.invariant.same_length in
-    let some = code_positive c.args.code.now (lay_types c.args.lays.now) c.args.t c.requires.kernel in
+    let some = code_positive c.args.code.now (lay_types c.args.inputs.lays.now) c.args.t c.requires.kernel in
     let room = c.requires.words in
     let xs = between last (last + count) c.loop-number.words in
     let long : length xs ≡ count = length-between c.loop-number.words last (last + count) (omega arith) ∙ omega arith in
-    saved (block_of c.args.code.now c.args.lays.now c.args.t c.args.dims.now c.args.ins.now c.args.from (length c.args.out.now / c.size.result)) c.loop-number.words c.lane_save.new.out xs c.loop-number.number k c.loop-number.invariant.running c.loop-number-test.false c.loop-number.auto.number-end (omega arith)
+    saved (block_of c.args.code.now c.args.inputs.lays.now c.args.t c.args.inputs.dims.now c.args.inputs.ins.now c.args.from (length c.args.out.now / c.size.result)) c.loop-number.words c.lane_save.new.out xs c.loop-number.number k c.loop-number.invariant.running c.loop-number-test.false c.loop-number.auto.number-end (omega arith)
     (get_or-between c.loop-number.words last (last + count) k 0 (omega arith)) (λ x w. c.lane_save.ensures k x (omega arith) w)

@@ -7,7 +7,7 @@ use Rattle.cu_num.specs.declared.layout.Endian.TheVariants.{Little}
 use Rattle.cu_num.proofs.ElementBytes.{bytes_at-written_at_same, bytes_at-written_at_other, length-written_at, length-element_bytes}
 use Rattle.cu_kern.specs.Strips.{strip, strip_element, call_type}
 use Rattle.cu_kern.specs.declared.calls.Call.TheVariants.{Two}
-use Rattle.cu_kern.proofs.LaneWords.{kept}
+use Rattle.cu_lane.proofs.Words.{kept}
 use Rattle.cu_kern.proofs.Parts.{element_fits}
 use Rattle.cu_kern.proofs.strips.pair_each.Goals as goal
 

@@ -1,0 +1,237 @@
+//! Steps of a kernel along a row of places: each leaves its results in a row of its own. The types of the rows are guessed beforehand
+//! and tested at each step.
+ghost use Rattle.std.specs.Prelude.{◌≡◌, ◌≢◌, ◌+◌, ◌*◌, ◌^◌, ◌≤◌, ◌<◌, ℤ, All, IsTrue, IfSome, length};
+ghost use Rattle.cu_num.specs.Dtype.{size_of};
+ghost use Rattle.cu_num.specs.Scalar.{result_type1, result_type2};
+ghost use Rattle.cu_shape.specs.Index.{product};
+ghost use Rattle.cu_op.specs.declared.kernel.Instr.TheVariants.{Load, Const, One, Two, Select};
+ghost use Rattle.cu_kern.specs.Lays.{LayFits};
+ghost use Rattle.cu_kern.specs.Rows.{Rows, rows_before, loads_along, Computes, left_row, Leaves};
+
+use crate::arguments::{convert, found, in_type, kind_found, literal_bytes, takes};
+use crate::calls::Call;
+use crate::fills::row_of_region;
+use crate::regions::{Inputs, LaidRegion};
+use crate::rows::{Earlier, PlaceRange, Row, step_at};
+use crate::strip_functions::call_strips;
+use cu_num::{Dtype, Fn1, Fn2, result1, result2, size};
+use cu_op::Instr;
+
+/// A function of an earlier step; `false` where types differ.
+#[inline(always)]
+fn row_of_one(f: Fn1, t: Dtype, a: u32, earlier: Earlier<'_>, out: &mut [u8]) -> bool
+    requires lays { All (LayFits earlier.kernel.inputs.dims.now (length earlier.kernel.inputs.ins.now)) earlier.kernel.inputs.lays.now }
+    requires small { product earlier.kernel.inputs.dims.now < 2 ^ 63 }
+    requires within { earlier.range.from + earlier.range.count ≤ product earlier.kernel.inputs.dims.now }
+    requires room { length out.old ≡ earlier.range.count * size_of (result_type1 f t) }
+    ensures { IsTrue result → Computes (One f t a) (result_type1 f t) (rows_before earlier.entry.kernel.code.now earlier.entry.kernel.rows.now earlier.entry.bytes.now earlier.entry.number)
+        (loads_along earlier.entry.kernel.inputs.lays.now earlier.entry.kernel.inputs.ins.now earlier.entry.kernel.inputs.dims.now earlier.entry.range.from) out.new }
+{
+    let kind = kind_found(earlier, a, t);
+    if !takes(f, kind, t) {
+        return false;
+    }
+    let literal = literal_bytes(step_at(earlier.kernel.code, a), kind);
+    let Some(x) = found(earlier, a, kind, &literal) else {
+        return false;
+    };
+    call_strips(Call::One(f, kind, t), x, x, x, out);
+    true
+}
+
+/// A function of two earlier steps, over spare bytes for arguments of other types; `false` where types differ.
+#[inline(always)]
+fn row_of_two(
+    f: Fn2,
+    t: Dtype,
+    steps: (u32, u32),
+    earlier: Earlier<'_>,
+    out: &mut [u8],
+    spare: &mut [u8],
+) -> bool
+    requires lays { All (LayFits earlier.kernel.inputs.dims.now (length earlier.kernel.inputs.ins.now)) earlier.kernel.inputs.lays.now }
+    requires small { product earlier.kernel.inputs.dims.now < 2 ^ 63 }
+    requires within { earlier.range.from + earlier.range.count ≤ product earlier.kernel.inputs.dims.now }
+    requires room { length out.old ≡ earlier.range.count * size_of (result_type2 f t) }
+    ensures { IsTrue result → Computes (Two f t steps.0 steps.1) (result_type2 f t) (rows_before earlier.entry.kernel.code.now earlier.entry.kernel.rows.now earlier.entry.bytes.now earlier.entry.number)
+        (loads_along earlier.entry.kernel.inputs.lays.now earlier.entry.kernel.inputs.ins.now earlier.entry.kernel.inputs.dims.now earlier.entry.range.from) out.new }
+{
+    let (a, b) = steps;
+    let count = earlier.range.count;
+    let first_kind = kind_found(earlier, a, t);
+    let second_kind = kind_found(earlier, b, t);
+    let first_literal = literal_bytes(step_at(earlier.kernel.code, a), first_kind);
+    let second_literal = literal_bytes(step_at(earlier.kernel.code, b), second_kind);
+    let Some(first) = found(earlier, a, first_kind, &first_literal) else {
+        return false;
+    };
+    let Some(second) = found(earlier, b, second_kind, &second_literal) else {
+        return false;
+    };
+    let (near, far) = spare.split_at_mut(spare.len() / 2);
+    if !convert(first, first_kind, t, count, near) {
+        return false;
+    }
+    if !convert(second, second_kind, t, count, far) {
+        return false;
+    }
+    let x = in_type(first, first_kind, t, count, near);
+    let y = in_type(second, second_kind, t, count, far);
+    call_strips(Call::Two(f, t), x, y, y, out);
+    true
+}
+
+/// A choice of two earlier steps by a third, over spare bytes for arguments of other types; `false` where types differ.
+#[inline(always)]
+fn row_of_select(
+    steps: (u32, u32, u32),
+    t: Dtype,
+    earlier: Earlier<'_>,
+    out: &mut [u8],
+    spare: &mut [u8],
+) -> bool
+    requires lays { All (LayFits earlier.kernel.inputs.dims.now (length earlier.kernel.inputs.ins.now)) earlier.kernel.inputs.lays.now }
+    requires small { product earlier.kernel.inputs.dims.now < 2 ^ 63 }
+    requires within { earlier.range.from + earlier.range.count ≤ product earlier.kernel.inputs.dims.now }
+    requires room { length out.old ≡ earlier.range.count * size_of t }
+    ensures { IsTrue result → Computes (Select steps.0 steps.1 steps.2) t (rows_before earlier.entry.kernel.code.now earlier.entry.kernel.rows.now earlier.entry.bytes.now earlier.entry.number)
+        (loads_along earlier.entry.kernel.inputs.lays.now earlier.entry.kernel.inputs.ins.now earlier.entry.kernel.inputs.dims.now earlier.entry.range.from) out.new }
+{
+    let (c, a, b) = steps;
+    let count = earlier.range.count;
+    let first_kind = kind_found(earlier, a, t);
+    let second_kind = kind_found(earlier, b, t);
+    let choice_literal = literal_bytes(step_at(earlier.kernel.code, c), Dtype::Bool);
+    let first_literal = literal_bytes(step_at(earlier.kernel.code, a), first_kind);
+    let second_literal = literal_bytes(step_at(earlier.kernel.code, b), second_kind);
+    let Some(choice) = found(earlier, c, Dtype::Bool, &choice_literal) else {
+        return false;
+    };
+    let Some(first) = found(earlier, a, first_kind, &first_literal) else {
+        return false;
+    };
+    let Some(second) = found(earlier, b, second_kind, &second_literal) else {
+        return false;
+    };
+    let (near, far) = spare.split_at_mut(spare.len() / 2);
+    if !convert(first, first_kind, t, count, near) {
+        return false;
+    }
+    if !convert(second, second_kind, t, count, far) {
+        return false;
+    }
+    let x = in_type(first, first_kind, t, count, near);
+    let y = in_type(second, second_kind, t, count, far);
+    call_strips(Call::Select(t), choice, x, y, out);
+    true
+}
+
+/// A region along the places; `false` where its type is another.
+fn row_of_load(j: u32, t: Dtype, inputs: Inputs<'_>, range: PlaceRange, out: &mut [u8]) -> bool
+    requires lays { All (LayFits inputs.dims.now (length inputs.ins.now)) inputs.lays.now }
+    requires small { product inputs.dims.now < 2 ^ 63 }
+    requires within { range.from + range.count ≤ product inputs.dims.now }
+    requires room { length out.old ≡ range.count * size_of t }
+    ensures { IsTrue result → (r : Rows) → Computes (Load j) t r (loads_along inputs.entry.lays.now inputs.entry.ins.now inputs.entry.dims.now range.from) out.new }
+{
+    if j as usize >= inputs.lays.len() {
+        return false;
+    }
+    let lay = &inputs.lays[j as usize];
+    if lay.dtype != t {
+        return false;
+    }
+    let region = LaidRegion {
+        lay,
+        ins: inputs.ins,
+    };
+    row_of_region(region, inputs.dims, range, out);
+    true
+}
+
+/// A step that computes or loads, along the places, over spare bytes; `false` where types differ, and for a literal.
+pub(crate) fn row_of_step(
+    instr: Instr,
+    t: Dtype,
+    earlier: Earlier<'_>,
+    out: &mut [u8],
+    spare: &mut [u8],
+) -> bool
+    requires lays { All (LayFits earlier.kernel.inputs.dims.now (length earlier.kernel.inputs.ins.now)) earlier.kernel.inputs.lays.now }
+    requires small { product earlier.kernel.inputs.dims.now < 2 ^ 63 }
+    requires within { earlier.range.from + earlier.range.count ≤ product earlier.kernel.inputs.dims.now }
+    requires room { length out.old ≡ earlier.range.count * size_of t }
+    ensures { IsTrue result → Computes instr t (rows_before earlier.entry.kernel.code.now earlier.entry.kernel.rows.now earlier.entry.bytes.now earlier.entry.number)
+        (loads_along earlier.entry.kernel.inputs.lays.now earlier.entry.kernel.inputs.ins.now earlier.entry.kernel.inputs.dims.now earlier.entry.range.from) out.new }
+{
+    match instr {
+        Instr::Load(j) => row_of_load(j, t, earlier.kernel.inputs, earlier.range, out),
+        Instr::Const(_) => false,
+        Instr::One(f, s, a) => result1(f, s) == t && row_of_one(f, s, a, earlier, out),
+        Instr::Two(f, s, a, b) => result2(f, s) == t
+            && row_of_two(f, s, (a, b), earlier, out, spare),
+        Instr::Select(c, a, b) => row_of_select((c, a, b), t, earlier, out, spare),
+    }
+}
+
+/// A step's row at the beginning of `rest`, and its bytes there; none where types differ or there is no room.
+#[inline(always)]
+pub(crate) fn leave_row(
+    instr: Instr,
+    row: Row,
+    earlier: Earlier<'_>,
+    rest: &mut [u8],
+) -> Option<usize>
+    requires lays { All (LayFits earlier.kernel.inputs.dims.now (length earlier.kernel.inputs.ins.now)) earlier.kernel.inputs.lays.now }
+    requires small { product earlier.kernel.inputs.dims.now < 2 ^ 63 }
+    requires within { earlier.range.from + earlier.range.count ≤ product earlier.kernel.inputs.dims.now }
+    ensures leaves { IfSome result (λ used. Leaves instr row (rows_before earlier.entry.kernel.code.now earlier.entry.kernel.rows.now earlier.entry.bytes.now earlier.entry.number)
+        (loads_along earlier.entry.kernel.inputs.lays.now earlier.entry.kernel.inputs.ins.now earlier.entry.kernel.inputs.dims.now earlier.entry.range.from) earlier.entry.range.count (left_row used rest.new)) }
+    ensures room { IfSome result (λ used. used ≤ length rest.old) }
+{
+    match instr {
+        Instr::Const(_) => Some(0),
+        Instr::Load(j) => {
+            if row.kept {
+                leave_computed(instr, row, earlier, rest)
+            } else {
+                leave_in_place(j, earlier)
+            }
+        }
+        _ => leave_computed(instr, row, earlier, rest),
+    }
+}
+
+/// `leave_row` of a region that is read where it lies.
+fn leave_in_place(j: u32, earlier: Earlier<'_>) -> Option<usize>
+    ensures there { IfSome result (λ used. j < length earlier.entry.kernel.inputs.lays.now) }
+    ensures none { IfSome result (λ used. used ≡ 0) }
+{
+    if j as usize >= earlier.kernel.inputs.lays.len() {
+        return None;
+    }
+    Some(0)
+}
+
+/// `leave_row` of a step that is no literal.
+#[inline(always)]
+fn leave_computed(instr: Instr, row: Row, earlier: Earlier<'_>, rest: &mut [u8]) -> Option<usize>
+    requires computes { (y : ℤ) → instr ≢ Const y }
+    requires lays { All (LayFits earlier.kernel.inputs.dims.now (length earlier.kernel.inputs.ins.now)) earlier.kernel.inputs.lays.now }
+    requires small { product earlier.kernel.inputs.dims.now < 2 ^ 63 }
+    requires within { earlier.range.from + earlier.range.count ≤ product earlier.kernel.inputs.dims.now }
+    ensures leaves { IfSome result (λ used. Leaves instr row (rows_before earlier.entry.kernel.code.now earlier.entry.kernel.rows.now earlier.entry.bytes.now earlier.entry.number)
+        (loads_along earlier.entry.kernel.inputs.lays.now earlier.entry.kernel.inputs.ins.now earlier.entry.kernel.inputs.dims.now earlier.entry.range.from) earlier.entry.range.count (left_row used rest.new)) }
+    ensures room { IfSome result (λ used. used ≤ length rest.old) }
+{
+    let size = size(row.dtype) as usize;
+    if rest.len() / size < earlier.range.count {
+        return None;
+    }
+    let used = earlier.range.count * size;
+    let (out, spare) = rest.split_at_mut(used);
+    if !row_of_step(instr, row.dtype, earlier, out, spare) {
+        return None;
+    }
+    Some(used)
+}
