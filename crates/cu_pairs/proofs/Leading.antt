@@ -1,6 +1,6 @@
 -- The best value of numbers that follow one another, and the first that has it.
 use Rattle.std.proofs.Common.{◌≡◌, ◌≢◌, ℕ, suc, ℤ, ◌+◌, ◌-◌, ◌*◌, ◌/◌, List, length, take, drop, ◌<◌, ◌≤◌, true, false, refl, sym, ap, ◌∙◌, subst, arith, below_more, ⊎_elim, if◌then◌else◌}
-use Rattle.std.specs.Prelude.{Bool as Test, int_lt}
+use Rattle.std.specs.Prelude.{Bool as Test, int_lt, ◌||◌}
 use Rattle.std.proofs.lemmas.Int.{ints}
 use Rattle.std.proofs.lemmas.Bool.{cases_lt}
 use Rattle.cu_reduce.specs.Places.{Found, is_beyond}
@@ -10,7 +10,7 @@ use Rattle.cu_num.specs.Dtype.{size_of}
 use Rattle.cu_num.specs.declared.types.Dtype.{Dtype}
 use Rattle.cu_pairs.proofs.Parts.{element_of_part, part_length, element_count}
 use Rattle.std.proofs.Math.Nat.{mul-le-mul_right}
-use Rattle.cu_pairs.specs.Runs.{elements, IsBestValue, IsFirstBest, IsLeading}
+use Rattle.cu_pairs.specs.Runs.{elements, TellsBeyond, IsBestValue, IsFirstBest, IsLeading}
 
 -- ---- the order
 
@@ -34,6 +34,11 @@ not_beyond_trans false v b x h g = grind (arith, ints)
 pub beyond_apart : (least : Test) (v b : ℤ) → is_beyond least v b ≡ false → v ≢ b → is_beyond least b v ≡ true
 beyond_apart true v b h g = grind (arith, ints)
 beyond_apart false v b h g = grind (arith, ints)
+
+-- the best of those of which one is beyond b is beyond it too
+pub beyond_reached : (least : Test) (y v b : ℤ) → is_beyond least y b ≡ true → is_beyond least y v ≡ false → is_beyond least v b ≡ true
+beyond_reached true y v b h g = grind (arith, ints)
+beyond_reached false y v b h g = grind (arith, ints)
 
 -- what both have the chosen one has
 pub one_of : (P : ℤ → Type 0) (choice : Test) (x y : ℤ) → P x → P y → P (if choice then x else y)
@@ -129,6 +134,47 @@ leading_kept least f count more start best value h g e = record {
   before = h.before;
 }
 
+-- ---- whether one is beyond
+
+pub tells_more : (least : Test) (f : ℕ → ℤ) (at : ℕ) (x : ℤ) (any beyond : Test) → TellsBeyond any least f at x → beyond ≡ is_beyond least (f at) x → TellsBeyond (any || beyond) least f (at + 1) x
+tells_more least f at x true beyond h e = (h.0, let b = h.1 in omega arith, h.2)
+tells_more least f at x false true h e = (at, omega arith, sym e)
+tells_more least f at x false false h e = below_more _ _ h (sym e)
+
+tells_same : (told least : Test) (f g : ℕ → ℤ) (m n : ℕ) (x : ℤ) → m ≡ n → ((j : ℕ) → j < n → g j ≡ f j) → TellsBeyond told least g m x → TellsBeyond told least f n x
+tells_same true least f g m n x e same h =
+    let within = h.1 in
+    let below : h.0 < n = omega arith in
+    (h.0, below, subst (λ v. is_beyond least v x ≡ true) (same h.0 below) h.2)
+tells_same false least f g m n x e same h = λ j b. subst (λ v. is_beyond least v x ≡ false) (same j b) (h j (omega arith))
+
+pub told_of_part : (told least : Test) (t : Dtype) (bytes : List ℕ) (first more from n : ℕ) (x : ℤ) → from ≡ first * size_of t → n ≡ more * size_of t → from + n ≤ length bytes
+    → TellsBeyond told least (elements t (take n (drop from bytes))) (length (take n (drop from bytes)) / size_of t) x → TellsBeyond told least (λ j. elements t bytes (first + j)) more x
+told_of_part told least t bytes first more from n x starts long room h =
+    let count : length (take n (drop from bytes)) / size_of t ≡ more = element_count t more (size_of t) (length (take n (drop from bytes))) refl (part_length bytes from n room ∙ long) in
+    let read : (j : ℕ) → j < more → elements t (take n (drop from bytes)) j ≡ elements t bytes (first + j) = λ j b.
+    let far : suc j * size_of t ≤ more * size_of t = mul-le-mul_right (size_of t) b in
+    element_of_part t bytes first from n j starts (omega arith) in
+    tells_same told least (λ j. elements t bytes (first + j)) (elements t (take n (drop from bytes))) _ more x count read h
+
+-- the first best of a part that has one beyond those before is that of all
+pub told_more : (least : Test) (f : ℕ → ℤ) (count more at k : ℕ) → IsFirstBest least f count at → TellsBeyond true least (λ j. f (count + j)) more (f at)
+    → IsFirstBest least (λ j. f (count + j)) more k → IsFirstBest least f (count + more) (count + k)
+told_more least f count more at k h one g =
+    let e = beyond_reached least (f (count + one.0)) (f (count + k)) (f at) one.2 (g.none one.0 one.1) in
+    record {
+      within = let w = g.within in omega arith;
+      none = by_block (λ j. is_beyond least (f j) (f (count + k)) ≡ false) count more (λ j b. not_beyond_more least (f j) (f at) (f (count + k)) (h.none j b) e) g.none;
+      first = by_block (λ j. is_beyond least (f (count + k)) (f j) ≡ true) count k (λ j b. beyond_past least (f j) (f at) (f (count + k)) (h.none j b) e) g.first;
+    }
+
+pub told_kept : (least : Test) (f : ℕ → ℤ) (count more at : ℕ) → IsFirstBest least f count at → TellsBeyond false least (λ j. f (count + j)) more (f at) → IsFirstBest least f (count + more) at
+told_kept least f count more at h none = record {
+  within = let w = h.within in omega arith;
+  none = by_block (λ j. is_beyond least (f j) (f at) ≡ false) count more h.none none;
+  first = h.first;
+}
+
 -- ---- the first of them
 
 pub first_is : (least : Test) (f g : ℕ → ℤ) (count start k : ℕ) (best : ℤ) → IsLeading least f count start best → ((j : ℕ) → start + j < count → g j ≡ f (start + j))
@@ -169,3 +215,21 @@ same_first least f g count at e h = let within = h.within in record {
   none = λ j b. subst (λ v. is_beyond least v (g at) ≡ false) (e j b) (subst (λ v. is_beyond least (f j) v ≡ false) (e at within) (h.none j b));
   first = λ j b. subst (λ v. is_beyond least (g at) v ≡ true) (e j (omega arith)) (subst (λ v. is_beyond least v (f j) ≡ true) (e at within) (h.first j b));
 }
+
+-- the first best of a part of the elements
+pub first_of_part : (least : Test) (t : Dtype) (bytes : List ℕ) (first more from n k : ℕ) → from ≡ first * size_of t → n ≡ more * size_of t → from + n ≤ length bytes
+    → IsFirstBest least (elements t (take n (drop from bytes))) (length (take n (drop from bytes)) / size_of t) k → IsFirstBest least (λ j. elements t bytes (first + j)) more k
+first_of_part least t bytes first more from n k starts long room h =
+    let count : length (take n (drop from bytes)) / size_of t ≡ more = element_count t more (size_of t) (length (take n (drop from bytes))) refl (part_length bytes from n room ∙ long) in
+    let read : (j : ℕ) → j < more → elements t (take n (drop from bytes)) j ≡ elements t bytes (first + j) = λ j b.
+    let far : suc j * size_of t ≤ more * size_of t = mul-le-mul_right (size_of t) b in
+    element_of_part t bytes first from n j starts (omega arith) in
+    same_first least (elements t (take n (drop from bytes))) (λ j. elements t bytes (first + j)) more k read
+    (subst (λ m. IsFirstBest least (elements t (take n (drop from bytes))) m k) count h)
+
+-- the first that has the best value
+pub first_that_is : (least : Test) (f : ℕ → ℤ) (count k : ℕ) (best : ℤ) → IsBestValue least f count best → ((j : ℕ) → j < k → f j ≢ best) → (k < count → f k ≡ best) → IsFirstBest least f count k
+first_that_is least f count k best h before found =
+    let none : 0 + k ≡ k = omega arith in
+    subst (λ m. IsFirstBest least f count m) none
+    (first_is least f f count 0 k best (leading_first least f count best h) (λ j b. ap f (omega arith)) before (λ b. found (omega arith)))

@@ -12,6 +12,11 @@ pub record IsBestValue (least : Bool) (f : ℕ → ℤ) (count : ℕ) (best : �
   pub is : f number ≡ best
   pub none : (j : ℕ) → j < count → is_beyond least (f j) best ≡ false
 
+-- the answer tells whether one of the first `count` numbers is beyond x
+abbrev pub TellsBeyond : Bool → Bool → (ℕ → ℤ) → ℕ → ℤ → Type 0
+TellsBeyond true least f count x = (k : ℕ) × (k < count) × (is_beyond least (f k) x ≡ true)
+TellsBeyond false least f count x = (j : ℕ) → j < count → is_beyond least (f j) x ≡ false
+
 -- of the first `count` numbers, number k is the first best: none is beyond it, and it is beyond each that stands before it
 pub record IsFirstBest (least : Bool) (f : ℕ → ℤ) (count k : ℕ) : Type 0 where
   pub within : k < count

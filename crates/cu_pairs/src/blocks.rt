@@ -5,12 +5,12 @@ ghost use Rattle.cu_pairs.specs.Columns.{table, HasRows, HasPlacesBeside};
 ghost use Rattle.cu_pairs.specs.Blocks.{sizes, HasBestsAlong, IsTablePart};
 
 use crate::column_types::columns_of_type;
-use crate::columns::Rows;
+use crate::columns::PlacedRows;
 use crate::run_types::first_best_of_type;
 use cu_num::{Dtype, load, save, size};
 
 /// So many elements from number `from` on, with their places.
-fn part_of<'a>(t: Dtype, rows: Rows<'a>, from: usize, count: usize) -> Rows<'a>
+fn part_of<'a>(t: Dtype, rows: PlacedRows<'a>, from: usize, count: usize) -> PlacedRows<'a>
     requires bytes { (from + count) * size_of t ≤ length rows.bytes.now }
     requires places { HasPlacesBeside rows.first rows.places.now (from + count) }
     ensures width { result.width ≡ rows.entry.width }
@@ -20,13 +20,13 @@ fn part_of<'a>(t: Dtype, rows: Rows<'a>, from: usize, count: usize) -> Rows<'a>
     let size = size(t) as usize;
     let bytes = &rows.bytes[from * size..(from + count) * size];
     match rows.first {
-        Some(first) => Rows {
+        Some(first) => PlacedRows {
             width: rows.width,
             bytes,
             first: Some(first),
             places: rows.places,
         },
-        None => Rows {
+        None => PlacedRows {
             width: rows.width,
             bytes,
             first: None,
@@ -46,7 +46,7 @@ pub(crate) struct Blocks {
 pub(crate) fn best_of_blocks(
     least: bool,
     t: Dtype,
-    rows: Rows<'_>,
+    rows: PlacedRows<'_>,
     blocks: Blocks,
     values: &mut [u8],
     places: &mut [u8],
@@ -75,7 +75,7 @@ pub(crate) fn best_of_runs(
     least: bool,
     t: Dtype,
     first: u64,
-    rows: Rows<'_>,
+    rows: PlacedRows<'_>,
     blocks: Blocks,
     values: &mut [u8],
     places: &mut [u8],

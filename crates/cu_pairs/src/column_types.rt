@@ -3,7 +3,8 @@ ghost use Rattle.std.specs.Prelude.{◌≡◌, ◌*◌, ◌<◌, ℕ, length, So
 ghost use Rattle.cu_num.specs.Dtype.{size_of};
 ghost use Rattle.cu_pairs.specs.Columns.{table, HasRows, HasBests};
 
-use crate::columns::{Rows, best_of_columns};
+use crate::by_type::call_by_type;
+use crate::columns::{PlacedRows, best_of_columns};
 use crate::few::{BYTES, ROWS, best_of_few_columns};
 use cu_num::Dtype;
 
@@ -11,7 +12,7 @@ use cu_num::Dtype;
 pub(crate) fn columns_of_type(
     least: bool,
     t: Dtype,
-    rows: Rows<'_>,
+    rows: PlacedRows<'_>,
     count: usize,
     values: &mut [u8],
     places: &mut [u8],
@@ -32,7 +33,7 @@ fn counted(
     least: bool,
     t: Dtype,
     first: u64,
-    rows: Rows<'_>,
+    rows: PlacedRows<'_>,
     count: usize,
     values: &mut [u8],
     places: &mut [u8],
@@ -43,7 +44,7 @@ fn counted(
     requires places { length places.old ≡ rows.width * 8 }
     ensures { HasBests least (table t rows.entry.width rows.entry.bytes.now rows.entry.first rows.entry.places.now) count values.new places.new }
 {
-    let rows = Rows {
+    let rows = PlacedRows {
         width: rows.width,
         bytes: rows.bytes,
         first: Some(first),
@@ -63,7 +64,7 @@ fn few(
     least: bool,
     t: Dtype,
     first: u64,
-    rows: Rows<'_>,
+    rows: PlacedRows<'_>,
     count: usize,
     values: &mut [u8],
     places: &mut [u8],
@@ -87,7 +88,7 @@ fn few_by_type(
     least: bool,
     t: Dtype,
     first: u64,
-    rows: Rows<'_>,
+    rows: PlacedRows<'_>,
     count: usize,
     values: &mut [u8],
     places: &mut [u8],
@@ -99,84 +100,34 @@ fn few_by_type(
     requires places { length places.old ≡ rows.width * 8 }
     ensures { HasBests least (table t rows.entry.width rows.entry.bytes.now rows.entry.first rows.entry.places.now) count values.new places.new }
 {
-    match t {
-        Dtype::Bool => best_of_few_columns(least, Dtype::Bool, first, rows, count, values, places),
-        Dtype::Int8 => best_of_few_columns(least, Dtype::Int8, first, rows, count, values, places),
-        Dtype::Int16 => best_of_few_columns(
-            least,
-            Dtype::Int16,
-            first,
-            rows,
-            count,
-            values,
-            places,
-        ),
-        Dtype::Int32 => best_of_few_columns(
-            least,
-            Dtype::Int32,
-            first,
-            rows,
-            count,
-            values,
-            places,
-        ),
-        Dtype::Int64 => best_of_few_columns(
-            least,
-            Dtype::Int64,
-            first,
-            rows,
-            count,
-            values,
-            places,
-        ),
-        Dtype::Uint8 => best_of_few_columns(
-            least,
-            Dtype::Uint8,
-            first,
-            rows,
-            count,
-            values,
-            places,
-        ),
-        Dtype::Uint16 => best_of_few_columns(
-            least,
-            Dtype::Uint16,
-            first,
-            rows,
-            count,
-            values,
-            places,
-        ),
-        Dtype::Uint32 => best_of_few_columns(
-            least,
-            Dtype::Uint32,
-            first,
-            rows,
-            count,
-            values,
-            places,
-        ),
-        Dtype::Uint64 => best_of_few_columns(
-            least,
-            Dtype::Uint64,
-            first,
-            rows,
-            count,
-            values,
-            places,
-        ),
-    }
+    call_by_type!(
+        best_of_few_columns,
+        least,
+        t,
+        first,
+        rows,
+        count,
+        values,
+        places
+    )
 }
 
 /// The same where places are read.
-fn beside(least: bool, t: Dtype, rows: Rows<'_>, count: usize, values: &mut [u8], places: &mut [u8])
+fn beside(
+    least: bool,
+    t: Dtype,
+    rows: PlacedRows<'_>,
+    count: usize,
+    values: &mut [u8],
+    places: &mut [u8],
+)
     requires read { rows.first ≡ None }
     requires rows { HasRows (table t rows.width rows.bytes.now rows.first rows.places.now) count }
     requires values { length values.old ≡ rows.width * size_of t }
     requires places { length places.old ≡ rows.width * 8 }
     ensures { HasBests least (table t rows.entry.width rows.entry.bytes.now rows.entry.first rows.entry.places.now) count values.new places.new }
 {
-    let rows = Rows {
+    let rows = PlacedRows {
         width: rows.width,
         bytes: rows.bytes,
         first: None,
@@ -193,7 +144,7 @@ fn beside(least: bool, t: Dtype, rows: Rows<'_>, count: usize, values: &mut [u8]
 fn by_type(
     least: bool,
     t: Dtype,
-    rows: Rows<'_>,
+    rows: PlacedRows<'_>,
     count: usize,
     values: &mut [u8],
     places: &mut [u8],
@@ -203,15 +154,5 @@ fn by_type(
     requires places { length places.old ≡ rows.width * 8 }
     ensures { HasBests least (table t rows.entry.width rows.entry.bytes.now rows.entry.first rows.entry.places.now) count values.new places.new }
 {
-    match t {
-        Dtype::Bool => best_of_columns(least, Dtype::Bool, rows, count, values, places),
-        Dtype::Int8 => best_of_columns(least, Dtype::Int8, rows, count, values, places),
-        Dtype::Int16 => best_of_columns(least, Dtype::Int16, rows, count, values, places),
-        Dtype::Int32 => best_of_columns(least, Dtype::Int32, rows, count, values, places),
-        Dtype::Int64 => best_of_columns(least, Dtype::Int64, rows, count, values, places),
-        Dtype::Uint8 => best_of_columns(least, Dtype::Uint8, rows, count, values, places),
-        Dtype::Uint16 => best_of_columns(least, Dtype::Uint16, rows, count, values, places),
-        Dtype::Uint32 => best_of_columns(least, Dtype::Uint32, rows, count, values, places),
-        Dtype::Uint64 => best_of_columns(least, Dtype::Uint64, rows, count, values, places),
-    }
+    call_by_type!(best_of_columns, least, t, rows, count, values, places)
 }

@@ -10,7 +10,7 @@ use cu_num::{Dtype, load, save, size};
 /// Rows of elements of one type, one behind another, and the places of their elements: counted by rows from the first one's, or as
 /// elements beside them.
 #[derive(Clone, Copy)]
-pub(crate) struct Rows<'a> {
+pub(crate) struct PlacedRows<'a> {
     pub(crate) width: usize,
     pub(crate) bytes: &'a [u8],
     pub(crate) first: Option<u64>,
@@ -51,7 +51,14 @@ fn is_taken(least: bool, first: Option<u64>, y: NumberAtPlace, x: NumberAtPlace)
 
 /// Takes one more row into the best of each column.
 #[inline(always)]
-fn take_row(least: bool, t: Dtype, rows: Rows<'_>, row: usize, values: &mut [u8], places: &mut [u8])
+fn take_row(
+    least: bool,
+    t: Dtype,
+    rows: PlacedRows<'_>,
+    row: usize,
+    values: &mut [u8],
+    places: &mut [u8],
+)
     requires rows { HasRows (table t rows.width rows.bytes.now rows.first rows.places.now) (row + 1) }
     requires values { length values.old ≡ rows.width * size_of t }
     requires places { length places.old ≡ rows.width * 8 }
@@ -84,7 +91,7 @@ fn take_row(least: bool, t: Dtype, rows: Rows<'_>, row: usize, values: &mut [u8]
 pub(crate) fn best_of_columns(
     least: bool,
     t: Dtype,
-    rows: Rows<'_>,
+    rows: PlacedRows<'_>,
     count: usize,
     values: &mut [u8],
     places: &mut [u8],

@@ -7,8 +7,8 @@ ghost use Rattle.cu_num.specs.declared.layout.Endian.TheVariants.{Little};
 ghost use Rattle.cu_pairs.specs.Columns.{table, column_of, HasRows, HasBests};
 ghost use Rattle.cu_pairs.specs.Runs.{elements, IsBestValue, IsFirstBest};
 
-use crate::columns::Rows;
-use crate::runs::{BLOCK, best_value, is_beyond};
+use crate::columns::PlacedRows;
+use crate::runs::{best_value, is_beyond};
 use cu_num::{Dtype, load, save, size};
 
 /// Rows have at most so many bytes, and at least so many follow one another: else going row by row is faster.
@@ -16,9 +16,12 @@ pub(crate) const BYTES: usize = 8;
 
 pub(crate) const ROWS: usize = 64;
 
+/// How many elements of a column are put side by side at once.
+const BLOCK: usize = 256;
+
 /// Puts side by side so many elements of a column, from row `from` on.
 #[inline(always)]
-fn gather(t: Dtype, rows: Rows<'_>, column: usize, from: usize, count: usize, own: &mut [u8])
+fn gather(t: Dtype, rows: PlacedRows<'_>, column: usize, from: usize, count: usize, own: &mut [u8])
     requires column { column < rows.width }
     requires rows { (from + count) * rows.width * size_of t ≤ length rows.bytes.now }
     requires room { length own.old ≡ count * size_of t }
@@ -40,7 +43,7 @@ fn gather(t: Dtype, rows: Rows<'_>, column: usize, from: usize, count: usize, ow
 fn best_of_part(
     least: bool,
     t: Dtype,
-    rows: Rows<'_>,
+    rows: PlacedRows<'_>,
     column: usize,
     from: usize,
     end: usize,
@@ -59,7 +62,14 @@ fn best_of_part(
 
 /// The number of the first row from `start` on whose element in a column is `x`, or `count` where none is.
 #[inline(always)]
-fn row_of(t: Dtype, rows: Rows<'_>, column: usize, start: usize, count: usize, x: i128) -> usize
+fn row_of(
+    t: Dtype,
+    rows: PlacedRows<'_>,
+    column: usize,
+    start: usize,
+    count: usize,
+    x: i128,
+) -> usize
     requires column { column < rows.width }
     requires rows { count * rows.width * size_of t ≤ length rows.bytes.now }
     requires order { start ≤ count }
@@ -78,7 +88,13 @@ fn row_of(t: Dtype, rows: Rows<'_>, column: usize, start: usize, count: usize, x
 
 /// The number of the first row that has the best of a column.
 #[inline(always)]
-fn first_best_of_column(least: bool, t: Dtype, rows: Rows<'_>, column: usize, count: usize) -> usize
+fn first_best_of_column(
+    least: bool,
+    t: Dtype,
+    rows: PlacedRows<'_>,
+    column: usize,
+    count: usize,
+) -> usize
     requires column { column < rows.width }
     requires some { 0 < count }
     requires rows { count * rows.width * size_of t ≤ length rows.bytes.now }
@@ -103,7 +119,7 @@ pub(crate) fn best_of_few_columns(
     least: bool,
     t: Dtype,
     first: u64,
-    rows: Rows<'_>,
+    rows: PlacedRows<'_>,
     count: usize,
     values: &mut [u8],
     places: &mut [u8],

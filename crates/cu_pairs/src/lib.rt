@@ -3,6 +3,7 @@
 #![tactic(auto)]
 
 mod blocks;
+mod by_type;
 mod column_types;
 mod columns;
 mod few;

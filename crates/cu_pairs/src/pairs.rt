@@ -9,7 +9,7 @@ ghost use Rattle.cu_pairs.specs.Columns.{table, HasRows, IsBestOf};
 ghost use Rattle.cu_pairs.specs.Blocks.{sizes, HasBestsAlong};
 
 use crate::blocks::{Blocks, best_of_blocks, best_of_runs};
-use crate::columns::Rows;
+use crate::columns::PlacedRows;
 use crate::run_types::first_best_of_type;
 use cu_num::{Dtype, load, save, size};
 use cu_shape::{Dims, index_of, place};
@@ -69,7 +69,7 @@ fn best_along(
     least: bool,
     t: Dtype,
     first: u64,
-    rows: Rows<'_>,
+    rows: PlacedRows<'_>,
     blocks: Blocks,
     values: &mut [u8],
     places: &mut [u8],
@@ -154,7 +154,7 @@ pub fn pair_fold(
         None => best_of_all(least, t, Part { shape, lo, dims }, input, values, places),
         Some(axis) => {
             let first = lo.at(axis);
-            let rows = Rows {
+            let rows = PlacedRows {
                 width: width_behind(dims, axis),
                 bytes: input,
                 first: Some(first),
@@ -197,7 +197,7 @@ pub fn pair_merge(
     if values.is_empty() {
         return;
     }
-    let rows = Rows {
+    let rows = PlacedRows {
         width: width_behind(dims, axis),
         bytes: values_from,
         first: None,

@@ -1,16 +1,16 @@
-//! The best of elements that follow one another, by blocks: first the best of each, then where the first block that has the best of all
-//! has it.
+//! The best of elements that follow one another, by blocks: of each is asked whether an element is beyond the best so far, and only where
+//! one is the first best of the block is sought.
 ghost use Rattle.std.specs.Prelude.{◌≡◌, ◌≢◌, ◌+◌, ◌*◌, ◌/◌, ◌<◌, ◌≤◌, ℕ, ℤ, length, if◌then◌else◌};
 ghost use Rattle.cu_num.specs.Dtype.{size_of, InRange};
 ghost use Rattle.cu_num.specs.Element.{element_at};
 ghost use Rattle.cu_num.specs.declared.layout.Endian.TheVariants.{Little};
 ghost use Rattle.cu_reduce.specs.Places.{is_beyond};
-ghost use Rattle.cu_pairs.specs.Runs.{elements, IsBestValue, IsFirstBest};
+ghost use Rattle.cu_pairs.specs.Runs.{elements, TellsBeyond, IsBestValue, IsFirstBest};
 
 use cu_num::{Dtype, load, save, size};
 
-/// How many elements a block has.
-pub(crate) const BLOCK: usize = 256;
+/// How many elements a block has: few, since the place is sought element by element within one.
+const BLOCK: usize = 64;
 
 /// Whether `y` is less than `x`, or greater.
 #[inline(always)]
@@ -62,6 +62,45 @@ fn position(t: Dtype, bytes: &[u8], x: i128) -> usize
     count
 }
 
+/// The number of the first best of at least one element, in two passes.
+#[inline(always)]
+fn first_best_of_block(least: bool, t: Dtype, bytes: &[u8]) -> usize
+    requires some { size_of t ≤ length bytes.now }
+    ensures { IsFirstBest least (elements t bytes.now) (length bytes.now / size_of t) result }
+{
+    position(t, bytes, best_value(least, t, bytes))
+}
+
+/// Whether one of the elements is beyond `x`.
+#[inline(always)]
+fn has_beyond(least: bool, t: Dtype, bytes: &[u8], x: i128) -> bool
+    ensures { TellsBeyond result least (elements t bytes.now) (length bytes.now / size_of t) x }
+{
+    let count = bytes.len() / size(t) as usize;
+    let mut any = false;
+    for at in 0..count {
+        any |= is_beyond(least, load(t, bytes, at), x);
+    }
+    any
+}
+
+/// The number of the first best of the elements before number `from` and so many more, where `best` is that of those before. Its value
+/// is read anew, so that a compiler sees how few bits it has.
+#[inline(always)]
+fn after_block(least: bool, t: Dtype, bytes: &[u8], from: usize, more: usize, best: usize) -> usize
+    requires within { (from + more) * size_of t ≤ length bytes.now }
+    requires before { IsFirstBest least (elements t bytes.now) from best }
+    ensures { IsFirstBest least (elements t bytes.now) (from + more) result }
+{
+    let size = size(t) as usize;
+    let block = &bytes[from * size..(from + more) * size];
+    if has_beyond(least, t, block, load(t, bytes, best)) {
+        from + first_best_of_block(least, t, block)
+    } else {
+        best
+    }
+}
+
 /// The number of the first best of at least one element.
 #[inline(always)]
 pub(crate) fn first_best(least: bool, t: Dtype, bytes: &[u8]) -> usize
@@ -70,16 +109,12 @@ pub(crate) fn first_best(least: bool, t: Dtype, bytes: &[u8]) -> usize
 {
     let size = size(t) as usize;
     let count = bytes.len() / size;
-    let mut start = 0;
-    let mut best = best_value(least, t, &bytes[..count.min(BLOCK) * size]);
-    for block in 1..count.div_ceil(BLOCK) {
-        let from = block * BLOCK;
-        let end = (from + BLOCK).min(count);
-        let value = best_value(least, t, &bytes[from * size..end * size]);
-        if is_beyond(least, value, best) {
-            start = from;
-            best = value;
-        }
+    let first = count.min(BLOCK);
+    let mut best = first_best_of_block(least, t, &bytes[..first * size]);
+    let whole = count / BLOCK;
+    for block in 1..whole {
+        best = after_block(least, t, bytes, block * BLOCK, BLOCK, best);
     }
-    start + position(t, &bytes[start * size..], best)
+    let from = first.max(whole * BLOCK);
+    after_block(least, t, bytes, from, count - from, best)
 }
