@@ -5,4 +5,5 @@ pub mod LayoutInfo
 pub mod Maps
 pub mod Nodes
 pub mod ToldArguments
+mod ToldSteps
 pub mod Typed

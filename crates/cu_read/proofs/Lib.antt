@@ -1,4 +1,5 @@
 pub mod Answered
+mod EntriesRead
 mod Examples
 mod IndexLength
 mod NewShapes

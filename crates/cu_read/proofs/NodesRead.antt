@@ -1,5 +1,5 @@
 -- The loop over the items of a list of nodes.
-use Rattle.std.proofs.Common.{◌≡◌, ◌<◌, ◌≤◌, ◌+◌, ◌++◌, ◌^◌, suc, List, [], ◌∷◌, ℕ, drop, get_or, length, false, nat_le, Some, Bool, codes, Ok, Err, Result, OnOk, refl, sym, ap, ◌∙◌, subst, arith, add-one, drop-cons}
+use Rattle.std.proofs.Common.{◌≡◌, ◌<◌, ◌≤◌, ◌+◌, ◌++◌, ◌^◌, List, [], ◌∷◌, ℕ, drop, get_or, length, false, nat_le, Some, Bool, codes, Ok, Err, Result, OnOk, refl, sym, ap, ◌∙◌, subst, arith}
 use Rattle.std.specs.Prelude.{bytes_eq}
 use Rattle.std.specs.List.{position}
 use Rattle.std.specs.Result.{is_err}
@@ -24,6 +24,7 @@ use Rattle.cu_read.specs.declared.faults.ReadFault.{ReadFault}
 use Rattle.cu_read.specs.declared.faults.ReadRefused.{ReadRefused}
 use Rattle.cu_read.specs.declared.nodes.Nodes.{Nodes}
 use Rattle.cu_result.proofs.ResultSteps.{need_ok}
+use Rattle.cu_read.proofs.EntriesRead.{cut_at}
 use Rattle.cu_read.proofs.IndexLength.{list_within}
 use Rattle.cu_read.proofs.Says.{length-ids, listed_nodes, listed_short, stored_is, name_passes}
 
@@ -32,9 +33,6 @@ next_said : (v : Value) (front : List Node) (ids : List (List ℕ)) (r : Result 
     → answer_at (length ids) (node_in ids (view v)) ≡ r → answer_at (length front) (node_in (ids_of front) (view v)) ≡ r
 next_said v front ids r same said =
     ap (λ (n : ℕ). answer_at n (node_in (ids_of front) (view v))) (sym (length-ids front)) ∙ subst (λ (names : List (List ℕ)). answer_at (length names) (node_in names (view v)) ≡ r) same said
-
-cut_at : (items : List Value) (k : ℕ) (v : Value) → k < length items → v ≡ get_or items k v → drop k items ≡ v ∷ drop (k + 1) items
-cut_at items k v within is = rw add-one (drop-cons items k v within ∙ ap (λ (w : Value). w ∷ drop (suc k) items) (sym is))
 
 pub go_on : (items : List Value) (k : ℕ) (v : Value) (front : List Node) (ids : List (List ℕ)) (node : Node) (whole : Result (List Node) ReadFault)
     → k < length items → v ≡ get_or items k v → ids ≡ ids_of front → whole ≡ nodes_after front (items_view (drop k items))
