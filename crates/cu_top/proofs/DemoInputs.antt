@@ -1,6 +1,6 @@
 -- The inputs of a demonstration: arrays that may be stored, and what storing them and asking for their keys comes to.
 use Rattle.std.proofs.Common.{◌≡◌, ◌∙◌, inl, inr, ℕ, ◌+◌, ◌<◌, ◌≤◌, pos, Bool, true, false, true≢false}
-use Rattle.std.proofs.Common.{List, length, All, Option, Some, None, refl, sym, subst, arith, Result, Ok, Err, IfErr}
+use Rattle.std.proofs.Common.{List, length, All, refl, sym, subst, arith, Result, Ok, Err, IfErr}
 use Rattle.std.proofs.lemmas.Int.{ints}
 use Rattle.std.specs.Prelude.{OnOk}
 use Rattle.std.specs.List.{range_with_len}
@@ -13,7 +13,6 @@ use Rattle.cu_shape.specs.Index.{indices_of, index_at, product}
 use Rattle.cu_name.specs.Name.{is_name}
 use Rattle.cu_name.specs.Keys.{record_key_of}
 use Rattle.cu_zarr.specs.Key.{metadata_key_of, zarray_key_of}
-use Rattle.cu_store.specs.Held.{Contents, IsHeldIn}
 use Rattle.cu_store.specs.Steps.{Shown, NoChange}
 use Rattle.cu_op.specs.Layout.{IsLayout, layout_view}
 use Rattle.cu_form.specs.Expression.{Expression}

@@ -1,7 +1,9 @@
 mod AskLemmas
 mod CallLemmas
+mod CallLimits
 mod CheckLemmas
 mod Completeness
+mod DemoCalls
 mod DemoFound
 mod DemoInputs
 mod DemoKeys
@@ -11,6 +13,7 @@ mod DemoServed
 mod DemoStores
 mod DemoWay
 mod DemoWhole
+mod DriveCalls
 mod DriveLemmas
 mod DropLemmas
 mod FewFailures

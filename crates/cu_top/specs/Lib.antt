@@ -1,5 +1,6 @@
 pub mod Ask
 pub mod Call
+pub mod Calls
 pub mod Complete
 pub mod Demo
 pub mod Driven

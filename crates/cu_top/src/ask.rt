@@ -1,8 +1,8 @@
 //! The keys of the plan that would be in the way of a run.
-ghost use Rattle.std.specs.Prelude.{◌≡◌, ◌+◌, ◌*◌, [], ◌∷◌, IfErr, OnOk, All, Some, true, false};
+ghost use Rattle.std.specs.Prelude.{◌≡◌, ◌+◌, ◌*◌, [], ◌∷◌, IfErr, OnOk, All, Some, length, true, false};
 ghost use Rattle.cu_store.specs.Held.{Contents};
 ghost use Rattle.cu_store.specs.Steps.{NoChange, Steps};
-ghost use Rattle.cu_command.specs.Seen.{Stepped};
+ghost use Rattle.cu_command.specs.Seen.{Stepped, WithinCalls};
 ghost use Rattle.cu_lower.specs.declared.options.Options.{Options};
 ghost use Rattle.cu_name.specs.Keys.{record_key_of};
 ghost use Rattle.cu_work.specs.Order.{IsFree, IsAsked};
@@ -118,6 +118,8 @@ pub fn ask_plan<D: Depot>(
     ensures step { Stepped NoChange (D.shown depot.old) (D.shown depot.new) }
     ensures refused { (options : Options) → plan.now ≡ job_plan options job.now
         → IfErr result (IsAskEnd (retries + 1) job.now.expr (asked_keys options job.now) (D.shown depot.old) (D.shown depot.new)) }
+    ensures calls { (options : Options) → plan.now ≡ job_plan options job.now
+        → WithinCalls (length (asked_keys options job.now) * (retries + 1)) (D.shown depot.old) (D.shown depot.new) }
 {
     if is_own_input(&job.expr) {
         return Err(ask_own(depot, job, retries));

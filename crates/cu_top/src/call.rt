@@ -11,6 +11,7 @@ ghost use Rattle.cu_command.specs.Streams.{ReadsAll};
 ghost use Rattle.cu_load.specs.Load.{Loaded, LoadsWithin};
 ghost use Rattle.cu_lower.specs.declared.options.Options.{Options};
 ghost use Rattle.cu_print.specs.Print.{Printed, PrintsWithin};
+ghost use Rattle.cu_top.specs.Calls.{RunsWithin, ResumesWithin, DropsWithin, DemosWithin};
 ghost use Rattle.cu_top.specs.Call.{CameToRun, DidNothing, IsReadFault, IsShort, IsExpressionRefused, IsWordsRefused, RunTells};
 ghost use Rattle.cu_top.specs.Complete.{FewFailed, HasWholeInputs, IsNotGivenUp, IsPlannable, IsResumable, IsResumeCause, IsServable, IsServed, retries_of};
 ghost use Rattle.cu_top.specs.Planned.{IsPrinted, PlansWithin, PlanTells};
@@ -30,7 +31,7 @@ use crate::resume::resume;
 use crate::run::run;
 use crate::words::{Asked, Reading, read_words};
 use cu_check::check;
-use cu_command::{ReadRefused, Status, read_all};
+use cu_command::{Status, StreamRefused, read_all};
 use cu_load::load;
 use cu_lower::Options;
 use cu_name::key_of_name;
@@ -176,6 +177,15 @@ pub fn top<H: Threads + Wait + Sync, R: Source, W: Sink, D: Share, G: Gate>(
     ensures load_calls { (retries : ℕ) → command_of (map string_bytes words.now) ≡ Ok (load retries) → LoadsWithin retries (R.left src.old) (R.left src.new) (D.shown depot.old) (D.shown depot.new) }
     ensures check_calls { (retries : ℕ) → command_of (map string_bytes words.now) ≡ Ok (check retries) → ChecksWithin (retries + 1) (stream (R.left src.old) (R.faults src.old)) (stream (R.left src.new) (R.faults src.new)) (D.shown depot.old) (D.shown depot.new) }
     ensures print_calls { (name : List ℕ) (retries : ℕ) → command_of (map string_bytes words.now) ≡ Ok (print name retries) → PrintsWithin (retries + 1) name (D.shown depot.old) (D.shown depot.new) }
+    // So do `run`, `resume`, `drop` and `demo`: for the texts, for sharing and for each key. The calls of tasks are limited of one worker.
+    ensures run_calls { (options : Options) → command_of (map string_bytes words.now) ≡ Ok (run options) → RunsWithin options (scene (stream (R.left src.old) (R.faults src.old)) (stream (W.written out.old) (W.faults out.old)) (D.shown depot.old))
+        (scene (stream (R.left src.new) (R.faults src.new)) (stream (W.written out.new) (W.faults out.new)) (D.shown depot.new)) result }
+    ensures resume_calls { (options : Options) → command_of (map string_bytes words.now) ≡ Ok (resume options) → ResumesWithin options (scene (stream (R.left src.old) (R.faults src.old)) (stream (W.written out.old) (W.faults out.old)) (D.shown depot.old))
+        (scene (stream (R.left src.new) (R.faults src.new)) (stream (W.written out.new) (W.faults out.new)) (D.shown depot.new)) result }
+    ensures drop_calls { (options : Options) → command_of (map string_bytes words.now) ≡ Ok (drop options) → DropsWithin options (scene (stream (R.left src.old) (R.faults src.old)) (stream (W.written out.old) (W.faults out.old)) (D.shown depot.old))
+        (scene (stream (R.left src.new) (R.faults src.new)) (stream (W.written out.new) (W.faults out.new)) (D.shown depot.new)) result }
+    ensures demo_calls { (size : ℕ) (options : Options) → command_of (map string_bytes words.now) ≡ Ok (demo size options) → DemosWithin
+        (demo_case options size (seen (stream (W.written out.old) (W.faults out.old)) (D.shown depot.old)) (seen (stream (W.written out.new) (W.faults out.new)) (D.shown depot.new))) result }
     // Where at most as many calls fail in all as a key is tried again, neither a task nor a key is given up.
     ensures few_failures { (command : Command) → command_of (map string_bytes words.now) ≡ Ok command
         → FewFailed (retries_of command) (D.shown depot.old) (D.shown depot.new) → IsNotGivenUp result }
@@ -228,6 +238,14 @@ fn carry<H: Threads + Wait + Sync, R: Source, W: Sink, D: Share, G: Gate>(
     ensures load_calls { (retries : ℕ) → command_of (map string_bytes words.now) ≡ Ok (load retries) → LoadsWithin retries (R.left src.old) (R.left src.new) (D.shown depot.old) (D.shown depot.new) }
     ensures check_calls { (retries : ℕ) → command_of (map string_bytes words.now) ≡ Ok (check retries) → ChecksWithin (retries + 1) (stream (R.left src.old) (R.faults src.old)) (stream (R.left src.new) (R.faults src.new)) (D.shown depot.old) (D.shown depot.new) }
     ensures print_calls { (name : List ℕ) (retries : ℕ) → command_of (map string_bytes words.now) ≡ Ok (print name retries) → PrintsWithin (retries + 1) name (D.shown depot.old) (D.shown depot.new) }
+    ensures run_calls { (options : Options) → command_of (map string_bytes words.now) ≡ Ok (run options) → RunsWithin options (scene (stream (R.left src.old) (R.faults src.old)) (stream (W.written out.old) (W.faults out.old)) (D.shown depot.old))
+        (scene (stream (R.left src.new) (R.faults src.new)) (stream (W.written out.new) (W.faults out.new)) (D.shown depot.new)) result }
+    ensures resume_calls { (options : Options) → command_of (map string_bytes words.now) ≡ Ok (resume options) → ResumesWithin options (scene (stream (R.left src.old) (R.faults src.old)) (stream (W.written out.old) (W.faults out.old)) (D.shown depot.old))
+        (scene (stream (R.left src.new) (R.faults src.new)) (stream (W.written out.new) (W.faults out.new)) (D.shown depot.new)) result }
+    ensures drop_calls { (options : Options) → command_of (map string_bytes words.now) ≡ Ok (drop options) → DropsWithin options (scene (stream (R.left src.old) (R.faults src.old)) (stream (W.written out.old) (W.faults out.old)) (D.shown depot.old))
+        (scene (stream (R.left src.new) (R.faults src.new)) (stream (W.written out.new) (W.faults out.new)) (D.shown depot.new)) result }
+    ensures demo_calls { (size : ℕ) (options : Options) → command_of (map string_bytes words.now) ≡ Ok (demo size options) → DemosWithin
+        (demo_case options size (seen (stream (W.written out.old) (W.faults out.old)) (D.shown depot.old)) (seen (stream (W.written out.new) (W.faults out.new)) (D.shown depot.new))) result }
 {
     let asked = match read_words(alloc, words) {
         Reading::Asked(asked) => asked,
@@ -261,11 +279,13 @@ fn run_command<H: Threads + Wait + Sync, R: Source, W: Sink, D: Share, G: Gate>(
     ensures answer { RunTells (D.yards_lack depot.new) options.now (scene (stream (R.left src.old) (R.faults src.old)) (stream (W.written out.old) (W.faults out.old)) (D.shown depot.old))
         (scene (stream (R.left src.new) (R.faults src.new)) (stream (W.written out.new) (W.faults out.new)) (D.shown depot.new)) result }
     ensures prints { PrintsOnly result (W.written out.old) (W.written out.new) }
+    ensures calls { RunsWithin options.now (scene (stream (R.left src.old) (R.faults src.old)) (stream (W.written out.old) (W.faults out.old)) (D.shown depot.old))
+        (scene (stream (R.left src.new) (R.faults src.new)) (stream (W.written out.new) (W.faults out.new)) (D.shown depot.new)) result }
 {
     match read_all(alloc, src) {
         Ok(text) => run(rt, alloc, options, &text, out, depot, gate),
-        Err(ReadRefused::Fault) => Status::ReadFault,
-        Err(ReadRefused::NoMemory) => Status::NoMemory,
+        Err(StreamRefused::Fault) => Status::ReadFault,
+        Err(StreamRefused::NoMemory) => Status::NoMemory,
     }
 }
 
@@ -284,11 +304,13 @@ fn resume_command<H: Threads + Wait + Sync, R: Source, W: Sink, D: Share, G: Gat
     ensures answer { ResumeTells (D.yards_lack depot.new) options.now (scene (stream (R.left src.old) (R.faults src.old)) (stream (W.written out.old) (W.faults out.old)) (D.shown depot.old))
         (scene (stream (R.left src.new) (R.faults src.new)) (stream (W.written out.new) (W.faults out.new)) (D.shown depot.new)) result }
     ensures prints { PrintsOnly result (W.written out.old) (W.written out.new) }
+    ensures calls { ResumesWithin options.now (scene (stream (R.left src.old) (R.faults src.old)) (stream (W.written out.old) (W.faults out.old)) (D.shown depot.old))
+        (scene (stream (R.left src.new) (R.faults src.new)) (stream (W.written out.new) (W.faults out.new)) (D.shown depot.new)) result }
 {
     match read_all(alloc, src) {
         Ok(text) => resume(rt, alloc, options, &text, out, depot, gate),
-        Err(ReadRefused::Fault) => Status::ReadFault,
-        Err(ReadRefused::NoMemory) => Status::NoMemory,
+        Err(StreamRefused::Fault) => Status::ReadFault,
+        Err(StreamRefused::NoMemory) => Status::NoMemory,
     }
 }
 
@@ -304,11 +326,13 @@ fn drop_command<R: Source, W: Sink, D: Depot>(
     ensures answer { DropTells options.now (scene (stream (R.left src.old) (R.faults src.old)) (stream (W.written out.old) (W.faults out.old)) (D.shown depot.old))
         (scene (stream (R.left src.new) (R.faults src.new)) (stream (W.written out.new) (W.faults out.new)) (D.shown depot.new)) result }
     ensures prints { PrintsOnly result (W.written out.old) (W.written out.new) }
+    ensures calls { DropsWithin options.now (scene (stream (R.left src.old) (R.faults src.old)) (stream (W.written out.old) (W.faults out.old)) (D.shown depot.old))
+        (scene (stream (R.left src.new) (R.faults src.new)) (stream (W.written out.new) (W.faults out.new)) (D.shown depot.new)) result }
 {
     match read_all(alloc, src) {
         Ok(text) => drop_plan(alloc, options, &text, out, depot),
-        Err(ReadRefused::Fault) => Status::ReadFault,
-        Err(ReadRefused::NoMemory) => Status::NoMemory,
+        Err(StreamRefused::Fault) => Status::ReadFault,
+        Err(StreamRefused::NoMemory) => Status::NoMemory,
     }
 }
 
@@ -328,7 +352,7 @@ fn plan_command<R: Source, W: Sink, D: Depot>(
 {
     match read_all(alloc, src) {
         Ok(text) => print_plan(alloc, options, &text, out, depot),
-        Err(ReadRefused::Fault) => Status::ReadFault,
-        Err(ReadRefused::NoMemory) => Status::NoMemory,
+        Err(StreamRefused::Fault) => Status::ReadFault,
+        Err(StreamRefused::NoMemory) => Status::NoMemory,
     }
 }

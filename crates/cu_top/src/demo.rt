@@ -1,15 +1,17 @@
 //! The demonstration: it stores two inputs that are made from their indices, and runs an expression over them.
-ghost use Rattle.std.specs.Prelude.{◌≡◌, ◌+◌, ◌≤◌, ◌++◌, ℕ, IfErr, IfOk, OnErr, OnOk, All, Some};
+ghost use Rattle.std.specs.Prelude.{◌≡◌, ◌+◌, ◌*◌, ◌≤◌, ◌++◌, ℕ, IfErr, IfOk, OnErr, OnOk, All, Some};
 ghost use Rattle.std.specs.Prelude.{length};
 ghost use Rattle.cu_store.specs.Faults.{Rose};
 ghost use Rattle.cu_command.specs.Streams.{WroteFront};
 ghost use Rattle.cu_store.specs.Held.{Contents};
 ghost use Rattle.cu_store.specs.Steps.{NoChange};
-ghost use Rattle.cu_command.specs.Seen.{Stepped, seen, stream};
+ghost use Rattle.cu_command.specs.Seen.{Stepped, WithinCalls, seen, stream};
 ghost use Rattle.cu_demo.specs.Expression.{IsDemoJob, demo_expression};
-ghost use Rattle.cu_load.specs.Load.{ArrayPut, IsArrayCalm, StoresGiven};
+ghost use Rattle.cu_demo.specs.declared.input.DemoInput.TheVariants.{Rows, Columns};
+ghost use Rattle.cu_load.specs.Load.{ArrayPut, IsArrayCalm, StoresGiven, chunks_in};
 ghost use Rattle.cu_lower.specs.declared.options.Options.{Options};
 ghost use Rattle.cu_work.specs.Order.{IsFree};
+ghost use Rattle.cu_top.specs.Calls.{DemosWithin};
 ghost use Rattle.cu_top.specs.Demo.{AreInputsCalm, AreInputsFree, DemoTells, InputsPut};
 ghost use Rattle.cu_top.specs.Demo.{IsDemoAskEnd, IsDemoCalm, IsInputsFault, IsResult};
 ghost use Rattle.cu_top.specs.Demo.{IsResultUnread, StoresDemoInputs, WhereTold, demo_array, demo_case};
@@ -74,6 +76,8 @@ fn ask_demo<D: Depot>(depot: &mut D, prepared: &Prepared, retries: u32) -> Resul
     ensures step { Stepped NoChange (D.shown depot.old) (D.shown depot.new) }
     ensures refused { (options : Options) → prepared.now.plan ≡ job_plan options prepared.now.job
         → IfErr result (IsDemoAskEnd (retries + 1) (asked_keys options prepared.now.job) (D.shown depot.old) (D.shown depot.new)) }
+    ensures calls { (options : Options) → prepared.now.plan ≡ job_plan options prepared.now.job
+        → WithinCalls ((6 + length (asked_keys options prepared.now.job)) * (retries + 1)) (D.shown depot.old) (D.shown depot.new) }
 {
     let rows = key_of_name(&demo_name(DemoInput::Rows));
     if let Err(status) = ask_keys(depot, &rows, retries) {
@@ -102,6 +106,7 @@ fn store_input<D: Depot>(
     ensures step { Stepped (ArrayPut (demo_array input size)) (D.shown depot.old) (D.shown depot.new) }
     ensures stores { IsArrayCalm (demo_array input size) (D.shown depot.old).late → OnOk result (StoresGiven (demo_array input size) (D.shown depot.new).held) }
     ensures refused { IfErr result (IsInputPutEnd (retries + 1) (demo_array input size) (D.shown depot.old) (D.shown depot.new)) }
+    ensures calls { WithinCalls ((chunks_in (demo_array input size) + 1) * (retries + 1)) (D.shown depot.old) (D.shown depot.new) }
 {
     let Ok(elements) = demo_elements(alloc, input, size) else {
         return Err(Status::NoMemory);
@@ -136,6 +141,8 @@ fn store_inputs<D: Depot>(
     ensures step { Stepped (InputsPut size) (D.shown depot.old) (D.shown depot.new) }
     ensures stores { AreInputsCalm size (D.shown depot.old).late → OnOk result (StoresDemoInputs size (D.shown depot.new).held) }
     ensures refused { IfErr result (IsInputsFault (retries + 1) size (D.shown depot.old) (D.shown depot.new)) }
+    ensures calls { WithinCalls (((chunks_in (demo_array Rows size) + 1) + (chunks_in (demo_array Columns size) + 1)) * (retries + 1))
+        (D.shown depot.old) (D.shown depot.new) }
 {
     if let Err(status) = store_input(alloc, depot, DemoInput::Rows, size, retries) {
         return Err(status);
@@ -158,6 +165,7 @@ fn read_result<D: Depot>(depot: &mut D, retries: u32) -> Result<i128, Status>
     ensures element { IfOk result (IsResult (D.shown depot.new).held) }
     ensures step { Stepped NoChange (D.shown depot.old) (D.shown depot.new) }
     ensures refused { IfErr result (IsResultUnread (retries + 1) (D.shown depot.old) (D.shown depot.new)) }
+    ensures calls { WithinCalls (retries + 1) (D.shown depot.old) (D.shown depot.new) }
 {
     let key = result_key();
     let mut bytes = [0u8; 8];
@@ -214,6 +222,7 @@ fn tell_result<W: Sink, D: Depot>(
     ensures answer { ResultTells (retries + 1) (λ x. result_line size x ++ report_line plan.now counts.now)
         (seen (stream (W.written out.old) (W.faults out.old)) (D.shown depot.old)) (seen (stream (W.written out.new) (W.faults out.new)) (D.shown depot.new)) result }
     ensures step { Stepped NoChange (D.shown depot.old) (D.shown depot.new) }
+    ensures calls { WithinCalls (retries + 1) (D.shown depot.old) (D.shown depot.new) }
 {
     let element = match read_result(depot, retries) {
         Ok(element) => element,
@@ -246,6 +255,8 @@ pub fn demo<H: Threads + Wait + Sync, W: Sink, D: Share, G: Gate>(
     requires few { size ≤ 2048 }
     requires quiet { WhereTold (D.shown depot.old).held (IsDemoCalm options.now size (D.shown depot.old)) }
     ensures answer { DemoTells (D.yards_lack depot.new) (demo_case options.now size
+        (seen (stream (W.written out.old) (W.faults out.old)) (D.shown depot.old)) (seen (stream (W.written out.new) (W.faults out.new)) (D.shown depot.new))) result }
+    ensures calls { DemosWithin (demo_case options.now size
         (seen (stream (W.written out.old) (W.faults out.old)) (D.shown depot.old)) (seen (stream (W.written out.new) (W.faults out.new)) (D.shown depot.new))) result }
 {
     meta_law();

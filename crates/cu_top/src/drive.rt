@@ -1,11 +1,13 @@
 //! The tasks of an accepted plan: the texts in front of its chunks, their run, and what it answers.
-ghost use Rattle.std.specs.Prelude.{◌≡◌, ◌<◌, IfOk, Some, false};
+ghost use Rattle.std.specs.Prelude.{◌≡◌, ◌<◌, IfErr, IfOk, Some, false};
 ghost use Rattle.serde_json.specs.View.{view};
 ghost use Rattle.serde_json.specs.Written.{has_float};
 ghost use Rattle.cu_store.specs.Held.{Contents};
 ghost use Rattle.cu_state.specs.Pieces.{KeysApart, InputsApart};
 ghost use Rattle.cu_work.specs.Shared.{IsOpen, IsMemoryFor};
 ghost use Rattle.cu_work.specs.World.{IsFound};
+ghost use Rattle.cu_command.specs.declared.status.Status.TheVariants.{Done};
+ghost use Rattle.cu_top.specs.Calls.{DriveWithin};
 ghost use Rattle.cu_top.specs.Driven.{AreHeld, HasPlanAndTexts, WasDriven, run_counts_in, drive_answer};
 ghost use Rattle.cu_top.specs.Driven.{drive_case, fault_answer, outcome_answer, run_options};
 ghost use Rattle.cu_top.specs.Prepare.{job_plan, HasPlan};
@@ -123,8 +125,12 @@ pub fn drive_plan<H: Threads + Wait + Sync, D: Share, G: Gate>(
         memory.table.done memory }
     requires found { (held : Contents) → (D.shown depot.old).held ≡ Some held
         → IsFound (job_plan options.now ready.now.job) held memory.table.done }
-    ensures { WasDriven (drive_case options.now (run_of_job options.now ready.now.job) held
+    ensures driven { WasDriven (drive_case options.now (run_of_job options.now ready.now.job) held
         memory.table.done (D.yards_lack depot.new) (D.shown depot.old, D.shown depot.new)) result }
+    ensures calls { IfOk result (λ counts. DriveWithin options.now ready.now.job held
+        (D.shown depot.old) (D.shown depot.new) Done) }
+    ensures stopped_calls { IfErr result (DriveWithin options.now ready.now.job held
+        (D.shown depot.old) (D.shown depot.new)) }
 {
     let keys = text_keys(&ready.job.expr);
     let texts = Texts {

@@ -3,6 +3,7 @@ ghost use Rattle.std.specs.Prelude.{◌≡◌, ℕ, ◌≤◌, length, OnErr, On
 ghost use Rattle.cu_store.specs.Faults.{Rose};
 ghost use Rattle.cu_command.specs.Seen.{Stream, stream};
 ghost use Rattle.cu_command.specs.Streams.{WroteFront};
+ghost use Rattle.cu_top.specs.Calls.{DropWithin};
 ghost use Rattle.cu_top.specs.Drop.{Dropped, removal_line, remove_answer};
 ghost use Rattle.cu_top.specs.Run.{scene, case, PrintsOnly};
 ghost use Rattle.cu_top.specs.Words.{IsInRange};
@@ -65,6 +66,8 @@ pub fn drop_plan<W: Sink, D: Depot>(
         (scene source (stream (W.written out.old) (W.faults out.old)) (D.shown depot.old))
         (scene next (stream (W.written out.new) (W.faults out.new)) (D.shown depot.new))) result }
     ensures prints { PrintsOnly result (W.written out.old) (W.written out.new) }
+    ensures calls { (source next sink after : Stream) → DropWithin (case options.now text.now
+        (scene source sink (D.shown depot.old)) (scene next after (D.shown depot.new))) result }
 {
     left_law();
     complete_law();

@@ -2,10 +2,12 @@
 ghost use Rattle.std.specs.Prelude.{◌≡◌, ◌+◌, None, IfErr, IfOk, IfSome, OnOk, length};
 ghost use Rattle.cu_store.specs.Held.{Holds};
 ghost use Rattle.cu_store.specs.Steps.{NoChange, Steps};
-ghost use Rattle.cu_command.specs.Seen.{Stream};
+ghost use Rattle.cu_command.specs.Seen.{Stream, WithinCalls};
+ghost use Rattle.cu_top.specs.Calls.{ReopenWithin};
 ghost use Rattle.cu_top.specs.Driven.{HasPlanAndTexts};
 ghost use Rattle.cu_top.specs.Held.{IsCompared, TextsDifferAt, IsFoundAgain};
 ghost use Rattle.cu_top.specs.Held.{IsNotReopened, IsRecordFault, record_answer};
+ghost use Rattle.cu_top.specs.Planned.{plan_calls};
 ghost use Rattle.cu_top.specs.Run.{scene, case};
 ghost use Rattle.cu_top.specs.Words.{IsInRange};
 
@@ -134,6 +136,11 @@ pub fn reopen<D: Depot>(
     ensures ready { IfOk result (HasPlanAndTexts options.now) }
     ensures refused { (source next sink after : Stream)
         → IfErr result (IsNotReopened (case options.now text.now
+        (scene source sink (D.shown depot.old)) (scene next after (D.shown depot.new)))) }
+    ensures calls { WithinCalls (plan_calls (options.now.retries + 1) text.now + (options.now.retries + 1))
+        (D.shown depot.old) (D.shown depot.new) }
+    ensures refused_calls { (source next sink after : Stream)
+        → IfErr result (ReopenWithin (case options.now text.now
         (scene source sink (D.shown depot.old)) (scene next after (D.shown depot.new)))) }
 {
     plain_law();

@@ -1,12 +1,15 @@
 //! A run that goes on from what one that was stopped has left.
-ghost use Rattle.std.specs.Prelude.{◌≡◌, ℕ, ◌+◌, List, IfErr, IfOk, Some};
+ghost use Rattle.std.specs.Prelude.{◌≡◌, ℕ, ◌+◌, ◌*◌, List, IfErr, IfOk, Some, length};
 ghost use Rattle.cu_name.specs.Keys.{record_key_of};
 ghost use Rattle.cu_store.specs.Held.{Contents, IsHeldIn};
+ghost use Rattle.cu_work.specs.Order.{plan_keys};
 ghost use Rattle.cu_work.specs.Search.{NamesStored};
 ghost use Rattle.cu_work.specs.Shared.{IsMemoryFor};
 ghost use Rattle.cu_work.specs.World.{IsFound};
-ghost use Rattle.cu_command.specs.Seen.{Stepped, Stream, stream};
+ghost use Rattle.cu_command.specs.Seen.{Stepped, Stream, WithinCalls, stream};
+ghost use Rattle.cu_command.specs.declared.status.Status.TheVariants.{Done};
 ghost use Rattle.cu_store.specs.Steps.{NoChange, Shown};
+ghost use Rattle.cu_top.specs.Calls.{GoneOnWithin, ResumeWithin};
 ghost use Rattle.cu_top.specs.Driven.{AreHeld, HasPlanAndTexts, run_options};
 ghost use Rattle.cu_top.specs.Held.{IsFoundAgain, IsLeftEntry};
 ghost use Rattle.cu_top.specs.Prepare.{job_plan, keys_of};
@@ -71,6 +74,9 @@ fn find_rest<D: Depot>(
     ensures step { Stepped NoChange (D.shown depot.old) (D.shown depot.new) }
     ensures fault { IfErr result (IsRestFault (options.now.retries + 1)
         (keys_of options.now ready.now.job) (D.shown depot.old, D.shown depot.new)) }
+    // The metadata and each chunk are asked for.
+    ensures calls { WithinCalls ((1 + length (plan_keys ready.now.plan (length ready.now.plan.ops)))
+        * (options.now.retries + 1)) (D.shown depot.old) (D.shown depot.new) }
 {
     let key = text_keys(&ready.job.expr).metadata;
     let held = match ask_key(depot, &key, options.retries) {
@@ -106,6 +112,10 @@ fn go_on<H: Threads + Wait + Sync, D: Share, G: Gate>(
         → IsFoundAgain options.now text old (D.shown depot.old) ready.now.job → IsLeftEntry options.now text old
         → ResumeEnded (D.yards_lack depot.new) (case options.now text (scene source sink old)
         (scene next after (D.shown depot.new))) ready.now.job result }
+    ensures calls { IfOk result (λ counts. GoneOnWithin options.now ready.now.job
+        (D.shown depot.old) (D.shown depot.new) Done) }
+    ensures stopped_calls { IfErr result (GoneOnWithin options.now ready.now.job
+        (D.shown depot.old) (D.shown depot.new)) }
 {
     left_law();
     complete_law();
@@ -139,6 +149,8 @@ pub fn resume<H: Threads + Wait + Sync, W: Sink, D: Share, G: Gate>(
         (scene source (stream (W.written out.old) (W.faults out.old)) (D.shown depot.old))
         (scene next (stream (W.written out.new) (W.faults out.new)) (D.shown depot.new))) result }
     ensures prints { PrintsOnly result (W.written out.old) (W.written out.new) }
+    ensures calls { (source next sink after : Stream) → ResumeWithin (case options.now text.now
+        (scene source sink (D.shown depot.old)) (scene next after (D.shown depot.new))) result }
 {
     let ready = match reopen(alloc, options, text, depot) {
         Ok(ready) => ready,

@@ -1,7 +1,10 @@
 //! A run: what is stored, once the job was accepted and nothing is in the way.
-ghost use Rattle.std.specs.Prelude.{◌≡◌, ℕ, List, IfErr};
+ghost use Rattle.std.specs.Prelude.{◌≡◌, ℕ, List, IfErr, IfOk};
 ghost use Rattle.cu_store.specs.Steps.{Shown};
 ghost use Rattle.cu_command.specs.Seen.{Stream, stream};
+ghost use Rattle.cu_command.specs.declared.status.Status.TheVariants.{Done};
+ghost use Rattle.cu_work.specs.declared.run.HeldTexts.TheVariants.{Neither};
+ghost use Rattle.cu_top.specs.Calls.{DriveWithin, RunWithin};
 ghost use Rattle.cu_top.specs.Driven.{HasPlanAndTexts};
 ghost use Rattle.cu_top.specs.Prepare.{HasPlan};
 ghost use Rattle.cu_top.specs.Quiet.{IsCalm};
@@ -43,6 +46,10 @@ pub fn store_plan<H: Threads + Wait + Sync, D: Share, G: Gate>(
         → Ended (D.yards_lack depot.new) (case options.now text (scene source sink old)
         (scene next after (D.shown depot.new))) ready.now.job result }
     ensures stopped { IfErr result IsStop }
+    ensures calls { IfOk result (λ counts. DriveWithin options.now ready.now.job Neither
+        (D.shown depot.old) (D.shown depot.new) Done) }
+    ensures stopped_calls { IfErr result (DriveWithin options.now ready.now.job Neither
+        (D.shown depot.old) (D.shown depot.new)) }
 {
     left_law();
     complete_law();
@@ -82,6 +89,8 @@ pub fn run<H: Threads + Wait + Sync, W: Sink, D: Share, G: Gate>(
     ensures answer { (source next : Stream) → Ran (D.yards_lack depot.new) (case options.now text.now (scene source (stream (W.written out.old) (W.faults out.old)) (D.shown depot.old))
         (scene next (stream (W.written out.new) (W.faults out.new)) (D.shown depot.new))) result }
     ensures prints { PrintsOnly result (W.written out.old) (W.written out.new) }
+    ensures calls { (source next sink after : Stream) → RunWithin (case options.now text.now
+        (scene source sink (D.shown depot.old)) (scene next after (D.shown depot.new))) result }
 {
     plain_law();
     let prepared = match prepare(alloc, options, text, depot) {

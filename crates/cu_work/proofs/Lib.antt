@@ -2,6 +2,9 @@ pub mod Lent
 pub mod Asking
 pub mod Worlds
 pub mod AloneTurns
+pub mod Sums
+pub mod Tries
+pub mod AloneTries
 pub mod EndedCalls
 pub mod Searching
 pub mod SearchedTasks

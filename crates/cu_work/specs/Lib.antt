@@ -3,6 +3,7 @@ pub mod Drive
 pub mod Order
 pub mod Run
 pub mod Alone
+pub mod Calls
 pub mod World
 pub mod Ends
 pub mod Search

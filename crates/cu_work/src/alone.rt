@@ -1,11 +1,12 @@
 //! One worker runs the tasks of a plan in a yard, as a table gives them.
-ghost use Rattle.std.specs.Prelude.{◌≡◌, ◌<◌, [], length};
+ghost use Rattle.std.specs.Prelude.{◌≡◌, ◌+◌, ◌*◌, ◌<◌, ◌≤◌, [], length};
 ghost use Rattle.cu_store.specs.Yard.{shown_by};
 ghost use Rattle.cu_op.specs.Cells.{tasks_of};
 ghost use Rattle.cu_op.specs.Schedule.{op_of};
 ghost use Rattle.cu_task.specs.Serving.{ServesPlan, HasSeenInputs};
 ghost use Rattle.cu_table.specs.Table.{TableView};
 ghost use Rattle.cu_work.specs.Alone.{HasRun, HasSeenDone, IsDecided, Tried, halt_outcome};
+ghost use Rattle.cu_work.specs.Calls.{calls_of_tasks};
 ghost use Rattle.cu_work.specs.Rooms.{rooms_of};
 
 use crate::outcome::Outcome;
@@ -77,6 +78,7 @@ fn take_turns<Y: Yard>(
     ensures own { Y.owns yard.now pass.new }
     ensures ran { HasRun (Y.serves yard.now) table.old table.new (Y.knows pass.old) (Y.knows pass.new) }
     ensures decided { IsDecided plan.now table.new.state result }
+    ensures tries { (Y.knows pass.new).calls ≤ (Y.knows pass.old).calls + (table.old.settings.retries + 1) * calls_of_tasks plan.now }
 {
     history_law();
     alone_law();
@@ -99,7 +101,7 @@ fn take_turns<Y: Yard>(
 ///
 /// The table is that of this plan and has no history yet, and the pass has seen each chunk of each task that the table calls done.
 /// At the end no copy runs, the pass has seen each chunk of each task that is done, and its count of faults has risen by each
-/// failure of the history at least. The outcome is that of the history's deciding event.
+/// failure of the history at least. Each task is tried at most `retries + 1` times. The outcome is that of the history's deciding event.
 pub fn drive_alone<Y: Yard>(
     plan: &Plan,
     yard: &Y,
@@ -117,6 +119,7 @@ pub fn drive_alone<Y: Yard>(
     ensures rooms { rooms.new ≡ rooms.old }
     ensures ran { HasRun (Y.serves yard.now) table.old table.new (Y.knows pass.old) (Y.knows pass.new) }
     ensures decided { IsDecided plan.now table.new.state result }
+    ensures tries { (Y.knows pass.new).calls ≤ (Y.knows pass.old).calls + (table.old.settings.retries + 1) * calls_of_tasks plan.now }
 {
     take_turns(plan, yard, pass, &mut rooms.bytes, &mut rooms.words, table)
 }

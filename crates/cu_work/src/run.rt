@@ -8,6 +8,7 @@ ghost use Rattle.cu_op.specs.Value.{Elements};
 ghost use Rattle.cu_state.specs.Left.{IsLeft, RunChange};
 ghost use Rattle.cu_state.specs.Pieces.{KeysApart, InputsApart, IsComplete};
 ghost use Rattle.cu_work.specs.Drive.{IsBadChunk, IsInputKey, IsTaskMost};
+ghost use Rattle.cu_work.specs.Calls.{calls_of_tasks, missing_texts};
 ghost use Rattle.cu_work.specs.declared.run.HeldTexts.TheVariants.{Neither};
 ghost use Rattle.cu_work.specs.Run.{run_of, share_fault, PutOfText, PutOfMissing, AreTextsHeld, IsRecordFirst, HoldsTexts, IsRunFault, IsTextPutFault, IsUnstored};
 ghost use Rattle.cu_work.specs.Shared.{IsOpen, IsMemoryFor, HasDriven, HoldsDone, AreCounted, IfBadChunk, IfComplete, IfLacked};
@@ -102,6 +103,7 @@ fn put_texts<D: Depot>(
     requires { AreTextsHeld held texts.now (D.shown depot.old).held }
     ensures step { Steps (RunChange (run_of plan.now texts.now) (D.shown depot.old)) 0 (2 * (retries + 1)) (D.shown depot.old) (D.shown depot.new) }
     ensures own { Steps (PutOfMissing held texts.now) 0 (2 * (retries + 1)) (D.shown depot.old) (D.shown depot.new) }
+    ensures calls { (D.shown depot.new).calls ≤ (D.shown depot.old).calls + missing_texts held * (retries + 1) }
     ensures stored { (env : Elements) → IsLeft (run_of plan.now texts.now) env (D.shown depot.old) → OnOk result (HoldsTexts (run_of plan.now texts.now) env (D.shown depot.new)) }
     ensures unstored { (env : Elements) → IsLeft (run_of plan.now texts.now) env (D.shown depot.old)
         → IfErr result (IsUnstored (run_of plan.now texts.now) env (retries + 1) (D.shown depot.old) (D.shown depot.new)) }
@@ -174,6 +176,9 @@ pub fn run_plan<H: Threads + Wait + Sync, D: Share, G: Gate>(
     ensures lacked { IfOk result (λ end. IfLacked end.outcome (IsTrue (D.yards_lack depot.new))) }
     ensures tries { options.now.workers ≡ 1 → (m : ℕ) → IsTaskMost plan.now m → IfOk result (λ end. (D.shown depot.new).calls
         ≤ (D.shown depot.old).calls + 3 * (options.now.retries + 1) + count_kind is_start end.table.history * m) }
+    ensures begun { OnErr result ((D.shown depot.new).calls ≤ (D.shown depot.old).calls + (missing_texts held + 1) * (options.now.retries + 1)) }
+    ensures calls { options.now.workers ≡ 1 → (D.shown depot.new).calls
+        ≤ (D.shown depot.old).calls + (missing_texts held + 1 + calls_of_tasks plan.now) * (options.now.retries + 1) }
 {
     if let Err(fault) = put_texts(plan, depot, texts, held, options.retries) {
         return Err(fault);

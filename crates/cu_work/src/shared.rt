@@ -9,6 +9,7 @@ ghost use Rattle.cu_op.specs.Value.{Elements};
 ghost use Rattle.cu_state.specs.Left.{IsLeft, RunChange};
 ghost use Rattle.cu_state.specs.Pieces.{chunks_alone, KeysApart, InputsApart};
 ghost use Rattle.cu_work.specs.Drive.{IsBadChunk, IsInputKey, IsTaskMost};
+ghost use Rattle.cu_work.specs.Calls.{calls_of_tasks};
 ghost use Rattle.cu_work.specs.Shared.{promised_writes, IsOpen, IsMemoryFor, HasDriven, HoldsDone, AreCounted, IfBadChunk, IfComplete, IfLacked};
 ghost use Rattle.cu_work.specs.World.{IsFound};
 
@@ -52,6 +53,8 @@ fn run_promised<K: Promised, H: Threads + Wait + Sync, D: Share, G: Gate>(
     ensures lacked { IfOk result (λ end. IfLacked end.outcome (IsTrue (D.yards_lack depot.new))) }
     ensures tries { options.now.workers ≡ 1 → (m : ℕ) → IsTaskMost plan.now m → IfOk result (λ end. (D.shown depot.new).calls
         ≤ (D.shown depot.old).calls + (options.now.retries + 1) + count_kind is_start end.table.history * m) }
+    ensures calls { options.now.workers ≡ 1 → (D.shown depot.new).calls
+        ≤ (D.shown depot.old).calls + (1 + calls_of_tasks plan.now) * (options.now.retries + 1) }
     ensures refused { OnErr result (Steps NoChange 0 (options.now.retries + 1) (D.shown depot.old) (D.shown depot.new)) }
     ensures cause { IfErr result (IsShareFault (options.now.retries + 1) (D.shown depot.old) (D.shown depot.new)) }
 {
@@ -120,6 +123,8 @@ pub fn run_tasks<H: Threads + Wait + Sync, D: Share, G: Gate>(
     ensures lacked { IfOk result (λ end. IfLacked end.outcome (IsTrue (D.yards_lack depot.new))) }
     ensures tries { options.now.workers ≡ 1 → (m : ℕ) → IsTaskMost plan.now m → IfOk result (λ end. (D.shown depot.new).calls
         ≤ (D.shown depot.old).calls + (options.now.retries + 1) + count_kind is_start end.table.history * m) }
+    ensures calls { options.now.workers ≡ 1 → (D.shown depot.new).calls
+        ≤ (D.shown depot.old).calls + (1 + calls_of_tasks plan.now) * (options.now.retries + 1) }
     ensures refused { OnErr result (Steps NoChange 0 (options.now.retries + 1) (D.shown depot.old) (D.shown depot.new)) }
     ensures cause { IfErr result (IsShareFault (options.now.retries + 1) (D.shown depot.old) (D.shown depot.new)) }
 {

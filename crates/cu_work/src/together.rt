@@ -5,6 +5,7 @@ ghost use Rattle.cu_task.specs.Serving.{ServesPlan};
 ghost use Rattle.cu_table.specs.Table.{TableView};
 ghost use Rattle.cu_work.specs.Alone.{HasSeenDone, IsDecided};
 ghost use Rattle.cu_work.specs.Drive.{IsTaskMost};
+ghost use Rattle.cu_work.specs.Calls.{calls_of_tasks};
 ghost use Rattle.cu_work.specs.Rooms.{rooms_of};
 ghost use Rattle.cu_work.specs.Workers.{HasWorked};
 
@@ -42,6 +43,7 @@ fn work_alone<Y: Yard>(
     ensures decided { IsDecided plan.now result.table.state result.outcome }
     ensures calls { (m : ℕ) → IsTaskMost plan.now m
         → (Y.knows pass.new).calls ≤ (Y.knows pass.old).calls + count_kind is_start result.table.history * m }
+    ensures tries { (Y.knows pass.new).calls ≤ (Y.knows pass.old).calls + (table.settings.retries + 1) * calls_of_tasks plan.now }
 {
     let outcome = drive_alone(plan, yard, pass, &mut rooms[0], &mut table);
     RunEnd { outcome, table }
@@ -124,6 +126,7 @@ pub(crate) fn work<H: Threads + Wait + Sync, Y: Yard, G: Gate>(
     ensures decided { IsDecided plan.now result.table.state result.outcome }
     ensures calls { workers ≡ 1 → (m : ℕ) → IsTaskMost plan.now m
         → (Y.knows pass.new).calls ≤ (Y.knows pass.old).calls + count_kind is_start result.table.history * m }
+    ensures tries { workers ≡ 1 → (Y.knows pass.new).calls ≤ (Y.knows pass.old).calls + (table.settings.retries + 1) * calls_of_tasks plan.now }
 {
     if workers == 1 {
         return work_alone(plan, yard, pass, rooms, table);

@@ -1,4 +1,4 @@
-use Rattle.std.proofs.Common.{◌+◌, ◌∷◌, ◌∙◌, length, ap, sym}
+use Rattle.std.proofs.Common.{◌+◌, ◌∷◌, ◌∙◌, length, ap, sym, arith}
 use Rattle.cu_name.specs.Keys.{record_key_of}
 use Rattle.cu_zarr.specs.Key.{metadata_key_of, zarray_key_of}
 use Rattle.cu_command.proofs.SeenLemmas.{stepped}
@@ -6,6 +6,7 @@ use Rattle.cu_op.specs.PlanView.{PlanView}
 use Rattle.cu_work.specs.Order.{plan_keys}
 use Rattle.cu_top.proofs.AskLemmas.{plan_asked, plan_free}
 use Rattle.cu_top.specs.Prepare.{asked_keys}
+use Rattle.cu_top.proofs.CallLimits.{asked_all}
 use Rattle.cu_top.proofs.ask.ask_plan.Goals as goal
 
 pub returns-clause-free : goal.returns-clause-free
@@ -27,3 +28,11 @@ returns-then-is_own_input-clause-step g c = stepped c.ask_own.ensures.step
 
 pub returns-then-is_own_input-clause-refused : goal.returns-then-is_own_input-clause-refused
 returns-then-is_own_input-clause-refused g c = λ options same. c.ask_own.ensures.refused options
+
+pub returns-clause-calls : goal.returns-clause-calls
+returns-clause-calls g c = λ options same.
+    asked_all options c.args.job.now c.args.plan.now (c.args.retries + 1) (g.D.Depot.shown c.args.depot.now) (g.D.Depot.shown c.ask_keys.new.depot) same
+    (let few = c.ask_keys.ensures.step.calls.1 in omega (arith, few))
+
+pub returns-then-is_own_input-clause-calls : goal.returns-then-is_own_input-clause-calls
+returns-then-is_own_input-clause-calls g c = λ options same. let few = c.ask_own.ensures.step.calls.1 in omega (arith, few)

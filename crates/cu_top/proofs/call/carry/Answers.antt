@@ -3,7 +3,10 @@ use Rattle.std.proofs.Common.{◌≡◌, ◌∙◌, sym, subst}
 use Rattle.cu_check.specs.Check.{ChecksWithin}
 use Rattle.cu_command.specs.Seen.{stream}
 use Rattle.cu_print.specs.Print.{PrintsWithin}
-use Rattle.cu_top.proofs.CheckLemmas.{same_tries, same_print}
+use Rattle.cu_lower.specs.declared.options.Options.{Options}
+use Rattle.cu_top.proofs.CheckLemmas.{same_tries, same_print, same_run, same_resume, same_drop}
+use Rattle.cu_top.specs.Calls.{RunsWithin, ResumesWithin, DropsWithin}
+use Rattle.cu_top.specs.Run.{scene}
 use Rattle.cu_top.proofs.call.carry.Goals as goal
 
 pub run_command-requires-clause-options : goal.run_command-requires-clause-options
@@ -51,3 +54,24 @@ returns-in-Print-clause-print_calls g c = λ name retries words.
     let named : name ≡ c.key_of_name.result = same.0 ∙ sym c.key_of_name.ensures.key in
     let calls = subst (λ (n : ℕ). PrintsWithin (n + 1) c.key_of_name.result (g.D.Depot.shown c.args.depot.now) (g.D.Depot.shown c.print.new.depot)) (sym same.1) c.print.ensures.calls in
     subst (λ (key : List ℕ). PrintsWithin (retries + 1) key (g.D.Depot.shown c.args.depot.now) (g.D.Depot.shown c.print.new.depot)) (sym named) calls
+
+pub returns-in-Run-clause-run_calls : goal.returns-in-Run-clause-run_calls
+returns-in-Run-clause-run_calls g c = λ options words.
+    let same = same_run (map string_bytes c.args.words.now) options c.in-Run.options words (rw c.in-Run.is at c.in-Asked.ensures.answer.0) in
+    let old = scene (stream (g.R.Source.left c.args.src.now) (g.R.Source.faults c.args.src.now)) (stream (g.W.Sink.written c.args.out.now) (g.W.Sink.faults c.args.out.now)) (g.D.Depot.shown c.args.depot.now) in
+    let new = scene (stream (g.R.Source.left c.run_command.new.src) (g.R.Source.faults c.run_command.new.src)) (stream (g.W.Sink.written c.run_command.new.out) (g.W.Sink.faults c.run_command.new.out)) (g.D.Depot.shown c.run_command.new.depot) in
+    subst (λ (o : Options). RunsWithin o old new c.run_command.result) (sym same) c.run_command.ensures.calls
+
+pub returns-in-Resume-clause-resume_calls : goal.returns-in-Resume-clause-resume_calls
+returns-in-Resume-clause-resume_calls g c = λ options words.
+    let same = same_resume (map string_bytes c.args.words.now) options c.in-Resume.options words (rw c.in-Resume.is at c.in-Asked.ensures.answer.0) in
+    let old = scene (stream (g.R.Source.left c.args.src.now) (g.R.Source.faults c.args.src.now)) (stream (g.W.Sink.written c.args.out.now) (g.W.Sink.faults c.args.out.now)) (g.D.Depot.shown c.args.depot.now) in
+    let new = scene (stream (g.R.Source.left c.resume_command.new.src) (g.R.Source.faults c.resume_command.new.src)) (stream (g.W.Sink.written c.resume_command.new.out) (g.W.Sink.faults c.resume_command.new.out)) (g.D.Depot.shown c.resume_command.new.depot) in
+    subst (λ (o : Options). ResumesWithin o old new c.resume_command.result) (sym same) c.resume_command.ensures.calls
+
+pub returns-in-Drop-clause-drop_calls : goal.returns-in-Drop-clause-drop_calls
+returns-in-Drop-clause-drop_calls g c = λ options words.
+    let same = same_drop (map string_bytes c.args.words.now) options c.in-Drop.options words (rw c.in-Drop.is at c.in-Asked.ensures.answer.0) in
+    let old = scene (stream (g.R.Source.left c.args.src.now) (g.R.Source.faults c.args.src.now)) (stream (g.W.Sink.written c.args.out.now) (g.W.Sink.faults c.args.out.now)) (g.D.Depot.shown c.args.depot.now) in
+    let new = scene (stream (g.R.Source.left c.drop_command.new.src) (g.R.Source.faults c.drop_command.new.src)) (stream (g.W.Sink.written c.drop_command.new.out) (g.W.Sink.faults c.drop_command.new.out)) (g.D.Depot.shown c.drop_command.new.depot) in
+    subst (λ (o : Options). DropsWithin o old new c.drop_command.result) (sym same) c.drop_command.ensures.calls

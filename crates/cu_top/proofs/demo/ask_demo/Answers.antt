@@ -1,4 +1,4 @@
-use Rattle.std.proofs.Common.{◌≡◌, ◌+◌, ◌∙◌, subst, sym, ap, false, ℕ, List}
+use Rattle.std.proofs.Common.{◌≡◌, ◌+◌, ◌∙◌, subst, sym, ap, false, ℕ, List, arith}
 use Rattle.cu_command.proofs.SeenLemmas.{stepped, stepped_then}
 use Rattle.cu_demo.specs.Input.{demo_name}
 use Rattle.cu_demo.specs.declared.input.DemoInput.TheVariants.{Columns}
@@ -63,3 +63,26 @@ returns-in-Err-ask_plan-clause-refused g c = λ options same.
           (subst (λ (n : List ℕ). AreFree n mid.held) (c.key_of_name-columns.ensures.key ∙ c.demo_name-2.ensures.name) c.in_default-ask_keys.ensures.free),
     )
     (stepped_then (stepped c.ask_keys.ensures.step) (stepped c.ask_keys-2.ensures.step)) (c.in-Err-ask_plan.ensures.refused options same))
+
+pub returns-in-Err-clause-calls : goal.returns-in-Err-clause-calls
+returns-in-Err-clause-calls g c = λ options same. let rows = c.ask_keys.ensures.step.calls.1 in omega (arith, rows)
+
+pub returns-in-Err-ask_keys-clause-calls : goal.returns-in-Err-ask_keys-clause-calls
+returns-in-Err-ask_keys-clause-calls g c = λ options same.
+    let rows = c.ask_keys.ensures.step.calls.1 in
+    let columns = c.ask_keys-2.ensures.step.calls.1 in
+    omega (arith, rows, columns)
+
+pub returns-in-Ok-clause-calls : goal.returns-in-Ok-clause-calls
+returns-in-Ok-clause-calls g c = λ options same.
+    let rows = c.ask_keys.ensures.step.calls.1 in
+    let columns = c.ask_keys-2.ensures.step.calls.1 in
+    let keys = c.ask_plan.ensures.calls options same in
+    omega (arith, rows, columns, keys)
+
+pub returns-in-Err-ask_plan-clause-calls : goal.returns-in-Err-ask_plan-clause-calls
+returns-in-Err-ask_plan-clause-calls g c = λ options same.
+    let rows = c.ask_keys.ensures.step.calls.1 in
+    let columns = c.ask_keys-2.ensures.step.calls.1 in
+    let keys = c.ask_plan.ensures.calls options same in
+    omega (arith, rows, columns, keys)

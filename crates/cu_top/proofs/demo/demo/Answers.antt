@@ -1,10 +1,11 @@
-use Rattle.std.proofs.Common.{◌≡◌, ◌+◌, ◌++◌, ℤ, All, None, refl, subst, sym, arith}
+use Rattle.std.proofs.Common.{◌≡◌, ◌+◌, ◌*◌, ◌++◌, ℤ, All, None, length, refl, subst, sym, arith}
 use Rattle.cu_op.specs.PlanView.{PlanView}
-use Rattle.cu_command.specs.Seen.{seen, stream}
+use Rattle.cu_command.specs.Seen.{WithinCalls, seen, stream}
 use Rattle.cu_command.proofs.SeenLemmas.{stepped_none, stepped_then}
 use Rattle.cu_command.specs.declared.job.Job.{Job}
 use Rattle.cu_demo.specs.Expression.{IsDemoJob, demo_text}
 use Rattle.cu_work.specs.Order.{IsFree}
+use Rattle.cu_top.proofs.DemoCalls.{demo_unplanned, demo_asked, demo_unready, demo_unstored, demo_stopped, demo_told}
 use Rattle.cu_top.proofs.DemoFound.{found_of}
 use Rattle.cu_top.proofs.DemoLemmas.{MeantLaw, asked, refused_plan, run_to, stopped, told, unstored}
 use Rattle.cu_top.proofs.DemoWay.{Way, way_calm, way_cleared, way_found, way_keeps, way_whole}
@@ -18,6 +19,8 @@ use Rattle.cu_top.proofs.demo.demo.Goals as goal
 pub returns-in-Err : goal.returns-in-Err
 returns-in-Err g c = record {
   answer = refused_plan _ c.args.options.now c.args.size (seen (stream (g.W.Sink.written c.args.out.now) (g.W.Sink.faults c.args.out.now)) (g.D.Depot.shown c.args.depot.now)) c.in-Err.status c.in-Err.ensures.refused;
+  calls = demo_unplanned (demo_case c.args.options.now c.args.size (seen (stream (g.W.Sink.written c.args.out.now) (g.W.Sink.faults c.args.out.now)) (g.D.Depot.shown c.args.depot.now))
+      (seen (stream (g.W.Sink.written c.args.out.now) (g.W.Sink.faults c.args.out.now)) (g.D.Depot.shown c.args.depot.now))) c.in-Err.status c.in-Err.ensures.refused (omega arith);
 }
 
 pub returns-in-Err-ask_demo : goal.returns-in-Err-ask_demo
@@ -27,6 +30,8 @@ returns-in-Err-ask_demo g c =
     record {
       answer = asked _ told c.in-Ok.prepared.job c.in-Err-ask_demo.status c.in-Ok.ensures.job (c.ask_demo.ensures.step, refl)
           (c.in-Err-ask_demo.ensures.refused c.args.options.now c.in-Ok.ensures.plan);
+      calls = demo_asked told c.in-Ok.prepared.job c.in-Ok.ensures.job c.in-Err-ask_demo.status (c.in-Err-ask_demo.ensures.refused c.args.options.now c.in-Ok.ensures.plan)
+          (c.ask_demo.ensures.calls c.args.options.now c.in-Ok.ensures.plan);
     }
 
 pub returns-in-Err-store_inputs : goal.returns-in-Err-store_inputs
@@ -37,6 +42,8 @@ returns-in-Err-store_inputs g c =
     record {
       answer = unstored _ told mid c.in-Err-store_inputs.status refl c.in_default.ensures.inputs c.ask_demo.ensures.step.step.count
           (stepped_then (stepped_none c.ask_demo.ensures.step) c.store_inputs.ensures.step) c.in-Err-store_inputs.ensures.refused;
+      calls = demo_unstored told c.in-Ok.prepared.job c.in-Ok.ensures.job mid (c.ask_demo.ensures.calls c.args.options.now c.in-Ok.ensures.plan) c.in-Err-store_inputs.status mid
+          c.in-Err-store_inputs.ensures.refused c.store_inputs.ensures.calls;
     }
 
 pub make_ready-requires-clause-plain : goal.make_ready-requires-clause-plain
@@ -120,6 +127,7 @@ returns-in-Ok-store_plan g c =
     meant (run_to options found shown) job way.planned c.merged_plan_law.ensures.inputs c.merged_plan_law.ensures.output c.merged_plan_law.ensures.equal c.complete_law.ensures.elements
     entry shown left complete in
     let ended = c.in-Ok-store_plan.ensures.ended demo_text found (stream None 0) (stream None 0) (stream None 0) (stream None 0) (way_cleared options n job old mid start way) in
+    let asked_calls = subst (λ (j : Job). WithinCalls ((6 + length (asked_keys options j)) * (options.retries + 1)) old mid) (sym same) (c.ask_demo.ensures.calls options c.in-Ok.ensures.plan) in
     let asked_count = c.ask_demo.ensures.step.step.count in
     let stored_count = c.store_inputs.ensures.step.step.count in
     let run_count = ended.0.step.step.count in
@@ -127,6 +135,8 @@ returns-in-Ok-store_plan g c =
       answer = told lack seen_by job found ran counts begun (way_calm options n job old mid start way) law ended c.tell_result.ensures.step (omega (arith, asked_count, stored_count, run_count)) (λ other s. way_keeps options n job old mid start way now other s) c.tell_result.result
           (subst (λ (p : PlanView). ResultTells (options.retries + 1) (λ (x : ℤ). result_line n x ++ report_line p counts) (seen before ran) (seen after now) c.tell_result.result) c.in-Ok-make_ready.ensures.ready.plan_is
           c.tell_result.ensures.answer);
+      calls = demo_told seen_by job way.accepted mid asked_calls start c.store_inputs.ensures.calls ran c.in-Ok-store_plan.ensures.calls c.tell_result.ensures.calls
+          (λ (x : ℤ). result_line n x ++ report_line c.in-Ok-make_ready.ready.plan counts) (seen before ran) c.tell_result.result c.tell_result.ensures.answer;
     }
 
 pub returns : goal.returns
@@ -168,7 +178,15 @@ returns g c =
       keys = way.free;
       entry = way_found options n job old mid start way;
     } in
+    let asked_calls = subst (λ (j : Job). WithinCalls ((6 + length (asked_keys options j)) * (options.retries + 1)) old mid) (sym same) (c.ask_demo.ensures.calls options c.in-Ok.ensures.plan) in
     record {
       answer = stopped lack seen_by found (way_calm options n job old mid start way) (way_whole options n job old mid start way) job c.in-Err-store_plan.status refl begun (λ other s. way_keeps options n job old mid start way now other s) c.in-Err-store_plan.ensures.stopped
           (c.in-Err-store_plan.ensures.ended demo_text found (stream None 0) (stream None 0) (stream None 0) (stream None 0) (way_cleared options n job old mid start way));
+      calls = demo_stopped seen_by job way.accepted mid asked_calls start c.store_inputs.ensures.calls c.in-Err-store_plan.status c.in-Err-store_plan.ensures.stopped_calls;
     }
+
+pub returns-in_default-make_ready-clause-calls : goal.returns-in_default-make_ready-clause-calls
+returns-in_default-make_ready-clause-calls g c =
+    let out = stream (g.W.Sink.written c.args.out.now) (g.W.Sink.faults c.args.out.now) in
+    let told = demo_case c.args.options.now c.args.size (seen out (g.D.Depot.shown c.args.depot.now)) (seen out (g.D.Depot.shown c.ask_demo.new.depot)) in
+    demo_unready told c.in-Ok.prepared.job c.in-Ok.ensures.job (c.ask_demo.ensures.calls c.args.options.now c.in-Ok.ensures.plan)

@@ -1,7 +1,7 @@
-use Rattle.std.proofs.Common.{◌≡◌, ◌+◌, IfErr, sym, subst}
+use Rattle.std.proofs.Common.{◌≡◌, ◌+◌, ◌*◌, IfErr, sym, subst}
 use Rattle.std.specs.Prelude.{OnOk}
-use Rattle.cu_command.specs.Seen.{Stepped}
-use Rattle.cu_load.specs.Load.{ArrayPut, IsArrayCalm, StoresGiven}
+use Rattle.cu_command.specs.Seen.{Stepped, WithinCalls}
+use Rattle.cu_load.specs.Load.{ArrayPut, IsArrayCalm, StoresGiven, chunks_in}
 use Rattle.cu_load.specs.LoadForm.{GivenArray, IsGivenArray, given_by}
 use Rattle.cu_load.proofs.AskLemmas.{if_err}
 use Rattle.cu_load.specs.declared.load_form.LoadForm.{LoadForm}
@@ -43,3 +43,9 @@ returns-clause-refused g c =
     let new = g.D.Depot.shown c.store_array.new.depot in
     subst (λ (a : GivenArray). IfErr c.store_array.result (IsInputPutEnd (c.args.retries + 1) a old new)) same
     (if_err c.store_array.result (λ status fault. store_end (c.args.retries + 1) (given_by form) old new status fault) c.store_array.ensures.failed)
+
+pub returns-clause-calls : goal.returns-clause-calls
+returns-clause-calls g c =
+    let form : LoadForm = record { name = c.demo_name.result; layout = c.demo_layout.result; elements = c.in-Ok.elements } in
+    let same : given_by form ≡ demo_array c.args.input c.args.size = same_form form c.args.input c.args.size c.demo_name.ensures.name c.demo_layout.ensures c.in-Ok.ensures in
+    subst (λ (a : GivenArray). WithinCalls ((chunks_in a + 1) * (c.args.retries + 1)) (g.D.Depot.shown c.args.depot.now) (g.D.Depot.shown c.store_array.new.depot)) same c.store_array.ensures.calls

@@ -7,6 +7,7 @@ use Rattle.cu_work.specs.Run.{run_of as work_run}
 use Rattle.cu_work.specs.Shared.{IsOpen, opened_table}
 use Rattle.cu_work.specs.declared.options.RunOptions.{RunOptions}
 use Rattle.cu_work.specs.declared.run.Texts.{Texts}
+use Rattle.cu_top.proofs.DriveCalls.{RunMakes, any_ok, drive_all, drive_stopped}
 use Rattle.cu_top.proofs.DriveLemmas.{RunTold, all_told, same_run, texts_held}
 use Rattle.cu_top.specs.Driven.{AreHeld, WasDriven, drive_case, run_options}
 use Rattle.cu_top.proofs.drive.drive_plan.Goals as goal
@@ -47,8 +48,8 @@ run_plan-ended-requires-clause-held g c κs within =
     (rw c.deref-2.ensures.value c.requires.ready.metadata_is) in
     texts_held c.args.held c.args.ready.now.plan texts (g.D.Depot.shown c.args.depot.now).held (subst (λ (r : PlanRun). AreHeld c.args.held r (g.D.Depot.shown c.args.depot.now).held) (sym same) c.requires.held)
 
-pub returns : goal.returns
-returns g c =
+pub returns-clause-driven : goal.returns-clause-driven
+returns-clause-driven g c =
     let options = c.args.options.now in
     let job = c.args.ready.now.job in
     let texts : Texts = record { record_key = c.text_keys-keys.result.record; «record» = c.deref.result; metadata_key = c.text_keys-keys.result.metadata; metadata = c.deref-2.result } in
@@ -82,3 +83,23 @@ returns g c =
     (subst (λ (t : TableView). RunTold how t texts driven result) opened told) in
     let was : WasDriven driven c.drive_answer.result = (result, all_told options p texts c.args.held done lack shown result so, c.drive_answer.ensures) in
     subst (λ (r : PlanRun). WasDriven (drive_case options r c.args.held done lack shown) c.drive_answer.result) same was
+
+pub returns-clause-calls : goal.returns-clause-calls
+returns-clause-calls g c =
+    let o = c.args.options.now in
+    let job = c.args.ready.now.job in
+    let p = c.args.ready.now.plan in
+    let old = g.D.Depot.shown c.args.depot.now in
+    let new = g.D.Depot.shown c.run_plan-ended.new.depot in
+    let made : RunMakes c.run_options-how.result p c.args.held old new c.run_plan-ended.result = record { begun = c.run_plan-ended.ensures.begun; all = c.run_plan-ended.ensures.calls } in
+    any_ok c.drive_answer.result _ (drive_all o job c.args.held old new c.run_options-how.result p c.run_plan-ended.result c.run_options-how.ensures c.requires.ready.plan_is made)
+
+pub returns-clause-stopped_calls : goal.returns-clause-stopped_calls
+returns-clause-stopped_calls g c =
+    let o = c.args.options.now in
+    let job = c.args.ready.now.job in
+    let p = c.args.ready.now.plan in
+    let old = g.D.Depot.shown c.args.depot.now in
+    let new = g.D.Depot.shown c.run_plan-ended.new.depot in
+    let made : RunMakes c.run_options-how.result p c.args.held old new c.run_plan-ended.result = record { begun = c.run_plan-ended.ensures.begun; all = c.run_plan-ended.ensures.calls } in
+    drive_stopped o job c.args.held old new c.run_options-how.result p _ c.run_plan-ended.result c.drive_answer.result c.run_options-how.ensures c.requires.ready.plan_is c.drive_answer.ensures made

@@ -13,6 +13,8 @@ use Rattle.cu_top.specs.Drop.{removal_line, Dropped}
 use Rattle.cu_top.specs.Prepare.{out_metadata}
 use Rattle.cu_top.specs.Record.{record_text}
 use Rattle.cu_top.specs.Run.{scene, case}
+use Rattle.cu_top.proofs.CallLimits.{drop_refused, drop_done_within, drop_unreported_within, drop_ended_within}
+use Rattle.cu_top.specs.Calls.{DropWithin}
 use Rattle.cu_top.proofs.drop.drop_plan.Goals as goal
 
 pub returns-in-Err-clause-answer : goal.returns-in-Err-clause-answer
@@ -110,3 +112,30 @@ returns-clause-answer g c = λ source next.
     (drop_ended run job back start found.spared c.commands_law.ensures.kept c.in-Err-remove_plan.fault 0 most
     (subst (λ (ks : List (List ℕ)). AreRemoved (options.retries + 1) ks start now (Err c.in-Err-remove_plan.fault)) keys c.in-Err-remove_plan.ensures.removed)
     (subst (λ (ks : List (List ℕ)). Steps (RemovalIn ks) 0 most start now) firsts c.in-Err-remove_plan.ensures.«record»))
+
+pub returns-in-Err-clause-calls : goal.returns-in-Err-clause-calls
+returns-in-Err-clause-calls g c = λ source next sink after.
+    drop_refused (case c.args.options.now c.args.text.now (scene source sink (g.D.Depot.shown c.args.depot.now)) (scene next after (g.D.Depot.shown c.reopen.new.depot))) c.in-Err.status
+    (c.in-Err.ensures.refused_calls source next sink after)
+
+pub returns-in-Ok-report_removal-clause-calls : goal.returns-in-Ok-report_removal-clause-calls
+returns-in-Ok-report_removal-clause-calls g c = λ source next sink after.
+    let run = case c.args.options.now c.args.text.now (scene source sink (g.D.Depot.shown c.args.depot.now)) (scene next after (g.D.Depot.shown c.remove_plan.new.depot)) in
+    let found = c.in-Ok.ensures.found in
+    drop_done_within run c.in-Ok.ready.job found.accepted found.planned (g.D.Depot.shown c.reopen.new.depot) c.reopen.ensures.calls c.in-Ok.ready.plan c.text_keys-keys.result.«record» c.text_keys-keys.result.metadata c.in-Ok.ensures.ready.plan_is
+    c.in-Ok-remove_plan.ensures.removed.step.calls.1
+
+pub returns-in-Ok-remove_plan-clause-calls : goal.returns-in-Ok-remove_plan-clause-calls
+returns-in-Ok-remove_plan-clause-calls g c = λ source next sink after.
+    let run = case c.args.options.now c.args.text.now (scene source sink (g.D.Depot.shown c.args.depot.now)) (scene next after (g.D.Depot.shown c.remove_plan.new.depot)) in
+    let found = c.in-Ok.ensures.found in
+    drop_unreported_within run c.in-Ok.ready.job found.accepted found.planned (g.D.Depot.shown c.reopen.new.depot) c.reopen.ensures.calls c.in-Ok.ready.plan c.text_keys-keys.result.«record» c.text_keys-keys.result.metadata c.in-Ok.ensures.ready.plan_is
+    c.in-Ok-remove_plan.ensures.removed.step.calls.1
+
+pub returns-clause-calls : goal.returns-clause-calls
+returns-clause-calls g c = λ source next sink after.
+    let run = case c.args.options.now c.args.text.now (scene source sink (g.D.Depot.shown c.args.depot.now)) (scene next after (g.D.Depot.shown c.remove_plan.new.depot)) in
+    let found = c.in-Ok.ensures.found in
+    subst (DropWithin run) (sym c.remove_answer.ensures)
+    (drop_ended_within run c.in-Ok.ready.job found.accepted found.planned (g.D.Depot.shown c.reopen.new.depot) c.reopen.ensures.calls c.in-Ok.ready.plan c.text_keys-keys.result.«record» c.text_keys-keys.result.metadata c.in-Ok.ensures.ready.plan_is
+    c.in-Err-remove_plan.ensures.removed.step.calls.1 c.in-Err-remove_plan.fault)

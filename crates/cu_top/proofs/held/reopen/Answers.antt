@@ -1,10 +1,13 @@
-use Rattle.std.proofs.Common.{rules, ◌∙◌, sym, subst}
+use Rattle.std.proofs.Common.{rules, ◌∙◌, inl, sym, subst, arith}
 use Rattle.cu_command.proofs.SeenLemmas.{stepped}
 use Rattle.cu_command.specs.Job.{IsJob}
 use Rattle.cu_command.specs.declared.job.Job.{Job}
 use Rattle.cu_top.proofs.HeldLemmas.{refused_reopened, record_refused, own_refused, found_again}
 use Rattle.cu_top.specs.Prepare.{HasPlan}
 use Rattle.cu_top.specs.Run.{scene, case}
+use Rattle.cu_top.proofs.CallLimits.{unfound_within}
+use Rattle.cu_top.specs.Calls.{ReopenWithin}
+use Rattle.cu_top.specs.declared.held.RecordFault.TheVariants as record_fault
 use Rattle.cu_top.proofs.held.reopen.Goals as goal
 
 pub returns-in-Err-clause-refused : goal.returns-in-Err-clause-refused
@@ -47,3 +50,31 @@ returns-clause-found g c =
     found_again c.args.options.now c.args.text.now old (g.D.Depot.shown c.plan_job.new.depot) (g.D.Depot.shown c.ask_record.new.depot) job c.text_keys-key.result.record c.deref.result.now accepted planned
     c.plan_job.ensures.step (stepped c.ask_record.ensures.step) c.text_keys-key.ensures.record (c.deref.ensures.value ∙ c.in-Ok-make_ready.ensures.ready.record_is) (search rules)
     (sym c.is_own_input.ensures ∙ c.if-is_own_input.false)
+
+pub returns-in-Err-clause-refused_calls : goal.returns-in-Err-clause-refused_calls
+returns-in-Err-clause-refused_calls g c = λ source next sink after. inl c.plan_job.ensures.calls
+
+pub returns-in-Err-ask_record-clause-refused_calls : goal.returns-in-Err-ask_record-clause-refused_calls
+returns-in-Err-ask_record-clause-refused_calls g c = λ source next sink after.
+    let old = g.D.Depot.shown c.args.depot.now in
+    let job = c.in-Ok-make_ready.ready.job in
+    let same = sym c.in-Ok-make_ready.ensures.job in
+    let accepted = subst (λ (j : Job). IsJob old c.args.text.now j) same c.in-Ok.ensures.job in
+    let planned = subst (λ (j : Job). HasPlan c.args.options.now j) same c.in-Ok.ensures.planned in
+    let run = case c.args.options.now c.args.text.now (scene source sink old) (scene next after (g.D.Depot.shown c.ask_record.new.depot)) in
+    let first = c.plan_job.ensures.calls in
+    let last = c.ask_record.ensures.step.calls.1 in
+    subst (ReopenWithin run) (sym c.record_answer.ensures)
+    (unfound_within run job accepted planned c.text_keys-key.result.«record» c.in-Err-ask_record.fault (omega (arith, first, last)))
+
+pub returns-then-is_own_input-clause-refused_calls : goal.returns-then-is_own_input-clause-refused_calls
+returns-then-is_own_input-clause-refused_calls g c = λ source next sink after.
+    let old = g.D.Depot.shown c.args.depot.now in
+    let job = c.in-Ok-make_ready.ready.job in
+    let same = sym c.in-Ok-make_ready.ensures.job in
+    let accepted = subst (λ (j : Job). IsJob old c.args.text.now j) same c.in-Ok.ensures.job in
+    let planned = subst (λ (j : Job). HasPlan c.args.options.now j) same c.in-Ok.ensures.planned in
+    let run = case c.args.options.now c.args.text.now (scene source sink old) (scene next after (g.D.Depot.shown c.ask_record.new.depot)) in
+    let first = c.plan_job.ensures.calls in
+    let last = c.ask_record.ensures.step.calls.1 in
+    unfound_within run job accepted planned c.text_keys-key.result.«record» record_fault.Absent (omega (arith, first, last))

@@ -1,10 +1,12 @@
-use Rattle.std.proofs.Common.{subst, sym}
+use Rattle.std.proofs.Common.{inl, subst, sym, arith}
 use Rattle.cu_command.specs.declared.status.Status.{Status}
 use Rattle.cu_command.proofs.SeenLemmas.{stepped_then}
 use Rattle.cu_top.proofs.PlannedLemmas.{refused_ran}
 use Rattle.cu_top.proofs.RunLemmas.{ask_refused, all_free}
 use Rattle.cu_top.specs.Prepare.{asked_keys}
 use Rattle.cu_top.specs.Run.{scene, case, Ran}
+use Rattle.cu_top.proofs.CallLimits.{asked_within}
+use Rattle.cu_top.specs.Calls.{RunWithin}
 use Rattle.cu_top.proofs.prepare.prepare.Goals as goal
 
 pub returns-in-Err-clause-refused : goal.returns-in-Err-clause-refused
@@ -29,3 +31,20 @@ returns-in-Err-ask_plan-clause-refused g c = λ source next sink after lack.
     subst (λ (status : Status). Ran lack run status) (sym c.answer_of.ensures)
     (ask_refused lack run c.in-Ok.prepared.job (g.D.Depot.shown c.plan_job.new.depot) c.in-Err-ask_plan.fault c.in-Ok.ensures.job c.in-Ok.ensures.planned
     c.plan_job.ensures.step c.ask_plan.ensures.step (c.in-Err-ask_plan.ensures.refused c.args.options.now c.in-Ok.ensures.plan))
+
+pub returns-in-Err-clause-refused_calls : goal.returns-in-Err-clause-refused_calls
+returns-in-Err-clause-refused_calls g c = λ source next sink after. inl c.plan_job.ensures.calls
+
+pub returns-in-Ok-ask_plan-clause-calls : goal.returns-in-Ok-ask_plan-clause-calls
+returns-in-Ok-ask_plan-clause-calls g c =
+    let planned = c.plan_job.ensures.calls in
+    let asked = c.ask_plan.ensures.calls c.args.options.now c.in-Ok.ensures.plan in
+    omega (arith, planned, asked)
+
+pub returns-in-Err-ask_plan-clause-refused_calls : goal.returns-in-Err-ask_plan-clause-refused_calls
+returns-in-Err-ask_plan-clause-refused_calls g c = λ source next sink after.
+    let run = case c.args.options.now c.args.text.now (scene source sink (g.D.Depot.shown c.args.depot.now)) (scene next after (g.D.Depot.shown c.ask_plan.new.depot)) in
+    let planned = c.plan_job.ensures.calls in
+    let asked = c.ask_plan.ensures.calls c.args.options.now c.in-Ok.ensures.plan in
+    subst (RunWithin run) (sym c.answer_of.ensures)
+    (asked_within run c.in-Ok.prepared.job c.in-Ok.ensures.job c.in-Ok.ensures.planned c.in-Err-ask_plan.fault (omega (arith, planned, asked)))

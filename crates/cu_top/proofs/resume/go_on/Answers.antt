@@ -3,9 +3,12 @@ use Rattle.cu_command.specs.Seen.{stream}
 use Rattle.cu_command.specs.declared.status.Status.{Status}
 use Rattle.cu_command.proofs.SeenLemmas.{stepped_then}
 use Rattle.cu_top.proofs.DriveLemmas.{PlanLaws, HistoryLaws, apart_run, apart_inputs, open_start}
+use Rattle.cu_command.specs.declared.status.Status.TheVariants.{Done}
+use Rattle.cu_load.proofs.AskLemmas.{if_err}
+use Rattle.cu_top.proofs.CallLimits.{if_ok, rest_driven, rest_stopped}
 use Rattle.cu_top.proofs.PlanLemmas.{meant}
 use Rattle.cu_top.proofs.ReopenLemmas.{ResumeLaws, opens, reopened, record_in, rest_refused, resume_ended, names_later}
-use Rattle.cu_top.specs.Prepare.{out_metadata}
+use Rattle.cu_top.specs.Prepare.{keys_of, out_metadata}
 use Rattle.cu_top.specs.Record.{record_text}
 use Rattle.cu_top.specs.Resume.{ResumeEnded}
 use Rattle.cu_top.specs.Run.{scene, case, plan_in}
@@ -23,6 +26,9 @@ returns-in-Err g c = record {
   ended = λ text old source next sink after found premise.
       rest_refused (case c.args.options.now text (scene source sink old) (scene next after (g.D.Depot.shown c.find_rest.new.depot))) c.args.ready.now.job (g.D.Share.yards_lack c.find_rest.new.depot)
       (g.D.Depot.shown c.args.depot.now) c.in-Err.status found.accepted found.planned found.spared c.find_rest.ensures.step c.in-Err.ensures.fault;
+  calls = tt;
+  stopped_calls = rest_stopped c.args.options.now c.args.ready.now.job c.args.ready.now.plan (keys_of c.args.options.now c.args.ready.now.job) (g.D.Depot.shown c.args.depot.now)
+      (g.D.Depot.shown c.find_rest.new.depot) c.requires.ready.plan_is c.find_rest.ensures.calls c.in-Err.status c.in-Err.ensures.fault;
 }
 
 pub drive_plan-requires-clause-apart : goal.drive_plan-requires-clause-apart
@@ -127,8 +133,14 @@ returns g c = record {
       let spared = stepped_then found.spared c.find_rest.ensures.step in
       let done = c.in-Ok.rest.memory.table.done in
       let back = reopened run job start found laws in
-      let (result, driven, answer) = c.drive_plan.ensures in
+      let (result, driven, answer) = c.drive_plan.ensures.driven in
       subst (λ (r : Result RunCounts Status). ResumeEnded lack run job r) (sym answer)
       (resume_ended run job laws now spared back (opens run job start found premise) c.in-Ok.rest.held c.in-Ok.ensures.has done lack goes histories c.in-Ok.ensures.texts c.in-Ok.ensures.found
       (names_later (plan_in run job) old start done found.spared c.in-Ok.ensures.named) result driven);
+  calls = if_ok c.drive_plan.result
+      (λ counts. rest_driven c.args.options.now c.args.ready.now.job c.args.ready.now.plan (g.D.Depot.shown c.args.depot.now) (g.D.Depot.shown c.find_rest.new.depot) (g.D.Depot.shown c.drive_plan.new.depot)
+      c.requires.ready.plan_is c.find_rest.ensures.calls c.in-Ok.rest.held c.in-Ok.ensures.has Done) c.drive_plan.ensures.calls;
+  stopped_calls = if_err c.drive_plan.result
+      (rest_driven c.args.options.now c.args.ready.now.job c.args.ready.now.plan (g.D.Depot.shown c.args.depot.now) (g.D.Depot.shown c.find_rest.new.depot) (g.D.Depot.shown c.drive_plan.new.depot)
+      c.requires.ready.plan_is c.find_rest.ensures.calls c.in-Ok.rest.held c.in-Ok.ensures.has) c.drive_plan.ensures.stopped_calls;
 }

@@ -5,6 +5,8 @@ use Rattle.cu_op.specs.PlanView.{PlanView}
 use Rattle.cu_top.proofs.ReopenLemmas.{not_reopened, resume_done, resume_unreported}
 use Rattle.cu_top.specs.Report.{report_line}
 use Rattle.cu_top.specs.Run.{scene, case}
+use Rattle.cu_command.specs.declared.status.Status.TheVariants.{Done, WriteFault}
+use Rattle.cu_top.proofs.CallLimits.{resume_refused, resume_within}
 use Rattle.cu_top.proofs.resume.resume.Goals as goal
 
 pub go_on-requires-clause-left : goal.go_on-requires-clause-left
@@ -38,3 +40,31 @@ returns-in-Ok-go_on-clause-answer g c = λ source next.
     (c.in-Ok-go_on.ensures.ended c.args.text.now start source next out after c.in-Ok.ensures.found c.requires.left) c.in-Err-report.ensures.cause
     (subst (λ (p : PlanView). (n : ℕ) × (n ≤ length (report_line p counts)) × WroteFront out.told after.told (report_line p counts) n) c.in-Ok.ensures.ready.plan_is
     c.in-Err-report.ensures.front)
+
+pub returns-in-Err-clause-calls : goal.returns-in-Err-clause-calls
+returns-in-Err-clause-calls g c = λ source next sink after.
+    resume_refused (case c.args.options.now c.args.text.now (scene source sink (g.D.Depot.shown c.args.depot.now)) (scene next after (g.D.Depot.shown c.reopen.new.depot))) c.in-Err.status
+    (c.in-Err.ensures.refused_calls source next sink after)
+
+pub returns-in-Ok-report-clause-calls : goal.returns-in-Ok-report-clause-calls
+returns-in-Ok-report-clause-calls g c = λ source next sink after.
+    let run = case c.args.options.now c.args.text.now (scene source sink (g.D.Depot.shown c.args.depot.now)) (scene next after (g.D.Depot.shown c.go_on.new.depot)) in
+    let found = c.in-Ok.ensures.found in
+    resume_within run c.in-Ok.ready.job found.accepted found.planned (g.D.Depot.shown c.reopen.new.depot) c.reopen.ensures.calls Done c.in-Ok-go_on.ensures.calls
+
+pub returns-in-Ok-go_on-clause-calls : goal.returns-in-Ok-go_on-clause-calls
+returns-in-Ok-go_on-clause-calls g c = λ source next sink after.
+    let run = case c.args.options.now c.args.text.now (scene source sink (g.D.Depot.shown c.args.depot.now)) (scene next after (g.D.Depot.shown c.go_on.new.depot)) in
+    let found = c.in-Ok.ensures.found in
+    resume_within run c.in-Ok.ready.job found.accepted found.planned (g.D.Depot.shown c.reopen.new.depot) c.reopen.ensures.calls WriteFault c.in-Ok-go_on.ensures.calls
+
+pub returns-clause-calls : goal.returns-clause-calls
+returns-clause-calls g c = λ source next sink after.
+    let run = case c.args.options.now c.args.text.now (scene source sink (g.D.Depot.shown c.args.depot.now)) (scene next after (g.D.Depot.shown c.go_on.new.depot)) in
+    let found = c.in-Ok.ensures.found in
+    resume_within run c.in-Ok.ready.job found.accepted found.planned (g.D.Depot.shown c.reopen.new.depot) c.reopen.ensures.calls c.in-Err-go_on.status c.in-Err-go_on.ensures.stopped_calls
+
+pub returns-clause-answer : goal.returns-clause-answer
+returns-clause-answer g c = λ source next.
+    let out = stream (g.W.Sink.written c.args.out.now) (g.W.Sink.faults c.args.out.now) in
+    c.in-Err-go_on.ensures.ended c.args.text.now (g.D.Depot.shown c.args.depot.now) source next out out c.in-Ok.ensures.found c.requires.left

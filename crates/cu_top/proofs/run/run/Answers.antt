@@ -6,6 +6,11 @@ use Rattle.cu_op.specs.PlanView.{PlanView}
 use Rattle.cu_top.proofs.RunLemmas.{run_done, run_unreported}
 use Rattle.cu_top.specs.Report.{report_line}
 use Rattle.cu_top.specs.Run.{scene, case, IsCleared}
+use Rattle.cu_command.specs.Seen.{WithinCalls}
+use Rattle.cu_command.specs.declared.status.Status.TheVariants.{Done, WriteFault}
+use Rattle.cu_top.proofs.CallLimits.{asked_within, run_within}
+use Rattle.cu_top.specs.Calls.{run_limits}
+use Rattle.cu_work.specs.declared.way.WayFault.TheVariants as way
 use Rattle.cu_top.proofs.run.run.Goals as goal
 
 pub make_ready-requires-clause-plain : goal.make_ready-requires-clause-plain
@@ -55,3 +60,44 @@ returns-clause-answer g c = λ source next.
     let out = stream (g.W.Sink.written c.args.out.now) (g.W.Sink.faults c.args.out.now) in
     let cleared = subst (λ (j : Job). IsCleared c.args.options.now c.args.text.now start (g.D.Depot.shown c.prepare.new.depot) j) (sym c.in-Ok-make_ready.ensures.job) c.in-Ok.ensures.cleared in
     c.in-Err-store_plan.ensures.ended c.args.text.now start source next out out cleared
+
+pub returns-in-Err-clause-calls : goal.returns-in-Err-clause-calls
+returns-in-Err-clause-calls g c = λ source next sink after. c.in-Err.ensures.refused_calls source next sink after
+
+pub returns-in-Ok-report-clause-calls : goal.returns-in-Ok-report-clause-calls
+returns-in-Ok-report-clause-calls g c = λ source next sink after.
+    let start = g.D.Depot.shown c.args.depot.now in
+    let mid = g.D.Depot.shown c.prepare.new.depot in
+    let options = c.args.options.now in
+    let job = c.in-Ok-make_ready.ready.job in
+    let run = case options c.args.text.now (scene source sink start) (scene next after (g.D.Depot.shown c.store_plan.new.depot)) in
+    let cleared = subst (λ (j : Job). IsCleared options c.args.text.now start mid j) (sym c.in-Ok-make_ready.ensures.job) c.in-Ok.ensures.cleared in
+    let first = subst (λ (j : Job). WithinCalls (run_limits options c.args.text.now j).asked start mid) (sym c.in-Ok-make_ready.ensures.job) c.in-Ok.ensures.calls in
+    run_within run job cleared.accepted cleared.planned mid first Done c.in-Ok-store_plan.ensures.calls
+
+pub returns-in-Ok-store_plan-clause-calls : goal.returns-in-Ok-store_plan-clause-calls
+returns-in-Ok-store_plan-clause-calls g c = λ source next sink after.
+    let start = g.D.Depot.shown c.args.depot.now in
+    let mid = g.D.Depot.shown c.prepare.new.depot in
+    let options = c.args.options.now in
+    let job = c.in-Ok-make_ready.ready.job in
+    let run = case options c.args.text.now (scene source sink start) (scene next after (g.D.Depot.shown c.store_plan.new.depot)) in
+    let cleared = subst (λ (j : Job). IsCleared options c.args.text.now start mid j) (sym c.in-Ok-make_ready.ensures.job) c.in-Ok.ensures.cleared in
+    let first = subst (λ (j : Job). WithinCalls (run_limits options c.args.text.now j).asked start mid) (sym c.in-Ok-make_ready.ensures.job) c.in-Ok.ensures.calls in
+    run_within run job cleared.accepted cleared.planned mid first WriteFault c.in-Ok-store_plan.ensures.calls
+
+pub returns-clause-calls : goal.returns-clause-calls
+returns-clause-calls g c = λ source next sink after.
+    let start = g.D.Depot.shown c.args.depot.now in
+    let mid = g.D.Depot.shown c.prepare.new.depot in
+    let options = c.args.options.now in
+    let job = c.in-Ok-make_ready.ready.job in
+    let run = case options c.args.text.now (scene source sink start) (scene next after (g.D.Depot.shown c.store_plan.new.depot)) in
+    let cleared = subst (λ (j : Job). IsCleared options c.args.text.now start mid j) (sym c.in-Ok-make_ready.ensures.job) c.in-Ok.ensures.cleared in
+    let first = subst (λ (j : Job). WithinCalls (run_limits options c.args.text.now j).asked start mid) (sym c.in-Ok-make_ready.ensures.job) c.in-Ok.ensures.calls in
+    run_within run job cleared.accepted cleared.planned mid first c.in-Err-store_plan.status c.in-Err-store_plan.ensures.stopped_calls
+
+pub returns-in_default-clause-calls : goal.returns-in_default-clause-calls
+returns-in_default-clause-calls g c = λ source next sink after.
+    let run = case c.args.options.now c.args.text.now (scene source sink (g.D.Depot.shown c.args.depot.now)) (scene next after (g.D.Depot.shown c.prepare.new.depot)) in
+    asked_within run c.in-Ok.prepared.job c.in-Ok.ensures.cleared.accepted c.in-Ok.ensures.cleared.planned way.NoMemory c.in-Ok.ensures.calls

@@ -112,9 +112,11 @@ returns g c = record {
       } in
       let none : c.in-Ok-make.memory.table.done ≡ none_done (job_run run job).plan =
       ap (λ (t : TableView). t.done) c.in-Ok-make.ensures.memory.table ∙ c.deref.ensures.value ∙ c.in-Ok.ensures.none ∙ ap none_done c.requires.ready.plan_is in
-      let (result, driven, answer) = subst (λ (done : List Bool). WasDriven (drive_case options (job_run run job) Neither done lack (start, now)) c.drive_plan.result) none c.drive_plan.ensures in
+      let (result, driven, answer) = subst (λ (done : List Bool). WasDriven (drive_case options (job_run run job) Neither done lack (start, now)) c.drive_plan.result) none c.drive_plan.ensures.driven in
       subst (λ (r : Result RunCounts Status). Ended lack run job r) (sym answer) (run_ended run job laws start cleared lack histories c.count_law.ensures.fresh result driven);
   stopped =
-      let (result, driven, answer) = c.drive_plan.ensures in
+      let (result, driven, answer) = c.drive_plan.ensures.driven in
       subst (λ (r : Result RunCounts Status). IfErr r IsStop) (sym answer) (stopped_of _ result);
+  calls = c.drive_plan.ensures.calls;
+  stopped_calls = c.drive_plan.ensures.stopped_calls;
 }

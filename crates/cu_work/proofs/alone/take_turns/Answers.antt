@@ -7,6 +7,7 @@ use Rattle.cu_table.specs.Step.{Settings}
 use Rattle.cu_table.specs.Table.{TableView, Goes, start_event, end_of, report_kind, is_late, KeepsFault}
 use Rattle.cu_work.specs.Alone.{HasRun, HasSeenDone, Tried}
 use Rattle.cu_work.proofs.AloneTurns.{ran_first, nobody_runs, turn_task, turn_inputs, turn_runs, turn_on_time, turn_done, fewer_left, finished_decided, halted_decided}
+use Rattle.cu_work.proofs.AloneTries.{tried_first, tried_more, tried_calls}
 use Rattle.cu_work.proofs.alone.take_turns.Goals as goal
 
 pub loop-op-init : goal.loop-op-init
@@ -14,6 +15,7 @@ loop-op-init g c = record {
   own = c.requires.own;
   ran = ran_first (g.Y.Yard.serves c.args.yard.now) c.args.table.now (g.Y.Yard.knows c.args.pass.now) c.history-history.ensures.legal c.requires.fresh
       (subst (λ (p : PlanView). HasSeenDone p c.args.table.now.state (g.Y.Yard.knows c.args.pass.now).seen) (sym c.requires.plan) c.requires.seen);
+  tried = tried_first c.args.table.now (g.Y.Yard.knows c.args.pass.now) c.requires.fresh;
 }
 
 pub claim-requires : goal.claim-requires
@@ -77,6 +79,9 @@ loop-op-preserved g c =
           (subst (λ (p : PlanView). Tried p c.in-Run.op c.in-Run.task yard (k, l) r) (sym c.requires.plan) c.try_in_yard-ended.ensures.tried)
           (subst (λ (b : Bool). Goes u v (end_of (report_kind b r) 0 c.in-Run.op c.in-Run.task)) late c.report.ensures.reported.0)
           (subst (λ (b : Bool). KeepsFault (report_kind b r) r v.state) late c.report.ensures.reported.1);
+      tried = tried_more yard first t u v old (k, l) c.in-Run.op c.in-Run.task c.loop-op.invariant.ran c.in-Run.ensures.answer.0 r
+          (subst (λ (p : PlanView). Tried p c.in-Run.op c.in-Run.task yard (k, l) r) (sym c.requires.plan) c.try_in_yard-ended.ensures.tried)
+          (subst (λ (b : Bool). Goes u v (end_of (report_kind b r) 0 c.in-Run.op c.in-Run.task)) late c.report.ensures.reported.0) c.loop-op.invariant.tried;
     }
 
 pub unreachable-requires : goal.unreachable-requires
@@ -120,3 +125,15 @@ pub returns-in-Halted-clause-decided : goal.returns-in-Halted-clause-decided
 returns-in-Halted-clause-decided g c =
     halted_decided c.args.plan.now c.args.table.now.settings.plan (g.Y.Yard.serves c.args.yard.now) (shown_by (g.Y.Yard.knows c.loop-op.pass)) c.loop-op.table c.claim.new.self c.in-Halted.fault
     c.halt_outcome.result c.halt_outcome.ensures c.in-Halted.ensures.answer.0 (c.loop-op.invariant.ran.cause c.in-Halted.fault c.in-Halted.ensures.answer.1) c.in-Halted.ensures.answer.1
+
+pub returns-in-Finished-clause-tries : goal.returns-in-Finished-clause-tries
+returns-in-Finished-clause-tries g c =
+    tried_calls c.args.table.now c.loop-op.table (g.Y.Yard.knows c.args.pass.now) (g.Y.Yard.knows c.loop-op.pass) c.args.plan.now c.requires.plan c.loop-op.invariant.tried
+
+pub returns-in-Broken-clause-tries : goal.returns-in-Broken-clause-tries
+returns-in-Broken-clause-tries g c =
+    tried_calls c.args.table.now c.loop-op.table (g.Y.Yard.knows c.args.pass.now) (g.Y.Yard.knows c.loop-op.pass) c.args.plan.now c.requires.plan c.loop-op.invariant.tried
+
+pub returns-in-Halted-clause-tries : goal.returns-in-Halted-clause-tries
+returns-in-Halted-clause-tries g c =
+    tried_calls c.args.table.now c.loop-op.table (g.Y.Yard.knows c.args.pass.now) (g.Y.Yard.knows c.loop-op.pass) c.args.plan.now c.requires.plan c.loop-op.invariant.tried

@@ -73,3 +73,9 @@ returns-in-Err-run_tasks-clause-unstored g c = λ env left.
 pub returns-in-Err-run_tasks-clause-refused : goal.returns-in-Err-run_tasks-clause-refused
 returns-in-Err-run_tasks-clause-refused g c =
     share_refused c.args.plan.now c.args.texts.now c.args.held (c.args.options.now.retries + 1) (g.D.Depot.shown c.args.depot.now) (g.D.Depot.shown c.put_texts.new.depot) c.put_texts.ensures.step c.put_texts.ensures.own (g.D.Depot.shown c.run_tasks.new.depot) c.in-Err-run_tasks.ensures.refused
+
+pub returns-in-Ok-clause-tries : goal.returns-in-Ok-clause-tries
+returns-in-Ok-clause-tries g c = λ alone m most.
+    let texts = c.put_texts.ensures.own.calls.1 in
+    let tasks = c.in-Ok.ensures.tries alone m most in
+    omega (arith, texts, tasks)
