@@ -5,7 +5,7 @@ use crate::loops::{Trial, run_loops};
 use crate::script::script_of;
 use anyhow::{Result, bail};
 use cu_mem::MemDepot;
-use cu_rows::{Findings, Place, Said, Texts, refuse_others};
+use cu_rows::{CasePlace, Findings, NamedTexts, Said, refuse_others};
 use cu_watch::Watched;
 use serde_json::Value;
 use std::sync::Wait;
@@ -40,7 +40,7 @@ const MEMBERS: [&str; 22] = [
 /// Runs a case: each of its rows over a depot of its own, or the one row that it is.
 pub(crate) fn run_calls(
     threads: &(impl Threads + Wait + Sync),
-    texts: &Texts<'_>,
+    texts: &NamedTexts<'_>,
     said: &Said<'_>,
     name: &str,
     findings: &mut Findings,
@@ -64,7 +64,7 @@ pub(crate) fn run_calls(
 /// Runs a row: its steps, one after another over one depot, or the one call that it is and its loops.
 fn run_row(
     threads: &(impl Threads + Wait + Sync),
-    texts: &Texts<'_>,
+    texts: &NamedTexts<'_>,
     said: &Said<'_>,
     name: &str,
     row: u64,
@@ -102,7 +102,7 @@ fn run_row(
 /// Runs steps, each of which finds what the ones before have left.
 fn run_steps(
     threads: &(impl Threads + Wait + Sync),
-    texts: &Texts<'_>,
+    texts: &NamedTexts<'_>,
     said: &Said<'_>,
     contents: Vec<Content>,
     steps: &[Value],
@@ -133,7 +133,7 @@ fn run_call(
 ) -> Result<()> {
     let script = script_of(said.list("faults")?, said.number("stop_after")?)?;
     depot.depot.set_script(script);
-    let place = Place {
+    let place = CasePlace {
         case: name,
         row,
         what: "call",
@@ -154,7 +154,7 @@ fn run_call(
 }
 
 /// What the depot holds before the first call.
-fn contents_in(texts: &Texts<'_>, said: &Said<'_>) -> Result<Vec<Content>> {
+fn contents_in(texts: &NamedTexts<'_>, said: &Said<'_>) -> Result<Vec<Content>> {
     let mut contents = Vec::new(texts.alloc);
     add_contents(&mut contents, texts, said.list("holds")?, false)?;
     Ok(contents)

@@ -5,7 +5,9 @@ ghost use Rattle.cu_cases.specs.Late.{MayCall, is_resume};
 use anyhow::{Result, bail};
 use cu_gates::{Awaited, Held, Meeting};
 use cu_mem::{MemDepot, MemSink, MemSource, Script};
-use cu_rows::{Findings, Place, Said, Texts, key_of, list_of, number_of, pair_of, text_of};
+use cu_rows::{
+    CasePlace, Findings, NamedTexts, Said, key_of, list_of, number_of, pair_of, text_of,
+};
 use cu_store::{Depot, Got, Key, Share};
 use cu_top::{Status, number, status_line, top};
 use cu_watch::Watched;
@@ -94,7 +96,7 @@ const ROOM: u64 = 10_000;
 impl<'a> Case<'a> {
     /// The call that a table says, over a depot with these contents.
     pub(crate) fn read(
-        texts: &Texts<'_>,
+        texts: &NamedTexts<'_>,
         said: &Said<'a>,
         mut contents: Vec<Content>,
     ) -> Result<Case<'a>> {
@@ -170,7 +172,7 @@ impl<'a> Case<'a> {
         depot: &mut Watched<MemDepot>,
         room: u64,
         wanted: &Wanted<'_>,
-        place: &Place<'_>,
+        place: &CasePlace<'_>,
         findings: &mut Findings,
     ) -> Result<()> {
         if !depot.depot.none_late() {
@@ -192,7 +194,7 @@ impl<'a> Case<'a> {
         depot: &mut D,
         room: u64,
         wanted: &Wanted<'_>,
-        place: &Place<'_>,
+        place: &CasePlace<'_>,
         findings: &mut Findings,
     ) -> Result<()>
         requires { MayCall (map string_bytes self.now.words.items) (D.shown depot.old).held (D.shown depot.old).late }
@@ -232,7 +234,7 @@ impl<'a> Case<'a> {
     pub(crate) fn read_back<D: Depot>(
         &self,
         depot: &mut D,
-        place: &Place<'_>,
+        place: &CasePlace<'_>,
         findings: &mut Findings,
     ) -> Result<()> {
         for content in self.contents.iter().skip(self.before) {
@@ -281,7 +283,7 @@ impl<'a> Case<'a> {
         &self,
         depot: &Watched<MemDepot>,
         stored: usize,
-        place: &Place<'_>,
+        place: &CasePlace<'_>,
         findings: &mut Findings,
     ) -> Result<()> {
         for content in &self.contents {
@@ -296,7 +298,7 @@ impl<'a> Case<'a> {
         &self,
         depot: &Watched<MemDepot>,
         stored: usize,
-        place: &Place<'_>,
+        place: &CasePlace<'_>,
         findings: &mut Findings,
     ) -> Result<()> {
         let Some(calls) = depot.calls() else {
@@ -316,7 +318,7 @@ impl<'a> Case<'a> {
         key: &Key,
         depot: &Watched<MemDepot>,
         stored: usize,
-        place: &Place<'_>,
+        place: &CasePlace<'_>,
         findings: &mut Findings,
     ) -> Result<()> {
         let found = depot.depot.lookup(key);
@@ -359,7 +361,7 @@ fn expect_status(
     alloc: Global,
     status: &Status,
     wanted: &Wanted<'_>,
-    place: &Place<'_>,
+    place: &CasePlace<'_>,
     findings: &mut Findings,
 ) -> Result<()> {
     let text = status_line(status);
@@ -373,7 +375,7 @@ fn expect_status(
 /// The contents that a list of pairs says, each of a key and its bytes, or `null` where it is absent.
 pub(crate) fn add_contents(
     contents: &mut Vec<Content>,
-    texts: &Texts<'_>,
+    texts: &NamedTexts<'_>,
     list: &[Value],
     is_optional: bool,
 ) -> Result<()> {

@@ -2,7 +2,7 @@
 
 use anyhow::{Result, bail};
 use cu_dir::DirDepot;
-use cu_rows::{Findings, Place, Said, Texts, key_of, refuse_others};
+use cu_rows::{CasePlace, Findings, NamedTexts, Said, key_of, refuse_others};
 use cu_store::{Depot, DepotFault, Got, Key};
 use std::alloc::Global;
 use std::fs;
@@ -16,7 +16,7 @@ const FOLDER: &str = "folder_of_calls";
 /// of this length must have then. Each may answer `failed`.
 pub(crate) fn run_depot<R: Files + AllocGlobal + Clone + Drop>(
     rt: &R,
-    texts: &Texts<'_>,
+    texts: &NamedTexts<'_>,
     said: &Said<'_>,
     name: &str,
     findings: &mut Findings,
@@ -38,7 +38,7 @@ pub(crate) fn run_depot<R: Files + AllocGlobal + Clone + Drop>(
         let must = said.text("answer")?.as_bytes();
         findings.made();
         findings.expect(
-            &Place::row(name, at),
+            &CasePlace::row(name, at),
             key.text(),
             is.as_str().as_bytes(),
             must,

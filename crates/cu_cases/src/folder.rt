@@ -4,8 +4,8 @@ use crate::case::{Case, add_contents};
 use crate::script::small;
 use anyhow::{Result, bail};
 use cu_dir::DirDepot;
-use cu_failing::{Failing, Span};
-use cu_rows::{Findings, Place, Said, Texts, refuse_others};
+use cu_failing::{Failing, FailingCalls};
+use cu_rows::{CasePlace, Findings, NamedTexts, Said, refuse_others};
 use std::fs;
 use std::rt::Files;
 use std::sync::Wait;
@@ -44,7 +44,7 @@ const MEMBERS: [&str; 19] = [
 pub(crate) fn run_folder(
     rt: &HostRuntime,
     threads: &(impl Threads + Wait + Sync),
-    texts: &Texts<'_>,
+    texts: &NamedTexts<'_>,
     said: &Said<'_>,
     name: &str,
     findings: &mut Findings,
@@ -58,7 +58,7 @@ pub(crate) fn run_folder(
     for (at, row) in said.list("steps")?.iter().enumerate() {
         refuse_others(row, &MEMBERS)?;
         let said = Said { row, ..*said };
-        let place = Place {
+        let place = CasePlace {
             case: name,
             row: at as u64,
             what: "call",
@@ -73,10 +73,10 @@ pub(crate) fn run_folder(
 /// Makes a call over what a folder holds, of which some calls fail, and reads back what it has left.
 fn run_step(
     threads: &(impl Threads + Wait + Sync),
-    texts: &Texts<'_>,
+    texts: &NamedTexts<'_>,
     said: &Said<'_>,
     depot: &mut Failing<DirDepot<HostRuntime>>,
-    place: &Place<'_>,
+    place: &CasePlace<'_>,
     findings: &mut Findings,
 ) -> Result<()> {
     let mut held = Vec::new(texts.alloc);
@@ -90,15 +90,15 @@ fn run_step(
 }
 
 /// The calls that fail.
-fn span_of(said: &Said<'_>) -> Result<Span> {
+fn span_of(said: &Said<'_>) -> Result<FailingCalls> {
     let times = said.number("fail_times")?.unwrap_or(u64::MAX);
     let land = match said.number("land")? {
         None => None,
         Some(wait) => Some(small(wait)?),
     };
     Ok(match said.number("fail_from")? {
-        Some(first) => Span { first, times, land },
+        Some(first) => FailingCalls { first, times, land },
         None if land.is_some() => bail!("no put fails that is to land"),
-        None => Span::none(),
+        None => FailingCalls::none(),
     })
 }

@@ -6,7 +6,7 @@ ghost use Rattle.cu_mem.specs.Script.{LandsOnce};
 use crate::case::{Case, Wanted};
 use anyhow::{Result, bail};
 use cu_mem::{CallKind, MemDepot, Rule, Script};
-use cu_rows::{Findings, Place, Said, Texts, list_of, number_of, refuse_others, text_of};
+use cu_rows::{CasePlace, Findings, NamedTexts, Said, list_of, number_of, refuse_others, text_of};
 use cu_watch::{LoggedCall, Watched};
 use serde_json::Value;
 use std::sync::Wait;
@@ -33,7 +33,7 @@ pub(crate) fn run_loops(
     threads: &(impl Threads + Wait + Sync),
     trial: &Trial<'_>,
     again: &Case<'_>,
-    texts: &Texts<'_>,
+    texts: &NamedTexts<'_>,
     value: &Value,
     findings: &mut Findings,
 ) -> Result<()> {
@@ -67,7 +67,7 @@ impl Trial<'_> {
         script: Script,
         room: u64,
         wanted: &Wanted<'_>,
-        place: &Place<'_>,
+        place: &CasePlace<'_>,
         findings: &mut Findings,
     ) -> Result<Watched<MemDepot>>
         requires { LandsOnce script.rules.items }
@@ -79,8 +79,8 @@ impl Trial<'_> {
         Ok(depot)
     }
 
-    fn place<'b>(&'b self, what: &'b str, number: usize) -> Place<'b> {
-        Place {
+    fn place<'b>(&'b self, what: &'b str, number: usize) -> CasePlace<'b> {
+        CasePlace {
             case: self.name,
             row: self.row,
             what,
@@ -169,7 +169,7 @@ impl Trial<'_> {
     fn each_again(
         &self,
         threads: &(impl Threads + Wait + Sync),
-        texts: &Texts<'_>,
+        texts: &NamedTexts<'_>,
         once: &Value,
         late: u64,
         findings: &mut Findings,
@@ -311,7 +311,7 @@ fn run_again(
     depot: &mut Watched<MemDepot>,
     first: &Wanted<'_>,
     second: &[Value],
-    place: &Place<'_>,
+    place: &CasePlace<'_>,
     findings: &mut Findings,
 ) -> Result<()> {
     let line = match second {
@@ -332,7 +332,7 @@ fn run_again(
             stored: first.stored,
         }
     };
-    let place = Place {
+    let place = CasePlace {
         case: place.case,
         row: place.row,
         what: "a second call after the end at call",

@@ -12,7 +12,7 @@ mod script;
 use anyhow::{Context, Result, bail};
 use calls::run_calls;
 use cu_rows::{
-    Findings, Said, Texts, list_of, refuse_others, run_expressions, run_keys, run_metadata,
+    Findings, NamedTexts, Said, list_of, refuse_others, run_expressions, run_keys, run_metadata,
     run_promotions, run_regions, run_scalars, run_shapes, run_turns, run_typing, run_zarray,
     text_of,
 };
@@ -31,7 +31,7 @@ fn run_case(
     rt: &HostRuntime,
     threads: &(impl Threads + Wait + Sync),
     kind: &str,
-    texts: &Texts<'_>,
+    texts: &NamedTexts<'_>,
     said: &Said<'_>,
     name: &str,
     findings: &mut Findings,
@@ -64,7 +64,7 @@ fn run_table(
 ) -> Result<()> {
     refuse_others(table, &["kind", "texts", "shared", "cases"])?;
     let nothing = Value::Null;
-    let texts = Texts {
+    let texts = NamedTexts {
         alloc: rt.alloc(),
         named: table.get("texts").unwrap_or(&nothing),
     };

@@ -5,11 +5,17 @@ ghost use Rattle.cu_cells.specs.Layout.{flag_count, first_word, cell_size, value
 ghost use Rattle.cu_cells.specs.Cells.{IsLaidCell};
 ghost use Rattle.cu_cells.specs.Rule.{IsIn, HasStored, KnowsCell};
 
-use crate::steps::{Place, Words, load_word, look, set_flag, store_word};
+use crate::steps::{CellSeat, Words, load_word, look, set_flag, store_word};
 use crate::words::{lay_last, lay_word, word_at};
 
 /// Stores the words of a cell.
-pub(crate) fn store_cell(words: &Words, seat: &mut Place, cell: usize, first: usize, bytes: &[u8])
+pub(crate) fn store_cell(
+    words: &Words,
+    seat: &mut CellSeat,
+    cell: usize,
+    first: usize,
+    bytes: &[u8],
+)
     requires seat { (seat.old.table_id ≡ words.now.table_id) × (seat.old.me.1 ≡ []) × (seat.old.me.0.live ≡ true) }
     requires laid { seat.old.me.0.laid ≡ words.now.key }
     requires sized { words.now.table_id.words ≡ word_total words.now.key }
@@ -27,7 +33,7 @@ pub(crate) fn store_cell(words: &Words, seat: &mut Place, cell: usize, first: us
 
 /// Puts a cell: where its flag isn't set, stores its words and then sets it, so that whoever finds
 /// the flag set finds the words.
-pub(crate) fn put_cell(words: &Words, seat: &mut Place, cell: usize, first: usize, bytes: &[u8])
+pub(crate) fn put_cell(words: &Words, seat: &mut CellSeat, cell: usize, first: usize, bytes: &[u8])
     requires seat { (seat.old.table_id ≡ words.now.table_id) × (seat.old.me.1 ≡ []) × (seat.old.me.0.live ≡ true) }
     requires laid { seat.old.me.0.laid ≡ words.now.key }
     requires sized { words.now.table_id.words ≡ word_total words.now.key }
@@ -46,7 +52,7 @@ pub(crate) fn put_cell(words: &Words, seat: &mut Place, cell: usize, first: usiz
 }
 
 /// The word of this number of a cell that was seen, or whose words the seat has stored.
-fn cell_word(words: &Words, seat: &mut Place, cell: usize, first: usize, k: usize) -> u64
+fn cell_word(words: &Words, seat: &mut CellSeat, cell: usize, first: usize, k: usize) -> u64
     requires seat { (seat.old.table_id ≡ words.now.table_id) × (seat.old.me.1 ≡ []) × (seat.old.me.0.live ≡ true) }
     requires laid { seat.old.me.0.laid ≡ words.now.key }
     requires known { KnowsCell seat.old.me.0 cell }
@@ -63,7 +69,13 @@ fn cell_word(words: &Words, seat: &mut Place, cell: usize, first: usize, k: usiz
 
 /// Copies the bytes of a cell that was seen, or whose words the seat has stored, as many as `buf`
 /// has: each eight from one word.
-pub(crate) fn get_cell(words: &Words, seat: &mut Place, cell: usize, first: usize, buf: &mut [u8])
+pub(crate) fn get_cell(
+    words: &Words,
+    seat: &mut CellSeat,
+    cell: usize,
+    first: usize,
+    buf: &mut [u8],
+)
     requires seat { (seat.old.table_id ≡ words.now.table_id) × (seat.old.me.1 ≡ []) × (seat.old.me.0.live ≡ true) }
     requires laid { seat.old.me.0.laid ≡ words.now.key }
     requires known { KnowsCell seat.old.me.0 cell }

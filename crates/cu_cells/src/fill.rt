@@ -9,16 +9,16 @@ ghost use Rattle.cu_cells.specs.Yard.{served_by, known_of, known_entries, script
 
 use crate::cells::get_cell;
 use crate::late::{LateCell, LatePut};
-use crate::shared::{CellPass, Cells, Entry};
+use crate::shared::{CellPass, Cells, ReadBytes};
 use cu_store::Got;
 use std::snapshot::Snapshot;
 
 /// Gives an entry its content.
-fn set_entry(entries: &mut Vec<Entry>, at: usize, bytes: Vec<u8>)
+fn set_entry(entries: &mut Vec<ReadBytes>, at: usize, bytes: Vec<u8>)
     requires { at < length entries.old.items }
     ensures { entries.new.items ≡ slice_set entries.old.items at (Some bytes.items) }
 {
-    entries[at] = Entry { bytes: Some(bytes) };
+    entries[at] = ReadBytes { bytes: Some(bytes) };
 }
 
 impl Cells {

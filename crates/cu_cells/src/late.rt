@@ -3,7 +3,7 @@ ghost use Rattle.std.specs.Prelude.{◌≡◌, ◌<◌, ◌≤◌, ◌++◌, ◌
 ghost use Rattle.cu_cells.specs.Layout.{word_total};
 ghost use Rattle.cu_cells.specs.Late.{AreStored, IsPutOff, behind, cells_waiting, landed_by, with_late};
 
-use crate::steps::{Place, Words, land_flag};
+use crate::steps::{CellSeat, Words, land_flag};
 use arrayvec::ArrayVec;
 use cu_store::Key;
 
@@ -29,7 +29,7 @@ pub(crate) type LateCells = ArrayVec<LateCell, 8>;
 
 /// A call begins: the flags are set that wait for no further call, and the others wait for one call
 /// less.
-pub(crate) fn land_due(words: &Words, seat: &mut Place, late: &mut LateCells)
+pub(crate) fn land_due(words: &Words, seat: &mut CellSeat, late: &mut LateCells)
     requires seat { (seat.old.table_id ≡ words.now.table_id) × (seat.old.me.1 ≡ []) × (seat.old.me.0.live ≡ true) }
     requires laid { seat.old.me.0.laid ≡ words.now.key }
     requires sized { words.now.table_id.words ≡ word_total words.now.key }
@@ -46,7 +46,7 @@ pub(crate) fn land_due(words: &Words, seat: &mut Place, late: &mut LateCells)
 }
 
 /// Sets the flag of a cell that is due. It has landed then.
-fn land_one(words: &Words, seat: &mut Place, late: &LateCell)
+fn land_one(words: &Words, seat: &mut CellSeat, late: &LateCell)
     requires seat { (seat.old.table_id ≡ words.now.table_id) × (seat.old.me.1 ≡ []) × (seat.old.me.0.live ≡ true) }
     requires laid { seat.old.me.0.laid ≡ words.now.key }
     requires sized { words.now.table_id.words ≡ word_total words.now.key }

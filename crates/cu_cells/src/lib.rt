@@ -16,8 +16,8 @@ mod words;
 mod yard;
 
 pub use late::{LateCell, LatePut};
-pub use layout::Layout;
+pub use layout::CellLayout;
 pub use places::Places;
 pub use rule::{CellsRule, View};
 pub use script::{CallKind, Counted, Fate, Rule, Running, Script, same_key};
-pub use shared::{CellPass, Cells, Entry};
+pub use shared::{CellPass, Cells, ReadBytes};

@@ -8,10 +8,10 @@ ghost use Rattle.cu_cells.specs.Script.{empty_script};
 ghost use Rattle.cu_cells.specs.Starts.{starts_from};
 ghost use Rattle.cu_cells.specs.Yard.{served_by, known_of, known_entries, script_of, waits_of, landed_of, room_size, IsOwnPass};
 
-use crate::layout::Layout;
+use crate::layout::CellLayout;
 use crate::places::places_of;
 use crate::script::{Running, Script};
-use crate::shared::{CellPass, Cells, Entry};
+use crate::shared::{CellPass, Cells, ReadBytes};
 use arrayvec::ArrayVec;
 use atomic_table::Table;
 use cu_store::{NoMemory, Promise, Spec};
@@ -56,13 +56,13 @@ fn starts_of(alloc: Global, specs: &[Spec]) -> Result<(Vec<usize>, usize), NoMem
 }
 
 /// As many entries of which none is filled.
-fn no_entries(alloc: Global, count: usize) -> Result<Vec<Entry>, NoMemory>
+fn no_entries(alloc: Global, count: usize) -> Result<Vec<ReadBytes>, NoMemory>
     ensures { IfOk result (λ v. v.items ≡ replicate count None) }
 {
     let mut entries = Vec::new(alloc);
     for at in 0..count {
         let _at = at;
-        if entries.push(Entry { bytes: None }).is_err() {
+        if entries.push(ReadBytes { bytes: None }).is_err() {
             return Err(NoMemory);
         }
     }
@@ -128,7 +128,7 @@ impl Cells {
         let Ok(words) = vec![in alloc; 0u64; total + 1] else {
             return Err(NoMemory);
         };
-        let layout = Layout {
+        let layout = CellLayout {
             specs: copied(alloc, specs)?,
             promise: Snapshot::of(promise),
         };

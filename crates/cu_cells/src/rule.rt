@@ -1,7 +1,7 @@
 //! The rule of cells, what a seat knows, and what its steps tell.
 ghost use Rattle.cu_cells.specs.Rule.{KeepsPromise, opening_view, spent_view, both_views, StoresWord, SeesCell, LandsCell, LooksAt, ReadsWord};
 
-use crate::layout::Layout;
+use crate::layout::CellLayout;
 use atomic_table::{Join, Play, Split, TableRule};
 use std::marker::Model;
 
@@ -9,7 +9,7 @@ use std::marker::Model;
 /// failed puts that have landed, and the words that it has stored. Only proofs read it.
 pub struct View {
     live: bool,
-    layout: Layout,
+    layout: CellLayout,
     seen: Vec<usize>,
     landed: Vec<usize>,
     stored: Vec<usize>,
@@ -26,7 +26,7 @@ impl Model for View {
 /// The rule.
 pub struct CellsRule;
 
-impl<S> TableRule<S, View, Layout> for CellsRule {
+impl<S> TableRule<S, View, CellLayout> for CellsRule {
     ghost holds = { KeepsPromise };
 
     ghost first = { opening_view };

@@ -5,7 +5,7 @@ ghost use Rattle.cu_cells.specs.Script.{LandsOnce, progress, started};
 ghost use Rattle.cu_cells.specs.Yard.{served_by, known_of, script_of, waits_of, landed_of, room_size, IsHandOf, IsOwnPass};
 
 use crate::late::LateCells;
-use crate::layout::Layout;
+use crate::layout::CellLayout;
 use crate::places::Places;
 use crate::rule::{CellsRule, View};
 use crate::script::{Running, Script};
@@ -17,11 +17,11 @@ use std::snapshot::Snapshot;
 
 /// The bytes of a key that is only read, or None where nothing is held.
 #[derive(Drop)]
-pub struct Entry {
+pub struct ReadBytes {
     pub(crate) bytes: Option<Vec<u8>>,
 }
 
-impl Model for Entry {
+impl Model for ReadBytes {
     ghost use Rattle.std.specs.Prelude.{List, ℕ, Option, option_map};
 
     ghost Value = { Option (List ℕ) };
@@ -34,12 +34,12 @@ impl Model for Entry {
 /// end without taking memory.
 #[derive(Drop)]
 pub struct Cells {
-    pub(crate) layout: Layout,
+    pub(crate) layout: CellLayout,
     pub(crate) places: Places,
     pub(crate) starts: Vec<usize>,
-    pub(crate) entries: Vec<Entry>,
+    pub(crate) entries: Vec<ReadBytes>,
     pub(crate) rooms: Vec<Vec<u8>>,
-    pub(crate) table: Table<u8, View, Layout, CellsRule, Global>,
+    pub(crate) table: Table<u8, View, CellLayout, CellsRule, Global>,
 }
 
 /// What a worker knows of cells, its counts, the script that says which of its calls fail, and what
@@ -47,7 +47,7 @@ pub struct Cells {
 #[derive(Drop)]
 pub struct CellPass {
     pub(crate) seat: Seat<u8, View>,
-    pub(crate) entries: Snapshot<Vec<Entry>>,
+    pub(crate) entries: Snapshot<Vec<ReadBytes>>,
     pub(crate) script: Running,
     pub(crate) late: LateCells,
     pub(crate) faults: u64,
@@ -56,7 +56,7 @@ pub struct CellPass {
 
 impl Cells {
     /// The keys and their promise.
-    pub fn layout(&self) -> &Layout
+    pub fn layout(&self) -> &CellLayout
         ensures specs { result.now.specs ≡ (served_by self.now).specs }
         ensures promise { (served_by self.now).promise ≡ Some (bytes_under result.now.promise) }
     {

@@ -6,18 +6,18 @@ ghost use Rattle.cu_cells.specs.Rule.{HasStored, IsIn, both_views, StoresWord, S
 ghost use Rattle.atomic_table.specs.Table.{step};
 ghost use mathlib.Core.Option.{none};
 
-use crate::layout::Layout;
+use crate::layout::CellLayout;
 use crate::rule::{CellsRule, Lands, Looks, Reads, Same, Sets, Stores, View};
 use atomic_table::{Seat, Shared};
 
 /// The words of cells as threads see them.
-pub(crate) type Words = Shared<u8, View, Layout, CellsRule>;
+pub(crate) type Words = Shared<u8, View, CellLayout, CellsRule>;
 
 /// A seat at these words.
-pub(crate) type Place = Seat<u8, View>;
+pub(crate) type CellSeat = Seat<u8, View>;
 
 /// Stores a data word with its promised value.
-pub(crate) fn store_word(words: &Words, seat: &mut Place, word: usize, value: u64)
+pub(crate) fn store_word(words: &Words, seat: &mut CellSeat, word: usize, value: u64)
     requires seat { (seat.old.table_id ≡ words.now.table_id) × (seat.old.me.1 ≡ []) × (seat.old.me.0.live ≡ true) }
     requires sized { words.now.table_id.words ≡ word_total words.now.key }
     requires data_word { (flag_count words.now.key ≤ word) × (word < word_total words.now.key) }
@@ -29,7 +29,7 @@ pub(crate) fn store_word(words: &Words, seat: &mut Place, word: usize, value: u6
 }
 
 /// Sets the flag of a cell, each word of which the seat has stored.
-pub(crate) fn set_flag(words: &Words, seat: &mut Place, cell: usize)
+pub(crate) fn set_flag(words: &Words, seat: &mut CellSeat, cell: usize)
     requires seat { (seat.old.table_id ≡ words.now.table_id) × (seat.old.me.1 ≡ []) × (seat.old.me.0.live ≡ true) }
     requires sized { words.now.table_id.words ≡ word_total words.now.key }
     requires cell { cell < flag_count words.now.key }
@@ -43,7 +43,7 @@ pub(crate) fn set_flag(words: &Words, seat: &mut Place, cell: usize)
 
 /// Sets the flag of the cell of a failed put, each word of which the seat has stored. It has landed
 /// then.
-pub(crate) fn land_flag(words: &Words, seat: &mut Place, cell: usize)
+pub(crate) fn land_flag(words: &Words, seat: &mut CellSeat, cell: usize)
     requires seat { (seat.old.table_id ≡ words.now.table_id) × (seat.old.me.1 ≡ []) × (seat.old.me.0.live ≡ true) }
     requires sized { words.now.table_id.words ≡ word_total words.now.key }
     requires cell { cell < flag_count words.now.key }
@@ -56,7 +56,7 @@ pub(crate) fn land_flag(words: &Words, seat: &mut Place, cell: usize)
 }
 
 /// Whether the flag of a cell is set. Then it was seen.
-pub(crate) fn look(words: &Words, seat: &mut Place, cell: usize) -> bool
+pub(crate) fn look(words: &Words, seat: &mut CellSeat, cell: usize) -> bool
     requires seat { (seat.old.table_id ≡ words.now.table_id) × (seat.old.me.1 ≡ []) × (seat.old.me.0.live ≡ true) }
     requires laid { seat.old.me.0.laid ≡ words.now.key }
     requires sized { words.now.table_id.words ≡ word_total words.now.key }
@@ -73,7 +73,7 @@ pub(crate) fn look(words: &Words, seat: &mut Place, cell: usize) -> bool
 
 /// The value of a data word, which is the promised one where the word is of a cell that was seen,
 /// or the seat has stored it.
-pub(crate) fn load_word(words: &Words, seat: &mut Place, word: usize) -> u64
+pub(crate) fn load_word(words: &Words, seat: &mut CellSeat, word: usize) -> u64
     requires seat { (seat.old.table_id ≡ words.now.table_id) × (seat.old.me.1 ≡ []) × (seat.old.me.0.live ≡ true) }
     requires sized { words.now.table_id.words ≡ word_total words.now.key }
     requires word { word < word_total words.now.key }
@@ -84,7 +84,7 @@ pub(crate) fn load_word(words: &Words, seat: &mut Place, word: usize) -> u64
 }
 
 /// A second seat that knows the same.
-pub(crate) fn split(words: &Words, seat: &mut Place) -> Place
+pub(crate) fn split(words: &Words, seat: &mut CellSeat) -> CellSeat
     requires seat { (seat.old.table_id ≡ words.now.table_id) × (seat.old.me.1 ≡ []) }
     requires sized { words.now.table_id.words ≡ word_total words.now.key }
     ensures same { (seat.new.table_id ≡ seat.old.table_id) × (seat.new.id ≡ seat.old.id) × (seat.new.me ≡ seat.old.me) }
@@ -94,7 +94,7 @@ pub(crate) fn split(words: &Words, seat: &mut Place) -> Place
 }
 
 /// Takes in what another seat knows.
-pub(crate) fn join(words: &Words, seat: &mut Place, other: Place)
+pub(crate) fn join(words: &Words, seat: &mut CellSeat, other: CellSeat)
     requires seat { (seat.old.table_id ≡ words.now.table_id) × (seat.old.me.1 ≡ []) × (seat.old.me.0.live ≡ true) }
     requires other { (other.table_id ≡ words.now.table_id) × (other.me.1 ≡ []) × (other.me.0.live ≡ true) }
     requires sized { words.now.table_id.words ≡ word_total words.now.key }

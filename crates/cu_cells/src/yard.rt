@@ -14,14 +14,14 @@ ghost use Rattle.cu_cells.specs.YardLaws.{cell_laws};
 use crate::cells::{get_cell, put_cell, store_cell};
 use crate::late::{land_due, put_off};
 use crate::script::{CallKind, Fate, Running, Script};
-use crate::shared::{CellPass, Cells, Entry};
+use crate::shared::{CellPass, Cells, ReadBytes};
 use crate::steps::{join, look, split};
 use arrayvec::ArrayVec;
 use cu_store::{DepotFault, Got, Key, Yard};
 use std::snapshot::Snapshot;
 
 /// Copies an entry, as far as the buffer has room.
-fn copy_entry(entry: &Entry, buf: &mut [u8]) -> Got
+fn copy_entry(entry: &ReadBytes, buf: &mut [u8]) -> Got
     ensures { IsEntryCopied entry.now buf.old buf.new result }
 {
     match &entry.bytes {

@@ -14,7 +14,7 @@ use crate::compare::{Difference, compare};
 use crate::inputs::read_nodes;
 use crate::metadata::{Compared, read_compared};
 use crate::report::report;
-use cu_command::{ReadRefused, Status, read_all};
+use cu_command::{Status, StreamRefused, read_all};
 use cu_mean::{Plains, whole};
 use cu_store::{Depot, Sink, Source};
 use std::alloc::Global;
@@ -124,7 +124,7 @@ pub fn check<R: Source, W: Sink, D: Depot>(
 {
     match read_all(alloc, src) {
         Ok(text) => check_text(alloc, retries, &text, out, depot),
-        Err(ReadRefused::Fault) => Status::ReadFault,
-        Err(ReadRefused::NoMemory) => Status::NoMemory,
+        Err(StreamRefused::Fault) => Status::ReadFault,
+        Err(StreamRefused::NoMemory) => Status::NoMemory,
     }
 }

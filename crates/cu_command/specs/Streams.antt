@@ -1,8 +1,8 @@
 -- Whole texts that are read and written.
 use Rattle.std.specs.Prelude.{◌≡◌, ◌⊎◌, ℕ, List, [], ◌++◌, length, take, Option, Some, None, Result, Ok, Err}
 use Rattle.cu_store.specs.Faults.{Rose}
-use Rattle.cu_command.specs.declared.streams.ReadRefused.{ReadRefused}
-use Rattle.cu_command.specs.declared.streams.ReadRefused.TheVariants.{Fault, NoMemory}
+use Rattle.cu_command.specs.declared.streams.StreamRefused.{StreamRefused}
+use Rattle.cu_command.specs.declared.streams.StreamRefused.TheVariants.{Fault, NoMemory}
 
 -- this text was taken from the front of what was left
 abbrev pub Took : Option (List ℕ) → Option (List ℕ) → List ℕ → Type 0
@@ -21,7 +21,7 @@ abbrev pub ReadsAll : Option (List ℕ) → Option (List ℕ) → List ℕ → T
 ReadsAll old new text = Took old new text × (InputHasEnded new ⊎ (length text ≡ 1048577))
 
 -- a fault comes only where the count has risen
-abbrev pub IsCaused : {T : Type 0} → ℕ → ℕ → Result T ReadRefused → Type 0
+abbrev pub IsCaused : {T : Type 0} → ℕ → ℕ → Result T StreamRefused → Type 0
 IsCaused before after (Ok text) = Unit {0}
 IsCaused before after (Err Fault) = Rose 1 before after
 IsCaused before after (Err NoMemory) = Unit {0}

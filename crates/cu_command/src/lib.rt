@@ -19,4 +19,4 @@ pub use laws::{names_law, stored_law};
 pub use name::name_at;
 pub use status::{LineText, Status, number, push_field, status_line};
 pub use stored::{find_layout, metadata_room, read_layout, zeros};
-pub use streams::{ReadRefused, read_all, write_all};
+pub use streams::{StreamRefused, read_all, write_all};

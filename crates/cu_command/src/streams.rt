@@ -13,14 +13,14 @@ const PIECE: usize = 4096;
 
 /// Why a text couldn't be read.
 #[derive(Clone, Copy, Debug, PartialEq, Eq)]
-pub enum ReadRefused {
+pub enum StreamRefused {
     /// The source failed.
     Fault,
     NoMemory,
 }
 
 /// Reads to the end of the input, or 1,048,577 bytes.
-pub fn read_all<R: Source>(alloc: Global, src: &mut R) -> Result<Vec<u8>, ReadRefused>
+pub fn read_all<R: Source>(alloc: Global, src: &mut R) -> Result<Vec<u8>, StreamRefused>
     ensures text { IfOk result (λ text. ReadsAll (R.left src.old) (R.left src.new) text.items) }
     ensures bound { IfOk result (λ text. length text.items ≤ 1048577) }
     ensures cause { IsCaused (R.faults src.old) (R.faults src.new) result }
@@ -35,13 +35,13 @@ pub fn read_all<R: Source>(alloc: Global, src: &mut R) -> Result<Vec<u8>, ReadRe
         }
         let taken = match src.read(&mut piece[..room]) {
             Ok(taken) => taken,
-            Err(_) => return Err(ReadRefused::Fault),
+            Err(_) => return Err(StreamRefused::Fault),
         };
         if taken == 0 {
             return Ok(text);
         }
         if text.extend_from_slice(&piece[..taken]).is_err() {
-            return Err(ReadRefused::NoMemory);
+            return Err(StreamRefused::NoMemory);
         }
     }
     Ok(text)

@@ -4,10 +4,10 @@ use Rattle.cu_store.specs.Faults.{last_count, Rose}
 use Rattle.cu_store.specs.Yard.{Known}
 use Rattle.cu_store.specs.declared.faults.DepotFault.{DepotFault}
 use Rattle.cu_store.specs.declared.faults.DepotFault.TheVariants.{Failed}
-use Rattle.cu_failing.specs.declared.span.Span.{Span}
+use Rattle.cu_failing.specs.declared.span.FailingCalls.{FailingCalls}
 
 -- the call of this number fails
-abbrev pub IsCallOfSpan : Span → ℕ → Type 0
+abbrev pub IsCallOfSpan : FailingCalls → ℕ → Type 0
 IsCallOfSpan span number = (span.first ≤ number) × (number < span.first + span.times)
 
 -- what a pass knows, with these counts
@@ -25,6 +25,6 @@ IsCountedFault old new (Err Failed) = new ≡ min (old + 1) last_count
 IsCountedFault old new result = ⊥
 
 -- A call of the span fails. Where another fails, a call of the depot in it has failed: its count of faults has risen.
-pub record FailsBy {A : Type 0} (span : Span) (number before after : ℕ) (result : Result A DepotFault) : Type 0 where
+pub record FailsBy {A : Type 0} (span : FailingCalls) (number before after : ℕ) (result : Result A DepotFault) : Type 0 where
   pub spanned : IsCallOfSpan span number → result ≡ Err Failed
   pub others : (IsCallOfSpan span number → ⊥) → result ≡ Err Failed → Rose 1 before after

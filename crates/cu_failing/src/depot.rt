@@ -7,9 +7,9 @@ ghost use Rattle.cu_failing.specs.Counts.{IsCallOfSpan, FailsBy};
 ghost use Rattle.cu_failing.specs.Failing.{seen_of, span_of, call_number, late_of};
 ghost use Rattle.cu_failing.specs.Late.{shown_with, due_put, still_late, KeepsAtMost, LandsOnly};
 
-use crate::late::{LatePut, keep, land};
+use crate::late::{FailedPut, keep, land};
 use crate::silent::Silent;
-use crate::span::{Span, refuse, settle};
+use crate::span::{FailingCalls, refuse, settle};
 use crate::yard::{FailingPass, FailingYard, copied};
 use cu_store::{Depot, DepotFault, Got, Key, Promise, Share, Spec, Yard};
 use std::alloc::Global;
@@ -22,8 +22,8 @@ use std::sync::atomic::AtomicU64;
 pub struct Failing<D: Depot + Drop> {
     pub depot: D,
     alloc: Global,
-    span: Span,
-    late: Option<LatePut>,
+    span: FailingCalls,
+    late: Option<FailedPut>,
     made: u64,
     faults: u64,
     calls: u64,
@@ -39,7 +39,7 @@ impl<D: Depot + Drop> Failing<D> {
         Failing {
             depot,
             alloc,
-            span: Span::none(),
+            span: FailingCalls::none(),
             late: None,
             made: 0,
             faults: 0,
@@ -48,7 +48,7 @@ impl<D: Depot + Drop> Failing<D> {
     }
 
     /// From now on the calls of this span fail, counted from the next one. A put that is late stays so.
-    pub fn set_span(&mut self, span: Span)
+    pub fn set_span(&mut self, span: FailingCalls)
         ensures span { span_of self.new ≡ span }
         ensures number { call_number self.new ≡ 0 }
         ensures late { late_of self.new ≡ late_of self.old }

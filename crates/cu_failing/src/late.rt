@@ -8,7 +8,7 @@ use std::alloc::{AllocError, Global};
 
 /// A put that failed and may still land.
 #[derive(Drop)]
-pub(crate) struct LatePut {
+pub(crate) struct FailedPut {
     pub(crate) key: Key,
     pub(crate) bytes: Vec<u8>,
     /// How many further calls come before the one at which it lands.
@@ -16,7 +16,7 @@ pub(crate) struct LatePut {
 }
 
 /// What becomes of a late put at a call: it lands, if it has waited for so many calls, and else waits for one call less.
-pub(crate) fn due(late: &mut Option<LatePut>) -> Option<LatePut>
+pub(crate) fn due(late: &mut Option<FailedPut>) -> Option<FailedPut>
     ensures lands { result ≡ due_put late.old }
     ensures waits { late.new ≡ still_late late.old }
 {
@@ -26,8 +26,8 @@ pub(crate) fn due(late: &mut Option<LatePut>) -> Option<LatePut>
             if put.wait == 0 {
                 return Some(put);
             }
-            let LatePut { key, bytes, wait } = put;
-            *late = Some(LatePut {
+            let FailedPut { key, bytes, wait } = put;
+            *late = Some(FailedPut {
                 key,
                 bytes,
                 wait: wait - 1,
@@ -38,7 +38,7 @@ pub(crate) fn due(late: &mut Option<LatePut>) -> Option<LatePut>
 }
 
 /// The late put of a depot lands in it, if it is due.
-pub(crate) fn land<D: Depot>(depot: &mut D, late: &mut Option<LatePut>)
+pub(crate) fn land<D: Depot>(depot: &mut D, late: &mut Option<FailedPut>)
     ensures waits { late.new ≡ still_late late.old }
     ensures landed { LandsOnly (shown_with (D.shown depot.old) late.old 0 0) (shown_with (D.shown depot.new) late.new 0 0) }
     ensures made { IfSome (due_put late.old) (λ put. MadeCalls 1 1 (D.shown depot.old).calls (D.shown depot.new).calls) }
@@ -63,7 +63,7 @@ fn copied(alloc: Global, bytes: &[u8]) -> Result<Vec<u8>, AllocError>
 /// no memory the put never lands.
 pub(crate) fn keep(
     alloc: Global,
-    late: &mut Option<LatePut>,
+    late: &mut Option<FailedPut>,
     land: Option<u32>,
     key: &Key,
     bytes: &[u8],
@@ -77,7 +77,7 @@ pub(crate) fn keep(
         return;
     };
     if let Ok(bytes) = copied(alloc, bytes) {
-        *late = Some(LatePut {
+        *late = Some(FailedPut {
             key: *key,
             bytes,
             wait,

@@ -9,5 +9,5 @@ mod yard;
 
 pub use depot::Failing;
 pub use silent::Silent;
-pub use span::Span;
+pub use span::FailingCalls;
 pub use yard::{FailingPass, FailingYard};

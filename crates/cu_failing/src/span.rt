@@ -6,19 +6,19 @@ use cu_store::DepotFault;
 
 /// The calls that fail: the first, counted from 0, and how many.
 #[derive(Clone, Copy)]
-pub struct Span {
+pub struct FailingCalls {
     pub first: u64,
     pub times: u64,
     /// After how many further calls the first put among them lands, if it lands at all.
     pub land: Option<u32>,
 }
 
-impl Span {
+impl FailingCalls {
     /// No call.
-    pub fn none() -> Span
+    pub fn none() -> FailingCalls
         ensures { result.times ≡ 0 }
     {
-        Span {
+        FailingCalls {
             first: 0,
             times: 0,
             land: None,

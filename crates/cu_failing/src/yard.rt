@@ -4,8 +4,8 @@ ghost use Rattle.cu_store.specs.Yard.{is_made};
 ghost use Rattle.cu_failing.specs.Counts.{known_with, IsCallOfSpan};
 ghost use Rattle.cu_failing.specs.Laws.{same_with, fits_with, IsOwnWith, MakesAtMost};
 
-use crate::late::{LatePut, due, keep};
-use crate::span::{Span, refuse, settle};
+use crate::late::{FailedPut, due, keep};
+use crate::span::{FailingCalls, refuse, settle};
 use cu_store::{DepotFault, Got, Key, Spec, Yard};
 use std::alloc::Global;
 use std::sync::atomic::{AtomicU64, Ordering};
@@ -15,7 +15,7 @@ use std::sync::atomic::{AtomicU64, Ordering};
 pub struct FailingYard<Y: Yard> {
     pub(crate) yard: Y,
     pub(crate) alloc: Global,
-    pub(crate) span: Span,
+    pub(crate) span: FailingCalls,
     pub(crate) made: AtomicU64,
     /// The keys that are served, as far as there was memory for them.
     pub(crate) specs: Vec<Spec>,
@@ -25,7 +25,7 @@ pub struct FailingYard<Y: Yard> {
 #[derive(Drop)]
 pub struct FailingPass<P: Send + Drop> {
     pub(crate) pass: P,
-    pub(crate) late: Option<LatePut>,
+    pub(crate) late: Option<FailedPut>,
     pub(crate) faults: u64,
     pub(crate) calls: u64,
 }
@@ -49,7 +49,7 @@ fn is_made(specs: &[Spec], key: &Key) -> bool
 }
 
 /// The late put of a pass that is to land now. One on a key that isn't put here waits for the depot.
-fn due_here(specs: &[Spec], late: &mut Option<LatePut>) -> Option<LatePut>
+fn due_here(specs: &[Spec], late: &mut Option<FailedPut>) -> Option<FailedPut>
     ensures { IfSome result (λ put. IsTrue (is_made specs.now put.key)) }
 {
     let put = due(late)?;
@@ -61,7 +61,7 @@ fn due_here(specs: &[Spec], late: &mut Option<LatePut>) -> Option<LatePut>
 }
 
 /// Numbers a call, and says whether it fails: some number decides it.
-fn fails(span: Span, made: &AtomicU64) -> bool
+fn fails(span: FailingCalls, made: &AtomicU64) -> bool
     ensures { (number : ℕ) × (IsTrue result ↔ IsCallOfSpan span number) }
 {
     span.has(made.fetch_add(1, Ordering::SeqCst))

@@ -9,7 +9,7 @@ use crate::load_form::{LoadForm, LoadRefused, read_load};
 use crate::report::report;
 use crate::room::take_room;
 use crate::store::store_array;
-use cu_command::{ReadRefused, Status, read_all};
+use cu_command::{Status, StreamRefused, read_all};
 use cu_name::key_of_name;
 use cu_store::{Depot, Sink, Source};
 use std::alloc::Global;
@@ -34,8 +34,8 @@ pub fn load<R: Source, W: Sink, D: Depot>(
 {
     let text = match read_all(alloc, src) {
         Ok(text) => text,
-        Err(ReadRefused::Fault) => return Status::ReadFault,
-        Err(ReadRefused::NoMemory) => return Status::NoMemory,
+        Err(StreamRefused::Fault) => return Status::ReadFault,
+        Err(StreamRefused::NoMemory) => return Status::NoMemory,
     };
     let form = match read_load(alloc, &text) {
         Ok(form) => form,

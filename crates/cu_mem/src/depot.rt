@@ -6,7 +6,7 @@ ghost use Rattle.cu_store.specs.Steps.{NoChange, PutOf, RemovalOf, Steps, LandsL
 
 use crate::entries::{Slot, StoredKey, bytes_of, store, take_away};
 use crate::late::{Waiting, land_due};
-use cu_cells::{CallKind, Fate, Layout, Running, Script};
+use cu_cells::{CallKind, CellLayout, Fate, Running, Script};
 use cu_store::{Depot, DepotFault, Got, Key, NoMemory};
 use std::alloc::Global;
 use std::marker::Model;
@@ -22,7 +22,7 @@ pub struct MemDepot {
     pub(crate) script: Running,
     pub(crate) faults: u64,
     pub(crate) calls: u64,
-    pub(crate) loan: Option<Snapshot<Layout>>,
+    pub(crate) loan: Option<Snapshot<CellLayout>>,
     pub(crate) rooms: Vec<Vec<u8>>,
 }
 

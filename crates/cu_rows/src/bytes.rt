@@ -8,14 +8,14 @@ use std::alloc::Global;
 
 /// The texts that a table names.
 #[derive(Clone, Copy)]
-pub struct Texts<'a> {
+pub struct NamedTexts<'a> {
     /// What takes the memory.
     pub alloc: Global,
     /// The texts by their names.
     pub named: &'a Value,
 }
 
-impl Texts<'_> {
+impl NamedTexts<'_> {
     /// The bytes that a value stands for: a text for its own bytes, `{"named":N}` for those of the table's text N,
     /// `{"hex":H}` for those of hexadecimal digits with or without spaces, `{"repeat":[V,N]}` for N times those of V,
     /// `{"join":[V,..]}` for those of each V, and any other JSON value for its compact text, its members in byte order.

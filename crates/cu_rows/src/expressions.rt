@@ -1,7 +1,7 @@
 //! The kind of case that reads the text of an expression.
 
-use crate::bytes::Texts;
-use crate::findings::{Findings, Place};
+use crate::bytes::NamedTexts;
+use crate::findings::{CasePlace, Findings};
 use crate::members::{Said, pair_of, refuse_others, text_of};
 use anyhow::{Result, bail};
 use cu_read::{ReadRefused, read_expr};
@@ -9,7 +9,7 @@ use std::alloc::Global;
 
 /// Runs rows of a text and the answer: `ok`, or the code of the first fault and, behind it, the number of its node.
 pub fn run_expressions(
-    texts: &Texts<'_>,
+    texts: &NamedTexts<'_>,
     said: &Said<'_>,
     name: &str,
     findings: &mut Findings,
@@ -19,7 +19,7 @@ pub fn run_expressions(
         let (text, must) = pair_of(row)?;
         let is = answer_to(texts.alloc, &texts.bytes(text)?)?;
         findings.made();
-        let place = Place::row(name, at);
+        let place = CasePlace::row(name, at);
         findings.expect(
             &place,
             "the answer",

@@ -7,7 +7,7 @@ use std::str;
 
 /// Where a call stands: the case, its row or step, and what was done to the call, with a number.
 #[derive(Clone, Copy)]
-pub struct Place<'a> {
+pub struct CasePlace<'a> {
     /// The name of the case.
     pub case: &'a str,
     /// The number of the row or step.
@@ -18,10 +18,10 @@ pub struct Place<'a> {
     pub number: u64,
 }
 
-impl<'a> Place<'a> {
+impl<'a> CasePlace<'a> {
     /// A row that asks one thing.
-    pub fn row(case: &'a str, row: usize) -> Place<'a> {
-        Place {
+    pub fn row(case: &'a str, row: usize) -> CasePlace<'a> {
+        CasePlace {
             case,
             row: row as u64,
             what: "call",
@@ -73,7 +73,7 @@ impl Findings {
     /// Compares the bytes of something with those that it must have.
     pub fn expect(
         &mut self,
-        place: &Place<'_>,
+        place: &CasePlace<'_>,
         subject: &str,
         is: &[u8],
         must: &[u8],
@@ -94,7 +94,7 @@ impl Findings {
     }
 
     /// Notes a row that isn't so.
-    pub fn expect_so(&mut self, place: &Place<'_>, is_so: bool) -> Result<()> {
+    pub fn expect_so(&mut self, place: &CasePlace<'_>, is_so: bool) -> Result<()> {
         if is_so {
             return Ok(());
         }
@@ -102,9 +102,15 @@ impl Findings {
     }
 
     /// Notes a difference.
-    pub fn differ(&mut self, place: &Place<'_>, subject: &str, is: &str, must: &str) -> Result<()> {
+    pub fn differ(
+        &mut self,
+        place: &CasePlace<'_>,
+        subject: &str,
+        is: &str,
+        must: &str,
+    ) -> Result<()> {
         self.count = self.count.saturating_add(1);
-        let Place {
+        let CasePlace {
             case,
             row,
             what,

@@ -14,9 +14,9 @@ mod turns;
 mod typing;
 mod zarrays;
 
-pub use bytes::{Texts, key_of};
+pub use bytes::{NamedTexts, key_of};
 pub use expressions::run_expressions;
-pub use findings::{Findings, Place};
+pub use findings::{CasePlace, Findings};
 pub use members::{Said, list_of, number_of, pair_of, refuse_others, text_of};
 pub use metadata::run_metadata;
 pub use numbers::{run_promotions, run_scalars};

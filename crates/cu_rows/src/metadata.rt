@@ -1,7 +1,7 @@
 //! The kind of case that reads the metadata of an array.
 
-use crate::bytes::Texts;
-use crate::findings::{Findings, Place};
+use crate::bytes::NamedTexts;
+use crate::findings::{CasePlace, Findings};
 use crate::members::{Said, refuse_others};
 use anyhow::{Result, bail};
 use cu_meta::{MetaFault, MetaRefused, read_meta, write_meta};
@@ -10,7 +10,7 @@ use std::alloc::Global;
 /// Reads the text of a case: the layout must be written as `written`, or the text be refused with `refused`, the number of the
 /// fault and, behind it, the name of a member.
 pub fn run_metadata(
-    texts: &Texts<'_>,
+    texts: &NamedTexts<'_>,
     said: &Said<'_>,
     name: &str,
     findings: &mut Findings,
@@ -25,7 +25,7 @@ pub fn run_metadata(
         None => said.text("refused")?.as_bytes().to_vec(texts.alloc)?,
     };
     findings.made();
-    let place = Place {
+    let place = CasePlace {
         case: name,
         row: 0,
         what: "text",

@@ -3,7 +3,7 @@
 ghost use Rattle.std.specs.Prelude.{IfOk};
 ghost use Rattle.cu_num.specs.Dtype.{InRange};
 
-use crate::findings::{Findings, Place};
+use crate::findings::{CasePlace, Findings};
 use crate::members::{Said, list_of, refuse_others, text_of};
 use anyhow::{Result, bail};
 use cu_num::{Dtype, Fn1, Fn2, dtype_named, promote, scalar1, scalar2, wrap};
@@ -24,7 +24,7 @@ pub fn run_scalars(
         let is = format!(in alloc; "{is}")?;
         let must = format!(in alloc; "{must}")?;
         findings.made();
-        let place = Place::row(name, at);
+        let place = CasePlace::row(name, at);
         findings.expect(
             &place,
             "the value",
@@ -73,7 +73,7 @@ pub fn run_promotions(said: &Said<'_>, name: &str, findings: &mut Findings) -> R
         };
         let is = promote(dtype_of(first)?, dtype_of(second)?);
         findings.made();
-        findings.expect_so(&Place::row(name, at), is == want)?;
+        findings.expect_so(&CasePlace::row(name, at), is == want)?;
     }
     Ok(())
 }

@@ -3,7 +3,7 @@ ghost use Rattle.std.specs.Prelude.{◌≡◌, ◌<◌, All, IfOk, IsTrue};
 ghost use Rattle.cu_grid.specs.Counts.{IsRegion};
 
 use crate::bytes::key_of;
-use crate::findings::{Findings, Place};
+use crate::findings::{CasePlace, Findings};
 use crate::members::{Said, list_of, number_of, refuse_others, text_of};
 use anyhow::{Result, bail};
 use cu_codec::{chunk_key, metadata_key, zarray_key};
@@ -46,7 +46,7 @@ pub fn run_regions(
         }
         findings.made();
         let is_so = are_these(alloc, &met, list_of(want)?)?;
-        findings.expect_so(&Place::row(name, at), is_so)?;
+        findings.expect_so(&CasePlace::row(name, at), is_so)?;
     }
     Ok(())
 }
@@ -95,7 +95,7 @@ pub fn run_keys(alloc: Global, said: &Said<'_>, name: &str, findings: &mut Findi
         };
         findings.made();
         findings.expect(
-            &Place::row(name, at),
+            &CasePlace::row(name, at),
             "the key",
             key.text().as_bytes(),
             text_of(want)?.as_bytes(),

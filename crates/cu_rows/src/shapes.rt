@@ -1,6 +1,6 @@
 //! The kinds of case that ask for slices, broadcasting, places and grids.
 
-use crate::findings::{Findings, Place};
+use crate::findings::{CasePlace, Findings};
 use crate::members::{Said, list_of, number_of, refuse_others};
 use anyhow::{Result, bail};
 use cu_grid::{Grid, GridFault};
@@ -20,7 +20,7 @@ pub fn run_shapes(kind: &str, said: &Said<'_>, name: &str, findings: &mut Findin
             _ => is_grid(row)?,
         };
         findings.made();
-        findings.expect_so(&Place::row(name, at), is_so)?;
+        findings.expect_so(&CasePlace::row(name, at), is_so)?;
     }
     Ok(())
 }

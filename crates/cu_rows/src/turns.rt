@@ -3,8 +3,8 @@ ghost use Rattle.std.specs.Prelude.{◌≡◌, IfOk, length};
 ghost use Rattle.cu_lower.specs.Parts.{AreOptions};
 ghost use Rattle.cu_table.specs.Numbers.{task_count};
 
-use crate::bytes::{Texts, key_of};
-use crate::findings::{Findings, Place};
+use crate::bytes::{NamedTexts, key_of};
+use crate::findings::{CasePlace, Findings};
 use crate::members::{Said, list_of, number_of, refuse_others, text_of};
 use crate::typing::inputs_of;
 use anyhow::{Result, bail};
@@ -29,7 +29,7 @@ use std::fmt::Write;
 /// place among their workers. An answer has the words of the claim, and each entry that the turn
 /// adds to the history, without its worker, which must be the one whose turn it is.
 pub fn run_turns(
-    texts: &Texts<'_>,
+    texts: &NamedTexts<'_>,
     said: &Said<'_>,
     name: &str,
     findings: &mut Findings,
@@ -49,13 +49,18 @@ pub fn run_turns(
         };
         let is = take_turn(texts.alloc, &mut turns, list_of(what)?)?;
         findings.made();
-        expect_among(&Place::row(name, at), &is, may, findings)?;
+        expect_among(&CasePlace::row(name, at), &is, may, findings)?;
     }
     Ok(())
 }
 
 /// Compares an answer with those that may come.
-fn expect_among(place: &Place<'_>, is: &str, may: &[Value], findings: &mut Findings) -> Result<()> {
+fn expect_among(
+    place: &CasePlace<'_>,
+    is: &str,
+    may: &[Value],
+    findings: &mut Findings,
+) -> Result<()> {
     for one in may {
         if text_of(one)? == is {
             return Ok(());
@@ -100,7 +105,7 @@ fn options_of(said: &Said<'_>) -> Result<Options>
 }
 
 /// The plan of a case.
-fn plan_of(texts: &Texts<'_>, said: &Said<'_>) -> Result<Plan> {
+fn plan_of(texts: &NamedTexts<'_>, said: &Said<'_>) -> Result<Plan> {
     let alloc = texts.alloc;
     let Some(text) = said.member("expr") else {
         bail!("an expression is wanted");

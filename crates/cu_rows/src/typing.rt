@@ -3,8 +3,8 @@ ghost use Rattle.std.specs.Prelude.{◌≤◌, ◌^◌, All, IfOk, OnOk, length}
 ghost use Rattle.cu_expr.specs.Premises.{HasGrid, HaveGrids};
 ghost use Rattle.cu_op.specs.Layout.{IsLayout};
 
-use crate::bytes::Texts;
-use crate::findings::{Findings, Place};
+use crate::bytes::NamedTexts;
+use crate::findings::{CasePlace, Findings};
 use crate::members::{Said, list_of, refuse_others, text_of};
 use crate::numbers::dtype_of;
 use crate::shapes::sizes_of;
@@ -24,7 +24,7 @@ use std::fmt::Write;
 /// be of the `types`, each of them a type, a shape and a chunk shape, or the answer be the fault `refused`: a code, the number of
 /// a node, and a place.
 pub fn run_typing(
-    texts: &Texts<'_>,
+    texts: &NamedTexts<'_>,
     said: &Said<'_>,
     name: &str,
     findings: &mut Findings,
@@ -40,7 +40,7 @@ pub fn run_typing(
     let inputs = inputs_of(texts.alloc, said.list("inputs")?)?;
     let is = answer_to(texts.alloc, &texts.bytes(expr)?, &inputs)?;
     findings.made();
-    findings.expect(&Place::row(name, 0), "the answer", is.as_bytes(), &must)
+    findings.expect(&CasePlace::row(name, 0), "the answer", is.as_bytes(), &must)
 }
 
 /// The inputs of a list.

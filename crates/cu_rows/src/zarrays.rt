@@ -1,7 +1,7 @@
 //! The kind of case that reads a `.zarray`.
 
-use crate::bytes::Texts;
-use crate::findings::{Findings, Place};
+use crate::bytes::NamedTexts;
+use crate::findings::{CasePlace, Findings};
 use crate::members::{Said, refuse_others};
 use anyhow::{Result, bail};
 use cu_meta::write_meta;
@@ -11,7 +11,7 @@ use std::alloc::Global;
 /// Reads the text of a case: the layout must be written as `written`, which is text of version 3, or the text be refused with
 /// `refused`, the code of the fault and, behind it, the name of a member.
 pub fn run_zarray(
-    texts: &Texts<'_>,
+    texts: &NamedTexts<'_>,
     said: &Said<'_>,
     name: &str,
     findings: &mut Findings,
@@ -26,7 +26,7 @@ pub fn run_zarray(
         None => said.text("refused")?.as_bytes().to_vec(texts.alloc)?,
     };
     findings.made();
-    let place = Place {
+    let place = CasePlace {
         case: name,
         row: 0,
         what: "text",

@@ -22,18 +22,18 @@ use Rattle.cu_store.specs.contracts.yard.Spec as Spec
 use Rattle.cu_cells.proofs.late.LateCell.TheSendSync as late
 use Rattle.cu_cells.proofs.places.Places.TheSendSync as places
 use Rattle.cu_cells.proofs.script.Counted.TheSendSync as counted
-use Rattle.cu_cells.proofs.shared.Entry.TheSendSync as entry
+use Rattle.cu_cells.proofs.shared.ReadBytes.TheSendSync as entry
 use Rattle.cu_cells.specs.contracts.late.LateCell as LateCell
-use Rattle.cu_cells.specs.contracts.layout.Layout as Layout
-use Rattle.cu_cells.specs.contracts.layout.Layout.TheInside as LayoutInside
+use Rattle.cu_cells.specs.contracts.layout.CellLayout as CellLayout
+use Rattle.cu_cells.specs.contracts.layout.CellLayout.TheInside as LayoutInside
 use Rattle.cu_cells.specs.contracts.rule.CellsRule as CellsRule
-use Rattle.cu_cells.specs.contracts.rule.CellsRuleTableRuleViewLayout.TheImpl as rule
+use Rattle.cu_cells.specs.contracts.rule.CellsRuleTableRuleViewCellLayout.TheImpl as rule
 use Rattle.cu_cells.specs.contracts.rule.View as View
 use Rattle.cu_cells.specs.contracts.script.Counted as Counted
 use Rattle.cu_cells.specs.contracts.script.Running as Running
 use Rattle.cu_cells.specs.contracts.shared.CellPass as CellPass
 use Rattle.cu_cells.specs.contracts.shared.Cells as Cells
-use Rattle.cu_cells.specs.contracts.shared.Entry as Entry
+use Rattle.cu_cells.specs.contracts.shared.ReadBytes as ReadBytes
 use Rattle.cu_watch.proofs.yard.WatchedPass.TheSendSync as watched_pass
 use Rattle.cu_watch.proofs.yard.WatchedYard.TheSendSync as watched_yard
 use Rattle.cu_watch.specs.contracts.yard.WatchedPass as WatchedPass
@@ -47,7 +47,7 @@ promise_sync = search crosses
 specs_sync : IsSync (Vec.the_row Spec.the_row Heap.the_row ghosts)
 specs_sync = search (spec.the_sync, crosses)
 
-layout_sync : IsSync Layout.the_row
+layout_sync : IsSync CellLayout.the_row
 layout_sync = view_sync LayoutInside.the_row _ _ _ _
     (recorded_sync LayoutInside.the_field.row _ _ LayoutInside.the_type.to_one
     (struct_sync (shape LayoutInside.the_type) (specs_sync, (promise_sync, tt))))
@@ -55,7 +55,7 @@ layout_sync = view_sync LayoutInside.the_row _ _ _ _
 starts_sync : IsSync (Vec.the_row usize Heap.the_row ghosts)
 starts_sync = search (sendable, crosses) depth 20
 
-entries_sync : IsSync (Vec.the_row Entry.the_row Heap.the_row ghosts)
+entries_sync : IsSync (Vec.the_row ReadBytes.the_row Heap.the_row ghosts)
 entries_sync = search (entry.the_sync, crosses)
 
 bytes_sync : IsSync (Vec.the_row u8 Heap.the_row ghosts)
@@ -67,9 +67,9 @@ rooms_sync = search (bytes_sync, crosses)
 byte_send : IsSend u8
 byte_send = search sendable depth 20
 
-table_sync : IsSync (Table.the_field u8 View.the_row Layout.the_row CellsRule.the_row Heap.the_row (rule.ghosts u8) ghosts).row
+table_sync : IsSync (Table.the_field u8 View.the_row CellLayout.the_row CellsRule.the_row Heap.the_row (rule.ghosts u8) ghosts).row
 table_sync =
-    table.the_field_sync u8 View.the_row Layout.the_row CellsRule.the_row Heap.the_row (rule.ghosts u8) ghosts
+    table.the_field_sync u8 View.the_row CellLayout.the_row CellsRule.the_row Heap.the_row (rule.ghosts u8) ghosts
     byte_send heap.the_send heap.the_sync frees
 
 cells_sync : IsSync Cells.the_row
@@ -81,7 +81,7 @@ cells_sync = recorded_sync Cells.the_field.row _ _ Cells.the_type.to_one
 seat_send : IsSend (Seat.the_row u8 View.the_row)
 seat_send = seat.the_send u8 View.the_row byte_send
 
-known_send : IsSend (Snapshot.the_row (Vec.the_row Entry.the_row Heap.the_row ghosts))
+known_send : IsSend (Snapshot.the_row (Vec.the_row ReadBytes.the_row Heap.the_row ghosts))
 known_send = search crosses
 
 count_send : IsSend u64

@@ -1,9 +1,9 @@
 use Rattle.std.proofs.Common.{◌≡◌, false, Option, Some, None, inr, refl}
 use Rattle.std.specs.Option.{is_some}
-use Rattle.cu_failing.specs.declared.late.LatePut.{LatePut}
+use Rattle.cu_failing.specs.declared.late.FailedPut.{FailedPut}
 use Rattle.cu_failing.proofs.late.keep.Goals as goal
 
-none_kept : (late : Option LatePut) → false ≡ is_some late → late ≡ None
+none_kept : (late : Option FailedPut) → false ≡ is_some late → late ≡ None
 none_kept None is = refl
 none_kept (Some put) is = absurd (cc)
 
