@@ -1,133 +1,36 @@
 #!/usr/bin/env python3
 """Proves and builds the program and the crates that it stands on, side by side, and shows how far it is.
 
-rt lets only one command work over a crate at a time, those below it included. So each crate is proved in a copy of its own, with
-what was built of the crates below it, and what it leaves is moved into the repository when it is proved. What was proved before is
-kept: a run that was broken off goes on where it was. Each crate's words are in its out/build.log.
-usage: tools/prove.py [--jobs N] [--times]
+`rt ci` proves those crates, in a copy without their refused edits, for which nobody who only wants the program need wait. What it
+proves is kept on this machine: a run that was broken off goes on where it was, and the merge gate takes it over. Then the program
+itself is proved and compiled, for a processor of this machine's kind. What is said is in crates/cu_bin/out/build.log.
+usage: tools/prove.py [--jobs N] [--times] [--cpu NAME] [--to FILE]
   --jobs N     on N processors; where it isn't given, on all that there are and that the memory suffices for
-  --times      prints the processor seconds of each crate at the end
+  --times      prints after how many seconds each crate was proved
+  --cpu NAME   for this kind of processor, x86-64-v2 (SSE4.2) or x86-64-v3 (AVX2); where it isn't given, this machine's
+  --to FILE    where the program goes; where it isn't given, crates/cu_bin/out/cu_bin
 """
 import argparse
 import os
+import re
 import shutil
 import signal
 import subprocess
 import sys
+import tempfile
 import time
+
+sys.dont_write_bytecode = True
+import processor  # processor.py, in this folder
 
 TOP = os.path.dirname(os.path.dirname(os.path.realpath(__file__)))
 PROGRAM = "cu_bin"
-COPIES = f"{TOP}/crates/{PROGRAM}/out/copies"
-# What a copy of a crate has of it.
-PARTS = ("src", "specs", "proofs")
-# The memory that a proof may take for each of its processors, in bytes.
-EACH = 1_500_000_000
-# The most processors for one crate: with four the largest took 283 seconds, and with two 192.
-MOST = 2
-
-
-def crates():
-    """Returns the repository's crates that the program stands on and the program, each with those of them that it names."""
-    named = {}
-    with open(f"{TOP}/crates.txt", encoding="utf-8") as file:
-        for line in file:
-            words = line.partition("#")[0].replace(":", " ").split()
-            if words:
-                named[words[0]] = words[1:]
-    below = {}
-
-    def take(name):
-        if name not in below:
-            below[name] = [dep for dep in named[name] if dep in named]
-            for dep in below[name]:
-                take(dep)
-
-    take(PROGRAM)
-    return below
-
-
-def weight(name):
-    """Returns how much there is to prove in a crate, by its lines."""
-    lines = 0
-    for at, _, files in os.walk(f"{TOP}/crates/{name}/src"):
-        for file in files:
-            with open(f"{at}/{file}", "rb") as text:
-                lines += text.read().count(b"\n")
-    return lines
-
-
-def chains(below):
-    """Returns for each crate the weight of the longest chain from it up to the program."""
-    weights = {name: weight(name) for name in below}
-    found = {}
-
-    def chain(name):
-        if name not in found:
-            above = [chain(other) for other, deps in below.items() if name in deps]
-            found[name] = weights[name] + max(above, default=0)
-        return found[name]
-
-    for name in below:
-        chain(name)
-    return found
-
-
-def all_below(below, name):
-    """Returns the crates that a crate stands on, lowest first, and the crate."""
-    found = []
-
-    def take(it):
-        if it not in found:
-            for dep in below[it]:
-                take(dep)
-            found.append(it)
-
-    take(name)
-    return found
-
-
-def link(source, target):
-    try:
-        os.link(source, target)
-    except OSError:
-        shutil.copy2(source, target)
-
-
-def copied(below, name):
-    """Makes a copy of a crate and those below it, which are built, and returns the crate's folder in it."""
-    top, names = f"{COPIES}/{name}", all_below(below, name)
-    for it in names:
-        folder = f"{top}/crates/{it}"
-        os.makedirs(folder, exist_ok=True)
-        for part in PARTS:
-            shutil.rmtree(f"{folder}/{part}", ignore_errors=True)
-            if os.path.isdir(f"{TOP}/crates/{it}/{part}"):
-                shutil.copytree(f"{TOP}/crates/{it}/{part}", f"{folder}/{part}")
-        if it == name:
-            moved(f"{TOP}/crates/{name}/out", f"{folder}/out")
-        else:
-            shutil.rmtree(f"{folder}/out", ignore_errors=True)
-            shutil.copytree(f"{TOP}/crates/{it}/out/rlib", f"{folder}/out/rlib", copy_function=link)
-    with open(f"{TOP}/crates.txt", encoding="utf-8") as lines, open(f"{top}/crates.txt", "w", encoding="utf-8") as out:
-        out.writelines(line for line in lines if line.split(":")[0] in names)
-    shutil.copy(f"{TOP}/HANDLES", f"{top}/HANDLES")
-    return f"{top}/crates/{name}"
-
-
-def moved(source, target):
-    """Moves what rt built and kept of a crate from one folder to another, in place of what is there."""
-    for part in ("rlib", "incremental"):
-        if os.path.isdir(f"{source}/{part}"):
-            os.makedirs(target, exist_ok=True)
-            shutil.rmtree(f"{target}/{part}", ignore_errors=True)
-            os.rename(f"{source}/{part}", f"{target}/{part}")
-
-
-def brought(name):
-    """Moves what a proved crate left in its copy into the repository."""
-    moved(f"{COPIES}/{name}/crates/{name}/out", f"{TOP}/crates/{name}/out")
-    shutil.rmtree(f"{COPIES}/{name}")
+OUT = f"{TOP}/crates/{PROGRAM}/out"
+# What a copy of a crate leaves out.
+LEFT_OUT = shutil.ignore_patterns("out", "must-fail", "more-edits")
+PROVED = re.compile(r"rt: (\w+) (?:proved|is kept: .*)")
+# The memory that the proof of a crate takes at most, in bytes, as far as it was seen.
+EACH = 3_000_000_000
 
 
 def free_memory():
@@ -138,121 +41,136 @@ def free_memory():
     return EACH
 
 
-class Work:
-    """Crates that are being proved, and those that are still to be."""
+def lines_of_crates():
+    """Returns the lines of crates.txt of the program and the crates that it stands on, by their names."""
+    lines = {}
+    with open(f"{TOP}/crates.txt", encoding="utf-8") as file:
+        for line in file:
+            said = line.partition("#")[0].partition(":")[0].split()
+            if said:
+                lines[said[0]] = line
+    found, waiting = {}, [PROGRAM]
+    while waiting:
+        name = waiting.pop()
+        if name in lines and name not in found:
+            found[name] = lines[name]
+            waiting += lines[name].partition("#")[0].partition(":")[2].split()
+    return found
 
-    def __init__(self, processors):
-        self.processors = processors
-        self.below = crates()
-        self.chain = chains(self.below)
-        self.done = set()
-        self.running = {}
+
+def copy_crates(lines, room):
+    """Copies these crates into a folder."""
+    for name in lines:
+        shutil.copytree(f"{TOP}/crates/{name}", f"{room}/crates/{name}", ignore=LEFT_OUT)
+    with open(f"{room}/crates.txt", "w", encoding="utf-8") as file:
+        file.writelines(lines.values())
+    shutil.copy(f"{TOP}/HANDLES", f"{room}/HANDLES")
+
+
+class Work:
+    """The crates that are being proved, and when each of them was."""
+
+    def __init__(self, names, room, jobs):
+        self.names = names
         self.seconds = {}
         self.began = time.monotonic()
+        # With no number rt leaves processors idle while it waits for more memory than the proofs then take.
+        self.process = subprocess.Popen(["rt", "ci"], cwd=room, env={**os.environ, "RT_JOBS": str(jobs)}, stdin=subprocess.DEVNULL,
+                                        stdout=subprocess.PIPE, stderr=subprocess.STDOUT, text=True, errors="replace",
+                                        start_new_session=True)
 
-    def ready(self):
-        """Returns the crates that can be begun, the longest chain first."""
-        names = [name for name, deps in self.below.items()
-                 if name not in self.done and name not in self.running and self.done.issuperset(deps)]
-        return sorted(names, key=lambda name: -self.chain[name])
-
-    def begin(self, name, jobs):
-        """Begins to prove a crate on so many processors."""
-        out = f"{TOP}/crates/{name}/out"
-        os.makedirs(out, exist_ok=True)
-        folder = f"{TOP}/crates/{name}" if name == PROGRAM else copied(self.below, name)
-        # rt also runs the program that it built, which without a word refuses and does nothing else.
-        command = ["rt", "run" if name == PROGRAM else "lib", "--jobs", str(jobs)]
-        with open(f"{out}/build.log", "wb") as log:
-            process = subprocess.Popen(command, cwd=folder, stdin=subprocess.DEVNULL, stdout=log,
-                                       stderr=subprocess.STDOUT, start_new_session=True)
-        self.running[name] = (process, jobs)
-
-    def begin_all(self):
-        """Begins what there are processors for. Crates that are ready share them."""
-        ready = self.ready()
-        for at, name in enumerate(ready):
-            free = self.processors - sum(jobs for _, jobs in self.running.values())
-            if free < 1:
-                return
-            self.begin(name, max(1, min(MOST, free // (len(ready) - at))))
-
-    def end_one(self):
-        """Waits until a crate has ended, and returns whether it is proved."""
-        while True:
-            for name, (process, _) in list(self.running.items()):
-                ended, status, used = os.wait4(process.pid, os.WNOHANG)
-                if ended:
-                    process.returncode = os.waitstatus_to_exitcode(status)
-                    self.seconds[name] = used.ru_utime + used.ru_stime
-                    del self.running[name]
-                    self.done.add(name)
-                    return name, process.returncode
-            self.show()
-            time.sleep(0.2)
+    def follow(self):
+        """Writes down what is said until it ends, and returns the exit status."""
+        self.show()
+        with open(f"{OUT}/build.log", "w", encoding="utf-8") as log:
+            for line in self.process.stdout:
+                log.write(line)
+                log.flush()
+                proved = PROVED.match(line)
+                if proved and proved[1] in self.names:
+                    self.seconds.setdefault(proved[1], time.monotonic() - self.began)
+                    self.show()
+        return self.process.wait()
 
     def show(self):
         """Shows on a terminal how far it is."""
         if sys.stderr.isatty():
-            minutes, seconds = divmod(int(time.monotonic() - self.began), 60)
-            text = f"cubed: proved {len(self.done)} of {len(self.below)} crates ({minutes}:{seconds:02}), at work: {' '.join(self.running)}"
-            width = os.get_terminal_size(sys.stderr.fileno()).columns or 80
-            sys.stderr.write(f"\r\x1b[K{text[:width - 1]}")
+            sys.stderr.write(f"\r\x1b[Kcubed: {len(self.seconds)} of {len(self.names)} crates are proved")
             sys.stderr.flush()
 
     def stop(self):
         """Ends what was begun."""
-        for process, _ in self.running.values():
-            try:
-                os.killpg(process.pid, signal.SIGTERM)
-            except ProcessLookupError:
-                pass
-        for process, _ in self.running.values():
-            process.wait()
+        try:
+            os.killpg(self.process.pid, signal.SIGTERM)
+        except ProcessLookupError:
+            pass
+        self.process.wait()
 
-    def log(self, name):
-        with open(f"{TOP}/crates/{name}/out/build.log", encoding="utf-8", errors="replace") as text:
-            return text.read()
 
-    def run(self):
-        """Proves all, and returns the exit status."""
-        while len(self.done) < len(self.below):
-            self.begin_all()
-            name, status = self.end_one()
-            # The program itself ends with its refusal.
-            if status != 0 and not (name == PROGRAM and os.access(f"{TOP}/crates/{PROGRAM}/out/{PROGRAM}", os.X_OK)):
-                self.stop()
-                self.show_end()
-                sys.stderr.write(self.log(name))
-                sys.stderr.write(f"cubed: {name} wasn't proved and built\n")
-                return 1
-            if name != PROGRAM:
-                brought(name)
-        self.show_end()
-        return 0
+def compiled(line, names, room, cpu):
+    """Proves and compiles the program over the crates in a folder, which are proved, and returns the exit status and its path."""
+    kit = os.path.dirname(subprocess.run(["rt", "doc"], stdout=subprocess.PIPE, text=True, check=True).stdout.strip())
+    toolchain, made = ["--toolchain", f"{kit}/toolchain"], f"{room}/{PROGRAM}"
+    words = [f"{kit}/bin/rattle", "build", "--crate-name", PROGRAM, "src/main.rt", "--backend", "llvm", f"--cpu={cpu}", *toolchain,
+             "--antt-project", f"{kit}/rattle/logic/antt-project.json", "--logic-built", f"{kit}/logic_built",
+             "--extern", f"std={kit}/rlibs/std.rlib", "-L", f"dependency={kit}/rlibs", "-o", f"{made}.o"]
+    for name in names:
+        below = f"{room}/crates/{name}/out/rlib"
+        words += ["-L", f"dependency={below}"]
+        if name in line.split():
+            words += ["--extern", f"{name}={below}/{name}.rlib"]
+    link = [f"{kit}/bin/rattle-link", "--target", "x86_64-unknown-linux-gnu", *toolchain, "-o", made, f"{made}.o",
+            f"{kit}/c/libos_c.a", f"{kit}/c/liblibc_c.a"]
+    with open(f"{OUT}/build.log", "a", encoding="utf-8") as log:
+        for command in (words, link):
+            ran = subprocess.run(command, cwd=f"{TOP}/crates/{PROGRAM}", stdin=subprocess.DEVNULL, stdout=log, stderr=subprocess.STDOUT)
+            if ran.returncode:
+                return ran.returncode, None
+    return 0, made
 
-    def show_end(self):
+
+def prove(room, given):
+    """Proves and builds all in a folder, and returns the exit status and the work."""
+    lines = lines_of_crates()
+    line = lines.pop(PROGRAM)
+    copy_crates(lines, room)
+    work = Work(list(lines), room, given.jobs)
+    try:
+        status, program = work.follow(), None
+        if status == 0:
+            status, program = compiled(line, lines, room, given.cpu)
+    except KeyboardInterrupt:
+        work.stop()
+        sys.stderr.write(f"\ncubed: broken off; {len(work.seconds)} of {len(lines)} crates are proved, and the next call goes on from there\n")
+        return 130, work
+    finally:
         if sys.stderr.isatty():
             sys.stderr.write("\r\x1b[K")
+    if status == 0:
+        shutil.copy(program, f"{given.to}.new")
+        os.replace(f"{given.to}.new", given.to)
+    return status, work
 
 
 def main():
-    parser = argparse.ArgumentParser(usage="tools/prove.py [--jobs N] [--times]")
-    parser.add_argument("--jobs", type=int, default=min(len(os.sched_getaffinity(0)), free_memory() // EACH))
+    parser = argparse.ArgumentParser(usage="tools/prove.py [--jobs N] [--times] [--cpu NAME] [--to FILE]")
+    parser.add_argument("--jobs", type=int, default=max(1, min(len(os.sched_getaffinity(0)), free_memory() // EACH)))
     parser.add_argument("--times", action="store_true")
+    parser.add_argument("--cpu", default=processor.best(), choices=["x86-64-v2", "x86-64-v3"])
+    parser.add_argument("--to", default=f"{OUT}/{PROGRAM}")
     words = parser.parse_args()
-    work = Work(max(1, words.jobs))
-    try:
-        status = work.run()
-    except KeyboardInterrupt:
-        work.stop()
-        work.show_end()
-        sys.stderr.write(f"cubed: broken off; {len(work.done)} of {len(work.below)} crates are proved, and the next call goes on from there\n")
-        return 130
+    os.makedirs(OUT, exist_ok=True)
+    # A repository's copy may not lie in a repository.
+    with tempfile.TemporaryDirectory(prefix="cubed-build-") as room:
+        status, work = prove(room, words)
+    if status not in (0, 130):
+        with open(f"{OUT}/build.log", encoding="utf-8") as log:
+            sys.stderr.write(log.read())
+        sys.stderr.write("cubed: not all of the crates were proved and built\n")
     if words.times:
-        for name in work.below:
-            print(f"{name:12} {work.seconds.get(name, 0):7.1f}")
-        print(f"{'all':12} {sum(work.seconds.values()):7.1f} in {time.monotonic() - work.began:.0f} s")
+        for name, seconds in work.seconds.items():
+            print(f"{name:16} {seconds:7.1f}")
+        print(f"{'all':16} {time.monotonic() - work.began:7.1f}")
     return status
 
 
