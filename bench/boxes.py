@@ -284,7 +284,7 @@ fn main(rt: HostRuntime) -> io::Result<()> {
 # What the check of the program doesn't find by itself.
 LEMMAS = """\
 -- The region of the whole array.
-use Rattle.std.proofs.Common.{◌≡◌, ℕ, ◌≤◌, ◌<◌, List, [], ◌∷◌, refl, subst, sym, arith}
+use Rattle.std.proofs.Common.{◌≡◌, ℕ, ◌*◌, ◌≤◌, ◌<◌, List, [], ◌∷◌, refl, subst, sym, arith}
 use Rattle.cu_shape.specs.Index.{product, differences, IsInside}
 use Rattle.cu_grid.specs.Counts.{IsRegion, IsWithin}
 use Rattle.cu_grid.specs.Grid.{RegularGrid, IsGrid, IsCoordinate, IsInChunk}
@@ -298,7 +298,9 @@ is_whole lo hi size b c = rw (b, c) refl
 
 within : (is : List ℕ) → IsInside (4096 ∷ 4096 ∷ []) is → IsWithin (0 ∷ 0 ∷ []) (4096 ∷ 4096 ∷ []) is
 within (i ∷ j ∷ []) h = (omega arith, h.0, (omega arith, h.1.0, tt))
-within is h = absurd h
+within [] h = absurd h
+within (i ∷ []) h = absurd h.1
+within (i ∷ j ∷ (k ∷ ks)) h = absurd h.1.1
 
 pub all_within : (g : RegularGrid) (coord lo hi idx : List ℕ) → IsGrid g → IsCoordinate g coord → g.shape ≡ 4096 ∷ 4096 ∷ [] → lo ≡ 0 ∷ 0 ∷ [] → hi ≡ 4096 ∷ 4096 ∷ []
     → IsInChunk g coord idx → IsWithin lo hi idx

@@ -29,6 +29,8 @@ from stored import has_numpy, timed  # stored.py, in this folder
 SIDE, CHUNK_SIDE, LOW, HIGH = 4096, 2048, 1024, 3072
 CHUNK_BYTES, REGION_BYTES = 4 * CHUNK_SIDE**2, 4 * (HIGH - LOW) ** 2
 TOP = os.path.join(os.path.dirname(os.path.abspath(__file__)), "..")
+sys.path.append(os.path.join(TOP, "tools"))
+import processor  # processor.py, in tools
 NAME, NEEDS = "region_bench", "cu_num cu_shape cu_box cu_grid cu_store cu_dir cu_codec cu_op cu_region arrayvec".split()
 ORDERS = ("little", "big")
 
@@ -274,13 +276,13 @@ def program_in(keep, name=NAME, needs=NEEDS, sources=SOURCES):
     """The path in this folder of the program built from the sources as they are. It is built where it isn't there."""
     with tempfile.TemporaryDirectory(prefix="cubed-build-") as folder:
         crate = write_sources(folder, name, needs, sources)
-        kept = os.path.join(os.path.abspath(keep), f"{name}-{sum_of(folder)}")
+        kept = os.path.join(os.path.abspath(keep), f"{name}-{sum_of(folder)}-{processor.best()}")
         if os.access(kept, os.X_OK):
             return kept
         if not shutil.which("rt"):
             raise SystemExit("the command rt isn't in the path")
         print("proving and building the program, which takes some minutes", flush=True)
-        ran = subprocess.run(["rt", "run"], cwd=crate, stdout=subprocess.PIPE, stderr=subprocess.STDOUT, text=True)
+        ran = subprocess.run(["rt", "run", f"--cpu={processor.best()}"], cwd=crate, stdout=subprocess.PIPE, stderr=subprocess.STDOUT, text=True)
         if ran.returncode:
             raise SystemExit(f"{ran.stdout}rt run ended with status {ran.returncode}")
         os.makedirs(keep, exist_ok=True)
