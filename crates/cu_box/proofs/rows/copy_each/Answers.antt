@@ -8,7 +8,7 @@ use Rattle.cu_box.proofs.rows.copy_each.Goals as goal
 pub loop-row-preserved : goal.loop-row-preserved
 loop-row-preserved c =
     let size = c.args.size in
-    let rows = c.args.rows.now in
+    let rows = c.args.rows in
     let k = c.loop-row.row in
     let before = c.loop-row.target in
     let source = c.args.source.now in
@@ -26,6 +26,6 @@ loop-row-preserved c =
 
 pub returns : goal.returns
 returns c =
-    let rows = c.args.rows.now in
+    let rows = c.args.rows in
     let last : c.loop-row.row ≡ rows.count = omega arith in
     subst (λ (n : ℕ). AreRowsCopied c.args.size c.args.order (rows_below rows n) c.args.source.now c.args.target.now c.loop-row.target) last c.loop-row.invariant

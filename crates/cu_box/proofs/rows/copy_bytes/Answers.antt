@@ -2,7 +2,7 @@ use Rattle.std.proofs.Common.{◌≡◌, ℕ, ◌+◌, ◌-◌, ◌++◌, List, 
 use Rattle.std.proofs.lemmas.List.{drop-drop}
 use borrow.Rule.Slice.PartMut.{put_mid}
 use Rattle.cu_box.specs.Order.{IsReordered}
-use Rattle.cu_box.proofs.rows.copy_run.Goals as goal
+use Rattle.cu_box.proofs.rows.copy_bytes.Goals as goal
 
 pub returns : goal.returns
 returns c =
