@@ -6,7 +6,7 @@ pub mod StepResults
 pub mod Running
 pub mod StripResults
 pub mod Pieces
-pub mod DirectValues
+pub mod CallValues
 pub mod RowResults
 pub mod RowSteps
 pub mod FirstPlaces

@@ -1,8 +1,6 @@
 -- A piece of a run of places, along which a region moves evenly or rests.
-use Rattle.std.proofs.Common.{◌≡◌, ◌==◌, if◌then◌else◌, ℕ, ◌+◌, ◌-◌, ◌*◌, ◌/◌, ◌%◌, ◌<◌, ◌≤◌, List, length, drop, refl, ap, sym, ◌∙◌, subst, arith, ⊎_elim}
-use Rattle.std.proofs.Math.Nat.{mul-le-mul_left, mul-le-mul_right, mod-le, mod-add-mod, mod_self, mod-eq_of_lt}
-use Rattle.std.proofs.lemmas.Bool.{cases_lt}
-use Rattle.std.proofs.lemmas.Bool.Decides.{eqb_tells}
+use Rattle.std.proofs.Common.{◌≡◌, ℕ, ◌+◌, ◌-◌, ◌*◌, ◌/◌, ◌%◌, ◌<◌, ◌≤◌, List, length, drop, refl, ap, sym, ◌∙◌, subst, arith}
+use Rattle.std.proofs.Math.Nat.{mul-le-mul_left, mul-le-mul_right}
 use Rattle.std.specs.List.{between}
 use Rattle.std.proofs.lemmas.List.Edits.{length-between}
 use Rattle.cu_num.specs.Dtype.{size_of}
@@ -11,7 +9,7 @@ use Rattle.cu_num.specs.declared.types.Dtype.{Dtype}
 use Rattle.cu_num.specs.declared.layout.Endian.TheVariants.{Little}
 use Rattle.cu_shape.specs.Index.{product, index_at}
 use Rattle.cu_kern.specs.declared.lays.Lay.{Lay}
-use Rattle.cu_kern.specs.Lays.{LayFits, IsRun, IsPeriod, place_read, lay_element}
+use Rattle.cu_kern.specs.Lays.{LayFits, IsRun, place_read, lay_element}
 use Rattle.cu_kern.specs.Strips.{strip, strip_element, HasPlaces}
 use Rattle.cu_kern.proofs.Parts.{element_moved, element_count}
 use Rattle.cu_kern.proofs.ReadPlaces.{piece_inside}
@@ -60,28 +58,6 @@ strip_read l t ins dims p from k h b =
     let moved = h.paced p.place k (omega arith) (omega arith) in
     element_moved t ins l.at (place_read l.dims dims p.place) from (length ins) (p.step * k) (place_read l.dims dims (p.place + k)) h.begins (bound l t ins dims p from k h b) moved
     ∙ ap (λ d. element_at Little d (drop l.at ins) (place_read l.dims dims (p.place + k))) (sym h.dtype)
-
--- ---- a region that is read again after each period
-
-pub read_again : (l : Lay) (ins ds : List ℕ) (period p at k : ℕ) → IsPeriod l.dims ds period → at ≡ p % period → p + k < product ds → at + k < period → lay_element l ins (index_at ds (at + k)) ≡ lay_element l ins (index_at ds (p + k))
-read_again l ins ds period p at k h e b r =
-    ap (element_at Little l.dtype (drop l.at ins)) (ap (λ a. place_read l.dims ds (a + k)) e ∙ h p k b (omega arith))
-
-pub next_place : (p at count period r : ℕ) → at ≡ p % period → at + count ≤ period → 0 < period → r ≡ (if at + count == period then 0 else at + count)
-    → (r ≡ (p + count) % period) × (r ≤ p + count) × (r < period)
-next_place p at count period r e fits some is =
-    let low : p % period ≤ p = mod-le p period in
-    let moved : (at + count) % period ≡ (p + count) % period = ap (λ a. (a + count) % period) e ∙ mod-add-mod p period count in
-    ⊎_elim
-    (λ q.
-    let none : r ≡ 0 = is ∙ ap (λ b. if b then 0 else at + count) q.0 in
-    let full : (at + count) % period ≡ 0 = ap (λ a. a % period) q.1 ∙ mod_self period in
-    (none ∙ sym full ∙ moved, omega arith, omega arith))
-    (λ q.
-    let more : r ≡ at + count = is ∙ ap (λ b. if b then 0 else at + count) q.0 in
-    let less : at + count < period = ⊎_elim (λ l. l) (λ m. absurd (q.1 (let same : at + count ≡ period = omega arith in same))) (cases_lt (at + count) period) in
-    (more ∙ sym (mod-eq_of_lt less) ∙ moved, omega arith, omega arith))
-    (eqb_tells (at + count) period)
 
 -- the part of the result that is written
 pub part_length : (t : Dtype) (out : List ℕ) (done count all size : ℕ) → size ≡ size_of t → done + count ≤ all → length out ≡ all * size_of t

@@ -1,7 +1,8 @@
 -- Elements that are written again behind themselves.
-use Rattle.std.proofs.Common.{◌≡◌, ℕ, ◌+◌, ◌*◌, ◌%◌, ◌<◌, ◌≤◌, List, length, ◌++◌, take, drop, refl, ap, sym, ◌∙◌, subst, arith, Some, ◌⊎◌, inl, inr}
-use Rattle.std.proofs.Math.Nat.{mod-add-mod, mod-eq_of_lt, mod-le, mod-lt}
-use Rattle.std.proofs.lemmas.List.{drop-drop, drop_at, take_at}
+use Rattle.std.proofs.Common.{◌≡◌, ℕ, suc, ◌+◌, ◌-◌, ◌*◌, ◌%◌, ◌<◌, ◌≤◌, List, length, ◌++◌, take, drop, refl, ap, sym, ◌∙◌, subst, arith, Some, ◌⊎◌, inl, inr, ⊎_elim}
+use Rattle.std.proofs.Math.Nat.{mod-add-mod, mod-eq_of_lt, mod-le, mod-lt, mul-le-mul_right}
+use Rattle.std.proofs.lemmas.Bool.{cases_lt}
+use Rattle.std.proofs.lemmas.List.{drop-drop, drop_at, take_at, length-take-le}
 use Rattle.cu_num.specs.Dtype.{size_of}
 use Rattle.cu_num.specs.Element.{bytes_at, element_at}
 use Rattle.cu_num.specs.declared.types.Dtype.{Dtype}
@@ -30,6 +31,28 @@ same_rest done first j whole = sym (mod-add-mod done first j) ∙ ap (λ n. (n +
 
 pub twice_whole : (done first : ℕ) → done % first ≡ 0 → (done + done) % first ≡ 0
 twice_whole done first whole = same_rest done first done whole ∙ whole
+
+-- the first elements, written once more behind themselves
+pub repeat_more : (t : Dtype) (old front copied rest : List ℕ) (done count first size : ℕ) → length front ≡ done * size_of t → copied ≡ take (count * size) front → count * size ≡ count * size_of t → count ≤ done
+    → done % first ≡ 0 → ((k : ℕ) → k < done → bytes_at t front k ≡ bytes_at t old (k % first)) → (k : ℕ) → k < done + count → bytes_at t (front ++ (copied ++ rest)) k ≡ bytes_at t old (k % first)
+repeat_more t old front copied rest done count first size long copy n less whole same k b = ⊎_elim
+    (λ before.
+    let far : suc k * size_of t ≤ done * size_of t = mul-le-mul_right (size_of t) (let l : suc k ≤ done = omega arith in l) in
+    bytes_in_front t front (copied ++ rest) k (omega arith) ∙ same k before)
+    (λ behind.
+    let j = k - done in
+    let sum : k ≡ done + j = omega arith in
+    let inside : suc j * size_of t ≤ count * size_of t = mul-le-mul_right (size_of t) (let l : suc j ≤ count = omega arith in l) in
+    let all : count * size_of t ≤ done * size_of t = mul-le-mul_right (size_of t) less in
+    let taken : length copied ≡ count * size_of t = ap length copy ∙ length-take-le (count * size) front (omega arith) ∙ n in
+    ap (bytes_at t (front ++ (copied ++ rest))) sum
+    ∙ bytes_in_back t front (copied ++ rest) done j long
+    ∙ bytes_in_front t copied rest j (omega arith)
+    ∙ ap (λ xs. bytes_at t xs j) copy
+    ∙ bytes_in_part t (count * size) j front (omega arith)
+    ∙ same j (omega arith)
+    ∙ ap (bytes_at t old) (sym (ap (λ q. q % first) sum ∙ same_rest done first j whole)))
+    (cases_lt k done)
 
 -- the places of a period read the same again
 period_read : (l : Lay) (ds : List ℕ) (period p : ℕ) → IsPeriod l.dims ds period → 0 < period → p < product ds → place_read l.dims ds (p % period) ≡ place_read l.dims ds p

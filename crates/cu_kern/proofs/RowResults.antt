@@ -23,7 +23,7 @@ use Rattle.cu_op.specs.declared.kernel.Instr.TheVariants.{Load, Const, One, Two,
 use Rattle.cu_op.specs.Kernel.{selected}
 use Rattle.cu_kern.specs.declared.calls.Call.TheVariants as call
 use Rattle.cu_kern.specs.Lays.{HasValue}
-use Rattle.cu_kern.proofs.DirectValues.{value_in_range}
+use Rattle.cu_kern.proofs.CallValues.{value_in_range}
 use Rattle.cu_kern.specs.declared.rows.Row.{Row}
 use Rattle.cu_kern.specs.Rows.{Rows, Stands, HasElement, HasStepResults, HasResultsOf, HasSameElements}
 use Rattle.cu_kern.specs.Strips.{Strip, strip, strip_element, HasPlaces, HasResults}

@@ -14,7 +14,7 @@ ghost use Rattle.cu_kern.specs.Rows.{rows_before, loads_along, HasResultsOf, Has
 
 use crate::calls::Call;
 use crate::lays::pace_of;
-use crate::regions::{Inputs, LaidRegion, spelled, strip_from};
+use crate::regions::{Inputs, LaidRegion, left_in, spelled, strip_from};
 use crate::rows::{Earlier, PlaceRange, Row, is_literal, kind_at, step_at};
 use crate::strip_functions::call_strips;
 use crate::strips::Strip;
@@ -101,7 +101,7 @@ fn region_strip<'a>(inputs: Inputs<'a>, j: u32, kind: Dtype, range: PlaceRange) 
         return None;
     }
     let pace = pace_of(&lay.dims, inputs.dims);
-    if range.from + range.count as u64 > pace.run {
+    if left_in(pace, range.from) < range.count as u64 {
         return None;
     }
     let region = LaidRegion {

@@ -6,7 +6,7 @@ ghost use Rattle.cu_kern.specs.Lays.{LayFits, HasValue};
 ghost use Rattle.cu_kern.specs.Steps.{value_by_place};
 ghost use Rattle.cu_kern.specs.Rows.{step_rows, loads_along, RowsAt};
 
-use crate::lays::Lay;
+use crate::lays::{Lay, pace_of};
 use crate::regions::Inputs;
 use crate::row_steps::{leave_row, row_of_step};
 use crate::rows::{Earlier, PlaceRange, Row, RowKernel, is_literal, kind_at, step_at};
@@ -25,6 +25,9 @@ const WIDTH: usize = 6144;
 
 /// Rows begin at multiples of so many bytes.
 const LINE: usize = 64;
+
+/// A piece of a region that has so many places is long: to read it where it lies takes less time than to copy it.
+const LONG: u64 = 1024;
 
 /// The rows of the first `last` steps, and how many bytes of the bank they fill; none where one isn't of its type or has no room.
 fn leave_rows(
@@ -94,25 +97,46 @@ fn run_row(
     row_of_step(kernel.code[last], t, earlier, out, spare)
 }
 
-/// The elements of the kernel's result, rows of at most `most` places at a time; `false` where types differ.
-fn run_each(kernel: RowKernel<'_>, t: Dtype, most: usize, bank: &mut [u8], out: &mut [u8]) -> bool
-    requires some { 0 < length kernel.code.now }
-    requires most { 0 < most }
-    requires rows { length kernel.code.now ≤ length kernel.rows.now }
-    requires lays { All (LayFits kernel.inputs.dims.now (length kernel.inputs.ins.now)) kernel.inputs.lays.now }
-    requires out { length out.old ≡ product kernel.inputs.dims.now * size_of t }
-    ensures { IsTrue result → (p : ℕ) → p < product kernel.entry.inputs.dims.now
-        → HasValue t out.new p (value_by_place kernel.entry.code.now kernel.entry.inputs.lays.now kernel.entry.inputs.ins.now kernel.entry.inputs.dims.now p) }
+/// How many places a row has at most, and how many bytes of the bank the rows then need.
+#[derive(Clone, Copy)]
+struct Room {
+    places: usize,
+    bytes: usize,
+}
+
+/// The elements of a kernel's result, a row of places at a time; `false` where types differ. No row of places goes past the end of a
+/// long piece of a region, so that such a piece is read where it lies.
+fn run_each(
+    code: &[Instr],
+    inputs: Inputs<'_>,
+    t: Dtype,
+    places: usize,
+    rows: &mut [Row; STEPS],
+    bank: &mut [u8],
+    out: &mut [u8],
+) -> bool
+    requires some { 0 < length code.now }
+    requires few { length code.now ≤ 32 }
+    requires places { 0 < places }
+    requires lays { All (LayFits inputs.dims.now (length inputs.ins.now)) inputs.lays.now }
+    requires out { length out.old ≡ product inputs.dims.now * size_of t }
+    ensures { IsTrue result → (p : ℕ) → p < product inputs.entry.dims.now
+        → HasValue t out.new p (value_by_place code.now inputs.entry.lays.now inputs.entry.ins.now inputs.entry.dims.now p) }
 {
     let size = size(t) as usize;
     let all = out.len() / size;
+    let piece = long_piece(rows);
     let mut done = 0;
     while done < all {
-        let count = (all - done).min(most);
+        let left = piece - done as u64 % piece;
+        let most = (all - done).min(places);
+        let count = most.min(left as usize);
         let range = PlaceRange {
             from: done as u64,
             count,
         };
+        keep_rows(range, rows);
+        let kernel = RowKernel { code, rows, inputs };
         let part = &mut out[done * size..(done + count) * size];
         if !run_row(kernel, t, range, bank, part) {
             return false;
@@ -120,6 +144,36 @@ fn run_each(kernel: RowKernel<'_>, t: Dtype, most: usize, bank: &mut [u8], out: 
         done += count;
     }
     true
+}
+
+/// The places of the shortest long piece that a step loads.
+fn long_piece(rows: &[Row; STEPS]) -> u64
+    ensures { 0 < result }
+{
+    let mut least = u64::MAX;
+    for number in 0..STEPS {
+        let piece = rows[number].piece;
+        if piece >= LONG {
+            least = least.min(piece);
+        }
+    }
+    least
+}
+
+/// Has rows kept of what isn't read where it lies along these places.
+fn keep_rows(range: PlaceRange, rows: &mut [Row; STEPS]) {
+    for number in 0..STEPS {
+        let row = rows[number];
+        rows[number] = Row {
+            kept: is_split(row.piece, range),
+            ..row
+        };
+    }
+}
+
+/// Whether the places don't lie in one piece of so many places.
+fn is_split(piece: u64, range: PlaceRange) -> bool {
+    piece == 0 || (range.from % piece).saturating_add(range.count as u64) > piece
 }
 
 /// The elements of a kernel of at most 32 steps; `false` where the rows weren't guessed right.
@@ -130,73 +184,91 @@ pub(crate) fn run_by_rows(code: &[Instr], inputs: Inputs<'_>, t: Dtype, out: &mu
     ensures { IsTrue result → (p : ℕ) → p < product inputs.entry.dims.now
         → HasValue t out.new p (value_by_place code.now inputs.entry.lays.now inputs.entry.ins.now inputs.entry.dims.now p) }
 {
-    if code.is_empty() || code.len() > STEPS {
+    if code.is_empty() || code.len() > STEPS || out.is_empty() {
         return false;
     }
     let mut rows = rows_of(code, inputs);
-    let most = places_of(code, &rows, out.len() / size(t) as usize);
-    let need = lay_out(code, most, &mut rows);
-    let kernel = RowKernel {
-        code,
-        rows: &rows,
-        inputs,
-    };
-    run_in_bank(kernel, t, most, need, out)
+    let places = places_of(code, &rows, out.len() / size(t) as usize);
+    let bytes = lay_out(code, places, &mut rows);
+    run_in_bank(code, inputs, t, Room { places, bytes }, &mut rows, out)
 }
 
-/// `run_each` with a bank that has at least `need` bytes, where that is possible: what a small task doesn't use isn't zeroed.
-fn run_in_bank(kernel: RowKernel<'_>, t: Dtype, most: usize, need: usize, out: &mut [u8]) -> bool
-    requires some { 0 < length kernel.code.now }
-    requires most { 0 < most }
-    requires rows { length kernel.code.now ≤ length kernel.rows.now }
-    requires lays { All (LayFits kernel.inputs.dims.now (length kernel.inputs.ins.now)) kernel.inputs.lays.now }
-    requires out { length out.old ≡ product kernel.inputs.dims.now * size_of t }
-    ensures { IsTrue result → (p : ℕ) → p < product kernel.entry.inputs.dims.now
-        → HasValue t out.new p (value_by_place kernel.entry.code.now kernel.entry.inputs.lays.now kernel.entry.inputs.ins.now kernel.entry.inputs.dims.now p) }
+/// `run_each` with a bank that has at least the bytes of this room, where that is possible: what a small task doesn't use isn't zeroed.
+fn run_in_bank(
+    code: &[Instr],
+    inputs: Inputs<'_>,
+    t: Dtype,
+    room: Room,
+    rows: &mut [Row; STEPS],
+    out: &mut [u8],
+) -> bool
+    requires some { 0 < length code.now }
+    requires few { length code.now ≤ 32 }
+    requires places { 0 < room.places }
+    requires lays { All (LayFits inputs.dims.now (length inputs.ins.now)) inputs.lays.now }
+    requires out { length out.old ≡ product inputs.dims.now * size_of t }
+    ensures { IsTrue result → (p : ℕ) → p < product inputs.entry.dims.now
+        → HasValue t out.new p (value_by_place code.now inputs.entry.lays.now inputs.entry.ins.now inputs.entry.dims.now p) }
 {
-    if need <= 2048 {
+    if room.bytes <= 2048 {
         let mut bank = [0; 2048];
-        run_each(kernel, t, most, &mut bank, out)
-    } else if need <= 8192 {
+        run_each(code, inputs, t, room.places, rows, &mut bank, out)
+    } else if room.bytes <= 8192 {
         let mut bank = [0; 8192];
-        run_each(kernel, t, most, &mut bank, out)
+        run_each(code, inputs, t, room.places, rows, &mut bank, out)
     } else {
         let mut bank = [0; BANK];
-        run_each(kernel, t, most, &mut bank, out)
+        run_each(code, inputs, t, room.places, rows, &mut bank, out)
     }
 }
 
-/// The types that the rows of the steps are guessed to have, and whether they are kept.
-fn rows_of(code: &[Instr], inputs: Inputs<'_>) -> [Row; STEPS] {
+/// The types that the rows of the steps are guessed to have, the pieces of what they load, and whether rows are kept somewhere.
+fn rows_of(code: &[Instr], inputs: Inputs<'_>) -> [Row; STEPS]
+    requires lays { All (LayFits inputs.dims.now (length inputs.ins.now)) inputs.lays.now }
+    requires some { 0 < product inputs.dims.now }
+    requires small { product inputs.dims.now < 2 ^ 63 }
+{
     let none = Row {
         dtype: Dtype::Bool,
         at: 0,
         kept: true,
+        piece: 0,
     };
     let mut rows = [none; STEPS];
     for number in 0..code.len().min(STEPS) {
+        let piece = piece_of(code[number], inputs);
         rows[number] = Row {
             dtype: kind_of(code[number], code, inputs, &rows),
             at: 0,
-            kept: is_kept(code[number], inputs),
+            kept: piece != u64::MAX,
+            piece,
         };
     }
     rows
 }
 
-/// Whether a row is kept of what the step loads: a region is read where it lies if it has as many elements as the result, or one.
-fn is_kept(instr: Instr, inputs: Inputs<'_>) -> bool {
+/// How many places a piece has of what a step loads: none where it loads nothing. A region that has as many elements as the result,
+/// or one, is of one piece.
+fn piece_of(instr: Instr, inputs: Inputs<'_>) -> u64
+    requires lays { All (LayFits inputs.dims.now (length inputs.ins.now)) inputs.lays.now }
+    requires some { 0 < product inputs.dims.now }
+    requires small { product inputs.dims.now < 2 ^ 63 }
+{
     let Instr::Load(j) = instr else {
-        return true;
+        return 0;
     };
     if j as usize >= inputs.lays.len() {
-        return true;
+        return 0;
     }
-    is_stretched(&inputs.lays[j as usize], inputs.dims)
+    let lay = &inputs.lays[j as usize];
+    if !is_stretched(lay, inputs.dims) {
+        return u64::MAX;
+    }
+    pace_of(&lay.dims, inputs.dims).run
 }
 
 /// Whether a region has neither as many elements as the result nor one.
-pub(crate) fn is_stretched(lay: &Lay, dims: &Dims) -> bool {
+fn is_stretched(lay: &Lay, dims: &Dims) -> bool {
     match lay.dims.elements() {
         Some(own) => own != 1 && Some(own) != dims.elements(),
         None => true,

@@ -6,7 +6,6 @@ mod by_rows;
 mod by_type;
 mod calls;
 mod comparisons;
-mod direct;
 mod division;
 mod fills;
 mod lays;

@@ -6,12 +6,14 @@ use crate::regions::Inputs;
 use cu_num::Dtype;
 use cu_op::Instr;
 
-/// Where a step's results stand: elements of a type from a byte of the bank on. What is loaded has a row only where one is kept.
+/// Where a step's results stand: elements of a type from a byte of the bank on. What is loaded has a row only where one is kept:
+/// along places of one piece of a region it is read where it lies. A piece has `piece` places, none where nothing is loaded.
 #[derive(Clone, Copy)]
 pub(crate) struct Row {
     pub(crate) dtype: Dtype,
     pub(crate) at: usize,
     pub(crate) kept: bool,
+    pub(crate) piece: u64,
 }
 
 /// The steps of a kernel, their rows, and what they load.

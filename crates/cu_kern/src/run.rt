@@ -10,7 +10,6 @@ ghost use Rattle.cu_kern.specs.Lays.{LayFits, lay_types, loaded_at, HasValue};
 ghost use Rattle.cu_kern.specs.Steps.{value_by_place};
 
 use crate::by_rows::run_by_rows;
-use crate::direct::run_direct;
 use crate::lays::Lay;
 use crate::regions::Inputs;
 use crate::steps::{ROW, run_block};
@@ -46,8 +45,7 @@ pub fn run_kernel(
     run_places(code, Inputs { lays, ins, dims }, t, out, words);
 }
 
-/// `run_kernel`, place by place: from bytes to bytes where the kernel is one function, else along rows of bytes, and in blocks of
-/// words where the rows weren't guessed right.
+/// `run_kernel`, place by place: along rows of bytes, and in blocks of words where the rows weren't guessed right.
 fn run_places(code: &[Instr], inputs: Inputs<'_>, t: Dtype, out: &mut [u8], words: &mut [u64])
     requires kernel { KernelFits code.now (lay_types inputs.lays.now) [] t }
     requires lays { All (LayFits inputs.dims.now (length inputs.ins.now)) inputs.lays.now }
@@ -55,9 +53,6 @@ fn run_places(code: &[Instr], inputs: Inputs<'_>, t: Dtype, out: &mut [u8], word
     requires words { length words.old ≡ 64 * length code.now }
     ensures { (p : ℕ) → p < product inputs.entry.dims.now → HasValue t out.new p (value_by_place code.now inputs.entry.lays.now inputs.entry.ins.now inputs.entry.dims.now p) }
 {
-    if run_direct(code, inputs, t, out) {
-        return;
-    }
     if run_by_rows(code, inputs, t, out) {
         return;
     }

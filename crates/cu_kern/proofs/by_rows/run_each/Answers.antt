@@ -14,14 +14,14 @@ use Rattle.cu_kern.proofs.by_rows.run_each.Goals as goal
 pub loop-done-preserved : goal.loop-done-preserved
 loop-done-preserved c =
     let t = c.args.t in
-    let all = product c.args.kernel.inputs.dims.now in
+    let all = product c.args.inputs.dims.now in
     let done = c.loop-done.done in
     let size = c.size-size.result in
     let count = c.min-count.result in
     let own : size ≡ size_of t = c.size-size.ensures in
     let is : length c.args.out.now / size ≡ all = element_count t all size (length c.args.out.now) own c.requires.out in
     let kept : length c.loop-done.out ≡ all * size_of t = c.loop-done.invariant.out_length ∙ c.requires.out in
-    let within : done + count ≤ all = omega (arith, c.min-count.ensures, c.loop-done-test.true, is) in
+    let within : done + count ≤ all = omega (arith, c.min-most.ensures, c.min-count.ensures, c.loop-done-test.true, is) in
     let out = c.loop-done.out in
     let new = c.run_row.new.out in
     let a = done * size in
@@ -47,13 +47,13 @@ loop-done-preserved c =
           let inside : k < count = omega arith in
           let last : suc k * size_of t ≤ count * size_of t = mul-le-mul_right (size_of t) (let l : suc k ≤ count = omega arith in l) in
           let room : k * size_of t + size_of t ≤ length new = omega arith in
-          let P : ℕ → Type 0 = λ q. HasValue t new k (value_by_place c.args.kernel.code.now c.args.kernel.inputs.lays.now c.args.kernel.inputs.ins.now c.args.kernel.inputs.dims.now q) in
+          let P : ℕ → Type 0 = λ q. HasValue t new k (value_by_place c.args.code.now c.args.inputs.lays.now c.args.inputs.ins.now c.args.inputs.dims.now q) in
           has_value_same t (put_mid a (e - a) out new) new p k _ (bytes_inside t a (e - a) out new p k at room (omega arith)) (subst P sum (c.if-not-run_row.ensures (search rules) k inside)))
           (cases_lt p done);
     }
 
 pub returns : goal.returns
 returns c met p h =
-    let all : length c.args.out.now / c.size-size.result ≡ product c.args.kernel.inputs.dims.now = element_count c.args.t (product c.args.kernel.inputs.dims.now) c.size-size.result (length c.args.out.now) c.size-size.ensures c.requires.out in
+    let all : length c.args.out.now / c.size-size.result ≡ product c.args.inputs.dims.now = element_count c.args.t (product c.args.inputs.dims.now) c.size-size.result (length c.args.out.now) c.size-size.ensures c.requires.out in
     let ends = c.loop-done-test.false in
     c.loop-done.invariant.values p (omega arith)

@@ -8,7 +8,7 @@ invariant-loop-done l = record {
   within : l.done ≤ l.all;
   out_length : length l.out ≡ length l.fn.out;
   bank_length : length l.bank ≡ length l.fn.bank;
-  values : (p : ℕ) → p < l.done → HasValue l.t l.out p (value_by_place l.kernel.code.now l.kernel.inputs.lays.now l.kernel.inputs.ins.now l.kernel.inputs.dims.now p);
+  values : (p : ℕ) → p < l.done → HasValue l.t l.out p (value_by_place l.code l.inputs.lays.now l.inputs.ins.now l.inputs.dims.now p);
 }
 
 abbrev pub decreases-loop-done : goal.decreases-loop-done

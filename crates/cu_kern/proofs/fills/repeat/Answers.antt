@@ -1,10 +1,9 @@
-use Rattle.std.proofs.Common.{◌≡◌, ℕ, suc, ◌+◌, ◌-◌, ◌*◌, ◌%◌, ◌<◌, ◌≤◌, length, ◌++◌, take, drop, refl, ap, sym, ◌∙◌, arith, length-append, length-drop, ⊎_elim}
+use Rattle.std.proofs.Common.{◌≡◌, ℕ, suc, ◌+◌, ◌*◌, ◌%◌, ◌<◌, ◌≤◌, length, take, drop, refl, ap, sym, ◌∙◌, arith, length-append, length-drop}
 use Rattle.std.proofs.Math.Nat.{mod_self, mod-eq_of_lt, mul-le-mul_right}
-use Rattle.std.proofs.lemmas.Bool.{cases_lt}
 use Rattle.std.proofs.lemmas.List.{length-take-le}
 use Rattle.cu_num.specs.Dtype.{size_of}
 use Rattle.cu_num.specs.Element.{bytes_at}
-use Rattle.cu_kern.proofs.Repeats.{bytes_in_front, bytes_in_back, bytes_in_part, same_rest, twice_whole}
+use Rattle.cu_kern.proofs.Repeats.{bytes_in_part, twice_whole, repeat_more}
 use Rattle.cu_kern.proofs.fills.repeat.Goals as goal
 
 pub loop-done-init : goal.loop-done-init
@@ -44,18 +43,5 @@ loop-done-preserved c =
       within = within;
       out_length = length-append front _ ∙ ap (λ q. length front + q) (length-append copied _ ∙ ap (λ q. length copied + q) (length-drop (count * size) back)) ∙ omega (arith, long, copied_long, back_long, n, far, out, c.loop-done.invariant.out_length, ap (λ s. done * s) own);
       whole = λ more. ap (λ q. (done + q) % c.args.first) (let all : count ≡ done = omega (arith, c.min-count.ensures, more) in all) ∙ twice_whole done c.args.first whole;
-      values = λ k b. ⊎_elim
-          (λ before. bytes_in_front t front _ k (omega (arith, mul-le-mul_right {m = suc k} (size_of t) before, long)) ∙ front_same k before)
-          (λ behind.
-          let j = k - done in
-          let sum : k ≡ done + j = omega (arith, behind) in
-          let inside : suc j * size_of t ≤ count * size_of t = mul-le-mul_right (size_of t) (let l : suc j ≤ count = omega (arith, b, behind) in l) in
-          ap (bytes_at t (front ++ (copied ++ drop (count * size) back))) sum
-          ∙ bytes_in_back t front (copied ++ drop (count * size) back) done j long
-          ∙ bytes_in_front t copied _ j (omega (arith, inside, copied_long))
-          ∙ ap (λ xs. bytes_at t xs j) copy
-          ∙ bytes_in_part t (count * size) j front (omega (arith, inside, n))
-          ∙ front_same j (omega (arith, c.min-count.ensures, b, behind))
-          ∙ ap (bytes_at t c.args.out.now) (sym (ap (λ q. q % c.args.first) sum ∙ same_rest done c.args.first j whole)))
-          (cases_lt k done);
+      values = λ k b. repeat_more t c.args.out.now front copied (drop (count * size) back) done count c.args.first size long copy n (omega (arith, c.min-count.ensures)) whole front_same k b;
     }

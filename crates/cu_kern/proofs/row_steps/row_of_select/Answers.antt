@@ -1,11 +1,9 @@
-use Rattle.std.proofs.Common.{rules, ◌≡◌, length, refl, ap, ◌∙◌, subst, sym, ℕ, Some}
-use Rattle.std.specs.List.{slice_get}
+use Rattle.std.proofs.Common.{length, refl, ap, ◌∙◌, subst, sym, ℕ, Some}
 use Rattle.cu_num.specs.Dtype.{size_of}
 use Rattle.cu_num.specs.declared.layout.Endian.TheVariants.{Little}
-use Rattle.cu_num.specs.declared.types.Dtype.{Dtype}
 use Rattle.cu_num.specs.declared.types.Dtype.TheVariants.{Bool}
 use Rattle.cu_num.proofs.ElementBytes.{InRange-element_at}
-use Rattle.cu_kern.specs.Strips.{strip, strip_element, HasPlaces}
+use Rattle.cu_kern.specs.Strips.{strip, HasPlaces}
 use Rattle.cu_kern.proofs.Parts.{element_below, element_count}
 use Rattle.cu_kern.proofs.RowResults.{select_computed}
 use Rattle.cu_kern.proofs.row_steps.row_of_select.Goals as goal
