@@ -15,6 +15,3 @@ pub use elements::{lane_load, lane_save, lane_select};
 pub use functions::{lane1, lane2};
 pub use sums::{lane_prod, lane_sum};
 pub use swaps::lane_swap;
-
-#[cfg(test)]
-mod tests;

@@ -1,5 +1,7 @@
 //! What no clause says: that the calls give these numbers, at every length.
-use super::*;
+use cu_lane::{
+    lane_least, lane_load, lane_prod, lane_save, lane_select, lane_sum, lane_swap, lane1, lane2,
+};
 use cu_num::{Dtype, Fn1, Fn2, accepts2, greatest, least, number, scalar2, word, wrap};
 use std::process::Abort;
 use std::test::Fail;
