@@ -6,6 +6,7 @@ pub mod Spans
 pub mod MatrixRegions
 pub mod MatrixBoxes
 pub mod Lists
+pub mod Steps
 pub mod Plans
 pub mod Values
 pub mod CellsOfTasks

@@ -42,6 +42,23 @@ use Rattle.cu_op.proofs.Wholes.{whole_over, whole_within}
 abbrev pub Fit : List ArrayInfo → ℕ → Op → Type 0
 Fit arrays k op = All (IsReadable arrays k) (reads_of op) × All (IsMadeBy arrays k) (writes_of op) × Fits arrays op
 
+-- ---- the array that the tasks go over is one of those that are written
+
+-- the places, which are written last
+pair_out : (P : ℕ → Type 0) (values : Option ℕ) (out : ℕ) → All P (pair_writes values out) → P out
+pair_out P None out h = h 0 0 (omega arith)
+pair_out P (Some stored) out h = h 1 0 (omega arith)
+
+pub target_among : (P : ℕ → Type 0) (op : Op) → All P (writes_of op) → P (target_of op)
+target_among P (Map kernel ins out) h = h 0 0 (omega arith)
+target_among P (Pull pull ins out) h = h 0 0 (omega arith)
+target_among P (Copy region source out) h = h 0 0 (omega arith)
+target_among P (Fold kind axes source out) h = h 0 0 (omega arith)
+target_among P (Merge kind axis group source out) h = h 0 0 (omega arith)
+target_among P (PairFold least axis source values out) h = pair_out P values out h
+target_among P (PairMerge least axis group value_source place_source values out) h = pair_out P values out h
+target_among P (Mul left right out) h = h 0 0 (omega arith)
+
 -- ---- walks, one for each array of a list
 
 pub walk_of : (f : ℕ → Walk) (numbers : List ℕ) (w : Walk) → ((a : ℕ) → (f a).array ≡ a) → Contains (map f numbers) w → Contains numbers w.array × (f w.array ≡ w)
@@ -73,11 +90,6 @@ module _ (arrays : List ArrayInfo) (grids : (a : ℕ) → a < length arrays → 
     nested_only : (out : ℕ) → IsGrid (grid_at arrays out) → All (λ a. IsNested (grid_at arrays a) (grid_at arrays out)) (out ∷ [])
     nested_only out ok = All-cons (λ a. IsNested (grid_at arrays a) (grid_at arrays out)) out [] (nested_same (grid_at arrays out) ok) (All-nil (λ a. IsNested (grid_at arrays a) (grid_at arrays out)))
 
-    -- the places, which are written last
-    pair_out : (P : ℕ → Type 0) (values : Option ℕ) (out : ℕ) → All P (pair_writes values out) → P out
-    pair_out P None out h = h 0 0 (omega arith)
-    pair_out P (Some stored) out h = h 1 0 (omega arith)
-
     nested_pair : (values : Option ℕ) (source out : ℕ) → StoresValues arrays values source out → IsGrid (grid_at arrays out) → All (λ a. IsNested (grid_at arrays a) (grid_at arrays out)) (pair_writes values out)
     nested_pair None source out s ok = nested_only out ok
     nested_pair (Some stored) source out s ok =
@@ -101,14 +113,7 @@ module _ (arrays : List ArrayInfo) (grids : (a : ℕ) → a < length arrays → 
 
     -- the array that the tasks go over is made by the operation
     pub target_made : (op : Op) → Fit arrays k op → IsMadeBy arrays k (target_of op)
-    target_made (Map kernel ins out) fit = fit.1 0 0 (omega arith)
-    target_made (Pull pull ins out) fit = fit.1 0 0 (omega arith)
-    target_made (Copy region source out) fit = fit.1 0 0 (omega arith)
-    target_made (Fold kind axes source out) fit = fit.1 0 0 (omega arith)
-    target_made (Merge kind axis group source out) fit = fit.1 0 0 (omega arith)
-    target_made (PairFold least axis source values out) fit = pair_out (IsMadeBy arrays k) values out fit.1
-    target_made (PairMerge least axis group value_source place_source values out) fit = pair_out (IsMadeBy arrays k) values out fit.1
-    target_made (Mul left right out) fit = fit.1 0 0 (omega arith)
+    target_made op fit = target_among (IsMadeBy arrays k) op fit.1
 
     pub nested_writes : (op : Op) → Fit arrays k op → All (λ a. IsNested (grid_at arrays a) (task_grid arrays op)) (writes_of op)
     nested_writes (Map kernel ins out) fit = nested_only out (grid_of_only out fit.1)

@@ -57,10 +57,31 @@ part_beside t width bytes whole_first places from count size is e room beside = 
 
 -- ---- sizes
 
+pub factor_below : (n m limit : ℕ) → 0 < m → n * m ≤ limit → n ≤ limit
+factor_below n m limit some h = let least : n * 1 ≤ n * m = mul-le n 1 n m (omega arith) some in omega arith
+
 pub block_reaches : (block blocks count width size bytes : ℕ) → block < blocks → blocks * count * width * size ≤ bytes → (block * count * width + count * width) * size ≤ bytes
 block_reaches block blocks count width size bytes b h =
     let far : suc block * (count * width * size) ≤ blocks * (count * width * size) = mul-le-mul_right (count * width * size) b in
     omega arith
+
+-- the same of rows of one element, which are a run
+pub record IsRunWithin (from count size bytes : ℕ) : Type 0 where
+  pub begins : from * size ≤ (from + count) * size
+  pub ends : (from + count) * size ≤ bytes
+  pub small : from + count ≤ bytes
+
+pub run_within : (block blocks count width own size bytes : ℕ) → block < blocks → width ≡ 1 → size ≡ own → 0 < own → blocks * count * width * own ≤ bytes → IsRunWithin (block * count) count size bytes
+run_within block blocks count width own size bytes b one e some h =
+    let reach = block_reaches block blocks count width own bytes b h in
+    let same : (block * count * width + count * width) * own ≡ (block * count + count) * size =
+    ap (λ w. (block * count * w + count * w) * own) one ∙ ap (λ s. (block * count * 1 + count * 1) * s) (sym e) ∙ (let each : (block * count * 1 + count * 1) * size ≡ (block * count + count) * size = omega arith in each) in
+    let ends : (block * count + count) * size ≤ bytes = omega (arith, reach, same) in
+    record {
+      begins = mul-le-mul_right size (omega arith);
+      ends = ends;
+      small = factor_below (block * count + count) size bytes (omega (arith, e, some)) ends;
+    }
 
 pub block_end : (block blocks width size own bytes : ℕ) → block < blocks → size ≡ own → bytes ≡ blocks * width * own → (block * width + width) * size ≤ bytes
 block_end block blocks width size own bytes b e h =
@@ -69,9 +90,6 @@ block_end block blocks width size own bytes b e h =
     omega arith
 
 -- a factor isn't greater than the product
-pub factor_below : (n m limit : ℕ) → 0 < m → n * m ≤ limit → n ≤ limit
-factor_below n m limit some h = let least : n * 1 ≤ n * m = mul-le n 1 n m (omega arith) some in omega arith
-
 -- ---- after a write of a part
 
 pub length-put_mid : (a n : ℕ) (xs ys : List ℕ) → length ys ≡ n → a + n ≤ length xs → length (put_mid a n xs ys) ≡ length xs

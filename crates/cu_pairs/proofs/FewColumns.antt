@@ -13,7 +13,9 @@ use Rattle.cu_reduce.specs.Places.{is_beyond}
 use Rattle.cu_pairs.specs.Elements.{found}
 use Rattle.cu_pairs.specs.Runs.{elements, IsBestValue, IsFirstBest, IsLeading}
 use Rattle.cu_pairs.specs.Columns.{table, found_in, sought_place, column_of, HasBest}
+use Rattle.cu_pairs.proofs.BlockParts.{factor_below}
 use Rattle.cu_pairs.proofs.Leading.{first_is_best, beyond_apart}
+use Rattle.cu_pairs.proofs.Parts.{size_positive}
 
 -- the element of a column in a row that the bytes have
 pub column_fits : (t : Dtype) (width k row rows bytes : ℕ) → k < width → row < rows → rows * width * size_of t ≤ bytes → (row * width + k) * size_of t + size_of t ≤ bytes
@@ -21,6 +23,13 @@ column_fits t width k row rows bytes h b room =
     let within : row * width + k < width * rows = mul-add-lt row width k rows b h in
     let far : suc (row * width + k) * size_of t ≤ rows * width * size_of t = mul-le-mul_right (size_of t) (let l : suc (row * width + k) ≤ rows * width = omega arith in l) in
     omega arith
+
+-- so the numbers of its row and of the element are small
+pub column_small : (t : Dtype) (width k row rows bytes : ℕ) → k < width → row < rows → rows * width * size_of t ≤ bytes → (row ≤ bytes) × (row * width + k ≤ bytes)
+column_small t width k row rows bytes h b room =
+    let fits = column_fits t width k row rows bytes h b room in
+    let number = factor_below (row * width + k) (size_of t) bytes (size_positive t) (omega arith) in
+    (factor_below row width bytes (omega arith) (omega arith), number)
 
 -- the best of elements that were put side by side
 pub best_of_gathered : (least : Test) (t : Dtype) (own : List ℕ) (f : ℕ → ℤ) (n : ℕ) (value : ℤ) → length own / size_of t ≡ n → ((j : ℕ) → j < n → elements t own j ≡ f j)

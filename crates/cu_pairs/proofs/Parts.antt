@@ -22,6 +22,10 @@ kept r f = to_z-of_z w128 r f
 pub kept_twice : (r : ℤ) → FitsSigned w128 r → cast_signed w128 (cast_unsigned w128 (cast_signed w128 (cast_unsigned w128 r))) ≡ r
 kept_twice r f = ap (λ z. cast_signed w128 (cast_unsigned w128 z)) (kept r f) ∙ kept r f
 
+-- an element of a buffer of so many
+pub element_room : (size k n bytes : ℕ) → k < n → bytes ≡ n * size → k * size + size ≤ bytes
+element_room size k n bytes b e = let far : suc k * size ≤ n * size = mul-le-mul_right size b in omega arith
+
 positive : (n : ℕ) → IsSize n → (0 < n) × (n ≤ 8)
 positive n h = (grind arith, grind arith)
 

@@ -1,5 +1,5 @@
 -- Two inner places by one multiplication.
-use Rattle.std.proofs.Common.{◌≡◌, ℕ, zero, suc, ◌+◌, ◌*◌, ◌<◌, ◌≤◌, ℤ, pos, negsuc, ◌+ℤ◌, ◌-ℤ◌, ◌*ℤ◌, refl, sym, ap, ◌∙◌, arith}
+use Rattle.std.proofs.Common.{◌≡◌, ℕ, zero, suc, ◌+◌, ◌*◌, ◌/◌, ◌%◌, ◌<◌, ◌≤◌, ℤ, pos, negsuc, ◌+ℤ◌, ◌-ℤ◌, ◌*ℤ◌, refl, sym, ap, ◌∙◌, arith}
 use Rattle.std.proofs.Math.IntN.{+ℤ_assoc, +ℤ_idl, +ℤ_idr, *ℤ_comm}
 use borrow.Author.Differences.{up, down, product_is}
 use Rattle.std.proofs.Math.Nat.{mul-le-mul_right}
@@ -79,6 +79,20 @@ wrapped_minus t h x y =
     ∙ (λ i. wrapped t (wrapped-wrapped t x i +ℤ wrapped_right t (negsuc 0) y i))
     ∙ sym (wrapped-add t x (negsuc 0 *ℤ y) h)
     ∙ ap (wrapped t) (sym (minus x y))
+
+-- ---- the elements of a panel
+
+panel_slot : (p half j r : ℕ) → p < half → j < 9 → r < 2 → p * 18 + 2 * j + r < half * 18
+panel_slot p half j r h d e = omega arith
+
+half_below : (inner q : ℕ) → q < inner → inner % 2 ≡ 0 → q / 2 < inner / 2
+half_below inner q h even = omega arith
+
+parity_below : (q : ℕ) → q % 2 < 2
+parity_below q = omega arith
+
+pub panel_place : (inner q j : ℕ) → q < inner → inner % 2 ≡ 0 → j < 9 → q / 2 * 18 + 2 * j + q % 2 < inner / 2 * 18
+panel_place inner q j h even d = panel_slot (q / 2) (inner / 2) j (q % 2) (half_below inner q h even) d (parity_below q)
 
 -- ---- eight elements of a row
 

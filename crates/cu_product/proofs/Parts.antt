@@ -9,7 +9,7 @@ use Rattle.std.specs.Prelude.{FitsSigned}
 use Rattle.std.proofs.lemmas.Int.{to_z-of_z}
 use Rattle.cu_num.specs.Dtype.{size_of}
 use Rattle.std.proofs.Math.Nat.{mul-le-mul_right, div-mul-le_self, le-div_iff_mul-le}
-use Rattle.std.proofs.lemmas.Nat.{div-mul-add}
+use Rattle.std.proofs.lemmas.Nat.{div-mul-add, mul-le}
 use Rattle.std.proofs.lemmas.Bool.{cases_lt}
 use Rattle.cu_num.proofs.Bytes.{IsSize-size_of}
 use Rattle.cu_num.specs.Element.{element_at, bytes_at, IsSize}
@@ -109,6 +109,17 @@ bytes_beyond t a n xs ys p long far h =
 -- an element of so many lies inside
 pub element_inside : (t : Dtype) (k count bytes : ℕ) → bytes ≡ count * size_of t → k < count → k * size_of t + size_of t ≤ bytes
 element_inside t k count bytes e h = let far : suc k * size_of t ≤ count * size_of t = mul-le-mul_right (size_of t) h in omega arith
+
+-- so its number is small
+pub element_small : (t : Dtype) (k count bytes : ℕ) → bytes ≡ count * size_of t → k < count → k ≤ bytes
+element_small t k count bytes e h =
+    let inside = element_inside t k count bytes e h in
+    let least : k * 1 ≤ k * size_of t = mul-le k 1 k (size_of t) (omega arith) (size_positive t) in
+    omega arith
+
+-- an element of a matrix
+pub place_within : (rows columns i j : ℕ) → i < rows → j < columns → i * columns + j < rows * columns
+place_within rows columns i j h d = let far : (i + 1) * columns ≤ rows * columns = mul-le-mul_right columns (let l : i + 1 ≤ rows = omega arith in l) in omega arith
 
 -- a number that fits is passed on as it is
 pub kept : (r : ℤ) → FitsSigned w128 r → cast_signed w128 (cast_unsigned w128 r) ≡ r

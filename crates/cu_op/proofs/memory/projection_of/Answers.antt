@@ -1,7 +1,8 @@
-use Rattle.std.proofs.Common.{◌≡◌, ◌+◌, ◌*◌, max, map, refl, arith}
+use Rattle.std.proofs.Common.{◌≡◌, ◌<◌, ◌+◌, ◌*◌, length, max, map, refl, arith}
 use Rattle.cu_op.specs.Arrays.{chunk_room}
 use Rattle.cu_op.specs.Operation.{reads_of, writes_of}
 use Rattle.cu_op.specs.Projection.{projection, instruction_count}
+use Rattle.cu_op.proofs.Operations.{target_among}
 use Rattle.cu_op.proofs.Plans.{projection_parts}
 use Rattle.cu_op.proofs.memory.projection_of.Goals as goal
 use Rattle.cu_shape.specs.Counts.{largest}
@@ -27,3 +28,21 @@ overflow_add-result-4 c = let e = whole c in let s = c.requires.small in let n =
 
 pub returns : goal.returns
 returns c = let e = whole c in let n = c.steps.ensures.count in let f = c.from-code.ensures in omega (arith, e, n, f)
+
+pub greatest_room-requires : goal.greatest_room-requires
+greatest_room-requires c = rw (c.as_slice.ensures.value, c.reads.ensures) c.requires.reads
+
+pub greatest_room-requires-2 : goal.greatest_room-requires-2
+greatest_room-requires-2 c = rw (c.as_slice-2.ensures.value, c.writes.ensures) c.requires.writes
+
+pub input_room-inputs-requires-clause-within : goal.input_room-inputs-requires-clause-within
+input_room-inputs-requires-clause-within c = c.requires.reads
+
+pub input_room-inputs-requires-clause-small : goal.input_room-inputs-requires-clause-small
+input_room-inputs-requires-clause-small c = let s = c.requires.small in omega (arith, s)
+
+pub output_room-outputs-requires-clause-reads : goal.output_room-outputs-requires-clause-reads
+output_room-outputs-requires-clause-reads c = c.requires.reads
+
+pub output_room-outputs-requires-clause-target : goal.output_room-outputs-requires-clause-target
+output_room-outputs-requires-clause-target c = target_among (λ a. a < length c.args.arrays.now) c.args.op.now c.requires.writes

@@ -1,4 +1,4 @@
-use Rattle.std.proofs.Common.{pred, map, sym, ◌∙◌}
+use Rattle.std.proofs.Common.{pred, map, sym, refl, ◌∙◌, arith}
 use Rattle.std.proofs.lemmas.List.{length-map}
 use Rattle.cu_shape.proofs.Places.{inside-length}
 use Rattle.cu_op.specs.Arrays.{grid_at}
@@ -34,3 +34,141 @@ right_walk-requires-clause-region c =
     let first = rw c.in-Mul.is at c.requires.first in
     let last = rw c.in-Mul.is at c.requires.last in
     product_region c.args.arrays.now c.in-Mul.left c.in-Mul.right c.in-Mul.out fits c.args.region.now.lo c.args.region.now.hi first last
+
+pub map_walks-requires-clause-few : goal.map_walks-requires-clause-few
+map_walks-requires-clause-few c = c.as_slice.ensures.fits
+
+pub whole_walks-requires-clause-few : goal.whole_walks-requires-clause-few
+whole_walks-requires-clause-few c = c.as_slice-in-Pull.ensures.fits
+
+pub whole_walks-requires-clause-within : goal.whole_walks-requires-clause-within
+whole_walks-requires-clause-within c = rw c.as_slice-in-Pull.ensures.value (rw c.in-Pull.is at c.requires.reads)
+
+pub chunk_walk-requires-clause-out : goal.chunk_walk-requires-clause-out
+chunk_walk-requires-clause-out c = rw c.in-Fold.is at c.requires.target
+
+pub chunk_walk-requires-clause-result : goal.chunk_walk-requires-clause-result
+chunk_walk-requires-clause-result c = let fits = rw c.in-Fold.is at c.requires.fits in fits.result
+
+pub chunk_walk-requires-clause-first : goal.chunk_walk-requires-clause-first
+chunk_walk-requires-clause-first c = rw c.in-Fold.is at c.requires.first
+
+pub chunk_walk-requires-clause-last : goal.chunk_walk-requires-clause-last
+chunk_walk-requires-clause-last c = rw c.in-Fold.is at c.requires.last
+
+pub chunk_walk-requires-in-PairFold-clause-out : goal.chunk_walk-requires-in-PairFold-clause-out
+chunk_walk-requires-in-PairFold-clause-out c = rw c.in-PairFold.is at c.requires.target
+
+pub chunk_walk-requires-in-PairFold-clause-result : goal.chunk_walk-requires-in-PairFold-clause-result
+chunk_walk-requires-in-PairFold-clause-result c = let fits = rw c.in-PairFold.is at c.requires.fits in fits.1.result
+
+pub chunk_walk-requires-in-PairFold-clause-first : goal.chunk_walk-requires-in-PairFold-clause-first
+chunk_walk-requires-in-PairFold-clause-first c = rw c.in-PairFold.is at c.requires.first
+
+pub chunk_walk-requires-in-PairFold-clause-last : goal.chunk_walk-requires-in-PairFold-clause-last
+chunk_walk-requires-in-PairFold-clause-last c = rw c.in-PairFold.is at c.requires.last
+
+pub merge_walk-requires-clause-out : goal.merge_walk-requires-clause-out
+merge_walk-requires-clause-out c = rw c.in-Merge.is at c.requires.target
+
+pub merge_walk-requires-clause-some : goal.merge_walk-requires-clause-some
+merge_walk-requires-clause-some c = let fits = rw c.in-Merge.is at c.requires.fits in fits.0.some
+
+pub merge_walk-requires-clause-few : goal.merge_walk-requires-clause-few
+merge_walk-requires-clause-few c = let fits = rw c.in-Merge.is at c.requires.fits in fits.0.few
+
+pub merge_walk-requires-clause-result : goal.merge_walk-requires-clause-result
+merge_walk-requires-clause-result c = let fits = rw c.in-Merge.is at c.requires.fits in fits.1.result
+
+pub merge_walk-requires-clause-first : goal.merge_walk-requires-clause-first
+merge_walk-requires-clause-first c = rw c.in-Merge.is at c.requires.first
+
+pub merge_walk-requires-clause-last : goal.merge_walk-requires-clause-last
+merge_walk-requires-clause-last c = rw c.in-Merge.is at c.requires.last
+
+pub merge_walk-requires-in-PairMerge-clause-out : goal.merge_walk-requires-in-PairMerge-clause-out
+merge_walk-requires-in-PairMerge-clause-out c = rw c.in-PairMerge.is at c.requires.target
+
+pub merge_walk-requires-in-PairMerge-clause-some : goal.merge_walk-requires-in-PairMerge-clause-some
+merge_walk-requires-in-PairMerge-clause-some c = let fits = rw c.in-PairMerge.is at c.requires.fits in fits.0.some
+
+pub merge_walk-requires-in-PairMerge-clause-few : goal.merge_walk-requires-in-PairMerge-clause-few
+merge_walk-requires-in-PairMerge-clause-few c = let fits = rw c.in-PairMerge.is at c.requires.fits in fits.0.few
+
+pub merge_walk-requires-in-PairMerge-clause-result : goal.merge_walk-requires-in-PairMerge-clause-result
+merge_walk-requires-in-PairMerge-clause-result c = let fits = rw c.in-PairMerge.is at c.requires.fits in fits.2.result
+
+pub merge_walk-requires-in-PairMerge-clause-first : goal.merge_walk-requires-in-PairMerge-clause-first
+merge_walk-requires-in-PairMerge-clause-first c = rw c.in-PairMerge.is at c.requires.first
+
+pub merge_walk-requires-in-PairMerge-clause-last : goal.merge_walk-requires-in-PairMerge-clause-last
+merge_walk-requires-in-PairMerge-clause-last c = rw c.in-PairMerge.is at c.requires.last
+
+pub chunk_walk-requires-clause-source : goal.chunk_walk-requires-clause-source
+chunk_walk-requires-clause-source c = let reads = rw c.in-Fold.is at c.requires.reads in reads 0 0 (omega arith)
+
+pub chunk_walk-requires-in-PairFold-clause-source : goal.chunk_walk-requires-in-PairFold-clause-source
+chunk_walk-requires-in-PairFold-clause-source c = let reads = rw c.in-PairFold.is at c.requires.reads in reads 0 0 (omega arith)
+
+pub merge_walk-requires-clause-source : goal.merge_walk-requires-clause-source
+merge_walk-requires-clause-source c = let reads = rw c.in-Merge.is at c.requires.reads in reads 0 0 (omega arith)
+
+pub merge_walk-requires-in-PairMerge-clause-source : goal.merge_walk-requires-in-PairMerge-clause-source
+merge_walk-requires-in-PairMerge-clause-source c = let reads = rw c.in-PairMerge.is at c.requires.reads in reads 0 0 (omega arith)
+
+pub merge_walk-requires-in-PairMerge-2-clause-source : goal.merge_walk-requires-in-PairMerge-2-clause-source
+merge_walk-requires-in-PairMerge-2-clause-source c = let reads = rw c.in-PairMerge.is at c.requires.reads in reads 1 0 (omega arith)
+
+pub left_walk-requires-clause-left : goal.left_walk-requires-clause-left
+left_walk-requires-clause-left c = let reads = rw c.in-Mul.is at c.requires.reads in reads 0 0 (omega arith)
+
+pub left_walk-requires-clause-right : goal.left_walk-requires-clause-right
+left_walk-requires-clause-right c = let reads = rw c.in-Mul.is at c.requires.reads in reads 1 0 (omega arith)
+
+pub right_walk-requires-clause-left : goal.right_walk-requires-clause-left
+right_walk-requires-clause-left c = let reads = rw c.in-Mul.is at c.requires.reads in reads 0 0 (omega arith)
+
+pub right_walk-requires-clause-right : goal.right_walk-requires-clause-right
+right_walk-requires-clause-right c = let reads = rw c.in-Mul.is at c.requires.reads in reads 1 0 (omega arith)
+
+pub merge_walk-requires-in-PairMerge-2-clause-out : goal.merge_walk-requires-in-PairMerge-2-clause-out
+merge_walk-requires-in-PairMerge-2-clause-out c = rw c.in-PairMerge.is at c.requires.target
+
+pub merge_walk-requires-in-PairMerge-2-clause-some : goal.merge_walk-requires-in-PairMerge-2-clause-some
+merge_walk-requires-in-PairMerge-2-clause-some c = let fits = rw c.in-PairMerge.is at c.requires.fits in fits.0.some
+
+pub merge_walk-requires-in-PairMerge-2-clause-few : goal.merge_walk-requires-in-PairMerge-2-clause-few
+merge_walk-requires-in-PairMerge-2-clause-few c = let fits = rw c.in-PairMerge.is at c.requires.fits in fits.0.few
+
+pub merge_walk-requires-in-PairMerge-2-clause-result : goal.merge_walk-requires-in-PairMerge-2-clause-result
+merge_walk-requires-in-PairMerge-2-clause-result c = let fits = rw c.in-PairMerge.is at c.requires.fits in rw fits.1.grid fits.2.result
+
+pub merge_walk-requires-in-PairMerge-2-clause-first : goal.merge_walk-requires-in-PairMerge-2-clause-first
+merge_walk-requires-in-PairMerge-2-clause-first c = rw c.in-PairMerge.is at c.requires.first
+
+pub merge_walk-requires-in-PairMerge-2-clause-last : goal.merge_walk-requires-in-PairMerge-2-clause-last
+merge_walk-requires-in-PairMerge-2-clause-last c = rw c.in-PairMerge.is at c.requires.last
+
+pub returns-in-Map-clause-walks : goal.returns-in-Map-clause-walks
+returns-in-Map-clause-walks c = rw (c.in-Map.is, c.map_walks.ensures, c.as_slice.ensures.value) refl
+
+pub returns-in-Pull-clause-walks : goal.returns-in-Pull-clause-walks
+returns-in-Pull-clause-walks c = rw (c.in-Pull.is, c.whole_walks.ensures, c.as_slice-in-Pull.ensures.value) refl
+
+pub returns-in-Copy-clause-walks : goal.returns-in-Copy-clause-walks
+returns-in-Copy-clause-walks c = rw (c.in-Copy.is, c.one_walk.ensures) refl
+
+pub returns-in-Fold-clause-walks : goal.returns-in-Fold-clause-walks
+returns-in-Fold-clause-walks c = rw (c.in-Fold.is, c.one_walk-in-Fold.ensures, c.chunk_walk.ensures) refl
+
+pub returns-in-PairFold-clause-walks : goal.returns-in-PairFold-clause-walks
+returns-in-PairFold-clause-walks c = rw (c.in-PairFold.is, c.one_walk-in-PairFold.ensures, c.chunk_walk-in-PairFold.ensures) refl
+
+pub returns-in-Merge-clause-walks : goal.returns-in-Merge-clause-walks
+returns-in-Merge-clause-walks c = rw (c.in-Merge.is, c.one_walk-in-Merge.ensures, c.merge_walk.ensures) refl
+
+pub returns-in-PairMerge-clause-walks : goal.returns-in-PairMerge-clause-walks
+returns-in-PairMerge-clause-walks c = rw (c.in-PairMerge.is, c.two_walks.ensures, c.merge_walk-in-PairMerge.ensures, c.merge_walk-in-PairMerge-2.ensures) refl
+
+pub returns-in-Mul-clause-walks : goal.returns-in-Mul-clause-walks
+returns-in-Mul-clause-walks c = rw (c.in-Mul.is, c.two_walks-in-Mul.ensures, c.left_walk.ensures, c.right_walk.ensures) refl

@@ -1,4 +1,5 @@
-use Rattle.std.proofs.Common.{◌≡◌, ◌+◌, ◌*◌, ℕ, length, refl, ◌∙◌, subst, arith}
+use Rattle.std.proofs.Common.{◌≡◌, ◌≤◌, ◌+◌, ◌*◌, ℕ, length, refl, ◌∙◌, subst, arith}
+use Rattle.std.proofs.Math.Nat.{mul-le-mul_right}
 use Rattle.cu_num.specs.Dtype.{size_of}
 use Rattle.cu_num.specs.declared.types.Dtype.TheVariants.{Int64}
 use Rattle.cu_pairs.proofs.Parts.{size_positive}
@@ -48,6 +49,47 @@ overflow_mul-own_values-in-loop-block c =
 pub slice_bounds-own_values-end : goal.slice_bounds-own_values-end
 slice_bounds-own_values-end c =
     block_end c.loop-block.block c.args.blocks.number c.args.rows.width c.size-size.result (size_of c.args.t) (length c.loop-block.values) c.loop-block-test.true c.size-size.ensures (c.loop-block.invariant.values_length ∙ c.requires.values)
+
+pub overflow_mul-from : goal.overflow_mul-from
+overflow_mul-from c =
+    let end = block_end c.loop-block.block c.args.blocks.number c.args.rows.width 8 8 (length c.args.places.now) c.loop-block-test.true refl c.requires.places in
+    omega arith
+
+pub overflow_add-end : goal.overflow_add-end
+overflow_add-end c =
+    let end = block_end c.loop-block.block c.args.blocks.number c.args.rows.width 8 8 (length c.args.places.now) c.loop-block-test.true refl c.requires.places in
+    omega arith
+
+pub overflow_mul-own_places : goal.overflow_mul-own_places
+overflow_mul-own_places c =
+    let end = block_end c.loop-block.block c.args.blocks.number c.args.rows.width 8 8 (length c.args.places.now) c.loop-block-test.true refl c.requires.places in
+    omega arith
+
+pub overflow_mul-own_places-in-loop-block : goal.overflow_mul-own_places-in-loop-block
+overflow_mul-own_places-in-loop-block c =
+    let end = block_end c.loop-block.block c.args.blocks.number c.args.rows.width 8 8 (length c.args.places.now) c.loop-block-test.true refl c.requires.places in
+    omega arith
+
+pub slice_bounds-own_places-end : goal.slice_bounds-own_places-end
+slice_bounds-own_places-end c = block_end c.loop-block.block c.args.blocks.number c.args.rows.width 8 8 (length c.loop-block.places) c.loop-block-test.true refl (c.loop-block.invariant.places_length ∙ c.requires.places)
+
+pub overflow_mul-own_values : goal.overflow_mul-own_values
+overflow_mul-own_values c =
+    let begins = mul-le-mul_right c.size-size.result (let less : c.loop-block.block * c.args.rows.width ≤ c.loop-block.block * c.args.rows.width + c.args.rows.width = omega arith in less) in
+    let end = block_end c.loop-block.block c.args.blocks.number c.args.rows.width c.size-size.result (size_of c.args.t) (length c.loop-block.values) c.loop-block-test.true c.size-size.ensures (c.loop-block.invariant.values_length ∙ c.requires.values) in
+    omega arith
+
+pub slice_bounds-own_values-start : goal.slice_bounds-own_values-start
+slice_bounds-own_values-start c = mul-le-mul_right c.size-size.result (let less : c.loop-block.block * c.args.rows.width ≤ c.loop-block.block * c.args.rows.width + c.args.rows.width = omega arith in less)
+
+pub columns_of_type-requires-clause-values : goal.columns_of_type-requires-clause-values
+columns_of_type-requires-clause-values c =
+    rw c.part_of-part.ensures.width (block_length c.loop-block.block c.args.rows.width c.size-size.result (size_of c.args.t) c.loop-block.values c.size-size.ensures
+    (block_end c.loop-block.block c.args.blocks.number c.args.rows.width c.size-size.result (size_of c.args.t) (length c.loop-block.values) c.loop-block-test.true c.size-size.ensures (c.loop-block.invariant.values_length ∙ c.requires.values)))
+
+pub columns_of_type-requires-clause-places : goal.columns_of_type-requires-clause-places
+columns_of_type-requires-clause-places c =
+    rw c.part_of-part.ensures.width (block_length c.loop-block.block c.args.rows.width 8 8 c.loop-block.places refl (block_end c.loop-block.block c.args.blocks.number c.args.rows.width 8 8 (length c.loop-block.places) c.loop-block-test.true refl (c.loop-block.invariant.places_length ∙ c.requires.places)))
 
 pub loop-block-preserved : goal.loop-block-preserved
 loop-block-preserved c =

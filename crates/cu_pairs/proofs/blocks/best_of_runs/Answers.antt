@@ -6,12 +6,60 @@ use Rattle.cu_num.specs.Element.{bytes_at}
 use Rattle.cu_num.specs.declared.types.Dtype.TheVariants.{Int64}
 use Rattle.cu_num.specs.declared.layout.Endian.TheVariants.{Little}
 use Rattle.cu_num.proofs.ElementBytes.{bytes_at-written_at_same, bytes_at-written_at_other, length-written_at, length-element_bytes}
-use Rattle.cu_pairs.proofs.Parts.{kept}
-use Rattle.cu_pairs.proofs.BlockParts.{block_reaches}
+use Rattle.cu_pairs.proofs.Parts.{kept, size_positive, element_room}
+use Rattle.cu_pairs.proofs.BlockParts.{block_reaches, run_within}
 use Rattle.cu_pairs.proofs.RunSteps.{runs_more}
 use Rattle.cu_pairs.specs.Columns.{table}
 use Rattle.cu_pairs.specs.Blocks.{sizes, HasBestsAlong}
 use Rattle.cu_pairs.proofs.blocks.best_of_runs.Goals as goal
+
+pub overflow_mul-from : goal.overflow_mul-from
+overflow_mul-from c =
+    let rows = c.args.rows in
+    let run = run_within c.loop-block.block c.args.blocks.number c.args.blocks.rows rows.width (size_of c.args.t) c.size-size.result (length rows.bytes.now) c.loop-block-test.true c.requires.width c.size-size.ensures
+    (size_positive c.args.t) c.requires.rows.bytes in
+    let small = run.small in omega arith
+
+pub overflow_mul-run : goal.overflow_mul-run
+overflow_mul-run c =
+    let rows = c.args.rows in
+    let run = run_within c.loop-block.block c.args.blocks.number c.args.blocks.rows rows.width (size_of c.args.t) c.size-size.result (length rows.bytes.now) c.loop-block-test.true c.requires.width c.size-size.ensures
+    (size_positive c.args.t) c.requires.rows.bytes in
+    let begins = run.begins in let ends = run.ends in omega arith
+
+pub overflow_add-run : goal.overflow_add-run
+overflow_add-run c =
+    let rows = c.args.rows in
+    let run = run_within c.loop-block.block c.args.blocks.number c.args.blocks.rows rows.width (size_of c.args.t) c.size-size.result (length rows.bytes.now) c.loop-block-test.true c.requires.width c.size-size.ensures
+    (size_positive c.args.t) c.requires.rows.bytes in
+    let small = run.small in omega arith
+
+pub overflow_mul-run-in-loop-block : goal.overflow_mul-run-in-loop-block
+overflow_mul-run-in-loop-block c =
+    let rows = c.args.rows in
+    let run = run_within c.loop-block.block c.args.blocks.number c.args.blocks.rows rows.width (size_of c.args.t) c.size-size.result (length rows.bytes.now) c.loop-block-test.true c.requires.width c.size-size.ensures
+    (size_positive c.args.t) c.requires.rows.bytes in
+    let ends = run.ends in omega arith
+
+pub slice_bounds-run-start : goal.slice_bounds-run-start
+slice_bounds-run-start c =
+    let rows = c.args.rows in
+    let run = run_within c.loop-block.block c.args.blocks.number c.args.blocks.rows rows.width (size_of c.args.t) c.size-size.result (length rows.bytes.now) c.loop-block-test.true c.requires.width c.size-size.ensures
+    (size_positive c.args.t) c.requires.rows.bytes in
+    run.begins
+
+pub slice_bounds-run-end : goal.slice_bounds-run-end
+slice_bounds-run-end c =
+    let rows = c.args.rows in
+    let run = run_within c.loop-block.block c.args.blocks.number c.args.blocks.rows rows.width (size_of c.args.t) c.size-size.result (length rows.bytes.now) c.loop-block-test.true c.requires.width c.size-size.ensures
+    (size_positive c.args.t) c.requires.rows.bytes in
+    run.ends
+
+pub save-requires : goal.save-requires
+save-requires c = element_room (size_of c.args.t) c.loop-block.block c.args.blocks.number (length c.loop-block.values) c.loop-block-test.true (c.loop-block.invariant.values_length ∙ c.requires.values)
+
+pub save-requires-in-loop-block : goal.save-requires-in-loop-block
+save-requires-in-loop-block c = element_room 8 c.loop-block.block c.args.blocks.number (length c.loop-block.places) c.loop-block-test.true (c.loop-block.invariant.places_length ∙ c.requires.places)
 
 pub loop-block-preserved : goal.loop-block-preserved
 loop-block-preserved c =

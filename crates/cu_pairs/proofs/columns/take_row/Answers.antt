@@ -8,7 +8,8 @@ use Rattle.cu_num.proofs.ElementBytes.{bytes_at-written_at_same, bytes_at-writte
 use Rattle.cu_reduce.specs.Numbers.{HasNumber}
 use Rattle.cu_pairs.specs.Elements.{found}
 use Rattle.cu_pairs.specs.Columns.{table, found_in, is_taken, HasBest}
-use Rattle.cu_pairs.proofs.Parts.{kept, kept_twice}
+use Rattle.cu_pairs.proofs.FewColumns.{column_fits, column_small}
+use Rattle.cu_pairs.proofs.Parts.{kept, kept_twice, element_room}
 use Rattle.cu_pairs.proofs.ColumnSteps.{first_row, later_row, same_column, chosen_number}
 use Rattle.cu_pairs.proofs.columns.take_row.Goals as goal
 use Rattle.cu_pairs.proofs.columns.take_row.Goals.{then-row-eq0, else-row-eq0}
@@ -20,6 +21,33 @@ loop-k-init c = record {
   done = λ k b. absurd (omega arith);
   left = λ k a b. c.requires.before.column k b;
 }
+
+pub overflow_mul-at : goal.overflow_mul-at
+overflow_mul-at c =
+    let small = column_small c.args.t c.args.rows.width c.loop-k.k c.args.row (c.args.row + 1) (length c.args.rows.bytes.now) c.loop-k-test.true (omega arith) c.requires.rows.bytes in
+    let number = small.1 in
+    omega arith
+
+pub overflow_add-at : goal.overflow_add-at
+overflow_add-at c =
+    let small = column_small c.args.t c.args.rows.width c.loop-k.k c.args.row (c.args.row + 1) (length c.args.rows.bytes.now) c.loop-k-test.true (omega arith) c.requires.rows.bytes in
+    let number = small.1 in
+    omega arith
+
+pub load-requires : goal.load-requires
+load-requires c = column_fits c.args.t c.args.rows.width c.loop-k.k c.args.row (c.args.row + 1) (length c.args.rows.bytes.now) c.loop-k-test.true (omega arith) c.requires.rows.bytes
+
+pub load-requires-in-loop-k : goal.load-requires-in-loop-k
+load-requires-in-loop-k c = element_room (size_of c.args.t) c.loop-k.k c.args.rows.width (length c.loop-k.values) c.loop-k-test.true (c.loop-k.invariant.values_length ∙ c.requires.values)
+
+pub load-requires-in-loop-k-2 : goal.load-requires-in-loop-k-2
+load-requires-in-loop-k-2 c = element_room 8 c.loop-k.k c.args.rows.width (length c.loop-k.places) c.loop-k-test.true (c.loop-k.invariant.places_length ∙ c.requires.places)
+
+pub save-requires : goal.save-requires
+save-requires c = element_room (size_of c.args.t) c.loop-k.k c.args.rows.width (length c.loop-k.values) c.loop-k-test.true (c.loop-k.invariant.values_length ∙ c.requires.values)
+
+pub save-requires-in-loop-k : goal.save-requires-in-loop-k
+save-requires-in-loop-k c = element_room 8 c.loop-k.k c.args.rows.width (length c.loop-k.places) c.loop-k-test.true (c.loop-k.invariant.places_length ∙ c.requires.places)
 
 pub loop-k-preserved : goal.loop-k-preserved
 loop-k-preserved c =

@@ -7,10 +7,31 @@ use Rattle.cu_num.specs.declared.types.Dtype.TheVariants.{Int64}
 use Rattle.cu_num.specs.declared.layout.Endian.TheVariants.{Little}
 use Rattle.cu_num.proofs.ElementBytes.{bytes_at-written_at_same, bytes_at-written_at_other, length-written_at, length-element_bytes}
 use Rattle.cu_pairs.specs.Columns.{table}
-use Rattle.cu_pairs.proofs.Parts.{kept}
+use Rattle.cu_pairs.proofs.Parts.{kept, element_room}
 use Rattle.cu_pairs.proofs.ColumnSteps.{same_column}
-use Rattle.cu_pairs.proofs.FewColumns.{column_done}
+use Rattle.cu_pairs.proofs.FewColumns.{column_done, column_fits, column_small}
 use Rattle.cu_pairs.proofs.few.best_of_few_columns.Goals as goal
+
+pub overflow_mul-at : goal.overflow_mul-at
+overflow_mul-at c =
+    let small = column_small c.args.t c.args.rows.width c.loop-column.column c.first_best_of_column-at.result c.args.count (length c.args.rows.bytes.now) c.loop-column-test.true c.first_best_of_column-at.ensures.within c.requires.rows.bytes in
+    let number = small.1 in
+    omega arith
+
+pub overflow_add-at : goal.overflow_add-at
+overflow_add-at c =
+    let small = column_small c.args.t c.args.rows.width c.loop-column.column c.first_best_of_column-at.result c.args.count (length c.args.rows.bytes.now) c.loop-column-test.true c.first_best_of_column-at.ensures.within c.requires.rows.bytes in
+    let number = small.1 in
+    omega arith
+
+pub load-requires : goal.load-requires
+load-requires c = column_fits c.args.t c.args.rows.width c.loop-column.column c.first_best_of_column-at.result c.args.count (length c.args.rows.bytes.now) c.loop-column-test.true c.first_best_of_column-at.ensures.within c.requires.rows.bytes
+
+pub save-requires : goal.save-requires
+save-requires c = element_room (size_of c.args.t) c.loop-column.column c.args.rows.width (length c.loop-column.values) c.loop-column-test.true (c.loop-column.invariant.values_length ∙ c.requires.values)
+
+pub save-requires-in-loop-column : goal.save-requires-in-loop-column
+save-requires-in-loop-column c = element_room 8 c.loop-column.column c.args.rows.width (length c.loop-column.places) c.loop-column-test.true (c.loop-column.invariant.places_length ∙ c.requires.places)
 
 pub loop-column-preserved : goal.loop-column-preserved
 loop-column-preserved c =

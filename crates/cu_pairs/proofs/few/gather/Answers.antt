@@ -8,8 +8,8 @@ use Rattle.cu_num.proofs.Wrapped.{wrapped_in_range}
 use Rattle.cu_num.proofs.ElementBytes.{element_at-written_at_same, element_at-written_at_other, length-written_at, InRange-element_at}
 use Rattle.cu_pairs.specs.Columns.{column_of}
 use Rattle.cu_pairs.specs.Runs.{elements}
-use Rattle.cu_pairs.proofs.Parts.{kept}
-use Rattle.cu_pairs.proofs.FewColumns.{column_fits}
+use Rattle.cu_pairs.proofs.Parts.{kept, element_room}
+use Rattle.cu_pairs.proofs.FewColumns.{column_fits, column_small}
 use Rattle.cu_pairs.proofs.few.gather.Goals as goal
 
 pub load-requires : goal.load-requires
@@ -17,6 +17,30 @@ load-requires c =
     let t = c.args.t in
     column_fits t c.args.rows.width c.args.column (c.args.from + c.loop-j.j) (c.args.from + c.args.count) (length c.args.rows.bytes.now) c.requires.column
     (omega (arith, c.loop-j-test.true)) c.requires.rows
+
+pub overflow_add-from : goal.overflow_add-from
+overflow_add-from c =
+    let small = column_small c.args.t c.args.rows.width c.args.column (c.args.from + c.loop-j.j) (c.args.from + c.args.count) (length c.args.rows.bytes.now) c.requires.column
+    (omega (arith, c.loop-j-test.true)) c.requires.rows in
+    let row = small.0 in
+    omega arith
+
+pub overflow_mul-from : goal.overflow_mul-from
+overflow_mul-from c =
+    let small = column_small c.args.t c.args.rows.width c.args.column (c.args.from + c.loop-j.j) (c.args.from + c.args.count) (length c.args.rows.bytes.now) c.requires.column
+    (omega (arith, c.loop-j-test.true)) c.requires.rows in
+    let number = small.1 in
+    omega arith
+
+pub overflow_add-from-in-loop-j : goal.overflow_add-from-in-loop-j
+overflow_add-from-in-loop-j c =
+    let small = column_small c.args.t c.args.rows.width c.args.column (c.args.from + c.loop-j.j) (c.args.from + c.args.count) (length c.args.rows.bytes.now) c.requires.column
+    (omega (arith, c.loop-j-test.true)) c.requires.rows in
+    let number = small.1 in
+    omega arith
+
+pub save-requires : goal.save-requires
+save-requires c = element_room (size_of c.args.t) c.loop-j.j c.args.count (length c.loop-j.own) c.loop-j-test.true c.loop-j.invariant.same_length
 
 pub loop-j-preserved : goal.loop-j-preserved
 loop-j-preserved c =

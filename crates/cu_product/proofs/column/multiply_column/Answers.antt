@@ -1,5 +1,6 @@
 use Rattle.std.proofs.Common.{◌≡◌, ◌≢◌, ◌≤◌, ◌<◌, ◌+◌, ◌*◌, ℕ, ℤ, length, arith, refl, ap, sym, subst, ◌∙◌, below_more}
 use Rattle.std.specs.List.{between}
+use Rattle.std.proofs.lemmas.List.Edits.{length-between}
 use Rattle.cu_num.specs.Dtype.{size_of}
 use Rattle.cu_num.specs.Element.{bytes_at, element_bytes}
 use Rattle.cu_num.specs.declared.layout.Endian.TheVariants.{Little}
@@ -7,9 +8,53 @@ use Rattle.cu_num.proofs.ElementBytes.{bytes_at-written_at_same, bytes_at-writte
 use Rattle.cu_reduce.specs.Numbers.{HasNumber}
 use Rattle.cu_product.specs.Block.{inner_product}
 use Rattle.cu_product.specs.Matrices.{numbers, row_product}
-use Rattle.cu_product.proofs.Parts.{kept, part_ends, element_of_part, element_inside}
+use Rattle.cu_product.proofs.Parts.{kept, part_ends, part_room, element_of_part, element_inside}
 use Rattle.cu_product.proofs.Sums.{read_number, wrapped_bytes, inner_product_same}
 use Rattle.cu_product.proofs.column.multiply_column.Goals as goal
+
+pub overflow_mul-room : goal.overflow_mul-room
+overflow_mul-room c =
+    let room = c.args.sizes.inner * c.size.result in
+    let total : length c.args.left.now ≡ c.args.sizes.rows * room = c.requires.left ∙ ap (λ s. c.args.sizes.rows * c.args.sizes.inner * s) (sym c.size.ensures) ∙ omega arith in
+    let least = part_room c.args.sizes.rows room (length c.args.left.now) total c.requires.some_rows in omega arith
+
+pub overflow_mul-i : goal.overflow_mul-i
+overflow_mul-i c =
+    let room = c.args.sizes.inner * c.size.result in
+    let total : length c.args.left.now ≡ c.args.sizes.rows * room = c.requires.left ∙ ap (λ s. c.args.sizes.rows * c.args.sizes.inner * s) (sym c.size.ensures) ∙ omega arith in
+    let ends = part_ends c.args.sizes.rows room c.loop-i.i (length c.args.left.now) total c.loop-i-test.true in
+    let from = ends.0 in let to = ends.1 in omega arith
+
+pub overflow_mul-i-in-loop-i : goal.overflow_mul-i-in-loop-i
+overflow_mul-i-in-loop-i c =
+    let room = c.args.sizes.inner * c.size.result in
+    let total : length c.args.left.now ≡ c.args.sizes.rows * room = c.requires.left ∙ ap (λ s. c.args.sizes.rows * c.args.sizes.inner * s) (sym c.size.ensures) ∙ omega arith in
+    let ends = part_ends c.args.sizes.rows room c.loop-i.i (length c.args.left.now) total c.loop-i-test.true in
+    let to = ends.1 in omega arith
+
+pub slice_bounds-summed-start : goal.slice_bounds-summed-start
+slice_bounds-summed-start c =
+    let room = c.args.sizes.inner * c.size.result in
+    let total : length c.args.left.now ≡ c.args.sizes.rows * room = c.requires.left ∙ ap (λ s. c.args.sizes.rows * c.args.sizes.inner * s) (sym c.size.ensures) ∙ omega arith in
+    let ends = part_ends c.args.sizes.rows room c.loop-i.i (length c.args.left.now) total c.loop-i-test.true in
+    let from = ends.0 in omega arith
+
+pub slice_bounds-summed-end : goal.slice_bounds-summed-end
+slice_bounds-summed-end c =
+    let room = c.args.sizes.inner * c.size.result in
+    let total : length c.args.left.now ≡ c.args.sizes.rows * room = c.requires.left ∙ ap (λ s. c.args.sizes.rows * c.args.sizes.inner * s) (sym c.size.ensures) ∙ omega arith in
+    let ends = part_ends c.args.sizes.rows room c.loop-i.i (length c.args.left.now) total c.loop-i-test.true in
+    ends.1
+
+pub summed-sum-requires-clause-row : goal.summed-sum-requires-clause-row
+summed-sum-requires-clause-row c =
+    let room = c.args.sizes.inner * c.size.result in
+    let total : length c.args.left.now ≡ c.args.sizes.rows * room = c.requires.left ∙ ap (λ s. c.args.sizes.rows * c.args.sizes.inner * s) (sym c.size.ensures) ∙ omega arith in
+    let ends = part_ends c.args.sizes.rows room c.loop-i.i (length c.args.left.now) total c.loop-i-test.true in
+    length-between c.args.left.now (c.loop-i.i * room) ((c.loop-i.i + 1) * room) ends.1 ∙ (let from = ends.0 in omega arith) ∙ ap (λ s. c.args.sizes.inner * s) c.size.ensures
+
+pub save-requires : goal.save-requires
+save-requires c = element_inside c.args.t c.loop-i.i c.args.sizes.rows (length c.loop-i.out) (c.loop-i.invariant.same_length ∙ c.requires.out) c.loop-i-test.true
 
 pub loop-i-preserved : goal.loop-i-preserved
 loop-i-preserved c =

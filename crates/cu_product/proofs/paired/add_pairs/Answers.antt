@@ -14,6 +14,18 @@ use Rattle.cu_product.proofs.Parts.{kept, element_inside}
 use Rattle.cu_product.proofs.Sums.{wrapped_bytes, read_number}
 use Rattle.cu_product.proofs.paired.add_pairs.Goals as goal
 
+pub load-requires : goal.load-requires
+load-requires c = element_inside c.args.t (2 * c.loop-at.at + 1) 18 (length c.args.pair.now) c.requires.pair (let test = c.loop-at-test.true in omega arith)
+
+pub load-requires-in-loop-at : goal.load-requires-in-loop-at
+load-requires-in-loop-at c = element_inside c.args.t (2 * c.loop-at.at) 18 (length c.args.pair.now) c.requires.pair (let test = c.loop-at-test.true in omega arith)
+
+pub load-requires-in-loop-at-2 : goal.load-requires-in-loop-at-2
+load-requires-in-loop-at-2 c = element_inside c.args.t c.loop-at.at 9 (length c.loop-at.out) (c.loop-at.invariant.same_length ∙ c.requires.out) c.loop-at-test.true
+
+pub save-requires : goal.save-requires
+save-requires c = element_inside c.args.t c.loop-at.at 9 (length c.loop-at.out) (c.loop-at.invariant.same_length ∙ c.requires.out) c.loop-at-test.true
+
 pub loop-at-preserved : goal.loop-at-preserved
 loop-at-preserved c =
     let t = c.args.t in

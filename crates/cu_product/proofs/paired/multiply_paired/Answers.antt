@@ -34,6 +34,59 @@ loop-done-init c =
       products = λ i j b d. absurd (omega arith);
     }
 
+pub gather-requires-clause-panel : goal.gather-requires-clause-panel
+gather-requires-clause-panel c = c.loop-done.invariant.panel_length
+
+pub own_sums-requires-clause-panel : goal.own_sums-requires-clause-panel
+own_sums-requires-clause-panel c = c.gather.auto.panel ∙ c.loop-done.invariant.panel_length
+
+pub own_sums-requires-clause-out : goal.own_sums-requires-clause-out
+own_sums-requires-clause-out c = c.loop-done.invariant.own_length
+
+pub multiply_panel-requires-clause-panel : goal.multiply_panel-requires-clause-panel
+multiply_panel-requires-clause-panel c = c.gather.auto.panel ∙ c.loop-done.invariant.panel_length
+
+pub multiply_panel-requires-clause-own : goal.multiply_panel-requires-clause-own
+multiply_panel-requires-clause-own c = c.own_sums.auto.out ∙ c.loop-done.invariant.own_length
+
+pub multiply_panel-requires-clause-own_sums : goal.multiply_panel-requires-clause-own_sums
+multiply_panel-requires-clause-own_sums c = c.own_sums.ensures
+
+pub multiply_panel-requires-clause-out : goal.multiply_panel-requires-clause-out
+multiply_panel-requires-clause-out c = c.loop-done.invariant.same_length ∙ c.requires.out
+
+pub overflow_mul-buffer-2 : goal.overflow_mul-buffer-2
+overflow_mul-buffer-2 c =
+    let far : c.args.sizes.inner / 2 * (18 * size_of c.args.t) ≤ 256 * (18 * size_of c.args.t) = mul-le-mul_right (18 * size_of c.args.t) (let few = c.requires.few in omega arith) in
+    let is : c.args.sizes.inner / 2 * (18 * c.size.result) ≡ c.args.sizes.inner / 2 * (18 * size_of c.args.t) = ap (λ s. c.args.sizes.inner / 2 * (18 * s)) c.size.ensures in
+    let most = size_most c.args.t in
+    omega arith
+
+pub slice_bounds-buffer-end : goal.slice_bounds-buffer-end
+slice_bounds-buffer-end c =
+    let far : c.args.sizes.inner / 2 * (18 * size_of c.args.t) ≤ 256 * (18 * size_of c.args.t) = mul-le-mul_right (18 * size_of c.args.t) (let few = c.requires.few in omega arith) in
+    let is : c.args.sizes.inner / 2 * (18 * c.size.result) ≡ c.args.sizes.inner / 2 * (18 * size_of c.args.t) = ap (λ s. c.args.sizes.inner / 2 * (18 * s)) c.size.ensures in
+    let most = size_most c.args.t in
+    omega arith
+
+pub gather-requires-clause-fits : goal.gather-requires-clause-fits
+gather-requires-clause-fits c = let least = c.min-first.ensures in let enough = c.requires.columns in omega (arith, least)
+
+pub gather-requires-clause-right : goal.gather-requires-clause-right
+gather-requires-clause-right c = c.requires.right
+
+pub own_sums-requires-clause-some : goal.own_sums-requires-clause-some
+own_sums-requires-clause-some c = let some = c.requires.some in let even = c.requires.even in omega arith
+
+pub own_sums-requires-clause-few : goal.own_sums-requires-clause-few
+own_sums-requires-clause-few c = let few = c.requires.few in omega arith
+
+pub multiply_panel-requires-clause-fits : goal.multiply_panel-requires-clause-fits
+multiply_panel-requires-clause-fits c = let least = c.min-first.ensures in let enough = c.requires.columns in omega (arith, least)
+
+pub multiply_panel-requires-clause-left : goal.multiply_panel-requires-clause-left
+multiply_panel-requires-clause-left c = c.requires.left
+
 pub multiply_panel-requires-clause-zeros : goal.multiply_panel-requires-clause-zeros
 multiply_panel-requires-clause-zeros c q l =
     let t = c.args.t in
@@ -75,3 +128,24 @@ loop-done-preserved c =
           ∙ ap (element_bytes Little t) (inner_product_same left own left (λ q. right (q * columns + j)) inner (λ q l. (refl, taken q l)))))
           (cases_lt j first);
     }
+
+pub returns : goal.returns
+returns c = λ i j p q. c.loop-done.invariant.products i j p (let ends = c.loop-done-test.false in omega arith)
+
+pub overflow_add-done : goal.overflow_add-done
+overflow_add-done c = let least = c.min-first.ensures in let enough = c.requires.columns in omega (arith, least)
+
+pub overflow_mul-buffer : goal.overflow_mul-buffer
+overflow_mul-buffer c = let most = size_most c.args.t in let is = c.size.ensures in omega arith
+
+pub overflow_mul-sums : goal.overflow_mul-sums
+overflow_mul-sums c = let most = size_most c.args.t in let is = c.size-2.ensures in omega arith
+
+pub slice_bounds-sums-end : goal.slice_bounds-sums-end
+slice_bounds-sums-end c = let most = size_most c.args.t in let is = c.size-2.ensures in omega arith
+
+pub loop-done-smaller : goal.loop-done-smaller
+loop-done-smaller c = let least = c.min-first.ensures in let enough = c.requires.columns in let test = c.loop-done-test.true in omega (arith, least)
+
+pub overflow_sub-sizes : goal.overflow_sub-sizes
+overflow_sub-sizes c = c.requires.columns

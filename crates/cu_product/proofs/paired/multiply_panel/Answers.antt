@@ -1,4 +1,4 @@
-use Rattle.std.proofs.Common.{◌≡◌, ◌≤◌, ◌<◌, ◌+◌, ◌-◌, ◌*◌, ◌/◌, ℕ, length, arith, ap, sym, subst, ◌∙◌, refl, rules, ⊎_elim}
+use Rattle.std.proofs.Common.{◌≡◌, ◌≤◌, ◌<◌, ◌+◌, ◌-◌, ◌*◌, ◌/◌, ℕ, length, arith, ap, sym, subst, ◌∙◌, refl, ⊎_elim}
 use Rattle.std.proofs.lemmas.Bool.{cases_lt}
 use Rattle.std.proofs.lemmas.List.Edits.{length-between}
 use borrow.Rule.Slice.PartMut.{put_mid}
@@ -11,7 +11,7 @@ use Rattle.cu_product.specs.Block.{inner_product}
 use Rattle.cu_product.specs.Matrices.{numbers}
 use Rattle.cu_product.specs.Pairs.{column}
 use Rattle.cu_product.proofs.Pairs.{part_place, place_before, place_beside, place_behind}
-use Rattle.cu_product.proofs.Parts.{part_ends, element_of_part, element_inside, length-put_mid, bytes_below, bytes_inside, bytes_beyond}
+use Rattle.cu_product.proofs.Parts.{part_ends, part_room, place_within, element_of_part, element_inside, element_small, length-put_mid, bytes_below, bytes_inside, bytes_beyond}
 use Rattle.cu_product.proofs.Sums.{inner_product_same}
 use Rattle.cu_product.proofs.paired.multiply_panel.Goals as goal
 
@@ -34,7 +34,7 @@ slice_bounds-row-end c =
     let s = c.size-width.result in
     let row_total : length c.args.left.now ≡ c.args.sizes.rows * (c.args.sizes.inner * s) = c.requires.left ∙ ap (λ k. c.args.sizes.rows * c.args.sizes.inner * k) (sym c.size-width.ensures) ∙ omega arith in
     let row_ends = part_ends c.args.sizes.rows (c.args.sizes.inner * s) c.loop-i.i (length c.args.left.now) row_total c.loop-i-test.true in
-    search rules
+    row_ends.1
 
 pub overflow_add-at-in-loop-i : goal.overflow_add-at-in-loop-i
 overflow_add-at-in-loop-i c =
@@ -54,7 +54,78 @@ slice_bounds-multiply_part-end c =
     let out_total : length c.args.out.now ≡ c.args.sizes.rows * c.args.sizes.columns * s = c.requires.out ∙ ap (λ k. c.args.sizes.rows * c.args.sizes.columns * k) (sym c.size-width.ensures) in
     let out_ends = part_place c.args.sizes.rows c.args.sizes.columns c.args.first c.loop-i.i s (length c.args.out.now) out_total c.loop-i-test.true c.requires.fits in
     let same = c.loop-i.invariant.same_length in
-    search rules
+    omega arith
+
+pub overflow_mul-row_room : goal.overflow_mul-row_room
+overflow_mul-row_room c =
+    let s = c.size-width.result in
+    let row_total : length c.args.left.now ≡ c.args.sizes.rows * (c.args.sizes.inner * s) = c.requires.left ∙ ap (λ k. c.args.sizes.rows * c.args.sizes.inner * k) (sym c.size-width.ensures) ∙ omega arith in
+    let least = part_room c.args.sizes.rows (c.args.sizes.inner * s) (length c.args.left.now) row_total c.requires.some_rows in omega arith
+
+pub slice_bounds-row-start : goal.slice_bounds-row-start
+slice_bounds-row-start c =
+    let s = c.size-width.result in
+    let row_total : length c.args.left.now ≡ c.args.sizes.rows * (c.args.sizes.inner * s) = c.requires.left ∙ ap (λ k. c.args.sizes.rows * c.args.sizes.inner * k) (sym c.size-width.ensures) ∙ omega arith in
+    let row_ends = part_ends c.args.sizes.rows (c.args.sizes.inner * s) c.loop-i.i (length c.args.left.now) row_total c.loop-i-test.true in
+    let from = row_ends.0 in omega arith
+
+pub overflow_mul-at : goal.overflow_mul-at
+overflow_mul-at c =
+    let less = place_within c.args.sizes.rows c.args.sizes.columns c.loop-i.i c.args.first c.loop-i-test.true (let fits = c.requires.fits in omega arith) in
+    let small = element_small c.args.t (c.loop-i.i * c.args.sizes.columns + c.args.first) (c.args.sizes.rows * c.args.sizes.columns) (length c.args.out.now) c.requires.out less in
+    omega arith
+
+pub overflow_add-at : goal.overflow_add-at
+overflow_add-at c =
+    let less = place_within c.args.sizes.rows c.args.sizes.columns c.loop-i.i c.args.first c.loop-i-test.true (let fits = c.requires.fits in omega arith) in
+    let small = element_small c.args.t (c.loop-i.i * c.args.sizes.columns + c.args.first) (c.args.sizes.rows * c.args.sizes.columns) (length c.args.out.now) c.requires.out less in
+    omega arith
+
+pub overflow_mul-at-in-loop-i : goal.overflow_mul-at-in-loop-i
+overflow_mul-at-in-loop-i c =
+    let s = c.size-width.result in
+    let out_total : length c.args.out.now ≡ c.args.sizes.rows * c.args.sizes.columns * s = c.requires.out ∙ ap (λ k. c.args.sizes.rows * c.args.sizes.columns * k) (sym c.size-width.ensures) in
+    let out_ends = part_place c.args.sizes.rows c.args.sizes.columns c.args.first c.loop-i.i s (length c.args.out.now) out_total c.loop-i-test.true c.requires.fits in
+    omega arith
+
+pub multiply_part-requires-clause-row : goal.multiply_part-requires-clause-row
+multiply_part-requires-clause-row c =
+    let s = c.size-width.result in
+    let row_total : length c.args.left.now ≡ c.args.sizes.rows * (c.args.sizes.inner * s) = c.requires.left ∙ ap (λ k. c.args.sizes.rows * c.args.sizes.inner * k) (sym c.size-width.ensures) ∙ omega arith in
+    let row_ends = part_ends c.args.sizes.rows (c.args.sizes.inner * s) c.loop-i.i (length c.args.left.now) row_total c.loop-i-test.true in
+    let whole : c.args.sizes.inner ≡ 2 * (c.args.sizes.inner / 2) = (let even = c.requires.even in omega arith) in
+    length-between c.args.left.now (c.loop-i.i * (c.args.sizes.inner * s)) ((c.loop-i.i + 1) * (c.args.sizes.inner * s)) row_ends.1
+    ∙ (let from = row_ends.0 in omega arith) ∙ ap (λ k. c.args.sizes.inner * k) c.size-width.ensures ∙ ap (λ n. n * size_of c.args.t) whole
+
+pub multiply_part-requires-clause-out : goal.multiply_part-requires-clause-out
+multiply_part-requires-clause-out c =
+    let s = c.size-width.result in
+    let out_total : length c.args.out.now ≡ c.args.sizes.rows * c.args.sizes.columns * s = c.requires.out ∙ ap (λ k. c.args.sizes.rows * c.args.sizes.columns * k) (sym c.size-width.ensures) in
+    let out_ends = part_place c.args.sizes.rows c.args.sizes.columns c.args.first c.loop-i.i s (length c.args.out.now) out_total c.loop-i-test.true c.requires.fits in
+    let a = (c.loop-i.i * c.args.sizes.columns + c.args.first) * s in
+    let same = c.loop-i.invariant.same_length in
+    length-between c.loop-i.out a (a + 8 * s) (omega arith) ∙ (let left : a + 8 * s - a ≡ 8 * s = omega arith in left) ∙ ap (λ k. 8 * k) c.size-width.ensures
+
+pub loop-i-init : goal.loop-i-init
+loop-i-init c = record { same_length = refl; products = λ i j b d. absurd (omega arith); others = λ i j b d. refl }
+
+pub multiply_part-requires-clause-some : goal.multiply_part-requires-clause-some
+multiply_part-requires-clause-some c = let some = c.requires.some in let even = c.requires.even in omega arith
+
+pub multiply_part-requires-clause-few : goal.multiply_part-requires-clause-few
+multiply_part-requires-clause-few c = let few = c.requires.few in omega arith
+
+pub multiply_part-requires-clause-panel : goal.multiply_part-requires-clause-panel
+multiply_part-requires-clause-panel c = c.requires.panel
+
+pub multiply_part-requires-clause-zeros : goal.multiply_part-requires-clause-zeros
+multiply_part-requires-clause-zeros c = λ q l. c.requires.zeros q (let even = c.requires.even in omega arith)
+
+pub multiply_part-requires-clause-own : goal.multiply_part-requires-clause-own
+multiply_part-requires-clause-own c = c.requires.own
+
+pub multiply_part-requires-clause-own_sums : goal.multiply_part-requires-clause-own_sums
+multiply_part-requires-clause-own_sums c = c.requires.own_sums
 
 pub loop-i-preserved : goal.loop-i-preserved
 loop-i-preserved c =
@@ -121,3 +192,9 @@ loop-i-preserved c =
           (cases_lt at i))
           (cases_lt i at);
     }
+
+pub returns-clause-products : goal.returns-clause-products
+returns-clause-products c = λ i j p q. c.loop-i.invariant.products i j (let ends = c.loop-i-test.false in omega arith) q
+
+pub returns-clause-others : goal.returns-clause-others
+returns-clause-others c = c.loop-i.invariant.others

@@ -1,13 +1,55 @@
-use Rattle.std.proofs.Common.{◌≡◌, ◌+◌, ◌*◌, ◌/◌, ◌%◌, ◌+ℤ◌, ◌*ℤ◌, suc, arith, ap, ◌∙◌, refl}
+use Rattle.std.proofs.Common.{◌≡◌, ◌+◌, ◌*◌, ◌/◌, ◌%◌, ◌+ℤ◌, ◌*ℤ◌, suc, length, arith, ap, sym, ◌∙◌, refl}
 use Rattle.std.specs.Int.{w128, cast_signed, cast_unsigned}
 use Rattle.std.specs.List.{between}
+use Rattle.std.proofs.lemmas.List.Edits.{length-between}
 use Rattle.cu_num.specs.Dtype.{size_of}
 use Rattle.cu_num.specs.Element.{element_bytes}
 use Rattle.cu_num.specs.declared.layout.Endian.TheVariants.{Little}
 use Rattle.cu_product.specs.Matrices.{numbers}
 use Rattle.cu_product.specs.Pairs.{pairs, column}
-use Rattle.cu_product.proofs.Parts.{kept, element_of_part, element_inside}
+use Rattle.cu_product.proofs.Parts.{kept, element_of_part, element_inside, part_ends}
 use Rattle.cu_product.proofs.paired.pair_sums.Goals as goal
+
+pub load-x-requires : goal.load-x-requires
+load-x-requires c = element_inside c.args.t (2 * c.loop-p.p) (2 * c.args.half) (length c.args.row.now) c.requires.row (let test = c.loop-p-test.true in omega arith)
+
+pub load-y-requires : goal.load-y-requires
+load-y-requires c = element_inside c.args.t (2 * c.loop-p.p + 1) (2 * c.args.half) (length c.args.row.now) c.requires.row (let test = c.loop-p-test.true in omega arith)
+
+pub overflow_mul-p-in-loop-p-2 : goal.overflow_mul-p-in-loop-p-2
+overflow_mul-p-in-loop-p-2 c =
+    let room = 18 * c.size.result in
+    let total : length c.args.panel.now ≡ c.args.half * room = c.requires.panel ∙ ap (λ s. c.args.half * (18 * s)) (sym c.size.ensures) in
+    let ends = part_ends c.args.half room c.loop-p.p (length c.args.panel.now) total c.loop-p-test.true in
+    let from = ends.0 in let to = ends.1 in omega arith
+
+pub overflow_mul-p-in-loop-p-3 : goal.overflow_mul-p-in-loop-p-3
+overflow_mul-p-in-loop-p-3 c =
+    let room = 18 * c.size.result in
+    let total : length c.args.panel.now ≡ c.args.half * room = c.requires.panel ∙ ap (λ s. c.args.half * (18 * s)) (sym c.size.ensures) in
+    let ends = part_ends c.args.half room c.loop-p.p (length c.args.panel.now) total c.loop-p-test.true in
+    let to = ends.1 in omega arith
+
+pub slice_bounds-add_pairs-start : goal.slice_bounds-add_pairs-start
+slice_bounds-add_pairs-start c =
+    let room = 18 * c.size.result in
+    let total : length c.args.panel.now ≡ c.args.half * room = c.requires.panel ∙ ap (λ s. c.args.half * (18 * s)) (sym c.size.ensures) in
+    let ends = part_ends c.args.half room c.loop-p.p (length c.args.panel.now) total c.loop-p-test.true in
+    let from = ends.0 in omega arith
+
+pub slice_bounds-add_pairs-end : goal.slice_bounds-add_pairs-end
+slice_bounds-add_pairs-end c =
+    let room = 18 * c.size.result in
+    let total : length c.args.panel.now ≡ c.args.half * room = c.requires.panel ∙ ap (λ s. c.args.half * (18 * s)) (sym c.size.ensures) in
+    let ends = part_ends c.args.half room c.loop-p.p (length c.args.panel.now) total c.loop-p-test.true in
+    ends.1
+
+pub add_pairs-requires-clause-pair : goal.add_pairs-requires-clause-pair
+add_pairs-requires-clause-pair c =
+    let room = 18 * c.size.result in
+    let total : length c.args.panel.now ≡ c.args.half * room = c.requires.panel ∙ ap (λ s. c.args.half * (18 * s)) (sym c.size.ensures) in
+    let ends = part_ends c.args.half room c.loop-p.p (length c.args.panel.now) total c.loop-p-test.true in
+    length-between c.args.panel.now (c.loop-p.p * room) ((c.loop-p.p + 1) * room) ends.1 ∙ (let from = ends.0 in omega arith) ∙ ap (λ s. 18 * s) c.size.ensures
 
 pub loop-p-preserved : goal.loop-p-preserved
 loop-p-preserved c =
