@@ -1,5 +1,5 @@
 -- Look-ups in lists.
-use Rattle.std.proofs.Common.{◌≡◌, ◌<◌, zero, suc, ℕ, List, [], ◌∷◌, ◌++◌, length, get_or, Some, refl, arith}
+use Rattle.std.proofs.Common.{◌≡◌, ◌<◌, ◌≤◌, zero, suc, ℕ, List, [], ◌∷◌, ◌++◌, length, get_or, Some, None, refl, arith}
 use Rattle.std.specs.Prelude.{slice_get}
 
 pub there : {X : Type 0} (xs : List X) (k : ℕ) → k < length xs → (x : X) × (slice_get xs k ≡ Some x)
@@ -21,6 +21,11 @@ pub found : {X : Type 0} (xs : List X) (k : ℕ) (d : X) → k < length xs → s
 found [] k d lt = absurd (omega arith)
 found (x ∷ xs) zero d lt = refl
 found (x ∷ xs) (suc k) d lt = found xs k d (omega arith)
+
+pub past : {X : Type 0} (xs : List X) (k : ℕ) → length xs ≤ k → slice_get xs k ≡ None
+past [] k le = refl
+past (x ∷ xs) zero le = absurd (omega arith)
+past (x ∷ xs) (suc k) le = past xs k (omega arith)
 
 -- one more in behind
 pub pushed_last : {X : Type 0} (xs : List X) (k : ℕ) (x : X) → k ≡ length xs → slice_get (xs ++ x ∷ []) k ≡ Some x

@@ -1,20 +1,20 @@
 -- The nodes of an expression, one after the other.
-use Rattle.std.proofs.Common.{◌≡◌, ◌+◌, ◌<◌, ℕ, ℤ, pos, true, false, List, [], ◌∷◌, ◌++◌, length, drop, get_or, length-append, length-drop, Some, refl, sym, ap, ◌∙◌, subst, arith}
+use Rattle.std.proofs.Common.{◌≡◌, ◌+◌, ◌<◌, ℕ, ℤ, pos, true, false, List, [], ◌∷◌, ◌++◌, All, length, drop, get_or, length-append, length-drop, Some, refl, sym, ap, ◌∙◌, subst, arith}
 use Rattle.std.specs.Prelude.{slice_get}
 use Rattle.std.proofs.lemmas.List.{drop_more, get_or_append_left, get_or_push, get_or_read}
 use borrow.Author.Count.{below_more}
 use Rattle.cu_shape.specs.Index.{index_at}
-use Rattle.cu_form.specs.Expression.{Expression}
+use Rattle.cu_form.specs.Expression.{Expression, IsExpression}
 use Rattle.cu_form.specs.declared.expr.Node.{Node}
 use Rattle.cu_form.specs.declared.form.Form.{Form}
-use Rattle.cu_node.specs.Info.{info_at, no_info}
+use Rattle.cu_node.specs.Info.{IsInfo, info_at, no_info}
 use Rattle.cu_node.specs.declared.info.NodeInfo.{NodeInfo}
 use Rattle.cu_meaning.specs.Argument.{NodeElements}
 use Rattle.cu_meaning.specs.Meaning.{meaning_of}
 use Rattle.cu_mean.specs.Going.{HasCells, KeepType, AddsComputed, MovesInput, HoldFirst, IsGoing, input_elements}
 use Rattle.cu_mean.specs.Node.{is_input, IsElement, IsReadyNode}
 use Rattle.cu_mean.specs.Plain.{PlainArray}
-use Rattle.cu_mean.specs.Whole.{inputs_before, HoldsElements, AreTypes}
+use Rattle.cu_mean.specs.Whole.{inputs_before, AreInputNodes, HoldsElements, AreTypes}
 use Rattle.cu_expr.proofs.Nodes.{typed_count}
 use Rattle.cu_mean.proofs.Found.{within, found, pushed_last, pushed_before}
 use Rattle.cu_mean.proofs.HeldElements.{computed_holds, computed_keeps}
@@ -54,6 +54,26 @@ more_held e infos env n plains p first h =
 
 pub none_held : (e : Expression) (infos : List NodeInfo) (env : NodeElements) → HoldFirst e infos env 0 []
 none_held e infos env = record { count = refl; each = λ k p got. cc }
+
+-- before the first node all inputs are left
+pub started : (e : Expression) (infos given : List NodeInfo) (inputs rest plains : List PlainArray) → IsExpression e → AreTypes e given → AreInputNodes e given inputs → infos ≡ given → All IsInfo infos → rest ≡ inputs
+    → plains ≡ [] → IsGoing e infos inputs 0 rest plains
+started e infos given inputs rest plains form types arrays same kept all none = record {
+  given = record {
+    form = form;
+    types = subst (λ (is : List NodeInfo). AreTypes e is) (sym same) types;
+    kept = kept;
+    arrays = subst (λ (is : List NodeInfo). AreInputNodes e is inputs) (sym same) arrays;
+  };
+  left = all;
+  first = subst (λ (ps : List PlainArray). HoldFirst e infos (input_elements e inputs) 0 ps) (sym none) (none_held e infos (input_elements e inputs));
+}
+
+-- behind the last node each array is there
+pub ended : (e : Expression) (infos given : List NodeInfo) (inputs : List PlainArray) (n : ℕ) (rest plains : List PlainArray) → infos ≡ given → n ≡ length e.nodes → IsGoing e infos inputs n rest plains
+    → HoldFirst e given (input_elements e inputs) (length e.nodes) plains
+ended e infos given inputs n rest plains same all going =
+    subst (λ (m : ℕ). HoldFirst e given (input_elements e inputs) m plains) all (subst (λ (is : List NodeInfo). HoldFirst e is (input_elements e inputs) n plains) same going.first)
 
 -- an input is left for an input node
 pub input_left : (e : Expression) (infos : List NodeInfo) (inputs : List PlainArray) (n : ℕ) (node : Node) (rest plains : List PlainArray) → slice_get e.nodes n ≡ Some node → is_input node.form ≡ true

@@ -1,5 +1,5 @@
 -- Entries of an index, one after the other.
-use Rattle.std.proofs.Common.{◌≡◌, ◌+◌, ◌-◌, ◌<◌, ◌≤◌, ◌^◌, ◌&&◌, min, ℕ, ℤ, pos, negsuc, ◌<ℤ◌, Bool, true, false, List, [], ◌∷◌, ◌++◌, length, take, drop, All, Option, unwrap_or, refl, sym, ap, ◌∙◌, arith, rules}
+use Rattle.std.proofs.Common.{◌≡◌, ◌+◌, ◌-◌, ◌<◌, ◌≤◌, ◌^◌, ◌&&◌, min, ℕ, ℤ, pos, negsuc, ◌<ℤ◌, Bool, true, false, List, [], ◌∷◌, ◌++◌, length, take, drop, get_or, All, Option, unwrap_or, refl, sym, ap, ◌∙◌, arith, rules}
 use Rattle.std.specs.Prelude.{int_lt, nat_lt, slice_index}
 use Rattle.std.specs.List.{slice_range}
 use Rattle.std.proofs.lemmas.List.{drop_more, drop_all, drop-drop, drop_min, take_min, length-take-le, length-drop, length-append, append_assoc}
@@ -12,6 +12,7 @@ use Rattle.cu_node.specs.declared.index_item.IndexItem.{IndexItem}
 use Rattle.cu_meaning.specs.Index.{natural}
 use Rattle.cu_meaning.specs.View.{indexed_from, sliced_index}
 use Rattle.cu_mean.specs.Indexing.{IsOutside}
+use Rattle.cu_mean.specs.declared.indexing.Front.{Front}
 use Rattle.cu_mean.proofs.Joined.{not_below}
 
 -- ---- outside
@@ -123,3 +124,14 @@ natural_big x h = big x (above (pos 18446744073709551615) x h)
 
 pub range_length : (idx : List ℕ) (at end : ℕ) → end ≤ length idx → length (slice_range idx at end) ≡ end - at
 range_length idx at end le = length-take-le (end - at) (drop at idx) (omega (arith, length-drop at idx))
+
+-- ---- one entry after the other
+
+-- what is read is the same behind an entry
+pub entry_taken : (read : List IndexItem → Front → List ℕ) (items : List IndexItem) (i : ℕ) (d : IndexItem) (front : Front) (whole next : List ℕ) → i < length items → read (drop i items) front ≡ whole
+    → read (get_or items i d ∷ drop (i + 1) items) front ≡ next → next ≡ whole
+entry_taken read items i d front whole next lt so_far taken = sym taken ∙ sym (ap (λ (rest : List IndexItem). read rest front) (drop_more items i d lt)) ∙ so_far
+
+-- a number more is read, and then what follows
+pub number_taken : (read new rest whole : List ℕ) (v : ℕ) → new ≡ read ++ v ∷ [] → whole ≡ v ∷ rest → read ++ whole ≡ new ++ rest
+number_taken read new rest whole v e is = ap (λ (xs : List ℕ). read ++ xs) is ∙ moved read new (v ∷ []) rest e

@@ -1,4 +1,5 @@
 pub mod Along
+pub mod Arities
 pub mod BestPlaces
 pub mod Elements
 pub mod Evenly
@@ -21,5 +22,7 @@ pub mod NodeTypes
 pub mod OperandTypes
 pub mod ReadyNodes
 pub mod ReducedBoxes
+pub mod Sources
+pub mod Spaced
 pub mod Steps
 pub mod ViewTypes

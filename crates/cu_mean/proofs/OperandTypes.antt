@@ -1,5 +1,5 @@
 -- The operands of an accepted elementwise function are numbers of the type to which they are promoted.
-use Rattle.std.proofs.Common.{◌≡◌, ℤ, List, Some, Ok, Result, ap, ◌∙◌}
+use Rattle.std.proofs.Common.{◌≡◌, ℕ, ℤ, List, Option, Some, unwrap_or, Ok, Result, refl, sym, ap, ◌∙◌}
 use Rattle.std.specs.Prelude.{Bool as Test}
 use Rattle.cu_result.specs.Results.{◌>>=◌}
 use Rattle.cu_result.proofs.ResultSteps.{step_ok, check_step_ok, need_ok}
@@ -12,6 +12,7 @@ use Rattle.cu_num.specs.declared.types.Dtype.{Dtype}
 use Rattle.cu_num.specs.declared.functions.Fn2.{Fn2}
 use Rattle.cu_form.specs.declared.args.Arg.{Arg}
 use Rattle.cu_node.specs.Fault.{fault}
+use Rattle.cu_node.specs.Info.{info_at}
 use Rattle.cu_node.specs.declared.faults.FaultCode.TheVariants.{Kind, Promote}
 use Rattle.cu_node.specs.declared.faults.NodeFault.{NodeFault}
 use Rattle.cu_node.specs.declared.element_op.ElementOp.{ElementOp}
@@ -48,6 +49,31 @@ array_met t s v x h r = rw (← (met t s v h).0) r
 
 promoted : (a b s : Dtype) → Rattle.cu_result.specs.Results.need (promotion a b) (fault Promote) ≡ Ok s → promotion a b ≡ Some s
 promoted a b s h = need_ok (promotion a b) (fault Promote) s h
+
+-- two arrays are promoted together
+pub promoted_together : (infos : List NodeInfo) (a b : ℕ) (x y : Arg) (i j : NodeInfo) (p : Option Dtype) (r t : Dtype) → x ≡ Arg.Node a → y ≡ Arg.Node b → i ≡ info_at infos a → j ≡ info_at infos b
+    → p ≡ promotion i.dtype j.dtype → r ≡ unwrap_or p Dtype.Bool → pair_type (argument_of infos x) (argument_of infos y) ≡ Ok t → r ≡ t
+promoted_together infos a b x y i j p r t x_is y_is i_is j_is p_is r_is h =
+    let same : pair_type (argument_of infos (Arg.Node a)) (argument_of infos (Arg.Node b)) ≡ Ok t = (λ k. pair_type (argument_of infos (sym x_is k)) (argument_of infos (sym y_is k))) ∙ h in
+    let types : promotion i.dtype j.dtype ≡ promotion (type_of_node infos a) (type_of_node infos b) = λ k. promotion (i_is k).dtype (j_is k).dtype in
+    r_is ∙ ap (λ (o : Option Dtype). unwrap_or o Dtype.Bool) (p_is ∙ types ∙ promoted (type_of_node infos a) (type_of_node infos b) t same)
+
+-- an array beside a written value
+pub first_alone : (infos : List NodeInfo) (a : ℕ) (y : Arg) (t : Dtype) → ((m : ℕ) → y ≡ Arg.Node m → ⊥) → pair_type (argument_of infos (Arg.Node a)) (argument_of infos y) ≡ Ok t → type_of_node infos a ≡ t
+first_alone infos a (Arg.Node m) t other h = absurd (other m refl)
+first_alone infos a (Arg.Int z) t other h = (met (type_of_node infos a) t (Int z) h).0
+first_alone infos a (Arg.Truth b) t other h = (met (type_of_node infos a) t (Truth b) h).0
+
+pub second_alone : (infos : List NodeInfo) (x : Arg) (b : ℕ) (t : Dtype) → ((m : ℕ) → x ≡ Arg.Node m → ⊥) → pair_type (argument_of infos x) (argument_of infos (Arg.Node b)) ≡ Ok t → type_of_node infos b ≡ t
+second_alone infos (Arg.Node m) b t other h = absurd (other m refl)
+second_alone infos (Arg.Int z) b t other h = (met (type_of_node infos b) t (Int z) h).0
+second_alone infos (Arg.Truth c) b t other h = (met (type_of_node infos b) t (Truth c) h).0
+
+-- two written values have no type
+pub none_typed : {A : Type 0} (infos : List NodeInfo) (x y : Arg) (t : Dtype) → ((m : ℕ) → x ≡ Arg.Node m → ⊥) → ((m : ℕ) → y ≡ Arg.Node m → ⊥) → pair_type (argument_of infos x) (argument_of infos y) ≡ Ok t → A
+none_typed infos (Arg.Node m) y t first second h = absurd (first m refl)
+none_typed infos x (Arg.Node m) t first second h = absurd (second m refl)
+none_typed infos x y t first second h = cc
 
 -- ---- the operands
 

@@ -36,13 +36,17 @@ fn argument(arg: Arg, scope: &Scope<'_>) -> i128
 fn pair_type(infos: &[NodeInfo], x: Arg, y: Arg) -> Dtype
     ensures { (t : Dtype) → pair_type (argument_of infos.now x) (argument_of infos.now y) ≡ Ok t → result ≡ t }
 {
-    match (x, y) {
-        (Arg::Node(a), Arg::Node(b)) => {
-            promote(info_at(infos, a).dtype, info_at(infos, b).dtype).unwrap_or(Dtype::Bool)
-        }
-        (Arg::Node(a), _) => info_at(infos, a).dtype,
-        (_, Arg::Node(b)) => info_at(infos, b).dtype,
-        _ => Dtype::Bool,
+    match x {
+        Arg::Node(a) => match y {
+            Arg::Node(b) => {
+                promote(info_at(infos, a).dtype, info_at(infos, b).dtype).unwrap_or(Dtype::Bool)
+            }
+            _ => info_at(infos, a).dtype,
+        },
+        _ => match y {
+            Arg::Node(b) => info_at(infos, b).dtype,
+            _ => Dtype::Bool,
+        },
     }
 }
 

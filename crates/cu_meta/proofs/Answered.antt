@@ -13,6 +13,8 @@ use Rattle.cu_meta.specs.declared.fault.MetaFault.{MetaFault}
 use Rattle.cu_meta.specs.declared.fault.MetaRefused.{MetaRefused}
 use Rattle.cu_meta.specs.Fault.{Fault, json, too_long, fault_view, IfMetaFault}
 use Rattle.cu_meta.specs.Metadata.{read_metadata, layout_in}
+use Rattle.cu_meta.specs.ReadSteps.{layout_by_steps}
+use Rattle.cu_meta.proofs.ReadSteps.{by_steps}
 
 longer : (m n : ℕ) → n < m → nat_le m n ≡ false
 longer m n h = grind arith
@@ -36,6 +38,9 @@ read_no_value bytes short utf8 none = rw (le-leb _ _ short, is_utf8-from_IsUtf8 
 pub read_value : (bytes : List ℕ) (d : Data) → length bytes ≤ 1048576 → IsUtf8 bytes → read bytes ≡ Some d → read_metadata bytes ≡ layout_in d
 unfolding read_metadata
 read_value bytes d short utf8 value = rw (le-leb _ _ short, is_utf8-from_IsUtf8 bytes utf8, value) refl
+
+pub read_by_steps : (bytes : List ℕ) (d : Data) → length bytes ≤ 1048576 → IsUtf8 bytes → read bytes ≡ Some d → read_metadata bytes ≡ layout_by_steps d
+read_by_steps bytes d short utf8 value = read_value bytes d short utf8 value ∙ by_steps d
 
 pub answered_ok : (said : Result ArrayLayout Fault) (found : Result Layout MetaFault) (result : Result Layout MetaRefused)
     → result ≡ result_map_both (λ l. l) (λ f. MetaRefused.Fault f) found → result_map_both layout_view fault_view found ≡ said

@@ -1,7 +1,9 @@
 pub mod Counted
+pub mod ReadSteps
 pub mod Answered
 pub mod Assembled
 pub mod LayoutData
+pub mod KnownMembers
 pub mod Sizes
 pub mod Fills
 pub mod Plain

@@ -2,6 +2,7 @@ pub mod Fault
 pub mod Part
 pub mod Members
 pub mod Metadata
+pub mod ReadSteps
 pub mod Written
 pub mod Storable
 pub mod Said

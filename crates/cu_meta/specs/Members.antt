@@ -111,6 +111,20 @@ are_dimension_names rank value = unwrap_or (option_map (λ d. is_some (as_null d
 abbrev pub are_no_transformers : Option Data → Test
 are_no_transformers value = unwrap_or (option_map (λ d. is_list_of 0 d) value) true
 
+-- the name of a member that says what the array is
+abbrev pub names_array : List ℕ → Test
+names_array k = bytes_eq k (codes "zarr_format") || bytes_eq k (codes "node_type") || bytes_eq k (codes "shape")
+    || bytes_eq k (codes "data_type")
+
+-- the name of a member that says how the chunks are stored
+abbrev pub names_chunks : List ℕ → Test
+names_chunks k = bytes_eq k (codes "chunk_grid") || bytes_eq k (codes "chunk_key_encoding") || bytes_eq k (codes "fill_value")
+    || bytes_eq k (codes "codecs")
+
+-- the name of a member that may be absent
+abbrev pub names_optional : List ℕ → Test
+names_optional k = bytes_eq k (codes "attributes") || bytes_eq k (codes "dimension_names") || bytes_eq k (codes "storage_transformers")
+
 -- the name of one of the eleven members
 abbrev pub is_known : List ℕ → Test
 is_known k = bytes_eq k (codes "zarr_format") || bytes_eq k (codes "node_type") || bytes_eq k (codes "shape") || bytes_eq k (codes "data_type")

@@ -4,7 +4,7 @@ ghost use Rattle.serde_json.specs.Find.{as_array};
 ghost use Rattle.serde_json.specs.View.{view, items_view, members_view};
 ghost use Rattle.cu_num.specs.Dtype.{size_of, least, greatest};
 ghost use Rattle.cu_json.specs.Form.{naturals_of, naturals_after, each_item, is_list_of};
-ghost use Rattle.cu_meta.specs.Members.{data_type_of, chunk_grid_of, separator_of, encoding_of, within, whole_of, fill_of, endian_set, endian_of, are_attributes, is_text_or_null, are_dimension_names, are_no_transformers, is_known, may_be_passed_over, are_understood};
+ghost use Rattle.cu_meta.specs.Members.{data_type_of, chunk_grid_of, separator_of, encoding_of, within, whole_of, fill_of, endian_set, endian_of, are_attributes, is_text_or_null, are_dimension_names, are_no_transformers, names_array, names_chunks, names_optional, is_known, may_be_passed_over, are_understood};
 
 use crate::part::{is_part_of, is_plain_part, part_name, setting};
 use arrayvec::ArrayVec;
@@ -252,21 +252,33 @@ pub(crate) fn are_no_transformers(value: Option<&Value>) -> bool
     }
 }
 
+/// Whether this is the name of a member that says what the array is.
+fn names_array(key: &str) -> bool
+    ensures { result ≡ names_array key.now }
+{
+    key == "zarr_format" || key == "node_type" || key == "shape" || key == "data_type"
+}
+
+/// Whether this is the name of a member that says how the chunks are stored.
+fn names_chunks(key: &str) -> bool
+    ensures { result ≡ names_chunks key.now }
+{
+    key == "chunk_grid" || key == "chunk_key_encoding" || key == "fill_value" || key == "codecs"
+}
+
+/// Whether this is the name of a member that may be absent.
+fn names_optional(key: &str) -> bool
+    ensures { result ≡ names_optional key.now }
+{
+    key == "attributes" || key == "dimension_names" || key == "storage_transformers"
+}
+
 /// Whether this is the name of one of the eleven members.
+#[tactic(auto, using(crate::proofs::KnownMembers::by_groups))]
 fn is_known(key: &str) -> bool
     ensures { result ≡ is_known key.now }
 {
-    key == "zarr_format"
-        || key == "node_type"
-        || key == "shape"
-        || key == "data_type"
-        || key == "chunk_grid"
-        || key == "chunk_key_encoding"
-        || key == "fill_value"
-        || key == "codecs"
-        || key == "attributes"
-        || key == "dimension_names"
-        || key == "storage_transformers"
+    names_array(key) || names_chunks(key) || names_optional(key)
 }
 
 fn may_be_passed_over(value: &Value) -> bool

@@ -4,10 +4,11 @@ ghost use Rattle.std.specs.Result.{result_map_both};
 ghost use Rattle.cu_json.specs.Form.{is_number, is_text};
 ghost use Rattle.serde_json.specs.Find.{get};
 ghost use Rattle.serde_json.specs.Read.{read};
-ghost use Rattle.serde_json.specs.View.{view};
+ghost use Rattle.serde_json.specs.View.{view, members_view};
 ghost use Rattle.cu_op.specs.Layout.{layout_view};
 ghost use Rattle.cu_meta.specs.Fault.{fault_view, field, IfMetaFault};
-ghost use Rattle.cu_meta.specs.Metadata.{required_member, layout_in, read_metadata};
+ghost use Rattle.cu_meta.specs.Metadata.{required_member, read_metadata};
+ghost use Rattle.cu_meta.specs.ReadSteps.{required_view, required_members, said_layout, optional_members, layout_by_steps};
 
 use crate::fault::{MetaFault, MetaRefused};
 use crate::members::{
@@ -17,7 +18,7 @@ use crate::members::{
 use arrayvec::ArrayString;
 use cu_json::{is_number, is_text};
 use cu_op::Layout;
-use serde_json::Value;
+use serde_json::{Map, Value};
 use std::alloc::Global;
 use std::str;
 
@@ -88,28 +89,62 @@ fn is_of_an_array(value: &Value) -> bool
     is_number(value.get("zarr_format"), 3) && is_text(value.get("node_type"), "array")
 }
 
-fn layout_in(value: &Value) -> Result<Layout, MetaFault>
-    ensures { result_map_both layout_view fault_view result ≡ layout_in (view value.now) }
+/// The members that have to be there.
+#[derive(Clone, Copy)]
+struct Required<'v> {
+    shape: &'v Value,
+    data_type: &'v Value,
+    chunk_grid: &'v Value,
+    chunk_key_encoding: &'v Value,
+    fill_value: &'v Value,
+    codecs: &'v Value,
+}
+
+fn required_in<'v>(value: &'v Value) -> Result<Required<'v>, MetaFault>
+    ensures { result_map_both required_view fault_view result ≡ required_members (view value.now) }
 {
-    let members = value.as_object().ok_or(MetaFault::Json)?;
-    if !is_of_an_array(value) {
-        return Err(MetaFault::Format);
-    }
     let shape = member(value, "shape")?;
     let data_type = member(value, "data_type")?;
     let chunk_grid = member(value, "chunk_grid")?;
     let chunk_key_encoding = member(value, "chunk_key_encoding")?;
     let fill_value = member(value, "fill_value")?;
     let codecs = member(value, "codecs")?;
-    let dtype = dtype_in(data_type).ok_or(MetaFault::BadDtype)?;
-    let grid = grid_in(dtype, shape, chunk_grid).ok_or(MetaFault::BadGrid)?;
-    let encoding = encoding_in(chunk_key_encoding).ok_or(MetaFault::KeyEncoding)?;
-    let fill = fill_in(dtype, fill_value).ok_or(MetaFault::Fill)?;
-    let endian = endian_in(dtype, codecs).ok_or(MetaFault::Codec)?;
+    Ok(Required {
+        shape,
+        data_type,
+        chunk_grid,
+        chunk_key_encoding,
+        fill_value,
+        codecs,
+    })
+}
+
+/// The layout that the members say.
+fn said_layout(members: &Required<'_>) -> Result<Layout, MetaFault>
+    ensures { result_map_both layout_view fault_view result ≡ said_layout (required_view members.now) }
+{
+    let dtype = dtype_in(members.data_type).ok_or(MetaFault::BadDtype)?;
+    let grid = grid_in(dtype, members.shape, members.chunk_grid).ok_or(MetaFault::BadGrid)?;
+    let encoding = encoding_in(members.chunk_key_encoding).ok_or(MetaFault::KeyEncoding)?;
+    let fill = fill_in(dtype, members.fill_value).ok_or(MetaFault::Fill)?;
+    let endian = endian_in(dtype, members.codecs).ok_or(MetaFault::Codec)?;
+    Ok(Layout {
+        dtype,
+        grid,
+        encoding,
+        endian,
+        fill,
+    })
+}
+
+/// The members that may be there, at an array of so many axes.
+fn check_optional(rank: u32, value: &Value, members: &Map<String, Value>) -> Result<(), MetaFault>
+    ensures { result_map_both (λ u. u) fault_view result ≡ optional_members rank (view value.now) (members_view members.now.entries) }
+{
     if !are_attributes(value.get("attributes")) {
         return Err(fault_of("attributes"));
     }
-    if !are_dimension_names(grid.shape().rank(), value.get("dimension_names")) {
+    if !are_dimension_names(rank, value.get("dimension_names")) {
         return Err(fault_of("dimension_names"));
     }
     if !are_no_transformers(value.get("storage_transformers")) {
@@ -118,11 +153,17 @@ fn layout_in(value: &Value) -> Result<Layout, MetaFault>
     if !are_understood(members) {
         return Err(MetaFault::Unknown);
     }
-    Ok(Layout {
-        dtype,
-        grid,
-        encoding,
-        endian,
-        fill,
-    })
+    Ok(())
+}
+
+fn layout_in(value: &Value) -> Result<Layout, MetaFault>
+    ensures { result_map_both layout_view fault_view result ≡ layout_by_steps (view value.now) }
+{
+    let members = value.as_object().ok_or(MetaFault::Json)?;
+    if !is_of_an_array(value) {
+        return Err(MetaFault::Format);
+    }
+    let layout = said_layout(&required_in(value)?)?;
+    check_optional(layout.grid.shape().rank(), value, members)?;
+    Ok(layout)
 }

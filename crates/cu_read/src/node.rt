@@ -66,9 +66,6 @@ fn name_for(ids: &Ids, id: &str, form: &Form) -> Result<IdText, NodeCode>
     }
 }
 
-/// Lets a form go.
-fn discard(_form: Form) {}
-
 /// The node that comes after those with these ids.
 pub(crate) fn node_in(alloc: Global, ids: &Ids, value: &Value) -> Result<Node, NodeRefused>
     ensures { Gives result (node_in ids.now (view value.now)) }
@@ -79,7 +76,7 @@ pub(crate) fn node_in(alloc: Global, ids: &Ids, value: &Value) -> Result<Node, N
     match name_for(ids, id, &form) {
         Ok(name) => Ok(Node { name, form }),
         Err(code) => {
-            discard(form);
+            drop(form);
             Err(NodeRefused::Code(code))
         }
     }

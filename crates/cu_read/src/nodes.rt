@@ -11,7 +11,7 @@ use crate::ids::Ids;
 use crate::node::node_in;
 use cu_form::Node;
 use serde_json::Value;
-use std::alloc::{AllocError, AllocFailed, Global};
+use std::alloc::{AllocError, Global};
 
 /// Nodes, and their ids.
 #[derive(Drop)]
@@ -19,12 +19,6 @@ pub(crate) struct Nodes {
     pub(crate) list: Vec<Node>,
     pub(crate) ids: Ids,
 }
-
-/// Lets a node go.
-fn discard(_node: Node) {}
-
-/// Lets a node go that found no place.
-fn discard_failed(_failed: AllocFailed<Node>) {}
 
 impl Nodes {
     /// Adds a node, whose id is new.
@@ -36,13 +30,13 @@ impl Nodes {
     {
         let name = node.name;
         if self.ids.add(alloc, name.text()).is_err() {
-            discard(node);
+            drop(node);
             return Err(AllocError);
         }
         match self.list.push(node) {
             Ok(()) => Ok(()),
             Err(failed) => {
-                discard_failed(failed);
+                drop(failed);
                 Err(AllocError)
             }
         }
