@@ -1,5 +1,5 @@
 -- A crew, worker by worker.
-use Rattle.std.proofs.Common.{◌≡◌, ◌||◌, Bool, true, false, ℕ, zero, suc, ◌+◌, ◌<◌, List, [], ◌∷◌, ◌++◌, map, length, refl, sym, ap, ◌∙◌, subst, arith}
+use Rattle.std.proofs.Common.{◌≡◌, ◌||◌, Bool, true, false, ℕ, zero, suc, ◌+◌, ◌<◌, List, [], ◌∷◌, ◌++◌, map, length, length-append, refl, sym, ap, ◌∙◌, subst, arith}
 use Rattle.std.proofs.lemmas.List.{length-map}
 use Rattle.std.proofs.lemmas.List.Sums.{sum_by-cons}
 use Rattle.std.specs.Prelude.{Contains, slice_index_or, min, sum_by}
@@ -44,7 +44,16 @@ module _ {X : Type 0} where
       subst (λ (k : ℕ). P k (slice_index_or (xs ++ x ∷ []) i d)) (omega arith)
       (at_snoc_or P xs x 0 (λ j e l. subst (λ (k : ℕ). P k (slice_index_or xs j e)) (omega arith) (all j e l)) (subst (λ (k : ℕ). P k x) (omega arith) one) i d low)
 
+  -- the element behind some others
+  at_middle : (xs : List X) (x : X) (rest : List X) (d : X) → slice_index_or (xs ++ x ∷ rest) (length xs) d ≡ x
+  at_middle [] x rest d = refl
+  at_middle (y ∷ ys) x rest d = at_middle ys x rest d
+
 module _ {Y P : Type 0} (owns : Y → P → Type 0) (yard : Y) (board : TableId) where
+  -- a worker of a crew, by the workers before it
+  pub worker_behind : (ws rest : List (Worker Y P)) (w : Worker Y P) → AreWorkersOf owns yard board (ws ++ w ∷ rest) → IsWorkerOf owns yard board (length ws) w.seat w.pass
+  worker_behind ws rest w crew = subst (λ (v : Worker Y P). IsWorkerOf owns yard board (length ws) v.seat v.pass) (at_middle ws w rest w) (crew (length ws) w (let l = length-append ws (w ∷ rest) in omega (arith, l)))
+
   numbers_joined : (ws : List (Worker Y P)) → map (λ (k : KnownFront). k.number) (map (λ (w : Worker Y P). front_of w.seat) ws) ≡ map (λ (w : Worker Y P). w.seat.view.number) ws
   numbers_joined [] = refl
   numbers_joined (w ∷ ws) = ap (λ l. w.seat.view.number ∷ l) (numbers_joined ws)

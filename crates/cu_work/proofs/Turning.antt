@@ -28,11 +28,13 @@ use Rattle.cu_table.specs.Step.{Settings, Halts}
 use Rattle.cu_table.specs.Table.{TableView, start_event, end_of, report_kind, is_late}
 use Rattle.cu_turn.specs.declared.view.SeatView.{SeatView}
 use Rattle.cu_turn.proofs.Fronts.{own-append}
+use Rattle.atomic_table.specs.Seated.{TableId}
+use Rattle.cu_board.specs.Views.{SeatAt}
 use Rattle.cu_board.specs.Board.{SeesDone, IsBadEntry, MayReport, LeavesCount, IsCauseOf, IsResting, IsRunning, IsTurnOf, IsTableLeft, IsClaimTurn, IsReportTurn}
 use Rattle.cu_task.specs.Serving.{HasSeenInputs, HasSeenOutputs, IsBadOfInput}
 use Rattle.cu_task.specs.Task.{IsTaskFault}
 use Rattle.cu_work.specs.Alone.{IsDecided, Tried, halt_outcome}
-use Rattle.cu_work.specs.Workers.{KnowsEnd, IsCausedBy}
+use Rattle.cu_work.specs.Workers.{IsWorkerOf, KnowsEnd, IsCausedBy}
 use Rattle.cu_work.specs.declared.outcome.Outcome.{Outcome}
 use Rattle.cu_work.specs.declared.outcome.Outcome.TheVariants as outcome
 
@@ -106,6 +108,19 @@ inputs_after made v w op task copy k c writes inputs =
 still_rests : (made : TableView) (v w : SeatView) (t u : TableView) → IsTurnOf made v t → u ≡ t → IsTableLeft made v u w → IsResting v.number v.front → IsResting v.number w.front
 still_rests made v w t u found is left rests =
     ap (λ (h : List Entry). left_running None (own v.number h)) (front_after made v u w left ∙ ap (λ (x : TableView). x.history) is) ∙ ap (left_running None) found.own ∙ rests
+
+-- a worker's own seat rests, and the worker is one of the board's still once its seat rests anew
+pub own_rests : {Y P : Type 0} {owns : Y → P → Type 0} {yard : Y} {board : TableId} {number : ℕ} {seat : SeatAt} {pass : P} → IsWorkerOf owns yard board number seat pass → IsResting seat.view.number seat.view.front
+own_rests {seat = seat} w = subst (λ (n : ℕ). IsResting n seat.view.front) (sym w.number_is) w.resting
+
+pub worker_after : {Y P : Type 0} {owns : Y → P → Type 0} {yard : Y} {board : TableId} {number : ℕ} {seat : SeatAt} {first : P} (later : SeatAt) (pass : P) → IsWorkerOf owns yard board number seat first → owns yard pass → later.board ≡ seat.board
+    → (later.view.root ≡ seat.view.root) × (later.view.number ≡ seat.view.number) → IsResting seat.view.number later.view.front → IsWorkerOf owns yard board number later pass
+worker_after later pass w own at same rests = record {
+  own = own;
+  seat_is = (at ∙ w.seat_is.0, same.0 ∙ w.seat_is.1);
+  number_is = same.1 ∙ w.number_is;
+  resting = subst (λ (n : ℕ). IsResting n later.view.front) w.number_is rests;
+}
 
 pub idle_after : (made : TableView) (v w : SeatView) (k : Known) → IsClaimTurn made v claim.Idle w k → IsResting v.number v.front → IsResting v.number w.front
 idle_after made v w k c rests = still_rests made v w c.before c.after c.found c.answer.0 c.left rests

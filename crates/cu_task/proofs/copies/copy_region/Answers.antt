@@ -27,6 +27,7 @@ use Rattle.cu_task.specs.Task.{read_calls}
 use Rattle.cu_task.proofs.InputReads.{on_ok_then, on_err_more}
 use Rattle.cu_task.proofs.TaskRegions.{copied, scratch_read}
 use Rattle.cu_task.proofs.TaskSteps.{read_fault}
+use Rattle.cu_task.specs.Asks.{MayReadWalks}
 use Rattle.cu_task.proofs.copies.copy_region.Goals as goal
 
 abbrev none : Walk
@@ -98,3 +99,20 @@ returns-clause-cause g c =
     let same : c.input_walk-walk.result ≡ (walk copy.source (task_lo c.args.task.now.plan.arrays operation c.args.task.now.number) (task_hi c.args.task.now.plan.arrays operation c.args.task.now.number)) = c.input_walk-walk.ensures.walk ∙ ap (λ (o : Op). slice_index_or (input_walks c.args.task.now.plan.arrays o c.args.task.now.number) 0 none) copy.is in
     let cause = subst (λ (w : Walk). IfErr c.read_walk.result (IsTaskInputFault (g.C.Chunks.shown c.args.access.now) (g.C.Chunks.shown c.read_walk.new.access) c.args.task.now.plan.arrays (w ∷ []))) same c.read_walk.ensures.cause in
     on_err_more c.read_walk.result (λ e fault. read_fault c.args.task.now.plan c.input_walk-walk.ensures.sound c.args.task.now.op c.args.task.now.number c.args.task.now.operation c.args.task.now.within (g.C.Chunks.shown c.args.access.now) (g.C.Chunks.shown c.read_walk.new.access) e (subst (λ (o : Op). IsTaskInputFault (g.C.Chunks.shown c.args.access.now) (g.C.Chunks.shown c.read_walk.new.access) c.args.task.now.plan.arrays (input_walks c.args.task.now.plan.arrays o c.args.task.now.number) e) (sym copy.is) fault)) cause
+
+pub read_walk-requires-clause-belongs : goal.read_walk-requires-clause-belongs
+read_walk-requires-clause-belongs g c = c.requires.belongs
+
+pub read_walk-requires-clause-walk : goal.read_walk-requires-clause-walk
+read_walk-requires-clause-walk g c = c.input_walk-walk.ensures.over
+
+pub read_walk-requires-clause-may : goal.read_walk-requires-clause-may
+read_walk-requires-clause-may g c =
+    let copy = copied (op_of c.args.task.now.plan c.args.task.now.op) c.requires.copy in
+    let operation = Copy copy.region copy.source copy.out in
+    let same : c.input_walk-walk.result ≡ (walk copy.source (task_lo c.args.task.now.plan.arrays operation c.args.task.now.number) (task_hi c.args.task.now.plan.arrays operation c.args.task.now.number)) = c.input_walk-walk.ensures.walk ∙ ap (λ (o : Op). slice_index_or (input_walks c.args.task.now.plan.arrays o c.args.task.now.number) 0 none) copy.is in
+    let may = subst (λ (o : Op). MayReadWalks c.args.task.now.plan.arrays (input_walks c.args.task.now.plan.arrays o c.args.task.now.number) (g.C.Chunks.may_get c.args.store.now c.args.access.now)) copy.is c.requires.may in
+    subst (λ (w : Walk). MayReadWalks c.args.task.now.plan.arrays (w ∷ []) (g.C.Chunks.may_get c.args.store.now c.args.access.now)) (sym same) may
+
+pub returns-clause-open : goal.returns-clause-open
+returns-clause-open g c = c.read_walk.ensures.open

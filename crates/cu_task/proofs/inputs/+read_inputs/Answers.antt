@@ -1,19 +1,20 @@
-use Rattle.std.proofs.Common.{◌≡◌, ◌+◌, ◌-◌, ◌≤◌, ℕ, List, [], ◌∷◌, ◌++◌, length, take, drop, All, Some, sym, subst, arith, rules, length-append}
+use Rattle.std.proofs.Common.{refl, ◌≡◌, ◌<◌, ◌∙◌, get_or, ◌+◌, ◌-◌, ◌≤◌, ℕ, List, [], ◌∷◌, ◌++◌, length, take, drop, All, Some, sym, subst, arith, rules, length-append}
 use Rattle.std.proofs.lemmas.List.Elements.{All-tail, All-weaker}
 use Rattle.std.proofs.lemmas.List.Sums.{sum_by-cons}
 use Rattle.std.proofs.lemmas.Result.{err_from_is_err_and}
 use Rattle.cu_grid.specs.Grid.{IsGrid}
 use Rattle.cu_store.specs.Steps.{NoChange, Steps}
-use Rattle.cu_store.proofs.Steps.{steps_then, steps_wider}
+use Rattle.cu_store.proofs.Steps.{steps_same, steps_then, steps_wider}
 use Rattle.cu_op.specs.Arrays.{grid_at, chunk_room}
 use Rattle.cu_op.specs.Walks.{IsWalkOver, walk_cells, cells_of_walks}
+use Rattle.cu_op.specs.declared.layout.ArrayInfo.{ArrayInfo}
 use Rattle.cu_op.specs.declared.walks.Walk.{Walk}
 use Rattle.cu_op.proofs.Plans.{grid_ok}
 use Rattle.cu_region.specs.Calls.{Made}
 use Rattle.cu_region.specs.Steady.{IsSteady}
 use Rattle.cu_task.specs.Inputs.{walk_room, room_of_walks, HasRegions, IsWalkKey, IsTaskInputFault}
 use Rattle.cu_task.proofs.InputReads.{split_first, first_key, rest_key, first_fault, rest_fault, on_err_more, on_ok_then, stays, regions_before, regions_more, all_made}
-use Rattle.cu_store.proofs.StaysOpen.{open_then}
+use Rattle.cu_store.proofs.StaysOpen.{open_same, open_then}
 use Rattle.cu_task.proofs.inputs.+read_inputs.Goals as goal
 
 room_left : (all behind cut room rest : ℕ) → cut ≡ room → behind + cut ≡ all → room + rest ≤ all → rest ≤ behind
@@ -134,3 +135,48 @@ returns-in_err-read_walk-in-len1-up-clause-step g t c =
 
 pub returns-in_ok-read_walk-in-len1-up-clause-open : goal.returns-in_ok-read_walk-in-len1-up-clause-open
 returns-in_ok-read_walk-in-len1-up-clause-open g t c = open_then c.read_walk.ensures.open c.read_inputs.ensures.open
+
+pub returns-in_err-read_walk-in-len1-up-clause-open : goal.returns-in_err-read_walk-in-len1-up-clause-open
+returns-in_err-read_walk-in-len1-up-clause-open g t c = c.read_walk.ensures.open
+
+-- the first of some walks goes over an array
+first_over : (arrays : List ArrayInfo) (ws : List Walk) (w : Walk) → All (IsWalkOver arrays) ws → 0 < length ws → w ≡ get_or ws 0 w → IsWalkOver arrays w
+first_over arrays ws w all some is = subst (IsWalkOver arrays) (sym is) (all 0 w some)
+
+pub walk_bytes-requires : goal.walk_bytes-requires
+walk_bytes-requires g t c = first_over c.args.task.now.plan.arrays c.args.walks.now c.walk-item.result c.requires.walks c.in-len1-up.len_at_least c.walk-item.is
+
+pub read_walk-requires-clause-belongs : goal.read_walk-requires-clause-belongs
+read_walk-requires-clause-belongs g t c = c.requires.belongs
+
+pub read_walk-requires-clause-walk : goal.read_walk-requires-clause-walk
+read_walk-requires-clause-walk g t c = first_over c.args.task.now.plan.arrays c.args.walks.now c.walk-item.result c.requires.walks c.in-len1-up.len_at_least c.walk-item.is
+
+pub read_walk-requires-clause-room : goal.read_walk-requires-clause-room
+read_walk-requires-clause-room g t c = c.split_at_mut-own.ensures.front_len ∙ c.walk_bytes.ensures.bytes
+
+pub read_walk-requires-clause-scratch : goal.read_walk-requires-clause-scratch
+read_walk-requires-clause-scratch g t c =
+    subst (λ (w : Walk). chunk_room c.args.task.now.plan.arrays w.array ≤ length c.args.scratch.now) (sym c.walk-item.is) (c.requires.scratch 0 c.walk-item.result c.in-len1-up.len_at_least)
+
+pub returns-in-empty-clause-open : goal.returns-in-empty-clause-open
+returns-in-empty-clause-open g t c = open_same (g.C.Chunks.may_get c.args.store.now c.args.access.now) c.requires.belongs
+
+pub returns-in-empty-clause-cause : goal.returns-in-empty-clause-cause
+returns-in-empty-clause-cause g t c = tt
+
+pub returns-in_err-read_walk-in-len1-up-clause-read : goal.returns-in_err-read_walk-in-len1-up-clause-read
+returns-in_err-read_walk-in-len1-up-clause-read g t c held told steady = let p = err_from_is_err_and c.from_residual.result c.from_residual.ensures.1 in rw p.1 tt
+
+pub returns-in_err-read_walk-in-len1-up-clause-all : goal.returns-in_err-read_walk-in-len1-up-clause-all
+returns-in_err-read_walk-in-len1-up-clause-all g t c = let p = err_from_is_err_and c.from_residual.result c.from_residual.ensures.1 in rw p.1 tt
+
+none_left : (ws : List Walk) → length ws < 1 → ws ≡ []
+none_left [] few = refl
+none_left (w ∷ ws) few = absurd (omega arith)
+
+pub returns-in-empty-clause-step : goal.returns-in-empty-clause-step
+returns-in-empty-clause-step g t c = rw (none_left c.args.walks.now c.in-empty.len_below) (steps_same NoChange (g.C.Chunks.shown c.args.access.now))
+
+pub returns-in-empty-clause-read : goal.returns-in-empty-clause-read
+returns-in-empty-clause-read g t c held told steady = rw (none_left c.args.walks.now c.in-empty.len_below) tt

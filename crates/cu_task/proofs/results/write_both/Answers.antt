@@ -1,4 +1,4 @@
-use Rattle.std.proofs.Common.{◌≡◌, inl, inr, ℕ, ◌+◌, List, Contains, length, refl, sym, ap, ◌∙◌, subst, arith}
+use Rattle.std.proofs.Common.{◌≡◌, inl, inr, ℕ, ◌+◌, ◌≤◌, List, Contains, length, refl, sym, ap, ◌∙◌, subst, arith}
 use Rattle.std.specs.Prelude.{OnOk}
 use Rattle.cu_store.specs.Steps.{Steps}
 use Rattle.cu_store.proofs.Steps.{steps_then, steps_wider}
@@ -18,6 +18,8 @@ use Rattle.cu_task.proofs.TaskSteps.{carries, puts_cells, late_own, holds_chunk,
 use Rattle.cu_task.specs.Asks.{AllowsRegion, MayReadRegion}
 use Rattle.cu_task.proofs.Allowed.{got_cell, allows_within}
 use Rattle.cu_store.proofs.StaysOpen.{open_then}
+use Rattle.cu_task.specs.OfTask.{scratch_bytes}
+use Rattle.std.proofs.lemmas.Result.{err_from_is_err_and}
 use Rattle.cu_task.proofs.results.write_both.Goals as goal
 
 pub write_array-requires-clause-array : goal.write_array-requires-clause-array
@@ -115,3 +117,30 @@ returns-clause-got g c =
           (subst (λ (a : ℕ). MayReadRegion c.args.task.now.plan c.args.task.now.op c.args.task.now.number a K) target got)
     ])
     c.write_array-2.ensures.got
+
+pub returns-in_err-write_array-clause-open : goal.returns-in_err-write_array-clause-open
+returns-in_err-write_array-clause-open g c = c.write_array.ensures.open
+
+pub write_array-requires-clause-belongs : goal.write_array-requires-clause-belongs
+write_array-requires-clause-belongs g c = c.requires.belongs
+
+pub write_array-requires-clause-scratch : goal.write_array-requires-clause-scratch
+write_array-requires-clause-scratch g c = c.requires.room.scratch
+
+pub write_array-requires-2-clause-belongs : goal.write_array-requires-2-clause-belongs
+write_array-requires-2-clause-belongs g c = c.write_array.ensures.open.belongs
+
+pub write_array-requires-2-clause-scratch : goal.write_array-requires-2-clause-scratch
+write_array-requires-2-clause-scratch g c = subst (λ (n : ℕ). scratch_bytes c.args.task.now ≤ n) (sym c.write_array.auto.scratch) c.requires.room.scratch
+
+pub returns-in_err-write_array-clause-got : goal.returns-in_err-write_array-clause-got
+returns-in_err-write_array-clause-got g c = let p = err_from_is_err_and c.from_residual.result c.from_residual.ensures.1 in rw p.1 tt
+
+pub returns-in_err-write_array-clause-stored : goal.returns-in_err-write_array-clause-stored
+returns-in_err-write_array-clause-stored g c env start calls over ready steps = let p = err_from_is_err_and c.from_residual.result c.from_residual.ensures.1 in rw p.1 tt
+
+pub returns-in_err-write_array-clause-all : goal.returns-in_err-write_array-clause-all
+returns-in_err-write_array-clause-all g c = let p = err_from_is_err_and c.from_residual.result c.from_residual.ensures.1 in rw p.1 tt
+
+pub returns-in_err-write_array-clause-cause : goal.returns-in_err-write_array-clause-cause
+returns-in_err-write_array-clause-cause g c = let p = err_from_is_err_and c.from_residual.result c.from_residual.ensures.1 in rw (p.1, p.2) c.in_err-write_array.ensures.cause

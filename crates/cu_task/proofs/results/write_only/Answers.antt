@@ -53,3 +53,15 @@ returns-clause-got g c =
     (only_array c.args.task.now.plan c.operation.ensures.sound c.args.task.now.op c.args.task.now.number c.args.task.now.operation c.args.task.now.within (target_of (op_of c.args.task.now.plan c.args.task.now.op)) c.requires.only cell there)
     (subst (λ (a : ℕ). MayReadRegion c.args.task.now.plan c.args.task.now.op c.args.task.now.number a (g.C.Chunks.may_get c.args.store.now c.write_array.new.access)) target got))
     c.write_array.ensures.got
+
+pub write_array-requires-clause-belongs : goal.write_array-requires-clause-belongs
+write_array-requires-clause-belongs g c = c.requires.belongs
+
+pub write_array-requires-clause-scratch : goal.write_array-requires-clause-scratch
+write_array-requires-clause-scratch g c = c.requires.scratch
+
+pub returns-clause-open : goal.returns-clause-open
+returns-clause-open g c = c.write_array.ensures.open
+
+pub returns-clause-cause : goal.returns-clause-cause
+returns-clause-cause g c = c.write_array.ensures.cause

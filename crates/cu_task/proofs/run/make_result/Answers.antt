@@ -1,8 +1,9 @@
-use Rattle.std.proofs.Common.{◌≤◌, length, refl, sym, ap, ◌∙◌, subst, rules}
+use Rattle.std.proofs.Common.{◌≤◌, ℕ, length, refl, sym, ap, ◌∙◌, subst, rules}
 use Rattle.cu_op.specs.Schedule.{op_of}
 use Rattle.cu_op.specs.declared.operation.Op.{Op}
 use Rattle.cu_op.proofs.TaskCells.{fit_of}
 use Rattle.cu_task.specs.Inputs.{IsPullOf}
+use Rattle.cu_task.specs.OfTask.{scratch_bytes}
 use Rattle.cu_task.specs.Task.{IsComputing, value_array}
 use Rattle.cu_task.proofs.InputReads.{on_ok_then}
 use Rattle.cu_task.proofs.JobViews.{job_is_view}
@@ -47,3 +48,38 @@ returns-in-Copy-clause-elements g c =
     on_ok_then c.copy_region.result
     (λ elements. record { output = elements; values = λ array is. absurd (none_stored array (sym (ap value_array (sym c.operation.ensures.operation ∙ c.in-Copy.is)) ∙ is)) })
     c.copy_region.ensures.elements
+
+pub returns-in-Pull-clause-room : goal.returns-in-Pull-clause-room
+returns-in-Pull-clause-room g c = record {
+  scratch = subst (λ (n : ℕ). scratch_bytes c.args.task.now ≤ n) (sym c.pull_result.auto.scratch) c.requires.room.scratch;
+  inputs = c.requires.room.inputs;
+  values = c.requires.room.values;
+  output = c.pull_result.auto.output ∙ c.requires.room.output;
+  words = c.requires.room.words;
+}
+
+pub returns-in-Pull-clause-all : goal.returns-in-Pull-clause-all
+returns-in-Pull-clause-all g c = c.pull_result.ensures.all
+
+pub returns-in-Copy-clause-room : goal.returns-in-Copy-clause-room
+returns-in-Copy-clause-room g c = record {
+  scratch = subst (λ (n : ℕ). scratch_bytes c.args.task.now ≤ n) (sym c.copy_region.auto.scratch) c.requires.room.scratch;
+  inputs = c.requires.room.inputs;
+  values = c.requires.room.values;
+  output = c.copy_region.auto.output ∙ c.requires.room.output;
+  words = c.requires.room.words;
+}
+
+pub returns-in-Copy-clause-all : goal.returns-in-Copy-clause-all
+returns-in-Copy-clause-all g c _ = c.copy_region.ensures.all
+
+pub returns-in_default : goal.returns-in_default
+returns-in_default g c = record {
+  «open» = c.compute_result.ensures.«open»;
+  room = c.compute_result.ensures.room;
+  made = c.compute_result.ensures.made;
+  elements = c.compute_result.ensures.elements;
+  step = c.compute_result.ensures.step;
+  all = λ _. c.compute_result.ensures.all;
+  cause = c.compute_result.ensures.cause;
+}

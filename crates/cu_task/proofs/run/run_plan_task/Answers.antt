@@ -12,6 +12,7 @@ use Rattle.cu_task.specs.TaskRoom.{HasMadeAll, IsAllMadeOver}
 use Rattle.cu_task.specs.declared.room.TaskRoom.{TaskRoom}
 use Rattle.cu_task.proofs.InputReads.{on_err_more, on_ok_then, all_made}
 use Rattle.cu_task.proofs.TaskSteps.{write_fault}
+use Rattle.cu_store.proofs.StaysOpen.{open_then}
 use Rattle.cu_task.proofs.run.run_plan_task.Goals as goal
 
 made_over : {t : TaskView} {shown : Shown} {room : TaskRoom} → ((held : Contents) → AreSteady t shown held → HasMadeAll t held room) → IsAllMadeOver t shown room
@@ -46,3 +47,39 @@ returns-clause-cause g c =
 
 pub write_results-requires-clause-puts : goal.write_results-requires-clause-puts
 write_results-requires-clause-puts g c = record { start = g.C.Chunks.shown c.args.access.now; made = made_over c.in_ok-make_result.ensures.made; changes = c.requires.puts }
+
+pub make_result-requires-clause-belongs : goal.make_result-requires-clause-belongs
+make_result-requires-clause-belongs g c = c.requires.belongs
+
+pub make_result-requires-clause-may : goal.make_result-requires-clause-may
+make_result-requires-clause-may g c = c.requires.may
+
+pub make_result-requires-clause-room : goal.make_result-requires-clause-room
+make_result-requires-clause-room g c = c.split-room.ensures.room
+
+pub write_results-requires-clause-belongs : goal.write_results-requires-clause-belongs
+write_results-requires-clause-belongs g c = c.make_result.ensures.open.belongs
+
+pub write_results-requires-clause-room : goal.write_results-requires-clause-room
+write_results-requires-clause-room g c = c.make_result.ensures.room
+
+pub write_results-requires-clause-elements : goal.write_results-requires-clause-elements
+write_results-requires-clause-elements g c = c.in_ok-make_result.ensures.elements
+
+pub returns-in_err-make_result-clause-open : goal.returns-in_err-make_result-clause-open
+returns-in_err-make_result-clause-open g c = c.make_result.ensures.open
+
+pub returns-clause-open : goal.returns-clause-open
+returns-clause-open g c = open_then c.make_result.ensures.open c.write_results.ensures.open
+
+pub returns-clause-got : goal.returns-clause-got
+returns-clause-got g c = c.write_results.ensures.got
+
+pub returns-in_err-make_result-clause-stored : goal.returns-in_err-make_result-clause-stored
+returns-in_err-make_result-clause-stored g c env ready = let p = err_from_is_err_and c.from_residual.result c.from_residual.ensures.1 in rw p.1 tt
+
+pub returns-in_err-make_result-clause-got : goal.returns-in_err-make_result-clause-got
+returns-in_err-make_result-clause-got g c = let p = err_from_is_err_and c.from_residual.result c.from_residual.ensures.1 in rw p.1 tt
+
+pub returns-in_err-make_result-clause-all : goal.returns-in_err-make_result-clause-all
+returns-in_err-make_result-clause-all g c sure = let p = err_from_is_err_and c.from_residual.result c.from_residual.ensures.1 in rw p.1 tt

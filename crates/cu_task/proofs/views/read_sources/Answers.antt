@@ -1,13 +1,14 @@
-use Rattle.std.proofs.Common.{ℕ, ◌+◌, ◌<◌, length, sym, subst, arith}
+use Rattle.std.proofs.Common.{ℕ, ◌+◌, ◌<◌, length, sym, subst, arith, ◌≡◌, ◌∙◌, ◌≤◌}
 use Rattle.cu_store.specs.Faults.{Rose}
-use Rattle.cu_store.specs.Steps.{NoChange}
+use Rattle.cu_store.specs.Steps.{NoChange, Steps}
 use Rattle.cu_store.proofs.Steps.{steps_same, steps_then, steps_wider}
-use Rattle.cu_task.specs.ViewJobs.{view_task_of}
-use Rattle.cu_task.specs.Views.{view_calls, source_calls, sure_calls, IsAny}
+use Rattle.cu_task.specs.ViewJobs.{view_task_of, source_room}
+use Rattle.cu_task.specs.Views.{view_calls, source_calls, sure_calls, IsAny, HasPulled}
 use Rattle.cu_task.proofs.JobViews.{fitting}
 use Rattle.cu_task.proofs.ViewChunks.{sure_none, sure_rose, view_calls_more, view_calls_within}
 use Rattle.cu_task.proofs.ViewElements.{known_later, takes_before, pulled_more}
 use Rattle.cu_store.proofs.StaysOpen.{open_same, open_then}
+use Rattle.std.proofs.lemmas.Result.{err_from_is_err_and}
 use Rattle.cu_task.proofs.views.read_sources.Goals as goal
 
 pub loop-source-init : goal.loop-source-init
@@ -54,3 +55,33 @@ returns-in_err-read_source-clause-open g c = open_then c.loop-source.invariant.o
 
 pub returns-clause-open : goal.returns-clause-open
 returns-clause-open g c = c.loop-source.invariant.open_
+
+pub read_source-requires-clause-job : goal.read_source-requires-clause-job
+read_source-requires-clause-job g c = c.requires.job
+
+pub read_source-requires-clause-source : goal.read_source-requires-clause-source
+read_source-requires-clause-source g c = omega arith
+
+pub read_source-requires-clause-output : goal.read_source-requires-clause-output
+read_source-requires-clause-output g c = c.loop-source.auto.output ∙ c.requires.output
+
+pub read_source-requires-clause-scratch : goal.read_source-requires-clause-scratch
+read_source-requires-clause-scratch g c = subst (λ (n : ℕ). source_room (view_task_of c.args.job.now) c.loop-source.source ≤ n) (sym c.loop-source.auto.scratch) (c.requires.scratch c.loop-source.source (omega arith))
+
+pub returns-in_err-read_source-clause-pulled : goal.returns-in_err-read_source-clause-pulled
+returns-in_err-read_source-clause-pulled g c told known pulled = let p = err_from_is_err_and c.from_residual.result c.from_residual.ensures.1 in rw p.1 tt
+
+pub returns-in_err-read_source-clause-all : goal.returns-in_err-read_source-clause-all
+returns-in_err-read_source-clause-all g c = let p = err_from_is_err_and c.from_residual.result c.from_residual.ensures.1 in rw p.1 tt
+
+pub returns-clause-cause : goal.returns-clause-cause
+returns-clause-cause g c = tt
+
+pub returns-clause-step : goal.returns-clause-step
+returns-clause-step g c = let all : c.loop-source.source ≡ length c.args.job.now.ins.now = omega arith in subst (λ (n : ℕ). Steps NoChange 0 (view_calls (view_task_of c.args.job.now) n) (g.C.Chunks.shown c.args.access.now) (g.C.Chunks.shown c.loop-source.access)) all c.loop-source.invariant.step
+
+pub returns-clause-all : goal.returns-clause-all
+returns-clause-all g c = let all : c.loop-source.source ≡ length c.args.job.now.ins.now = omega arith in subst (λ (n : ℕ). Rose (sure_calls c.args.job.now.pull.now (view_calls (view_task_of c.args.job.now) n)) (g.C.Chunks.shown c.args.access.now).calls (g.C.Chunks.shown c.loop-source.access).calls) all c.loop-source.invariant.all
+
+pub returns-clause-pulled : goal.returns-clause-pulled
+returns-clause-pulled g c told known pulled = let all : c.loop-source.source ≡ length c.args.job.now.ins.now = omega arith in subst (λ (n : ℕ). HasPulled (view_task_of c.args.job.now) n told c.loop-source.output) all (c.loop-source.invariant.pulled told known pulled)

@@ -1,4 +1,4 @@
-use Rattle.std.proofs.Common.{◌≡◌, subst, arith}
+use Rattle.std.proofs.Common.{◌≡◌, subst, arith, refl, sym}
 use Rattle.std.proofs.lemmas.Result.{err_from_is_err_and}
 use Rattle.cu_op.specs.declared.layout.ArrayInfo.{ArrayInfo}
 use Rattle.cu_op.proofs.CellsOfTasks.{coordinates_small}
@@ -38,3 +38,33 @@ returns-in_err-read_chunk-clause-cause g c =
     c.source_array-from.ensures c.in_err-read_chunk.ensures.cause in
     rw (p.1, p.2) (fault_more (g.C.Chunks.shown c.args.access.now) (g.C.Chunks.shown c.args.access.now) (g.C.Chunks.shown c.read_chunk.new.access) (λ key. key ≡ key_at (source_in (view_task_of c.args.chunk.now.job.now) c.args.chunk.now.source) c.args.chunk.now.coord)
     (IsSourceKey (view_task_of c.args.chunk.now.job.now) c.args.chunk.now.source) (bytes_of (source_in (view_task_of c.args.chunk.now.job.now) c.args.chunk.now.source).layout) c.in_err-read_chunk.field-0.0 (omega arith) (λ key is. (c.args.chunk.now.coord, c.requires.chunk.coordinate, is)) cause)
+
+pub read_chunk-requires-clause-belongs : goal.read_chunk-requires-clause-belongs
+read_chunk-requires-clause-belongs g c = c.requires.belongs
+
+pub move_chunk-requires-clause-chunk : goal.move_chunk-requires-clause-chunk
+move_chunk-requires-clause-chunk g c = c.requires.chunk
+
+pub returns-clause-open : goal.returns-clause-open
+returns-clause-open g c = c.read_chunk.ensures.open
+
+pub returns-clause-step : goal.returns-clause-step
+returns-clause-step g c = c.read_chunk.ensures.step
+
+pub returns-clause-cause : goal.returns-clause-cause
+returns-clause-cause g c = tt
+
+pub returns-in_err-read_chunk-clause-open : goal.returns-in_err-read_chunk-clause-open
+returns-in_err-read_chunk-clause-open g c = c.read_chunk.ensures.open
+
+pub returns-in_err-read_chunk-clause-step : goal.returns-in_err-read_chunk-clause-step
+returns-in_err-read_chunk-clause-step g c = c.read_chunk.ensures.step
+
+pub returns-in_err-read_chunk-clause-takes : goal.returns-in_err-read_chunk-clause-takes
+returns-in_err-read_chunk-clause-takes g c told known = let p = err_from_is_err_and c.from_residual.result c.from_residual.ensures.1 in rw p.1 tt
+
+pub move_chunk-requires-clause-output : goal.move_chunk-requires-clause-output
+move_chunk-requires-clause-output g c = c.requires.output
+
+pub read_chunk-requires-clause-may : goal.read_chunk-requires-clause-may
+read_chunk-requires-clause-may g c = subst (λ (a : ArrayInfo). g.C.Chunks.may_get c.args.store.now c.args.access.now (key_at a c.args.chunk.now.coord)) (sym c.source_array-from.ensures) (c.requires.may (key_at (source_in (view_task_of c.args.chunk.now.job.now) c.args.chunk.now.source) c.args.chunk.now.coord) (c.args.chunk.now.coord, c.requires.chunk.coordinate, refl))

@@ -7,10 +7,9 @@ use Rattle.cu_table.specs.Own.{left_running}
 use Rattle.std.specs.Prelude.{All}
 use Rattle.std.proofs.lemmas.List.Elements.{All-head, All-tail, All-push}
 use Rattle.cu_work.specs.Rooms.{RoomSizes, rooms_of}
-use Rattle.cu_work.specs.Workers.{IsWorkerOf}
+use Rattle.cu_work.specs.Workers.{IsWorkerOf, AreWorkersOf, AreNumbered}
 use Rattle.cu_work.specs.declared.worker.Worker.{Worker}
 use Rattle.cu_work.specs.declared.outcome.Outcome.TheVariants.{Lacked}
-use Rattle.cu_work.specs.Workers.{AreWorkersOf, AreNumbered}
 use Rattle.cu_work.proofs.Crews.{crew_snoc, numbered_snoc}
 use Rattle.cu_work.proofs.crew.hire.Goals as goal
 
@@ -63,3 +62,24 @@ loop-room-preserved g c =
 
 pub returns-clause-rooms : goal.returns-clause-rooms
 returns-clause-rooms g c = λ p given. (c.loop-room.invariant.12 p given).1
+
+pub split-seat-requires-clause-seat : goal.split-seat-requires-clause-seat
+split-seat-requires-clause-seat g c κs within = c.loop-room.invariant.6.seat_is
+
+pub split-seat-requires-clause-number : goal.split-seat-requires-clause-number
+split-seat-requires-clause-number g c κs within = c.loop-room.invariant.6.number
+
+pub split-pass-requires : goal.split-pass-requires
+split-pass-requires g c = c.loop-room.invariant.10
+
+pub returns-clause-own : goal.returns-clause-own
+returns-clause-own g c = c.loop-room.invariant.10
+
+pub returns-clause-same : goal.returns-clause-same
+returns-clause-same g c = c.loop-room.invariant.11
+
+pub returns-clause-numbers : goal.returns-clause-numbers
+returns-clause-numbers g c = c.loop-room.invariant.9
+
+pub returns-clause-refused : goal.returns-clause-refused
+returns-clause-refused g c = tt

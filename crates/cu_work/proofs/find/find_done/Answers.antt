@@ -1,4 +1,4 @@
-use Rattle.std.proofs.Common.{◌+◌, ◌∙◌, length, sym, subst}
+use Rattle.std.proofs.Common.{◌+◌, ◌∙◌, length, ap, sym, subst}
 use Rattle.cu_work.specs.Order.{plan_keys}
 use Rattle.cu_work.specs.Search.{NamesStored}
 use Rattle.cu_work.specs.World.{IsFound}
@@ -19,3 +19,22 @@ pub returns-in-Ok-find_tasks-clause-all : goal.returns-in-Ok-find_tasks-clause-a
 returns-in-Ok-find_tasks-clause-all g c = λ held told.
     subst (NamesStored c.args.plan.now held) (sym (written_back _ _ _ (c.in-Ok.ensures.len ∙ c.count_tasks-count.ensures ∙ sym c.in-Ok-find_tasks.ensures.searched.tasks)))
     (named_stored (c.args.retries + 1) c.args.plan.now (g.D.Depot.shown c.args.depot.now) (g.D.Depot.shown c.find_tasks.new.depot) c.find_tasks.new.done c.in-Ok-find_tasks.ensures.searched held told)
+
+pub returns-in-Ok-find_tasks-clause-cause : goal.returns-in-Ok-find_tasks-clause-cause
+returns-in-Ok-find_tasks-clause-cause g c = tt
+
+pub returns-in-Err-clause-tasks : goal.returns-in-Err-clause-tasks
+returns-in-Err-clause-tasks g c = tt
+
+pub returns-in-Err-clause-asked : goal.returns-in-Err-clause-asked
+returns-in-Err-clause-asked g c = tt
+
+pub returns-in-Err-clause-found : goal.returns-in-Err-clause-found
+returns-in-Err-clause-found g c = λ held told. tt
+
+pub returns-in-Err-clause-all : goal.returns-in-Err-clause-all
+returns-in-Err-clause-all g c = λ held told. tt
+
+pub returns-in-Ok-find_tasks-clause-tasks : goal.returns-in-Ok-find_tasks-clause-tasks
+returns-in-Ok-find_tasks-clause-tasks g c =
+    ap length (written_back _ _ _ (c.in-Ok.ensures.len ∙ c.count_tasks-count.ensures ∙ sym c.in-Ok-find_tasks.ensures.searched.tasks)) ∙ c.in-Ok-find_tasks.ensures.searched.tasks

@@ -1,8 +1,25 @@
-use Rattle.std.proofs.Common.{◌+◌, inr, sym, ap, subst, arith}
+use Rattle.std.proofs.Common.{◌≡◌, ◌+◌, ◌*◌, ◌≤◌, ◌∙◌, ℕ, inr, sym, ap, subst, arith}
+use Rattle.std.proofs.Math.Nat.{mul-add, mul_comm}
+use Rattle.cu_store.proofs.Steps.{steps_wider}
+use Rattle.cu_work.specs.Calls.{missing_texts, calls_of_tasks}
 use Rattle.cu_table.specs.Table.{TableView}
 use Rattle.cu_work.specs.Run.{run_of, IsUnstored}
 use Rattle.cu_work.proofs.Running.{unstored_first, apart_alone, open_mid, found_mid, run_step, texts_after, alone_mid, complete_after, share_unstored, share_refused}
 use Rattle.cu_work.proofs.run.run_plan.Goals as goal
+
+-- the calls of so many tries, and of more
+mul_sum : (m k r : ℕ) → (m + k) * r ≡ m * r + k * r
+mul_sum m k r = mul_comm (m + k) r ∙ mul-add r m k ∙ ap (λ (x : ℕ). x + r * k) (mul_comm r m) ∙ ap (λ (x : ℕ). m * r + x) (mul_comm r k)
+
+more_tries : (n a m k r : ℕ) → n ≤ a + m * r → n ≤ a + (m + k) * r
+more_tries n a m k r few = let e = mul_sum m k r in omega (arith, e, few)
+
+both_tries : (a mid n m t r : ℕ) → mid ≤ a + m * r → n ≤ mid + (1 + t) * r → n ≤ a + (m + 1 + t) * r
+both_tries a mid n m t r first then =
+    let e = mul_sum (m + 1) t r in
+    let f = mul_sum m 1 r in
+    let h = mul_sum 1 t r in
+    omega (arith, e, f, h, first, then)
 
 pub returns-in-Err-clause-record : goal.returns-in-Err-clause-record
 returns-in-Err-clause-record g c = λ env left.
@@ -79,3 +96,111 @@ returns-in-Ok-clause-tries g c = λ alone m most.
     let texts = c.put_texts.ensures.own.calls.1 in
     let tasks = c.in-Ok.ensures.tries alone m most in
     omega (arith, texts, tasks)
+
+pub run_tasks-requires-clause-inputs : goal.run_tasks-requires-clause-inputs
+run_tasks-requires-clause-inputs g c κs within = c.requires.inputs
+
+pub run_tasks-requires-clause-workers : goal.run_tasks-requires-clause-workers
+run_tasks-requires-clause-workers g c κs within = c.requires.workers
+
+pub run_tasks-requires-clause-memory : goal.run_tasks-requires-clause-memory
+run_tasks-requires-clause-memory g c κs within = c.requires.memory
+
+pub returns-in-Err-clause-texts : goal.returns-in-Err-clause-texts
+returns-in-Err-clause-texts g c = λ env left. tt
+
+pub returns-in-Err-clause-unstored : goal.returns-in-Err-clause-unstored
+returns-in-Err-clause-unstored g c = c.in-Err.ensures.unstored
+
+pub returns-in-Err-clause-cause : goal.returns-in-Err-clause-cause
+returns-in-Err-clause-cause g c = c.in-Err.ensures.cause
+
+pub returns-in-Err-clause-driven : goal.returns-in-Err-clause-driven
+returns-in-Err-clause-driven g c = tt
+
+pub returns-in-Err-clause-counts : goal.returns-in-Err-clause-counts
+returns-in-Err-clause-counts g c = tt
+
+pub returns-in-Err-clause-done : goal.returns-in-Err-clause-done
+returns-in-Err-clause-done g c = λ env left. tt
+
+pub returns-in-Err-clause-complete : goal.returns-in-Err-clause-complete
+returns-in-Err-clause-complete g c = λ env left. tt
+
+pub returns-in-Err-clause-bad : goal.returns-in-Err-clause-bad
+returns-in-Err-clause-bad g c = tt
+
+pub returns-in-Err-clause-input : goal.returns-in-Err-clause-input
+returns-in-Err-clause-input g c = λ env left. tt
+
+pub returns-in-Err-clause-lacked : goal.returns-in-Err-clause-lacked
+returns-in-Err-clause-lacked g c = tt
+
+pub returns-in-Err-clause-tries : goal.returns-in-Err-clause-tries
+returns-in-Err-clause-tries g c = λ one m most. tt
+
+pub returns-in-Err-clause-step : goal.returns-in-Err-clause-step
+returns-in-Err-clause-step g c = steps_wider (λ key value change. change) (omega arith) (omega arith) c.put_texts.ensures.step
+
+pub returns-in-Err-clause-refused : goal.returns-in-Err-clause-refused
+returns-in-Err-clause-refused g c = steps_wider (λ key value change. change) (omega arith) (omega arith) c.put_texts.ensures.own
+
+pub returns-in-Err-clause-begun : goal.returns-in-Err-clause-begun
+returns-in-Err-clause-begun g c = more_tries (g.D.Depot.shown c.put_texts.new.depot).calls (g.D.Depot.shown c.args.depot.now).calls (missing_texts c.args.held) 1 (c.args.options.now.retries + 1) c.put_texts.ensures.calls
+
+pub returns-in-Err-clause-calls : goal.returns-in-Err-clause-calls
+returns-in-Err-clause-calls g c one = more_tries (g.D.Depot.shown c.put_texts.new.depot).calls (g.D.Depot.shown c.args.depot.now).calls (missing_texts c.args.held + 1) (calls_of_tasks c.args.plan.now) (c.args.options.now.retries + 1) (more_tries (g.D.Depot.shown c.put_texts.new.depot).calls (g.D.Depot.shown c.args.depot.now).calls (missing_texts c.args.held) 1 (c.args.options.now.retries + 1) c.put_texts.ensures.calls)
+
+pub returns-in-Ok-clause-unstored : goal.returns-in-Ok-clause-unstored
+returns-in-Ok-clause-unstored g c = λ env left. tt
+
+pub returns-in-Ok-clause-refused : goal.returns-in-Ok-clause-refused
+returns-in-Ok-clause-refused g c = tt
+
+pub returns-in-Ok-clause-cause : goal.returns-in-Ok-clause-cause
+returns-in-Ok-clause-cause g c = tt
+
+pub returns-in-Ok-clause-begun : goal.returns-in-Ok-clause-begun
+returns-in-Ok-clause-begun g c = tt
+
+pub returns-in-Ok-clause-counts : goal.returns-in-Ok-clause-counts
+returns-in-Ok-clause-counts g c = c.in-Ok.ensures.counts
+
+pub returns-in-Ok-clause-bad : goal.returns-in-Ok-clause-bad
+returns-in-Ok-clause-bad g c = c.in-Ok.ensures.bad
+
+pub returns-in-Ok-clause-lacked : goal.returns-in-Ok-clause-lacked
+returns-in-Ok-clause-lacked g c = c.in-Ok.ensures.lacked
+
+pub returns-in-Ok-clause-calls : goal.returns-in-Ok-clause-calls
+returns-in-Ok-clause-calls g c one = both_tries (g.D.Depot.shown c.args.depot.now).calls (g.D.Depot.shown c.put_texts.new.depot).calls (g.D.Depot.shown c.run_tasks.new.depot).calls (missing_texts c.args.held) (calls_of_tasks c.args.plan.now) (c.args.options.now.retries + 1) c.put_texts.ensures.calls (c.run_tasks.ensures.calls one)
+
+pub returns-in-Err-run_tasks-clause-texts : goal.returns-in-Err-run_tasks-clause-texts
+returns-in-Err-run_tasks-clause-texts g c = λ env left. tt
+
+pub returns-in-Err-run_tasks-clause-driven : goal.returns-in-Err-run_tasks-clause-driven
+returns-in-Err-run_tasks-clause-driven g c = tt
+
+pub returns-in-Err-run_tasks-clause-counts : goal.returns-in-Err-run_tasks-clause-counts
+returns-in-Err-run_tasks-clause-counts g c = tt
+
+pub returns-in-Err-run_tasks-clause-done : goal.returns-in-Err-run_tasks-clause-done
+returns-in-Err-run_tasks-clause-done g c = λ env left. tt
+
+pub returns-in-Err-run_tasks-clause-complete : goal.returns-in-Err-run_tasks-clause-complete
+returns-in-Err-run_tasks-clause-complete g c = λ env left. tt
+
+pub returns-in-Err-run_tasks-clause-bad : goal.returns-in-Err-run_tasks-clause-bad
+returns-in-Err-run_tasks-clause-bad g c = tt
+
+pub returns-in-Err-run_tasks-clause-input : goal.returns-in-Err-run_tasks-clause-input
+returns-in-Err-run_tasks-clause-input g c = λ env left. tt
+
+pub returns-in-Err-run_tasks-clause-lacked : goal.returns-in-Err-run_tasks-clause-lacked
+returns-in-Err-run_tasks-clause-lacked g c = tt
+
+pub returns-in-Err-run_tasks-clause-tries : goal.returns-in-Err-run_tasks-clause-tries
+returns-in-Err-run_tasks-clause-tries g c = λ one m most. tt
+
+pub returns-in-Err-run_tasks-clause-calls : goal.returns-in-Err-run_tasks-clause-calls
+returns-in-Err-run_tasks-clause-calls g c one = both_tries (g.D.Depot.shown c.args.depot.now).calls (g.D.Depot.shown c.put_texts.new.depot).calls (g.D.Depot.shown c.run_tasks.new.depot).calls (missing_texts c.args.held) (calls_of_tasks c.args.plan.now) (c.args.options.now.retries + 1) c.put_texts.ensures.calls (c.run_tasks.ensures.calls one)

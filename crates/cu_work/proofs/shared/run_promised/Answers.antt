@@ -1,4 +1,4 @@
-use Rattle.std.proofs.Common.{Bool, IsTrue, ◌+◌, ap, sym, ◌∙◌, subst}
+use Rattle.std.proofs.Common.{Bool, IsTrue, ◌+◌, ap, sym, ◌∙◌, subst, arith}
 use Rattle.cu_store.specs.Share.{Lent, KeysDiffer, MayShare, IsShared, MayGiveBack, PutPromised, HoldsSeen}
 use Rattle.cu_store.specs.Steps.{Steps}
 use Rattle.cu_state.specs.Pieces.{chunks_alone}
@@ -8,6 +8,7 @@ use Rattle.cu_work.specs.Alone.{HasSeenDone}
 use Rattle.cu_work.specs.Shared.{IfLacked}
 use Rattle.cu_work.proofs.PlanChunks.{chunks_apart, specs_differ}
 use Rattle.cu_work.proofs.SharedRuns.{lent_is, may_share, serves, seen_first, may_give_back, shared_step, shared_done, shared_bad, shared_input, shared_lacked}
+use Rattle.cu_store.proofs.Steps.{steps_none, steps_wider}
 use Rattle.cu_work.proofs.shared.run_promised.Goals as goal
 
 pub share_tries-requires-clause-apart : goal.share_tries-requires-clause-apart
@@ -142,3 +143,42 @@ returns-in-Ok-clause-lacked g c =
     (subst (λ (l : Lent). IsShared l wants mid yard first) (sym same) c.in-Ok.ensures.shared)
     c.args.memory.table c.work-end.result.table last (ap (λ (t : TableView). t.settings.plan) c.requires.memory.table) c.work-end.ensures.worked new
     (subst (λ (l : Lent). Steps (PutPromised l) 0 last.calls mid new) lent c.unshare.ensures.step) (subst (λ (l : Lent). HoldsSeen l last.seen new.held) lent c.unshare.ensures.held) c.unshare.ensures.counts c.work-end.result.outcome c.work-end.ensures.decided)
+
+pub returns-in-Ok-clause-lack : goal.returns-in-Ok-clause-lack
+returns-in-Ok-clause-lack g c = c.unshare.ensures.lack ∙ c.share_tries.ensures.lack
+
+pub returns-in-Ok-clause-refused : goal.returns-in-Ok-clause-refused
+returns-in-Ok-clause-refused g c = tt
+
+pub returns-in-Ok-clause-cause : goal.returns-in-Ok-clause-cause
+returns-in-Ok-clause-cause g c = tt
+
+pub returns-in-Err-clause-lack : goal.returns-in-Err-clause-lack
+returns-in-Err-clause-lack g c = c.share_tries.ensures.lack
+
+pub returns-in-Err-clause-step : goal.returns-in-Err-clause-step
+returns-in-Err-clause-step g c = steps_none (steps_wider (λ key value none. none) (omega arith) (omega arith) c.share_tries.ensures.step)
+
+pub returns-in-Err-clause-driven : goal.returns-in-Err-clause-driven
+returns-in-Err-clause-driven g c = tt
+
+pub returns-in-Err-clause-done : goal.returns-in-Err-clause-done
+returns-in-Err-clause-done g c = λ env left. tt
+
+pub returns-in-Err-clause-bad : goal.returns-in-Err-clause-bad
+returns-in-Err-clause-bad g c = tt
+
+pub returns-in-Err-clause-input : goal.returns-in-Err-clause-input
+returns-in-Err-clause-input g c = λ env left. tt
+
+pub returns-in-Err-clause-lacked : goal.returns-in-Err-clause-lacked
+returns-in-Err-clause-lacked g c = tt
+
+pub returns-in-Err-clause-tries : goal.returns-in-Err-clause-tries
+returns-in-Err-clause-tries g c = λ one m most. tt
+
+pub returns-in-Err-clause-refused : goal.returns-in-Err-clause-refused
+returns-in-Err-clause-refused g c = c.share_tries.ensures.step
+
+pub returns-in-Err-clause-cause : goal.returns-in-Err-clause-cause
+returns-in-Err-clause-cause g c = c.in-Err.ensures.cause

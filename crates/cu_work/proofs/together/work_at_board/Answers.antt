@@ -1,4 +1,4 @@
-use Rattle.std.proofs.Common.{◌≡◌, ℕ, ◌<◌, List, length, ap, sym, ◌∙◌, subst, rules, arith}
+use Rattle.std.proofs.Common.{◌≡◌, ℕ, ◌<◌, List, length, ap, refl, sym, ◌∙◌, subst, rules, arith}
 use Rattle.std.specs.Prelude.{slice_index_or}
 use Rattle.cu_store.specs.Yard.{Known}
 use Rattle.cu_op.specs.PlanView.{PlanView}
@@ -94,3 +94,54 @@ returns-clause-decided g c =
     (subst (λ (p : PlanView). IsDecided p t.state c.drive-outcome.result) (ap (λ s. s.plan) d.state.same.0)
     (first_decides g.Y.Yard.owns c.args.yard.now c.in-Ok.made.0.board ws c.drive-outcome.ensures.workers t fronts g.Y.Yard.knows c.in-Ok.made.0.table c.drive-outcome.result some
     c.outcome_law.ensures (λ i v low. c.drive-outcome.ensures.ended i v (subst (λ (k : ℕ). i < k) c.drive-outcome.ensures.count low)) c.drive-outcome.ensures.answer d.state.same d.state.legal))
+
+pub returns-clause-own : goal.returns-clause-own
+returns-clause-own g c = c.join.ensures.own
+
+pub returns-clause-refused : goal.returns-clause-refused
+returns-clause-refused g c = tt
+
+pub returns-in-Err-hire-clause-own : goal.returns-in-Err-hire-clause-own
+returns-in-Err-hire-clause-own g c = c.hire.ensures.own
+
+pub returns-in-Err-hire-clause-worked : goal.returns-in-Err-hire-clause-worked
+returns-in-Err-hire-clause-worked g c = tt
+
+pub returns-in-Err-hire-clause-decided : goal.returns-in-Err-hire-clause-decided
+returns-in-Err-hire-clause-decided g c = tt
+
+pub returns-in-Err-clause-own : goal.returns-in-Err-clause-own
+returns-in-Err-clause-own g c = c.split-first.ensures.own.0
+
+pub returns-in-Err-clause-worked : goal.returns-in-Err-clause-worked
+returns-in-Err-clause-worked g c = tt
+
+pub returns-in-Err-clause-decided : goal.returns-in-Err-clause-decided
+returns-in-Err-clause-decided g c = tt
+
+pub returns-in-Err-clause-refused : goal.returns-in-Err-clause-refused
+returns-in-Err-clause-refused g c = (c.in-Err.ensures.err.0, refl, c.split-first.ensures.first)
+
+pub split-first-requires : goal.split-first-requires
+split-first-requires g c = c.requires.own
+
+pub hire-requires-clause-own : goal.hire-requires-clause-own
+hire-requires-clause-own g c κs within = c.split-first.ensures.own.0
+
+pub hire-requires-clause-few : goal.hire-requires-clause-few
+hire-requires-clause-few g c κs within = c.requires.few
+
+pub hire-requires-clause-root : goal.hire-requires-clause-root
+hire-requires-clause-root g c κs within = c.in-Ok.ensures.ok.2
+
+pub drive-outcome-requires-clause-plan : goal.drive-outcome-requires-clause-plan
+drive-outcome-requires-clause-plan g c κs within = ap (λ (x : TableView). x.settings.plan) c.in-Ok.ensures.ok.0 ∙ c.requires.plan
+
+pub drive-outcome-requires-clause-own : goal.drive-outcome-requires-clause-own
+drive-outcome-requires-clause-own g c κs within = subst (g.Y.Yard.owns c.args.yard.now) (sym c.in-Ok.ensures.ok.1) c.split-first.ensures.own.1
+
+pub drive-outcome-requires-clause-serves : goal.drive-outcome-requires-clause-serves
+drive-outcome-requires-clause-serves g c κs within = c.requires.serves
+
+pub dismiss-table-requires-clause-own : goal.dismiss-table-requires-clause-own
+dismiss-table-requires-clause-own g c κs within = c.hire.ensures.own

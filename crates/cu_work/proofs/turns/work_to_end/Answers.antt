@@ -6,7 +6,7 @@ use Rattle.cu_table.specs.Numbers.{IsTask}
 use Rattle.cu_table.specs.Table.{start_event}
 use Rattle.cu_board.specs.Board.{IsResting, IsRunning, MayReport}
 use Rattle.cu_task.specs.Serving.{HasSeenInputs}
-use Rattle.cu_work.proofs.Turning.{same_after, runs_after, task_after, inputs_after, writes_inputs, halted_after, reported_after, later_then, later_any, later_reported}
+use Rattle.cu_work.proofs.Turning.{same_after, runs_after, task_after, inputs_after, writes_inputs, finished_after, idle_after, broken_after, halted_after, reported_after, later_same, later_then, later_any, later_reported, own_rests, worker_after}
 use Rattle.cu_work.proofs.turns.work_to_end.Goals as goal
 
 pub try_in_rooms-ended-requires-clause-task : goal.try_in_rooms-ended-requires-clause-task
@@ -80,3 +80,55 @@ returns-in-Halted-clause-ended g c =
     (halted_after c.args.board.now.table c.loop.worker.seat.view c.claim.new.seat.view c.in-Halted.fault c.halt_outcome.result (g.Y.Yard.knows c.claim.new.pass) turn
     (subst (λ (n : ℕ). IsResting n c.loop.worker.seat.view.front) (sym i.2.number_is) i.2.resting)
     (c.ended_law.ensures.fault turn.before.settings turn.before.done turn.before.history turn.before.state c.in-Halted.fault turn.found.legal turn.answer.1) c.halt_outcome.ensures).1
+
+pub returns-in-Finished-clause-later : goal.returns-in-Finished-clause-later
+returns-in-Finished-clause-later g c = later_then (g.Y.Yard.serves c.args.yard.now).specs (g.Y.Yard.knows c.args.worker.now.pass) (g.Y.Yard.knows c.loop.worker.pass) (g.Y.Yard.knows c.claim.new.pass) c.loop.invariant.5 (later_any (g.Y.Yard.serves c.args.yard.now).specs (g.Y.Yard.knows c.loop.worker.pass) (g.Y.Yard.knows c.claim.new.pass) c.in-Finished.ensures.later)
+
+pub returns-in-Finished-clause-number : goal.returns-in-Finished-clause-number
+returns-in-Finished-clause-number g c = c.loop.invariant.3
+
+pub returns-in-Finished-clause-rooms : goal.returns-in-Finished-clause-rooms
+returns-in-Finished-clause-rooms g c = c.loop.invariant.4
+
+pub returns-in-Broken-clause-later : goal.returns-in-Broken-clause-later
+returns-in-Broken-clause-later g c = later_then (g.Y.Yard.serves c.args.yard.now).specs (g.Y.Yard.knows c.args.worker.now.pass) (g.Y.Yard.knows c.loop.worker.pass) (g.Y.Yard.knows c.claim.new.pass) c.loop.invariant.5 (later_any (g.Y.Yard.serves c.args.yard.now).specs (g.Y.Yard.knows c.loop.worker.pass) (g.Y.Yard.knows c.claim.new.pass) c.in-Broken.ensures.later)
+
+pub returns-in-Broken-clause-number : goal.returns-in-Broken-clause-number
+returns-in-Broken-clause-number g c = c.loop.invariant.3
+
+pub returns-in-Broken-clause-rooms : goal.returns-in-Broken-clause-rooms
+returns-in-Broken-clause-rooms g c = c.loop.invariant.4
+
+pub returns-in-Halted-clause-later : goal.returns-in-Halted-clause-later
+returns-in-Halted-clause-later g c = later_then (g.Y.Yard.serves c.args.yard.now).specs (g.Y.Yard.knows c.args.worker.now.pass) (g.Y.Yard.knows c.loop.worker.pass) (g.Y.Yard.knows c.claim.new.pass) c.loop.invariant.5 (later_any (g.Y.Yard.serves c.args.yard.now).specs (g.Y.Yard.knows c.loop.worker.pass) (g.Y.Yard.knows c.claim.new.pass) c.in-Halted.ensures.later)
+
+pub returns-in-Halted-clause-number : goal.returns-in-Halted-clause-number
+returns-in-Halted-clause-number g c = c.loop.invariant.3
+
+pub returns-in-Halted-clause-rooms : goal.returns-in-Halted-clause-rooms
+returns-in-Halted-clause-rooms g c = c.loop.invariant.4
+
+pub returns-in-Finished-clause-worker : goal.returns-in-Finished-clause-worker
+returns-in-Finished-clause-worker g c = worker_after c.claim.new.seat c.claim.new.pass c.loop.invariant.2 c.claim.ensures.own c.claim.ensures.board (same_after c.args.board.now.table c.loop.worker.seat.view c.claim.new.seat.view (claim.Finished) (g.Y.Yard.knows c.claim.new.pass) c.in-Finished.ensures.claimed) ((finished_after c.args.board.now.table c.loop.worker.seat.view c.claim.new.seat.view (g.Y.Yard.knows c.claim.new.pass) c.in-Finished.ensures.claimed (own_rests c.loop.invariant.2)).0)
+
+pub returns-in-Finished-clause-ended : goal.returns-in-Finished-clause-ended
+returns-in-Finished-clause-ended g c = (finished_after c.args.board.now.table c.loop.worker.seat.view c.claim.new.seat.view (g.Y.Yard.knows c.claim.new.pass) c.in-Finished.ensures.claimed (own_rests c.loop.invariant.2)).1
+
+pub returns-in-Broken-clause-worker : goal.returns-in-Broken-clause-worker
+returns-in-Broken-clause-worker g c = worker_after c.claim.new.seat c.claim.new.pass c.loop.invariant.2 c.claim.ensures.own c.claim.ensures.board (same_after c.args.board.now.table c.loop.worker.seat.view c.claim.new.seat.view (claim.Broken c.in-Broken.op c.in-Broken.task) (g.Y.Yard.knows c.claim.new.pass) c.in-Broken.ensures.claimed) ((broken_after c.args.board.now.table c.loop.worker.seat.view c.claim.new.seat.view c.in-Broken.op c.in-Broken.task (g.Y.Yard.knows c.claim.new.pass) c.in-Broken.ensures.claimed (own_rests c.loop.invariant.2)).0)
+
+pub returns-in-Broken-clause-ended : goal.returns-in-Broken-clause-ended
+returns-in-Broken-clause-ended g c = (broken_after c.args.board.now.table c.loop.worker.seat.view c.claim.new.seat.view c.in-Broken.op c.in-Broken.task (g.Y.Yard.knows c.claim.new.pass) c.in-Broken.ensures.claimed (own_rests c.loop.invariant.2)).1
+
+pub loop-init : goal.loop-init
+loop-init g c = (tt, tt, c.requires.worker, refl, refl, later_same (g.Y.Yard.serves c.args.yard.now).specs (g.Y.Yard.knows c.args.worker.now.pass))
+
+pub loop-preserved : goal.loop-preserved
+loop-preserved g c = (
+  tt,
+  tt,
+  worker_after c.claim.new.seat c.claim.new.pass c.loop.invariant.2 c.claim.ensures.own c.claim.ensures.board (same_after c.args.board.now.table c.loop.worker.seat.view c.claim.new.seat.view claim.Idle (g.Y.Yard.knows c.claim.new.pass) c.in-Idle.ensures.claimed) (idle_after c.args.board.now.table c.loop.worker.seat.view c.claim.new.seat.view (g.Y.Yard.knows c.claim.new.pass) c.in-Idle.ensures.claimed (own_rests c.loop.invariant.2)),
+  c.loop.invariant.3,
+  c.loop.invariant.4,
+  later_then (g.Y.Yard.serves c.args.yard.now).specs (g.Y.Yard.knows c.args.worker.now.pass) (g.Y.Yard.knows c.loop.worker.pass) (g.Y.Yard.knows c.claim.new.pass) c.loop.invariant.5 (later_any (g.Y.Yard.serves c.args.yard.now).specs (g.Y.Yard.knows c.loop.worker.pass) (g.Y.Yard.knows c.claim.new.pass) c.in-Idle.ensures.later),
+)
