@@ -2,8 +2,9 @@
 """Proves and builds the program and the crates that it stands on, side by side, and shows how far it is.
 
 `rt ci` proves those crates, in a copy without their refused edits, for which nobody who only wants the program need wait. What it
-proves is kept on this machine: a run that was broken off goes on where it was, and the merge gate takes it over. Then the program
-itself is proved and compiled, for a processor of this machine's kind. What is said is in crates/cu_bin/out/build.log.
+proves is kept on this machine: a run that was broken off goes on where it was, and the merge gate takes it over. It gives a crate one
+processor, so the last crates, which wait for one another, are proved beside it by all processors, and who is done first counts. Then
+the program itself is proved and compiled, for a processor of this machine's kind. What is said is in crates/cu_bin/out/build.log.
 usage: tools/prove.py [--jobs N] [--times] [--cpu NAME] [--to FILE]
   --jobs N     on N processors; where it isn't given, on all that there are and that the memory suffices for
   --times      prints after how many seconds each crate was proved
@@ -18,6 +19,7 @@ import signal
 import subprocess
 import sys
 import tempfile
+import threading
 import time
 
 sys.dont_write_bytecode = True
@@ -31,6 +33,8 @@ LEFT_OUT = shutil.ignore_patterns("out", "must-fail", "more-edits")
 PROVED = re.compile(r"rt: (\w+) (?:proved|is kept: .*)")
 # The memory that the proof of a crate takes at most, in bytes, as far as it was seen.
 EACH = 3_000_000_000
+# The longest chain of crates that stand on one another ends with these, which take minutes each.
+TAIL = ["cu_work", "cu_top"]
 
 
 def free_memory():
@@ -67,60 +71,147 @@ def copy_crates(lines, room):
     shutil.copy(f"{TOP}/HANDLES", f"{room}/HANDLES")
 
 
+class Room:
+    """A folder in which crates are proved, and where what is made of each of them lies."""
+
+    def __init__(self, folder, lines):
+        self.folder = folder
+        self.lines = lines
+        self.kit = os.path.dirname(subprocess.run(["rt", "doc"], stdout=subprocess.PIPE, text=True, check=True).stdout.strip())
+        self.made = {name: f"{folder}/crates/{name}/out/rlib" for name in lines}
+
+    def standing_on(self, line):
+        """Returns the names of the libraries that a line of crates.txt has behind its crate's name."""
+        return line.partition("#")[0].partition(":")[2].split()
+
+    def build(self, name, line, root, made):
+        """Returns the words that prove and build a crate over those that are made."""
+        words = [f"{self.kit}/bin/rattle", "build", "--crate-name", name, root,
+                 "--antt-project", f"{self.kit}/rattle/logic/antt-project.json", "--logic-built", f"{self.kit}/logic_built",
+                 "--extern", f"std={self.kit}/rlibs/std.rlib", "-L", f"dependency={self.kit}/rlibs"]
+        for folder in made.values():
+            words += ["-L", f"dependency={folder}"]
+        for below in self.standing_on(line):
+            words += ["--extern", f"{below}={made.get(below, f'{self.kit}/rlibs')}/{below}.rlib"]
+        return words
+
+
+class Ahead:
+    """The proofs of the last crates, one after another, with several processors each."""
+
+    def __init__(self, room, names, jobs, when_done):
+        self.room = room
+        self.made = dict(room.made)
+        self.jobs = jobs
+        self.when_done = when_done
+        self.is_done = False
+        self.is_stopped = False
+        self.process = None
+        self.thread = threading.Thread(target=self.run, args=(names,))
+        self.thread.start()
+
+    def run(self, names):
+        for name in names:
+            to = f"{self.room.folder}/ahead/{name}"
+            os.makedirs(to)
+            words = self.room.build(name, self.room.lines[name], "src/lib.rt", self.made)
+            words += ["--links", f"{name}=", "--jobs", str(self.jobs), "--statements", "-o", f"{to}/{name}.rlib"]
+            with open(f"{OUT}/ahead.log", "a", encoding="utf-8") as log:
+                self.process = subprocess.Popen(words, cwd=f"{self.room.folder}/crates/{name}", stdin=subprocess.DEVNULL, stdout=log,
+                                                stderr=subprocess.STDOUT, start_new_session=True)
+                if self.process.wait() or self.is_stopped:
+                    return
+            self.made[name] = to
+        self.is_done = True
+        self.when_done()
+
+    def stop(self):
+        """Ends it, so that nothing more is begun."""
+        self.is_stopped = True
+        if self.process and self.process.poll() is None:
+            end_group(self.process)
+        self.thread.join()
+
+
+def end_group(process):
+    """Ends a process and all that it began."""
+    try:
+        os.killpg(process.pid, signal.SIGTERM)
+    except ProcessLookupError:
+        pass
+    process.wait()
+
+
 class Work:
     """The crates that are being proved, and when each of them was."""
 
-    def __init__(self, names, room, jobs):
-        self.names = names
+    def __init__(self, room, jobs):
+        self.room = room
+        self.jobs = jobs
         self.seconds = {}
+        self.ahead = None
         self.began = time.monotonic()
         # With no number rt leaves processors idle while it waits for more memory than the proofs then take.
-        self.process = subprocess.Popen(["rt", "ci"], cwd=room, env={**os.environ, "RT_JOBS": str(jobs)}, stdin=subprocess.DEVNULL,
+        self.process = subprocess.Popen(["rt", "ci"], cwd=room.folder, env={**os.environ, "RT_JOBS": str(jobs)}, stdin=subprocess.DEVNULL,
                                         stdout=subprocess.PIPE, stderr=subprocess.STDOUT, text=True, errors="replace",
                                         start_new_session=True)
 
     def follow(self):
-        """Writes down what is said until it ends, and returns the exit status."""
+        """Writes down what is said until all is proved, and returns the exit status."""
         self.show()
         with open(f"{OUT}/build.log", "w", encoding="utf-8") as log:
             for line in self.process.stdout:
                 log.write(line)
                 log.flush()
                 proved = PROVED.match(line)
-                if proved and proved[1] in self.names:
+                if proved and proved[1] in self.room.lines:
                     self.seconds.setdefault(proved[1], time.monotonic() - self.began)
                     self.show()
-        return self.process.wait()
+                    self.look_ahead()
+        status = self.process.wait()
+        if self.ahead:
+            self.ahead.stop()
+            if self.is_done():
+                self.room.made = self.ahead.made
+                return 0
+        return status
+
+    def look_ahead(self):
+        """Begins the proofs of the last crates beside `rt ci`, which gives each of them one processor, as soon as they may begin."""
+        first = self.room.standing_on(self.room.lines[TAIL[0]])
+        if self.jobs > 1 and not self.ahead and TAIL[0] not in self.seconds and all(name in self.seconds for name in first if name in self.room.lines):
+            self.ahead = Ahead(self.room, TAIL, self.jobs - 1, self.end_if_done)
+        self.end_if_done()
+
+    def is_done(self):
+        """Whether all crates are proved, the last of them ahead."""
+        return self.ahead and self.ahead.is_done and all(name in self.seconds or name in TAIL for name in self.room.lines)
+
+    def end_if_done(self):
+        """Ends `rt ci` where nothing more is wanted of it."""
+        if self.is_done():
+            end_group(self.process)
 
     def show(self):
         """Shows on a terminal how far it is."""
         if sys.stderr.isatty():
-            sys.stderr.write(f"\r\x1b[Kcubed: {len(self.seconds)} of {len(self.names)} crates are proved")
+            sys.stderr.write(f"\r\x1b[Kcubed: {len(self.seconds)} of {len(self.room.lines)} crates are proved")
             sys.stderr.flush()
 
     def stop(self):
         """Ends what was begun."""
-        try:
-            os.killpg(self.process.pid, signal.SIGTERM)
-        except ProcessLookupError:
-            pass
-        self.process.wait()
+        if self.ahead:
+            self.ahead.stop()
+        end_group(self.process)
 
 
-def compiled(line, names, room, cpu):
-    """Proves and compiles the program over the crates in a folder, which are proved, and returns the exit status and its path."""
-    kit = os.path.dirname(subprocess.run(["rt", "doc"], stdout=subprocess.PIPE, text=True, check=True).stdout.strip())
-    toolchain, made = ["--toolchain", f"{kit}/toolchain"], f"{room}/{PROGRAM}"
-    words = [f"{kit}/bin/rattle", "build", "--crate-name", PROGRAM, "src/main.rt", "--backend", "llvm", f"--cpu={cpu}", *toolchain,
-             "--antt-project", f"{kit}/rattle/logic/antt-project.json", "--logic-built", f"{kit}/logic_built",
-             "--extern", f"std={kit}/rlibs/std.rlib", "-L", f"dependency={kit}/rlibs", "-o", f"{made}.o"]
-    for name in names:
-        below = f"{room}/crates/{name}/out/rlib"
-        words += ["-L", f"dependency={below}"]
-        if name in line.split():
-            words += ["--extern", f"{name}={below}/{name}.rlib"]
-    link = [f"{kit}/bin/rattle-link", "--target", "x86_64-unknown-linux-gnu", *toolchain, "-o", made, f"{made}.o",
-            f"{kit}/c/libos_c.a", f"{kit}/c/liblibc_c.a"]
+def compiled(line, room, jobs, cpu):
+    """Proves and compiles the program over the crates of a room, which are proved, and returns the exit status and its path."""
+    toolchain, made = ["--toolchain", f"{room.kit}/toolchain"], f"{room.folder}/{PROGRAM}"
+    words = room.build(PROGRAM, line, "src/main.rt", room.made)
+    words += ["--backend", "llvm", f"--cpu={cpu}", "--jobs", str(jobs), *toolchain, "-o", f"{made}.o"]
+    link = [f"{room.kit}/bin/rattle-link", "--target", "x86_64-unknown-linux-gnu", *toolchain, "-o", made, f"{made}.o",
+            f"{room.kit}/c/libos_c.a", f"{room.kit}/c/liblibc_c.a"]
     with open(f"{OUT}/build.log", "a", encoding="utf-8") as log:
         for command in (words, link):
             ran = subprocess.run(command, cwd=f"{TOP}/crates/{PROGRAM}", stdin=subprocess.DEVNULL, stdout=log, stderr=subprocess.STDOUT)
@@ -129,16 +220,17 @@ def compiled(line, names, room, cpu):
     return 0, made
 
 
-def prove(room, given):
+def prove(folder, given):
     """Proves and builds all in a folder, and returns the exit status and the work."""
     lines = lines_of_crates()
     line = lines.pop(PROGRAM)
-    copy_crates(lines, room)
-    work = Work(list(lines), room, given.jobs)
+    copy_crates(lines, folder)
+    room = Room(folder, lines)
+    work = Work(room, given.jobs)
     try:
         status, program = work.follow(), None
         if status == 0:
-            status, program = compiled(line, lines, room, given.cpu)
+            status, program = compiled(line, room, given.jobs, given.cpu)
     except KeyboardInterrupt:
         work.stop()
         sys.stderr.write(f"\ncubed: broken off; {len(work.seconds)} of {len(lines)} crates are proved, and the next call goes on from there\n")
@@ -161,8 +253,8 @@ def main():
     words = parser.parse_args()
     os.makedirs(OUT, exist_ok=True)
     # A repository's copy may not lie in a repository.
-    with tempfile.TemporaryDirectory(prefix="cubed-build-") as room:
-        status, work = prove(room, words)
+    with tempfile.TemporaryDirectory(prefix="cubed-build-") as folder:
+        status, work = prove(folder, words)
     if status not in (0, 130):
         with open(f"{OUT}/build.log", encoding="utf-8") as log:
             sys.stderr.write(log.read())
