@@ -21,6 +21,9 @@ import time
 
 sys.dont_write_bytecode = True
 import region  # region.py, in this folder
+
+# As ./cubed has it: large buffers lie in huge pages where the system gives them on demand, as NumPy's do.
+os.environ.setdefault("GLIBC_TUNABLES", "glibc.malloc.hugetlb=1")
 from stored import has_numpy
 
 NAME = "box_bench"

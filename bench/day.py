@@ -9,7 +9,9 @@ down; and what is left without the base. The program syncs each file before its 
 comes first changes at each round, and what both store is compared byte by byte.
 
 It prints the least times and the greatest resident memory of both, the ratio of the times (Dask's is without Python's start), and last
-which of the aims were missed. It does so in memory, where there is such a folder, and on the disk.
+which of the aims were missed. Beside them stands the least time of a loop over the same files that computes nothing: it reads the days,
+writes as many bytes as the program stores, and reads those of the array before a reduction again. No program that stores these
+arrays is faster on that machine. It does so in memory, where there is such a folder, and on the disk.
 """
 import argparse
 import itertools
@@ -91,21 +93,52 @@ def by_dask(folder, work):
     return time.perf_counter() - start
 
 
+def stored_files(top):
+    """The sizes of the files below a folder that aren't texts of metadata, and their names."""
+    walked = [os.path.join(at, name) for at, _, names in os.walk(top) for name in sorted(names) if not name.endswith(".json")]
+    return {path: os.path.getsize(path) for path in walked}
+
+
+def by_files_alone(folder):
+    """The seconds of a loop that reads the days, writes files as long as those that a run stored, and reads those of the plan again."""
+    days = stored_files(os.path.join(folder, "t", "c"))
+    between = stored_files(os.path.join(folder, "_cubed"))
+    written = {**between, **stored_files(os.path.join(folder, "y"))}
+    made = os.path.join(folder, "files")
+    os.mkdir(made)
+    room = memoryview(bytearray(b"\1") * max([*days.values(), *written.values()]))
+    start = time.perf_counter()
+    for path, size in days.items():
+        with open(path, "rb", buffering=0) as file:
+            file.readinto(room[:size])
+    for number, size in enumerate(written.values()):
+        with open(os.path.join(made, str(number)), "xb", buffering=0) as file:
+            file.write(room[:size])
+    for number, size in enumerate(between.values()):
+        with open(os.path.join(made, str(number)), "rb", buffering=0) as file:
+            file.readinto(room[:size])
+    seconds = time.perf_counter() - start
+    shutil.rmtree(made)
+    return seconds
+
+
 def measure(given, folder, name, work):
     """Goes through both ways in turn, and compares what they store. Returns what was measured of each."""
     ways = {CUBED: [given.program, folder, "run", "--workers", str(given.workers)]}
     if given.has_dask:
         ways[DASK] = [given.python, os.path.abspath(__file__), "--peer", name, folder]
-    told = {way: Told() for way in ways}
+    told, alone = {way: Told() for way in ways}, []
     for number in range(given.runs):
         for way in list(ways)[::1 if number % 2 == 0 else -1]:
             for made in ("dask",) if way == DASK else ("y", "_cubed"):
                 shutil.rmtree(os.path.join(folder, made), ignore_errors=True)
             os.sync()
             told[way].add(timed(ways[way], work.expression()), way == DASK)
+            if way == CUBED:
+                alone.append(by_files_alone(folder))
             if all(os.path.isdir(os.path.join(folder, made)) for made in ("y", "dask")) and not same_as_version_2(folder, "y", "dask"):
                 raise SystemExit(f"{name}: the chunks of Dask and of the program differ")
-    return told
+    return told, min(alone)
 
 
 def measure_in(given, parent):
@@ -117,13 +150,13 @@ def measure_in(given, parent):
         for name, work in WORKS.items():
             if given.only and not any(word in name for word in given.only):
                 continue
-            told = measure(given, folder, name, work)
-            print(f"  {name}:")
+            told, alone = measure(given, folder, name, work)
+            print(f"  {name}: the files alone {alone:.3f} s")
             for way, one in told.items():
                 print(f"    {way}: {one.row()}", flush=True)
             if DASK in told:
                 ratio = min(told[CUBED].seconds) / min(told[DASK].seconds)
-                print(f"    ratio {ratio:.2f} (aim {work.aim})", flush=True)
+                print(f"    ratio {ratio:.2f} (aim {work.aim}), of the files alone {alone / min(told[DASK].seconds):.2f}", flush=True)
                 missed += [f"in {parent}: {name}: {ratio:.2f} for {work.aim}"] if ratio > work.aim else []
             for made in ("y", "_cubed", "dask"):
                 shutil.rmtree(os.path.join(folder, made), ignore_errors=True)
