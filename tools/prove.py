@@ -3,8 +3,9 @@
 
 `rt ci` proves those crates, in a copy without their refused edits, for which nobody who only wants the program need wait. What it
 proves is kept on this machine: a run that was broken off goes on where it was, and the merge gate takes it over. It gives a crate one
-processor, so the last crates, which wait for one another, are proved beside it by all processors, and who is done first counts. Then
-the program itself is proved and compiled, for a processor of this machine's kind. What is said is in crates/cu_bin/out/build.log.
+processor, so the last two crates, which wait for one another, are proved by themselves, with all processors, and aren't kept. Where
+all others are kept, `rt ci` proves these too. Then the program itself is proved and compiled, for a processor of this machine's kind.
+What is said is in crates/cu_bin/out/build.log.
 usage: tools/prove.py [--jobs N] [--times] [--cpu NAME] [--to FILE]
   --jobs N     on N processors; where it isn't given, on all that there are and that the memory suffices for
   --times      prints after how many seconds each crate was proved
@@ -62,73 +63,76 @@ def lines_of_crates():
     return found
 
 
-def copy_crates(lines, room):
-    """Copies these crates into a folder."""
-    for name in lines:
-        shutil.copytree(f"{TOP}/crates/{name}", f"{room}/crates/{name}", ignore=LEFT_OUT)
-    with open(f"{room}/crates.txt", "w", encoding="utf-8") as file:
-        file.writelines(lines.values())
-    shutil.copy(f"{TOP}/HANDLES", f"{room}/HANDLES")
-
-
 class Room:
-    """A folder in which crates are proved, and where what is made of each of them lies."""
+    """A folder in which `rt ci` proves crates, one beside it for those that it is not to prove, and where what is made of each lies."""
 
     def __init__(self, folder, lines):
-        self.folder = folder
+        self.folder = f"{folder}/room"
+        self.apart = f"{folder}/apart"
         self.lines = lines
         self.kit = os.path.dirname(subprocess.run(["rt", "doc"], stdout=subprocess.PIPE, text=True, check=True).stdout.strip())
-        self.made = {name: f"{folder}/crates/{name}/out/rlib" for name in lines}
+        self.made = {name: f"{self.folder}/crates/{name}/out/rlib" for name in lines}
+        os.makedirs(self.folder)
+        shutil.copy(f"{TOP}/HANDLES", f"{self.folder}/HANDLES")
+        for name in TAIL:
+            shutil.copytree(f"{TOP}/crates/{name}", f"{self.apart}/{name}", ignore=LEFT_OUT)
 
-    def standing_on(self, line):
+    def list_crates(self, names):
+        """Has `rt ci` prove these crates."""
+        for name in names:
+            if not os.path.isdir(f"{self.folder}/crates/{name}"):
+                shutil.copytree(f"{TOP}/crates/{name}", f"{self.folder}/crates/{name}", ignore=LEFT_OUT)
+        with open(f"{self.folder}/crates.txt", "w", encoding="utf-8") as file:
+            file.writelines(self.lines[name] for name in names)
+
+    def below(self, line):
         """Returns the names of the libraries that a line of crates.txt has behind its crate's name."""
         return line.partition("#")[0].partition(":")[2].split()
 
-    def build(self, name, line, root, made):
+    def build(self, name, line, root):
         """Returns the words that prove and build a crate over those that are made."""
         words = [f"{self.kit}/bin/rattle", "build", "--crate-name", name, root,
                  "--antt-project", f"{self.kit}/rattle/logic/antt-project.json", "--logic-built", f"{self.kit}/logic_built",
                  "--extern", f"std={self.kit}/rlibs/std.rlib", "-L", f"dependency={self.kit}/rlibs"]
-        for folder in made.values():
+        for folder in self.made.values():
             words += ["-L", f"dependency={folder}"]
-        for below in self.standing_on(line):
-            words += ["--extern", f"{below}={made.get(below, f'{self.kit}/rlibs')}/{below}.rlib"]
+        for each in self.below(line):
+            words += ["--extern", f"{each}={self.made.get(each, f'{self.kit}/rlibs')}/{each}.rlib"]
         return words
 
 
-class Ahead:
+class Tail:
     """The proofs of the last crates, one after another, with several processors each."""
 
-    def __init__(self, room, names, jobs, when_done):
+    def __init__(self, room, jobs, when_proved):
         self.room = room
-        self.made = dict(room.made)
         self.jobs = jobs
-        self.when_done = when_done
+        self.when_proved = when_proved
         self.is_done = False
         self.is_stopped = False
         self.process = None
-        self.thread = threading.Thread(target=self.run, args=(names,))
+        self.thread = threading.Thread(target=self.run)
         self.thread.start()
 
-    def run(self, names):
-        for name in names:
-            to = f"{self.room.folder}/ahead/{name}"
+    def run(self):
+        for name in TAIL:
+            to = f"{self.room.apart}/{name}/out/rlib"
             os.makedirs(to)
-            words = self.room.build(name, self.room.lines[name], "src/lib.rt", self.made)
+            words = self.room.build(name, self.room.lines[name], "src/lib.rt")
             words += ["--links", f"{name}=", "--jobs", str(self.jobs), "--statements", "-o", f"{to}/{name}.rlib"]
-            with open(f"{OUT}/ahead.log", "a", encoding="utf-8") as log:
-                self.process = subprocess.Popen(words, cwd=f"{self.room.folder}/crates/{name}", stdin=subprocess.DEVNULL, stdout=log,
+            with open(f"{OUT}/build.log", "a", encoding="utf-8") as log:
+                self.process = subprocess.Popen(words, cwd=f"{self.room.apart}/{name}", stdin=subprocess.DEVNULL, stdout=log,
                                                 stderr=subprocess.STDOUT, start_new_session=True)
                 if self.process.wait() or self.is_stopped:
                     return
-            self.made[name] = to
+            self.room.made[name] = to
+            self.when_proved(name)
         self.is_done = True
-        self.when_done()
 
     def stop(self):
         """Ends it, so that nothing more is begun."""
         self.is_stopped = True
-        if self.process and self.process.poll() is None:
+        if self.process:
             end_group(self.process)
         self.thread.join()
 
@@ -149,66 +153,74 @@ class Work:
         self.room = room
         self.jobs = jobs
         self.seconds = {}
-        self.ahead = None
+        self.is_new = False
+        self.tail = None
+        self.process = None
         self.began = time.monotonic()
-        # With no number rt leaves processors idle while it waits for more memory than the proofs then take.
-        self.process = subprocess.Popen(["rt", "ci"], cwd=room.folder, env={**os.environ, "RT_JOBS": str(jobs)}, stdin=subprocess.DEVNULL,
-                                        stdout=subprocess.PIPE, stderr=subprocess.STDOUT, text=True, errors="replace",
-                                        start_new_session=True)
 
-    def follow(self):
-        """Writes down what is said until all is proved, and returns the exit status."""
+    def prove(self):
+        """Proves all, and returns the exit status."""
+        open(f"{OUT}/build.log", "w", encoding="utf-8").close()
+        if self.jobs > 1:
+            status = self.follow([name for name in self.room.lines if name not in TAIL])
+            if self.tail and status:
+                self.tail.stop()
+            elif self.tail:
+                self.tail.thread.join()
+                status = 0 if self.tail.is_done else 1
+            if self.tail or status:
+                return status
+        return self.follow(list(self.room.lines))
+
+    def follow(self, names):
+        """Has `rt ci` prove crates, writes down what it says, and returns its exit status."""
+        self.room.list_crates(names)
         self.show()
-        with open(f"{OUT}/build.log", "w", encoding="utf-8") as log:
-            for line in self.process.stdout:
+        # With no number rt leaves processors idle while it waits for more memory than the proofs then take.
+        self.process = subprocess.Popen(["rt", "ci"], cwd=self.room.folder, env={**os.environ, "RT_JOBS": str(self.jobs)},
+                                        stdin=subprocess.DEVNULL, stdout=subprocess.PIPE, stderr=subprocess.STDOUT, text=True,
+                                        errors="replace", start_new_session=True)
+        for line in self.process.stdout:
+            with open(f"{OUT}/build.log", "a", encoding="utf-8") as log:
                 log.write(line)
-                log.flush()
-                proved = PROVED.match(line)
-                if proved and proved[1] in self.room.lines:
-                    self.seconds.setdefault(proved[1], time.monotonic() - self.began)
-                    self.show()
-                    self.look_ahead()
+            proved = PROVED.match(line)
+            if proved and proved[1] in self.room.lines:
+                self.is_new = self.is_new or " is kept" not in line
+                self.note(proved[1])
+                self.look_ahead()
         status = self.process.wait()
-        if self.ahead:
-            self.ahead.stop()
-            if self.is_done():
-                self.room.made = self.ahead.made
-                return 0
+        for name in names if status == 0 else []:
+            self.note(name)
         return status
 
     def look_ahead(self):
-        """Begins the proofs of the last crates beside `rt ci`, which gives each of them one processor, as soon as they may begin."""
-        first = self.room.standing_on(self.room.lines[TAIL[0]])
-        if self.jobs > 1 and not self.ahead and TAIL[0] not in self.seconds and all(name in self.seconds for name in first if name in self.room.lines):
-            self.ahead = Ahead(self.room, TAIL, self.jobs - 1, self.end_if_done)
-        self.end_if_done()
+        """Begins the proofs of the last crates as soon as they may begin, unless all that was seen so far is kept."""
+        first = self.room.below(self.room.lines[TAIL[0]])
+        if self.jobs > 1 and self.is_new and not self.tail and all(name in self.seconds for name in first if name in self.room.lines):
+            self.tail = Tail(self.room, self.jobs, self.note)
 
-    def is_done(self):
-        """Whether all crates are proved, the last of them ahead."""
-        return self.ahead and self.ahead.is_done and all(name in self.seconds or name in TAIL for name in self.room.lines)
-
-    def end_if_done(self):
-        """Ends `rt ci` where nothing more is wanted of it."""
-        if self.is_done():
-            end_group(self.process)
+    def note(self, name):
+        """Notes that a crate is proved, and shows on a terminal how far it is."""
+        self.seconds.setdefault(name, time.monotonic() - self.began)
+        self.show()
 
     def show(self):
-        """Shows on a terminal how far it is."""
         if sys.stderr.isatty():
             sys.stderr.write(f"\r\x1b[Kcubed: {len(self.seconds)} of {len(self.room.lines)} crates are proved")
             sys.stderr.flush()
 
     def stop(self):
         """Ends what was begun."""
-        if self.ahead:
-            self.ahead.stop()
-        end_group(self.process)
+        if self.tail:
+            self.tail.stop()
+        if self.process:
+            end_group(self.process)
 
 
 def compiled(line, room, jobs, cpu):
     """Proves and compiles the program over the crates of a room, which are proved, and returns the exit status and its path."""
-    toolchain, made = ["--toolchain", f"{room.kit}/toolchain"], f"{room.folder}/{PROGRAM}"
-    words = room.build(PROGRAM, line, "src/main.rt", room.made)
+    toolchain, made = ["--toolchain", f"{room.kit}/toolchain"], f"{room.apart}/{PROGRAM}"
+    words = room.build(PROGRAM, line, "src/main.rt")
     words += ["--backend", "llvm", f"--cpu={cpu}", "--jobs", str(jobs), *toolchain, "-o", f"{made}.o"]
     link = [f"{room.kit}/bin/rattle-link", "--target", "x86_64-unknown-linux-gnu", *toolchain, "-o", made, f"{made}.o",
             f"{room.kit}/c/libos_c.a", f"{room.kit}/c/liblibc_c.a"]
@@ -224,11 +236,10 @@ def prove(folder, given):
     """Proves and builds all in a folder, and returns the exit status and the work."""
     lines = lines_of_crates()
     line = lines.pop(PROGRAM)
-    copy_crates(lines, folder)
     room = Room(folder, lines)
     work = Work(room, given.jobs)
     try:
-        status, program = work.follow(), None
+        status, program = work.prove(), None
         if status == 0:
             status, program = compiled(line, room, given.jobs, given.cpu)
     except KeyboardInterrupt:
