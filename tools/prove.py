@@ -3,9 +3,9 @@
 
 `rt ci` proves those crates, in a copy without their refused edits, for which nobody who only wants the program need wait. What it
 proves is kept on this machine: a run that was broken off goes on where it was, and the merge gate takes it over. It gives a crate one
-processor, so the last two crates, which wait for one another, are proved by themselves, with all processors, and aren't kept. Where
-all others are kept, `rt ci` proves these too. Then the program itself is proved and compiled, for a processor of this machine's kind.
-What is said is in crates/cu_bin/out/build.log.
+processor, so the last crate, which waits for all others, is proved by itself, with all processors, and isn't kept. Where all others
+are kept, `rt ci` proves this one too. Then the program itself is proved and compiled, for a processor of this machine's kind. What is
+said is in crates/cu_bin/out/build.log.
 usage: tools/prove.py [--jobs N] [--times] [--cpu NAME] [--to FILE]
   --jobs N     on N processors; where it isn't given, on all that there are and that the memory suffices for
   --times      prints after how many seconds each crate was proved
@@ -34,8 +34,8 @@ LEFT_OUT = shutil.ignore_patterns("out", "must-fail", "more-edits")
 PROVED = re.compile(r"rt: (\w+) (?:proved|is kept: .*)")
 # The memory that the proof of a crate takes at most, in bytes, as far as it was seen.
 EACH = 3_000_000_000
-# The longest chain of crates that stand on one another ends with these, which take minutes each.
-TAIL = ["cu_work", "cu_top"]
+# The longest chain of crates that stand on one another ends with this one, which takes minutes: nothing else is left to be proved then.
+TAIL = ["cu_top"]
 
 
 def free_memory():
