@@ -10,8 +10,8 @@ comes first changes at each round, and what both store is compared byte by byte.
 
 It prints the least times and the greatest resident memory of both, the ratio of the times (Dask's is without Python's start), and last
 which of the aims were missed. Beside them stands the least time of a loop over the same files that computes nothing: it reads the days,
-writes as many bytes as the program stores, and reads those of the array before a reduction again. No program that stores these
-arrays is faster on that machine. It does so in memory, where there is such a folder, and on the disk.
+writes as many bytes as the program stores, and reads those of the array before a reduction again. So much the files take by
+themselves, with one thread. It does so in memory, where there is such a folder, and on the disk.
 """
 import argparse
 import itertools
