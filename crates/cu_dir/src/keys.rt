@@ -1,19 +1,19 @@
 //! The keys that a yard serves, of which those that may be put are found by their texts.
 ghost use Rattle.std.specs.Prelude.{◌≡◌, ◌||◌, ◌&&◌, ℕ, List, bytes_eq, IfOk, OnOk};
-ghost use Rattle.indexmap.specs.IndexSet.{contains_text};
+ghost use Rattle.std.specs.HashSet.{contains_text};
 ghost use Rattle.cu_store.specs.Yard.{is_made};
 ghost use Rattle.cu_dir.specs.Keys.{AreMadeOf};
 
 use cu_store::{Key, NoMemory, Spec};
-use indexmap::IndexSet;
 use std::alloc::{AllocError, Global};
+use std::collections::HashSet;
 use std::marker::Model;
 
 /// The keys that a yard serves. Contracts see them as the list of their specs.
 #[derive(Drop)]
 pub struct Keys {
     specs: Vec<Spec>,
-    made: IndexSet<String>,
+    made: HashSet<String>,
 }
 
 impl Model for Keys {
@@ -58,10 +58,10 @@ fn copied(alloc: Global, specs: &[Spec]) -> Result<Vec<Spec>, NoMemory>
 }
 
 /// The keys that may be put.
-fn made_of(alloc: Global, specs: &[Spec]) -> Result<IndexSet<String>, NoMemory>
+fn made_of(alloc: Global, specs: &[Spec]) -> Result<HashSet<String>, NoMemory>
     ensures { IfOk result (AreMadeOf specs.now) }
 {
-    let mut made = IndexSet::new(alloc);
+    let mut made = HashSet::new(alloc);
     for spec in specs {
         match add_made(&mut made, alloc, spec) {
             Ok(()) => {}
@@ -72,7 +72,7 @@ fn made_of(alloc: Global, specs: &[Spec]) -> Result<IndexSet<String>, NoMemory>
 }
 
 /// Adds the key, if it may be put.
-fn add_made(made: &mut IndexSet<String>, alloc: Global, spec: &Spec) -> Result<(), AllocError>
+fn add_made(made: &mut HashSet<String>, alloc: Global, spec: &Spec) -> Result<(), AllocError>
     ensures { OnOk result ((key : List ℕ) → contains_text made.new key ≡ (contains_text made.old key || spec.now.made && bytes_eq spec.now.key key)) }
 {
     if !spec.made {
