@@ -52,6 +52,16 @@ element_below t k count bytes e h = ⊎_elim (λ less. less)
     (λ more. let far : count * size_of t ≤ k * size_of t = mul-le-mul_right (size_of t) more in let some = size_positive t in absurd (omega arith))
     (cases_lt k count)
 
+pub element_room : (t : Dtype) (k count bytes : ℕ) → bytes ≡ count * size_of t → k < count → k * size_of t + size_of t ≤ bytes
+element_room t k count bytes e h = let far : suc k * size_of t ≤ count * size_of t = mul-le-mul_right (size_of t) h in omega arith
+
+-- of so many elements the first `first` have their bytes
+pub elements_fit : (t : Dtype) (first count size bytes : ℕ) → size ≡ size_of t → first ≤ count → bytes ≡ count * size_of t → first * size ≤ bytes
+elements_fit t first count size bytes e h n =
+    let far : first * size ≤ count * size = mul-le-mul_right size h in
+    let same = ap (λ s. count * s) e in
+    omega arith
+
 -- a place below the number of elements has its bytes, and one that has them is below
 pub element_fits : (t : Dtype) (k size bytes : ℕ) → size ≡ size_of t → k < bytes / size → k * size_of t + size_of t ≤ bytes
 element_fits t k size bytes e h =

@@ -14,34 +14,32 @@ ghost use Rattle.cu_kern.specs.Rows.{rows_before, loads_along, HasResultsOf, Has
 
 use crate::calls::Call;
 use crate::lays::pace_of;
-use crate::regions::{Inputs, LaidRegion, left_in, spelled, strip_from};
+use crate::regions::{Inputs, LaidRegion, left_in, strip_from};
 use crate::rows::{Earlier, PlaceRange, Row, is_literal, kind_at, step_at};
 use crate::strip_functions::call_strips;
 use crate::strips::Strip;
-use cu_num::{Dtype, Fn1, in_range, promote, size};
+use cu_num::{Dtype, Fn1, in_range, promote, save, size};
 use cu_op::Instr;
 
-/// A literal as an element of the type, with zeros behind; of what is none zeros.
+/// A literal as an element of the type, with zeros behind; of another step zeros.
 #[inline(always)]
-pub(crate) fn literal_bytes(instr: Instr, t: Dtype) -> [u8; 8]
-    ensures { (y : ℤ) → instr ≡ Const y → InRange t y → element_at Little t result 0 ≡ y }
+pub(crate) fn literal_at(code: &[Instr], a: u32, t: Dtype) -> [u8; 8]
+    ensures { (y : ℤ) → slice_get code.now a ≡ Some (Const y) → InRange t y → element_at Little t result 0 ≡ y }
 {
-    match instr {
-        Instr::Const(y) => spelled_or_zeros(t, y),
+    match step_at(code, a) {
+        Instr::Const(y) => spelled(t, y),
         _ => [0; 8],
     }
 }
 
-/// A number as an element of the type, with zeros behind; zeros where it is none of the type.
+/// A number as an element of the type, with zeros behind; another is wrapped to the type.
 #[inline(always)]
-fn spelled_or_zeros(t: Dtype, x: i128) -> [u8; 8]
+fn spelled(t: Dtype, x: i128) -> [u8; 8]
     ensures { InRange t x → element_at Little t result 0 ≡ x }
 {
-    if in_range(t, x) {
-        spelled(t, x)
-    } else {
-        [0; 8]
-    }
+    let mut bytes = [0; 8];
+    save(t, x, &mut bytes, 0);
+    bytes
 }
 
 /// Whether a literal is a number of the type.
@@ -57,7 +55,9 @@ fn literal_fits(instr: Instr, t: Dtype) -> bool
 /// The type that the elements of an earlier step are thought to have, of a literal the one in which it is wanted. It goes beside them
 /// and not with them in one value: such a value has gaps, and to copy these in pieces holds a processor up for longer than a row takes.
 #[inline(always)]
-pub(crate) fn kind_found(earlier: Earlier<'_>, a: u32, t: Dtype) -> Dtype {
+pub(crate) fn kind_found(earlier: Earlier<'_>, a: u32, t: Dtype) -> Dtype
+    ensures { (y : ℤ) → slice_get earlier.entry.kernel.code.now a ≡ Some (Const y) → result ≡ t }
+{
     if is_literal(step_at(earlier.kernel.code, a)) {
         return t;
     }
@@ -101,7 +101,7 @@ fn region_strip<'a>(inputs: Inputs<'a>, j: u32, kind: Dtype, range: PlaceRange) 
         return None;
     }
     let pace = pace_of(&lay.dims, inputs.dims);
-    if left_in(pace, range.from) < range.count as u64 {
+    if left_in(pace.run, range.from) < range.count as u64 {
         return None;
     }
     let region = LaidRegion {
@@ -160,9 +160,37 @@ pub(crate) fn found<'a>(
     }
 }
 
+/// The results of an earlier step as elements of the type, over spare bytes where theirs are of another; none where they aren't there
+/// or their type isn't promoted to it.
+#[inline(always)]
+pub(crate) fn found_in_type<'a>(
+    earlier: Earlier<'a>,
+    a: u32,
+    t: Dtype,
+    literal: &'a [u8; 8],
+    spare: &'a mut [u8],
+) -> Option<Strip<'a>>
+    requires lays { All (LayFits earlier.kernel.inputs.dims.now (length earlier.kernel.inputs.ins.now)) earlier.kernel.inputs.lays.now }
+    requires small { product earlier.kernel.inputs.dims.now < 2 ^ 63 }
+    requires within { earlier.range.from + earlier.range.count ≤ product earlier.kernel.inputs.dims.now }
+    requires literal { (y : ℤ) → slice_get earlier.kernel.code.now a ≡ Some (Const y) → InRange t y → element_at Little t literal.now 0 ≡ y }
+    ensures { IfSome result (λ s. HasResultsOf (rows_before earlier.entry.kernel.code.now earlier.entry.kernel.rows.now earlier.entry.bytes.now earlier.entry.number)
+        (loads_along earlier.entry.kernel.inputs.lays.now earlier.entry.kernel.inputs.ins.now earlier.entry.kernel.inputs.dims.now earlier.entry.range.from) earlier.entry.range.count a t (strip s.bytes.now s.step)) }
+{
+    let count = earlier.range.count;
+    let kind = kind_found(earlier, a, t);
+    let Some(x) = found(earlier, a, kind, literal) else {
+        return None;
+    };
+    if !convert(x, kind, t, count, spare) {
+        return None;
+    }
+    Some(in_type(x, kind, t, count, spare))
+}
+
 /// Writes elements as elements of a type to which theirs is promoted, where that is another; `false` where it isn't promoted to it.
 #[inline(always)]
-pub(crate) fn convert(x: Strip<'_>, kind: Dtype, t: Dtype, count: usize, out: &mut [u8]) -> bool
+fn convert(x: Strip<'_>, kind: Dtype, t: Dtype, count: usize, out: &mut [u8]) -> bool
     requires places { HasPlaces kind (strip x.bytes.now x.step) count }
     ensures { IsTrue result → kind ≢ t → HasSameElements kind (strip x.entry.bytes.now x.entry.step) t (strip out.new 1) count }
 {
@@ -192,13 +220,7 @@ fn convert_to(x: Strip<'_>, kind: Dtype, t: Dtype, count: usize, out: &mut [u8])
 
 /// The elements as elements of the type: their own, or those that `converted` has.
 #[inline(always)]
-pub(crate) fn in_type<'a>(
-    x: Strip<'a>,
-    kind: Dtype,
-    t: Dtype,
-    count: usize,
-    converted: &'a [u8],
-) -> Strip<'a>
+fn in_type<'a>(x: Strip<'a>, kind: Dtype, t: Dtype, count: usize, converted: &'a [u8]) -> Strip<'a>
     requires places { HasPlaces kind (strip x.bytes.now x.step) count }
     requires converted { kind ≢ t → HasSameElements kind (strip x.bytes.now x.step) t (strip converted.now 1) count }
     ensures { HasSameElements kind (strip x.entry.bytes.now x.entry.step) t (strip result.bytes.now result.step) count }

@@ -7,9 +7,9 @@ ghost use Rattle.cu_kern.specs.Steps.{value_by_place};
 ghost use Rattle.cu_kern.specs.Rows.{step_rows, loads_along, RowsAt};
 
 use crate::lays::{Lay, pace_of};
-use crate::regions::Inputs;
+use crate::regions::{Inputs, left_in};
 use crate::row_steps::{leave_row, row_of_step};
-use crate::rows::{Earlier, PlaceRange, Row, RowKernel, is_literal, kind_at, step_at};
+use crate::rows::{Earlier, PlaceRange, Row, RowKernel, RowLoad, is_literal, kind_at, step_at};
 use cu_num::{Dtype, promote, result1, result2, size};
 use cu_op::Instr;
 use cu_shape::Dims;
@@ -99,7 +99,7 @@ fn run_row(
 
 /// How many places a row has at most, and how many bytes of the bank the rows then need.
 #[derive(Clone, Copy)]
-struct Room {
+struct BankUse {
     places: usize,
     bytes: usize,
 }
@@ -111,12 +111,12 @@ fn run_each(
     inputs: Inputs<'_>,
     t: Dtype,
     places: usize,
-    rows: &mut [Row; STEPS],
+    rows: &mut [Row],
     bank: &mut [u8],
     out: &mut [u8],
 ) -> bool
     requires some { 0 < length code.now }
-    requires few { length code.now ≤ 32 }
+    requires rows { length code.now ≤ length rows.old }
     requires places { 0 < places }
     requires lays { All (LayFits inputs.dims.now (length inputs.ins.now)) inputs.lays.now }
     requires out { length out.old ≡ product inputs.dims.now * size_of t }
@@ -128,9 +128,8 @@ fn run_each(
     let piece = long_piece(rows);
     let mut done = 0;
     while done < all {
-        let left = piece - done as u64 % piece;
         let most = (all - done).min(places);
-        let count = most.min(left as usize);
+        let count = most.min(left_in(piece, done as u64) as usize);
         let range = PlaceRange {
             from: done as u64,
             count,
@@ -146,34 +145,28 @@ fn run_each(
     true
 }
 
-/// The places of the shortest long piece that a step loads.
-fn long_piece(rows: &[Row; STEPS]) -> u64
+/// The places of the shortest long piece that a step loads; more than any result has where none does.
+fn long_piece(rows: &[Row]) -> u64
     ensures { 0 < result }
 {
     let mut least = u64::MAX;
-    for number in 0..STEPS {
-        let piece = rows[number].piece;
-        if piece >= LONG {
-            least = least.min(piece);
+    for row in rows {
+        if let RowLoad::Pieces(run) = row.load {
+            if run >= LONG {
+                least = least.min(run);
+            }
         }
     }
     least
 }
 
-/// Has rows kept of what isn't read where it lies along these places.
-fn keep_rows(range: PlaceRange, rows: &mut [Row; STEPS]) {
-    for number in 0..STEPS {
-        let row = rows[number];
-        rows[number] = Row {
-            kept: is_split(row.piece, range),
-            ..row
-        };
+/// Has rows kept of the regions in pieces that these places don't read in one piece. Of the others it is known before.
+fn keep_rows(range: PlaceRange, rows: &mut [Row]) {
+    for row in rows.iter_mut() {
+        if let RowLoad::Pieces(run) = row.load {
+            row.kept = run == 0 || left_in(run, range.from) < range.count as u64;
+        }
     }
-}
-
-/// Whether the places don't lie in one piece of so many places.
-fn is_split(piece: u64, range: PlaceRange) -> bool {
-    piece == 0 || (range.from % piece).saturating_add(range.count as u64) > piece
 }
 
 /// The elements of a kernel of at most 32 steps; `false` where the rows weren't guessed right.
@@ -190,39 +183,40 @@ pub(crate) fn run_by_rows(code: &[Instr], inputs: Inputs<'_>, t: Dtype, out: &mu
     let mut rows = rows_of(code, inputs);
     let places = places_of(code, &rows, out.len() / size(t) as usize);
     let bytes = lay_out(code, places, &mut rows);
-    run_in_bank(code, inputs, t, Room { places, bytes }, &mut rows, out)
+    let used = BankUse { places, bytes };
+    run_in_bank(code, inputs, t, used, &mut rows[..code.len()], out)
 }
 
-/// `run_each` with a bank that has at least the bytes of this room, where that is possible: what a small task doesn't use isn't zeroed.
+/// `run_each` with a bank that has at least so many bytes, where that is possible: what a small task doesn't use isn't zeroed.
 fn run_in_bank(
     code: &[Instr],
     inputs: Inputs<'_>,
     t: Dtype,
-    room: Room,
-    rows: &mut [Row; STEPS],
+    used: BankUse,
+    rows: &mut [Row],
     out: &mut [u8],
 ) -> bool
     requires some { 0 < length code.now }
-    requires few { length code.now ≤ 32 }
-    requires places { 0 < room.places }
+    requires rows { length code.now ≤ length rows.old }
+    requires places { 0 < used.places }
     requires lays { All (LayFits inputs.dims.now (length inputs.ins.now)) inputs.lays.now }
     requires out { length out.old ≡ product inputs.dims.now * size_of t }
     ensures { IsTrue result → (p : ℕ) → p < product inputs.entry.dims.now
         → HasValue t out.new p (value_by_place code.now inputs.entry.lays.now inputs.entry.ins.now inputs.entry.dims.now p) }
 {
-    if room.bytes <= 2048 {
+    if used.bytes <= 2048 {
         let mut bank = [0; 2048];
-        run_each(code, inputs, t, room.places, rows, &mut bank, out)
-    } else if room.bytes <= 8192 {
+        run_each(code, inputs, t, used.places, rows, &mut bank, out)
+    } else if used.bytes <= 8192 {
         let mut bank = [0; 8192];
-        run_each(code, inputs, t, room.places, rows, &mut bank, out)
+        run_each(code, inputs, t, used.places, rows, &mut bank, out)
     } else {
         let mut bank = [0; BANK];
-        run_each(code, inputs, t, room.places, rows, &mut bank, out)
+        run_each(code, inputs, t, used.places, rows, &mut bank, out)
     }
 }
 
-/// The types that the rows of the steps are guessed to have, the pieces of what they load, and whether rows are kept somewhere.
+/// The types that the rows of the steps are guessed to have, what the steps load, and whether rows are kept somewhere.
 fn rows_of(code: &[Instr], inputs: Inputs<'_>) -> [Row; STEPS]
     requires lays { All (LayFits inputs.dims.now (length inputs.ins.now)) inputs.lays.now }
     requires some { 0 < product inputs.dims.now }
@@ -232,39 +226,38 @@ fn rows_of(code: &[Instr], inputs: Inputs<'_>) -> [Row; STEPS]
         dtype: Dtype::Bool,
         at: 0,
         kept: true,
-        piece: 0,
+        load: RowLoad::Nothing,
     };
     let mut rows = [none; STEPS];
     for number in 0..code.len().min(STEPS) {
-        let piece = piece_of(code[number], inputs);
+        let load = load_of(code[number], inputs);
         rows[number] = Row {
             dtype: kind_of(code[number], code, inputs, &rows),
             at: 0,
-            kept: piece != u64::MAX,
-            piece,
+            kept: !matches!(load, RowLoad::OnePiece),
+            load,
         };
     }
     rows
 }
 
-/// How many places a piece has of what a step loads: none where it loads nothing. A region that has as many elements as the result,
-/// or one, is of one piece.
-fn piece_of(instr: Instr, inputs: Inputs<'_>) -> u64
+/// What a step loads. A region that has as many elements as the result, or one, is in one piece.
+fn load_of(instr: Instr, inputs: Inputs<'_>) -> RowLoad
     requires lays { All (LayFits inputs.dims.now (length inputs.ins.now)) inputs.lays.now }
     requires some { 0 < product inputs.dims.now }
     requires small { product inputs.dims.now < 2 ^ 63 }
 {
     let Instr::Load(j) = instr else {
-        return 0;
+        return RowLoad::Nothing;
     };
     if j as usize >= inputs.lays.len() {
-        return 0;
+        return RowLoad::Nothing;
     }
     let lay = &inputs.lays[j as usize];
     if !is_stretched(lay, inputs.dims) {
-        return u64::MAX;
+        return RowLoad::OnePiece;
     }
-    pace_of(&lay.dims, inputs.dims).run
+    RowLoad::Pieces(pace_of(&lay.dims, inputs.dims).run)
 }
 
 /// Whether a region has neither as many elements as the result nor one.

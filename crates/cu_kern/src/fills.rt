@@ -11,7 +11,7 @@ use crate::lays::{Pace, pace_of, spread_of};
 use crate::regions::{LaidRegion, left_in, strip_at, strip_from};
 use crate::rows::PlaceRange;
 use crate::strip_functions::call_strips;
-use crate::strips::one_from;
+use crate::strips::one_each;
 use cu_num::{Dtype, Fn1, size};
 use cu_shape::Dims;
 
@@ -37,7 +37,7 @@ fn pieces_of_region(
     let mut done = 0;
     while done < range.count {
         let place = range.from + done as u64;
-        let count = (range.count - done).min(left_in(pace, place) as usize);
+        let count = (range.count - done).min(left_in(pace.run, place) as usize);
         let strip = strip_from(region, pace, dims, place, count);
         let part = &mut out[done * size..(done + count) * size];
         call_strips(Call::One(Fn1::Astype, t, t), strip, strip, strip, part);
@@ -77,7 +77,7 @@ fn spread_each(
         let count = (range.count - done).min(left as usize);
         let strip = strip_at(region, pace, dims, place, at, count);
         let part = &mut out[done * size..(done + count) * size];
-        one_from(Fn1::Astype, t, t, strip, 0, part);
+        one_each(Fn1::Astype, t, t, strip, part);
         done += count;
         at += 1;
         left = run;

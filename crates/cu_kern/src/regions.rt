@@ -1,15 +1,12 @@
 //! The regions that a kernel reads, along runs of places.
 ghost use Rattle.std.specs.Prelude.{◌≡◌, ◌+◌, ◌-◌, ◌%◌, ◌^◌, ◌≤◌, ◌<◌, ℕ, length};
-ghost use Rattle.cu_num.specs.Dtype.{InRange};
-ghost use Rattle.cu_num.specs.Element.{element_at};
-ghost use Rattle.cu_num.specs.declared.layout.Endian.TheVariants.{Little};
 ghost use Rattle.cu_shape.specs.Index.{product, index_at};
 ghost use Rattle.cu_kern.specs.Lays.{BroadcastsTo, LayFits, IsRun, lay_element, place_read};
 ghost use Rattle.cu_kern.specs.Strips.{strip, strip_element, HasPlaces};
 
 use crate::lays::{Lay, Pace, place_in};
 use crate::strips::Strip;
-use cu_num::{Dtype, save, size};
+use cu_num::size;
 use cu_shape::Dims;
 
 /// The regions of a kernel, in one buffer, and the sizes to which they are stretched.
@@ -98,24 +95,14 @@ fn place_at(pace: Pace, shape: &Dims, dims: &Dims, place: u64) -> u64
     }
 }
 
-/// The places that are left in the piece of `place`.
+/// The places that are left in the piece of `place`, where each has `run` places.
 #[inline(always)]
-pub(crate) fn left_in(pace: Pace, place: u64) -> u64
-    requires { 0 < pace.run }
-    ensures { result ≡ pace.run - place % pace.run }
+pub(crate) fn left_in(run: u64, place: u64) -> u64
+    requires { 0 < run }
+    ensures { result ≡ run - place % run }
 {
-    if place < pace.run {
-        return pace.run - place;
+    if place < run {
+        return run - place;
     }
-    pace.run - place % pace.run
-}
-
-/// A number of the type as an element, with zeros behind.
-pub(crate) fn spelled(t: Dtype, x: i128) -> [u8; 8]
-    requires { InRange t x }
-    ensures { element_at Little t result 0 ≡ x }
-{
-    let mut bytes = [0; 8];
-    save(t, x, &mut bytes, 0);
-    bytes
+    run - place % run
 }

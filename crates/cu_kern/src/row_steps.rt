@@ -8,11 +8,11 @@ ghost use Rattle.cu_op.specs.declared.kernel.Instr.TheVariants.{Load, Const, One
 ghost use Rattle.cu_kern.specs.Lays.{LayFits};
 ghost use Rattle.cu_kern.specs.Rows.{Rows, rows_before, loads_along, Computes, left_row, Leaves};
 
-use crate::arguments::{convert, found, in_type, kind_found, literal_bytes, takes};
+use crate::arguments::{found, found_in_type, kind_found, literal_at, takes};
 use crate::calls::Call;
 use crate::fills::row_of_region;
 use crate::regions::{Inputs, LaidRegion};
-use crate::rows::{Earlier, PlaceRange, Row, step_at};
+use crate::rows::{Earlier, PlaceRange, Row};
 use crate::strip_functions::call_strips;
 use cu_num::{Dtype, Fn1, Fn2, result1, result2, size};
 use cu_op::Instr;
@@ -31,7 +31,7 @@ fn row_of_one(f: Fn1, t: Dtype, a: u32, earlier: Earlier<'_>, out: &mut [u8]) ->
     if !takes(f, kind, t) {
         return false;
     }
-    let literal = literal_bytes(step_at(earlier.kernel.code, a), kind);
+    let literal = literal_at(earlier.kernel.code, a, kind);
     let Some(x) = found(earlier, a, kind, &literal) else {
         return false;
     };
@@ -57,26 +57,15 @@ fn row_of_two(
         (loads_along earlier.entry.kernel.inputs.lays.now earlier.entry.kernel.inputs.ins.now earlier.entry.kernel.inputs.dims.now earlier.entry.range.from) out.new }
 {
     let (a, b) = steps;
-    let count = earlier.range.count;
-    let first_kind = kind_found(earlier, a, t);
-    let second_kind = kind_found(earlier, b, t);
-    let first_literal = literal_bytes(step_at(earlier.kernel.code, a), first_kind);
-    let second_literal = literal_bytes(step_at(earlier.kernel.code, b), second_kind);
-    let Some(first) = found(earlier, a, first_kind, &first_literal) else {
-        return false;
-    };
-    let Some(second) = found(earlier, b, second_kind, &second_literal) else {
-        return false;
-    };
+    let first = literal_at(earlier.kernel.code, a, t);
+    let second = literal_at(earlier.kernel.code, b, t);
     let (near, far) = spare.split_at_mut(spare.len() / 2);
-    if !convert(first, first_kind, t, count, near) {
+    let Some(x) = found_in_type(earlier, a, t, &first, near) else {
         return false;
-    }
-    if !convert(second, second_kind, t, count, far) {
+    };
+    let Some(y) = found_in_type(earlier, b, t, &second, far) else {
         return false;
-    }
-    let x = in_type(first, first_kind, t, count, near);
-    let y = in_type(second, second_kind, t, count, far);
+    };
     call_strips(Call::Two(f, t), x, y, y, out);
     true
 }
@@ -98,30 +87,20 @@ fn row_of_select(
         (loads_along earlier.entry.kernel.inputs.lays.now earlier.entry.kernel.inputs.ins.now earlier.entry.kernel.inputs.dims.now earlier.entry.range.from) out.new }
 {
     let (c, a, b) = steps;
-    let count = earlier.range.count;
-    let first_kind = kind_found(earlier, a, t);
-    let second_kind = kind_found(earlier, b, t);
-    let choice_literal = literal_bytes(step_at(earlier.kernel.code, c), Dtype::Bool);
-    let first_literal = literal_bytes(step_at(earlier.kernel.code, a), first_kind);
-    let second_literal = literal_bytes(step_at(earlier.kernel.code, b), second_kind);
-    let Some(choice) = found(earlier, c, Dtype::Bool, &choice_literal) else {
-        return false;
-    };
-    let Some(first) = found(earlier, a, first_kind, &first_literal) else {
-        return false;
-    };
-    let Some(second) = found(earlier, b, second_kind, &second_literal) else {
-        return false;
-    };
+    let code = earlier.kernel.code;
+    let choosing = literal_at(code, c, Dtype::Bool);
+    let first = literal_at(code, a, t);
+    let second = literal_at(code, b, t);
     let (near, far) = spare.split_at_mut(spare.len() / 2);
-    if !convert(first, first_kind, t, count, near) {
+    let Some(choice) = found(earlier, c, Dtype::Bool, &choosing) else {
         return false;
-    }
-    if !convert(second, second_kind, t, count, far) {
+    };
+    let Some(x) = found_in_type(earlier, a, t, &first, near) else {
         return false;
-    }
-    let x = in_type(first, first_kind, t, count, near);
-    let y = in_type(second, second_kind, t, count, far);
+    };
+    let Some(y) = found_in_type(earlier, b, t, &second, far) else {
+        return false;
+    };
     call_strips(Call::Select(t), choice, x, y, out);
     true
 }

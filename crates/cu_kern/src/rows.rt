@@ -1,19 +1,31 @@
 //! Rows of bytes, one for each step of a kernel: along a row of places a step leaves its results as elements of its own type.
-ghost use Rattle.std.specs.Prelude.{◌≡◌, Some};
+ghost use Rattle.std.specs.Prelude.{◌≡◌, ℤ, IsTrue, Some};
 ghost use Rattle.std.specs.List.{slice_get};
+ghost use Rattle.cu_op.specs.declared.kernel.Instr.TheVariants.{Const};
 
 use crate::regions::Inputs;
 use cu_num::Dtype;
 use cu_op::Instr;
 
+/// What a step loads, as the places of the result read it.
+#[derive(Clone, Copy)]
+pub(crate) enum RowLoad {
+    /// Nothing: the step computes, or it is a literal.
+    Nothing,
+    /// A region in one piece.
+    OnePiece,
+    /// A region in pieces of so many places. The type doesn't say that there is one: who divides by them tests it.
+    Pieces(u64),
+}
+
 /// Where a step's results stand: elements of a type from a byte of the bank on. What is loaded has a row only where one is kept:
-/// along places of one piece of a region it is read where it lies. A piece has `piece` places, none where nothing is loaded.
+/// along places of one piece of a region it is read where it lies.
 #[derive(Clone, Copy)]
 pub(crate) struct Row {
     pub(crate) dtype: Dtype,
     pub(crate) at: usize,
     pub(crate) kept: bool,
-    pub(crate) piece: u64,
+    pub(crate) load: RowLoad,
 }
 
 /// The steps of a kernel, their rows, and what they load.
@@ -59,6 +71,8 @@ pub(crate) fn kind_at(rows: &[Row], a: u32) -> Dtype {
 }
 
 /// Whether a step is a literal, which has no row.
-pub(crate) fn is_literal(instr: Instr) -> bool {
+pub(crate) fn is_literal(instr: Instr) -> bool
+    ensures { (y : ℤ) → instr ≡ Const y → IsTrue result }
+{
     matches!(instr, Instr::Const(_))
 }

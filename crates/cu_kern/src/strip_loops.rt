@@ -8,7 +8,7 @@ ghost use Rattle.cu_kern.specs.Strips.{strip, IsCall, HasArguments, HasResults};
 use crate::by_type::call_by_type;
 use crate::calls::Call;
 use crate::strips::{
-    Strip, compare_long, compare_short, compare_wide, one_from, pair_each, select_from,
+    Strip, compare_long, compare_short, compare_wide, one_each, pair_each, select_each,
 };
 use cu_num::{Dtype, Fn1, Fn2};
 
@@ -128,11 +128,9 @@ fn by_step(f: Fn1, from: Dtype, t: Dtype, x: Strip<'_>, out: &mut [u8])
     ensures { HasResults (Call.One f from t) (strip x.entry.bytes.now x.entry.step) (strip x.entry.bytes.now x.entry.step) (strip x.entry.bytes.now x.entry.step) out.new }
 {
     if x.step == 0 {
-        let x = x.resting();
-        one_from(f, from, t, x, 0, out);
+        one_each(f, from, t, x.resting(), out);
     } else {
-        let x = x.moving();
-        one_from(f, from, t, x, 0, out);
+        one_each(f, from, t, x.moving(), out);
     }
 }
 
@@ -198,8 +196,8 @@ fn by_last_step(t: Dtype, x: Strip<'_>, y: Strip<'_>, z: Strip<'_>, out: &mut [u
     ensures { HasResults (Call.Select t) (strip x.entry.bytes.now x.entry.step) (strip y.entry.bytes.now y.entry.step) (strip z.entry.bytes.now z.entry.step) out.new }
 {
     if z.step == 0 {
-        select_from(t, x, y, z.resting(), 0, out);
+        select_each(t, x, y, z.resting(), out);
     } else {
-        select_from(t, x, y, z.moving(), 0, out);
+        select_each(t, x, y, z.moving(), out);
     }
 }

@@ -184,17 +184,16 @@ fn one_at(f: Fn1, origin: Dtype, t: Dtype, x: Strip<'_>, at: usize) -> i128
     scalar1(f, t, load(origin, x.bytes, x.step * at))
 }
 
-/// A function of one argument, at the places from `from` on, where those before it are there.
+/// A function of one argument.
 #[inline(always)]
-pub(crate) fn one_from(f: Fn1, origin: Dtype, t: Dtype, x: Strip<'_>, from: usize, out: &mut [u8])
+pub(crate) fn one_each(f: Fn1, origin: Dtype, t: Dtype, x: Strip<'_>, out: &mut [u8])
     requires call { IsCall (Call.One f origin t) }
-    requires done { ResultsBelow (Call.One f origin t) (strip x.bytes.now x.step) (strip x.bytes.now x.step) (strip x.bytes.now x.step) from out.old }
     requires arguments { HasArguments (Call.One f origin t) (strip x.bytes.now x.step) (strip x.bytes.now x.step) (strip x.bytes.now x.step) (length out.old) }
     ensures { HasResults (Call.One f origin t) (strip x.entry.bytes.now x.entry.step) (strip x.entry.bytes.now x.entry.step) (strip x.entry.bytes.now x.entry.step) out.new }
 {
     let r = result1(f, t);
     let count = out.len() / size(r) as usize;
-    for at in from..count {
+    for at in 0..count {
         save(r, one_at(f, origin, t, x, at), out, at);
     }
 }
@@ -212,23 +211,14 @@ fn select_at(t: Dtype, x: Strip<'_>, y: Strip<'_>, z: Strip<'_>, at: usize) -> i
     )
 }
 
-/// A choice, at the places from `from` on, where those before it are there.
+/// A choice.
 #[inline(always)]
-pub(crate) fn select_from(
-    t: Dtype,
-    x: Strip<'_>,
-    y: Strip<'_>,
-    z: Strip<'_>,
-    from: usize,
-    out: &mut [u8],
-)
-    requires done { ResultsBelow (Call.Select t) (strip x.bytes.now x.step) (strip y.bytes.now y.step) (strip z.bytes.now z.step) from out.old }
+pub(crate) fn select_each(t: Dtype, x: Strip<'_>, y: Strip<'_>, z: Strip<'_>, out: &mut [u8])
     requires arguments { HasArguments (Call.Select t) (strip x.bytes.now x.step) (strip y.bytes.now y.step) (strip z.bytes.now z.step) (length out.old) }
     ensures { HasResults (Call.Select t) (strip x.entry.bytes.now x.entry.step) (strip y.entry.bytes.now y.entry.step) (strip z.entry.bytes.now z.entry.step) out.new }
 {
-    let r = t;
-    let count = out.len() / size(r) as usize;
-    for at in from..count {
-        save(r, select_at(t, x, y, z, at), out, at);
+    let count = out.len() / size(t) as usize;
+    for at in 0..count {
+        save(t, select_at(t, x, y, z, at), out, at);
     }
 }

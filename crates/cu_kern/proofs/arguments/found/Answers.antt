@@ -2,6 +2,7 @@ use Rattle.std.proofs.Common.{◌≡◌, ap, ◌∙◌, arith, true, Some}
 use Rattle.std.specs.List.{slice_get}
 use Rattle.std.proofs.lemmas.Option.{slice_get-get_or}
 use Rattle.cu_op.specs.declared.kernel.Instr.TheVariants.{Load, Const}
+use Rattle.cu_kern.specs.declared.rows.RowLoad.TheVariants.{Nothing}
 use Rattle.cu_kern.specs.Strips.{strip}
 use Rattle.cu_kern.specs.Rows.{rows_before, loads_along}
 use Rattle.cu_kern.proofs.RowResults.{if_some, if_some_of_three, literal_results, region_results, row_results}
@@ -15,7 +16,7 @@ returns-in-Const c =
     let loads = loads_along earlier.kernel.inputs.lays.now earlier.kernel.inputs.ins.now earlier.kernel.inputs.dims.now earlier.range.from in
     let y = c.in-Const.field-0 in
     let is : slice_get code c.args.a ≡ Some (Const y) = slice_get-get_or code c.args.a _ (omega arith) ∙ ap Some c.in-Const.is in
-    let own = slice_get-get_or earlier.kernel.rows.now c.args.a (record { dtype = c.args.kind; at = 0; kept = true; piece = 0 }) (omega arith) in
+    let own = slice_get-get_or earlier.kernel.rows.now c.args.a (record { dtype = c.args.kind; at = 0; kept = true; load = Nothing }) (omega arith) in
     if_some_of_three c.literal_strip.result _ _ _ _
     (λ s range bytes step. literal_results r loads earlier.range.count c.args.a s.step y _ c.args.kind s.bytes.now c.args.literal.now (omega arith) is own bytes step (omega arith) (c.requires.literal y is (range y c.in-Const.is)))
     c.literal_strip.ensures.range c.literal_strip.ensures.bytes c.literal_strip.ensures.step
@@ -42,7 +43,7 @@ returns-else-row c =
     let j = c.in-Load.j in
     let is : slice_get code c.args.a ≡ Some (Load j) = slice_get-get_or code c.args.a _ (omega arith) ∙ ap Some c.in-Load.is in
     if_some c.region_strip.result _ _ _
-    (λ s places same. region_results r loads earlier.range.count c.args.a j _ c.args.kind (strip s.bytes.now s.step) (omega arith) is (slice_get-get_or earlier.kernel.rows.now c.args.a (record { dtype = c.args.kind; at = 0; kept = true; piece = 0 }) (omega arith)) places same)
+    (λ s places same. region_results r loads earlier.range.count c.args.a j _ c.args.kind (strip s.bytes.now s.step) (omega arith) is (slice_get-get_or earlier.kernel.rows.now c.args.a (record { dtype = c.args.kind; at = 0; kept = true; load = Nothing }) (omega arith)) places same)
     c.region_strip.ensures.places c.region_strip.ensures.elements
 
 pub returns-in_default : goal.returns-in_default

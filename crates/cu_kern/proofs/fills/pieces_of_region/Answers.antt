@@ -1,20 +1,32 @@
-use Rattle.std.proofs.Common.{◌≡◌, ◌≤◌, ◌<◌, ◌+◌, ◌-◌, ◌*◌, suc, ap, ◌∙◌, sym, subst, arith, length, Some, ℕ, ℤ, ⊎_elim}
-use Rattle.std.proofs.lemmas.Bool.{cases_lt}
-use Rattle.std.proofs.Math.Nat.{mul-le-mul_right}
-use Rattle.std.proofs.lemmas.List.Edits.{length-between}
-use borrow.Rule.Slice.PartMut.{put_mid}
+use Rattle.std.proofs.Common.{◌≡◌, ◌≤◌, ◌+◌, ◌*◌, ap, ◌∙◌, sym, subst, arith, length, Some, ℕ, ℤ}
 use Rattle.cu_num.specs.Dtype.{size_of}
-use Rattle.cu_num.specs.Element.{element_bytes}
-use Rattle.cu_num.specs.Wrap.{wrapped}
 use Rattle.cu_num.specs.declared.layout.Endian.TheVariants.{Little}
 use Rattle.cu_num.proofs.ElementBytes.{InRange-element_at}
-use Rattle.cu_num.proofs.Wrapped.{wrapped_in_range}
 use Rattle.cu_shape.specs.Index.{index_at}
 use Rattle.cu_kern.specs.Lays.{lay_element}
-use Rattle.cu_kern.specs.Strips.{strip, strip_element, HasPlaces}
-use Rattle.cu_kern.proofs.Parts.{length-put_mid, bytes_below, bytes_inside, has_value_same}
-use Rattle.cu_kern.proofs.Pieces.{part_length, part_count}
+use Rattle.cu_kern.specs.Strips.{strip, HasPlaces}
+use Rattle.cu_kern.proofs.Parts.{element_room}
+use Rattle.cu_kern.proofs.Pieces.{part_within, part_length, part_count, values_more, copied_value}
 use Rattle.cu_kern.proofs.fills.pieces_of_region.Goals as goal
+
+-- the part lies in the result
+inside : (c : goal.After-strip_from-strip) → (c.loop-done.done * c.size-size.result ≤ (c.loop-done.done + c.min-count.result) * c.size-size.result) × ((c.loop-done.done + c.min-count.result) * c.size-size.result ≤ length c.loop-done.out)
+inside c = part_within c.args.region.lay.now.dtype c.loop-done.done c.min-count.result c.args.range.count c.size-size.result (length c.loop-done.out) c.size-size.ensures (omega (arith, c.min-count.ensures, c.loop-done-test.true)) (c.loop-done.invariant.out_length ∙ c.requires.room)
+
+pub overflow_mul-part : goal.overflow_mul-part
+overflow_mul-part c = omega (arith, inside c)
+
+pub overflow_mul-part-in-loop-done : goal.overflow_mul-part-in-loop-done
+overflow_mul-part-in-loop-done c = omega (arith, inside c)
+
+pub slice_bounds-part-count : goal.slice_bounds-part-count
+slice_bounds-part-count c = omega (arith, inside c)
+
+pub slice_bounds-part-start : goal.slice_bounds-part-start
+slice_bounds-part-start c = omega (arith, inside c)
+
+pub slice_bounds-part-end : goal.slice_bounds-part-end
+slice_bounds-part-end c = omega (arith, inside c)
 
 pub call_strips-requires-clause-arguments : goal.call_strips-requires-clause-arguments
 call_strips-requires-clause-arguments c =
@@ -31,40 +43,14 @@ loop-done-preserved c =
     let done = c.loop-done.done in
     let size = c.size-size.result in
     let count = c.min-count.result in
-    let own : size ≡ size_of t = c.size-size.ensures in
-    let kept : length c.loop-done.out ≡ all * size_of t = c.loop-done.invariant.out_length ∙ c.requires.room in
-    let within : done + count ≤ all = omega (arith, c.min-count.ensures, c.loop-done-test.true) in
     let out = c.loop-done.out in
     let new = c.call_strips.new.out in
-    let a = done * size in
-    let e = (done + count) * size in
-    let from : a ≡ done * size_of t = ap (λ s. done * s) own in
-    let whole = part_length t out done count all size own within kept in
-    let long : length new ≡ count * size_of t = c.call_strips.auto.out ∙ whole.1 in
-    let part : length new ≡ e - a = c.call_strips.auto.out ∙ length-between out a e whole.0 in
-    let fits = whole.0 in
-    let order : a ≤ e = mul-le-mul_right size (let less : done ≤ done + count = omega arith in less) in
-    let read : ℕ → ℤ = λ k. lay_element c.args.region.lay.now c.args.region.ins.now (index_at c.args.dims.now (c.args.range.from + k)) in
-    record {
-      within = within;
-      out_length = length-put_mid a (e - a) out new part (omega arith) ∙ c.loop-done.invariant.out_length;
-      values = λ k b. ⊎_elim
-          (λ less.
-          let before : suc k * size_of t ≤ done * size_of t = mul-le-mul_right (size_of t) (let l : suc k ≤ done = omega arith in l) in
-          has_value_same t (put_mid a (e - a) out new) out k k (Some (read k)) (bytes_below t a (e - a) out new k (omega arith) (omega arith)) (c.loop-done.invariant.values k less))
-          (λ more.
-          let j = k - done in
-          let sum : done + j ≡ k = omega arith in
-          let at : k * size_of t ≡ a + j * size_of t = ap (λ q. q * size_of t) (sym sum) ∙ omega arith in
-          let inside : j < count = omega arith in
-          let last : suc j * size_of t ≤ count * size_of t = mul-le-mul_right (size_of t) (let l : suc j ≤ count = omega arith in l) in
-          let room : j * size_of t + size_of t ≤ length new = omega arith in
-          let place : c.args.range.from + done + j ≡ c.args.range.from + k = omega arith in
-          let is : strip_element t (strip c.strip_from-strip.result.bytes.now c.strip_from-strip.result.step) j ≡ read k =
-          c.strip_from-strip.ensures.elements j inside ∙ ap (λ p. lay_element c.args.region.lay.now c.args.region.ins.now (index_at c.args.dims.now p)) place in
-          let range = InRange-element_at Little t _ _ in (
-            range,
-            bytes_inside t a (e - a) out new k j at room (omega arith) ∙ c.call_strips.ensures j room ∙ ap (λ x. element_bytes Little t (wrapped t x)) is ∙ ap (element_bytes Little t) (wrapped_in_range t (read k) range),
-          ))
-          (cases_lt k done);
-    }
+    let whole : length out ≡ all * size_of t = c.loop-done.invariant.out_length ∙ c.requires.room in
+    let within : done + count ≤ all = omega (arith, c.min-count.ensures, c.loop-done-test.true) in
+    let long = c.call_strips.auto.out ∙ (part_length t out done count all size c.size-size.ensures within whole).1 in
+    let read : ℕ → ℤ = λ p. lay_element c.args.region.lay.now c.args.region.ins.now (index_at c.args.dims.now p) in
+    let more = values_more t out new done count all size (λ k. Some (read (c.args.range.from + k))) c.size-size.ensures within whole c.call_strips.auto.out c.loop-done.invariant.values
+    (λ j b.
+    let place : c.args.range.from + done + j ≡ c.args.range.from + (done + j) = omega arith in
+    copied_value t new j _ (read (c.args.range.from + (done + j))) (InRange-element_at Little t _ _) (c.strip_from-strip.ensures.elements j b ∙ ap read place) (c.call_strips.ensures j (element_room t j count (length new) long b))) in
+    record { within = within; out_length = more.0 ∙ c.loop-done.invariant.out_length; values = more.1 }

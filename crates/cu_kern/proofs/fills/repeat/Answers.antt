@@ -3,8 +3,10 @@ use Rattle.std.proofs.Math.Nat.{mod_self, mod-eq_of_lt, mul-le-mul_right}
 use Rattle.std.proofs.lemmas.List.{length-take-le}
 use Rattle.cu_num.specs.Dtype.{size_of}
 use Rattle.cu_num.specs.Element.{bytes_at}
+use Rattle.cu_kern.proofs.Parts.{elements_fit}
 use Rattle.cu_kern.proofs.Repeats.{bytes_in_part, twice_whole, repeat_more}
 use Rattle.cu_kern.proofs.fills.repeat.Goals as goal
+use Rattle.cu_kern.proofs.fills.repeat.Goals.{After-split_at_mut-front}
 
 pub loop-done-init : goal.loop-done-init
 loop-done-init c = record {
@@ -14,6 +16,40 @@ loop-done-init c = record {
   whole = λ less. mod_self c.args.first;
   values = λ k b. ap (bytes_at c.args.t c.args.out.now) (sym (mod-eq_of_lt b));
 }
+
+-- what is there has its bytes, and what is written next
+there : (c : goal.After-split_at_mut-arg-1) → c.loop-done.done * c.size-size.result ≤ length c.loop-done.out
+there c = elements_fit c.args.t c.loop-done.done c.args.all c.size-size.result (length c.loop-done.out) c.size-size.ensures c.loop-done.invariant.within (c.loop-done.invariant.out_length ∙ c.requires.room)
+
+next : (c : After-split_at_mut-front) → (c.min-count.result * c.size-size.result ≤ c.loop-done.done * c.size-size.result) × ((c.loop-done.done + c.min-count.result) * c.size-size.result ≤ length c.loop-done.out)
+next c = (
+  mul-le-mul_right c.size-size.result (let short : c.min-count.result ≤ c.loop-done.done = omega (arith, c.min-count.ensures) in short),
+  elements_fit c.args.t (c.loop-done.done + c.min-count.result) c.args.all c.size-size.result (length c.loop-done.out) c.size-size.ensures (omega (arith, c.min-count.ensures, c.loop-done-test.true)) (c.loop-done.invariant.out_length ∙ c.requires.room),
+)
+
+pub overflow_mul-done : goal.overflow_mul-done
+overflow_mul-done c = omega (arith, there c)
+
+pub split_at_mut-front-requires : goal.split_at_mut-front-requires
+split_at_mut-front-requires c = omega (arith, there c)
+
+pub overflow_mul-count : goal.overflow_mul-count
+overflow_mul-count c = omega (arith, next c)
+
+pub overflow_mul-count-in-loop-done : goal.overflow_mul-count-in-loop-done
+overflow_mul-count-in-loop-done c = omega (arith, next (goal.at.overflow_mul-count-in-loop-done c).After-split_at_mut-front)
+
+pub slice_bounds-copy_from_slice-end : goal.slice_bounds-copy_from_slice-end
+slice_bounds-copy_from_slice-end c = omega (arith, next c, c.split_at_mut-front.ensures.front_len, c.split_at_mut-front.ensures.back_len)
+
+pub slice_bounds-copy_from_slice-end-in-loop-done-2 : goal.slice_bounds-copy_from_slice-end-in-loop-done-2
+slice_bounds-copy_from_slice-end-in-loop-done-2 c = omega (arith, next (goal.at.slice_bounds-copy_from_slice-end-in-loop-done-2 c).After-split_at_mut-front, c.split_at_mut-front.ensures.front_len, c.split_at_mut-front.ensures.back_len)
+
+pub copy_from_slice-requires : goal.copy_from_slice-requires
+copy_from_slice-requires c =
+    let n = c.min-count.result * c.size-size.result in
+    let fits = next (goal.at.copy_from_slice-requires c).After-split_at_mut-front in
+    length-take-le n c.split_at_mut-front.result.1.now (omega (arith, fits, c.split_at_mut-front.ensures.back_len)) ∙ sym (length-take-le n c.split_at_mut-front.result.0.now (omega (arith, fits, c.split_at_mut-front.ensures.front_len)))
 
 pub loop-done-preserved : goal.loop-done-preserved
 loop-done-preserved c =

@@ -1,14 +1,14 @@
-use Rattle.std.proofs.Common.{◌≡◌, ◌≢◌, ◌≤◌, ◌+◌, ◌*◌, ◌/◌, ◌<◌, pos, length, arith, ap, ◌∙◌, below_more}
+use Rattle.std.proofs.Common.{◌≡◌, ◌≤◌, ◌+◌, ◌*◌, ◌/◌, ◌<◌, pos, length, arith, ap, ◌∙◌}
 use Rattle.std.specs.Int.{w128, cast_signed, cast_unsigned}
 use Rattle.cu_num.specs.Dtype.{size_of}
 use Rattle.cu_num.specs.Scalar.{op2}
-use Rattle.cu_num.specs.Element.{bytes_at, element_at, element_bytes}
+use Rattle.cu_num.specs.Element.{element_at}
 use Rattle.cu_num.specs.declared.layout.Endian.TheVariants.{Little}
-use Rattle.cu_num.proofs.ElementBytes.{bytes_at-written_at_same, bytes_at-written_at_other, length-written_at, length-element_bytes}
-use Rattle.cu_kern.specs.Strips.{strip, strip_element, call_type}
+use Rattle.cu_kern.specs.Strips.{strip, strip_element, call_type, value_along}
 use Rattle.cu_kern.specs.declared.calls.Call.TheVariants.{Two}
 use Rattle.cu_lane.proofs.Words.{kept}
 use Rattle.cu_kern.proofs.Parts.{element_fits}
+use Rattle.cu_kern.proofs.StripResults.{saved_more}
 use Rattle.cu_kern.proofs.reciprocals.divide_each.Goals as goal
 
 pub load-requires : goal.load-requires
@@ -21,28 +21,16 @@ load-requires c =
 
 pub loop-at-preserved : goal.loop-at-preserved
 loop-at-preserved c =
-    let f = c.args.f in
-    let t = c.args.t in
-    let r = call_type (Two c.args.f c.args.t) in
+    let call = Two c.args.f c.args.t in
+    let x = strip c.args.x.now 1 in
+    let y = strip c.args.y.now 0 in
     let at = c.loop-at.at in
-    let out = c.loop-at.out in
-    let same = c.loop-at.invariant.same_length in
-    let size : c.size.result ≡ size_of r = c.size.ensures ∙ ap size_of c.result2-r.ensures in
-    let fits : at * size_of r + size_of r ≤ length out = rw same (element_fits r at c.size.result (length c.args.out.now) size c.loop-at-test.true) in
-    let written = rw c.result2-r.ensures at c.save.ensures in
+    let size : c.size.result ≡ size_of (call_type call) = c.size.ensures ∙ ap size_of c.result2-r.ensures in
+    let fits : at * size_of (call_type call) + size_of (call_type call) ≤ length c.loop-at.out = rw c.loop-at.invariant.same_length (element_fits (call_type call) at c.size.result (length c.args.out.now) size c.loop-at-test.true) in
     let one : at ≡ 1 * at = omega arith in
-    let first = kept c.load.result (record { sfits = c.load.type_inv }) ∙ c.load.ensures.value ∙ ap (element_at Little t c.args.x.now) one in
-    let second : pos c.args.by.divisor ≡ strip_element t (strip c.args.y.now 0) at = c.requires.divisor ∙ ap (element_at Little t c.args.y.now) (omega arith) in
-    let value : cast_signed w128 (cast_unsigned w128 c.value_by-value.result) ≡ op2 f t (strip_element t (strip c.args.x.now 1) at) (strip_element t (strip c.args.y.now 0) at) =
-    kept c.value_by-value.result (record { sfits = c.value_by-value.type_inv }) ∙ c.value_by-value.ensures ∙ (λ i. op2 f t (first i) (second i)) in
-    record {
-      same_length = ap length written ∙ (length-written_at _ r out at _ fits ∙ same);
-      done = below_more _ _
-          (λ k b. let apart : k ≢ at = omega arith in
-          ap (λ all. bytes_at r all k) written
-          ∙ bytes_at-written_at_other r out _ at k apart (length-element_bytes _ r _) fits
-          ∙ c.loop-at.invariant.done k b)
-          (ap (λ all. bytes_at r all at) written
-          ∙ bytes_at-written_at_same r out _ at (length-element_bytes _ r _) fits
-          ∙ ap (element_bytes Little r) value);
-    }
+    let first = kept c.load.result (record { sfits = c.load.type_inv }) ∙ c.load.ensures.value ∙ ap (element_at Little c.args.t c.args.x.now) one in
+    let second : pos c.args.by.divisor ≡ strip_element c.args.t y at = c.requires.divisor ∙ ap (element_at Little c.args.t c.args.y.now) (omega arith) in
+    let value : cast_signed w128 (cast_unsigned w128 c.value_by-value.result) ≡ value_along call x y y at =
+    kept c.value_by-value.result (record { sfits = c.value_by-value.type_inv }) ∙ c.value_by-value.ensures ∙ (λ i. op2 c.args.f c.args.t (first i) (second i)) in
+    let more = saved_more c.result2-r.result (call_type call) c.loop-at.out c.save.new.bytes at _ (value_along call x y y) c.result2-r.ensures fits c.save.ensures value c.loop-at.invariant.done in
+    record { same_length = more.0 ∙ c.loop-at.invariant.same_length; done = more.1 }

@@ -1,4 +1,4 @@
-use Rattle.std.proofs.Common.{length, refl, ap, ◌∙◌, subst, sym, ℕ, Some}
+use Rattle.std.proofs.Common.{length, refl, ◌∙◌, subst, sym, ℕ}
 use Rattle.cu_num.specs.Dtype.{size_of}
 use Rattle.cu_num.specs.declared.layout.Endian.TheVariants.{Little}
 use Rattle.cu_num.specs.declared.types.Dtype.TheVariants.{Bool}
@@ -13,19 +13,18 @@ call_strips-requires-clause-arguments c =
     let t = c.args.t in
     let n = element_count t c.args.earlier.range.count (size_of t) (length c.args.out.now) refl c.requires.room in
     let s = c.in-Some.choice in
-    let x = c.in_type-x.result in
-    let y = c.in_type-y.result in
+    let x = c.in-Some-found_in_type.x in
+    let y = c.in-Some-found_in_type-2.y in
     let S : ℕ → Type 0 = HasPlaces Bool (strip s.bytes.now s.step) in
     let X : ℕ → Type 0 = HasPlaces t (strip x.bytes.now x.step) in
     let Y : ℕ → Type 0 = HasPlaces t (strip y.bytes.now y.step) in
-    record { first = subst S (sym n) c.in-Some.ensures.places; second = subst X (sym n) c.in_type-x.ensures.places; third = subst Y (sym n) c.in_type-y.ensures.places }
+    record { first = subst S (sym n) c.in-Some.ensures.places; second = subst X (sym n) c.in-Some-found_in_type.ensures.places; third = subst Y (sym n) c.in-Some-found_in_type-2.ensures.places }
 
 pub returns : goal.returns
 returns c met k results room stand =
     let t = c.args.t in
-    let s = c.in-Some.choice in
     let same = c.call_strips.auto.out in
     let below = element_below t k c.args.earlier.range.count (length c.call_strips.new.out) (same ∙ c.requires.room) room in
     select_computed t c.call_strips.new.out k c.args.steps.0 c.args.steps.1 c.args.steps.2 results _ _ _ (c.in-Some.ensures.elements k results below stand)
-    (c.in-Some-found.ensures.elements k results below stand ∙ ap Some (sym (c.in_type-x.ensures.same k below))) (c.in-Some-found-2.ensures.elements k results below stand ∙ ap Some (sym (c.in_type-y.ensures.same k below)))
+    (c.in-Some-found_in_type.ensures.elements k results below stand) (c.in-Some-found_in_type-2.ensures.elements k results below stand)
     (InRange-element_at Little t _ _) (InRange-element_at Little t _ _) (c.call_strips.ensures k room)

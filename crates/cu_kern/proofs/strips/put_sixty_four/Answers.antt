@@ -5,7 +5,8 @@ use Rattle.cu_num.specs.Element.{element_bytes}
 use Rattle.cu_num.specs.declared.layout.Endian.TheVariants.{Little}
 use Rattle.cu_kern.specs.declared.calls.Call.TheVariants.{Two}
 use Rattle.cu_kern.specs.Strips.{strip, value_along, HasPart}
-use Rattle.cu_kern.proofs.StripResults.{part_more, length-put_mid}
+use Rattle.cu_kern.proofs.Parts.{length-put_mid}
+use Rattle.cu_kern.proofs.StripResults.{part_more}
 use Rattle.cu_kern.proofs.strips.put_sixty_four.Goals as goal
 
 pub loop-quarter-preserved : goal.loop-quarter-preserved

@@ -7,12 +7,12 @@ use Rattle.cu_num.proofs.ElementBytes.{element_at-written_at_same}
 use Rattle.cu_num.proofs.Wrapped.{wrapped_in_range}
 use Rattle.cu_lane.proofs.Words.{kept}
 use Rattle.cu_kern.proofs.Parts.{size_most}
-use Rattle.cu_kern.proofs.regions.spelled.Goals as goal
+use Rattle.cu_kern.proofs.arguments.spelled.Goals as goal
 
 pub returns : goal.returns
-returns c =
+returns c range =
     let most : size_of c.args.t ≤ 8 = size_most c.args.t in
     ap (λ bytes. element_at Little c.args.t bytes 0) c.save.ensures
     ∙ element_at-written_at_same Little c.args.t _ 0 _ (omega arith)
     ∙ ap (wrapped c.args.t) (kept c.args.x c.ranges.x)
-    ∙ wrapped_in_range c.args.t c.args.x c.requires
+    ∙ wrapped_in_range c.args.t c.args.x range

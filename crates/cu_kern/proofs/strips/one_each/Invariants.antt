@@ -1,7 +1,7 @@
 use Rattle.std.proofs.Common.{◌≡◌, length}
 use Rattle.cu_kern.specs.Strips.{strip, ResultsBelow}
 use Rattle.cu_kern.specs.declared.calls.Call.TheVariants.{One}
-use Rattle.cu_kern.proofs.strips.one_from.Given as goal
+use Rattle.cu_kern.proofs.strips.one_each.Given as goal
 
 abbrev pub invariant-loop-at : goal.invariant-loop-at
 invariant-loop-at l = record {
