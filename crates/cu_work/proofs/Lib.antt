@@ -3,6 +3,7 @@ pub mod Asking
 pub mod Worlds
 pub mod AloneTurns
 pub mod Sums
+pub mod Pushed
 pub mod Tries
 pub mod AloneTries
 pub mod EndedCalls

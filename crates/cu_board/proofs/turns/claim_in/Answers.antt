@@ -3,6 +3,17 @@ use Rattle.cu_board.proofs.Tables.{DoneLaw, claim_grown}
 use Rattle.cu_board.proofs.States.{claim_keeps, sees_claimed, sees_more, joined_seen, halted_cause, on_run, not_run, yard_of}
 use Rattle.cu_board.proofs.turns.claim_in.Goals as goal
 
+pub claim-claim-requires : goal.claim-claim-requires
+claim-claim-requires g c =
+    let t = c.args.state.now.table in
+    c.own_law.ensures.rests t.settings t.done t.history t.state c.args.number c.requires.legal c.requires.resting
+
+pub returns-in-Run-clause-claimed : goal.returns-in-Run-clause-claimed
+returns-in-Run-clause-claimed g c = c.claim-claim.ensures.answer
+
+pub returns-in_default-clause-claimed : goal.returns-in_default-clause-claimed
+returns-in_default-clause-claimed g c = c.claim-claim.ensures.answer
+
 pub returns-in-Run-clause-grown : goal.returns-in-Run-clause-grown
 returns-in-Run-clause-grown g c =
     let t = c.args.state.now.table in

@@ -2,6 +2,14 @@ use Rattle.cu_board.proofs.Tables.{report_grown}
 use Rattle.cu_board.proofs.States.{report_keeps, yard_of}
 use Rattle.cu_board.proofs.turns.report_in.Goals as goal
 
+pub report-requires : goal.report-requires
+report-requires g c =
+    let t = c.args.state.now.table in
+    c.own_law.ensures.runs t.settings t.done t.history t.state c.args.number c.args.op c.args.task c.requires.legal c.requires.running
+
+pub returns-clause-reported : goal.returns-clause-reported
+returns-clause-reported g c = c.report.ensures.reported
+
 pub returns-clause-grown : goal.returns-clause-grown
 returns-clause-grown g c =
     let t = c.args.state.now.table in

@@ -1,17 +1,21 @@
-use Rattle.std.proofs.Common.{◌≡◌, ◌∙◌, sym, ap, List, ℕ, ◌+◌, length, None, arith, rules, subst}
+use Rattle.std.proofs.Common.{◌≡◌, ◌<◌, ◌≤◌, ◌∙◌, refl, sym, ap, List, ℕ, suc, ◌+◌, length, None, arith, rules, subst}
 use Rattle.cu_board.specs.Views.{SeatAt}
 use Rattle.cu_store.specs.Yard.{uncounted}
 use Rattle.cu_history.specs.declared.entry.Entry.{Entry}
 use Rattle.cu_history.specs.History.{own}
 use Rattle.cu_table.specs.Own.{left_running}
-use Rattle.std.specs.Prelude.{All}
+use Rattle.std.specs.Prelude.{All, vec_len}
 use Rattle.std.proofs.lemmas.List.Elements.{All-head, All-tail, All-push}
 use Rattle.cu_work.specs.Rooms.{RoomSizes, rooms_of}
-use Rattle.cu_work.specs.Workers.{IsWorkerOf, AreWorkersOf, AreNumbered}
+use Rattle.cu_work.specs.Workers.{IsWorkerOf, AreWorkersOf, AreNumbered, IsRootOf}
 use Rattle.cu_work.specs.declared.worker.Worker.{Worker}
 use Rattle.cu_work.specs.declared.outcome.Outcome.TheVariants.{Lacked}
 use Rattle.cu_work.proofs.Crews.{crew_snoc, numbered_snoc}
 use Rattle.cu_work.proofs.crew.hire.Goals as goal
+
+-- while a room is left the list has a place for its worker
+room_left : (number len cap rest all more : ℕ) → number ≡ len → number + rest ≡ all → all ≤ cap → rest ≡ suc more → len < cap
+room_left number len cap rest all more is total within step = omega arith
 
 pub loop-room-preserved : goal.loop-room-preserved
 loop-room-preserved g c =
@@ -83,3 +87,52 @@ returns-clause-numbers g c = c.loop-room.invariant.9
 
 pub returns-clause-refused : goal.returns-clause-refused
 returns-clause-refused g c = tt
+
+pub returns-clause-passes : goal.returns-clause-passes
+returns-clause-passes g c = c.loop-room.invariant.13
+
+pub returns-clause-workers : goal.returns-clause-workers
+returns-clause-workers g c =
+    let i = c.loop-room.invariant in
+    let none = c.in-None.ensures.steps.0 in
+    let left = c.loop-room.room-iterator.rest.ok.0 in
+    let total = i.3 in
+    let all : c.loop-room.number ≡ vec_len c.args.rooms = omega (arith, none, left, total) in
+    let len = c.loop-room.workers.ok.0 in (
+      i.8,
+      omega (arith, i.2, all, len),
+      subst (λ (n : ℕ). IsRootOf c.args.board.now.board n c.loop-room.root) all i.6,
+    )
+
+pub push_reserved-requires : goal.push_reserved-requires
+push_reserved-requires g c =
+    let i = c.loop-room.invariant in
+    let step = ap length c.in-Some.ensures.steps.0 in
+    room_left _ _ _ _ _ _ i.2 i.3 i.5 step
+
+pub overflow_add-number : goal.overflow_add-number
+overflow_add-number g c =
+    let i = c.loop-room.invariant in
+    let step = ap length c.in-Some.ensures.steps.0 in
+    omega (arith, i.3, i.4, step)
+
+pub returns-in_default-clause-own : goal.returns-in_default-clause-own
+returns-in_default-clause-own g c = c.requires.own
+
+pub returns-in_default-clause-same : goal.returns-in_default-clause-same
+returns-in_default-clause-same g c = refl
+
+pub returns-in_default-clause-workers : goal.returns-in_default-clause-workers
+returns-in_default-clause-workers g c = tt
+
+pub returns-in_default-clause-numbers : goal.returns-in_default-clause-numbers
+returns-in_default-clause-numbers g c = tt
+
+pub returns-in_default-clause-passes : goal.returns-in_default-clause-passes
+returns-in_default-clause-passes g c = tt
+
+pub returns-in_default-clause-refused : goal.returns-in_default-clause-refused
+returns-in_default-clause-refused g c = (refl, refl)
+
+pub returns-in_default-clause-rooms : goal.returns-in_default-clause-rooms
+returns-in_default-clause-rooms g c = λ p given. tt

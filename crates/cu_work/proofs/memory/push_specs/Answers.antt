@@ -1,5 +1,4 @@
-use Rattle.std.proofs.Common.{◌≡◌, ℕ, suc, ◌+◌, List, ◌∷◌, [], ◌++◌, map, ap, sym, ◌∙◌, cond, Bool, append_assoc, arith}
-use Rattle.std.specs.Prelude.{not}
+use Rattle.std.proofs.Common.{◌≡◌, ℕ, suc, ◌+◌, List, ◌∷◌, [], ◌++◌, map, ap, sym, ◌∙◌, append_assoc, arith}
 use Rattle.std.proofs.lemmas.List.{map-append}
 use Rattle.cu_grid.specs.Grid.{coordinate_of}
 use Rattle.cu_store.specs.declared.yard.Spec.{Spec}
@@ -7,6 +6,7 @@ use Rattle.cu_op.specs.Arrays.{grid_at}
 use Rattle.cu_op.specs.Cells.{cell}
 use Rattle.cu_op.specs.declared.layout.ArrayInfo.{ArrayInfo}
 use Rattle.cu_work.specs.Shared.{spec_of, chunks_below}
+use Rattle.cu_work.proofs.Pushed.{pushed}
 use Rattle.cu_work.proofs.memory.push_specs.Goals as goal
 
 -- one chunk more
@@ -21,6 +21,5 @@ more arrays a n old specs new s before is same =
 pub loop-number-preserved : goal.loop-number-preserved
 loop-number-preserved c =
     more c.args.plan.now.arrays c.args.array c.loop-number.number c.args.specs.now.items c.loop-number.specs.items c.push.new.self.items c.spec_of.result c.loop-number.invariant
-    (c.push.ensures.items ∙ ap (λ (b : Bool). cond b (c.loop-number.specs.items ++ c.spec_of.result ∷ []) c.loop-number.specs.items)
-    (c.is_err.ensures.negation ∙ ap not c.if-is_err.false))
+    (pushed _ c.is_err.result c.loop-number.specs.items c.push.new.self.items c.spec_of.result c.push.ensures.items c.is_err.ensures.negation c.if-is_err.false)
     (c.spec_of.ensures ∙ cc)

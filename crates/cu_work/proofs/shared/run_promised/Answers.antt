@@ -1,15 +1,35 @@
-use Rattle.std.proofs.Common.{Bool, IsTrue, ◌+◌, ap, sym, ◌∙◌, subst, arith}
+use Rattle.std.proofs.Common.{◌≡◌, ◌≤◌, ℕ, Bool, IsTrue, All, length, ◌+◌, ◌*◌, ap, sym, ◌∙◌, refl, subst, arith}
+use Rattle.std.specs.Prelude.{min}
+use Rattle.std.proofs.Math.Nat.{mul-add, mul_comm}
+use Rattle.std.proofs.lemmas.List.{length-replicate}
+use Rattle.std.proofs.lemmas.List.Elements.{All-replicate}
+use Rattle.cu_store.specs.Faults.{last_count}
+use Rattle.cu_work.specs.Calls.{calls_of_tasks}
+use Rattle.cu_work.specs.Rooms.{RoomSizes, rooms_of}
 use Rattle.cu_store.specs.Share.{Lent, KeysDiffer, MayShare, IsShared, MayGiveBack, PutPromised, HoldsSeen}
 use Rattle.cu_store.specs.Steps.{Steps}
 use Rattle.cu_state.specs.Pieces.{chunks_alone}
 use Rattle.cu_table.specs.Machine.{Machine}
 use Rattle.cu_table.specs.Table.{TableView}
-use Rattle.cu_work.specs.Alone.{HasSeenDone}
+use Rattle.cu_op.specs.PlanView.{PlanView}
+use Rattle.cu_work.specs.Alone.{HasSeenDone, IsDecided}
 use Rattle.cu_work.specs.Shared.{IfLacked}
 use Rattle.cu_work.proofs.PlanChunks.{chunks_apart, specs_differ}
 use Rattle.cu_work.proofs.SharedRuns.{lent_is, may_share, serves, seen_first, may_give_back, shared_step, shared_done, shared_bad, shared_input, shared_lacked}
 use Rattle.cu_store.proofs.Steps.{steps_none, steps_wider}
 use Rattle.cu_work.proofs.shared.run_promised.Goals as goal
+
+-- the calls to share, and those of a pass that began with none
+few_calls : (start mid new first last tries tasks : ℕ) → mid ≤ start + tries → first ≡ 0 → last ≤ first + tasks → new ≤ mid + last → new ≤ start + tries + tasks
+few_calls start mid new first last tries tasks shared none ran back = omega arith
+
+-- ... where each task is tried as often as the keys are shared
+few_tries : (start new tries most : ℕ) → new ≤ start + tries + tries * most → new ≤ start + (1 + most) * tries
+few_tries start new tries most few = let e : (1 + most) * tries ≡ tries * 1 + tries * most = mul_comm (1 + most) tries ∙ mul-add tries 1 most in omega (arith, e, few)
+
+-- the failures of the tasks are counted by the depot
+failures_counted : (n start mid new first last : ℕ) → start ≤ mid → first ≡ 0 → min (first + n) last_count ≤ last → new ≡ min (mid + last) last_count → min (start + n) last_count ≤ new
+failures_counted n start mid new first last shared none rose back = omega arith
 
 pub share_tries-requires-clause-apart : goal.share_tries-requires-clause-apart
 share_tries-requires-clause-apart g c κs within =
@@ -182,3 +202,53 @@ returns-in-Err-clause-refused g c = c.share_tries.ensures.step
 
 pub returns-in-Err-clause-cause : goal.returns-in-Err-clause-cause
 returns-in-Err-clause-cause g c = c.in-Err.ensures.cause
+
+pub work-end-requires-clause-own : goal.work-end-requires-clause-own
+work-end-requires-clause-own g c κs within = c.in-Ok.ensures.own
+
+pub work-end-requires-clause-some : goal.work-end-requires-clause-some
+work-end-requires-clause-some g c κs within = c.requires.workers
+
+pub work-end-requires-clause-count : goal.work-end-requires-clause-count
+work-end-requires-clause-count g c κs within =
+    let n = ap length c.requires.memory.rooms ∙ length-replicate c.args.options.now.workers (rooms_of c.args.plan.now) in
+    omega (arith, n, c.args.memory.rooms.ok.0)
+
+pub work-end-requires-clause-rooms : goal.work-end-requires-clause-rooms
+work-end-requires-clause-rooms g c κs within = subst (All (λ (r : RoomSizes). r ≡ rooms_of c.args.plan.now)) (sym c.requires.memory.rooms)
+    (All-replicate (λ (r : RoomSizes). r ≡ rooms_of c.args.plan.now) c.args.options.now.workers (rooms_of c.args.plan.now) refl)
+
+pub work-end-requires-clause-plan : goal.work-end-requires-clause-plan
+work-end-requires-clause-plan g c κs within = ap (λ (t : TableView). t.settings.plan) c.requires.memory.table
+
+pub work-end-requires-clause-fresh : goal.work-end-requires-clause-fresh
+work-end-requires-clause-fresh g c κs within = ap (λ (t : TableView). t.history) c.requires.memory.table
+
+pub unshare-requires-clause-own : goal.unshare-requires-clause-own
+unshare-requires-clause-own g c = c.work-end.ensures.own
+
+pub returns-in-Ok-clause-driven : goal.returns-in-Ok-clause-driven
+returns-in-Ok-clause-driven g c =
+    let w = c.work-end.ensures.worked in
+    record {
+      settings = w.settings;
+      done = w.done;
+      legal = w.legal;
+      resting = w.resting;
+      decided = subst (λ (p : PlanView). IsDecided p c.work-end.result.table.state c.work-end.result.outcome) (sym (ap (λ (t : TableView). t.settings.plan) c.requires.memory.table)) c.work-end.ensures.decided;
+      rose = failures_counted _ _ _ _ _ _ c.share_tries.ensures.step.count c.in-Ok.ensures.shared.faults w.rose c.unshare.ensures.counts.faults;
+    }
+
+pub returns-in-Ok-clause-tries : goal.returns-in-Ok-clause-tries
+returns-in-Ok-clause-tries g c = λ one m most.
+    few_calls _ _ _ _ _ _ _ c.share_tries.ensures.step.calls.1 c.in-Ok.ensures.shared.calls (c.work-end.ensures.calls one m most) c.unshare.ensures.step.calls.1
+
+pub returns-in-Ok-clause-calls : goal.returns-in-Ok-clause-calls
+returns-in-Ok-clause-calls g c = λ one.
+    few_tries _ _ (c.args.options.now.retries + 1) (calls_of_tasks c.args.plan.now)
+    (few_calls _ _ _ _ _ _ _ c.share_tries.ensures.step.calls.1 c.in-Ok.ensures.shared.calls
+    (subst (λ (r : ℕ). (g.D.Yard.Yard.knows c.work-end.new.pass).calls ≤ (g.D.Yard.Yard.knows c.in-Ok.pass).calls + (r + 1) * calls_of_tasks c.args.plan.now) (ap (λ (t : TableView). t.settings.retries) c.requires.memory.table) (c.work-end.ensures.tries one))
+    c.unshare.ensures.step.calls.1)
+
+pub returns-in-Err-clause-calls : goal.returns-in-Err-clause-calls
+returns-in-Err-clause-calls g c = λ one. few_tries _ _ (c.args.options.now.retries + 1) (calls_of_tasks c.args.plan.now) (omega (arith, c.share_tries.ensures.step.calls.1))

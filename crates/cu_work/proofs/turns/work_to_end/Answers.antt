@@ -81,6 +81,14 @@ returns-in-Halted-clause-ended g c =
     (subst (λ (n : ℕ). IsResting n c.loop.worker.seat.view.front) (sym i.2.number_is) i.2.resting)
     (c.ended_law.ensures.fault turn.before.settings turn.before.done turn.before.history turn.before.state c.in-Halted.fault turn.found.legal turn.answer.1) c.halt_outcome.ensures).1
 
+pub returns-in-Halted-clause-worker : goal.returns-in-Halted-clause-worker
+returns-in-Halted-clause-worker g c =
+    let i = c.loop.invariant in
+    let turn = c.in-Halted.ensures.claimed in
+    worker_after c.claim.new.seat c.claim.new.pass i.2 c.claim.ensures.own c.claim.ensures.board (same_after c.args.board.now.table c.loop.worker.seat.view c.claim.new.seat.view (claim.Halted c.in-Halted.fault) (g.Y.Yard.knows c.claim.new.pass) turn)
+    (halted_after c.args.board.now.table c.loop.worker.seat.view c.claim.new.seat.view c.in-Halted.fault c.halt_outcome.result (g.Y.Yard.knows c.claim.new.pass) turn (own_rests i.2)
+    (c.ended_law.ensures.fault turn.before.settings turn.before.done turn.before.history turn.before.state c.in-Halted.fault turn.found.legal turn.answer.1) c.halt_outcome.ensures).0
+
 pub returns-in-Finished-clause-later : goal.returns-in-Finished-clause-later
 returns-in-Finished-clause-later g c = later_then (g.Y.Yard.serves c.args.yard.now).specs (g.Y.Yard.knows c.args.worker.now.pass) (g.Y.Yard.knows c.loop.worker.pass) (g.Y.Yard.knows c.claim.new.pass) c.loop.invariant.5 (later_any (g.Y.Yard.serves c.args.yard.now).specs (g.Y.Yard.knows c.loop.worker.pass) (g.Y.Yard.knows c.claim.new.pass) c.in-Finished.ensures.later)
 
