@@ -1,11 +1,13 @@
 -- Copies of operands, one operand after another.
-use Rattle.std.proofs.Common.{◌≡◌, ℕ, zero, suc, ◌<◌, ◌≤◌, true, false, List, [], ◌∷◌, ◌++◌, All, length, drop, filter, get_or, min, ◌⊎◌, refl, ap, sym, ◌∙◌, subst, inl, inr, arith}
-use Rattle.std.proofs.lemmas.List.{append-nil}
+use Rattle.std.proofs.Common.{◌≡◌, ℕ, zero, suc, ◌+◌, ◌<◌, ◌≤◌, true, false, List, [], ◌∷◌, ◌++◌, All, length, drop, filter, get_or, min, ◌⊎◌, refl, ap, sym, ◌∙◌, subst, inl, inr, arith}
+use Rattle.std.proofs.lemmas.List.{append-nil, append_assoc}
 use Rattle.std.proofs.lemmas.List.Elements.{All-head, All-tail}
 use Rattle.std.proofs.lemmas.Bool.{cases_Bool, cases_lt}
 use Rattle.cu_copy.specs.Copies.{is_misaligned}
 use Rattle.cu_copy.specs.declared.copies.Rechunk.{Rechunk}
-use Rattle.cu_lower_reduce.specs.Copies.{aligned_places, aligned_steps, IsStaged}
+use Rattle.cu_lower_reduce.specs.Copies.{aligned_places, aligned_steps, operand_place, operand_steps, IsStaged}
+use Rattle.cu_lower_reduce.specs.Steps.{all_made}
+use Rattle.cu_lower_reduce.proofs.Operands.{length-made}
 use Rattle.cu_lower_reduce.specs.declared.copy.CopySetting.{CopySetting}
 use Rattle.cu_lower_reduce.specs.declared.step.Step.{Step}
 
@@ -69,3 +71,41 @@ pub last_places : (s : CopySetting) (sources : List ℕ) (wanted : List Rechunk)
     → places ++ aligned_places s (drop j sources) (drop j wanted) ≡ whole → places ≡ whole
 last_places s sources wanted j places whole past known =
     sym (append-nil places) ∙ ap (λ xs. places ++ xs) (sym (no_places s (drop j sources) (drop j wanted) (gone sources wanted j past))) ∙ known
+
+-- One operand more: its copies, from the next array on, and the array that is read in its place. What is behind it begins after its copies.
+abbrev after_operand : CopySetting → ℕ → ℕ → Rechunk → ℕ
+after_operand s next a r = next + length (all_made (operand_steps (from_array s next) a r))
+
+pub more_steps : (s : CopySetting) (sources : List ℕ) (wanted : List Rechunk) (j next after a : ℕ) (r : Rechunk) (steps more whole : List Step)
+    → drop j sources ≡ a ∷ drop (j + 1) sources → drop j wanted ≡ r ∷ drop (j + 1) wanted
+    → more ≡ steps ++ operand_steps (from_array s next) a r → after ≡ after_operand s next a r
+    → steps ++ aligned_steps (from_array s next) (drop j sources) (drop j wanted) ≡ whole
+    → more ++ aligned_steps (from_array s after) (drop (j + 1) sources) (drop (j + 1) wanted) ≡ whole
+more_steps s sources wanted j next after a r steps more whole source want added moved known =
+    ap (λ (xs : List Step). xs ++ aligned_steps (from_array s after) (drop (j + 1) sources) (drop (j + 1) wanted)) added
+    ∙ ap (λ n. (steps ++ operand_steps (from_array s next) a r) ++ aligned_steps (from_array s n) (drop (j + 1) sources) (drop (j + 1) wanted)) moved
+    ∙ append_assoc steps (operand_steps (from_array s next) a r) (aligned_steps (from_array s (after_operand s next a r)) (drop (j + 1) sources) (drop (j + 1) wanted))
+    ∙ ap (λ rs. steps ++ aligned_steps (from_array s next) (a ∷ drop (j + 1) sources) rs) (sym want)
+    ∙ ap (λ ins. steps ++ aligned_steps (from_array s next) ins (drop j wanted)) (sym source)
+    ∙ known
+
+pub more_places : (s : CopySetting) (sources : List ℕ) (wanted : List Rechunk) (j next after a : ℕ) (r : Rechunk) (places more whole : List ℕ)
+    → drop j sources ≡ a ∷ drop (j + 1) sources → drop j wanted ≡ r ∷ drop (j + 1) wanted
+    → more ≡ places ++ operand_place (from_array s next) a r ∷ [] → after ≡ after_operand s next a r
+    → places ++ aligned_places (from_array s next) (drop j sources) (drop j wanted) ≡ whole
+    → more ++ aligned_places (from_array s after) (drop (j + 1) sources) (drop (j + 1) wanted) ≡ whole
+more_places s sources wanted j next after a r places more whole source want added moved known =
+    ap (λ (xs : List ℕ). xs ++ aligned_places (from_array s after) (drop (j + 1) sources) (drop (j + 1) wanted)) added
+    ∙ ap (λ n. (places ++ operand_place (from_array s next) a r ∷ []) ++ aligned_places (from_array s n) (drop (j + 1) sources) (drop (j + 1) wanted)) moved
+    ∙ append_assoc places (operand_place (from_array s next) a r ∷ []) (aligned_places (from_array s (after_operand s next a r)) (drop (j + 1) sources) (drop (j + 1) wanted))
+    ∙ ap (λ rs. places ++ aligned_places (from_array s next) (a ∷ drop (j + 1) sources) rs) (sym want)
+    ∙ ap (λ ins. places ++ aligned_places (from_array s next) ins (drop j wanted)) (sym source)
+    ∙ known
+
+-- the arrays that are made stay those of the steps
+pub more_made : (s : CopySetting) (first next after a : ℕ) (r : Rechunk) (steps more : List Step) → more ≡ steps ++ operand_steps (from_array s next) a r → after ≡ after_operand s next a r
+    → next ≡ first + length (all_made steps) → after ≡ first + length (all_made more)
+more_made s first next after a r steps more added moved known =
+    let made : length (all_made more) ≡ length (all_made steps) + length (all_made (operand_steps (from_array s next) a r)) =
+    ap (λ (xs : List Step). length (all_made xs)) added ∙ length-made steps (operand_steps (from_array s next) a r) in
+    omega (arith, made, moved, known)

@@ -4,6 +4,7 @@ mod Examples
 pub mod FirstLive
 pub mod LiveNodes
 pub mod LiveSteps
+pub mod LoopSteps
 pub mod OperandsWithin
 pub mod PartialChunks
 pub mod SoughtAxes

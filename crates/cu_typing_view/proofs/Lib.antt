@@ -5,6 +5,7 @@ mod Examples
 pub mod Exceeded
 pub mod HeldElements
 pub mod IndexSizes
+mod IndexSteps
 pub mod MarkedAxes
 pub mod NewShapes
 pub mod NumbersFit
