@@ -12,7 +12,9 @@ use Rattle.cu_op.specs.Layout.{layout_view}
 use Rattle.cu_v2.specs.declared.fault.V2Fault.{V2Fault}
 use Rattle.cu_v2.specs.declared.fault.V2Refused.{V2Refused}
 use Rattle.cu_v2.specs.Fault.{ZarrayFault, no_object, over_length, v2_view, IfV2Fault}
+use Rattle.cu_v2.specs.ReadSteps.{zarray_by_steps}
 use Rattle.cu_v2.specs.Zarray.{zarray_layout, zarray_in}
+use Rattle.cu_v2.proofs.ReadSteps.{by_steps}
 
 longer : (m n : ℕ) → n < m → nat_le m n ≡ false
 longer m n h = grind arith
@@ -36,6 +38,9 @@ read_no_value bytes short utf8 none = rw (le-leb _ _ short, is_utf8-from_IsUtf8 
 pub read_value : (bytes : List ℕ) (d : Data) → length bytes ≤ 1048576 → IsUtf8 bytes → read bytes ≡ Some d → zarray_layout bytes ≡ zarray_in d
 unfolding zarray_layout
 read_value bytes d short utf8 value = rw (le-leb _ _ short, is_utf8-from_IsUtf8 bytes utf8, value) refl
+
+pub read_by_steps : (bytes : List ℕ) (d : Data) → length bytes ≤ 1048576 → IsUtf8 bytes → read bytes ≡ Some d → zarray_layout bytes ≡ zarray_by_steps d
+read_by_steps bytes d short utf8 value = read_value bytes d short utf8 value ∙ by_steps d
 
 pub answered_ok : (said : Result ArrayLayout ZarrayFault) (found : Result Layout V2Fault) (result : Result Layout V2Refused)
     → result ≡ result_map_both (λ l. l) (λ f. V2Refused.Fault f) found → result_map_both layout_view v2_view found ≡ said

@@ -1,11 +1,12 @@
 //! Reading a `.zarray`.
-ghost use Rattle.std.specs.Prelude.{◌≡◌, ◌≤◌, ◌&&◌, codes, Ok, Err, IfOk, IfErr, Some, None, length};
+ghost use Rattle.std.specs.Prelude.{◌≡◌, ◌≤◌, ◌&&◌, codes, Ok, Err, IfOk, IfErr, Some, None, option_map, length};
 ghost use Rattle.std.specs.Result.{result_map_both};
 ghost use Rattle.serde_json.specs.Read.{read};
 ghost use Rattle.serde_json.specs.View.{view};
 ghost use Rattle.cu_op.specs.Layout.{layout_view};
 ghost use Rattle.cu_v2.specs.Fault.{v2_view, no_member, IfV2Fault};
-ghost use Rattle.cu_v2.specs.Zarray.{held_member, zarray_in, zarray_layout};
+ghost use Rattle.cu_v2.specs.ReadSteps.{held_view, held_members, held_layout, zarray_by_steps};
+ghost use Rattle.cu_v2.specs.Zarray.{held_member, zarray_layout};
 
 use crate::fault::{V2Fault, V2Refused};
 use crate::members::{element_in, fill_or_null, grid_in, is_uncoded, separator_in};
@@ -78,15 +79,21 @@ fn member<'v>(value: &'v Value, name: &str) -> Result<&'v Value, V2Fault>
     }
 }
 
-fn layout_in(value: &Value) -> Result<Layout, V2Fault>
-    ensures { result_map_both layout_view v2_view result ≡ zarray_in (view value.now) }
+/// The members that have to be there.
+#[derive(Clone, Copy)]
+struct HeldMembers<'v> {
+    shape: &'v Value,
+    chunks: &'v Value,
+    dtype: &'v Value,
+    compressor: &'v Value,
+    fill_value: &'v Value,
+    order: &'v Value,
+    filters: &'v Value,
+}
+
+fn held_in<'v>(value: &'v Value) -> Result<HeldMembers<'v>, V2Fault>
+    ensures { result_map_both held_view v2_view result ≡ held_members (view value.now) }
 {
-    if !value.is_object() {
-        return Err(V2Fault::Json);
-    }
-    if !is_number(value.get("zarr_format"), 2) {
-        return Err(V2Fault::Format);
-    }
     let shape = member(value, "shape")?;
     let chunks = member(value, "chunks")?;
     let dtype = member(value, "dtype")?;
@@ -94,16 +101,30 @@ fn layout_in(value: &Value) -> Result<Layout, V2Fault>
     let fill_value = member(value, "fill_value")?;
     let order = member(value, "order")?;
     let filters = member(value, "filters")?;
-    let (dtype, endian) = element_in(dtype).ok_or(V2Fault::BadDtype)?;
-    let grid = grid_in(dtype, shape, chunks).ok_or(V2Fault::BadGrid)?;
-    if !is_uncoded(compressor, filters) {
+    Ok(HeldMembers {
+        shape,
+        chunks,
+        dtype,
+        compressor,
+        fill_value,
+        order,
+        filters,
+    })
+}
+
+/// The layout that the members say, with this separator beside them.
+fn held_layout(members: &HeldMembers<'_>, separator: Option<&Value>) -> Result<Layout, V2Fault>
+    ensures { result_map_both layout_view v2_view result ≡ held_layout (held_view members.now) (option_map (λ v. view v.now) separator.entry) }
+{
+    let (dtype, endian) = element_in(members.dtype).ok_or(V2Fault::BadDtype)?;
+    let grid = grid_in(dtype, members.shape, members.chunks).ok_or(V2Fault::BadGrid)?;
+    if !is_uncoded(members.compressor, members.filters) {
         return Err(V2Fault::Coded);
     }
-    if !is_text(Some(order), "C") {
+    if !is_text(Some(members.order), "C") {
         return Err(V2Fault::Order);
     }
-    let fill = fill_or_null(dtype, fill_value).ok_or(V2Fault::Fill)?;
-    let separator = value.get("dimension_separator");
+    let fill = fill_or_null(dtype, members.fill_value).ok_or(V2Fault::Fill)?;
     let sep = separator_in(Sep::Dot, separator).ok_or(V2Fault::Separator)?;
     Ok(Layout {
         dtype,
@@ -112,4 +133,16 @@ fn layout_in(value: &Value) -> Result<Layout, V2Fault>
         endian,
         fill,
     })
+}
+
+fn layout_in(value: &Value) -> Result<Layout, V2Fault>
+    ensures { result_map_both layout_view v2_view result ≡ zarray_by_steps (view value.now) }
+{
+    if !value.is_object() {
+        return Err(V2Fault::Json);
+    }
+    if !is_number(value.get("zarr_format"), 2) {
+        return Err(V2Fault::Format);
+    }
+    held_layout(&held_in(value)?, value.get("dimension_separator"))
 }
