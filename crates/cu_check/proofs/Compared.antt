@@ -2,6 +2,7 @@
 use Rattle.std.proofs.Common.{◌≡◌, ℕ, suc, ◌<◌, ◌≤◌, ℤ, List, [], ◌∷◌, ◌++◌, length, All, Contains, Option, Some, Ok, refl, sym, ap, ◌∙◌, subst, append_assoc, arith}
 use Rattle.std.specs.Prelude.{slice_get}
 use Rattle.std.proofs.lemmas.List.Elements.{All-nil, All-cons, All-append}
+use Rattle.std.proofs.lemmas.Option.{get_or_from_slice_get}
 use Rattle.cu_num.specs.Element.{element_at}
 use Rattle.cu_num.specs.declared.layout.Endian.TheVariants.{Little}
 use Rattle.cu_shape.specs.Index.{product, place_of, index_at, IsInside}
@@ -228,3 +229,15 @@ module _ (job : Job) (output : InputInfo) (form : IsExpression job.expr) (types 
               ),
             ),
       )
+
+-- ---- the node that is stored
+
+module _ (job : Job) (output : InputInfo) (at : ℕ) (info : NodeInfo) (is_out : at ≡ job.expr.out) (told : slice_get job.types at ≡ Some info) where
+  stored_node : info_at job.types job.expr.out ≡ info
+  stored_node = ap (info_at job.types) (sym is_out) ∙ get_or_from_slice_get job.types at info _ told
+
+  pub like_node : (output.layout.dtype ≡ info.dtype) × (output.layout.grid.shape ≡ info.dims) → IsLikeStoredNode job output
+  like_node is = record { dtype = is.0 ∙ sym (ap (λ (i : NodeInfo). i.dtype) stored_node); shape = is.1 ∙ sym (ap (λ (i : NodeInfo). i.dims) stored_node) }
+
+  pub as_node : IsLikeStoredNode job output → (output.layout.dtype ≡ info.dtype) × (output.layout.grid.shape ≡ info.dims)
+  as_node like = (like.dtype ∙ ap (λ (i : NodeInfo). i.dtype) stored_node, like.shape ∙ ap (λ (i : NodeInfo). i.dims) stored_node)

@@ -6,6 +6,9 @@ use Rattle.std.proofs.lemmas.Slice.Eq.{bytes_eq-Decides}
 use Rattle.std.proofs.lemmas.Bool.{cases_Bool}
 use Rattle.std.proofs.lemmas.List.Elements.{All-head, All-tail, All-nil, All-cons}
 use Rattle.std.proofs.lemmas.Nat.{mul-le}
+use Rattle.cu_num.specs.Dtype.{size_of}
+use Rattle.cu_num.specs.declared.types.Dtype.{Dtype}
+use Rattle.cu_num.specs.declared.types.Dtype.TheVariants as dtype
 use Rattle.cu_shape.specs.Index.{product, IsInside}
 use Rattle.cu_grid.specs.Counts.{at_least_one, counts_of}
 use Rattle.cu_grid.specs.Grid.{IsCoordinate}
@@ -23,6 +26,21 @@ few_elements l ok =
     let most = info.elements in
     let whole = product_within l.grid.shape in
     omega arith
+
+most_wide : (t : Dtype) → size_of t ≤ 8
+most_wide dtype.Bool = omega arith
+most_wide dtype.Int8 = omega arith
+most_wide dtype.Int16 = omega arith
+most_wide dtype.Int32 = omega arith
+most_wide dtype.Int64 = omega arith
+most_wide dtype.Uint8 = omega arith
+most_wide dtype.Uint16 = omega arith
+most_wide dtype.Uint32 = omega arith
+most_wide dtype.Uint64 = omega arith
+
+-- the bytes of so few elements
+pub few_bytes : (n : ℕ) (t : Dtype) → n ≤ 2 ^ 40 → n * size_of t ≤ 2 ^ 40 * 8
+few_bytes n t few = mul-le n (size_of t) (2 ^ 40) 8 few (most_wide t)
 
 some_product : (ns : List ℕ) → 0 < product (at_least_one ns)
 some_product [] = omega arith

@@ -78,10 +78,10 @@ fn read_typed<D: Depot>(
         Ok(types) => types,
         Err(fault) => return Err(Status::from(fault)),
     };
-    let ExprText { expr, value } = said;
+    let ExprText { expr, compact } = said;
     let job = Job {
         expr,
-        value,
+        compact,
         inputs,
         types,
     };

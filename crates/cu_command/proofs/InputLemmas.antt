@@ -1,8 +1,8 @@
 -- What is read of the metadata of an expression's inputs, name by name.
-use Rattle.std.proofs.Common.{◌≡◌, ℕ, ◌+◌, ◌*◌, ◌<◌, ◌≤◌, Bool, true, false, List, [], ◌∷◌, ◌++◌, length, drop, get_or, All, Option, Some, None, refl, sym, ap, ◌∙◌, subst, inl, inr, append_assoc, length-append, arith}
+use Rattle.std.proofs.Common.{◌≡◌, ℕ, ◌+◌, ◌*◌, ◌<◌, ◌≤◌, Bool, true, false, List, [], ◌∷◌, ◌++◌, length, take, drop, get_or, All, Option, Some, None, refl, sym, ap, ◌∙◌, subst, inl, inr, append_assoc, append-nil, length-append, length-take, length-drop, arith}
 use Rattle.std.specs.Prelude.{bytes_eq}
 use Rattle.std.specs.List.{list_any}
-use Rattle.std.proofs.lemmas.List.{map-append, length-map, drop_more}
+use Rattle.std.proofs.lemmas.List.{map-append, length-map, drop_more, at_drop_all}
 use Rattle.std.proofs.lemmas.List.Elements.{All-nil, All-push}
 use Rattle.cu_expr.specs.declared.inputs.InputInfo.{InputInfo}
 use Rattle.cu_form.specs.declared.expr.Node.{Node}
@@ -55,6 +55,11 @@ pub next_names : (all : List (List ℕ)) (nodes : List Node) (k : ℕ) (node : N
     → all ≡ names_from (names_of is) (used_names (drop k nodes)) → all ≡ names_from (names_of is) (name_before node.form (used_names (drop (k + 1) nodes)))
 next_names all nodes k node is within at whole =
     whole ∙ ap (λ (ns : List Node). names_from (names_of is) (used_names ns)) (drop_more nodes k node within ∙ ap (λ (n : Node). n ∷ drop (k + 1) nodes) (sym at))
+
+-- behind the last node
+pub end_names : (all : List (List ℕ)) (nodes : List Node) (k : ℕ) (is : List InputInfo) → length nodes ≤ k → all ≡ names_from (names_of is) (used_names (drop k nodes)) → names_of is ≡ all
+end_names all nodes k is past whole =
+    sym (whole ∙ at_drop_all (λ (ns : List Node). names_from (names_of is) (used_names ns)) nodes k past ∙ append-nil (names_of is))
 
 -- ---- a node that is an input
 
@@ -120,6 +125,10 @@ refused_at entry now name code step found = record {
 }
 
 -- ---- calls
+
+-- room of which a call has written all is as long as before
+pub written_back : (n len : ℕ) (new old : List ℕ) → length new ≡ n → length old ≡ n → len ≡ length old → length (take len (new ++ drop (length new) old)) ≡ n
+written_back n len new old is_new is_old is_len = simp (length-take, length-append, length-drop) (omega arith)
 
 more_calls : (t n m : ℕ) → n + 1 ≤ m → t * n + t ≤ t * m
 more_calls t n m h = grind arith

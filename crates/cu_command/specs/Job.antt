@@ -1,12 +1,10 @@
 -- A job: an expression over stored arrays that has types, and why a text is none.
-use Rattle.std.specs.Prelude.{◌≡◌, ℕ, ◌<◌, List, [], All, Some, Result, Ok, Err}
-use Rattle.serde_json.specs.Read.{read}
-use Rattle.serde_json.specs.View.{view}
+use Rattle.std.specs.Prelude.{◌≡◌, ℕ, ◌<◌, List, [], All, Some, string_bytes, Result, Ok, Err}
 use Rattle.cu_expr.specs.Typing.{typed}
 use Rattle.cu_expr.specs.declared.inputs.InputInfo.{InputInfo}
 use Rattle.cu_form.specs.Expression.{Expression}
 use Rattle.cu_node.specs.declared.info.NodeInfo.{NodeInfo}
-use Rattle.cu_read.specs.Read.{expression_of}
+use Rattle.cu_read.specs.Read.{compact_of, expression_of}
 use Rattle.cu_read.specs.declared.faults.ReadFault.{ReadFault}
 use Rattle.cu_store.specs.Faults.{last_count}
 use Rattle.cu_store.specs.Held.{Contents}
@@ -47,10 +45,10 @@ names_or_none (Err f) = []
 abbrev pub names_said : List ℕ → List (List ℕ)
 names_said text = names_or_none (expression_of text)
 
--- The job of a text: its expression, the value as which it is read, one input for each name, and the types of the nodes.
+-- The job of a text: its expression, the text written compactly, one input for each name, and the types of the nodes.
 pub record IsJob (entry : Shown) (text : List ℕ) (job : Job) : Type 0 where
   pub said : expression_of text ≡ Ok job.expr
-  pub value : read text ≡ Some (view job.value)
+  pub compact : compact_of text ≡ Some (string_bytes job.compact)
   pub names : names_of job.inputs.items ≡ names_in job.expr
   pub inputs : All (IsReadAt entry) job.inputs.items
   pub types : typed job.inputs.items job.expr ≡ Ok job.types

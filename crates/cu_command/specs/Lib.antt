@@ -1,7 +1,6 @@
 pub mod Inputs
 pub mod Job
 pub mod Keys
-pub mod Name
 pub mod Seen
 pub mod Status
 pub mod Stored

@@ -1,8 +1,6 @@
 //! Jobs: the expression of a text, over stored arrays whose metadata is read, with its types.
-ghost use Rattle.std.specs.Prelude.{◌≡◌, ◌+◌, ◌*◌, Some, Ok, IfErr, IfOk, length, All};
-ghost use Rattle.serde_json.specs.Read.{read};
-ghost use Rattle.serde_json.specs.View.{view};
-ghost use Rattle.cu_read.specs.Read.{expression_of};
+ghost use Rattle.std.specs.Prelude.{◌≡◌, ◌+◌, ◌*◌, Some, Ok, IfErr, IfOk, length, string_bytes, All};
+ghost use Rattle.cu_read.specs.Read.{compact_of, expression_of};
 ghost use Rattle.cu_expr.specs.Typing.{typed};
 ghost use Rattle.cu_store.specs.Steps.{NoChange, Steps};
 ghost use Rattle.cu_command.specs.Stored.{IsArrayLayout};
@@ -12,17 +10,16 @@ use crate::Status;
 use crate::inputs::read_inputs;
 use cu_expr::{Expr, InputInfo, TypeRefused, Types, type_of};
 use cu_name::IdText;
-use cu_read::{ExprText, ReadRefused, read_with_value};
+use cu_read::{ExprText, ReadRefused, read_expr_text};
 use cu_store::{Depot, Key};
-use serde_json::Value;
 use std::alloc::Global;
 
 /// An expression over stored arrays, with its types.
 #[derive(Drop)]
 pub struct Job {
     pub expr: Expr,
-    /// The JSON value of the expression's text.
-    pub value: Value,
+    /// The expression's text, written compactly.
+    pub compact: String,
     /// The arrays that the input nodes use, one for each name, in the order of the first node that uses it.
     pub inputs: Vec<InputInfo>,
     /// The types, shapes and chunk shapes of the nodes.
@@ -64,13 +61,13 @@ impl From<JobFault> for Status {
     }
 }
 
-/// The expression of a text, and the text's JSON value.
+/// The expression of a text, and the text written compactly.
 pub fn said_in(alloc: Global, text: &[u8]) -> Result<ExprText, JobFault>
     ensures said { IfOk result (λ said. expression_of text.now ≡ Ok said.expr) }
-    ensures value { IfOk result (λ said. read text.now ≡ Some (view said.value)) }
+    ensures compact { IfOk result (λ said. compact_of text.now ≡ Some (string_bytes said.compact)) }
     ensures fault { IfErr result (IsUnread text.now) }
 {
-    match read_with_value(alloc, text) {
+    match read_expr_text(alloc, text) {
         Ok(said) => Ok(said),
         Err(ReadRefused::Fault(fault)) => Err(JobFault::Expression {
             code: fault.code,
@@ -123,10 +120,10 @@ pub fn read_job<D: Depot>(
         Ok(types) => types,
         Err(fault) => return Err(fault),
     };
-    let ExprText { expr, value } = said;
+    let ExprText { expr, compact } = said;
     Ok(Job {
         expr,
-        value,
+        compact,
         inputs,
         types,
     })

@@ -1,7 +1,5 @@
 -- The expression of the demonstration: its text, its nodes, and its job over inputs of a size.
-use Rattle.std.specs.Prelude.{◌≡◌, ℕ, pos, false, List, [], ◌∷◌, codes, Some, None, Ok}
-use Rattle.serde_json.specs.Read.{read}
-use Rattle.serde_json.specs.View.{view}
+use Rattle.std.specs.Prelude.{◌≡◌, ℕ, pos, false, List, [], ◌∷◌, codes, Some, None, Ok, string_bytes}
 use Rattle.cu_num.specs.declared.folds.FoldKind.TheVariants.{Sum}
 use Rattle.cu_num.specs.declared.functions.Fn2.TheVariants.{Add, Multiply, Subtract}
 use Rattle.cu_num.specs.declared.types.Dtype.TheVariants.{Int64}
@@ -14,7 +12,7 @@ use Rattle.cu_node.specs.declared.element_op.ElementOp.TheVariants.{Two}
 use Rattle.cu_node.specs.Info.{info_at, info_of}
 use Rattle.cu_expr.specs.Typing.{typed}
 use Rattle.cu_expr.specs.declared.inputs.InputInfo.{InputInfo}
-use Rattle.cu_read.specs.Read.{expression_of}
+use Rattle.cu_read.specs.Read.{compact_of, expression_of}
 use Rattle.cu_command.specs.declared.job.Job.{Job}
 use Rattle.cu_demo.specs.Input.{demo_layout, demo_name}
 use Rattle.cu_demo.specs.declared.input.DemoInput.{DemoInput}
@@ -54,7 +52,7 @@ demo_inputs n = demo_info Rows n ∷ demo_info Columns n ∷ []
 -- The job over the inputs of size n. Its result is one number of type int64.
 pub record IsDemoJob (n : ℕ) (job : Job) : Type 0 where
   pub said : expression_of demo_text ≡ Ok job.expr
-  pub value : read demo_text ≡ Some (view job.value)
+  pub compact : compact_of demo_text ≡ Some (string_bytes job.compact)
   pub expr : job.expr ≡ demo_expression
   pub inputs : job.inputs.items ≡ demo_inputs n
   pub types : typed (demo_inputs n) job.expr ≡ Ok job.types

@@ -1,9 +1,7 @@
 //! The job of the demonstration: its expression over inputs of a size.
-ghost use Rattle.std.specs.Prelude.{◌≡◌, ◌≤◌, IfOk, Ok, Some};
-ghost use Rattle.serde_json.specs.Read.{read};
-ghost use Rattle.serde_json.specs.View.{view};
+ghost use Rattle.std.specs.Prelude.{◌≡◌, ◌≤◌, IfOk, Ok, Some, string_bytes};
 ghost use Rattle.cu_expr.specs.Typing.{typed};
-ghost use Rattle.cu_read.specs.Read.{expression_of};
+ghost use Rattle.cu_read.specs.Read.{compact_of, expression_of};
 ghost use Rattle.cu_demo.specs.Expression.{IsDemoJob, demo_expression, demo_info, demo_inputs};
 ghost use Rattle.cu_demo.specs.Expression.{demo_text};
 
@@ -39,7 +37,7 @@ fn memory_fault(fault: JobFault) -> NoMemory
 /// The expression of the text.
 fn said(alloc: Global) -> Result<ExprText, NoMemory>
     ensures said { IfOk result (λ said. expression_of demo_text ≡ Ok said.expr) }
-    ensures value { IfOk result (λ said. read demo_text ≡ Some (view said.value)) }
+    ensures compact { IfOk result (λ said. compact_of demo_text ≡ Some (string_bytes said.compact)) }
     ensures expr { IfOk result (λ said. said.expr ≡ demo_expression) }
 {
     match said_in(alloc, text()) {
@@ -93,12 +91,12 @@ pub fn demo_job(alloc: Global, size: u64) -> Result<Job, NoMemory>
     requires few { size ≤ 2048 }
     ensures { IfOk result (IsDemoJob size) }
 {
-    let ExprText { expr, value } = said(alloc)?;
+    let ExprText { expr, compact } = said(alloc)?;
     let inputs = inputs(alloc, size)?;
     let types = types(alloc, size, &expr, &inputs)?;
     Ok(Job {
         expr,
-        value,
+        compact,
         inputs,
         types,
     })

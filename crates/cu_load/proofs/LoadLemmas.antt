@@ -29,7 +29,7 @@ use Rattle.cu_meta.specs.Members.{fill_of}
 use Rattle.cu_num.specs.TypeName.{dtype_named}
 use Rattle.cu_meta.specs.Storable.{IsStorable}
 use Rattle.cu_meta.proofs.Accepted.{few_sizes, fill_accepted}
-use Rattle.cu_command.specs.Name.{name_in}
+use Rattle.cu_load.specs.Name.{name_in}
 use Rattle.cu_name.specs.Name.{is_name}
 use Rattle.cu_load.specs.LoadForm.{NamedLayout, GivenArray, given_by, IfCode, has_form, text_member, list_member, sizes_at, layout_given, elements_after, head_in, array_in, load_of, IsGivenArray}
 use Rattle.cu_load.specs.declared.load_form.LoadForm.{LoadForm}

@@ -16,7 +16,7 @@ use Rattle.cu_grid.specs.Limits.{first_fault}
 use Rattle.cu_meta.specs.Members.{fill_of}
 use Rattle.cu_meta.specs.Said.{said_grid}
 use Rattle.cu_zarr.specs.Layout.{ArrayLayout}
-use Rattle.cu_command.specs.Name.{name_in}
+use Rattle.cu_load.specs.Name.{name_in}
 use Rattle.cu_load.proofs.LoadLemmas.{some_of, true_of, none_is_no_some, code_is_no_head, code_is_no_array, no_fault, same_head, same_array}
 use Rattle.cu_load.specs.LoadForm.{NamedLayout, GivenArray, has_form, text_member, list_member, sizes_at, layout_given, elements_after, head_in, array_in, load_of}
 use Rattle.cu_load.specs.Said.{SayElements, SaysArray, IsTextOf}

@@ -1,4 +1,5 @@
 pub mod Keys
 pub mod Load
 pub mod LoadForm
+pub mod Name
 pub mod Said

@@ -20,7 +20,7 @@ use Rattle.cu_meta.specs.Members.{fill_of}
 use Rattle.cu_num.specs.TypeName.{dtype_named}
 use Rattle.cu_meta.specs.Storable.{IsStorable}
 use Rattle.cu_op.specs.Layout.{layout_view}
-use Rattle.cu_command.specs.Name.{name_in}
+use Rattle.cu_load.specs.Name.{name_in}
 use Rattle.cu_name.specs.Name.{is_name}
 use Rattle.cu_load.specs.declared.load_form.Head.{Head}
 use Rattle.cu_load.specs.declared.load_form.LoadForm.{LoadForm}

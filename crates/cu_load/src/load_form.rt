@@ -8,13 +8,13 @@ ghost use Rattle.cu_num.specs.Dtype.{size_of};
 ghost use Rattle.cu_shape.specs.Index.{product};
 ghost use Rattle.cu_grid.specs.Limits.{first_fault};
 ghost use Rattle.cu_num.specs.TypeName.{dtype_named};
+ghost use Rattle.cu_load.specs.Name.{name_in};
 ghost use Rattle.cu_load.specs.LoadForm.{head_view, given_by, IfCode, text_member, list_member, has_form, sizes_at, elements_after, head_in, array_in, load_of, IsGivenArray};
 
-use cu_command::name_at;
 use cu_grid::Grid;
 use cu_json::is_object_of;
 use cu_meta::{fill_in, sizes_in};
-use cu_name::IdText;
+use cu_name::{IdText, is_name};
 use cu_num::{Dtype, Encoding, Endian, Sep, dtype_named, size};
 use cu_op::Layout;
 use cu_shape::Dims;
@@ -126,6 +126,17 @@ fn array_in(alloc: Global, value: &Value) -> Result<LoadForm, LoadRefused>
         layout,
         elements,
     })
+}
+
+/// The name that stands at a member of a value.
+fn name_at(value: &Value, key: &str) -> Option<IdText>
+    ensures { result ≡ name_in (get key.now (view value.now)) }
+{
+    let text = value.get(key)?.as_str()?;
+    if !is_name(text) {
+        return None;
+    }
+    IdText::make(text)
 }
 
 /// The name and the layout, or the first code.

@@ -1,6 +1,7 @@
 pub mod Answered
 mod EntriesRead
 mod Examples
+mod Families
 mod IndexLength
 mod NewShapes
 pub mod NoFloats

@@ -1,5 +1,5 @@
 -- A node of an expression's text, or its first fault (this project's own form and order).
-use Rattle.std.specs.Prelude.{ℕ, ◌&&◌, not, Bool, List, codes, bytes_eq, length, Result, Ok, Err}
+use Rattle.std.specs.Prelude.{ℕ, ◌&&◌, not, Bool, List, codes, bytes_eq, length, Option, Some, None, Result, Ok, Err}
 use Rattle.std.specs.List.{list_any}
 use Rattle.serde_json.specs.Data.{Data}
 use Rattle.serde_json.specs.Find.{as_str}
@@ -15,6 +15,12 @@ use Rattle.cu_read.specs.Reduction.{reduction_row}
 use Rattle.cu_read.specs.Rows.{required}
 use Rattle.cu_read.specs.View.{view_row}
 use Rattle.cu_read.specs.declared.faults.NodeCode.{NodeCode}
+use Rattle.cu_read.specs.declared.faults.NodeRefused.{NodeRefused}
+
+-- the row, where its family has the operator
+abbrev pub if_known : Result Form NodeRefused → Option (Result Form NodeRefused)
+if_known (Err (NodeRefused.Code NodeCode.Unknown)) = None
+if_known row = Some row
 
 -- the next family's row, where this one has no such operator
 abbrev pub or_row : Result Form NodeCode → Result Form NodeCode → Result Form NodeCode

@@ -1,11 +1,12 @@
 -- An expression's text, or its first fault (this project's own form and order). The text is JSON (RFC 8259).
-use Rattle.std.specs.Prelude.{◌≡◌, ℕ, ◌≤◌, Some, slice_get, nat_le, List, [], ◌∷◌, ◌++◌, map, length, codes, bytes_eq, Option, Result, Ok, Err}
+use Rattle.std.specs.Prelude.{◌≡◌, ℕ, ◌≤◌, Some, slice_get, nat_le, List, [], ◌∷◌, ◌++◌, map, length, codes, bytes_eq, Option, option_map, Result, Ok, Err}
 use Rattle.std.specs.Str.{is_utf8}
 use Rattle.std.specs.List.{position}
 use Rattle.serde_json.specs.Data.{Data, Items, no_items, item}
 use Rattle.serde_json.specs.Events.{items_len}
 use Rattle.serde_json.specs.Find.{as_str, as_array}
 use Rattle.serde_json.specs.Read.{read}
+use Rattle.serde_json.specs.Written.{compact_text}
 use Rattle.cu_json.specs.Form.{is_object_of}
 use Rattle.cu_name.specs.Name.{is_name}
 use Rattle.cu_form.specs.Expression.{Expression, IsNode, IdsDiffer}
@@ -79,3 +80,7 @@ pub record AreNodes (list : List Node) : Type 0 where
   pub few : length list ≤ 256
   pub nodes : (k : ℕ) (node : Node) → slice_get list k ≡ Some node → IsNode k node
   pub ids : IdsDiffer list
+
+-- the JSON value that the text says, written compactly: with no space, and with the members of each object in byte order
+abbrev pub compact_of : List ℕ → Option (List ℕ)
+compact_of text = option_map compact_text (read text)

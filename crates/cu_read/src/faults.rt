@@ -20,7 +20,7 @@ pub enum ReadRefused {
 }
 
 /// What a node is refused for.
-#[derive(Clone, Copy, Debug, PartialEq, Eq)]
+#[derive(Clone, Copy)]
 pub(crate) enum NodeCode {
     /// The node isn't an object with texts `id` and `op`, or its members or their kinds aren't those of its operator.
     Form,
@@ -33,7 +33,7 @@ pub(crate) enum NodeCode {
 }
 
 /// Why a part of a node was not read.
-#[derive(Clone, Copy, Debug, PartialEq, Eq)]
+#[derive(Clone, Copy)]
 pub(crate) enum NodeRefused {
     Code(NodeCode),
     /// Memory was wanted and not had.

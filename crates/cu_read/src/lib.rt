@@ -22,4 +22,4 @@ mod view;
 pub use elementwise::{binary_named, unary_named};
 pub use faults::{ReadFault, ReadRefused};
 pub use laws::{form_law, plain_law};
-pub use read::{ExprText, read_expr, read_with_value};
+pub use read::{ExprText, read_expr, read_expr_text};

@@ -2,7 +2,7 @@
 ghost use Rattle.std.specs.Prelude.{◌≡◌};
 ghost use Rattle.serde_json.specs.View.{view};
 ghost use Rattle.cu_read.specs.Faults.{Gives};
-ghost use Rattle.cu_read.specs.Node.{row_of, is_new_id, name_for, node_in};
+ghost use Rattle.cu_read.specs.Node.{if_known, row_of, is_new_id, name_for, node_in};
 
 use crate::creation::creation_row;
 use crate::elementwise::elementwise_row;
@@ -17,25 +17,31 @@ use cu_name::{IdText, is_name};
 use serde_json::Value;
 use std::alloc::Global;
 
+/// The row, where its family has the operator.
+fn if_known(row: Result<Form, NodeRefused>) -> Option<Result<Form, NodeRefused>>
+    ensures { result ≡ if_known row }
+{
+    match row {
+        Err(NodeRefused::Code(NodeCode::Unknown)) => None,
+        known => Some(known),
+    }
+}
+
 /// The row of an operator, which one of the families has.
 fn row_of(alloc: Global, op: &str, ids: &Ids, value: &Value) -> Result<Form, NodeRefused>
     ensures { Gives result (row_of op.now ids.now (view value.now)) }
 {
-    match creation_row(alloc, op, value) {
-        Err(NodeRefused::Code(NodeCode::Unknown)) => {}
-        row => return row,
+    if let Some(row) = if_known(creation_row(alloc, op, value)) {
+        return row;
     }
-    match elementwise_row(alloc, op, ids, value) {
-        Err(NodeRefused::Code(NodeCode::Unknown)) => {}
-        row => return row,
+    if let Some(row) = if_known(elementwise_row(alloc, op, ids, value)) {
+        return row;
     }
-    match view_row(alloc, op, ids, value) {
-        Err(NodeRefused::Code(NodeCode::Unknown)) => {}
-        row => return row,
+    if let Some(row) = if_known(view_row(alloc, op, ids, value)) {
+        return row;
     }
-    match reduction_row(alloc, op, ids, value) {
-        Err(NodeRefused::Code(NodeCode::Unknown)) => {}
-        row => return row,
+    if let Some(row) = if_known(reduction_row(alloc, op, ids, value)) {
+        return row;
     }
     new_shape_row(alloc, op, ids, value)
 }

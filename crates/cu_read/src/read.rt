@@ -1,5 +1,5 @@
 //! The text of an expression.
-ghost use Rattle.std.specs.Prelude.{◌≡◌, ◌<◌, ◌^◌, Ok, Err, Some, None, IfOk, IfErr};
+ghost use Rattle.std.specs.Prelude.{◌≡◌, ◌<◌, ◌^◌, Ok, Err, Some, None, IfOk, IfErr, string_bytes};
 ghost use Rattle.std.specs.Result.{result_map_both};
 ghost use Rattle.serde_json.specs.Find.{as_array, as_str};
 ghost use Rattle.serde_json.specs.Read.{read};
@@ -7,10 +7,11 @@ ghost use Rattle.serde_json.specs.View.{view, items_view};
 ghost use Rattle.cu_form.specs.Expression.{HaveShortIndices};
 ghost use Rattle.cu_read.specs.Faults.{IfReadFault, GivesAs};
 ghost use Rattle.cu_read.specs.Form.{HasForm};
-ghost use Rattle.cu_read.specs.Read.{whole_fault, ids_of, top_member, expression_with, listed_in, AreNodes, expression_in, expression_of};
+ghost use Rattle.cu_read.specs.Read.{compact_of, whole_fault, ids_of, top_member, expression_with, listed_in, AreNodes, expression_in, expression_of};
 ghost use Rattle.cu_read.specs.Size.{item_count, items_count};
 
 use crate::faults::{ReadFault, ReadRefused};
+use crate::laws::plain_law;
 use crate::members::named;
 use crate::nodes::{Nodes, nodes_in};
 use cu_form::Expr;
@@ -49,30 +50,46 @@ pub fn read_expr(alloc: Global, bytes: &[u8]) -> Result<Expr, ReadRefused>
     ensures form { IfOk result (λ e. HasForm bytes.now e) }
 {
     match read_with_value(alloc, bytes) {
-        Ok(read) => Ok(read.into_expr()),
+        Ok(ExprValue { expr, value: _ }) => Ok(expr),
         Err(refused) => Err(refused),
+    }
+}
+
+/// An expression, and its text as a record keeps it.
+#[derive(Drop)]
+pub struct ExprText {
+    pub expr: Expr,
+    /// The JSON value of the text, written compactly: with no space, and with the members of each object in byte order.
+    pub compact: String,
+}
+
+/// The expression that a text says and its text written compactly, or the first fault, as `read_expr` has it.
+pub fn read_expr_text(alloc: Global, bytes: &[u8]) -> Result<ExprText, ReadRefused>
+    ensures ok { IfOk result (λ r. expression_of bytes.now ≡ Ok r.expr) }
+    ensures compact { IfOk result (λ r. compact_of bytes.now ≡ Some (string_bytes r.compact)) }
+    ensures fault { IfErr result (λ e. IfReadFault e (λ f. expression_of bytes.now ≡ Err f)) }
+    ensures form { IfOk result (λ r. HasForm bytes.now r.expr) }
+{
+    let read = read_with_value(alloc, bytes)?;
+    plain_law();
+    match read.value.to_string(alloc) {
+        Ok(compact) => Ok(ExprText {
+            expr: read.expr,
+            compact,
+        }),
+        Err(_) => Err(ReadRefused::NoMemory),
     }
 }
 
 /// An expression, and the JSON value of its text.
 #[derive(Drop)]
-pub struct ExprText {
-    pub expr: Expr,
-    pub value: Value,
-}
-
-impl ExprText {
-    /// The expression alone.
-    fn into_expr(self) -> Expr
-        ensures { result ≡ self.expr }
-    {
-        let ExprText { expr, value: _ } = self;
-        expr
-    }
+struct ExprValue {
+    expr: Expr,
+    value: Value,
 }
 
 /// The expression that a text says and the value as which the text is read, or the first fault, as `read_expr` has it.
-pub fn read_with_value(alloc: Global, bytes: &[u8]) -> Result<ExprText, ReadRefused>
+fn read_with_value(alloc: Global, bytes: &[u8]) -> Result<ExprValue, ReadRefused>
     ensures ok { IfOk result (λ r. expression_of bytes.now ≡ Ok r.expr) }
     ensures value { IfOk result (λ r. read bytes.now ≡ Some (view r.value)) }
     ensures fault { IfErr result (λ e. IfReadFault e (λ f. expression_of bytes.now ≡ Err f)) }
@@ -86,7 +103,7 @@ pub fn read_with_value(alloc: Global, bytes: &[u8]) -> Result<ExprText, ReadRefu
     };
     let value = value_in(alloc, text)?;
     match expression_in(alloc, &value) {
-        Ok(expr) => Ok(ExprText { expr, value }),
+        Ok(expr) => Ok(ExprValue { expr, value }),
         Err(refused) => Err(refused),
     }
 }
@@ -167,12 +184,11 @@ fn expression_with(nodes: Nodes, out: &str, store_as: &str) -> Result<Expr, Read
     requires indices { HaveShortIndices nodes.list.items }
     ensures { GivesAs (λ e. e) result (expression_with nodes.list.items nodes.ids out.now store_as.now) }
 {
-    let Nodes { list, ids } = nodes;
-    let Some(number) = ids.find(out) else {
+    let Some(number) = nodes.ids.find(out) else {
         return Err(ReadRefused::Fault(whole_fault(NO_FORM)));
     };
     match named(store_as) {
-        Some(name) => Ok(Expr::make(list, number, name)),
+        Some(name) => Ok(Expr::make(nodes.list, number, name)),
         None => Err(ReadRefused::Fault(whole_fault(NO_FORM))),
     }
 }

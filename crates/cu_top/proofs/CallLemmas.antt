@@ -1,5 +1,5 @@
 -- What the command `run` answers, from the text on.
-use Rattle.std.proofs.Common.{◌≡◌, ◌⊎◌, inl, inr, ℕ, ◌<◌, Bool, false, nat_le, List, [], ◌∷◌, ◌++◌, length, Option, Some, None, Result, Ok, Err, refl, sym, ap, ◌∙◌, subst, arith, length-append}
+use Rattle.std.proofs.Common.{◌≡◌, inl, inr, ℕ, ◌<◌, Bool, false, nat_le, List, [], ◌∷◌, ◌++◌, length, Option, Some, None, Result, Ok, Err, refl, sym, ap, ◌∙◌, subst, arith, length-append}
 use Rattle.std.proofs.lemmas.List.{append-nil}
 use Rattle.cu_form.specs.Expression.{Expression}
 use Rattle.cu_read.specs.Read.{expression_of, whole_fault}
@@ -11,7 +11,7 @@ use Rattle.cu_command.specs.Job.{names_or_none, IsJob}
 use Rattle.cu_command.specs.Streams.{ReadsAll}
 use Rattle.cu_command.specs.declared.job.Job.{Job}
 use Rattle.cu_command.specs.declared.status.Status.{Status}
-use Rattle.cu_command.specs.declared.status.Status.TheVariants.{Done, BadWords, BadExpr, BadType, OverMemory, OverLimit, BadMeta, NoArray, Exists, TaskFailed, ReadFault, WriteFault, BadChunk, DepotFailed, BadLoad, NoMemory}
+use Rattle.cu_command.specs.declared.status.Status.TheVariants.{Done, BadExpr, BadType, OverMemory, OverLimit, BadMeta, NoArray, Exists, TaskFailed, ReadFault, WriteFault, BadChunk, DepotFailed, NoMemory}
 use Rattle.cu_lower.specs.declared.options.Options.{Options}
 use Rattle.cu_top.specs.Call.{RunTells, IsExpressionRefused}
 use Rattle.cu_top.specs.Drop.{Dropped, DropTells}
@@ -24,15 +24,6 @@ module _ (lack : Bool) (options : Options) (old new : Scene) where
   told_run text ReadFault read ran = absurd ran
   told_run text NoMemory read ran = inr (text, read, ran)
   told_run text status read ran = (text, read, ran)
-
-  -- one of its answers
-  pub told_as : (status other : Status) → RunTells lack options old new status → status ≡ other → RunTells lack options old new other
-  told_as status other tells same = subst (RunTells lack options old new) same tells
-
-  -- it never answers that words or a text to load are wrong
-  pub never : (status : Status) (code : ℕ) → RunTells lack options old new status → (status ≡ BadWords code) ⊎ (status ≡ BadLoad code) → ⊥
-  never status code tells (inl same) = let (text, read, ran) = told_as status (BadWords code) tells same in ran
-  never status code tells (inr same) = let (text, read, ran) = told_as status (BadLoad code) tells same in ran
 
 -- ---- the text that was read
 
@@ -117,8 +108,8 @@ module _ (lack : Bool) (options : Options) (old new : Scene) where
   told_resume text NoMemory read why = inr (text, read, why)
   told_resume text status read why = (text, read, why)
 
-  -- what the removal of its plan answers
-  pub told_drop : (text : List ℕ) (status : Status) → ReadsAll old.source.told new.source.told text → Dropped (case options text old new) status → DropTells options old new status
-  told_drop text ReadFault read why = absurd why
-  told_drop text NoMemory read why = inr (text, read, why)
-  told_drop text status read why = (text, read, why)
+-- what the removal of its plan answers
+pub told_drop : (options : Options) (old new : Scene) (text : List ℕ) (status : Status) → ReadsAll old.source.told new.source.told text → Dropped (case options text old new) status → DropTells options old new status
+told_drop options old new text ReadFault read why = absurd why
+told_drop options old new text NoMemory read why = inr (text, read, why)
+told_drop options old new text status read why = (text, read, why)

@@ -1,5 +1,5 @@
 -- A run that is servable is served: each other answer has a cause that isn't there.
-use Rattle.std.proofs.Common.{◌≡◌, ◌≢◌, ◌⊎◌, ℕ, ◌+◌, ◌<◌, Bool, true, false, List, length, Contains, Option, Some, None, Ok, refl, sym, ◌∙◌, subst, inl, inr, arith}
+use Rattle.std.proofs.Common.{◌≡◌, ◌≢◌, ◌⊎◌, ℕ, ◌+◌, ◌<◌, Bool, true, false, List, length, Contains, Option, Some, None, refl, sym, ◌∙◌, subst, inl, inr, arith}
 use Rattle.std.proofs.lemmas.List.Elements.{All-contains}
 use Rattle.cu_store.specs.Faults.{Rose}
 use Rattle.cu_store.specs.Held.{Contents, Write, IsAmong, IsHeldIn}
@@ -22,7 +22,6 @@ use Rattle.cu_command.specs.declared.job.JobFault.{JobFault}
 use Rattle.cu_command.specs.declared.job.JobFault.TheVariants as fault
 use Rattle.cu_command.specs.declared.status.Status.{Status}
 use Rattle.cu_command.specs.declared.status.Status.TheVariants.{Done, BadExpr, BadType, OverMemory, OverLimit, BadMeta, NoArray, Exists, TaskFailed, ReadFault, WriteFault, BadChunk, DepotFailed, NoMemory}
-use Rattle.cu_lower.specs.declared.options.Options.{Options}
 use Rattle.cu_top.proofs.CallLemmas.{same_text}
 use Rattle.cu_top.proofs.RunLemmas.{piece_listed}
 use Rattle.cu_top.specs.Ask.{IsInWay}
@@ -30,7 +29,6 @@ use Rattle.cu_top.specs.Call.{CameToRun, RunTells}
 use Rattle.cu_top.specs.Complete.{AreWhole, IsServable, IsAtRest, IsServed}
 use Rattle.cu_top.specs.Prepare.{is_own_input, asked_keys}
 use Rattle.cu_top.specs.Run.{Scene, RunCase, case, job_run, plan_in, IsQuietEntry, IsStarted, IsSpared, HasNoJob, Ran}
-use Rattle.cu_top.specs.Words.{command_of, run}
 
 -- ---- each other answer lacks its cause
 
@@ -165,11 +163,8 @@ module _ (words : List (List ℕ)) (left : List ℕ) (entry : Contents) (old new
       let same : text ≡ left = same_text left text new.source.told premise.typable.expr (subst (λ (t : Option (List ℕ)). ReadsAll t new.source.told text) told_left read) premise.typable.said in
       served_run (case premise.options left old new) entry told premise.typable depot sink premise.rest lack status (subst (λ (t : List ℕ). Ran lack (case premise.options t old new) status) same ran)
 
-  run_served : (lack : Bool) (status : Status) → RunTells lack premise.options old new status → IsServed status
-  run_served lack ReadFault tells = none_rose 1 old.source.faults new.source.faults (omega arith) source tells.0
-  run_served lack NoMemory tells = tt
-  run_served lack status tells = came lack status tells
-
   -- Where all is accepted, nothing is in the way and no count of faults rises, the run is carried out, or memory is wanted.
-  pub served : (lack : Bool) (status : Status) → ((options : Options) → command_of words ≡ Ok (run options) → RunTells lack options old new status) → IsServed status
-  served lack status tells = run_served lack status (tells premise.options premise.words_give)
+  pub served : (lack : Bool) (status : Status) → RunTells lack premise.options old new status → IsServed status
+  served lack ReadFault tells = none_rose 1 old.source.faults new.source.faults (omega arith) source tells.0
+  served lack NoMemory tells = tt
+  served lack status tells = came lack status tells

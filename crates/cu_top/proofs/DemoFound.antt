@@ -238,7 +238,7 @@ module _ (options : Options) (n : ℕ) (some : 1 ≤ n) (few : n ≤ 2048) (read
   pub demo_accepted : (job : Job) → IsDemoJob n job → IsJob found demo_text job
   demo_accepted job is = record {
     said = is.said;
-    value = is.value;
+    compact = is.compact;
     names = ap names_of is.inputs ∙ sym (ap names_in is.expr);
     inputs = subst (All (IsReadAt found)) (sym is.inputs) all_read;
     types = ap (λ (inputs : List InputInfo). typed inputs job.expr) is.inputs ∙ is.types;
@@ -299,7 +299,7 @@ module _ (options : Options) (n : ℕ) (some : 1 ≤ n) (few : n ≤ 2048) (read
         let types : typed (demo_inputs n) job.expr ≡ Ok job.types = ap (λ (x : List InputInfo). typed x job.expr) (sym inputs) ∙ is.types in
         record {
           said = is.said;
-          value = is.value;
+          compact = is.compact;
           expr = expr;
           inputs = inputs;
           types = types;

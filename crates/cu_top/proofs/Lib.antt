@@ -1,3 +1,4 @@
+mod AnsweredLemmas
 mod AskLemmas
 mod CallLemmas
 mod CallLimits

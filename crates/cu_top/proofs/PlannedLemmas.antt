@@ -1,5 +1,5 @@
 -- What the command `plan` answers, and what a run answers before it asks for its keys.
-use Rattle.std.proofs.Common.{Bool, false, ◌≡◌, inl, ℕ, ◌+◌, ◌≤◌, List, length, Option, Some, None, Ok, Err, ◌∙◌, subst, arith}
+use Rattle.std.proofs.Common.{Bool, false, ◌≡◌, inl, ℕ, ◌+◌, ◌≤◌, List, length, Option, Some, None, Err, ◌∙◌, subst, arith}
 use Rattle.cu_read.specs.Read.{expression_of}
 use Rattle.cu_read.specs.declared.faults.ReadFault.{ReadFault as ExpressionFault}
 use Rattle.cu_store.specs.Faults.{Rose}
@@ -23,7 +23,6 @@ use Rattle.cu_top.specs.Complete.{IsPlannable, IsServed}
 use Rattle.cu_top.specs.Planned.{IsPlanRefused, IsPrinted, Plans, PlanTells}
 use Rattle.cu_top.specs.Prepare.{unplanned_status, HasPlan}
 use Rattle.cu_top.specs.Run.{Scene, RunCase, case, plan_in, IsAccepted, IsSpared, HasNoJob, WroteTo, Ran}
-use Rattle.cu_top.specs.Words.{command_of, plan}
 
 -- ---- why a text has no plan
 
@@ -144,11 +143,8 @@ module _ (words : List (List ℕ)) (left : List ℕ) (old new : Scene) (told_lef
       let same : text ≡ left = same_text left text new.source.told premise.typable.expr (subst (λ (t : Option (List ℕ)). ReadsAll t new.source.told text) told_left read) premise.typable.said in
       served_plan (case premise.options left old new) premise.typable depot sink premise.planned status (subst (λ (t : List ℕ). Plans (case premise.options t old new) status) same why)
 
-  tells_served : (status : Status) → PlanTells premise.options old new status → IsServed status
-  tells_served ReadFault tells = none_rose 1 old.source.faults new.source.faults (omega arith) source tells.0
-  tells_served NoMemory tells = tt
-  tells_served status tells = came status tells
-
   -- Where all is accepted and no count of faults rises, the plan is printed, or memory is wanted.
-  pub plan_served : (status : Status) → ((options : Options) → command_of words ≡ Ok (plan options) → PlanTells options old new status) → IsServed status
-  plan_served status tells = tells_served status (tells premise.options premise.words_give)
+  pub plan_served : (status : Status) → PlanTells premise.options old new status → IsServed status
+  plan_served ReadFault tells = none_rose 1 old.source.faults new.source.faults (omega arith) source tells.0
+  plan_served NoMemory tells = tt
+  plan_served status tells = came status tells

@@ -1,5 +1,5 @@
 -- A run that goes on from its record: each other answer has a cause that isn't there.
-use Rattle.std.proofs.Common.{◌≡◌, ◌≢◌, ◌⊎◌, inl, inr, ℕ, ◌+◌, ◌<◌, List, length, Option, Some, None, Ok, Bool, refl, sym, ap, ◌∙◌, subst, arith}
+use Rattle.std.proofs.Common.{◌≡◌, ◌≢◌, ◌⊎◌, inl, inr, ℕ, ◌+◌, ◌<◌, List, length, Option, Some, None, Bool, refl, sym, ap, ◌∙◌, subst, arith}
 use Rattle.std.specs.Prelude.{slice_get}
 use Rattle.std.proofs.lemmas.List.Elements.{All-weaker}
 use Rattle.cu_store.specs.Held.{Contents, IsAmong}
@@ -28,7 +28,6 @@ use Rattle.cu_command.specs.declared.job.JobFault.{JobFault}
 use Rattle.cu_command.specs.declared.job.JobFault.TheVariants as fault
 use Rattle.cu_command.specs.declared.status.Status.{Status}
 use Rattle.cu_command.specs.declared.status.Status.TheVariants.{Done, BadExpr, BadType, OverMemory, OverLimit, BadMeta, NoArray, TaskFailed, ReadFault, WriteFault, BadChunk, OtherPlan, NoPlan, DepotFailed, NoMemory}
-use Rattle.cu_lower.specs.declared.options.Options.{Options}
 use Rattle.cu_top.proofs.CallLemmas.{same_text}
 use Rattle.cu_top.proofs.Completeness.{none_rose, none_or_some, length_before, lands_told}
 use Rattle.cu_top.specs.Call.{CameToRun}
@@ -37,7 +36,6 @@ use Rattle.cu_top.specs.Held.{HoldsOther}
 use Rattle.cu_top.specs.Record.{record_text}
 use Rattle.cu_top.specs.Resume.{IsResumed, ResumeTells, WasResumed}
 use Rattle.cu_top.specs.Run.{Scene, RunCase, case, plan_in, job_run, env_of, IsSpared, HasNoJob}
-use Rattle.cu_top.specs.Words.{command_of, resume}
 
 -- ---- why a text with a job has none: only the depot or want of memory
 
@@ -216,23 +214,17 @@ module _ (words : List (List ℕ)) (left : List ℕ) (entry : Contents) (old new
       let same : text ≡ left = same_text left text new.source.told premise.typable.expr (subst (λ (t : Option (List ℕ)). ReadsAll t new.source.told text) told_left read) premise.typable.said in
       subst (λ (t : List ℕ). fact (case premise.options t old new)) same ran
 
-  cause_told : (lack : Bool) (status : Status) → ResumeTells lack premise.options old new status → IsResumeCause status
-  cause_told lack ReadFault tells = tt
-  cause_told lack NoMemory tells = tt
-  cause_told lack status tells = resume_cause (case premise.options left old new) entry told premise.typable premise.rest lack status (came (λ c. WasResumed lack c status) tells)
-
   -- a run that goes on from its record fails by these causes alone
-  pub caused : (lack : Bool) (status : Status) → ((options : Options) → command_of words ≡ Ok (resume options) → ResumeTells lack options old new status) → IsResumeCause status
-  caused lack status tells = cause_told lack status (tells premise.options premise.words_give)
+  pub caused : (lack : Bool) (status : Status) → ResumeTells lack premise.options old new status → IsResumeCause status
+  caused lack ReadFault tells = tt
+  caused lack NoMemory tells = tt
+  caused lack status tells = resume_cause (case premise.options left old new) entry told premise.typable premise.rest lack status (came (λ c. WasResumed lack c status) tells)
 
   module _ (whole : HasWholeInputs premise.options left entry old.depot) (source : StoodStill old.source.faults new.source.faults) (sink : StoodStill old.sink.faults new.sink.faults)
       (depot : StoodStill old.depot.faults new.depot.faults) where
-    served_told : (lack : Bool) (status : Status) → ResumeTells lack premise.options old new status → IsServed status
-    served_told lack ReadFault tells = none_rose 1 old.source.faults new.source.faults (omega arith) source tells.0
-    served_told lack NoMemory tells = tt
-    served_told lack status tells =
-        resume_served (case premise.options left old new) entry told premise.typable premise.rest whole depot sink lack status (came (λ c. WasResumed lack c status) tells)
-
     -- where nothing fails, it is carried out, or memory is wanted
-    pub went_on : (lack : Bool) (status : Status) → ((options : Options) → command_of words ≡ Ok (resume options) → ResumeTells lack options old new status) → IsServed status
-    went_on lack status tells = served_told lack status (tells premise.options premise.words_give)
+    pub went_on : (lack : Bool) (status : Status) → ResumeTells lack premise.options old new status → IsServed status
+    went_on lack ReadFault tells = none_rose 1 old.source.faults new.source.faults (omega arith) source tells.0
+    went_on lack NoMemory tells = tt
+    went_on lack status tells =
+        resume_served (case premise.options left old new) entry told premise.typable premise.rest whole depot sink lack status (came (λ c. WasResumed lack c status) tells)

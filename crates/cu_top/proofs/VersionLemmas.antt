@@ -1,11 +1,8 @@
 -- Two jobs of one text, over depots that hold the same inputs.
 use Rattle.std.proofs.Common.{◌≡◌, ℕ, pos, List, Contains, Option, Some, None, Result, Ok, refl, sym, ap, ◌∙◌, subst}
-use Rattle.std.specs.Prelude.{slice_get, unwrap_or}
+use Rattle.std.specs.Prelude.{slice_get, string_bytes, unwrap_or}
 use Rattle.std.proofs.lemmas.List.Elements.{Contains-get_or}
 use Rattle.std.proofs.lemmas.Option.{slice_get_within, get_or_from_slice_get}
-use Rattle.serde_json.specs.Data.{Data}
-use Rattle.serde_json.specs.View.{view}
-use Rattle.serde_json.specs.Written.{compact_text}
 use Rattle.cu_expr.specs.Typing.{typed}
 use Rattle.cu_expr.specs.declared.inputs.InputInfo.{InputInfo}
 use Rattle.cu_form.specs.Expression.{Expression}
@@ -44,11 +41,11 @@ one_of : {A : Type 0} (o : Option A) (x y : A) → o ≡ Some x → o ≡ Some y
 one_of o x y one other = cc
 
 -- what a run is made from
-abbrev run_from : Options → Expression → List NodeInfo → List InputInfo → Data → PlanRun
-run_from options expr types inputs value =
-    plan_run expr (merged_plan_of expr types inputs options) (joined options (compact_text value) (inputs_text inputs)) (metadata_text (layout_view (made_layout (info_at types expr.out))))
+abbrev run_from : Options → Expression → List NodeInfo → List InputInfo → List ℕ → PlanRun
+run_from options expr types inputs compact =
+    plan_run expr (merged_plan_of expr types inputs options) (joined options compact (inputs_text inputs)) (metadata_text (layout_view (made_layout (info_at types expr.out))))
 
-made_from : (options : Options) (job : Job) → run_of_job options job ≡ run_from options job.expr job.types job.inputs.items (view job.value)
+made_from : (options : Options) (job : Job) → run_of_job options job ≡ run_from options job.expr job.types job.inputs.items (string_bytes job.compact)
 unfolding record_text
 made_from options job = refl
 
@@ -65,16 +62,16 @@ module _ (text : List ℕ) (a b : Shown) (inputs : List InputInfo) (one other : 
       one_value (typed one.inputs.items one.expr) one.types other.types is_one.types
       (ap (λ (is : List InputInfo). typed is one.expr) inputs_same ∙ ap (typed other.inputs.items) expr_same ∙ is_other.types)
 
-  value_same : view one.value ≡ view other.value
-  value_same = one_of _ (view one.value) (view other.value) is_one.value is_other.value
+  compact_same : string_bytes one.compact ≡ string_bytes other.compact
+  compact_same = one_of _ (string_bytes one.compact) (string_bytes other.compact) is_one.compact is_other.compact
 
   pub run_same : (options : Options) → run_of_job options one ≡ run_of_job options other
   run_same options =
       made_from options one
-      ∙ ap (λ (e : Expression). run_from options e one.types one.inputs.items (view one.value)) expr_same
-      ∙ ap (λ (ts : List NodeInfo). run_from options other.expr ts one.inputs.items (view one.value)) types_same
-      ∙ ap (λ (is : List InputInfo). run_from options other.expr other.types is (view one.value)) inputs_same
-      ∙ ap (λ (v : Data). run_from options other.expr other.types other.inputs.items v) value_same
+      ∙ ap (λ (e : Expression). run_from options e one.types one.inputs.items (string_bytes one.compact)) expr_same
+      ∙ ap (λ (ts : List NodeInfo). run_from options other.expr ts one.inputs.items (string_bytes one.compact)) types_same
+      ∙ ap (λ (is : List InputInfo). run_from options other.expr other.types is (string_bytes one.compact)) inputs_same
+      ∙ ap (λ (t : List ℕ). run_from options other.expr other.types other.inputs.items t) compact_same
       ∙ sym (made_from options other)
 
 -- ---- elements

@@ -1,3 +1,4 @@
+pub mod Answered
 pub mod Ask
 pub mod Call
 pub mod Calls

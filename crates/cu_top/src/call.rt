@@ -12,6 +12,7 @@ ghost use Rattle.cu_load.specs.Load.{Loaded, LoadsWithin};
 ghost use Rattle.cu_lower.specs.declared.options.Options.{Options};
 ghost use Rattle.cu_print.specs.Print.{Printed, PrintsWithin};
 ghost use Rattle.cu_top.specs.Calls.{RunsWithin, ResumesWithin, DropsWithin, DemosWithin};
+ghost use Rattle.cu_top.specs.Answered.{CallAnswered, RunAnswered, ResumeAnswered, DropAnswered, PlanAnswered};
 ghost use Rattle.cu_top.specs.Call.{CameToRun, DidNothing, IsReadFault, IsShort, IsExpressionRefused, IsWordsRefused, RunTells};
 ghost use Rattle.cu_top.specs.Complete.{FewFailed, HasWholeInputs, IsNotGivenUp, IsPlannable, IsResumable, IsResumeCause, IsServable, IsServed, retries_of};
 ghost use Rattle.cu_top.specs.Planned.{IsPrinted, PlansWithin, PlanTells};
@@ -209,43 +210,9 @@ fn carry<H: Threads + Wait + Sync, R: Source, W: Sink, D: Share, G: Gate>(
         → WhereTold (D.shown depot.old).held (IsDemoCalm options size (D.shown depot.old)) }
     requires left { (options : Options) (text : List ℕ) (next : Option (List ℕ))
         → command_of (map string_bytes words.now) ≡ Ok (resume options) → ReadsAll (R.left src.old) next text → IsLeftEntry options text (D.shown depot.old) }
-    ensures unknown { command_of (map string_bytes words.now) ≡ Err 1 → result ≡ Status.BadWords 1 }
-    ensures words { (code : ℕ) → command_of (map string_bytes words.now) ≡ Err code → IsWordsRefused code result × DidNothing (scene (stream (R.left src.old) (R.faults src.old)) (stream (W.written out.old) (W.faults out.old)) (D.shown depot.old))
-        (scene (stream (R.left src.new) (R.faults src.new)) (stream (W.written out.new) (W.faults out.new)) (D.shown depot.new)) }
-    ensures runs { (options : Options) → command_of (map string_bytes words.now) ≡ Ok (run options) → RunTells (D.yards_lack depot.new) options (scene (stream (R.left src.old) (R.faults src.old)) (stream (W.written out.old) (W.faults out.old)) (D.shown depot.old))
+    ensures { CallAnswered (D.yards_lack depot.new) (command_of (map string_bytes words.now))
+        (scene (stream (R.left src.old) (R.faults src.old)) (stream (W.written out.old) (W.faults out.old)) (D.shown depot.old))
         (scene (stream (R.left src.new) (R.faults src.new)) (stream (W.written out.new) (W.faults out.new)) (D.shown depot.new)) result }
-    ensures prints { (options : Options) → command_of (map string_bytes words.now) ≡ Ok (run options) → PrintsOnly result (W.written out.old) (W.written out.new) }
-    ensures resumes { (options : Options) → command_of (map string_bytes words.now) ≡ Ok (resume options) → ResumeTells (D.yards_lack depot.new) options (scene (stream (R.left src.old) (R.faults src.old)) (stream (W.written out.old) (W.faults out.old)) (D.shown depot.old))
-        (scene (stream (R.left src.new) (R.faults src.new)) (stream (W.written out.new) (W.faults out.new)) (D.shown depot.new)) result }
-    ensures resume_prints { (options : Options) → command_of (map string_bytes words.now) ≡ Ok (resume options) → PrintsOnly result (W.written out.old) (W.written out.new) }
-    ensures drops { (options : Options) → command_of (map string_bytes words.now) ≡ Ok (drop options) → DropTells options (scene (stream (R.left src.old) (R.faults src.old)) (stream (W.written out.old) (W.faults out.old)) (D.shown depot.old))
-        (scene (stream (R.left src.new) (R.faults src.new)) (stream (W.written out.new) (W.faults out.new)) (D.shown depot.new)) result }
-    ensures drop_prints { (options : Options) → command_of (map string_bytes words.now) ≡ Ok (drop options) → PrintsOnly result (W.written out.old) (W.written out.new) }
-    ensures plans { (options : Options) → command_of (map string_bytes words.now) ≡ Ok (plan options) → PlanTells options (scene (stream (R.left src.old) (R.faults src.old)) (stream (W.written out.old) (W.faults out.old)) (D.shown depot.old))
-        (scene (stream (R.left src.new) (R.faults src.new)) (stream (W.written out.new) (W.faults out.new)) (D.shown depot.new)) result }
-    ensures plan_prints { (options : Options) → command_of (map string_bytes words.now) ≡ Ok (plan options) → PrintsOnly result (W.written out.old) (W.written out.new) }
-    ensures loads { (retries : ℕ) → command_of (map string_bytes words.now) ≡ Ok (load retries) → Loaded retries (stream (R.left src.old) (R.faults src.old)) (stream (R.left src.new) (R.faults src.new))
-        (seen (stream (W.written out.old) (W.faults out.old)) (D.shown depot.old)) (seen (stream (W.written out.new) (W.faults out.new)) (D.shown depot.new)) result }
-    ensures print_kept { (name : List ℕ) (retries : ℕ) → command_of (map string_bytes words.now) ≡ Ok (print name retries) → R.left src.new ≡ R.left src.old }
-    ensures prints_array { (name : List ℕ) (retries : ℕ) → command_of (map string_bytes words.now) ≡ Ok (print name retries)
-        → Printed retries name (seen (stream (W.written out.old) (W.faults out.old)) (D.shown depot.old)) (seen (stream (W.written out.new) (W.faults out.new)) (D.shown depot.new)) result }
-    ensures checks { (retries : ℕ) → command_of (map string_bytes words.now) ≡ Ok (check retries) → Checked retries (stream (R.left src.old) (R.faults src.old)) (stream (R.left src.new) (R.faults src.new))
-        (seen (stream (W.written out.old) (W.faults out.old)) (D.shown depot.old)) (seen (stream (W.written out.new) (W.faults out.new)) (D.shown depot.new)) result }
-    ensures demos { (size : ℕ) (options : Options) → command_of (map string_bytes words.now) ≡ Ok (demo size options) → DemoTells (D.yards_lack depot.new)
-        (demo_case options size (seen (stream (W.written out.old) (W.faults out.old)) (D.shown depot.old)) (seen (stream (W.written out.new) (W.faults out.new)) (D.shown depot.new))) result }
-    ensures demo_kept { (size : ℕ) (options : Options) → command_of (map string_bytes words.now) ≡ Ok (demo size options) → R.left src.new ≡ R.left src.old }
-    ensures plan_calls { (options : Options) → command_of (map string_bytes words.now) ≡ Ok (plan options) → PlansWithin (options.retries + 1) (stream (R.left src.old) (R.faults src.old)) (stream (R.left src.new) (R.faults src.new)) (D.shown depot.old) (D.shown depot.new) }
-    ensures load_calls { (retries : ℕ) → command_of (map string_bytes words.now) ≡ Ok (load retries) → LoadsWithin retries (R.left src.old) (R.left src.new) (D.shown depot.old) (D.shown depot.new) }
-    ensures check_calls { (retries : ℕ) → command_of (map string_bytes words.now) ≡ Ok (check retries) → ChecksWithin (retries + 1) (stream (R.left src.old) (R.faults src.old)) (stream (R.left src.new) (R.faults src.new)) (D.shown depot.old) (D.shown depot.new) }
-    ensures print_calls { (name : List ℕ) (retries : ℕ) → command_of (map string_bytes words.now) ≡ Ok (print name retries) → PrintsWithin (retries + 1) name (D.shown depot.old) (D.shown depot.new) }
-    ensures run_calls { (options : Options) → command_of (map string_bytes words.now) ≡ Ok (run options) → RunsWithin options (scene (stream (R.left src.old) (R.faults src.old)) (stream (W.written out.old) (W.faults out.old)) (D.shown depot.old))
-        (scene (stream (R.left src.new) (R.faults src.new)) (stream (W.written out.new) (W.faults out.new)) (D.shown depot.new)) result }
-    ensures resume_calls { (options : Options) → command_of (map string_bytes words.now) ≡ Ok (resume options) → ResumesWithin options (scene (stream (R.left src.old) (R.faults src.old)) (stream (W.written out.old) (W.faults out.old)) (D.shown depot.old))
-        (scene (stream (R.left src.new) (R.faults src.new)) (stream (W.written out.new) (W.faults out.new)) (D.shown depot.new)) result }
-    ensures drop_calls { (options : Options) → command_of (map string_bytes words.now) ≡ Ok (drop options) → DropsWithin options (scene (stream (R.left src.old) (R.faults src.old)) (stream (W.written out.old) (W.faults out.old)) (D.shown depot.old))
-        (scene (stream (R.left src.new) (R.faults src.new)) (stream (W.written out.new) (W.faults out.new)) (D.shown depot.new)) result }
-    ensures demo_calls { (size : ℕ) (options : Options) → command_of (map string_bytes words.now) ≡ Ok (demo size options) → DemosWithin
-        (demo_case options size (seen (stream (W.written out.old) (W.faults out.old)) (D.shown depot.old)) (seen (stream (W.written out.new) (W.faults out.new)) (D.shown depot.new))) result }
 {
     let asked = match read_words(alloc, words) {
         Reading::Asked(asked) => asked,
@@ -276,10 +243,7 @@ fn run_command<H: Threads + Wait + Sync, R: Source, W: Sink, D: Share, G: Gate>(
 ) -> Status
     requires options { IsInRange options.now }
     requires quiet { (text : List ℕ) (next : Option (List ℕ)) → ReadsAll (R.left src.old) next text → IsCalm options.now text (D.shown depot.old) }
-    ensures answer { RunTells (D.yards_lack depot.new) options.now (scene (stream (R.left src.old) (R.faults src.old)) (stream (W.written out.old) (W.faults out.old)) (D.shown depot.old))
-        (scene (stream (R.left src.new) (R.faults src.new)) (stream (W.written out.new) (W.faults out.new)) (D.shown depot.new)) result }
-    ensures prints { PrintsOnly result (W.written out.old) (W.written out.new) }
-    ensures calls { RunsWithin options.now (scene (stream (R.left src.old) (R.faults src.old)) (stream (W.written out.old) (W.faults out.old)) (D.shown depot.old))
+    ensures { RunAnswered (D.yards_lack depot.new) options.now (scene (stream (R.left src.old) (R.faults src.old)) (stream (W.written out.old) (W.faults out.old)) (D.shown depot.old))
         (scene (stream (R.left src.new) (R.faults src.new)) (stream (W.written out.new) (W.faults out.new)) (D.shown depot.new)) result }
 {
     match read_all(alloc, src) {
@@ -301,10 +265,7 @@ fn resume_command<H: Threads + Wait + Sync, R: Source, W: Sink, D: Share, G: Gat
 ) -> Status
     requires options { IsInRange options.now }
     requires left { (text : List ℕ) (next : Option (List ℕ)) → ReadsAll (R.left src.old) next text → IsLeftEntry options.now text (D.shown depot.old) }
-    ensures answer { ResumeTells (D.yards_lack depot.new) options.now (scene (stream (R.left src.old) (R.faults src.old)) (stream (W.written out.old) (W.faults out.old)) (D.shown depot.old))
-        (scene (stream (R.left src.new) (R.faults src.new)) (stream (W.written out.new) (W.faults out.new)) (D.shown depot.new)) result }
-    ensures prints { PrintsOnly result (W.written out.old) (W.written out.new) }
-    ensures calls { ResumesWithin options.now (scene (stream (R.left src.old) (R.faults src.old)) (stream (W.written out.old) (W.faults out.old)) (D.shown depot.old))
+    ensures { ResumeAnswered (D.yards_lack depot.new) options.now (scene (stream (R.left src.old) (R.faults src.old)) (stream (W.written out.old) (W.faults out.old)) (D.shown depot.old))
         (scene (stream (R.left src.new) (R.faults src.new)) (stream (W.written out.new) (W.faults out.new)) (D.shown depot.new)) result }
 {
     match read_all(alloc, src) {
@@ -323,10 +284,7 @@ fn drop_command<R: Source, W: Sink, D: Depot>(
     depot: &mut D,
 ) -> Status
     requires options { IsInRange options.now }
-    ensures answer { DropTells options.now (scene (stream (R.left src.old) (R.faults src.old)) (stream (W.written out.old) (W.faults out.old)) (D.shown depot.old))
-        (scene (stream (R.left src.new) (R.faults src.new)) (stream (W.written out.new) (W.faults out.new)) (D.shown depot.new)) result }
-    ensures prints { PrintsOnly result (W.written out.old) (W.written out.new) }
-    ensures calls { DropsWithin options.now (scene (stream (R.left src.old) (R.faults src.old)) (stream (W.written out.old) (W.faults out.old)) (D.shown depot.old))
+    ensures { DropAnswered options.now (scene (stream (R.left src.old) (R.faults src.old)) (stream (W.written out.old) (W.faults out.old)) (D.shown depot.old))
         (scene (stream (R.left src.new) (R.faults src.new)) (stream (W.written out.new) (W.faults out.new)) (D.shown depot.new)) result }
 {
     match read_all(alloc, src) {
@@ -345,10 +303,8 @@ fn plan_command<R: Source, W: Sink, D: Depot>(
     depot: &mut D,
 ) -> Status
     requires options { IsInRange options.now }
-    ensures answer { PlanTells options.now (scene (stream (R.left src.old) (R.faults src.old)) (stream (W.written out.old) (W.faults out.old)) (D.shown depot.old))
+    ensures { PlanAnswered options.now (scene (stream (R.left src.old) (R.faults src.old)) (stream (W.written out.old) (W.faults out.old)) (D.shown depot.old))
         (scene (stream (R.left src.new) (R.faults src.new)) (stream (W.written out.new) (W.faults out.new)) (D.shown depot.new)) result }
-    ensures prints { PrintsOnly result (W.written out.old) (W.written out.new) }
-    ensures calls { PlansWithin (options.now.retries + 1) (stream (R.left src.old) (R.faults src.old)) (stream (R.left src.new) (R.faults src.new)) (D.shown depot.old) (D.shown depot.new) }
 {
     match read_all(alloc, src) {
         Ok(text) => print_plan(alloc, options, &text, out, depot),

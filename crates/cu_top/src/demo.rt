@@ -36,7 +36,6 @@ use cu_name::key_of_name;
 use cu_num::{Dtype, Encoding, Sep, load};
 use cu_op::Plan;
 use cu_plan::{merged_plan_law, plan};
-use cu_read::plain_law;
 use cu_shape::Dims;
 use cu_state::complete_law;
 use cu_store::{Depot, DepotFault, Failed, Gate, Got, Key, Share, Sink, get_tries};
@@ -262,7 +261,6 @@ pub fn demo<H: Threads + Wait + Sync, W: Sink, D: Share, G: Gate>(
     meta_law();
     merged_plan_law();
     complete_law();
-    plain_law();
     let prepared = match plan_demo(alloc, options, size) {
         Ok(prepared) => prepared,
         Err(status) => return status,

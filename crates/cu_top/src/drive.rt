@@ -1,7 +1,5 @@
 //! The tasks of an accepted plan: the texts in front of its chunks, their run, and what it answers.
 ghost use Rattle.std.specs.Prelude.{◌≡◌, ◌<◌, IfErr, IfOk, Some, false};
-ghost use Rattle.serde_json.specs.View.{view};
-ghost use Rattle.serde_json.specs.Written.{has_float};
 ghost use Rattle.cu_store.specs.Held.{Contents};
 ghost use Rattle.cu_state.specs.Pieces.{KeysApart, InputsApart};
 ghost use Rattle.cu_work.specs.Shared.{IsOpen, IsMemoryFor};
@@ -29,7 +27,6 @@ use std::sync::Wait;
 use std::thread::Threads;
 
 /// A job with its plan, and the texts that are stored in front of its chunks.
-#[derive(Drop)]
 pub struct Ready {
     pub job: Job,
     pub plan: Plan,
@@ -39,16 +36,27 @@ pub struct Ready {
     pub metadata_text: Vec<u8>,
 }
 
+// By hand, as that of `Prepared`.
+impl Drop for Ready {
+    fn drop(self) {
+        let Ready {
+            job: _,
+            plan: _,
+            record_text: _,
+            metadata_text: _,
+        } = self;
+    }
+}
+
 /// The texts of an accepted plan.
 pub fn make_ready(alloc: Global, options: &Options, prepared: Prepared) -> Result<Ready, NoMemory>
     requires planned { HasPlan options.now prepared.job }
     requires plan { prepared.plan ≡ job_plan options.now prepared.job }
-    requires plain { has_float (view prepared.job.value) ≡ false }
     ensures job { IfOk result (λ r. r.job ≡ prepared.job) }
     ensures ready { IfOk result (HasPlanAndTexts options.now) }
 {
     merged_plan_law();
-    let Prepared { job, plan } = prepared;
+    let (job, plan) = prepared.parts();
     let record_text = record_text(alloc, options, &job)?;
     let metadata_text = write_meta(alloc, &plan.array(plan.out()).layout)?;
     Ok(Ready {

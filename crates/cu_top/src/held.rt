@@ -16,12 +16,11 @@ use crate::drive::{Ready, make_ready};
 use crate::prepare::plan_job;
 use cu_command::{Status, zeros};
 use cu_lower::Options;
-use cu_read::plain_law;
 use cu_store::{Depot, DepotFault, Got, Key, get_tries};
 use std::alloc::Global;
 
 /// Why a key doesn't hold the record of a plan.
-#[derive(Clone, Copy, Debug, PartialEq, Eq)]
+#[derive(Clone, Copy)]
 pub enum RecordFault {
     /// The key is absent.
     Absent,
@@ -143,7 +142,6 @@ pub fn reopen<D: Depot>(
         → IfErr result (ReopenWithin (case options.now text.now
         (scene source sink (D.shown depot.old)) (scene next after (D.shown depot.new)))) }
 {
-    plain_law();
     let prepared = match plan_job(alloc, options, text, depot) {
         Ok(prepared) => prepared,
         Err(status) => return Err(status),

@@ -19,10 +19,26 @@ use cu_store::Depot;
 use std::alloc::Global;
 
 /// A job that has a plan, and its plan.
-#[derive(Drop)]
 pub struct Prepared {
     pub job: Job,
     pub plan: Plan,
+}
+
+// By hand, so that a function that owns one has one call in place of the drops of all that is in it.
+impl Drop for Prepared {
+    fn drop(self) {
+        let Prepared { job: _, plan: _ } = self;
+    }
+}
+
+impl Prepared {
+    /// The job and the plan.
+    pub fn parts(self) -> (Job, Plan)
+        ensures { result ≡ (self.job, self.plan) }
+    {
+        let Prepared { job, plan } = self;
+        (job, plan)
+    }
 }
 
 /// What a command answers where the plan was refused.

@@ -17,7 +17,6 @@ use crate::report::{RunCounts, report};
 use cu_command::Status;
 use cu_lower::Options;
 use cu_plan::merged_plan_law;
-use cu_read::plain_law;
 use cu_state::{complete_law, left_law};
 use cu_store::{Gate, Share, Sink};
 use cu_table::{broken_law, count_law};
@@ -92,7 +91,6 @@ pub fn run<H: Threads + Wait + Sync, W: Sink, D: Share, G: Gate>(
     ensures calls { (source next sink after : Stream) → RunWithin (case options.now text.now
         (scene source sink (D.shown depot.old)) (scene next after (D.shown depot.new))) result }
 {
-    plain_law();
     let prepared = match prepare(alloc, options, text, depot) {
         Ok(prepared) => prepared,
         Err(status) => return status,

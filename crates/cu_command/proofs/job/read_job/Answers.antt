@@ -58,7 +58,7 @@ types_in-requires g c = layouts_of (g.D.Depot.shown c.args.depot.now) c.in-Ok-re
 pub returns-clause-job : goal.returns-clause-job
 returns-clause-job g c = record {
   said = c.in-Ok.ensures.said;
-  value = c.in-Ok.ensures.value;
+  compact = c.in-Ok.ensures.compact;
   names = c.in-Ok-read_inputs.ensures.names;
   inputs = c.in-Ok-read_inputs.ensures.read;
   types = subst (λ (is : List InputInfo). typed is c.in-Ok.said.expr ≡ Ok c.in-Ok-types_in.types) c.deref.ensures.value c.in-Ok-types_in.ensures.types;

@@ -7,7 +7,7 @@ use Rattle.cu_demo.proofs.job.demo_job.Goals as goal
 pub returns : goal.returns
 returns c = record {
   said = c.in_ok-expr.ensures.said;
-  value = c.in_ok-expr.ensures.value;
+  compact = c.in_ok-expr.ensures.compact;
   expr = c.in_ok-expr.ensures.expr;
   inputs = c.in_ok-inputs.ensures;
   types = c.in_ok-types.ensures;

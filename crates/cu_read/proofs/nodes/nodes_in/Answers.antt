@@ -28,3 +28,20 @@ pub returns-clause-good : goal.returns-clause-good
 returns-clause-good c =
     are_nodes c.deref-item-items.result.now c.loop-item.nodes.list.items (omega (arith, ap length c.deref-item-items.ensures.value))
     (all_said c.deref-item-items.result.now c.loop-item.item-index c.loop-item.nodes.list.items (omega arith) c.loop-item.invariant.whole)
+
+pub returns-then-is_err : goal.returns-then-is_err
+returns-then-is_err c = record { nodes = tt; ids = tt; good = tt }
+
+pub returns-in-Err-clause-ids : goal.returns-in-Err-clause-ids
+returns-in-Err-clause-ids c = tt
+
+pub returns-in-Err-clause-good : goal.returns-in-Err-clause-good
+returns-in-Err-clause-good c = tt
+
+pub returns-clause-ids : goal.returns-clause-ids
+returns-clause-ids c = c.loop-item.invariant.ids
+
+pub returns-clause-nodes : goal.returns-clause-nodes
+returns-clause-nodes c =
+    ap (λ (vs : List Value). nodes_after [] (items_view vs)) (sym c.deref-item-items.ensures.value)
+    ∙ all_said c.deref-item-items.result.now c.loop-item.item-index c.loop-item.nodes.list.items c.loop-item-test.false c.loop-item.invariant.whole

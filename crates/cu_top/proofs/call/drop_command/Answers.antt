@@ -1,30 +1,14 @@
-use Rattle.std.proofs.Common.{false, subst, List, ℕ, inr}
-use Rattle.cu_command.specs.Seen.{stream}
-use Rattle.cu_top.proofs.CallLemmas.{told_drop}
-use Rattle.cu_top.specs.Drop.{Dropped}
-use Rattle.cu_top.specs.Run.{scene, case}
-use Rattle.cu_top.specs.Calls.{DropWithin}
+use Rattle.std.proofs.Common.{refl, inl, arith}
+use Rattle.cu_command.proofs.SeenLemmas.{stepped_same}
+use Rattle.cu_top.proofs.AnsweredLemmas.{drop_answered}
 use Rattle.cu_top.proofs.call.drop_command.Goals as goal
 
-pub returns-in-Ok-clause-answer : goal.returns-in-Ok-clause-answer
-returns-in-Ok-clause-answer g c =
-    let source = stream (g.R.Source.left c.args.src.now) (g.R.Source.faults c.args.src.now) in
-    let next = stream (g.R.Source.left c.read_all.new.src) (g.R.Source.faults c.read_all.new.src) in
-    let old = scene source (stream (g.W.Sink.written c.args.out.now) (g.W.Sink.faults c.args.out.now)) (g.D.Depot.shown c.args.depot.now) in
-    let new = scene next (stream (g.W.Sink.written c.drop_plan.new.out) (g.W.Sink.faults c.drop_plan.new.out)) (g.D.Depot.shown c.drop_plan.new.depot) in
-    told_drop false c.args.options.now old new c.in-Ok.text.items c.drop_plan.result c.in-Ok.ensures.text
-    (subst (λ (text : List ℕ). Dropped (case c.args.options.now text old new) c.drop_plan.result) c.deref.ensures.value (c.drop_plan.ensures.answer source next))
+pub returns-in-Ok : goal.returns-in-Ok
+returns-in-Ok g c =
+    drop_answered _ _ _ c.in-Ok.text.items _ _ c.deref.ensures.value c.in-Ok.ensures.text c.drop_plan.ensures.prints c.drop_plan.ensures.answer c.drop_plan.ensures.calls
 
-pub returns-in-Ok-clause-calls : goal.returns-in-Ok-clause-calls
-returns-in-Ok-clause-calls g c =
-    let source = stream (g.R.Source.left c.args.src.now) (g.R.Source.faults c.args.src.now) in
-    let next = stream (g.R.Source.left c.read_all.new.src) (g.R.Source.faults c.read_all.new.src) in
-    let out = stream (g.W.Sink.written c.args.out.now) (g.W.Sink.faults c.args.out.now) in
-    let after = stream (g.W.Sink.written c.drop_plan.new.out) (g.W.Sink.faults c.drop_plan.new.out) in
-    let old = scene source out (g.D.Depot.shown c.args.depot.now) in
-    let new = scene next after (g.D.Depot.shown c.drop_plan.new.depot) in
-    inr (
-      c.in-Ok.text.items,
-      c.in-Ok.ensures.text,
-      subst (λ (text : List ℕ). DropWithin (case c.args.options.now text old new) c.drop_plan.result) c.deref.ensures.value (c.drop_plan.ensures.calls source next out after),
-    )
+pub returns-in-Err-Fault : goal.returns-in-Err-Fault
+returns-in-Err-Fault g c = record { tells = (rw c.in-Err-Fault.field-0-is at c.in-Err-Fault.ensures.cause, stepped_same _ _); prints = refl; calls = inl (omega arith) }
+
+pub returns-in-Err-NoMemory : goal.returns-in-Err-NoMemory
+returns-in-Err-NoMemory g c = record { tells = inl (stepped_same _ _); prints = refl; calls = inl (omega arith) }

@@ -1,97 +1,169 @@
 use Rattle.std.specs.Prelude.{map, string_bytes}
-use Rattle.cu_command.specs.Seen.{stream, seen}
-use Rattle.cu_top.proofs.CallLemmas.{refused_text}
-use Rattle.cu_top.proofs.CheckLemmas.{found_equal, found_unequal}
-use Rattle.cu_top.proofs.Completeness.{served}
-use Rattle.cu_top.proofs.DemoLemmas.{was_demonstrated}
-use Rattle.cu_top.proofs.DemoServed.{demo_served}
-use Rattle.cu_top.proofs.FewFailures.{not_given_up}
-use Rattle.cu_top.proofs.ResumeServed.{caused, went_on}
-use Rattle.cu_top.proofs.PlannedLemmas.{plan_printed, plan_spared, plan_refused_text, plan_served}
-use Rattle.cu_top.specs.Demo.{demo_case}
-use Rattle.cu_top.specs.Run.{scene}
+use Rattle.cu_command.specs.declared.status.Status.TheVariants.{Done, BadExpr, BadType, OverMemory, OverLimit, BadMeta, NoArray, Exists, TaskFailed, ReadFault, WriteFault, BadChunk, DepotFailed, NoMemory}
+use Rattle.cu_top.proofs.AnsweredLemmas.{complete, demo_complete, demonstrated, equal, few_failures, of_check, of_demo, of_drop, of_load, of_plan, of_print, of_resume, of_run, plan_complete, plan_refused, plan_stores_nothing, planned, resume_causes, resume_complete, run_as, run_refused, unequal, words_refused}
 use Rattle.cu_top.proofs.call.top.Goals as goal
 
+pub returns-clause-unknown : goal.returns-clause-unknown
+returns-clause-unknown g c = c.carry.ensures.unknown
+
+pub returns-clause-words : goal.returns-clause-words
+returns-clause-words g c = words_refused c.carry.ensures
+
+-- ---- a run
+
+pub returns-clause-done : goal.returns-clause-done
+returns-clause-done g c = run_as c.carry.ensures Done
+
+pub returns-clause-unreported : goal.returns-clause-unreported
+returns-clause-unreported g c = run_as c.carry.ensures WriteFault
+
+pub returns-clause-task_failed : goal.returns-clause-task_failed
+returns-clause-task_failed g c = λ options op task. run_as c.carry.ensures (TaskFailed op task) options
+
+pub returns-clause-bad_chunk : goal.returns-clause-bad_chunk
+returns-clause-bad_chunk g c = λ options key got want. run_as c.carry.ensures (BadChunk key got want) options
+
+pub returns-clause-depot_failed : goal.returns-clause-depot_failed
+returns-clause-depot_failed g c = λ options key. run_as c.carry.ensures (DepotFailed key) options
+
+pub returns-clause-over_memory : goal.returns-clause-over_memory
+returns-clause-over_memory g c = λ options node need allowed. run_as c.carry.ensures (OverMemory node need allowed) options
+
+pub returns-clause-over_limit : goal.returns-clause-over_limit
+returns-clause-over_limit g c = λ options which count. run_as c.carry.ensures (OverLimit which count) options
+
+pub returns-clause-exists : goal.returns-clause-exists
+returns-clause-exists g c = λ options key. run_as c.carry.ensures (Exists key) options
+
+pub returns-clause-no_array : goal.returns-clause-no_array
+returns-clause-no_array g c = λ options name. run_as c.carry.ensures (NoArray name) options
+
+pub returns-clause-bad_meta : goal.returns-clause-bad_meta
+returns-clause-bad_meta g c = λ options name code. run_as c.carry.ensures (BadMeta name code) options
+
+pub returns-clause-bad_expr : goal.returns-clause-bad_expr
+returns-clause-bad_expr g c = λ options code node. run_as c.carry.ensures (BadExpr code node) options
+
+pub returns-clause-bad_type : goal.returns-clause-bad_type
+returns-clause-bad_type g c = λ options code node. run_as c.carry.ensures (BadType code node) options
+
 pub returns-clause-refused_text : goal.returns-clause-refused_text
-returns-clause-refused_text g c = λ options text fault words told err.
-    refused_text (g.D.Share.yards_lack c.carry.new.depot) options (scene (stream (g.R.Source.left c.args.src.now) (g.R.Source.faults c.args.src.now)) (stream (g.W.Sink.written c.args.out.now) (g.W.Sink.faults c.args.out.now)) (g.D.Depot.shown c.args.depot.now))
-    (scene (stream (g.R.Source.left c.carry.new.src) (g.R.Source.faults c.carry.new.src)) (stream (g.W.Sink.written c.carry.new.out) (g.W.Sink.faults c.carry.new.out)) (g.D.Depot.shown c.carry.new.depot))
-    text fault c.carry.result told err (c.carry.ensures.runs options words)
+returns-clause-refused_text g c = run_refused c.carry.ensures
+
+pub returns-clause-read_fault : goal.returns-clause-read_fault
+returns-clause-read_fault g c = run_as c.carry.ensures ReadFault
+
+pub returns-clause-no_memory : goal.returns-clause-no_memory
+returns-clause-no_memory g c = run_as c.carry.ensures NoMemory
+
+pub returns-clause-runs : goal.returns-clause-runs
+returns-clause-runs g c = λ options words. (of_run c.carry.ensures options words).tells
+
+pub returns-clause-prints : goal.returns-clause-prints
+returns-clause-prints g c = λ options words. (of_run c.carry.ensures options words).prints
+
+pub returns-clause-run_calls : goal.returns-clause-run_calls
+returns-clause-run_calls g c = λ options words. (of_run c.carry.ensures options words).calls
 
 pub returns-clause-complete : goal.returns-clause-complete
-returns-clause-complete g c = λ text entry told_left told premise source sink depot.
-    served _ text entry (scene (stream (g.R.Source.left c.args.src.now) (g.R.Source.faults c.args.src.now)) (stream (g.W.Sink.written c.args.out.now) (g.W.Sink.faults c.args.out.now)) (g.D.Depot.shown c.args.depot.now))
-    (scene (stream (g.R.Source.left c.carry.new.src) (g.R.Source.faults c.carry.new.src)) (stream (g.W.Sink.written c.carry.new.out) (g.W.Sink.faults c.carry.new.out)) (g.D.Depot.shown c.carry.new.depot)) told_left told premise source sink depot (g.D.Share.yards_lack c.carry.new.depot) c.carry.result c.carry.ensures.runs
+returns-clause-complete g c = λ text. complete (map string_bytes c.args.words.now) c.carry.ensures text
 
-pub returns-clause-equal : goal.returns-clause-equal
-returns-clause-equal g c = λ retries words done.
-    found_equal retries (stream (g.R.Source.left c.args.src.now) (g.R.Source.faults c.args.src.now)) (stream (g.R.Source.left c.carry.new.src) (g.R.Source.faults c.carry.new.src))
-    (seen (stream (g.W.Sink.written c.args.out.now) (g.W.Sink.faults c.args.out.now)) (g.D.Depot.shown c.args.depot.now))
-    (seen (stream (g.W.Sink.written c.carry.new.out) (g.W.Sink.faults c.carry.new.out)) (g.D.Depot.shown c.carry.new.depot)) c.carry.result (c.carry.ensures.checks retries words) done
+-- ---- a run that goes on, and a removal
 
-pub returns-clause-unequal : goal.returns-clause-unequal
-returns-clause-unequal g c = λ retries place stored plain words differ.
-    found_unequal retries (stream (g.R.Source.left c.args.src.now) (g.R.Source.faults c.args.src.now)) (stream (g.R.Source.left c.carry.new.src) (g.R.Source.faults c.carry.new.src))
-    (seen (stream (g.W.Sink.written c.args.out.now) (g.W.Sink.faults c.args.out.now)) (g.D.Depot.shown c.args.depot.now))
-    (seen (stream (g.W.Sink.written c.carry.new.out) (g.W.Sink.faults c.carry.new.out)) (g.D.Depot.shown c.carry.new.depot)) c.carry.result (c.carry.ensures.checks retries words) place stored plain differ
+pub returns-clause-resumes : goal.returns-clause-resumes
+returns-clause-resumes g c = λ options words. (of_resume c.carry.ensures options words).tells
 
-pub returns-clause-planned : goal.returns-clause-planned
-returns-clause-planned g c = λ options words done.
-    plan_printed options (scene (stream (g.R.Source.left c.args.src.now) (g.R.Source.faults c.args.src.now)) (stream (g.W.Sink.written c.args.out.now) (g.W.Sink.faults c.args.out.now)) (g.D.Depot.shown c.args.depot.now))
-    (scene (stream (g.R.Source.left c.carry.new.src) (g.R.Source.faults c.carry.new.src)) (stream (g.W.Sink.written c.carry.new.out) (g.W.Sink.faults c.carry.new.out)) (g.D.Depot.shown c.carry.new.depot))
-    c.carry.result (c.carry.ensures.plans options words) done
+pub returns-clause-resume_prints : goal.returns-clause-resume_prints
+returns-clause-resume_prints g c = λ options words. (of_resume c.carry.ensures options words).prints
 
-pub returns-clause-plan_refused_text : goal.returns-clause-plan_refused_text
-returns-clause-plan_refused_text g c = λ options text fault words told err.
-    plan_refused_text options (scene (stream (g.R.Source.left c.args.src.now) (g.R.Source.faults c.args.src.now)) (stream (g.W.Sink.written c.args.out.now) (g.W.Sink.faults c.args.out.now)) (g.D.Depot.shown c.args.depot.now))
-    (scene (stream (g.R.Source.left c.carry.new.src) (g.R.Source.faults c.carry.new.src)) (stream (g.W.Sink.written c.carry.new.out) (g.W.Sink.faults c.carry.new.out)) (g.D.Depot.shown c.carry.new.depot))
-    text fault c.carry.result told err (c.carry.ensures.plans options words)
-
-pub returns-clause-plan_complete : goal.returns-clause-plan_complete
-returns-clause-plan_complete g c = λ text told_left premise source sink depot.
-    plan_served _ text (scene (stream (g.R.Source.left c.args.src.now) (g.R.Source.faults c.args.src.now)) (stream (g.W.Sink.written c.args.out.now) (g.W.Sink.faults c.args.out.now)) (g.D.Depot.shown c.args.depot.now))
-    (scene (stream (g.R.Source.left c.carry.new.src) (g.R.Source.faults c.carry.new.src)) (stream (g.W.Sink.written c.carry.new.out) (g.W.Sink.faults c.carry.new.out)) (g.D.Depot.shown c.carry.new.depot)) told_left premise source sink depot c.carry.result c.carry.ensures.plans
-
-pub returns-clause-plan_spared : goal.returns-clause-plan_spared
-returns-clause-plan_spared g c = λ options words.
-    plan_spared options (scene (stream (g.R.Source.left c.args.src.now) (g.R.Source.faults c.args.src.now)) (stream (g.W.Sink.written c.args.out.now) (g.W.Sink.faults c.args.out.now)) (g.D.Depot.shown c.args.depot.now))
-    (scene (stream (g.R.Source.left c.carry.new.src) (g.R.Source.faults c.carry.new.src)) (stream (g.W.Sink.written c.carry.new.out) (g.W.Sink.faults c.carry.new.out)) (g.D.Depot.shown c.carry.new.depot))
-    c.carry.result (c.carry.ensures.plans options words)
+pub returns-clause-resume_calls : goal.returns-clause-resume_calls
+returns-clause-resume_calls g c = λ options words. (of_resume c.carry.ensures options words).calls
 
 pub returns-clause-resume_causes : goal.returns-clause-resume_causes
-returns-clause-resume_causes g c = λ text entry told_left told premise.
-    caused _ text entry (scene (stream (g.R.Source.left c.args.src.now) (g.R.Source.faults c.args.src.now)) (stream (g.W.Sink.written c.args.out.now) (g.W.Sink.faults c.args.out.now)) (g.D.Depot.shown c.args.depot.now))
-    (scene (stream (g.R.Source.left c.carry.new.src) (g.R.Source.faults c.carry.new.src)) (stream (g.W.Sink.written c.carry.new.out) (g.W.Sink.faults c.carry.new.out)) (g.D.Depot.shown c.carry.new.depot)) told_left told premise (g.D.Share.yards_lack c.carry.new.depot) c.carry.result c.carry.ensures.resumes
+returns-clause-resume_causes g c = λ text. resume_causes (map string_bytes c.args.words.now) c.carry.ensures text
 
 pub returns-clause-resume_complete : goal.returns-clause-resume_complete
-returns-clause-resume_complete g c = λ text entry told_left told premise whole source sink depot.
-    went_on _ text entry (scene (stream (g.R.Source.left c.args.src.now) (g.R.Source.faults c.args.src.now)) (stream (g.W.Sink.written c.args.out.now) (g.W.Sink.faults c.args.out.now)) (g.D.Depot.shown c.args.depot.now))
-    (scene (stream (g.R.Source.left c.carry.new.src) (g.R.Source.faults c.carry.new.src)) (stream (g.W.Sink.written c.carry.new.out) (g.W.Sink.faults c.carry.new.out)) (g.D.Depot.shown c.carry.new.depot)) told_left told premise whole source sink depot (g.D.Share.yards_lack c.carry.new.depot) c.carry.result c.carry.ensures.resumes
+returns-clause-resume_complete g c = λ text. resume_complete (map string_bytes c.args.words.now) c.carry.ensures text
+
+pub returns-clause-drops : goal.returns-clause-drops
+returns-clause-drops g c = λ options words. (of_drop c.carry.ensures options words).tells
+
+pub returns-clause-drop_prints : goal.returns-clause-drop_prints
+returns-clause-drop_prints g c = λ options words. (of_drop c.carry.ensures options words).prints
+
+pub returns-clause-drop_calls : goal.returns-clause-drop_calls
+returns-clause-drop_calls g c = λ options words. (of_drop c.carry.ensures options words).calls
+
+-- ---- a plan
+
+pub returns-clause-plans : goal.returns-clause-plans
+returns-clause-plans g c = λ options words. (of_plan c.carry.ensures options words).tells
+
+pub returns-clause-plan_prints : goal.returns-clause-plan_prints
+returns-clause-plan_prints g c = λ options words. (of_plan c.carry.ensures options words).prints
+
+pub returns-clause-plan_calls : goal.returns-clause-plan_calls
+returns-clause-plan_calls g c = λ options words. (of_plan c.carry.ensures options words).calls
+
+pub returns-clause-plan_spared : goal.returns-clause-plan_spared
+returns-clause-plan_spared g c = plan_stores_nothing c.carry.ensures
+
+pub returns-clause-planned : goal.returns-clause-planned
+returns-clause-planned g c = planned c.carry.ensures
+
+pub returns-clause-plan_refused_text : goal.returns-clause-plan_refused_text
+returns-clause-plan_refused_text g c = plan_refused c.carry.ensures
+
+pub returns-clause-plan_complete : goal.returns-clause-plan_complete
+returns-clause-plan_complete g c = λ text. plan_complete (map string_bytes c.args.words.now) c.carry.ensures text
+
+-- ---- arrays
+
+pub returns-clause-loads : goal.returns-clause-loads
+returns-clause-loads g c = λ retries words. (of_load c.carry.ensures retries words).tells
+
+pub returns-clause-load_calls : goal.returns-clause-load_calls
+returns-clause-load_calls g c = λ retries words. (of_load c.carry.ensures retries words).calls
+
+pub returns-clause-print_kept : goal.returns-clause-print_kept
+returns-clause-print_kept g c = λ name retries words. (of_print c.carry.ensures name retries words).kept
+
+pub returns-clause-prints_array : goal.returns-clause-prints_array
+returns-clause-prints_array g c = λ name retries words. (of_print c.carry.ensures name retries words).tells
+
+pub returns-clause-print_calls : goal.returns-clause-print_calls
+returns-clause-print_calls g c = λ name retries words. (of_print c.carry.ensures name retries words).calls
+
+pub returns-clause-checks : goal.returns-clause-checks
+returns-clause-checks g c = λ retries words. (of_check c.carry.ensures retries words).tells
+
+pub returns-clause-check_calls : goal.returns-clause-check_calls
+returns-clause-check_calls g c = λ retries words. (of_check c.carry.ensures retries words).calls
+
+pub returns-clause-equal : goal.returns-clause-equal
+returns-clause-equal g c = equal c.carry.ensures
+
+pub returns-clause-unequal : goal.returns-clause-unequal
+returns-clause-unequal g c = unequal c.carry.ensures
+
+-- ---- a demonstration
+
+pub returns-clause-demos : goal.returns-clause-demos
+returns-clause-demos g c = λ size options words. (of_demo c.carry.ensures size options words).tells
+
+pub returns-clause-demo_kept : goal.returns-clause-demo_kept
+returns-clause-demo_kept g c = λ size options words. (of_demo c.carry.ensures size options words).kept
+
+pub returns-clause-demo_calls : goal.returns-clause-demo_calls
+returns-clause-demo_calls g c = λ size options words. (of_demo c.carry.ensures size options words).calls
 
 pub returns-clause-demonstrated : goal.returns-clause-demonstrated
-returns-clause-demonstrated g c = λ size options words done.
-    was_demonstrated (g.D.Share.yards_lack c.carry.new.depot)
-    (demo_case options size (seen (stream (g.W.Sink.written c.args.out.now) (g.W.Sink.faults c.args.out.now)) (g.D.Depot.shown c.args.depot.now))
-    (seen (stream (g.W.Sink.written c.carry.new.out) (g.W.Sink.faults c.carry.new.out)) (g.D.Depot.shown c.carry.new.depot))) c.carry.result (c.carry.ensures.demos size options words) done
+returns-clause-demonstrated g c = demonstrated c.carry.ensures
 
 pub returns-clause-demo_complete : goal.returns-clause-demo_complete
-returns-clause-demo_complete g c = λ size options entry words told rest sink depot.
-    demo_served
-    (demo_case options size (seen (stream (g.W.Sink.written c.args.out.now) (g.W.Sink.faults c.args.out.now)) (g.D.Depot.shown c.args.depot.now))
-    (seen (stream (g.W.Sink.written c.carry.new.out) (g.W.Sink.faults c.carry.new.out)) (g.D.Depot.shown c.carry.new.depot))) entry told rest sink depot
-    (g.D.Share.yards_lack c.carry.new.depot) c.carry.result (c.carry.ensures.demos size options words)
+returns-clause-demo_complete g c = demo_complete c.carry.ensures
+
+-- ---- where few calls fail
 
 pub returns-clause-few_failures : goal.returns-clause-few_failures
-returns-clause-few_failures g c = λ command words few.
-    not_given_up (stream (g.R.Source.left c.args.src.now) (g.R.Source.faults c.args.src.now)) (stream (g.R.Source.left c.carry.new.src) (g.R.Source.faults c.carry.new.src))
-    (seen (stream (g.W.Sink.written c.args.out.now) (g.W.Sink.faults c.args.out.now)) (g.D.Depot.shown c.args.depot.now))
-    (seen (stream (g.W.Sink.written c.carry.new.out) (g.W.Sink.faults c.carry.new.out)) (g.D.Depot.shown c.carry.new.depot)) (g.D.Share.yards_lack c.carry.new.depot) (map string_bytes c.args.words.now) c.carry.result command (record {
-      runs = c.carry.ensures.runs;
-      resumes = c.carry.ensures.resumes;
-      drops = c.carry.ensures.drops;
-      plans = c.carry.ensures.plans;
-      loads = c.carry.ensures.loads;
-      checks = c.carry.ensures.checks;
-      prints = c.carry.ensures.prints_array;
-      demos = c.carry.ensures.demos;
-    }) words few
+returns-clause-few_failures g c = few_failures c.carry.ensures

@@ -46,9 +46,6 @@ returns-in-Err-store_inputs g c =
           c.in-Err-store_inputs.ensures.refused c.store_inputs.ensures.calls;
     }
 
-pub make_ready-requires-clause-plain : goal.make_ready-requires-clause-plain
-make_ready-requires-clause-plain g c = c.plain_law.ensures demo_text c.in-Ok.prepared.job.expr _ c.in-Ok.ensures.job.said c.in-Ok.ensures.job.value
-
 pub store_plan-requires-clause-planned : goal.store_plan-requires-clause-planned
 store_plan-requires-clause-planned g c κs within = subst (HasPlan c.args.options.now) (sym c.in-Ok-make_ready.ensures.job) c.in-Ok.ensures.planned
 

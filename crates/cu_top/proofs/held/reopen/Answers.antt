@@ -15,9 +15,6 @@ returns-in-Err-clause-refused g c = λ source next sink after.
     refused_reopened (case c.args.options.now c.args.text.now (scene source sink (g.D.Depot.shown c.args.depot.now)) (scene next after (g.D.Depot.shown c.plan_job.new.depot))) c.in-Err.status
     (c.in-Err.ensures.refused source next sink after)
 
-pub make_ready-requires-clause-plain : goal.make_ready-requires-clause-plain
-make_ready-requires-clause-plain g c = c.plain_law.ensures c.args.text.now c.in-Ok.prepared.job.expr _ c.in-Ok.ensures.job.said c.in-Ok.ensures.job.value
-
 pub returns-in-Err-ask_record-clause-refused : goal.returns-in-Err-ask_record-clause-refused
 returns-in-Err-ask_record-clause-refused g c = λ source next sink after.
     let old = g.D.Depot.shown c.args.depot.now in

@@ -13,9 +13,6 @@ use Rattle.cu_top.specs.Calls.{run_limits}
 use Rattle.cu_work.specs.declared.way.WayFault.TheVariants as way
 use Rattle.cu_top.proofs.run.run.Goals as goal
 
-pub make_ready-requires-clause-plain : goal.make_ready-requires-clause-plain
-make_ready-requires-clause-plain g c = c.plain_law.ensures c.args.text.now c.in-Ok.prepared.job.expr _ c.in-Ok.ensures.cleared.accepted.said c.in-Ok.ensures.cleared.accepted.value
-
 pub store_plan-requires-clause-quiet : goal.store_plan-requires-clause-quiet
 store_plan-requires-clause-quiet g c κs within =
     let start = g.D.Depot.shown c.args.depot.now in

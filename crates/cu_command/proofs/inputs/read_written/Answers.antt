@@ -1,0 +1,30 @@
+use Rattle.std.proofs.Common.{◌+◌, refl, arith}
+use Rattle.cu_store.proofs.Steps.{steps_wider}
+use Rattle.cu_command.proofs.InputLemmas.{metadata_status}
+use Rattle.cu_command.proofs.inputs.read_written.Goals as goal
+
+pub metadata_fault-requires : goal.metadata_fault-requires
+metadata_fault-requires g c =
+    let old = g.D.Depot.shown c.args.depot.now in
+    let new = g.D.Depot.shown c.read_layout.new.depot in
+    metadata_status (c.args.retries + 1) old.faults new.faults new.held c.key_of_name.result c.in-Err.status c.in-Err.ensures.cause
+
+pub returns-in-Err : goal.returns-in-Err
+returns-in-Err g c = record {
+  room = c.in-Err.ensures.room;
+  name = tt;
+  layout = tt;
+  found = tt;
+  step = steps_wider (λ key value own. own) (omega arith) (omega arith) c.in-Err.ensures.step;
+  cause = rw c.metadata_fault.ensures (rw c.key_of_name.ensures.key at c.in-Err.ensures.cause);
+}
+
+pub returns-in-Ok : goal.returns-in-Ok
+returns-in-Ok g c = record {
+  room = c.in-Ok.ensures.room;
+  name = refl;
+  layout = c.in-Ok.ensures.input;
+  found = rw c.key_of_name.ensures.key at c.in-Ok.ensures.found;
+  step = steps_wider (λ key value own. own) (omega arith) (omega arith) c.in-Ok.ensures.step;
+  cause = tt;
+}
