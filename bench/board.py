@@ -21,7 +21,7 @@ import sys
 import tempfile
 
 sys.dont_write_bytecode = True
-import region  # region.py, in this folder
+import programs  # programs.py, in this folder
 
 NAME = "board_bench"
 NEEDS = "cu_num cu_shape cu_grid cu_store cu_history cu_turn cu_op cu_table cu_board arrayvec anyhow".split()
@@ -656,7 +656,7 @@ def main():
     words.add_argument("--runs", type=int, default=5, help="how many rounds")
     given = words.parse_args()
     with tempfile.TemporaryDirectory(prefix="cubed-program-") as spare:
-        program = region.program_in(given.keep or spare, NAME, NEEDS, SOURCES)
+        program = programs.program_in(given.keep or spare, NAME, NEEDS, SOURCES)
         print(f"{TASKS} tasks that take no time, {os.cpu_count()} processors, load {os.getloadavg()[0]:.1f}", flush=True)
         missed = [one for workers in (1, 2, 4, 64) for one in claims(program, workers, given.runs)]
         steps, task = steps_of(program, given.runs)

@@ -13,18 +13,14 @@ The program is written into a copy of the crates that it needs, and `rt run` pro
 kept in that folder, by the sum of its sources, and a later run over the same sources builds nothing.
 """
 import argparse
-import os
 import subprocess
 import sys
 import tempfile
 import time
 
 sys.dont_write_bytecode = True
-import region  # region.py, in this folder
-
-# As ./cubed has it: large buffers lie in huge pages where the system gives them on demand, as NumPy's do.
-os.environ.setdefault("GLIBC_TUNABLES", "glibc.malloc.hugetlb=1")
-from stored import has_numpy
+import programs  # programs.py, in this folder
+from stored import has_numpy  # stored.py, in this folder
 
 NAME = "box_bench"
 NEEDS = "cu_num cu_shape cu_box cu_grid cu_codec".split()
@@ -362,7 +358,7 @@ def peer(way, size, columns, rounds):
                 chunk[:] = whole[:, low:low + columns]
         least = min(least, time.perf_counter() - start)
     seen = (whole if way.startswith("read") else chunk).reshape(-1).view(numpy.uint8)
-    return least, region.checksum_of(seen)
+    return least, programs.checksum_of(seen)
 
 
 def run_peer(words):
@@ -416,7 +412,7 @@ def main():
     if not has_numpy():
         raise SystemExit("this Python has no NumPy")
     with tempfile.TemporaryDirectory(prefix="cubed-program-") as spare:
-        program = told.program or region.program_in(told.keep or spare, NAME, NEEDS, SOURCES)
+        program = told.program or programs.program_in(told.keep or spare, NAME, NEEDS, SOURCES)
         compare(program, told.runs, told.rounds, told.only)
 
 

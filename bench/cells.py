@@ -21,7 +21,7 @@ import sys
 import tempfile
 
 sys.dont_write_bytecode = True
-import region  # region.py, in this folder
+import programs  # programs.py, in this folder
 
 NAME = "cells_bench"
 NEEDS = "cu_store cu_mem cu_dir cu_watch cu_threads anyhow".split()
@@ -397,7 +397,7 @@ def main():
     place = given.dir or ("/dev/shm" if os.path.isdir("/dev/shm") else None)
     with tempfile.TemporaryDirectory(prefix="cubed-program-") as spare, \
             tempfile.TemporaryDirectory(prefix="cubed-cells-", dir=place) as folder:
-        program = region.program_in(given.keep or spare, NAME, NEEDS, SOURCES)
+        program = programs.program_in(given.keep or spare, NAME, NEEDS, SOURCES)
         print(f"{given.rounds} rounds, {os.cpu_count()} processors, load {os.getloadavg()[0]:.1f}", flush=True)
         sizes = [given.size] if given.size else [1 << 20, 1 << 10]
         missed = in_cells(program, sizes[0], given.rounds)

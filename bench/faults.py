@@ -32,7 +32,7 @@ import tempfile
 sys.dont_write_bytecode = True
 import compare
 import draws
-import region
+import programs
 import rules
 from draws import MIXES
 
@@ -1198,7 +1198,7 @@ def main():
     words.add_argument("--first", type=int, default=0)
     given = words.parse_args()
     with tempfile.TemporaryDirectory(prefix="cubed-program-") as spare:
-        program = given.program or region.program_in(given.keep or spare, NAME, NEEDS, SOURCES)
+        program = given.program or programs.program_in(given.keep or spare, NAME, NEEDS, SOURCES)
         counts, number = collections.Counter(), given.first
 
         def runs():

@@ -23,7 +23,7 @@ import tempfile
 import time
 
 sys.dont_write_bytecode = True
-import region  # region.py, in this folder
+import programs  # programs.py, in this folder
 
 NAME, NEEDS = "kernels_bench", "cu_num cu_shape cu_op cu_kern arrayvec".split()
 
@@ -677,7 +677,7 @@ def main():
             print(word, nanoseconds, told)
         return
     with tempfile.TemporaryDirectory(prefix="cubed-kernels-") as folder:
-        built = words.program or region.program_in(words.keep or folder, NAME, NEEDS, program())
+        built = words.program or programs.program_in(words.keep or folder, NAME, NEEDS, program())
         ahead, ratios = pinned(words.processor), {}
         for _ in range(words.runs):
             own = by_program([*ahead, built])

@@ -15,22 +15,17 @@ later run over the same sources builds nothing.
 """
 import argparse
 import array
-import hashlib
 import os
-import shutil
-import subprocess
 import sys
 import tempfile
 import time
 
 sys.dont_write_bytecode = True
+import programs  # programs.py, in this folder
 from stored import has_numpy, timed  # stored.py, in this folder
 
 SIDE, CHUNK_SIDE, LOW, HIGH = 4096, 2048, 1024, 3072
 CHUNK_BYTES, REGION_BYTES = 4 * CHUNK_SIDE**2, 4 * (HIGH - LOW) ** 2
-TOP = os.path.join(os.path.dirname(os.path.abspath(__file__)), "..")
-sys.path.append(os.path.join(TOP, "tools"))
-import processor  # processor.py, in tools
 NAME, NEEDS = "region_bench", "cu_num cu_shape cu_box cu_grid cu_store cu_dir cu_codec cu_op cu_region arrayvec".split()
 ORDERS = ("little", "big")
 
@@ -230,67 +225,6 @@ read_region_of-answer-requires-clause-coordinates g c coord m =
 SOURCES = {"src/main.rt": SOURCE, "proofs/timed_read/Answers.antt": ANSWERS}
 
 
-def needed(names):
-    """The repository's crates among these and below them, with their lines of crates.txt."""
-    with open(os.path.join(TOP, "crates.txt")) as file:
-        lines = {line.split()[0].rstrip(":"): line for line in file if line.strip() and not line.startswith("#")}
-    found, waiting = {}, list(names)
-    while waiting:
-        name = waiting.pop()
-        if name in lines and name not in found:
-            found[name] = lines[name]
-            waiting += lines[name].partition(":")[2].split()
-    return found
-
-
-def write_sources(folder, name, needs, sources):
-    """A repository of a program, of which these are the files, and of the crates below it."""
-    lines = needed(needs)
-    for below in lines:
-        shutil.copytree(os.path.join(TOP, "crates", below), os.path.join(folder, "crates", below),
-                        ignore=shutil.ignore_patterns("out", "must-fail"))
-    shutil.copy(os.path.join(TOP, "HANDLES"), folder)
-    crate = os.path.join(folder, "crates", name)
-    texts = {os.path.join(crate, path): text for path, text in sources.items()}
-    texts[os.path.join(folder, "crates.txt")] = "".join(lines.values()) + f"{name}: {' '.join(needs)}\n"
-    for path, text in texts.items():
-        os.makedirs(os.path.dirname(path), exist_ok=True)
-        with open(path, "w") as file:
-            file.write(text)
-    return crate
-
-
-def sum_of(folder):
-    """A sum of the files of a folder, by their paths."""
-    told = hashlib.sha256()
-    for parent, folders, names in os.walk(folder):
-        folders.sort()
-        for name in sorted(names):
-            path = os.path.join(parent, name)
-            with open(path, "rb") as file:
-                told.update(f"{os.path.relpath(path, folder)}\n{hashlib.sha256(file.read()).hexdigest()}\n".encode())
-    return told.hexdigest()[:16]
-
-
-def program_in(keep, name=NAME, needs=NEEDS, sources=SOURCES):
-    """The path in this folder of the program built from the sources as they are. It is built where it isn't there."""
-    with tempfile.TemporaryDirectory(prefix="cubed-build-") as folder:
-        crate = write_sources(folder, name, needs, sources)
-        kept = os.path.join(os.path.abspath(keep), f"{name}-{sum_of(folder)}-{processor.best()}")
-        if os.access(kept, os.X_OK):
-            return kept
-        if not shutil.which("rt"):
-            raise SystemExit("the command rt isn't in the path")
-        print("proving and building the program, which takes some minutes", flush=True)
-        ran = subprocess.run(["rt", "run", f"--cpu={processor.best()}"], cwd=crate, stdout=subprocess.PIPE, stderr=subprocess.STDOUT, text=True)
-        if ran.returncode:
-            raise SystemExit(f"{ran.stdout}rt run ended with status {ran.returncode}")
-        os.makedirs(keep, exist_ok=True)
-        shutil.copy(os.path.join(crate, "out", name), kept + ".new")
-        os.rename(kept + ".new", kept)
-        return kept
-
-
 def chunk_path(folder, order, row, column):
     return os.path.join(folder, order, "x", "c", str(row), str(column))
 
@@ -320,17 +254,6 @@ def read_chunk(folder, order, row, column, buffer):
             raise SystemExit("a chunk was cut short")
 
 
-def checksum_of(seen):
-    """The sum of each byte times its place, counted from 1, modulo 2^64, a block at a time to save memory."""
-    import numpy
-    block = numpy.arange(1, (1 << 18) + 1, dtype=numpy.uint64)
-    total = 0
-    for low in range(0, seen.size, block.size):
-        part = seen[low:low + block.size]
-        total += int((part * block[:part.size]).sum()) + low * int(part.sum(dtype=numpy.uint64))
-    return total % (1 << 64)
-
-
 def read_by_numpy(folder, order, reads):
     """The peer: each chunk is read whole into one buffer, and its quarter copied. The least nanoseconds of a read, the
     checksum of the region, and the least nanoseconds in which the four chunks are read and nothing is copied."""
@@ -350,7 +273,7 @@ def read_by_numpy(folder, order, reads):
         return time.perf_counter_ns() - start
 
     least, alone = (min(take(copied) for _ in range(reads)) for copied in (True, False))
-    return least, checksum_of(out.reshape(-1).view(numpy.uint8)), alone
+    return least, programs.checksum_of(out.reshape(-1).view(numpy.uint8)), alone
 
 
 def show(name, runs):
@@ -408,7 +331,7 @@ def main():
         print(*read_by_numpy(given.numpy, given.order, given.reads))
         return
     with tempfile.TemporaryDirectory(prefix="cubed-program-") as spare:
-        program = program_in(given.keep or spare)
+        program = programs.program_in(given.keep or spare, NAME, NEEDS, SOURCES)
         print(f"a region of {REGION_BYTES} bytes across four chunks of {CHUNK_BYTES} bytes, "
               f"{os.cpu_count()} processors, the best of {given.runs} rounds of {given.reads} reads", flush=True)
         for parent in given.dir or [tempfile.gettempdir(), *filter(os.path.isdir, ["/dev/shm"])]:

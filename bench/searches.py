@@ -24,7 +24,7 @@ import tempfile
 import time
 
 sys.dont_write_bytecode = True
-import region  # region.py, in this folder
+import programs  # programs.py, in this folder
 from kernels import checksum, pinned
 
 NAME, NEEDS = "searches_bench", "cu_num cu_shape cu_reduce cu_grid cu_pairs".split()
@@ -320,8 +320,8 @@ def sources():
 def built(keep, cpu):
     """The path in this folder of the program, built for this processor from the sources as they are."""
     with tempfile.TemporaryDirectory(prefix="cubed-build-") as folder:
-        crate = region.write_sources(folder, NAME, NEEDS, sources())
-        kept = os.path.join(os.path.abspath(keep), f"{NAME}-{cpu}-{region.sum_of(folder)}")
+        crate = programs.write_sources(folder, NAME, NEEDS, sources())
+        kept = os.path.join(os.path.abspath(keep), f"{NAME}-{cpu}-{programs.sum_of(folder)}")
         if os.access(kept, os.X_OK):
             return kept
         print(f"proving and building the program for {cpu}, which takes some minutes", flush=True)

@@ -20,7 +20,7 @@ import sys
 import tempfile
 
 sys.dont_write_bytecode = True
-import region  # region.py, in this folder
+import programs  # programs.py, in this folder
 
 NAME = "table_bench"
 NEEDS = "cu_expr cu_lower cu_op cu_plan cu_read cu_claims cu_table anyhow".split()
@@ -186,7 +186,7 @@ def main():
     words.add_argument("--runs", type=int, default=5, help="how many rounds")
     given = words.parse_args()
     with tempfile.TemporaryDirectory(prefix="cubed-program-") as spare:
-        program = region.program_in(given.keep or spare, NAME, NEEDS, {"src/main.rt": SOURCE})
+        program = programs.program_in(given.keep or spare, NAME, NEEDS, {"src/main.rt": SOURCE})
         print(f"a claim and a report, the best of {given.runs} rounds, load {os.getloadavg()[0]:.1f}")
         for name, nodes, allowed in PLANS:
             for workers in WORKERS:
