@@ -55,17 +55,19 @@ def sum_of(folder):
     return told.hexdigest()[:16]
 
 
-def program_in(keep, name, needs, sources):
-    """The path in this folder of the program built from the sources as they are. It is built where it isn't there."""
+def program_in(keep, name, needs, sources, cpu=None):
+    """The path in this folder of the program built from the sources as they are, for this kind of processor, or else for this machine's.
+    It is built where it isn't there."""
+    kind, told = cpu or processor.best(), f" for {cpu}" if cpu else ""
     with tempfile.TemporaryDirectory(prefix="cubed-build-") as folder:
         crate = write_sources(folder, name, needs, sources)
-        kept = os.path.join(os.path.abspath(keep), f"{name}-{sum_of(folder)}-{processor.best()}")
+        kept = os.path.join(os.path.abspath(keep), f"{name}-{sum_of(folder)}-{kind}")
         if os.access(kept, os.X_OK):
             return kept
         if not shutil.which("rt"):
             raise SystemExit("the command rt isn't in the path")
-        print("proving and building the program, which takes some minutes", flush=True)
-        ran = subprocess.run(["rt", "run", f"--cpu={processor.best()}"], cwd=crate, stdout=subprocess.PIPE, stderr=subprocess.STDOUT, text=True)
+        print(f"proving and building the program{told}, which takes some minutes", flush=True)
+        ran = subprocess.run(["rt", "run", f"--cpu={kind}"], cwd=crate, stdout=subprocess.PIPE, stderr=subprocess.STDOUT, text=True)
         if ran.returncode:
             raise SystemExit(f"{ran.stdout}rt run ended with status {ran.returncode}")
         os.makedirs(keep, exist_ok=True)

@@ -16,7 +16,6 @@ sources, and a later run over the same sources builds nothing.
 """
 import argparse
 import os
-import shutil
 import statistics
 import subprocess
 import sys
@@ -24,8 +23,8 @@ import tempfile
 import time
 
 sys.dont_write_bytecode = True
-import programs  # programs.py, in this folder
-from kernels import checksum, pinned
+from kernels import checksum, pinned  # kernels.py, in this folder
+from programs import program_in  # programs.py, in this folder
 
 NAME, NEEDS = "searches_bench", "cu_num cu_shape cu_reduce cu_grid cu_pairs".split()
 
@@ -317,23 +316,6 @@ def sources():
     return made | {f"proofs/{name}/Answers.antt": ANSWERS.replace("@ALONG@", name) for name in ("along_first", "along_last")}
 
 
-def built(keep, cpu):
-    """The path in this folder of the program, built for this processor from the sources as they are."""
-    with tempfile.TemporaryDirectory(prefix="cubed-build-") as folder:
-        crate = programs.write_sources(folder, NAME, NEEDS, sources())
-        kept = os.path.join(os.path.abspath(keep), f"{NAME}-{cpu}-{programs.sum_of(folder)}")
-        if os.access(kept, os.X_OK):
-            return kept
-        print(f"proving and building the program for {cpu}, which takes some minutes", flush=True)
-        ran = subprocess.run(["rt", "run", f"--cpu={cpu}"], cwd=crate, stdout=subprocess.PIPE, stderr=subprocess.STDOUT, text=True)
-        if ran.returncode:
-            raise SystemExit(f"{ran.stdout}rt run ended with status {ran.returncode}")
-        os.makedirs(keep, exist_ok=True)
-        shutil.copy(os.path.join(crate, "out", NAME), kept + ".new")
-        os.rename(kept + ".new", kept)
-        return kept
-
-
 def array_of(numpy, dtype, count, kind):
     """So many elements, as the program's `fill` and `fill_rising` write them."""
     size = 1 if dtype == "bool" else numpy.dtype(dtype).itemsize
@@ -381,7 +363,7 @@ def main():
     with tempfile.TemporaryDirectory(prefix="cubed-searches-") as folder:
         programs = {os.path.basename(path): os.path.abspath(path) for path in words.program}
         if not programs:
-            programs = {cpu: built(words.keep or folder, cpu) for cpu in words.cpu}
+            programs = {cpu: program_in(words.keep or folder, NAME, NEEDS, sources(), cpu) for cpu in words.cpu}
         ahead = pinned(words.processor)
         peer = [*ahead, words.python, os.path.abspath(__file__), "--peer"]
         for case in CASES:
