@@ -15,7 +15,6 @@ the same sources builds nothing.
 """
 import argparse
 import os
-import shutil
 import statistics
 import subprocess
 import sys
@@ -23,7 +22,7 @@ import tempfile
 import time
 
 sys.dont_write_bytecode = True
-import programs  # programs.py, in this folder
+from programs import checksum, filled, pinned, program_in  # programs.py, in this folder
 
 NAME, NEEDS = "kernels_bench", "cu_num cu_shape cu_op cu_kern arrayvec".split()
 
@@ -552,18 +551,11 @@ def program():
             "proofs/Fits.antt": fits, "proofs/stretches/Invariants.antt": STRETCHES, "proofs/run/Answers.antt": ANSWERS}
 
 
-def array_of(numpy, dtype, count, first):
-    """So many elements of the bytes from byte `first` on that the program's `fill` writes."""
-    size = numpy.dtype(dtype).itemsize
-    place = numpy.arange(first + 1, first + count * size + 1, dtype=numpy.uint64)
-    return ((place * 2654435761 & 0xFFFFFFFF) >> 24).astype(numpy.uint8).view(dtype)
-
-
 def regions(numpy, name, first, second):
     """The three arrays of a kernel, one behind the other."""
     made, at = [], 0
     for dtype, shape in zip(KERNELS[name][0].lower().split(), (first, second, first)):
-        made.append(array_of(numpy, dtype, int(numpy.prod(shape)), at).reshape(shape))
+        made.append(filled(dtype, int(numpy.prod(shape)), at).reshape(shape))
         at += made[-1].nbytes
     return made
 
@@ -609,11 +601,6 @@ def least(call, rounds):
     return best
 
 
-def checksum(numpy, made):
-    seen = numpy.ascontiguousarray(made).reshape(-1).view(numpy.uint8).astype(numpy.uint64)
-    return int((seen * numpy.arange(1, seen.size + 1, dtype=numpy.uint64)).sum(dtype=numpy.uint64))
-
-
 def by_numpy(only):
     """The nanoseconds of a call and the checksum of each case."""
     import numpy
@@ -622,7 +609,7 @@ def by_numpy(only):
         if only in word:
             call = peer(numpy, name, *regions(numpy, name, first, second))
             with numpy.errstate(all="ignore"):
-                found[word] = least(call, rounds), checksum(numpy, call())
+                found[word] = least(call, rounds), checksum(call())
     return found
 
 
@@ -638,14 +625,6 @@ def cases():
             word, kind = (part.strip(' "') for part in rest.split(",")[1:3])
             first, second = (tuple(map(int, part.partition("]")[0].split(","))) for part in rest.split("&[")[1:])
             yield word, kind.partition("::")[2], first, second, 4
-
-
-def pinned(processor):
-    """The words before a command that give it one processor, and a real-time priority where that is allowed."""
-    found = ["taskset", "-c", str(processor)] if shutil.which("taskset") else []
-    if shutil.which("chrt") and not subprocess.run(["chrt", "-f", "10", "true"], stderr=subprocess.DEVNULL).returncode:
-        found = ["chrt", "-f", "10", *found]
-    return found
 
 
 def lines_of(command):
@@ -677,7 +656,7 @@ def main():
             print(word, nanoseconds, told)
         return
     with tempfile.TemporaryDirectory(prefix="cubed-kernels-") as folder:
-        built = words.program or programs.program_in(words.keep or folder, NAME, NEEDS, program())
+        built = words.program or program_in(words.keep or folder, NAME, NEEDS, program())
         ahead, ratios = pinned(words.processor), {}
         for _ in range(words.runs):
             own = by_program([*ahead, built])

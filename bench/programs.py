@@ -76,9 +76,26 @@ def program_in(keep, name, needs, sources, cpu=None):
         return kept
 
 
-def checksum_of(seen):
-    """The sum of each byte times its place, counted from 1, modulo 2^64, a block at a time to save memory."""
+def pinned(number):
+    """The words before a command that give it one processor, and a real-time priority where that is allowed."""
+    found = ["taskset", "-c", str(number)] if shutil.which("taskset") else []
+    if shutil.which("chrt") and not subprocess.run(["chrt", "-f", "10", "true"], stderr=subprocess.DEVNULL).returncode:
+        found = ["chrt", "-f", "10", *found]
+    return found
+
+
+def filled(dtype, count, first=0):
+    """So many elements of the bytes from byte `first` on that a program's `fill` writes; of truth values their lowest bits."""
     import numpy
+    place = numpy.arange(first + 1, first + count * numpy.dtype(dtype).itemsize + 1, dtype=numpy.uint64)
+    made = ((place * 2654435761 & 0xFFFFFFFF) >> 24).astype(numpy.uint8)
+    return (made & 1).view(bool) if dtype == "bool" else made.view(dtype)
+
+
+def checksum(made):
+    """The sum of each byte of an array times its place, counted from 1, modulo 2^64, a block at a time to save memory."""
+    import numpy
+    seen = numpy.ascontiguousarray(made).reshape(-1).view(numpy.uint8)
     block = numpy.arange(1, (1 << 18) + 1, dtype=numpy.uint64)
     total = 0
     for low in range(0, seen.size, block.size):

@@ -23,8 +23,7 @@ import tempfile
 import time
 
 sys.dont_write_bytecode = True
-from kernels import checksum, pinned  # kernels.py, in this folder
-from programs import program_in  # programs.py, in this folder
+from programs import checksum, filled, pinned, program_in  # programs.py, in this folder
 
 NAME, NEEDS = "searches_bench", "cu_num cu_shape cu_reduce cu_grid cu_pairs".split()
 
@@ -316,30 +315,21 @@ def sources():
     return made | {f"proofs/{name}/Answers.antt": ANSWERS.replace("@ALONG@", name) for name in ("along_first", "along_last")}
 
 
-def array_of(numpy, dtype, count, kind):
-    """So many elements, as the program's `fill` and `fill_rising` write them."""
-    size = 1 if dtype == "bool" else numpy.dtype(dtype).itemsize
-    if kind == "rising":
-        return numpy.arange(count, dtype=dtype)
-    place = numpy.arange(1, count * size + 1, dtype=numpy.uint64)
-    made = ((place * 2654435761 & 0xFFFFFFFF) >> 24).astype(numpy.uint8)
-    return (made & 1).view(bool) if dtype == "bool" else made.view(dtype)
-
-
 def by_numpy(words):
-    """The least nanoseconds of a sample and the checksum of the places."""
+    """The least nanoseconds of a sample and the checksum of the places, in elements as the program's `fill` and `fill_rising` write them."""
     import numpy
     dtype, kind = words[0], words[6]
     rows, columns, axis, samples, rounds = map(int, words[1:6])
-    region_of = array_of(numpy, dtype, rows * columns, kind).reshape(rows, columns)
+    made = numpy.arange(rows * columns, dtype=dtype) if kind == "rising" else filled(dtype, rows * columns)
+    region = made.reshape(rows, columns)
     best = None
     for _ in range(samples):
         start = time.perf_counter_ns()
         for _ in range(rounds):
-            places = region_of.argmax(axis=axis)
+            places = region.argmax(axis=axis)
         spent = time.perf_counter_ns() - start
         best = spent if best is None else min(best, spent)
-    print(best, checksum(numpy, places.astype(numpy.int64)))
+    print(best, checksum(places.astype(numpy.int64)))
 
 
 def measured(command, case):
