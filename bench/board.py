@@ -16,7 +16,6 @@ same sources builds nothing.
 import argparse
 import os
 import resource
-import subprocess
 import sys
 import tempfile
 
@@ -616,10 +615,9 @@ pub mod Idle
 def run(program, *words):
     """The nanoseconds from the first claim to the last report, how many tasks were tried, and the seconds of all processors."""
     before = resource.getrusage(resource.RUSAGE_CHILDREN)
-    ran = subprocess.run([program, *map(str, words)], stdout=subprocess.PIPE, text=True, check=True)
+    [(nanos, tries, _)] = programs.lines_of([program, *words])
     after = resource.getrusage(resource.RUSAGE_CHILDREN)
-    nanos, tries, _ = map(int, ran.stdout.split())
-    return nanos, tries, after.ru_utime + after.ru_stime - before.ru_utime - before.ru_stime
+    return int(nanos), int(tries), after.ru_utime + after.ru_stime - before.ru_utime - before.ru_stime
 
 
 def claims(program, workers, runs):

@@ -13,7 +13,6 @@ The program is written into a copy of the crates that it needs, and `rt run` pro
 kept in that folder, by the sum of its sources, and a later run over the same sources builds nothing.
 """
 import argparse
-import subprocess
 import sys
 import tempfile
 import time
@@ -361,18 +360,12 @@ def peer(way, size, columns, rounds):
 
 
 def run_peer(words):
-    ran = subprocess.run([sys.executable, __file__, "--peer", *map(str, words)], stdout=subprocess.PIPE, text=True)
-    if ran.returncode:
-        raise SystemExit(f"NumPy ended with status {ran.returncode}")
-    least, told = ran.stdout.split()
+    [(least, told)] = programs.lines_of([sys.executable, __file__, "--peer", *words], "NumPy")
     return float(least), int(told)
 
 
 def run_ours(program, words):
-    ran = subprocess.run([program, *map(str, words)], stdout=subprocess.PIPE, text=True)
-    if ran.returncode:
-        raise SystemExit(f"the program ended with status {ran.returncode}")
-    least, told = ran.stdout.split()
+    [(least, told)] = programs.lines_of([program, *words])
     return int(least) / 1e9, int(told)
 
 

@@ -334,9 +334,7 @@ pub(crate) fn timed<D: Share, H: Clock>(
 
 def rounds_of(program, folder, size, rounds, way="both"):
     """The nanoseconds of each call, a list for each kind of call."""
-    words = [program, folder, str(size), str(rounds), way]
-    ran = subprocess.run(words, stdout=subprocess.PIPE, text=True, check=True)
-    return list(zip(*([int(word) for word in line.split()] for line in ran.stdout.splitlines())))
+    return list(zip(*(map(int, line) for line in programs.lines_of([program, folder, size, rounds, way]))))
 
 
 def show(name, nanos):

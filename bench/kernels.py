@@ -16,13 +16,12 @@ the same sources builds nothing.
 import argparse
 import os
 import statistics
-import subprocess
 import sys
 import tempfile
 import time
 
 sys.dont_write_bytecode = True
-from programs import checksum, filled, pinned, program_in  # programs.py, in this folder
+from programs import checksum, filled, lines_of, pinned, program_in  # programs.py, in this folder
 
 NAME, NEEDS = "kernels_bench", "cu_num cu_shape cu_op cu_kern arrayvec".split()
 
@@ -627,11 +626,6 @@ def cases():
             yield word, kind.partition("::")[2], first, second, 4
 
 
-def lines_of(command):
-    ran = subprocess.run(command, stdout=subprocess.PIPE, text=True, check=True)
-    return [line.split() for line in ran.stdout.splitlines()]
-
-
 def by_program(command):
     found = {}
     for word, nanoseconds, rounds, count, told, done in lines_of(command):
@@ -660,7 +654,7 @@ def main():
         ahead, ratios = pinned(words.processor), {}
         for _ in range(words.runs):
             own = by_program([*ahead, built])
-            for word, nanoseconds, told in lines_of([*ahead, words.python, os.path.abspath(__file__), "--peer", "--only", words.only]):
+            for word, nanoseconds, told in lines_of([*ahead, words.python, os.path.abspath(__file__), "--peer", "--only", words.only], "NumPy"):
                 if own[word][1] != int(told):
                     raise SystemExit(f"{word}: the results differ")
                 ratios.setdefault(word, []).append((own[word][0], float(nanoseconds), own[word][2]))

@@ -84,6 +84,14 @@ def pinned(number):
     return found
 
 
+def lines_of(command, name="the program"):
+    """The words of each line that a command prints."""
+    ran = subprocess.run([*map(str, command)], stdout=subprocess.PIPE, text=True, check=False)
+    if ran.returncode:
+        raise SystemExit(f"{name} ended with status {ran.returncode}")
+    return [line.split() for line in ran.stdout.splitlines()]
+
+
 def filled(dtype, count, first=0):
     """So many elements of the bytes from byte `first` on that a program's `fill` writes; of truth values their lowest bits."""
     import numpy

@@ -17,13 +17,12 @@ sources, and a later run over the same sources builds nothing.
 import argparse
 import os
 import statistics
-import subprocess
 import sys
 import tempfile
 import time
 
 sys.dont_write_bytecode = True
-from programs import checksum, filled, pinned, program_in  # programs.py, in this folder
+from programs import checksum, filled, lines_of, pinned, program_in  # programs.py, in this folder
 
 NAME, NEEDS = "searches_bench", "cu_num cu_shape cu_reduce cu_grid cu_pairs".split()
 
@@ -332,9 +331,10 @@ def by_numpy(words):
     print(best, checksum(places.astype(numpy.int64)))
 
 
-def measured(command, case):
-    ran = subprocess.run([*command, *case.split()], stdout=subprocess.PIPE, text=True, check=True).stdout.split()
-    return int(ran[0]) / int(case.split()[5]), ran[1]
+def measured(name, command, case):
+    """The nanoseconds of a call and the checksum of the places."""
+    [(spent, told, *_)] = lines_of([*command, *case.split()], name)
+    return int(spent) / int(case.split()[5]), told
 
 
 def main():
@@ -361,10 +361,10 @@ def main():
                 continue
             others, own = [], {name: [] for name in programs}
             for _ in range(words.runs):
-                spent, told = measured(peer, case)
+                spent, told = measured("NumPy", peer, case)
                 others.append(spent)
                 for name, path in programs.items():
-                    spent, sum_of_places = measured([*ahead, path], case)
+                    spent, sum_of_places = measured(f"the program {name}", [*ahead, path], case)
                     if sum_of_places != told:
                         raise SystemExit(f"{case}: the places differ")
                     own[name].append(spent)

@@ -15,7 +15,6 @@ same sources builds nothing.
 import argparse
 import json
 import os
-import subprocess
 import sys
 import tempfile
 
@@ -175,8 +174,8 @@ def measure(program, nodes, allowed, workers, rounds):
     with tempfile.NamedTemporaryFile("w", suffix=".json") as file:
         json.dump(text, file)
         file.flush()
-        ran = subprocess.run([program, file.name, str(allowed), str(workers), str(rounds)], stdout=subprocess.PIPE, text=True, check=True)
-    tasks, *taken = map(int, ran.stdout.split())
+        lines = programs.lines_of([program, file.name, allowed, workers, rounds])
+    tasks, *taken = (int(word) for line in lines for word in line)
     return tasks, taken
 
 
