@@ -62,7 +62,7 @@ use crate::gate::SlowGate;
 use crate::shelf::Shelf;
 use anyhow::{Result, bail};
 use cu_mem::{MemSink, MemSource};
-use cu_rows::{Texts, key_of, list_of, number_of, pair_of, text_of};
+use cu_rows::{NamedTexts, key_of, list_of, number_of, pair_of, text_of};
 use cu_store::Key;
 use cu_top::{status_line, top};
 use serde_json::Value;
@@ -112,7 +112,7 @@ fn fails_at(value: &Value, name: &str) -> Result<Option<u64>> {
 }
 
 /// The keys of a list of pairs, with their bytes.
-fn known_in(texts: &Texts<'_>, list: &[Value]) -> Result<Vec<Known>> {
+fn known_in(texts: &NamedTexts<'_>, list: &[Value]) -> Result<Vec<Known>> {
     let mut known = Vec::new(texts.alloc);
     for item in list {
         let (key, value) = pair_of(item)?;
@@ -238,7 +238,7 @@ fn run_round(
 /// Runs the rounds of a case.
 fn run_case(
     threads: &(impl Threads + Wait + Sync),
-    texts: &Texts<'_>,
+    texts: &NamedTexts<'_>,
     case: &Value,
     line: &mut String,
 ) -> Result<()> {
@@ -269,7 +269,7 @@ fn main(rt: HostRuntime) -> Result<()> {
     let text = fs::read_to_string(&rt, file.as_str())?;
     let table = Value::from_str(rt.alloc(), text.as_str())?;
     let nothing = Value::Null;
-    let texts = Texts {
+    let texts = NamedTexts {
         alloc: rt.alloc(),
         named: &nothing,
     };

@@ -58,6 +58,8 @@ fn plan_of(alloc: Global, text: &[u8], allowed: u64) -> Result<Plan> {
         reserved: 0,
         split_every: 4,
         retries: 0,
+        workers: 1,
+        backups: false,
     };
     let inputs = Vec::new(alloc);
     let Ok(expr) = read_expr(alloc, text) else {
