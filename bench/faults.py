@@ -31,7 +31,6 @@ import tempfile
 
 sys.dont_write_bytecode = True
 import compare
-import draws
 import programs
 import rules
 from draws import MIXES

@@ -616,7 +616,6 @@ def cases():
     """The cases as the program has them: a name, a kernel, two shapes and the calls of a sample."""
     for line in SOURCE.splitlines():
         head, _, rest = line.strip().partition("(")
-        args = [part.strip() for part in rest.rstrip("?;)").replace("[", "").replace("]", "").split(", &")]
         if head == "same" and rest.startswith("&rt") is False and '"' in rest:
             word, kind, count, rounds = (part.strip(' "') for part in rest.rstrip("?;)").split(",")[1:])
             yield word, kind.partition("::")[2], (int(count),), (int(count),), int(rounds)
