@@ -1,23 +1,19 @@
 -- The tasks of an operation, the region of each, and the chunks of a plan's arrays. Chunks are numbered row-major.
-use Rattle.std.specs.Prelude.{ℕ, ◌<◌, List, length}
-use Rattle.cu_shape.specs.Index.{product, index_at}
+pub use Rattle.cu_op.specs.Chunks.{cell}
 use Rattle.cu_grid.specs.Counts.{chunk_lo, chunk_hi}
 use Rattle.cu_grid.specs.Grid.{RegularGrid, IsCoordinate}
+use Rattle.cu_op.specs.Arrays.{grid_at, grid_counts}
+use Rattle.cu_op.specs.Kinds.{kind_of}
+use Rattle.cu_op.specs.declared.cells.Cell.{Cell}
 use Rattle.cu_op.specs.declared.layout.ArrayInfo.{ArrayInfo}
 use Rattle.cu_op.specs.declared.operation.Op.{Op}
-use Rattle.cu_op.specs.declared.operation.Op.TheVariants.{Copy}
-use Rattle.cu_op.specs.declared.cells.Cell.{Cell}
-use Rattle.cu_op.specs.Arrays.{grid_at, grid_counts}
-use Rattle.cu_op.specs.Operation.{target_of, region_grid}
-
-abbrev pub cell : ℕ → List ℕ → Cell
-cell a at = record { array = a; coord = at }
+use Rattle.cu_shape.specs.Index.{index_at, product}
+use Rattle.std.specs.Prelude.{ℕ, ◌<◌, List, length}
 
 -- what the tasks of an operation go over: a grid each of whose chunks is the region of a task; for a copy its own regions, for any other
 -- operation the chunks of the result
 abbrev pub task_grid : List ArrayInfo → Op → RegularGrid
-task_grid arrays (Copy region source out) = region_grid (grid_at arrays out) region
-task_grid arrays op = grid_at arrays (target_of op)
+task_grid arrays op = (kind_of op).tasks arrays
 
 -- how many tasks an operation has
 abbrev pub tasks_of : List ArrayInfo → Op → ℕ

@@ -1,9 +1,13 @@
+pub mod Aligned
 pub mod Arrays
 pub mod Broadcast
 pub mod Cells
+pub mod Chunks
+pub mod Elements
 pub mod InputCells
 pub mod Kernel
 pub mod KernelTypes
+pub mod Kind
 pub mod KindText
 pub mod Kinds
 pub mod Layout
@@ -13,8 +17,10 @@ pub mod Nested
 pub mod OneMap
 pub mod Operation
 pub mod Partial
+pub mod Places
 pub mod PlanView
 pub mod Projection
+pub mod Reductions
 pub mod Schedule
 pub mod Sound
 pub mod TaskView
