@@ -9,7 +9,7 @@ use Rattle.cu_op.specs.Arrays.{maker_at}
 use Rattle.cu_op.specs.Operation.{reads_of, writes_of, IsBefore, IsReadable, IsMadeBy}
 use Rattle.cu_op.specs.PlanView.{PlanView, operation_at, no_operation}
 use Rattle.cu_op.specs.Sound.{Sound, IsOperation}
-use Rattle.cu_op.proofs.Values.{contains_any, any_contains}
+use Rattle.cu_op.proofs.Members.{contains_any, any_contains}
 use Rattle.cu_fuse.specs.Close.{remains, has_maker, renumbered_planned, remaining_numbers, maker_of, new_number, closed, setting_of}
 use Rattle.cu_fuse.specs.Fused.{stands_in}
 use Rattle.cu_fuse.specs.Runs.{HasWriter, IsAtHand, IsNew, CanFollow, CanRun}

@@ -11,7 +11,8 @@ use Rattle.cu_op.specs.Operation.{reads_of, writes_of}
 use Rattle.cu_op.specs.PlanView.{PlanView}
 use Rattle.cu_op.specs.Sound.{Sound}
 use Rattle.cu_op.specs.Value.{Elements, rule, plan_value}
-use Rattle.cu_op.proofs.Values.{contains_any, value_solves}
+use Rattle.cu_op.proofs.Members.{contains_any}
+use Rattle.cu_op.proofs.Values.{value_solves}
 use Rattle.cu_fuse.specs.Close.{renumbered, renumbered_planned, remaining_numbers, new_number, closed, fused, setting_of}
 use Rattle.std.proofs.lemmas.Bool.{cases_Bool}
 use Rattle.cu_fuse.specs.Close.{remains, has_maker}

@@ -41,7 +41,7 @@ use Rattle.cu_op.specs.Nested.{IsNested}
 use Rattle.cu_op.specs.Operation.{reads_of, writes_of, pair_writes, shapes_at, origin_at, region_grid, Converts, IsAligned, FoldFits, PairFits, IsMergeAlong, StoresValues, HasPlaceAxis, Fits}
 use Rattle.cu_op.specs.Partial.{chunk_groups, place_groups, merge_groups, partial_grid, IsSqueezed}
 use Rattle.cu_op.specs.Value.{Elements, loaded, pulled, counted_at, pair_part, products_at, rule}
-use Rattle.cu_op.proofs.Values.{same_kernel}
+use Rattle.cu_op.proofs.Alike.{same_kernel}
 use Rattle.cu_fuse.specs.Close.{renumbered, HasLayoutOf}
 use Rattle.cu_shape.specs.Counts.{largest}
 

@@ -16,7 +16,7 @@ use Rattle.cu_op.specs.Arrays.{grid_at}
 use Rattle.cu_op.specs.Operation.{reads_of, writes_of, target_of}
 use Rattle.cu_op.specs.Projection.{instruction_count}
 use Rattle.cu_op.specs.Value.{Elements}
-use Rattle.cu_op.proofs.Values.{any_contains, contains_any}
+use Rattle.cu_op.proofs.Members.{any_contains, contains_any}
 use Rattle.cu_fuse.specs.Fused.{SettingView, is_map, stands_in, is_reader, number_in, stands_once, same_grid, joint_op, joint, are_maps, is_between, has_one_reader, has_grid_of, is_small, may_merge, into_reader, merged_away, map_inputs, merged_all, fused_ops}
 use Rattle.cu_fuse.specs.Merge.{Joins, IsMerged}
 use Rattle.cu_fuse.specs.Runs.{HasReader, CanRun, AreMade}

@@ -18,7 +18,7 @@ use Rattle.cu_op.specs.Kernel.{last_of, instruction_value, results_from, kernel_
 use Rattle.cu_op.specs.KernelTypes.{Operand, GivesOperand, KernelFits}
 use Rattle.cu_op.specs.Operation.{IsAligned, MapFits}
 use Rattle.cu_op.specs.Value.{Elements, loaded}
-use Rattle.cu_op.proofs.Values.{same_then}
+use Rattle.cu_op.proofs.Alike.{same_then}
 use Rattle.cu_fuse.specs.Splice.{put_in, input_behind, spliced}
 use Rattle.cu_fuse.proofs.Splicing.{put_in_here, put_in_same, spliced_value, spliced_fits}
 

@@ -13,7 +13,7 @@ use Rattle.cu_op.specs.declared.kernel.Instr.{Instr}
 use Rattle.cu_op.specs.declared.kernel.Instr.TheVariants.{Load, Const, One, Two, Select}
 use Rattle.cu_op.specs.Kernel.{last_of, instruction_value, results_from, kernel_value}
 use Rattle.cu_op.specs.KernelTypes.{Operand, Typed, GivesOperand, KernelFits}
-use Rattle.cu_op.proofs.Values.{same_then}
+use Rattle.cu_op.proofs.Alike.{same_then}
 use Rattle.cu_fuse.specs.Splice.{put_in, input_behind, moved_behind, in_place, spliced_from, spliced}
 
 -- ---- elements of lists

@@ -16,7 +16,7 @@ use Rattle.cu_op.specs.InputCells.{chunk_where}
 use Rattle.cu_op.specs.Walks.{walk, IsWalkOver, walk_cells}
 use Rattle.cu_op.proofs.Nested.{begins_within}
 use Rattle.cu_op.proofs.Spans.{IsSpanOn, IsSpan}
-use Rattle.cu_op.proofs.Values.{bool_cases}
+use Rattle.cu_op.proofs.Members.{bool_cases}
 use Rattle.cu_op.proofs.WalkCells.{walk_meets, meets_walk}
 
 cons_same : (x y : ℕ) (xs ys : List ℕ) → x ≡ y → xs ≡ ys → x ∷ xs ≡ y ∷ ys

@@ -1,3 +1,14 @@
+pub mod Alike
+pub mod Members
+pub mod KernelRanges
+pub mod WalksOf
+pub mod Results
+pub mod PlanGroups
+pub mod SameCells
+pub mod Rooms
+pub mod ResultRanges
+pub mod Kind
+pub mod KindLaws
 pub mod Broadcasting
 pub mod Filled
 pub mod Grouped

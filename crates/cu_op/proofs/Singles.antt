@@ -1,37 +1,37 @@
 -- A plan of one map is sound, and the kernel of an addition fits.
-use Rattle.std.proofs.Common.{◌≡◌, ◌≢◌, inl, inr, ℕ, zero, suc, ◌<◌, ◌≤◌, ◌+◌, ◌-◌, ◌*◌, ◌^◌, List, [], ◌∷◌, ◌++◌, length, map, sum_by, drop, All, Contains, Option, None, Some, get_or, refl, ap, sym, ◌∙◌, subst, arith}
-use Rattle.std.proofs.lemmas.Bool.{cases_lt}
-use Rattle.std.proofs.Math.Nat.{mul-le-mul_left, mul-le-mul_right}
-use Rattle.std.proofs.lemmas.List.{get_or_append_left, get_or_at, length-append}
-use Rattle.std.proofs.lemmas.List.Elements.{All-append, All-cons, All-nil, All-head, All-tail}
-use Rattle.std.proofs.lemmas.List.Sums.{sum_by-append, sum_by-cons, sum_by-le}
-use Rattle.cu_num.specs.Dtype.{IsInteger, size_of}
-use Rattle.cu_num.specs.Promotion.{promotion}
+use Rattle.cu_grid.specs.Grid.{RegularGrid, IsGrid}
 use Rattle.cu_num.proofs.TypeTests.{is_integer-IsInteger}
-use Rattle.cu_num.specs.declared.types.Dtype.{Dtype}
-use Rattle.cu_num.specs.declared.types.Dtype.TheVariants as types
+use Rattle.cu_num.specs.Dtype.{IsInteger}
+use Rattle.cu_num.specs.Promotion.{promotion}
+use Rattle.cu_num.specs.declared.functions.Fn2.TheVariants.{Add}
 use Rattle.cu_num.specs.declared.layout.Encoding.TheVariants.{Plain}
 use Rattle.cu_num.specs.declared.layout.Sep.TheVariants.{Slash}
-use Rattle.cu_num.specs.declared.functions.Fn2.TheVariants.{Add}
-use Rattle.cu_shape.specs.Index.{product}
-use Rattle.cu_grid.specs.Grid.{RegularGrid, IsGrid}
+use Rattle.cu_num.specs.declared.types.Dtype.{Dtype}
+use Rattle.cu_op.proofs.KeyTexts.{keys_differ}
+use Rattle.cu_op.proofs.KindLaws.{laws_of}
+use Rattle.cu_op.proofs.Plans.{scratch_parts}
+use Rattle.cu_op.proofs.Rooms.{any_room_few, greatest_few}
+use Rattle.cu_op.specs.Arrays.{array_at, grid_at, maker_at, grid_counts, array_chunk_count, no_array, chunk_room}
+use Rattle.cu_op.specs.Cells.{tasks_of}
+use Rattle.cu_op.specs.KernelTypes.{Typed, KernelFits}
+use Rattle.cu_op.specs.Layout.{IsArray}
+use Rattle.cu_op.specs.OneMap.{OneMap, Makes, addition_of, HasGridAndType, AddsAlike}
+use Rattle.cu_op.specs.Operation.{writes_of, IsAlignedAlong, IsAligned, reads_of, target_of, IsMadeBy, IsReadable, Fits, IsBefore}
+use Rattle.cu_op.specs.PlanView.{operation_at}
+use Rattle.cu_op.specs.Projection.{projection, instruction_count, HasSmallRegions}
+use Rattle.cu_op.specs.Sound.{Sound, made_chunks, cells_by, IsOperation}
 use Rattle.cu_op.specs.declared.kernel.Instr.TheVariants.{Load, Two}
 use Rattle.cu_op.specs.declared.layout.ArrayInfo.{ArrayInfo}
 use Rattle.cu_op.specs.declared.operation.Op.{Op}
-use Rattle.cu_op.specs.declared.operation.Op.TheVariants.{Map, Pull, Copy, Fold, Merge, PairFold, PairMerge, Mul}
 use Rattle.cu_op.specs.declared.operation.Planned.{Planned}
-use Rattle.cu_op.specs.Arrays.{array_at, grid_counts, grid_at, type_at, maker_at, chunk_room, array_chunk_count, no_array}
-use Rattle.cu_op.specs.Cells.{tasks_of}
-use Rattle.cu_op.specs.KernelTypes.{KernelFits, Typed}
-use Rattle.cu_op.specs.Layout.{IsArray}
-use Rattle.cu_op.specs.OneMap.{OneMap, Makes, addition_of, HasGridAndType, AddsAlike}
-use Rattle.cu_op.specs.Operation.{reads_of, writes_of, target_of, IsAlignedAlong, IsAligned, IsReadable, IsMadeBy, IsBefore, Fits}
-use Rattle.cu_op.specs.PlanView.{operation_at}
-use Rattle.cu_op.specs.Projection.{projection, input_room, output_room, instruction_count, HasSmallRegions}
-use Rattle.cu_op.specs.Sound.{Sound, IsOperation, made_chunks, cells_by}
-use Rattle.cu_op.proofs.KeyTexts.{keys_differ}
-use Rattle.cu_op.proofs.Plans.{scratch_parts}
 use Rattle.cu_shape.specs.Counts.{largest}
+use Rattle.cu_shape.specs.Index.{product}
+use Rattle.std.proofs.Common.{◌≡◌, inl, inr, ℕ, zero, suc, ◌<◌, ◌+◌, List, [], ◌∷◌, ◌++◌, length, map, All, Contains, Option, None, Some, get_or, refl, ap, sym, ◌∙◌, subst, arith, ◌≤◌, ◌-◌, drop, ◌≢◌, ◌^◌, sum_by}
+use Rattle.std.proofs.lemmas.Bool.{cases_lt}
+use Rattle.std.proofs.lemmas.List.{length-append, get_or_append_left, get_or_at}
+use Rattle.std.proofs.lemmas.List.Elements.{All-cons, All-nil, All-head, All-tail, All-append}
+use Rattle.std.proofs.lemmas.List.Sums.{sum_by-append, sum_by-cons}
+use Rattle.cu_op.specs.declared.operation.Op.TheVariants.{Map}
 
 -- an array before the last, and the last
 at_input : (inputs : List ArrayInfo) (made : ArrayInfo) (a : ℕ) → a < length inputs → array_at (inputs ++ made ∷ []) a ≡ array_at inputs a
@@ -203,76 +203,10 @@ add_one_map stays inputs made g t i j h =
       };
     }
 
--- a chunk of an array has at most 2^43 bytes
-size_few : (t : Dtype) → size_of t ≤ 8
-size_few types.Bool = omega arith
-size_few types.Int8 = omega arith
-size_few types.Int16 = omega arith
-size_few types.Int32 = omega arith
-size_few types.Int64 = omega arith
-size_few types.Uint8 = omega arith
-size_few types.Uint16 = omega arith
-size_few types.Uint32 = omega arith
-size_few types.Uint64 = omega arith
-
-times_few : (n s : ℕ) → n ≤ 2 ^ 40 → s ≤ 8 → n * s ≤ 2 ^ 43
-times_few n s h k = let w : n * s ≤ n * 8 = mul-le-mul_left n k in omega arith
-
-pub room_few : (arrays : List ArrayInfo) (a : ℕ) → All IsArray arrays → a < length arrays → chunk_room arrays a ≤ 2 ^ 43
-room_few arrays a ok h = times_few (product (grid_at arrays a).chunk) (size_of (type_at arrays a)) (ok a no_array h).grid.chunk_elements (size_few (type_at arrays a))
-
--- past the end stands an array of one element
-chunk_few : (arrays : List ArrayInfo) (a : ℕ) → All IsArray arrays → product (grid_at arrays a).chunk ≤ 2 ^ 40
-chunk_few [] a ok = omega arith
-chunk_few (x ∷ xs) zero ok = (ok 0 no_array (omega arith)).grid.chunk_elements
-chunk_few (x ∷ xs) (suc a) ok = chunk_few xs a (All-tail IsArray x xs ok)
-
-any_room_few : (arrays : List ArrayInfo) (a t : ℕ) → All IsArray arrays → product (grid_at arrays a).chunk * size_of (type_at arrays t) ≤ 2 ^ 43
-any_room_few arrays a t ok = times_few (product (grid_at arrays a).chunk) (size_of (type_at arrays t)) (chunk_few arrays a ok) (size_few (type_at arrays t))
-
-greatest_few : (f : ℕ → ℕ) (m : ℕ) (xs : List ℕ) → All (λ x. f x ≤ m) xs → largest (map f xs) ≤ m
-greatest_few f m [] h = omega arith
-greatest_few f m (x ∷ xs) h =
-    let first = All-head (λ y. f y ≤ m) x xs h in
-    let rest = greatest_few f m xs (All-tail (λ y. f y ≤ m) x xs h) in
-    omega (arith, first, rest)
-
 -- ---- the projection of an operation fits 64 bits
 
 written_few : (ws : List ℕ) (arrays : List ArrayInfo) → All IsArray arrays → largest (map (chunk_room arrays) ws) ≤ 2 ^ 43
 written_few ws arrays ok = greatest_few (chunk_room arrays) (2 ^ 43) ws (λ k d h. any_room_few arrays (get_or ws k d) (get_or ws k d) ok)
-
-group_few : (group room : ℕ) → group ≤ 65536 → room ≤ 2 ^ 44 → group * room ≤ 2 ^ 60
-group_few group room g r =
-    let a : group * room ≤ group * 2 ^ 44 = mul-le-mul_left group r in
-    let b : group * 2 ^ 44 ≤ 65536 * 2 ^ 44 = mul-le-mul_right (2 ^ 44) g in
-    omega (arith, a, b)
-
-inputs_few : (op : Op) (arrays : List ArrayInfo) → All IsArray arrays → All (λ a. a < length arrays) (reads_of op) → length (reads_of op) ≤ 8 → HasSmallRegions op → input_room arrays op ≤ 2 ^ 60
-inputs_few (Map kernel ins out) arrays ok reads few small =
-    let s = sum_by-le (chunk_room arrays) (2 ^ 43) ins.items (λ k d h. room_few arrays (get_or ins.items k d) ok (reads k d h)) in
-    let w : length ins.items * 2 ^ 43 ≤ 8 * 2 ^ 43 = mul-le-mul_right (2 ^ 43) few in
-    omega (arith, s, w)
-inputs_few (Pull pull ins out) arrays ok reads few small = omega arith
-inputs_few (Copy region source out) arrays ok reads few small = let r = times_few (product region) (size_of (type_at arrays source)) small (size_few (type_at arrays source)) in omega (arith, r)
-inputs_few (Fold kind axes source out) arrays ok reads few small = let r = any_room_few arrays source source ok in omega (arith, r)
-inputs_few (Merge kind axis group source out) arrays ok reads few small = let r = any_room_few arrays source source ok in group_few group (chunk_room arrays source) small (omega (arith, r))
-inputs_few (PairFold least axis source values out) arrays ok reads few small = let r = any_room_few arrays source source ok in omega (arith, r)
-inputs_few (PairMerge least axis group value_source place_source values out) arrays ok reads few small =
-    let r = any_room_few arrays value_source value_source ok in
-    let s = any_room_few arrays place_source place_source ok in
-    group_few group (chunk_room arrays value_source + chunk_room arrays place_source) small (omega (arith, r, s))
-inputs_few (Mul left right out) arrays ok reads few small = let r = any_room_few arrays left left ok in let s = any_room_few arrays right right ok in omega (arith, r, s)
-
-outputs_few : (op : Op) (arrays : List ArrayInfo) → All IsArray arrays → output_room arrays op ≤ 2 ^ 44
-outputs_few (Map kernel ins out) arrays ok = let o = any_room_few arrays out out ok in omega (arith, o)
-outputs_few (Pull pull ins out) arrays ok = let o = any_room_few arrays out out ok in omega (arith, o)
-outputs_few (Copy region source out) arrays ok = omega arith
-outputs_few (Fold kind axes source out) arrays ok = let o = any_room_few arrays out out ok in omega (arith, o)
-outputs_few (Merge kind axis group source out) arrays ok = let o = any_room_few arrays out out ok in omega (arith, o)
-outputs_few (PairFold least axis source values out) arrays ok = let o = any_room_few arrays out out ok in let v = any_room_few arrays out source ok in omega (arith, o, v)
-outputs_few (PairMerge least axis group value_source place_source values out) arrays ok = let o = any_room_few arrays out out ok in let v = any_room_few arrays out value_source ok in omega (arith, o, v)
-outputs_few (Mul left right out) arrays ok = let o = any_room_few arrays out out ok in omega (arith, o)
 
 pub projection_few : (op : Op) (arrays : List ArrayInfo) (reserved : ℕ) → All IsArray arrays → All (λ a. a < length arrays) (reads_of op) → target_of op < length arrays
     → length (reads_of op) ≤ 8 → instruction_count op ≤ 32 → HasSmallRegions op → reserved ≤ 2 ^ 40 → projection arrays reserved op < 2 ^ 64
@@ -280,13 +214,10 @@ projection_few op arrays reserved ok reads target ins code small few =
     let g = written_few (reads_of op) arrays ok in
     let w = written_few (writes_of op) arrays ok in
     let a = scratch_parts op arrays in
-    let b = inputs_few op arrays ok reads ins small in
-    let c = outputs_few op arrays ok in
+    let b = (laws_of op).inputs_few arrays ok reads ins small in
+    let c = (laws_of op).outputs_few arrays ok in
     omega (arith, g, w, a, b, c)
 
 -- an operation that fits its arrays has small regions
 pub fits_small : (op : Op) (arrays : List ArrayInfo) → Fits arrays op → HasSmallRegions op
-fits_small (Copy region source out) arrays fits = fits.regions.chunk_elements
-fits_small (Merge kind axis group source out) arrays fits = fits.0.few
-fits_small (PairMerge least axis group value_source place_source values out) arrays fits = fits.0.few
-fits_small op arrays fits = tt
+fits_small op = (laws_of op).small

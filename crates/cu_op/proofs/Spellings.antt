@@ -12,7 +12,7 @@ use Rattle.cu_zarr.specs.Layout.{ArrayLayout, index_in_chunk}
 use Rattle.cu_zarr.specs.Spelling.{parts_in_order, padded_element, spelled}
 use Rattle.cu_zarr.proofs.Joined.{joined_parts}
 use Rattle.cu_zarr.proofs.Spelled.{index_in_chunk_again}
-use Rattle.cu_op.proofs.Values.{bool_cases}
+use Rattle.cu_op.proofs.Members.{bool_cases}
 
 -- the grid of a layout
 abbrev pub grid_of : ArrayLayout → RegularGrid

@@ -26,6 +26,7 @@ pub use Rattle.cu_op.proofs.MapRegions.{region_lengths, read_over, read_within}
 use Rattle.cu_op.proofs.Nested.{meets_own, begins_in}
 use Rattle.cu_op.proofs.Plans.{grid_ok}
 use Rattle.cu_op.proofs.Values.{rule_reads, value_solves}
+use Rattle.cu_op.proofs.WalksOf.{walk_of, apart_each}
 use Rattle.cu_op.proofs.WalkCells.{kept_walk, All-new_walks, different, walk_meets, meets_walk, one_walk, from_walk, All-cells, cells_once}
 
 module _ (p : PlanView) (s : Sound p) (k : ℕ) where
@@ -69,7 +70,7 @@ module _ (p : PlanView) (s : Sound p) (k : ℕ) where
     written task c h there =
         let f : ℕ → Walk = λ a. walk a (task_lo p.arrays op task) (task_hi p.arrays op task) in
         let (w, among, inside) = one_walk p.arrays (output_walks p.arrays op task) c there in
-        let of = ops.walk_of f (writes_of op) w (λ a. refl) among in
+        let of = walk_of f (writes_of op) w (λ a. refl) among in
         let over = All-contains (IsWalkOver p.arrays) (output_walks p.arrays op task) w (output_over task h) among in
         let m = walk_meets p.arrays w c (grids w.array over.0) over inside in (
           subst (Contains (writes_of op)) (sym m.0) of.0,
@@ -111,7 +112,7 @@ module _ (p : PlanView) (s : Sound p) (k : ℕ) where
     written_once task h =
         cells_once p.arrays (output_walks p.arrays op task) (λ i d b. let o = output_over task h i d b in (grid_ok p _ s o.0, o))
         (λ v w hv hw other.
-        ops.apart_each p.arrays grids (λ a. walk a (task_lo p.arrays op task) (task_hi p.arrays op task)) (writes_of op) v w (λ a. refl) hv hw other
+        apart_each p.arrays grids (λ a. walk a (task_lo p.arrays op task) (task_hi p.arrays op task)) (writes_of op) v w (λ a. refl) hv hw other
         (All-contains (IsWalkOver p.arrays) (output_walks p.arrays op task) v (output_over task h) hv) (All-contains (IsWalkOver p.arrays) (output_walks p.arrays op task) w (output_over task h) hw))
         (ops.write_walks_differ p.arrays grids k op (task_lo p.arrays op task) (task_hi p.arrays op task) fit)
 

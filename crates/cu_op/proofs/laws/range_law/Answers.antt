@@ -1,4 +1,5 @@
-use Rattle.cu_op.proofs.Ranges.{value_range, stored_range, kernel_range}
+use Rattle.cu_op.proofs.Ranges.{value_range, stored_range}
+use Rattle.cu_op.proofs.KernelRanges.{kernel_range}
 use Rattle.cu_op.proofs.laws.range_law.Goals as goal
 
 pub returns : goal.returns

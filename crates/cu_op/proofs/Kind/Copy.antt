@@ -1,0 +1,50 @@
+-- What is proved of a copy.
+use Rattle.cu_grid.proofs.Regions.{coordinate-length}
+use Rattle.cu_grid.specs.Counts.{chunk_lo, chunk_hi, IsRegion, IsWithin}
+use Rattle.cu_num.specs.Dtype.{InRange, size_of}
+use Rattle.cu_num.specs.declared.types.Dtype.{Dtype}
+use Rattle.cu_op.proofs.Filled.{filled_region}
+use Rattle.cu_op.proofs.Kind.{Laws}
+use Rattle.cu_op.proofs.Results.{only_written, differ_only}
+use Rattle.cu_op.proofs.Rooms.{size_few, times_few}
+use Rattle.cu_op.proofs.SameCells.{of_one, box_same}
+use Rattle.cu_op.proofs.WalksOf.{over_one, apart_one, first_of_walks}
+use Rattle.cu_op.specs.Arrays.{grid_at, type_at}
+use Rattle.cu_op.specs.Kind.Copy.{copy_kind}
+use Rattle.cu_op.specs.Operation.{region_grid}
+use Rattle.cu_op.specs.Schedule.{IsNested}
+use Rattle.cu_op.specs.Walks.{walk}
+use Rattle.cu_shape.specs.Index.{product}
+use Rattle.std.proofs.Common.{ℕ, List, [], length, refl, ap, sym, ◌∙◌, subst, arith}
+use Rattle.std.proofs.lemmas.List.Elements.{All-cons, All-nil}
+
+pub copy_laws : (region : List ℕ) (source out : ℕ) → Laws (copy_kind region source out)
+copy_laws region source out = record {
+  alone = λ arrays at other array idx h. h source idx (refl, refl);
+  listed = λ arrays idx a i reads. (0, omega arith, sym reads.0);
+  target = (0, omega arith, refl);
+  grid = λ arrays s. s.fits.regions;
+  nested = λ arrays s.
+      let P : ℕ → Type 0 = λ a. IsNested (grid_at arrays a) (region_grid (grid_at arrays out) region) in
+      All-cons P out [] s.fits.nested (All-nil P);
+  differ = λ arrays lo hi s. differ_only out lo hi;
+  walked = λ arrays lo hi. refl;
+  over = λ arrays lo hi s f.
+      over_one arrays (walk source lo hi) (s.reads 0 0 (omega arith), subst (λ (ns : List ℕ). IsRegion ns lo hi) (sym s.fits.shape) (filled_region (grid_at arrays out).shape lo hi f));
+  apart = λ arrays lo hi s f p v w hv hw other ov ow. apart_one arrays (walk source lo hi) v w hv hw other;
+  within = λ arrays lo hi a idx i s f inside w reads. first_of_walks (walk source lo hi) [] a i (sym reads.0) (subst (IsWithin lo hi) (sym reads.1) w);
+  same = λ arrays d c s here.
+      let g = region_grid (grid_at arrays out) region in
+      let lo = chunk_lo region d in
+      let hi = chunk_hi g.shape region d in
+      of_one arrays (walk source lo hi) _ c (box_same arrays source region d lo hi c (record {
+        begins = refl;
+        ends = ap (λ (ns : List ℕ). chunk_hi ns region d) (sym s.fits.shape);
+        long = coordinate-length g d s.fits.regions here ∙ ap length (sym s.fits.shape);
+      }));
+  range = λ arrays at a idx x among fits inside typed reads v.
+      subst (λ (b : ℕ). InRange (type_at arrays b) x) (only_written out a among) (subst (λ (d : Dtype). InRange d x) fits.types (typed source idx x (refl, refl) v));
+  small = λ arrays fits. fits.regions.chunk_elements;
+  inputs_few = λ arrays ok reads few small. let r = times_few (product region) (size_of (type_at arrays source)) small (size_few (type_at arrays source)) in omega (arith, r);
+  outputs_few = λ arrays ok. omega arith;
+}

@@ -1,0 +1,61 @@
+-- What is proved of a fold.
+use Rattle.cu_grid.specs.Counts.{chunk_lo, chunk_hi}
+use Rattle.cu_num.specs.declared.folds.FoldKind.{FoldKind}
+use Rattle.cu_op.proofs.Alike.{same_mapped}
+use Rattle.cu_op.proofs.Filled.{IsFilled, chunk_filled}
+use Rattle.cu_op.proofs.Grouped.{partial_region, partial_reads}
+use Rattle.cu_op.proofs.Kind.{Stands, Laws}
+use Rattle.cu_op.proofs.PlanGroups.{chunk_ranks}
+use Rattle.cu_op.proofs.ResultRanges.{fold_range}
+use Rattle.cu_op.proofs.Results.{differ_only, nested_only}
+use Rattle.cu_op.proofs.Rooms.{any_room_few}
+use Rattle.cu_op.proofs.SameCells.{of_one, folded_same}
+use Rattle.cu_op.proofs.WalksOf.{over_one, apart_one, first_of_walks}
+use Rattle.cu_op.specs.Arrays.{grid_at, type_at}
+use Rattle.cu_op.specs.Kind.Fold.{fold_kind}
+use Rattle.cu_op.specs.Partial.{partial_indices, chunk_groups}
+use Rattle.cu_op.specs.Walks.{IsWalkOver, partial_walk}
+use Rattle.cu_op.specs.declared.layout.ArrayInfo.{ArrayInfo}
+use Rattle.cu_pull.specs.Pull.{has_axis}
+use Rattle.cu_pull.specs.declared.axes.Axes.{Axes}
+use Rattle.cu_reduce.specs.Folds.{reduced_to}
+use Rattle.std.proofs.Common.{ℕ, List, [], ◌∷◌, map, All, refl, ap, sym, arith}
+use Rattle.std.proofs.lemmas.List.Elements.{All-head}
+
+pub fold_laws : (kind : FoldKind) (axes : Axes) (source out : ℕ) → Laws (fold_kind kind axes source out)
+fold_laws kind axes source out = record {
+  alone = λ arrays at other array idx h.
+      ap (reduced_to kind (type_at arrays out)) (same_mapped (at source) (other source) (partial_indices arrays (chunk_groups axes (grid_at arrays source)) source out idx) (λ i c. h source i (refl, c)));
+  listed = λ arrays idx a i reads. (0, omega arith, sym reads.0);
+  target = (0, omega arith, refl);
+  grid = λ arrays s. s.grids out (s.writes 0 0 (omega arith));
+  nested = λ arrays s. nested_only arrays out (s.grids out (s.writes 0 0 (omega arith)));
+  differ = λ arrays lo hi s. differ_only out lo hi;
+  walked = λ arrays lo hi. refl;
+  over = fold_over kind axes source out;
+  apart = λ arrays lo hi s f p v w hv hw other ov ow. apart_one arrays (partial_walk arrays (chunk_groups axes (grid_at arrays source)) source out lo hi) v w hv hw other;
+  within = λ arrays lo hi a idx i s f inside w reads.
+      let gs = chunk_groups axes (grid_at arrays source) in
+      first_of_walks (partial_walk arrays gs source out lo hi) [] a i (sym reads.0)
+      (partial_reads arrays gs source out (chunk_ranks arrays (has_axis axes) source (s.grids source (s.reads 0 0 (omega arith)))) s.fits.result lo hi idx i f w inside reads.1);
+  same = λ arrays d c s here.
+      let g = grid_at arrays out in
+      let ok = s.grids out (s.writes 0 0 (omega arith)) in
+      let lo = chunk_lo g.chunk d in
+      let hi = chunk_hi g.shape g.chunk d in
+      let own = partial_walk arrays (chunk_groups axes (grid_at arrays source)) source out lo hi in
+      of_one arrays own _ c (folded_same arrays s.grids (has_axis axes) source out d c (s.reads 0 0 (omega arith)) (s.writes 0 0 (omega arith)) s.fits.result here
+      (All-head (IsWalkOver arrays) own [] (fold_over kind axes source out arrays lo hi s (chunk_filled g.shape g.chunk d ok.positive ok.ranks here))));
+  range = λ arrays at a idx x among fits inside typed reads v.
+      fold_range kind arrays out a (map (at source) (partial_indices arrays (chunk_groups axes (grid_at arrays source)) source out idx)) x among v;
+  small = λ arrays fits. tt;
+  inputs_few = λ arrays ok reads few small. let r = any_room_few arrays source source ok in omega (arith, r);
+  outputs_few = λ arrays ok. let o = any_room_few arrays out out ok in omega (arith, o);
+}
+  where
+    fold_over : (kind : FoldKind) (axes : Axes) (source out : ℕ) (arrays : List ArrayInfo) (lo hi : List ℕ) → Stands arrays (fold_kind kind axes source out) → IsFilled (grid_at arrays out).shape lo hi
+        → All (IsWalkOver arrays) (partial_walk arrays (chunk_groups axes (grid_at arrays source)) source out lo hi ∷ [])
+    fold_over kind axes source out arrays lo hi s f =
+        let within = s.reads 0 0 (omega arith) in
+        let gs = chunk_groups axes (grid_at arrays source) in
+        over_one arrays (partial_walk arrays gs source out lo hi) (within, partial_region arrays gs source out (chunk_ranks arrays (has_axis axes) source (s.grids source within)) s.fits.result lo hi f)

@@ -1,0 +1,106 @@
+-- What is proved of a map.
+use Rattle.cu_grid.specs.Counts.{chunk_lo, chunk_hi, IsWithin}
+use Rattle.cu_grid.specs.Grid.{IsCoordinate}
+use Rattle.cu_num.specs.Dtype.{InRange}
+use Rattle.cu_num.specs.declared.types.Dtype.{Dtype}
+use Rattle.cu_op.proofs.Alike.{same_kernel, same_given}
+use Rattle.cu_op.proofs.CellsOfTasks.{map_contains}
+use Rattle.cu_op.proofs.Filled.{IsFilled, filled_region, chunk_filled}
+use Rattle.cu_op.proofs.KernelRanges.{kernel_range}
+use Rattle.cu_op.proofs.Kind.{Stands, ReadsTypes, Laws}
+use Rattle.cu_op.proofs.MapRegions.{read_within, within_lengths, read_over}
+use Rattle.cu_op.proofs.PairRanges.{some_map, some_then}
+use Rattle.cu_op.proofs.Results.{only_written, differ_only, nested_only}
+use Rattle.cu_op.proofs.Rooms.{room_few, any_room_few}
+use Rattle.cu_op.proofs.SameCells.{HaveSame, same_list, of_each, read_same}
+use Rattle.cu_op.proofs.WalksOf.{own_arrays, apart_each, LiesIn}
+use Rattle.cu_op.specs.Arrays.{grid_at, type_at, chunk_room}
+use Rattle.cu_op.specs.Cells.{cell}
+use Rattle.cu_op.specs.KernelTypes.{LoadsTypes}
+use Rattle.cu_op.specs.Kind.Map.{map_kind}
+use Rattle.cu_op.specs.Operation.{IsAligned}
+use Rattle.cu_op.specs.Value.{Elements, loaded}
+use Rattle.cu_op.specs.Walks.{back_as, IsWalkOver, read_walk, cells_of_walks}
+use Rattle.cu_op.specs.declared.cells.Cell.{Cell}
+use Rattle.cu_op.specs.declared.kernel.Instr.{Instr}
+use Rattle.cu_op.specs.declared.layout.ArrayInfo.{ArrayInfo}
+use Rattle.cu_op.specs.declared.walks.Walk.{Walk}
+use Rattle.cu_shape.proofs.Places.{inside-length}
+use Rattle.cu_shape.specs.Index.{IsInside, back}
+use Rattle.std.proofs.Common.{◌≡◌, ℕ, List, [], ◌∷◌, length, map, All, Contains, get_or, refl, ap, sym, ◌∙◌, subst, arith, ◌≤◌, ◌*◌, ◌^◌}
+use Rattle.std.proofs.Math.Nat.{mul-le-mul_right}
+use Rattle.std.proofs.lemmas.List.Concat.{flat_map_single}
+use Rattle.std.proofs.lemmas.List.Elements.{All-contains, All-map, All-contains_itself}
+use Rattle.std.proofs.lemmas.List.Sums.{sum_by-le}
+use Rattle.std.proofs.lemmas.Option.{slice_get_within, get_or_from_slice_get, same_Some, slice_get-map}
+use Rattle.std.specs.List.{slice_get}
+
+loads_types : (code : List Instr) (ins : List ℕ) (out : ℕ) (arrays : List ArrayInfo) (idx : List ℕ) (at : Elements) → ReadsTypes (map_kind code ins out) arrays idx at
+    → LoadsTypes (map (type_at arrays) ins) (loaded arrays ins at idx)
+loads_types code ins out arrays idx at typed j t y et ey =
+    let m = some_then (λ b. at b (back (grid_at arrays b).shape idx)) (slice_get ins j) y ey in
+    let f = some_map (type_at arrays) (slice_get ins j) t (sym (slice_get-map (type_at arrays) ins j) ∙ et) in
+    let same : f.0 ≡ m.0 = same_Some f.0 m.0 (sym f.1 ∙ m.1) in
+    let listed : Contains ins m.0 = (j, slice_get_within ins j m.0 m.1, get_or_from_slice_get ins j m.0 m.0 m.1) in
+    subst (λ (d : Dtype). InRange d y) (ap (type_at arrays) (sym same) ∙ f.2) (typed m.0 (back (grid_at arrays m.0).shape idx) y (listed, refl) m.2)
+
+map_within : (code : List Instr) (ins : List ℕ) (out : ℕ) (arrays : List ArrayInfo) (lo hi : List ℕ) (a : ℕ) (idx i : List ℕ) → Stands arrays (map_kind code ins out) → IsInside (grid_at arrays out).shape idx → IsWithin lo hi idx
+    → Contains ins a → i ≡ back (grid_at arrays a).shape idx → LiesIn (map (read_walk arrays lo hi) ins) a i
+map_within code ins out arrays lo hi a idx i s inside w among from =
+    let g = grid_at arrays a in
+    let aligned = All-contains (λ b. IsAligned (grid_at arrays b) (grid_at arrays out)) ins a s.fits.inputs among in
+    let n = within_lengths lo hi idx w in
+    let rank : length g.shape ≤ length idx = (let e = inside-length (grid_at arrays out).shape idx inside in let l = aligned.rank in omega (arith, e, l)) in
+    record {
+      one = read_walk arrays lo hi a;
+      listed = map_contains (read_walk arrays lo hi) ins a among;
+      array = refl;
+      within = subst (IsWithin (back_as 0 g.shape lo) (back_as 1 g.shape hi)) (sym from) (read_within g.shape lo hi idx n.0 n.1 rank w);
+    }
+
+map_same : (code : List Instr) (ins : List ℕ) (out : ℕ) (arrays : List ArrayInfo) (d : List ℕ) (c : Cell) → Stands arrays (map_kind code ins out) → IsCoordinate (grid_at arrays out) d
+    → All (IsWalkOver arrays) (map (read_walk arrays (chunk_lo (grid_at arrays out).chunk d) (chunk_hi (grid_at arrays out).shape (grid_at arrays out).chunk d)) ins)
+    → HaveSame (cells_of_walks arrays (map (read_walk arrays (chunk_lo (grid_at arrays out).chunk d) (chunk_hi (grid_at arrays out).shape (grid_at arrays out).chunk d)) ins)) (map (λ a. cell a (back (grid_at arrays a).shape d)) ins) c
+map_same code ins out arrays d c s here over =
+    let f : ℕ → Walk = read_walk arrays (chunk_lo (grid_at arrays out).chunk d) (chunk_hi (grid_at arrays out).shape (grid_at arrays out).chunk d) in
+    let each = of_each arrays f (λ a. cell a (back (grid_at arrays a).shape d) ∷ []) ins c (λ i e b.
+    let a = get_or ins i e in
+    read_same arrays a (grid_at arrays out) d (s.grids a (s.reads i e b)) (s.grids out (s.writes 0 0 (omega arith))) (s.fits.inputs i e b) here c
+    (All-contains (IsWalkOver arrays) (map f ins) (f a) over (map_contains f ins a (All-contains_itself ins i e b)))) in
+    let list = same_list _ _ c (flat_map_single (λ a. cell a (back (grid_at arrays a).shape d)) ins) in
+    (λ x. list.0 (each.0 x), λ x. each.1 (list.1 x))
+
+map_over : (code : List Instr) (ins : List ℕ) (out : ℕ) (arrays : List ArrayInfo) (lo hi : List ℕ) → Stands arrays (map_kind code ins out) → IsFilled (grid_at arrays out).shape lo hi → All (IsWalkOver arrays) (map (read_walk arrays lo hi) ins)
+map_over code ins out arrays lo hi s f =
+    All-map (IsWalkOver arrays) (read_walk arrays lo hi) ins
+    (λ i d b. read_over arrays (get_or ins i d) (grid_at arrays out) lo hi (s.reads i d b) (s.fits.inputs i d b) (filled_region (grid_at arrays out).shape lo hi f))
+
+pub map_laws : (code : List Instr) (ins : List ℕ) (out : ℕ) → Laws (map_kind code ins out)
+map_laws code ins out = record {
+  alone = λ arrays at other array idx h.
+      same_kernel code (loaded arrays ins at idx) (loaded arrays ins other idx)
+      (λ j. same_given (slice_get ins j) (λ a. at a (back (grid_at arrays a).shape idx)) (λ a. other a (back (grid_at arrays a).shape idx))
+      (λ a e. h a (back (grid_at arrays a).shape idx) ((j, slice_get_within ins j a e, get_or_from_slice_get ins j a a e), refl)));
+  listed = λ arrays idx a i reads. reads.0;
+  target = (0, omega arith, refl);
+  grid = λ arrays s. s.grids out (s.writes 0 0 (omega arith));
+  nested = λ arrays s. nested_only arrays out (s.grids out (s.writes 0 0 (omega arith)));
+  differ = λ arrays lo hi s. differ_only out lo hi;
+  walked = λ arrays lo hi. own_arrays (read_walk arrays lo hi) ins (λ a. refl);
+  over = map_over code ins out;
+  apart = λ arrays lo hi s f p v w. apart_each arrays s.grids (read_walk arrays lo hi) ins v w (λ a. refl);
+  within = λ arrays lo hi a idx i s f inside w reads. map_within code ins out arrays lo hi a idx i s inside w reads.0 reads.1;
+  same = λ arrays d c s here.
+      let g = grid_at arrays out in
+      let ok = s.grids out (s.writes 0 0 (omega arith)) in
+      map_same code ins out arrays d c s here (map_over code ins out arrays (chunk_lo g.chunk d) (chunk_hi g.shape g.chunk d) s (chunk_filled g.shape g.chunk d ok.positive ok.ranks here));
+  range = λ arrays at a idx x among fits inside typed reads v.
+      subst (λ (b : ℕ). InRange (type_at arrays b) x) (only_written out a among)
+      (kernel_range code (map (type_at arrays) ins) (type_at arrays out) (loaded arrays ins at idx) x fits.kernel (loads_types code ins out arrays idx at typed) v);
+  small = λ arrays fits. tt;
+  inputs_few = λ arrays ok reads few small.
+      let s = sum_by-le (chunk_room arrays) (2 ^ 43) ins (λ k d h. room_few arrays (get_or ins k d) ok (reads k d h)) in
+      let w : length ins * 2 ^ 43 ≤ 8 * 2 ^ 43 = mul-le-mul_right (2 ^ 43) few in
+      omega (arith, s, w);
+  outputs_few = λ arrays ok. let o = any_room_few arrays out out ok in omega (arith, o);
+}

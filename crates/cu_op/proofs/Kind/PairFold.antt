@@ -1,0 +1,78 @@
+-- What is proved of a pair fold.
+use Rattle.cu_grid.specs.Counts.{chunk_lo, chunk_hi}
+use Rattle.cu_num.specs.Dtype.{InRange}
+use Rattle.cu_op.proofs.Alike.{same_mapped}
+use Rattle.cu_op.proofs.Filled.{IsFilled, chunk_filled, contains_mapped}
+use Rattle.cu_op.proofs.Grouped.{partial_region, partial_reads}
+use Rattle.cu_op.proofs.Kind.{Stands, Laws}
+use Rattle.cu_op.proofs.PairRanges.{best_listed, found_parts, place_range, pair_range}
+use Rattle.cu_op.proofs.PlanGroups.{chunk_ranks}
+use Rattle.cu_op.proofs.Results.{pair_last, nested_pair, differ_pair}
+use Rattle.cu_op.proofs.Rooms.{any_room_few}
+use Rattle.cu_op.proofs.SameCells.{of_one, folded_same}
+use Rattle.cu_op.proofs.WalksOf.{over_one, apart_one, first_of_walks}
+use Rattle.cu_op.specs.Arrays.{grid_at}
+use Rattle.cu_op.specs.Kind.PairFold.{pair_fold_kind}
+use Rattle.cu_op.specs.Operation.{pair_writes}
+use Rattle.cu_op.specs.Partial.{partial_indices, place_groups}
+use Rattle.cu_op.specs.Value.{pair_part, counted_at}
+use Rattle.cu_op.specs.Walks.{IsWalkOver, partial_walk}
+use Rattle.cu_op.specs.declared.layout.ArrayInfo.{ArrayInfo}
+use Rattle.cu_reduce.specs.Places.{is_sought, Found, counted_place, found_at, best_in}
+use Rattle.std.proofs.Common.{ℕ, ℤ, pos, ◌<◌, ◌==◌, List, [], ◌∷◌, length, map, All, Option, Some, refl, ap, sym, subst, arith, Bool}
+use Rattle.std.proofs.lemmas.List.Elements.{All-head, All-contains}
+use Rattle.std.proofs.lemmas.Option.{same_Some}
+use Rattle.cu_num.specs.declared.types.Dtype.TheVariants as types
+
+pub pair_fold_laws : (least : Bool) (axis : Option ℕ) (source : ℕ) (values : Option ℕ) (out : ℕ) → Laws (pair_fold_kind least axis source values out)
+pair_fold_laws least axis source values out = record {
+  alone = λ arrays at other array idx h.
+      let shape = (grid_at arrays source).shape in
+      ap (λ (xs : List (Option Found)). pair_part (array == out) (best_in least xs))
+      (same_mapped (counted_at shape axis (at source)) (counted_at shape axis (other source)) (partial_indices arrays (place_groups axis (grid_at arrays source)) source out idx)
+      (λ i c. ap (λ (e : Option ℤ). found_at e (Some (pos (counted_place axis shape i)))) (h source i (refl, c))));
+  listed = λ arrays idx a i reads. (0, omega arith, sym reads.0);
+  target = pair_last values out;
+  grid = λ arrays s. s.grids out (made arrays s.writes);
+  nested = λ arrays s. nested_pair arrays values source out s.fits.1.stored (s.grids out (made arrays s.writes));
+  differ = λ arrays lo hi s. differ_pair arrays values source out lo hi s.fits.1.stored;
+  walked = λ arrays lo hi. refl;
+  over = pair_over;
+  apart = λ arrays lo hi s f p v w hv hw other ov ow. apart_one arrays (partial_walk arrays (place_groups axis (grid_at arrays source)) source out lo hi) v w hv hw other;
+  within = λ arrays lo hi a idx i s f inside w reads.
+      let gs = place_groups axis (grid_at arrays source) in
+      first_of_walks (partial_walk arrays gs source out lo hi) [] a i (sym reads.0)
+      (partial_reads arrays gs source out (chunk_ranks arrays (is_sought axis) source (s.grids source (s.reads 0 0 (omega arith)))) s.fits.1.result lo hi idx i f w inside reads.1);
+  same = λ arrays d c s here.
+      let g = grid_at arrays out in
+      let there = made arrays s.writes in
+      let ok = s.grids out there in
+      let lo = chunk_lo g.chunk d in
+      let hi = chunk_hi g.shape g.chunk d in
+      let own = partial_walk arrays (place_groups axis (grid_at arrays source)) source out lo hi in
+      of_one arrays own _ c (folded_same arrays s.grids (is_sought axis) source out d c (s.reads 0 0 (omega arith)) there s.fits.1.result here
+      (All-head (IsWalkOver arrays) own [] (pair_over arrays lo hi s (chunk_filled g.shape g.chunk d ok.positive ok.ranks here))));
+  range = λ arrays at a idx x among fits inside typed reads v.
+      let shape = (grid_at arrays source).shape in
+      let own = partial_indices arrays (place_groups axis (grid_at arrays source)) source out idx in
+      let xs = map (counted_at shape axis (at source)) own in
+      pair_range arrays values source out a (best_in least xs) x among fits.1.stored fits.1.places
+      (λ b e.
+      let (i, there, found) = contains_mapped (counted_at shape axis (at source)) own (Some b) (best_listed least xs b e) in
+      let parts = found_parts (at source i) (Some (pos (counted_place axis shape i))) b found in
+      let r = reads source i (refl, there) in
+      (typed source i b.value (refl, there) parts.value_is, subst (InRange types.Int64) (same_Some _ b.place parts.place_is) (place_range axis shape i fits.0 r.0 r.1))) v;
+  small = λ arrays fits. tt;
+  inputs_few = λ arrays ok reads few small. let r = any_room_few arrays source source ok in omega (arith, r);
+  outputs_few = λ arrays ok. let o = any_room_few arrays out out ok in let v = any_room_few arrays out source ok in omega (arith, o, v);
+}
+  where
+    made : (arrays : List ArrayInfo) → All (λ a. a < length arrays) (pair_writes values out) → out < length arrays
+    made arrays all = All-contains (λ a. a < length arrays) (pair_writes values out) out all (pair_last values out)
+
+    pair_over : (arrays : List ArrayInfo) (lo hi : List ℕ) → Stands arrays (pair_fold_kind least axis source values out) → IsFilled (grid_at arrays out).shape lo hi
+        → All (IsWalkOver arrays) (partial_walk arrays (place_groups axis (grid_at arrays source)) source out lo hi ∷ [])
+    pair_over arrays lo hi s f =
+        let within = s.reads 0 0 (omega arith) in
+        let gs = place_groups axis (grid_at arrays source) in
+        over_one arrays (partial_walk arrays gs source out lo hi) (within, partial_region arrays gs source out (chunk_ranks arrays (is_sought axis) source (s.grids source within)) s.fits.1.result lo hi f)

@@ -1,0 +1,23 @@
+-- What is proved of the operations of a plan, each by its kind.
+use Rattle.cu_op.proofs.Kind.{Laws}
+use Rattle.cu_op.proofs.Kind.Copy.{copy_laws}
+use Rattle.cu_op.proofs.Kind.Fold.{fold_laws}
+use Rattle.cu_op.proofs.Kind.Map.{map_laws}
+use Rattle.cu_op.proofs.Kind.Merge.{merge_laws}
+use Rattle.cu_op.proofs.Kind.Mul.{mul_laws}
+use Rattle.cu_op.proofs.Kind.PairFold.{pair_fold_laws}
+use Rattle.cu_op.proofs.Kind.PairMerge.{pair_merge_laws}
+use Rattle.cu_op.proofs.Kind.Pull.{pull_laws}
+use Rattle.cu_op.specs.Kinds.{kind_of}
+use Rattle.cu_op.specs.declared.operation.Op.{Op}
+use Rattle.cu_op.specs.declared.operation.Op.TheVariants.{Copy, Fold, Map, Merge, Mul, PairFold, PairMerge, Pull}
+
+pub laws_of : (op : Op) → Laws (kind_of op)
+laws_of (Map kernel ins out) = map_laws kernel.code.items ins.items out
+laws_of (Pull pull ins out) = pull_laws pull ins.items out
+laws_of (Copy region source out) = copy_laws region source out
+laws_of (Fold kind axes source out) = fold_laws kind axes source out
+laws_of (Merge kind axis group source out) = merge_laws kind axis group source out
+laws_of (PairFold least axis source values out) = pair_fold_laws least axis source values out
+laws_of (PairMerge least axis group value_source place_source values out) = pair_merge_laws least axis group value_source place_source values out
+laws_of (Mul left right out) = mul_laws left right out
