@@ -5,13 +5,12 @@ mod cells;
 mod copies;
 mod groups;
 mod kernel;
-mod kind_text;
+mod kinds;
 mod laws;
 mod layout;
 mod memory;
 mod operation;
 mod plan;
-mod products;
 mod regions;
 mod schedule;
 mod task;
@@ -20,7 +19,7 @@ mod walks;
 pub use cells::Cell;
 pub use cu_pull::{Axes, Pull};
 pub use kernel::{Instr, Kernel};
-pub use kind_text::{KindText, kind_name};
+pub use kinds::{KindText, kind_name};
 pub use laws::{
     chunk_law, input_cells_law, input_law, key_law, one_map_law, range_law, ready_law, task_law,
     value_law,

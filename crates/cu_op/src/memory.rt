@@ -6,6 +6,7 @@ ghost use Rattle.cu_op.specs.Operation.{reads_of, writes_of, target_of};
 ghost use Rattle.cu_op.specs.Projection.{projection, input_room, output_room, value_room};
 ghost use Rattle.cu_shape.specs.Counts.{largest};
 
+use crate::kinds::{input_room, output_room};
 use crate::layout::ArrayInfo;
 use crate::operation::Op;
 use cu_num::size;
@@ -30,7 +31,7 @@ pub fn projection_of(arrays: &[ArrayInfo], reserved: u64, op: &Op) -> u64
 }
 
 /// The bytes of a chunk of an array.
-fn room_of(arrays: &[ArrayInfo], array: u32) -> u64
+pub(crate) fn room_of(arrays: &[ArrayInfo], array: u32) -> u64
     requires { array < length arrays.now }
     ensures room { result ≡ chunk_room arrays.now array }
     ensures small { result ≤ 2 ^ 43 }
@@ -51,49 +52,8 @@ fn greatest_room(arrays: &[ArrayInfo], numbers: &[u32]) -> u64
     room
 }
 
-/// The bytes of the regions that a task of the operation reads before it computes.
-fn input_room(arrays: &[ArrayInfo], op: &Op) -> u64
-    requires within { All (λ a. a < length arrays.now) (reads_of op.now) }
-    requires small { input_room arrays.now op.now < 2 ^ 64 }
-    ensures { result ≡ input_room arrays.now op.now }
-{
-    match op {
-        Op::Map { ins, .. } => rooms(arrays, ins.as_slice()),
-        Op::Pull { .. } => 0,
-        Op::Copy { region, source, .. } => bytes_of(arrays, *source, region),
-        Op::Fold { source, .. } | Op::PairFold { source, .. } => room_of(arrays, *source),
-        Op::Merge { group, source, .. } => u64::from(*group) * room_of(arrays, *source),
-        Op::PairMerge {
-            group,
-            value_source,
-            place_source,
-            ..
-        } => u64::from(*group) * (room_of(arrays, *value_source) + room_of(arrays, *place_source)),
-        Op::Mul { left, right, .. } => room_of(arrays, *left) + room_of(arrays, *right),
-    }
-}
-
-/// The bytes of the regions that a task of the operation computes.
-fn output_room(arrays: &[ArrayInfo], op: &Op) -> u64
-    requires reads { All (λ a. a < length arrays.now) (reads_of op.now) }
-    requires target { target_of op.now < length arrays.now }
-    ensures { result ≡ output_room arrays.now op.now }
-{
-    match op {
-        Op::Copy { .. } => 0,
-        Op::PairFold { source, out, .. } => value_room(arrays, *source, *out)
-            + room_of(arrays, *out),
-        Op::PairMerge {
-            value_source,
-            out,
-            ..
-        } => value_room(arrays, *value_source, *out) + room_of(arrays, *out),
-        other => room_of(arrays, other.target()),
-    }
-}
-
 /// The bytes of a region of these sizes, in the type of an array.
-fn bytes_of(arrays: &[ArrayInfo], array: u32, sizes: &Dims) -> u64
+pub(crate) fn bytes_of(arrays: &[ArrayInfo], array: u32, sizes: &Dims) -> u64
     requires within { array < length arrays.now }
     requires small { product sizes.now * size_of (type_at arrays.now array) < 2 ^ 64 }
     ensures { result ≡ product sizes.now * size_of (type_at arrays.now array) }
@@ -102,7 +62,7 @@ fn bytes_of(arrays: &[ArrayInfo], array: u32, sizes: &Dims) -> u64
 }
 
 /// The bytes of the values of a chunk of `out`, whose elements are those of `source`.
-fn value_room(arrays: &[ArrayInfo], source: u32, out: u32) -> u64
+pub(crate) fn value_room(arrays: &[ArrayInfo], source: u32, out: u32) -> u64
     requires source { source < length arrays.now }
     requires out { out < length arrays.now }
     ensures room { result ≡ value_room arrays.now source out }
@@ -112,7 +72,7 @@ fn value_room(arrays: &[ArrayInfo], source: u32, out: u32) -> u64
 }
 
 /// The bytes of a chunk of each of these arrays together.
-fn rooms(arrays: &[ArrayInfo], numbers: &[u32]) -> u64
+pub(crate) fn rooms(arrays: &[ArrayInfo], numbers: &[u32]) -> u64
     requires within { All (λ a. a < length arrays.now) numbers.now }
     requires small { sum_by (chunk_room arrays.now) numbers.now < 2 ^ 64 }
     ensures { result ≡ sum_by (chunk_room arrays.now) numbers.now }

@@ -2,7 +2,6 @@ ghost use Rattle.std.specs.Prelude.{◌≡◌, ◌≤◌, length};
 ghost use Rattle.cu_op.specs.Operation.{reads_of, writes_of, target_of};
 ghost use Rattle.cu_op.specs.Projection.{instruction_count};
 
-use crate::copies::same_list;
 use crate::kernel::Kernel;
 use arrayvec::ArrayVec;
 use cu_num::FoldKind;
@@ -102,86 +101,6 @@ pub enum Op {
         /// The array that is made.
         out: u32,
     },
-}
-
-impl Op {
-    /// The arrays that it reads, in order; one that it reads twice stands twice.
-    pub fn reads(&self) -> ArrayVec<u32, 8>
-        ensures { result.items ≡ reads_of self.now }
-    {
-        match self {
-            Op::Map { ins, .. } => same_list(ins),
-            Op::Pull { ins, .. } => same_list(ins),
-            Op::Copy { source, .. }
-            | Op::Fold { source, .. }
-            | Op::Merge { source, .. }
-            | Op::PairFold { source, .. } => list_of(&[*source]),
-            Op::PairMerge {
-                value_source,
-                place_source,
-                ..
-            } => list_of(&[*value_source, *place_source]),
-            Op::Mul { left, right, .. } => list_of(&[*left, *right]),
-        }
-    }
-
-    /// The arrays that it writes, in order.
-    pub fn writes(&self) -> ArrayVec<u32, 2>
-        ensures { result.items ≡ writes_of self.now }
-    {
-        match self {
-            Op::PairFold {
-                values: Some(values),
-                out,
-                ..
-            }
-            | Op::PairMerge {
-                values: Some(values),
-                out,
-                ..
-            } => list_of(&[*values, *out]),
-            other => list_of(&[other.target()]),
-        }
-    }
-
-    /// The array that its tasks go over: its result.
-    pub fn target(&self) -> u32
-        ensures { result ≡ target_of self.now }
-    {
-        match self {
-            Op::Map { out, .. }
-            | Op::Pull { out, .. }
-            | Op::Copy { out, .. }
-            | Op::Fold { out, .. }
-            | Op::Merge { out, .. }
-            | Op::PairFold { out, .. }
-            | Op::PairMerge { out, .. }
-            | Op::Mul { out, .. } => *out,
-        }
-    }
-
-    /// The number of steps of its kernel, 0 where it has none.
-    pub fn steps(&self) -> u32
-        ensures count { result ≡ instruction_count self.now }
-        ensures few { result ≤ 32 }
-    {
-        match self {
-            Op::Map { kernel, .. } => kernel.code.len() as u32,
-            _ => 0,
-        }
-    }
-}
-
-/// The list of these arrays.
-fn list_of<const CAP: usize>(arrays: &[u32]) -> ArrayVec<u32, CAP>
-    requires { length arrays.now ≤ CAP }
-    ensures { result.items ≡ arrays.now }
-{
-    let mut list = ArrayVec::new();
-    match list.try_extend_from_slice(arrays) {
-        Ok(()) => list,
-        Err(_) => unreachable!(),
-    }
 }
 
 /// An operation as it stands in a plan.

@@ -10,8 +10,9 @@ ghost use Rattle.cu_op.specs.Sound.{Sound};
 ghost use Rattle.cu_op.specs.Walks.{written_chunks, read_chunks, input_walks, IsWalkOver, EachOnce};
 
 use crate::cells::Cell;
+use crate::kinds::{grid_of_tasks, read_walks};
 use crate::plan::Plan;
-use crate::regions::{grid_of_tasks, output_walks, read_walks};
+use crate::regions::output_walks;
 use crate::walks::{Cells1, Cells2, Walk, each_once};
 use arrayvec::ArrayVec;
 use cu_grid::{Grid, Region};

@@ -4,7 +4,7 @@ use Rattle.cu_shape.proofs.Places.{inside-length}
 use Rattle.cu_op.specs.Arrays.{grid_at}
 use Rattle.cu_op.proofs.MapRegions.{no_longer}
 use Rattle.cu_op.proofs.Matrices.{product_region}
-use Rattle.cu_op.proofs.regions.read_walks.Goals as goal
+use Rattle.cu_op.proofs.kinds.read_walks.Goals as goal
 
 pub map_walks-requires-clause-lo : goal.map_walks-requires-clause-lo
 map_walks-requires-clause-lo c =

@@ -1,7 +1,7 @@
 use Rattle.std.proofs.Common.{◌≡◌, length, ap, arith}
 use Rattle.cu_op.specs.Broadcast.{back_as}
 use Rattle.cu_op.proofs.Broadcasting.{back_short}
-use Rattle.cu_op.proofs.products.batch_numbers.Goals as goal
+use Rattle.cu_op.proofs.kinds.mul.batch_numbers.Goals as goal
 
 pub returns-clause-short : goal.returns-clause-short
 returns-clause-short c =

@@ -1,7 +1,7 @@
 use Rattle.std.proofs.Common.{refl, slice_index, ◌∙◌, arith}
 use Rattle.cu_op.specs.Walks.{read_walk}
 use Rattle.cu_op.proofs.Steps.{one_mapped, all_mapped, read_as}
-use Rattle.cu_op.proofs.regions.map_walks.Goals as goal
+use Rattle.cu_op.proofs.kinds.map.map_walks.Goals as goal
 
 pub bounds-arrays-array : goal.bounds-arrays-array
 bounds-arrays-array c = (c.requires.lo c.loop-array.array-index 0 c.loop-array-test.true).0

@@ -4,7 +4,7 @@ ghost use Rattle.cu_reduce.specs.Products.{batch_of};
 ghost use Rattle.cu_op.specs.Arrays.{grid_at};
 ghost use Rattle.cu_op.specs.Broadcast.{back_as};
 ghost use Rattle.cu_op.specs.Matrix.{batch_rank, product_rank, left_numbers, right_numbers, first_inner, end_inner, IsProductRegion};
-ghost use Rattle.cu_op.specs.Walks.{left_walk, right_walk};
+ghost use Rattle.cu_op.specs.Kind.Mul.{left_walk, right_walk};
 
 use crate::layout::{ArrayInfo, grid_of};
 use crate::regions::back_as;

@@ -1,7 +1,7 @@
 use Rattle.std.proofs.Common.{◌≡◌, ◌-◌, ℕ, List, length, get_or, ap, ◌∙◌, refl, arith}
 use Rattle.cu_op.specs.Matrix.{left_inner, part_number, end_number}
 use Rattle.cu_op.proofs.GroupLists.{small_parts}
-use Rattle.cu_op.proofs.products.inner_bounds.Goals as goal
+use Rattle.cu_op.proofs.kinds.mul.inner_bounds.Goals as goal
 
 -- the chunk size of the inner axis
 inner_size : (shape chunk read : List ℕ) (rank size : ℕ) → length chunk ≡ length shape → rank ≡ length shape → read ≡ chunk → size ≡ get_or read (rank - 1) 0 → size ≡ left_inner chunk

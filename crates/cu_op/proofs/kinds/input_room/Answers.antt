@@ -1,5 +1,5 @@
 use Rattle.std.proofs.Common.{refl, arith}
-use Rattle.cu_op.proofs.memory.input_room.Goals as goal
+use Rattle.cu_op.proofs.kinds.input_room.Goals as goal
 
 pub rooms-requires-clause-within : goal.rooms-requires-clause-within
 rooms-requires-clause-within c = rw c.as_slice.ensures.value (rw c.in-Map.is at c.requires.within)
