@@ -5,7 +5,7 @@ use Rattle.cu_num.specs.declared.folds.FoldKind.TheVariants.{Sum, Min}
 use Rattle.cu_num.specs.declared.types.Dtype.TheVariants.{Int64, Int32, Int8}
 use Rattle.cu_reduce.specs.Labels.{members, grouped_at, grouped_to, marked, chunk_places, chunks_on}
 use Rattle.cu_reduce.specs.Levels.{group_sum, carry_sum, scan_sum}
-use Rattle.cu_reduce.specs.Prefix.{Line, cumulative, running_sum}
+use Rattle.cu_reduce.specs.Prefix.{Line, cumulative, running_sum, sum_below}
 
 -- ---- prefix sums: 1, 2, 3, 4, 5 in chunks of one, and groups of two
 
@@ -62,6 +62,9 @@ hundreds k = Some (pos 100)
 wraps : cumulative Int8 hundreds 1 ≡ Some (negsuc 55)
 unfolding wrapped
 wraps = refl
+
+first_three : sum_below (λ k. pos (suc k)) 3 ≡ pos 6
+first_three = refl
 
 abbrev broken : Line
 broken zero = Some (pos 1)

@@ -1,6 +1,6 @@
 -- Sums of all elements up to a place (Python array API 2023.12, `cumulative_sum`). A line has the
 -- elements of an array along one axis by their place on it; an element may be missing.
-use Rattle.std.specs.Prelude.{ℕ, zero, suc, ◌-◌, ℤ, ◌+ℤ◌, List, map, Option, option_map, option_and_then, slice_set}
+use Rattle.std.specs.Prelude.{ℕ, zero, suc, ◌-◌, ℤ, pos, ◌+ℤ◌, List, map, Option, option_map, option_and_then, slice_set}
 use Rattle.std.specs.List.{range_with_len}
 use Rattle.cu_num.specs.Wrap.{wrapped}
 use Rattle.cu_num.specs.declared.types.Dtype.{Dtype}
@@ -25,3 +25,8 @@ line_through at axis idx k = at (slice_set idx axis k)
 -- the elements of a line from place lo to below hi
 abbrev pub span : Line → ℕ → ℕ → List (Option ℤ)
 span f lo hi = map f (range_with_len lo (hi - lo))
+
+-- the exact sum of the first n numbers of a line without gaps, by recursion
+abbrev pub sum_below : (ℕ → ℤ) → ℕ → ℤ
+sum_below f zero = pos 0
+sum_below f (suc n) = sum_below f n +ℤ f n
