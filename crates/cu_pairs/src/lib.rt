@@ -11,4 +11,4 @@ mod pairs;
 mod run_types;
 mod runs;
 
-pub use pairs::{pair_fold, pair_merge};
+pub use pairs::{blocks_before, pair_fold, pair_merge, width_behind};

@@ -23,7 +23,7 @@ struct Part<'a> {
 }
 
 /// How many elements the axes behind one have.
-fn width_behind(dims: &Dims, axis: u32) -> usize
+pub fn width_behind(dims: &Dims, axis: u32) -> usize
     requires axis { axis < length dims.now }
     requires some { 0 < product dims.now }
     requires small { product dims.now < 2 ^ 64 }
@@ -38,7 +38,7 @@ fn width_behind(dims: &Dims, axis: u32) -> usize
 }
 
 /// How many elements the axes before one have.
-fn blocks_before(dims: &Dims, axis: u32) -> usize
+pub fn blocks_before(dims: &Dims, axis: u32) -> usize
     requires axis { axis < length dims.now }
     requires some { 0 < product dims.now }
     requires small { product dims.now < 2 ^ 64 }

@@ -1,4 +1,5 @@
 mod Examples
+mod LineExamples
 pub mod Bests
 pub mod Chained
 pub mod Combined

@@ -10,7 +10,8 @@ use Rattle.cu_num.specs.declared.folds.FoldKind.{FoldKind}
 use Rattle.cu_num.specs.declared.folds.FoldKind.TheVariants.{Sum, Prod, Min, Max, Any, All}
 use Rattle.cu_reduce.specs.Groups.{Groups, HasElements}
 
--- what is made of nothing; of least and greatest numbers it is this project's rule, and no expression asks for it
+-- What is made of nothing. Of least and greatest numbers it is this project's rule: a group without elements has it, and no
+-- reduction over axes asks for it.
 abbrev pub unit_of : FoldKind → Dtype → ℤ
 unit_of Sum acc = pos 0
 unit_of Prod acc = pos 1

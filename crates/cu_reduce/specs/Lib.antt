@@ -1,9 +1,13 @@
 pub mod Folds
 pub mod Groups
 pub mod Kinds
+pub mod Labels
+pub mod Levels
 pub mod Numbers
 pub mod Parts
 pub mod Places
+pub mod Prefix
 pub mod Products
 pub mod Regions
 pub mod Running
+pub mod Tiers
