@@ -15,7 +15,8 @@ use Rattle.cu_op.specs.Cells.{tasks_of, task_grid}
 use Rattle.cu_op.specs.Operation.{writes_of}
 use Rattle.cu_op.specs.PlanView.{PlanView}
 use Rattle.cu_op.specs.Sound.{Sound, cells_by, made_chunks}
-use Rattle.cu_fuse.specs.Close.{remains, remaining_from, remaining_numbers, remaining_array, remaining_arrays, count_behind, renumbered, renumbered_planned, new_number, closed, fused, setting_of, HasMadeNames}
+use Rattle.cu_fuse.specs.Close.{remains, remaining_from, remaining_numbers, remaining_array, remaining_arrays, count_behind, renumbered_planned, new_number, closed, fused, setting_of, HasMadeNames}
+use Rattle.cu_op.specs.Operation.{renumbered}
 use Rattle.cu_fuse.specs.Fused.{SettingView, fused_ops, map_inputs, joint}
 use Rattle.cu_fuse.specs.Merge.{merged_op}
 use Rattle.cu_fuse.specs.Runs.{HasWriter}
@@ -109,7 +110,7 @@ module _ (p : PlanView) (ops : List Planned) where
   tasks_closed (o ∷ os) ((reads, writes), rest) =
       let f = new_number (setting_of p) ops in
       let own : tasks_of (closed (setting_of p) ops).arrays (renumbered f o.op) ≡ tasks_of p.arrays o.op =
-      ap (λ (g : RegularGrid). product (grid_counts g)) (renumbered_tasks f p.arrays (closed (setting_of p) ops).arrays (Contains N) (kept_layout p ops) (placed_once p ops) o.op writes) in
+      ap (λ (g : RegularGrid). product (grid_counts g)) (renumbered_tasks f p.arrays (closed (setting_of p) ops).arrays (Contains N) (kept_layout p ops) (placed_once p ops) o.op reads writes) in
       let more = tasks_closed os rest in
       let a = sum_by-cons (λ (x : Planned). tasks_of (closed (setting_of p) ops).arrays x.op) (renumbered_planned f o) (map (renumbered_planned f) os) in
       let b = sum_by-cons (λ (x : Planned). tasks_of p.arrays x.op) o os in

@@ -13,7 +13,8 @@ use Rattle.cu_op.specs.Sound.{Sound}
 use Rattle.cu_op.specs.Value.{Elements, rule, plan_value}
 use Rattle.cu_op.proofs.Members.{contains_any}
 use Rattle.cu_op.proofs.Values.{value_solves}
-use Rattle.cu_fuse.specs.Close.{renumbered, renumbered_planned, remaining_numbers, new_number, closed, fused, setting_of}
+use Rattle.cu_op.specs.Operation.{renumbered}
+use Rattle.cu_fuse.specs.Close.{renumbered_planned, remaining_numbers, new_number, closed, fused, setting_of}
 use Rattle.std.proofs.lemmas.Bool.{cases_Bool}
 use Rattle.cu_fuse.specs.Close.{remains, has_maker}
 use Rattle.cu_fuse.specs.Fused.{fused_ops, stands_in}

@@ -10,14 +10,15 @@ use Rattle.arrayvec.specs.ArrayVec.{ArrayVec}
 use Rattle.cu_grid.specs.Grid.{RegularGrid}
 use Rattle.cu_op.specs.declared.kernel.Kernel.{Kernel}
 use Rattle.cu_op.specs.declared.operation.Op.{Op}
-use Rattle.cu_op.specs.declared.operation.Op.TheVariants.{Map, Pull, Copy, Fold, Merge, PairFold, PairMerge, Mul}
+use Rattle.cu_op.specs.declared.operation.Op.TheVariants.{Map}
 use Rattle.cu_op.specs.declared.operation.Planned.{Planned}
 use Rattle.cu_op.specs.Arrays.{grid_at}
 use Rattle.cu_op.specs.Operation.{reads_of, writes_of, target_of}
 use Rattle.cu_op.specs.Projection.{instruction_count}
 use Rattle.cu_op.specs.Value.{Elements}
 use Rattle.cu_op.proofs.Members.{any_contains, contains_any}
-use Rattle.cu_fuse.specs.Fused.{SettingView, is_map, stands_in, is_reader, number_in, stands_once, same_grid, joint_op, joint, are_maps, is_between, has_one_reader, has_grid_of, is_small, may_merge, into_reader, merged_away, map_inputs, merged_all, fused_ops}
+use Rattle.cu_fuse.specs.Fused.{SettingView, is_map, stands_in, is_reader, stands_once, same_grid, joint_op, joint, are_maps, is_between, has_one_reader, has_grid_of, is_small, may_merge, into_reader, merged_away, map_inputs, merged_all, fused_ops}
+use Rattle.cu_op.specs.Numbers.{number_in}
 use Rattle.cu_fuse.specs.Merge.{Joins, IsMerged}
 use Rattle.cu_fuse.specs.Runs.{HasReader, CanRun, AreMade}
 use Rattle.cu_fuse.proofs.Running.{merge_runs, merge_made}
@@ -71,13 +72,7 @@ not_read (o ∷ os) a h (inr there) = elim (cases_Bool (is_reader a o)) [
 
 map_is : (op : Op) → is_map op ≡ true → (kernel : Kernel) × (ins : ArrayVec ℕ) × (out : ℕ) × (op ≡ Map kernel ins out)
 map_is (Map kernel ins out) h = (kernel, ins, out, refl)
-map_is (Pull pull ins out) h = cc
-map_is (Copy region source out) h = cc
-map_is (Fold kind axes source out) h = cc
-map_is (Merge kind axis group source out) h = cc
-map_is (PairFold least axis source values out) h = cc
-map_is (PairMerge least axis group value_source place_source values out) h = cc
-map_is (Mul left right out) h = cc
+map_is op h = cc
 
 not_true : (b : Bool) → not b ≡ true → b ≡ false
 not_true true h = cc

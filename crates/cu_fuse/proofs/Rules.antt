@@ -11,7 +11,8 @@ use Rattle.cu_op.specs.declared.operation.Planned.{Planned}
 use Rattle.cu_op.specs.Arrays.{grid_at}
 use Rattle.cu_op.specs.Operation.{reads_of, target_of}
 use Rattle.cu_op.specs.Projection.{instruction_count}
-use Rattle.cu_fuse.specs.Fused.{SettingView, is_reader, joint, joint_op, may_merge, number_in, same_grid, stands_in, stands_once}
+use Rattle.cu_fuse.specs.Fused.{SettingView, is_reader, joint, joint_op, may_merge, same_grid, stands_in, stands_once}
+use Rattle.cu_op.specs.Numbers.{number_in}
 use Rattle.cu_fuse.specs.Rule.{MayMerge}
 use Rattle.cu_fuse.proofs.Fusing.{tested, grids_equal}
 

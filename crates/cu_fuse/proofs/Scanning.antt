@@ -8,13 +8,14 @@ use Rattle.std.proofs.lemmas.List.Elements.{All-cons}
 use Rattle.arrayvec.specs.ArrayVec.{ArrayVec}
 use Rattle.cu_op.specs.declared.kernel.Kernel.{Kernel}
 use Rattle.cu_op.specs.declared.operation.Op.{Op}
-use Rattle.cu_op.specs.declared.operation.Op.TheVariants.{Map, Pull, Copy, Fold, Merge, PairFold, PairMerge, Mul}
+use Rattle.cu_op.specs.declared.operation.Op.TheVariants.{Map}
 use Rattle.cu_op.specs.declared.operation.Planned.{Planned}
 use Rattle.cu_op.specs.declared.layout.ArrayInfo.{ArrayInfo}
 use Rattle.cu_op.specs.Operation.{reads_of, writes_of}
 use Rattle.cu_op.specs.Projection.{projection}
 use Rattle.cu_fuse.specs.Close.{has_maker, maker_of, remaining_from, remaining_numbers, remains}
-use Rattle.cu_fuse.specs.Fused.{has_one_reader, is_map, is_reader, map_inputs, number_in, reader_of, stands_in, stands_once}
+use Rattle.cu_fuse.specs.Fused.{has_one_reader, is_map, is_reader, map_inputs, reader_of, stands_in, stands_once}
+use Rattle.cu_op.specs.Numbers.{number_in}
 
 -- what is left of a list from an element on
 pub from_place : {A : Type 0} (xs : List A) (k : ℕ) (x : A) → k < length xs → x ≡ get_or xs k x → drop k xs ≡ x ∷ drop (k + 1) xs
@@ -91,13 +92,7 @@ reserved_apart arrays reserved op = omega arith
 
 pub no_map : (op : Op) → ((kernel : Kernel) (ins : ArrayVec ℕ) (out : ℕ) → op ≡ Map kernel ins out → ⊥) → is_map op ≡ false
 no_map (Map kernel ins out) other = absurd (other kernel ins out refl)
-no_map (Pull pull ins out) other = refl
-no_map (Copy region source out) other = refl
-no_map (Fold kind axes source out) other = refl
-no_map (Merge kind axis group source out) other = refl
-no_map (PairFold least axis source values out) other = refl
-no_map (PairMerge least axis group value_source place_source values out) other = refl
-no_map (Mul left right out) other = refl
+no_map op other = refl
 
 -- a sum that is no number of 64 bits exceeds what is allowed
 pub over_all : (allowed reserved own all : ℕ) → (reserved + own < 2 ^ 64 → ⊥) → all ≡ reserved + own → allowed < 2 ^ 64 → allowed < all

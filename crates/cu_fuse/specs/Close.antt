@@ -1,31 +1,15 @@
 -- Operations whose arrays have other numbers (this project's own rule): where arrays are taken out of a plan, the numbers behind close up.
-use Rattle.std.specs.Prelude.{◌≡◌, ◌≢◌, ◌<◌, ◌≤◌, length, ℕ, zero, suc, ◌+◌, ◌==◌, Bool, true, List, [], ◌∷◌, map, Option, None, Some, option_map, if◌then◌else◌}
+use Rattle.std.specs.Prelude.{◌≡◌, ◌≢◌, ◌<◌, ◌≤◌, length, ℕ, zero, suc, ◌+◌, ◌==◌, Bool, true, List, [], ◌∷◌, map, Option, None, Some, if◌then◌else◌}
 use Rattle.std.specs.List.{list_any}
 use Rattle.cu_name.specs.Keys.{made_prefix_of}
 use Rattle.cu_name.specs.Name.{IsArrayName}
 use Rattle.cu_op.specs.declared.layout.ArrayInfo.{ArrayInfo}
-use Rattle.cu_op.specs.declared.operation.Op.{Op}
-use Rattle.cu_op.specs.declared.operation.Op.TheVariants.{Map, Pull, Copy, Fold, Merge, PairFold, PairMerge, Mul}
 use Rattle.cu_op.specs.declared.operation.Planned.{Planned}
 use Rattle.cu_op.specs.Arrays.{array_at, maker_at}
-use Rattle.cu_op.specs.Operation.{writes_of}
+use Rattle.cu_op.specs.Operation.{writes_of, renumbered}
 use Rattle.cu_op.specs.PlanView.{PlanView}
-use Rattle.cu_fuse.specs.Fused.{SettingView, stands_in, number_in, fused_ops}
-
--- the operation over arrays with these numbers
-abbrev pub renumbered : (ℕ → ℕ) → Op → Op
-renumbered f (Map kernel ins out) = Map kernel (record { items = map f ins.items }) (f out)
-renumbered f (Pull pull ins out) = Pull pull (record { items = map f ins.items }) (f out)
-renumbered f (Copy region source out) = Copy region (f source) (f out)
-renumbered f (Fold kind axes source out) = Fold kind axes (f source) (f out)
-renumbered f (Merge kind axis group source out) = Merge kind axis group (f source) (f out)
-renumbered f (PairFold least axis source values out) = PairFold least axis (f source) (option_map f values) (f out)
-renumbered f (PairMerge least axis group value_source place_source values out) = PairMerge least axis group (f value_source) (f place_source) (option_map f values) (f out)
-renumbered f (Mul left right out) = Mul (f left) (f right) (f out)
-
--- an array has the same layout under its new number
-abbrev pub HasLayoutOf : (ℕ → ℕ) → List ArrayInfo → List ArrayInfo → ℕ → Type 0
-HasLayoutOf f old new a = (array_at new (f a)).layout ≡ (array_at old a).layout
+use Rattle.cu_fuse.specs.Fused.{SettingView, stands_in, fused_ops}
+use Rattle.cu_op.specs.Numbers.{number_in}
 
 -- ---- the arrays that are left
 

@@ -2,6 +2,7 @@
 use Rattle.std.specs.Prelude.{ℕ, suc, ◌+◌, ◌==◌, ◌&&◌, nat_le, not, bytes_eq, Bool, true, false, List, [], ◌∷◌, ◌++◌, length, drop, Option, Some, None, option_map, unwrap_or, if◌then◌else◌}
 use Rattle.std.specs.List.{list_any}
 use Rattle.cu_grid.specs.Grid.{RegularGrid}
+use Rattle.cu_op.specs.Numbers.{number_in}
 use Rattle.cu_op.specs.declared.layout.ArrayInfo.{ArrayInfo}
 use Rattle.cu_op.specs.declared.operation.Op.{Op}
 use Rattle.cu_op.specs.declared.operation.Op.TheVariants.{Map}
@@ -35,11 +36,6 @@ is_reader a o = stands_in (reads_of o.op) a
 abbrev pub reader_of : List Planned → ℕ → ℕ
 reader_of [] a = 0
 reader_of (o ∷ os) a = if is_reader a o then 0 else suc (reader_of os a)
-
--- the first place of a number in a list
-abbrev pub number_in : List ℕ → ℕ → ℕ
-number_in [] a = 0
-number_in (x ∷ xs) a = if x == a then 0 else suc (number_in xs a)
 
 -- the number stands in the list once
 abbrev pub stands_once : List ℕ → ℕ → Bool

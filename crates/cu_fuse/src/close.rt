@@ -3,15 +3,14 @@ ghost use Rattle.std.specs.Prelude.{◌≡◌, ◌<◌, ◌≤◌, ◌^◌, All,
 ghost use Rattle.cu_name.specs.Name.{IsArrayName};
 ghost use Rattle.cu_op.specs.Arrays.{array_at, maker_at};
 ghost use Rattle.cu_op.specs.Sound.{Sound};
-ghost use Rattle.cu_fuse.specs.Close.{closed, remains, remaining_array, remaining_arrays, remaining_numbers, renumbered, renumbered_planned};
-ghost use Rattle.cu_fuse.specs.Fused.{number_in};
+ghost use Rattle.cu_fuse.specs.Close.{closed, remains, remaining_array, remaining_arrays, remaining_numbers, renumbered_planned};
+ghost use Rattle.cu_op.specs.Operation.{renumbered};
+ghost use Rattle.cu_op.specs.Numbers.{number_in};
 
-use crate::inputs::number_in;
 use crate::merge::maker_of;
 use crate::setting::MergeSetting;
-use arrayvec::ArrayVec;
 use cu_name::made_prefix;
-use cu_op::{ArrayInfo, Op, Plan, Planned};
+use cu_op::{ArrayInfo, Plan, Planned, new_number};
 use std::alloc::{AllocError, Global};
 
 /// Whether an array is left: an input, or an array that one of the operations writes.
@@ -90,99 +89,13 @@ fn remaining_arrays(
     Ok(arrays)
 }
 
-/// The new number of an array.
-fn new_number(numbers: &[u32], a: u32) -> u32
-    requires { length numbers.now < 2 ^ 32 }
-    ensures { result ≡ number_in numbers.now a }
-{
-    number_in(numbers, a) as u32
-}
-
-/// The new number of the array of values, where it is stored.
-fn new_values(numbers: &[u32], values: Option<u32>) -> Option<u32>
-    requires { length numbers.now < 2 ^ 32 }
-    ensures { result ≡ option_map (number_in numbers.now) values }
-{
-    values.map(|a| new_number(numbers, a))
-}
-
-/// The new numbers of arrays.
-fn new_numbers(numbers: &[u32], ins: &ArrayVec<u32, 8>) -> ArrayVec<u32, 8>
-    requires { length numbers.now < 2 ^ 32 }
-    ensures { result.items ≡ map (number_in numbers.now) ins.now.items }
-{
-    let mut new = ArrayVec::new();
-    for a in ins.as_slice() {
-        new.push(new_number(numbers, *a));
-    }
-    new
-}
-
-/// Gives two arrays their new numbers.
-fn renumber_both(numbers: &[u32], first: &mut u32, second: &mut u32)
-    requires { length numbers.now < 2 ^ 32 }
-    ensures first { first.new ≡ number_in numbers.now first.old }
-    ensures second { second.new ≡ number_in numbers.now second.old }
-{
-    *first = new_number(numbers, *first);
-    *second = new_number(numbers, *second);
-}
-
-/// Gives the arrays that an operation reads, and the one that it makes, their new numbers.
-fn renumber_inputs(numbers: &[u32], ins: &mut ArrayVec<u32, 8>, out: &mut u32)
-    requires { length numbers.now < 2 ^ 32 }
-    ensures ins { ins.new.items ≡ map (number_in numbers.now) ins.old.items }
-    ensures out { out.new ≡ number_in numbers.now out.old }
-{
-    *ins = new_numbers(numbers, ins);
-    *out = new_number(numbers, *out);
-}
-
-/// Gives the arrays of an operation their new numbers.
-fn renumber(numbers: &[u32], op: &mut Op)
-    requires { length numbers.now < 2 ^ 32 }
-    ensures { op.new ≡ renumbered (number_in numbers.now) op.old }
-{
-    match op {
-        Op::Map { ins, out, .. } => renumber_inputs(numbers, ins, out),
-        Op::Pull { ins, out, .. } => renumber_inputs(numbers, ins, out),
-        Op::Copy { source, out, .. } => renumber_both(numbers, source, out),
-        Op::Fold { source, out, .. } => renumber_both(numbers, source, out),
-        Op::Merge { source, out, .. } => renumber_both(numbers, source, out),
-        Op::PairFold {
-            source,
-            values,
-            out,
-            ..
-        } => {
-            renumber_both(numbers, source, out);
-            *values = new_values(numbers, *values);
-        }
-        Op::PairMerge {
-            value_source,
-            place_source,
-            values,
-            out,
-            ..
-        } => {
-            renumber_both(numbers, value_source, place_source);
-            *values = new_values(numbers, *values);
-            *out = new_number(numbers, *out);
-        }
-        Op::Mul { left, right, out } => {
-            renumber_both(numbers, left, right);
-            *out = new_number(numbers, *out);
-        }
-    }
-}
-
 /// Gives the arrays of all operations their new numbers.
 fn renumber_all(numbers: &[u32], ops: &mut Vec<Planned>)
     requires { length numbers.now < 2 ^ 32 }
     ensures { ops.new.items ≡ map (renumbered_planned (number_in numbers.now)) ops.old.items }
 {
     for planned in ops.iter_mut() {
-        renumber(numbers, &mut planned.op);
+        planned.op.renumber(numbers);
     }
 }
 

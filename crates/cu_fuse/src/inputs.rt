@@ -1,9 +1,11 @@
 //! The inputs of a map with the inputs of a maker in place of one.
 ghost use Rattle.std.specs.Prelude.{◌≡◌, ◌<◌, ◌≤◌, ◌+◌, ◌++◌, IfSome, None, length};
-ghost use Rattle.cu_fuse.specs.Fused.{number_in, stands_in, stands_once};
+ghost use Rattle.cu_op.specs.Numbers.{number_in};
+ghost use Rattle.cu_fuse.specs.Fused.{stands_in, stands_once};
 ghost use Rattle.cu_fuse.specs.Splice.{put_in};
 
 use arrayvec::ArrayVec;
+use cu_op::number_in;
 
 /// The most inputs of a map.
 const MOST: usize = 8;
@@ -21,21 +23,6 @@ pub(crate) fn stands_once(numbers: &[u32], a: u32) -> bool
 {
     let place = number_in(numbers, a);
     place < numbers.len() && !stands_in(&numbers[place + 1..], a)
-}
-
-/// The first place of a number in the list, and its length where it doesn't stand there.
-pub(crate) fn number_in(numbers: &[u32], a: u32) -> usize
-    ensures place { result ≡ number_in numbers.now a }
-    ensures within { result ≤ length numbers.now }
-{
-    let mut place = 0;
-    for b in numbers {
-        if *b == a {
-            return place;
-        }
-        place += 1;
-    }
-    place
 }
 
 /// A list with others in place of number `j`; none where it is longer than 8.

@@ -6,10 +6,10 @@ ghost use Rattle.cu_op.specs.Projection.{projection};
 ghost use Rattle.cu_fuse.specs.Fused.{are_maps, is_small, joint, stands_in};
 ghost use Rattle.cu_fuse.specs.Runs.{IsOverArrays};
 
-use crate::inputs::{number_in, put_in};
+use crate::inputs::put_in;
 use crate::setting::MergeSetting;
 use crate::splice::{Inner, spliced};
-use cu_op::{Kernel, Op, Planned, one_map_law, projection_of};
+use cu_op::{Kernel, Op, Planned, number_in, one_map_law, projection_of};
 
 /// An operation that belongs to this node; none where it needs more than is allowed.
 fn within_allowed(setting: &MergeSetting, op: Op, node: u32) -> Option<Planned>

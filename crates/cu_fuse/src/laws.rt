@@ -2,7 +2,9 @@
 
 ghost use Rattle.std.specs.Prelude.{All, Contains, ◌≡◌, ◌≢◌, ◌<◌, ◌≤◌, ◌+◌, ◌∷◌, ◌++◌, [], ℕ, ℤ, List, Option, Some, length, ◌⊎◌, None, ◌^◌, ◌↔◌, true};
 ghost use Rattle.std.specs.List.{slice_get};
-ghost use Rattle.cu_fuse.specs.Close.{renumbered, HasLayoutOf, fused, HasMadeNames, HasInputsFirst};
+ghost use Rattle.cu_op.specs.Operation.{renumbered};
+ghost use Rattle.cu_op.specs.Arrays.{HasLayoutOf};
+ghost use Rattle.cu_fuse.specs.Close.{fused, HasMadeNames, HasInputsFirst};
 ghost use Rattle.cu_fuse.specs.Fused.{SettingView, may_merge};
 ghost use Rattle.cu_fuse.specs.Merge.{Around, apart_ops, joined_ops, Joins, IsMerged};
 ghost use Rattle.cu_fuse.specs.Rule.{MayMerge};

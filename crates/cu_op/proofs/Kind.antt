@@ -15,8 +15,9 @@ use Rattle.cu_op.proofs.SameCells.{HaveSame}
 use Rattle.cu_op.proofs.Spans.{IsSpan}
 use Rattle.cu_op.proofs.WalkCells.{AreApart, AreDifferent}
 use Rattle.cu_op.proofs.WalksOf.{LiesIn}
-use Rattle.cu_op.specs.Arrays.{grid_at, type_at}
+use Rattle.cu_op.specs.Arrays.{grid_at, type_at, HasLayoutOf}
 use Rattle.cu_op.specs.Kind.{Kind}
+use Rattle.cu_op.specs.Kinds.{kind_of}
 use Rattle.cu_op.specs.Layout.{IsArray}
 use Rattle.cu_op.specs.Schedule.{IsNested}
 use Rattle.cu_op.specs.Value.{Elements}
@@ -26,7 +27,7 @@ use Rattle.cu_op.specs.declared.layout.ArrayInfo.{ArrayInfo}
 use Rattle.cu_op.specs.declared.walks.Walk.{Walk}
 use Rattle.cu_shape.specs.Counts.{at_least_one}
 use Rattle.cu_shape.specs.Index.{IsInside, product}
-use Rattle.std.proofs.Common.{◌≡◌, ℕ, ℤ, ◌<◌, List, length, map, All, Contains, Some, ◌≤◌, ◌≢◌, ◌^◌}
+use Rattle.std.proofs.Common.{◌≡◌, ℕ, ◌<◌, List, length, All, Contains, Some, ℤ, map, ◌≤◌, ◌≢◌, ◌^◌}
 
 -- its arrays are among those of a plan, which stand in chunks, and it fits them
 pub record Stands (arrays : List ArrayInfo) (k : Kind) : Type 0 where
@@ -50,6 +51,24 @@ HasIndices k arrays lo hi = IsFilled (k.tasks arrays).shape lo hi
 -- the region is that of a task
 abbrev pub IsTaskRegion : Kind → List ArrayInfo → List ℕ → List ℕ → Type 0
 IsTaskRegion k arrays lo hi = IsSpan (k.tasks arrays).shape (k.tasks arrays).chunk lo hi
+
+-- its arrays have the same layouts under their new numbers, and no two that it writes get one number
+pub record Keeps (f : ℕ → ℕ) (old new : List ArrayInfo) (k : Kind) : Type 0 where
+  pub reads : All (HasLayoutOf f old new) k.reads
+  pub writes : All (HasLayoutOf f old new) k.writes
+  pub once : (a b : ℕ) → Contains k.writes a → Contains k.writes b → f a ≡ f b → a ≡ b
+
+-- over arrays with other numbers it reads and writes these, has the same value and as many tasks, fits, and needs as much
+pub record IsRenumbered (f : ℕ → ℕ) (k other : Kind) : Type 0 where
+  pub reads : other.reads ≡ map f k.reads
+  pub writes : other.writes ≡ map f k.writes
+  pub instructions : other.instructions ≡ k.instructions
+  pub value : (old new : List ArrayInfo) (at others : Elements) (array : ℕ) (idx : List ℕ) → Keeps f old new k → ((a : ℕ) → Contains k.reads a → others (f a) ≡ at a) → Contains k.writes array
+      → other.value new others (f array) idx ≡ k.value old at array idx
+  pub fits : (old new : List ArrayInfo) → Keeps f old new k → k.fits old → other.fits new
+  pub tasks : (old new : List ArrayInfo) → Keeps f old new k → other.tasks new ≡ k.tasks old
+  pub input_room : (old new : List ArrayInfo) → Keeps f old new k → other.input_room new ≡ k.input_room old
+  pub output_room : (old new : List ArrayInfo) → Keeps f old new k → other.output_room new ≡ k.output_room old
 
 pub record Laws (k : Kind) : Type 0 where
   -- its value depends on what it reads alone
@@ -86,3 +105,5 @@ pub record Laws (k : Kind) : Type 0 where
   -- and then its memory is
   pub inputs_few : (arrays : List ArrayInfo) → All IsArray arrays → All (λ a. a < length arrays) k.reads → length k.reads ≤ 8 → k.is_small → k.input_room arrays ≤ 2 ^ 60
   pub outputs_few : (arrays : List ArrayInfo) → All IsArray arrays → k.output_room arrays ≤ 2 ^ 44
+  -- over arrays with other numbers
+  pub renumbered : (f : ℕ → ℕ) → IsRenumbered f k (kind_of (k.renumbered f))

@@ -1,3 +1,4 @@
+pub mod NewNumbers
 pub mod Alike
 pub mod Members
 pub mod KernelRanges

@@ -1,5 +1,5 @@
 -- The arrays of a plan by their numbers. Past the end stands an array that means nothing.
-use Rattle.std.specs.Prelude.{ℕ, pos, List, [], Option, None, slice_index_or}
+use Rattle.std.specs.Prelude.{◌≡◌, ℕ, pos, List, [], Option, None, slice_index_or}
 use Rattle.cu_num.specs.declared.types.Dtype.{Dtype}
 use Rattle.cu_num.specs.declared.types.Dtype.TheVariants.{Bool}
 use Rattle.cu_num.specs.declared.layout.Encoding.TheVariants.{Plain}
@@ -44,3 +44,7 @@ grid_counts g = counts_of g.shape g.chunk
 
 abbrev pub array_chunk_count : ArrayInfo → ℕ
 array_chunk_count a = product (grid_counts a.layout.grid)
+
+-- an array has the same layout under its new number
+abbrev pub HasLayoutOf : (ℕ → ℕ) → List ArrayInfo → List ArrayInfo → ℕ → Type 0
+HasLayoutOf f old new a = (array_at new (f a)).layout ≡ (array_at old a).layout

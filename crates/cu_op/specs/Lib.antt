@@ -26,3 +26,4 @@ pub mod Sound
 pub mod TaskView
 pub mod Value
 pub mod Walks
+pub mod Numbers

@@ -42,3 +42,7 @@ IsMadeBy arrays number a = (a < length arrays) × (maker_at arrays a ≡ Some nu
 -- an array of the plan that has no more axes than a result with this coordinate
 abbrev pub IsNoLonger : List ArrayInfo → List ℕ → ℕ → Type 0
 IsNoLonger arrays coord a = (a < length arrays) × (length (grid_at arrays a).shape ≤ length coord)
+
+-- the operation over arrays with these numbers
+abbrev pub renumbered : (ℕ → ℕ) → Op → Op
+renumbered f op = (kind_of op).renumbered f

@@ -5,7 +5,8 @@ ghost use Rattle.cu_grid.specs.Grid.{IsGrid};
 ghost use Rattle.cu_op.specs.Cells.{task_grid};
 ghost use Rattle.cu_op.specs.KindText.{kind_text};
 ghost use Rattle.cu_op.specs.Kinds.{ReducesToValues, ReducesToPlaces};
-ghost use Rattle.cu_op.specs.Operation.{Fits, reads_of, writes_of, target_of};
+ghost use Rattle.cu_op.specs.Numbers.{number_in};
+ghost use Rattle.cu_op.specs.Operation.{Fits, reads_of, writes_of, target_of, renumbered};
 ghost use Rattle.cu_op.specs.Projection.{input_room, output_room, instruction_count};
 ghost use Rattle.cu_op.specs.Walks.{region_walks};
 
@@ -21,6 +22,7 @@ use crate::groups::{GroupedAxes, chunk_walk, merge_walk};
 use crate::kernel::Kernel;
 use crate::layout::ArrayInfo;
 use crate::memory::{bytes_of, room_of, rooms, value_room};
+use crate::numbers::{new_number, new_values, renumber_both, renumber_inputs};
 use crate::operation::Op;
 use crate::walks::Walk;
 use arrayvec::{ArrayString, ArrayVec};
@@ -90,6 +92,44 @@ impl Op {
         match self {
             Op::Map { kernel, .. } => kernel.code.len() as u32,
             _ => 0,
+        }
+    }
+
+    /// Gives each of its arrays its place in `numbers` as its number.
+    pub fn renumber(&mut self, numbers: &[u32])
+        requires { length numbers.now < 2 ^ 32 }
+        ensures { self.new ≡ renumbered (number_in numbers.now) self.old }
+    {
+        match self {
+            Op::Map { ins, out, .. } => renumber_inputs(numbers, ins, out),
+            Op::Pull { ins, out, .. } => renumber_inputs(numbers, ins, out),
+            Op::Copy { source, out, .. } => renumber_both(numbers, source, out),
+            Op::Fold { source, out, .. } => renumber_both(numbers, source, out),
+            Op::Merge { source, out, .. } => renumber_both(numbers, source, out),
+            Op::PairFold {
+                source,
+                values,
+                out,
+                ..
+            } => {
+                renumber_both(numbers, source, out);
+                *values = new_values(numbers, *values);
+            }
+            Op::PairMerge {
+                value_source,
+                place_source,
+                values,
+                out,
+                ..
+            } => {
+                renumber_both(numbers, value_source, place_source);
+                *values = new_values(numbers, *values);
+                *out = new_number(numbers, *out);
+            }
+            Op::Mul { left, right, out } => {
+                renumber_both(numbers, left, right);
+                *out = new_number(numbers, *out);
+            }
         }
     }
 }

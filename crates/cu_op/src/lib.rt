@@ -9,6 +9,7 @@ mod kinds;
 mod laws;
 mod layout;
 mod memory;
+mod numbers;
 mod operation;
 mod plan;
 mod regions;
@@ -26,6 +27,7 @@ pub use laws::{
 };
 pub use layout::{ArrayInfo, Layout};
 pub use memory::projection_of;
+pub use numbers::{new_number, number_in};
 pub use operation::{Op, Planned};
 pub use plan::Plan;
 pub use schedule::{input_walks, inputs, maker, outputs, projected, task_grid, task_region, tasks};

@@ -1,10 +1,12 @@
 -- What is proved of a copy.
 use Rattle.cu_grid.proofs.Regions.{coordinate-length}
 use Rattle.cu_grid.specs.Counts.{chunk_lo, chunk_hi, IsRegion, IsWithin}
+use Rattle.cu_grid.specs.Grid.{RegularGrid, IsGrid}
 use Rattle.cu_num.specs.Dtype.{InRange, size_of}
 use Rattle.cu_num.specs.declared.types.Dtype.{Dtype}
 use Rattle.cu_op.proofs.Filled.{filled_region}
 use Rattle.cu_op.proofs.Kind.{Laws}
+use Rattle.cu_op.proofs.NewNumbers.{grid_same, type_same}
 use Rattle.cu_op.proofs.Results.{only_written, differ_only}
 use Rattle.cu_op.proofs.Rooms.{size_few, times_few}
 use Rattle.cu_op.proofs.SameCells.{of_one, box_same}
@@ -15,8 +17,9 @@ use Rattle.cu_op.specs.Operation.{region_grid}
 use Rattle.cu_op.specs.Schedule.{IsNested}
 use Rattle.cu_op.specs.Walks.{walk}
 use Rattle.cu_shape.specs.Index.{product}
-use Rattle.std.proofs.Common.{ℕ, List, [], length, refl, ap, sym, ◌∙◌, subst, arith}
+use Rattle.std.proofs.Common.{ℕ, List, [], length, Option, refl, sym, ◌∙◌, subst, arith, ℤ, ap, ◌*◌}
 use Rattle.std.proofs.lemmas.List.Elements.{All-cons, All-nil}
+use mathlib.Core.Path.{transport}
 
 pub copy_laws : (region : List ℕ) (source out : ℕ) → Laws (copy_kind region source out)
 copy_laws region source out = record {
@@ -47,4 +50,22 @@ copy_laws region source out = record {
   small = λ arrays fits. fits.regions.chunk_elements;
   inputs_few = λ arrays ok reads few small. let r = times_few (product region) (size_of (type_at arrays source)) small (size_few (type_at arrays source)) in omega (arith, r);
   outputs_few = λ arrays ok. omega arith;
+  renumbered = λ f. record {
+    reads = refl;
+    writes = refl;
+    instructions = refl;
+    value = λ old new at others array idx s h own. ap (λ (e : List ℕ → Option ℤ). e idx) (h source (0, omega arith, refl));
+    fits = λ old new s h.
+        let G = grid_same f old new source (s.reads 0 0 (omega arith)) in
+        let O = grid_same f old new out (s.writes 0 0 (omega arith)) in
+        record {
+          shape = ap (λ (g : RegularGrid). g.shape) G ∙ h.shape ∙ sym (ap (λ (g : RegularGrid). g.shape) O);
+          types = type_same f old new source (s.reads 0 0 (omega arith)) ∙ h.types ∙ sym (type_same f old new out (s.writes 0 0 (omega arith)));
+          regions = transport (λ i. IsGrid (region_grid (sym O i) region)) h.regions;
+          nested = transport (λ i. IsNested (sym O i) (region_grid (sym O i) region)) h.nested;
+        };
+    tasks = λ old new s. ap (λ g. region_grid g region) (grid_same f old new out (s.writes 0 0 (omega arith)));
+    input_room = λ old new s. ap (λ t. product region * size_of t) (type_same f old new source (s.reads 0 0 (omega arith)));
+    output_room = λ old new s. refl;
+  };
 }

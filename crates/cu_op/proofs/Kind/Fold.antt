@@ -4,7 +4,8 @@ use Rattle.cu_num.specs.declared.folds.FoldKind.{FoldKind}
 use Rattle.cu_op.proofs.Alike.{same_mapped}
 use Rattle.cu_op.proofs.Filled.{IsFilled, chunk_filled}
 use Rattle.cu_op.proofs.Grouped.{partial_region, partial_reads}
-use Rattle.cu_op.proofs.Kind.{Stands, Laws}
+use Rattle.cu_op.proofs.Kind.{Laws, Stands}
+use Rattle.cu_op.proofs.NewNumbers.{grid_same, type_same, fold_fits, room_same}
 use Rattle.cu_op.proofs.PlanGroups.{chunk_ranks}
 use Rattle.cu_op.proofs.ResultRanges.{fold_range}
 use Rattle.cu_op.proofs.Results.{differ_only, nested_only}
@@ -19,7 +20,8 @@ use Rattle.cu_op.specs.declared.layout.ArrayInfo.{ArrayInfo}
 use Rattle.cu_pull.specs.Pull.{has_axis}
 use Rattle.cu_pull.specs.declared.axes.Axes.{Axes}
 use Rattle.cu_reduce.specs.Folds.{reduced_to}
-use Rattle.std.proofs.Common.{ℕ, List, [], ◌∷◌, map, All, refl, ap, sym, arith}
+use Rattle.cu_reduce.specs.Groups.{group_indices, group_of}
+use Rattle.std.proofs.Common.{ℕ, List, [], ◌∷◌, All, refl, sym, arith, map, ap}
 use Rattle.std.proofs.lemmas.List.Elements.{All-head}
 
 pub fold_laws : (kind : FoldKind) (axes : Axes) (source out : ℕ) → Laws (fold_kind kind axes source out)
@@ -51,6 +53,21 @@ fold_laws kind axes source out = record {
   small = λ arrays fits. tt;
   inputs_few = λ arrays ok reads few small. let r = any_room_few arrays source source ok in omega (arith, r);
   outputs_few = λ arrays ok. let o = any_room_few arrays out out ok in omega (arith, o);
+  renumbered = λ f. record {
+    reads = refl;
+    writes = refl;
+    instructions = refl;
+    value = λ old new at others array idx s h own.
+        let E = h source (0, omega arith, refl) in
+        let G = grid_same f old new source (s.reads 0 0 (omega arith)) in
+        let O = grid_same f old new out (s.writes 0 0 (omega arith)) in
+        let T = type_same f old new out (s.writes 0 0 (omega arith)) in
+        λ i. reduced_to kind (T i) (map (E i) (group_indices (chunk_groups axes (G i)) (G i).shape (group_of (chunk_groups axes (G i)) (G i).shape (O i).shape idx)));
+    fits = λ old new s h. fold_fits f old new kind (chunk_groups axes) source out (s.reads 0 0 (omega arith)) (s.writes 0 0 (omega arith)) h;
+    tasks = λ old new s. grid_same f old new out (s.writes 0 0 (omega arith));
+    input_room = λ old new s. room_same f old new source (s.reads 0 0 (omega arith));
+    output_room = λ old new s. room_same f old new out (s.writes 0 0 (omega arith));
+  };
 }
   where
     fold_over : (kind : FoldKind) (axes : Axes) (source out : ℕ) (arrays : List ArrayInfo) (lo hi : List ℕ) → Stands arrays (fold_kind kind axes source out) → IsFilled (grid_at arrays out).shape lo hi

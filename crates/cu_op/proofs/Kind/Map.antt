@@ -7,33 +7,36 @@ use Rattle.cu_op.proofs.Alike.{same_kernel, same_given}
 use Rattle.cu_op.proofs.CellsOfTasks.{map_contains}
 use Rattle.cu_op.proofs.Filled.{IsFilled, filled_region, chunk_filled}
 use Rattle.cu_op.proofs.KernelRanges.{kernel_range}
-use Rattle.cu_op.proofs.Kind.{Stands, ReadsTypes, Laws}
+use Rattle.cu_op.proofs.Kind.{Laws, Stands, ReadsTypes}
 use Rattle.cu_op.proofs.MapRegions.{read_within, within_lengths, read_over}
+use Rattle.cu_op.proofs.NewNumbers.{given_same, grid_same, type_same, types_same, all_renumbered, room_same, sum_same}
 use Rattle.cu_op.proofs.PairRanges.{some_map, some_then}
 use Rattle.cu_op.proofs.Results.{only_written, differ_only, nested_only}
-use Rattle.cu_op.proofs.Rooms.{room_few, any_room_few}
+use Rattle.cu_op.proofs.Rooms.{any_room_few, room_few}
 use Rattle.cu_op.proofs.SameCells.{HaveSame, same_list, of_each, read_same}
-use Rattle.cu_op.proofs.WalksOf.{own_arrays, apart_each, LiesIn}
-use Rattle.cu_op.specs.Arrays.{grid_at, type_at, chunk_room}
+use Rattle.cu_op.proofs.WalksOf.{LiesIn, apart_each, own_arrays}
+use Rattle.cu_op.specs.Arrays.{grid_at, type_at, chunk_room, HasLayoutOf}
 use Rattle.cu_op.specs.Cells.{cell}
-use Rattle.cu_op.specs.KernelTypes.{LoadsTypes}
+use Rattle.cu_op.specs.KernelTypes.{KernelFits, LoadsTypes}
 use Rattle.cu_op.specs.Kind.Map.{map_kind}
 use Rattle.cu_op.specs.Operation.{IsAligned}
 use Rattle.cu_op.specs.Value.{Elements, loaded}
-use Rattle.cu_op.specs.Walks.{back_as, IsWalkOver, read_walk, cells_of_walks}
+use Rattle.cu_op.specs.Walks.{back_as, IsWalkOver, cells_of_walks, read_walk}
 use Rattle.cu_op.specs.declared.cells.Cell.{Cell}
 use Rattle.cu_op.specs.declared.kernel.Instr.{Instr}
 use Rattle.cu_op.specs.declared.layout.ArrayInfo.{ArrayInfo}
 use Rattle.cu_op.specs.declared.walks.Walk.{Walk}
 use Rattle.cu_shape.proofs.Places.{inside-length}
 use Rattle.cu_shape.specs.Index.{IsInside, back}
-use Rattle.std.proofs.Common.{◌≡◌, ℕ, List, [], ◌∷◌, length, map, All, Contains, get_or, refl, ap, sym, ◌∙◌, subst, arith, ◌≤◌, ◌*◌, ◌^◌}
+use Rattle.std.proofs.Common.{◌≡◌, ℕ, List, [], ◌∷◌, length, All, Contains, get_or, refl, sym, ◌∙◌, subst, arith, map, ap, ◌≤◌, ◌*◌, ◌^◌}
 use Rattle.std.proofs.Math.Nat.{mul-le-mul_right}
 use Rattle.std.proofs.lemmas.List.Concat.{flat_map_single}
-use Rattle.std.proofs.lemmas.List.Elements.{All-contains, All-map, All-contains_itself}
+use Rattle.std.proofs.lemmas.List.Elements.{All-contains, All-contains_itself, All-map}
 use Rattle.std.proofs.lemmas.List.Sums.{sum_by-le}
-use Rattle.std.proofs.lemmas.Option.{slice_get_within, get_or_from_slice_get, same_Some, slice_get-map}
+use Rattle.std.proofs.lemmas.Option.{same_Some, slice_get_within, get_or_from_slice_get, slice_get-map}
 use Rattle.std.specs.List.{slice_get}
+use Rattle.std.specs.Option.{option_and_then}
+use mathlib.Core.Path.{transport}
 
 loads_types : (code : List Instr) (ins : List ℕ) (out : ℕ) (arrays : List ArrayInfo) (idx : List ℕ) (at : Elements) → ReadsTypes (map_kind code ins out) arrays idx at
     → LoadsTypes (map (type_at arrays) ins) (loaded arrays ins at idx)
@@ -103,4 +106,28 @@ map_laws code ins out = record {
       let w : length ins * 2 ^ 43 ≤ 8 * 2 ^ 43 = mul-le-mul_right (2 ^ 43) few in
       omega (arith, s, w);
   outputs_few = λ arrays ok. let o = any_room_few arrays out out ok in omega (arith, o);
+  renumbered = λ f. record {
+    reads = refl;
+    writes = refl;
+    instructions = refl;
+    value = λ old new at others array idx s h own.
+        same_kernel code (loaded new (map f ins) others idx) (loaded old ins at idx)
+        (λ k. ap (option_and_then (λ a. others a (back (grid_at new a).shape idx))) (slice_get-map f ins k)
+        ∙ given_same f (slice_get ins k) (λ a. others a (back (grid_at new a).shape idx)) (λ a. at a (back (grid_at old a).shape idx))
+        (λ a e.
+        let there : Contains ins a = (k, slice_get_within ins k a e, get_or_from_slice_get ins k a a e) in
+        let g = grid_same f old new a (All-contains (HasLayoutOf f old new) ins a s.reads there) in
+        λ i. h a there i (back (g i).shape idx)));
+    fits = λ old new s h.
+        let O = sym (grid_same f old new out (s.writes 0 0 (omega arith))) in
+        let T = sym (type_same f old new out (s.writes 0 0 (omega arith))) in
+        record {
+          inputs = all_renumbered f old new (λ a. IsAligned (grid_at old a) (grid_at old out)) (λ a. IsAligned (grid_at new a) (grid_at new (f out))) ins s.reads
+              (λ a k own. transport (λ i. IsAligned (sym (grid_same f old new a k) i) (O i)) own) h.inputs;
+          kernel = transport (λ i. KernelFits code (sym (types_same f old new ins s.reads) i) [] (T i)) h.kernel;
+        };
+    tasks = λ old new s. grid_same f old new out (s.writes 0 0 (omega arith));
+    input_room = λ old new s. sum_same f old new ins s.reads;
+    output_room = λ old new s. room_same f old new out (s.writes 0 0 (omega arith));
+  };
 }

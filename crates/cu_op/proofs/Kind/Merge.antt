@@ -3,6 +3,7 @@ use Rattle.cu_num.specs.declared.folds.FoldKind.{FoldKind}
 use Rattle.cu_op.proofs.Alike.{same_mapped}
 use Rattle.cu_op.proofs.Grouped.{partial_region, partial_reads}
 use Rattle.cu_op.proofs.Kind.{Laws}
+use Rattle.cu_op.proofs.NewNumbers.{grid_same, type_same, fold_fits, merge_along, room_same}
 use Rattle.cu_op.proofs.PlanGroups.{merge_ranks}
 use Rattle.cu_op.proofs.ResultRanges.{fold_range}
 use Rattle.cu_op.proofs.Results.{differ_only, nested_only}
@@ -14,7 +15,8 @@ use Rattle.cu_op.specs.Kind.Merge.{merge_kind}
 use Rattle.cu_op.specs.Partial.{partial_indices, merge_groups}
 use Rattle.cu_op.specs.Walks.{partial_walk}
 use Rattle.cu_reduce.specs.Folds.{reduced_to}
-use Rattle.std.proofs.Common.{ℕ, [], map, refl, ap, sym, arith}
+use Rattle.cu_reduce.specs.Groups.{group_indices, group_of}
+use Rattle.std.proofs.Common.{ℕ, [], refl, sym, ◌∙◌, arith, map, ap, ◌*◌}
 
 pub merge_laws : (kind : FoldKind) (axis group source out : ℕ) → Laws (merge_kind kind axis group source out)
 merge_laws kind axis group source out = record {
@@ -40,4 +42,22 @@ merge_laws kind axis group source out = record {
   small = λ arrays fits. fits.0.few;
   inputs_few = λ arrays ok reads few small. let r = any_room_few arrays source source ok in group_few group (chunk_room arrays source) small (omega (arith, r));
   outputs_few = λ arrays ok. let o = any_room_few arrays out out ok in omega (arith, o);
+  renumbered = λ f. record {
+    reads = refl;
+    writes = refl;
+    instructions = refl;
+    value = λ old new at others array idx s h own.
+        let E = h source (0, omega arith, refl) in
+        let G = grid_same f old new source (s.reads 0 0 (omega arith)) in
+        let O = grid_same f old new out (s.writes 0 0 (omega arith)) in
+        let T = type_same f old new out (s.writes 0 0 (omega arith)) in
+        λ i. reduced_to kind (T i) (map (E i) (group_indices (merge_groups axis group (G i)) (G i).shape (group_of (merge_groups axis group (G i)) (G i).shape (O i).shape idx)));
+    fits = λ old new s h.
+        let ks = s.reads 0 0 (omega arith) in
+        let ko = s.writes 0 0 (omega arith) in
+        (merge_along f old new axis group source ks h.0, fold_fits f old new kind (merge_groups axis group) source out ks ko h.1, type_same f old new source ks ∙ h.2 ∙ sym (type_same f old new out ko));
+    tasks = λ old new s. grid_same f old new out (s.writes 0 0 (omega arith));
+    input_room = λ old new s. ap (λ n. group * n) (room_same f old new source (s.reads 0 0 (omega arith)));
+    output_room = λ old new s. room_same f old new out (s.writes 0 0 (omega arith));
+  };
 }

@@ -2,11 +2,14 @@
 use Rattle.cu_grid.proofs.Regions.{coordinate-length}
 use Rattle.cu_grid.specs.Counts.{chunk_lo, chunk_hi, IsWithin}
 use Rattle.cu_grid.specs.Grid.{IsCoordinate}
+use Rattle.cu_num.specs.Dtype.{IsInteger}
+use Rattle.cu_num.specs.Promotion.{promotion}
 use Rattle.cu_num.specs.declared.folds.FoldKind.TheVariants.{Sum}
 use Rattle.cu_op.proofs.Alike.{same_mapped}
 use Rattle.cu_op.proofs.Filled.{IsFilled, chunk_filled}
-use Rattle.cu_op.proofs.Kind.{Stands, Laws}
+use Rattle.cu_op.proofs.Kind.{Laws, Stands, Keeps}
 use Rattle.cu_op.proofs.Matrices.{left_over, right_over, left_reads, right_reads, operands_apart, left_box, right_box, left_long, right_long, left_span, right_span}
+use Rattle.cu_op.proofs.NewNumbers.{grid_same, type_same, room_same}
 use Rattle.cu_op.proofs.ResultRanges.{fold_range}
 use Rattle.cu_op.proofs.Results.{differ_only, nested_only}
 use Rattle.cu_op.proofs.Rooms.{any_room_few}
@@ -15,15 +18,17 @@ use Rattle.cu_op.proofs.Spans.{chunk_span}
 use Rattle.cu_op.proofs.WalksOf.{over_two, apart_two, first_of_walks, second_of_walks}
 use Rattle.cu_op.specs.Arrays.{grid_at, type_at}
 use Rattle.cu_op.specs.Kind.Mul.{mul_kind}
-use Rattle.cu_op.specs.Matrix.{product_index, part_number, inner_places, product_at}
+use Rattle.cu_op.specs.Matrix.{left_inner, inner_chunk_count, batch_rank, right_inner, batch_grid, product_index, part_number, inner_places, rows_of, columns_of, product_at, HasParts}
+use Rattle.cu_op.specs.Operation.{IsAligned, MulFits}
 use Rattle.cu_op.specs.Value.{products_at}
-use Rattle.cu_op.specs.Walks.{IsWalkOver, left_walk, right_walk, cells_of_walks}
+use Rattle.cu_op.specs.Walks.{IsWalkOver, cells_of_walks, left_walk, right_walk}
 use Rattle.cu_op.specs.declared.cells.Cell.{Cell}
 use Rattle.cu_op.specs.declared.layout.ArrayInfo.{ArrayInfo}
 use Rattle.cu_reduce.specs.Folds.{reduced_to}
 use Rattle.cu_reduce.specs.Products.{left_index, right_index}
-use Rattle.std.proofs.Common.{inl, inr, ℕ, ℤ, List, [], ◌∷◌, All, Option, refl, ap, sym, ◌∙◌, subst, arith}
+use Rattle.std.proofs.Common.{◌≡◌, ℕ, ◌+◌, List, [], ◌∷◌, length, All, Option, Some, refl, sym, ◌∙◌, subst, arith, ℤ, ◌++◌, ap, ◌≤◌, inl, inr}
 use Rattle.std.proofs.lemmas.List.Elements.{All-head, All-tail}
+use mathlib.Core.Path.{transport}
 
 pub mul_laws : (left right out : ℕ) → Laws (mul_kind left right out)
 mul_laws left right out = record {
@@ -61,6 +66,22 @@ mul_laws left right out = record {
   small = λ arrays fits. tt;
   inputs_few = λ arrays ok reads few small. let r = any_room_few arrays left left ok in let s = any_room_few arrays right right ok in omega (arith, r, s);
   outputs_few = λ arrays ok. let o = any_room_few arrays out out ok in omega (arith, o);
+  renumbered = λ f. record {
+    reads = refl;
+    writes = refl;
+    instructions = refl;
+    value = λ old new at others array idx s h own.
+        let E = h left (0, omega arith, refl) in
+        let F = h right (1, omega arith, refl) in
+        let L = grid_same f old new left (s.reads 0 0 (omega arith)) in
+        let R = grid_same f old new right (s.reads 1 0 (omega arith)) in
+        let T = type_same f old new out (s.writes 0 0 (omega arith)) in
+        λ i. reduced_to Sum (T i) (products_at (L i) (R i) (E i) (F i) idx);
+    fits = mul_fits f;
+    tasks = λ old new s. grid_same f old new out (s.writes 0 0 (omega arith));
+    input_room = λ old new s. λ i. room_same f old new left (s.reads 0 0 (omega arith)) i + room_same f old new right (s.reads 1 0 (omega arith)) i;
+    output_room = λ old new s. room_same f old new out (s.writes 0 0 (omega arith));
+  };
 }
   where
     mul_over : (arrays : List ArrayInfo) (lo hi : List ℕ) → Stands arrays (mul_kind left right out) → IsFilled (grid_at arrays out).shape lo hi
@@ -88,3 +109,33 @@ mul_laws left right out = record {
         (left_span arrays left right out s.fits oka okb oko lo hi filled span))
         (operand_same arrays right _ _ _ c okb (All-head (IsWalkOver arrays) r [] (All-tail (IsWalkOver arrays) l (r ∷ []) over)) (right_long arrays left right out s.fits oka okb oko d here)
         (right_box arrays left right out s.fits oka okb oko d here) (right_span arrays left right out s.fits oka okb oko lo hi filled span))
+
+    mul_fits : (f : ℕ → ℕ) (old new : List ArrayInfo) → Keeps f old new (mul_kind left right out) → MulFits old left right out → MulFits new (f left) (f right) (f out)
+    mul_fits f old new s h =
+        let kl = s.reads 0 0 (omega arith) in
+        let kr = s.reads 1 0 (omega arith) in
+        let ko = s.writes 0 0 (omega arith) in
+        let L = sym (grid_same f old new left kl) in
+        let R = sym (grid_same f old new right kr) in
+        let O = sym (grid_same f old new out ko) in
+        let T = sym (type_same f old new out ko) in
+        let A = sym (type_same f old new left kl) in
+        let B = sym (type_same f old new right kr) in
+        record {
+          sizes = h.sizes;
+          chunks = h.chunks;
+          parts = h.parts;
+          part_chunks = h.part_chunks;
+          left_rank = transport (λ i. 1 ≤ length (L i).shape) h.left_rank;
+          right_rank = transport (λ i. 1 ≤ length (R i).shape) h.right_rank;
+          integer = transport (λ i. IsInteger (T i)) h.integer;
+          types = transport (λ i. promotion (A i) (B i) ≡ Some (T i)) h.types;
+          inner = transport (λ i. left_inner (L i).shape ≡ right_inner (R i).shape) h.inner;
+          inner_chunk = transport (λ i. left_inner (L i).chunk ≡ right_inner (R i).chunk) h.inner_chunk;
+          rank = transport (λ i. length h.sizes ≡ batch_rank (L i).shape (R i).shape) h.rank;
+          left_batch = transport (λ i. IsAligned (batch_grid (L i)) (record { shape = h.sizes; chunk = h.chunks })) h.left_batch;
+          right_batch = transport (λ i. IsAligned (batch_grid (R i)) (record { shape = h.sizes; chunk = h.chunks })) h.right_batch;
+          numbered = transport (λ i. HasParts (inner_chunk_count (L i)) h.parts h.part_chunks) h.numbered;
+          shape = transport (λ i. (O i).shape ≡ h.sizes ++ rows_of (L i).shape ++ columns_of (R i).shape ++ h.parts) h.shape;
+          chunk = transport (λ i. (O i).chunk ≡ h.chunks ++ rows_of (L i).chunk ++ columns_of (R i).chunk ++ h.part_chunks) h.chunk;
+        }

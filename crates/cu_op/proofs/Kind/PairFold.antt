@@ -4,7 +4,8 @@ use Rattle.cu_num.specs.Dtype.{InRange}
 use Rattle.cu_op.proofs.Alike.{same_mapped}
 use Rattle.cu_op.proofs.Filled.{IsFilled, chunk_filled, contains_mapped}
 use Rattle.cu_op.proofs.Grouped.{partial_region, partial_reads}
-use Rattle.cu_op.proofs.Kind.{Stands, Laws}
+use Rattle.cu_op.proofs.Kind.{Laws, Stands}
+use Rattle.cu_op.proofs.NewNumbers.{bool_same, pairs_renumbered, grid_same, place_kept, pair_fits, place_axis, room_same, value_room_same}
 use Rattle.cu_op.proofs.PairRanges.{best_listed, found_parts, place_range, pair_range}
 use Rattle.cu_op.proofs.PlanGroups.{chunk_ranks}
 use Rattle.cu_op.proofs.Results.{pair_last, nested_pair, differ_pair}
@@ -18,8 +19,9 @@ use Rattle.cu_op.specs.Partial.{partial_indices, place_groups}
 use Rattle.cu_op.specs.Value.{pair_part, counted_at}
 use Rattle.cu_op.specs.Walks.{IsWalkOver, partial_walk}
 use Rattle.cu_op.specs.declared.layout.ArrayInfo.{ArrayInfo}
-use Rattle.cu_reduce.specs.Places.{is_sought, Found, counted_place, found_at, best_in}
-use Rattle.std.proofs.Common.{ℕ, ℤ, pos, ◌<◌, ◌==◌, List, [], ◌∷◌, length, map, All, Option, Some, refl, ap, sym, subst, arith, Bool}
+use Rattle.cu_reduce.specs.Groups.{group_indices, group_of}
+use Rattle.cu_reduce.specs.Places.{Found, counted_place, found_at, best_in, is_sought}
+use Rattle.std.proofs.Common.{◌≡◌, ℕ, ◌<◌, ◌+◌, List, [], ◌∷◌, length, All, Option, Some, refl, sym, subst, arith, ℤ, map, ap, ◌==◌, pos, Bool}
 use Rattle.std.proofs.lemmas.List.Elements.{All-head, All-contains}
 use Rattle.std.proofs.lemmas.Option.{same_Some}
 use Rattle.cu_num.specs.declared.types.Dtype.TheVariants as types
@@ -65,6 +67,26 @@ pair_fold_laws least axis source values out = record {
   small = λ arrays fits. tt;
   inputs_few = λ arrays ok reads few small. let r = any_room_few arrays source source ok in omega (arith, r);
   outputs_few = λ arrays ok. let o = any_room_few arrays out out ok in let v = any_room_few arrays out source ok in omega (arith, o, v);
+  renumbered = λ f. record {
+    reads = refl;
+    writes = pairs_renumbered f values out;
+    instructions = refl;
+    value = λ old new at others array idx s h own.
+        let E = h source (0, omega arith, refl) in
+        let G = grid_same f old new source (s.reads 0 0 (omega arith)) in
+        let O = grid_same f old new out (place_kept f old new values out s.writes) in
+        let place : (f array == f out) ≡ (array == out) = bool_same (f array) (f out) array out (s.once array out own (pair_last values out)) (ap f) in
+        λ i. pair_part (place i) (best_in least (map (counted_at (G i).shape axis (E i)) (group_indices (place_groups axis (G i)) (G i).shape (group_of (place_groups axis (G i)) (G i).shape (O i).shape idx))));
+    fits = λ old new s h.
+        let ks = s.reads 0 0 (omega arith) in
+        (place_axis f old new axis source ks h.0, pair_fits f old new (place_groups axis) source values out ks s.writes s.once h.1);
+    tasks = λ old new s. grid_same f old new out (place_kept f old new values out s.writes);
+    input_room = λ old new s. room_same f old new source (s.reads 0 0 (omega arith));
+    output_room = λ old new s.
+        let ks = s.reads 0 0 (omega arith) in
+        let ko = place_kept f old new values out s.writes in
+        λ i. value_room_same f old new source out ks ko i + room_same f old new out ko i;
+  };
 }
   where
     made : (arrays : List ArrayInfo) → All (λ a. a < length arrays) (pair_writes values out) → out < length arrays

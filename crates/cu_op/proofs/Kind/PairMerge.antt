@@ -6,12 +6,13 @@ use Rattle.cu_op.proofs.Alike.{same_mapped}
 use Rattle.cu_op.proofs.Filled.{contains_mapped}
 use Rattle.cu_op.proofs.Grouped.{partial_region, partial_reads}
 use Rattle.cu_op.proofs.Kind.{Laws}
+use Rattle.cu_op.proofs.NewNumbers.{bool_same, pairs_renumbered, grid_same, type_same, merge_along, place_kept, pair_fits, room_same, value_room_same}
 use Rattle.cu_op.proofs.PairRanges.{best_listed, found_parts, pair_range}
 use Rattle.cu_op.proofs.PlanGroups.{merge_ranks, place_squeezed, place_within}
 use Rattle.cu_op.proofs.Results.{pair_last, nested_pair, differ_pair}
 use Rattle.cu_op.proofs.Rooms.{any_room_few, group_few}
 use Rattle.cu_op.proofs.SameCells.{of_two, merged_same}
-use Rattle.cu_op.proofs.WalksOf.{over_two, apart_each, first_of_walks, second_of_walks}
+use Rattle.cu_op.proofs.WalksOf.{apart_each, over_two, first_of_walks, second_of_walks}
 use Rattle.cu_op.specs.Arrays.{grid_at, chunk_room}
 use Rattle.cu_op.specs.Kind.PairMerge.{pair_merge_kind}
 use Rattle.cu_op.specs.Operation.{pair_writes}
@@ -19,8 +20,9 @@ use Rattle.cu_op.specs.Partial.{partial_indices, merge_groups}
 use Rattle.cu_op.specs.Value.{pair_part}
 use Rattle.cu_op.specs.Walks.{partial_walk}
 use Rattle.cu_op.specs.declared.layout.ArrayInfo.{ArrayInfo}
+use Rattle.cu_reduce.specs.Groups.{group_indices, group_of}
 use Rattle.cu_reduce.specs.Places.{Found, found_at, best_in}
-use Rattle.std.proofs.Common.{inl, inr, ℕ, ℤ, ◌<◌, ◌+◌, ◌==◌, List, [], ◌∷◌, length, map, All, Option, Some, refl, ap, sym, ◌∙◌, subst, arith, Bool}
+use Rattle.std.proofs.Common.{◌≡◌, ℕ, ◌<◌, ◌+◌, List, [], ◌∷◌, length, All, Option, Some, refl, sym, ◌∙◌, subst, arith, ℤ, map, ap, ◌==◌, inl, inr, ◌*◌, Bool}
 use Rattle.std.proofs.lemmas.List.Elements.{All-contains}
 
 pub pair_merge_laws : (least : Bool) (axis group value_source place_source : ℕ) (values : Option ℕ) (out : ℕ) → Laws (pair_merge_kind least axis group value_source place_source values out)
@@ -70,6 +72,31 @@ pair_merge_laws least axis group value_source place_source values out = record {
       let s = any_room_few arrays place_source place_source ok in
       group_few group (chunk_room arrays value_source + chunk_room arrays place_source) small (omega (arith, r, s));
   outputs_few = λ arrays ok. let o = any_room_few arrays out out ok in let v = any_room_few arrays out value_source ok in omega (arith, o, v);
+  renumbered = λ f. record {
+    reads = refl;
+    writes = pairs_renumbered f values out;
+    instructions = refl;
+    value = λ old new at others array idx s h own.
+        let E = h value_source (0, omega arith, refl) in
+        let F = h place_source (1, omega arith, refl) in
+        let G = grid_same f old new value_source (s.reads 0 0 (omega arith)) in
+        let O = grid_same f old new out (place_kept f old new values out s.writes) in
+        let place : (f array == f out) ≡ (array == out) = bool_same (f array) (f out) array out (s.once array out own (pair_last values out)) (ap f) in
+        λ i. pair_part (place i) (best_in least (map (λ j. found_at (E i j) (F i j)) (group_indices (merge_groups axis group (G i)) (G i).shape (group_of (merge_groups axis group (G i)) (G i).shape (O i).shape idx))));
+    fits = λ old new s h.
+        let kv = s.reads 0 0 (omega arith) in
+        let kp = s.reads 1 0 (omega arith) in (
+          merge_along f old new axis group value_source kv h.0,
+          record { grid = grid_same f old new place_source kp ∙ h.1.grid ∙ sym (grid_same f old new value_source kv); places = type_same f old new place_source kp ∙ h.1.places },
+          pair_fits f old new (merge_groups axis group) value_source values out kv s.writes s.once h.2,
+        );
+    tasks = λ old new s. grid_same f old new out (place_kept f old new values out s.writes);
+    input_room = λ old new s. λ i. group * (room_same f old new value_source (s.reads 0 0 (omega arith)) i + room_same f old new place_source (s.reads 1 0 (omega arith)) i);
+    output_room = λ old new s.
+        let ks = s.reads 0 0 (omega arith) in
+        let ko = place_kept f old new values out s.writes in
+        λ i. value_room_same f old new value_source out ks ko i + room_same f old new out ko i;
+  };
 }
   where
     made : (arrays : List ArrayInfo) → All (λ a. a < length arrays) (pair_writes values out) → out < length arrays

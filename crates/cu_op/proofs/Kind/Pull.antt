@@ -4,32 +4,36 @@ use Rattle.cu_num.specs.Dtype.{InRange}
 use Rattle.cu_num.specs.declared.types.Dtype.{Dtype}
 use Rattle.cu_op.proofs.Alike.{same_pulled}
 use Rattle.cu_op.proofs.CellsOfTasks.{map_contains}
-use Rattle.cu_op.proofs.Kind.{Stands, ReadsTypes, Laws}
+use Rattle.cu_op.proofs.Kind.{Laws, Stands, ReadsTypes}
+use Rattle.cu_op.proofs.NewNumbers.{given_same, grid_same, type_same, shapes_same, all_renumbered, room_same}
 use Rattle.cu_op.proofs.PairRanges.{some_then}
 use Rattle.cu_op.proofs.Results.{only_written, differ_only, nested_only}
 use Rattle.cu_op.proofs.Rooms.{any_room_few}
 use Rattle.cu_op.proofs.SameCells.{of_each, whole_same}
-use Rattle.cu_op.proofs.WalksOf.{own_arrays, apart_each}
-use Rattle.cu_op.proofs.Wholes.{whole_over, whole_within}
+use Rattle.cu_op.proofs.WalksOf.{apart_each, own_arrays}
+use Rattle.cu_op.proofs.Wholes.{whole_within, whole_over}
 use Rattle.cu_op.specs.Arrays.{grid_at, type_at}
 use Rattle.cu_op.specs.InputCells.{all_chunks}
 use Rattle.cu_op.specs.Kind.Pull.{pull_kind}
-use Rattle.cu_op.specs.Operation.{shapes_at, PullFits, origin_at, Converts}
+use Rattle.cu_op.specs.Operation.{shapes_at, origin_at, Converts, PullFits}
 use Rattle.cu_op.specs.Value.{Elements, pulled}
 use Rattle.cu_op.specs.Walks.{IsWalkOver, whole_walk}
 use Rattle.cu_op.specs.declared.layout.ArrayInfo.{ArrayInfo}
 use Rattle.cu_pull.proofs.OriginsInside.{inside_sources}
-use Rattle.cu_pull.specs.Pull.{IsInSources}
+use Rattle.cu_pull.specs.Fits.{FitsPull}
+use Rattle.cu_pull.specs.Pull.{origin_of, IsInSources}
 use Rattle.cu_pull.specs.declared.provenance.Provenance.{Provenance}
 use Rattle.cu_pull.specs.declared.provenance.Provenance.TheVariants.{From, Const as Number}
 use Rattle.cu_pull.specs.declared.pull.Pull.{Pull as View}
 use Rattle.cu_pull.specs.declared.pull.Pull.TheVariants.{Concat, Stack}
 use Rattle.cu_shape.specs.Index.{IsInside}
-use Rattle.std.proofs.Common.{◌≡◌, ℕ, ℤ, List, [], map, All, Contains, Some, get_or, refl, ap, ◌∙◌, subst, arith}
+use Rattle.std.proofs.Common.{◌≡◌, ℕ, List, [], All, Contains, Option, Some, get_or, refl, sym, ◌∙◌, subst, arith, ℤ, map, ap}
 use Rattle.std.proofs.lemmas.List.{get_or-map}
-use Rattle.std.proofs.lemmas.List.Elements.{All-contains, All-map, All-contains_itself}
-use Rattle.std.proofs.lemmas.Option.{slice_get_within, get_or_from_slice_get, same_Some}
+use Rattle.std.proofs.lemmas.List.Elements.{All-contains, All-contains_itself, All-map}
+use Rattle.std.proofs.lemmas.Option.{same_Some, slice_get_within, get_or_from_slice_get, slice_get-map}
 use Rattle.std.specs.List.{slice_get}
+use Rattle.std.specs.Option.{option_and_then}
+use mathlib.Core.Path.{transport}
 
 -- a view keeps a source's numbers
 converted : (pull : View) (from to : Dtype) (x : ℤ) → Converts pull from to → InRange from x → InRange to x
@@ -63,6 +67,12 @@ pull_over pull ins out arrays s = All-map (IsWalkOver arrays) (whole_walk arrays
 pull_listed : (pull : View) (ins : List ℕ) (out : ℕ) (arrays : List ArrayInfo) (idx : List ℕ) (a : ℕ) (i : List ℕ) → (pull_kind pull ins out).reads_at arrays idx a i → Contains ins a
 pull_listed pull ins out arrays idx a i (source, given, from) = (source, slice_get_within ins source a given, get_or_from_slice_get ins source a a given)
 
+taken : (f : ℕ → ℕ) (ins : List ℕ) (at others : Elements) → ((a : ℕ) → Contains ins a → others (f a) ≡ at a) → (o : Provenance) → pulled (map f ins) others o ≡ pulled ins at o
+taken f ins at others h (From source j) =
+    ap (option_and_then (λ a. others a j)) (slice_get-map f ins source)
+    ∙ given_same f (slice_get ins source) (λ a. others a j) (λ a. at a j) (λ a e. ap (λ (g : List ℕ → Option ℤ). g j) (h a (source, slice_get_within ins source a e, get_or_from_slice_get ins source a a e)))
+taken f ins at others h (Number x) = refl
+
 pub pull_laws : (pull : View) (ins : List ℕ) (out : ℕ) → Laws (pull_kind pull ins out)
 pull_laws pull ins out = record {
   alone = λ arrays at other array idx h. same_pulled ins at other (origin_at arrays pull ins out idx) (λ source a i given from. h a i (source, given, from));
@@ -91,4 +101,24 @@ pull_laws pull ins out = record {
   small = λ arrays fits. tt;
   inputs_few = λ arrays ok reads few small. omega arith;
   outputs_few = λ arrays ok. let o = any_room_few arrays out out ok in omega (arith, o);
+  renumbered = λ f. record {
+    reads = refl;
+    writes = refl;
+    instructions = refl;
+    value = λ old new at others array idx s h own.
+        (λ i. pulled (map f ins) others (origin_of pull (shapes_same f old new ins s.reads i) (grid_same f old new out (s.writes 0 0 (omega arith)) i).shape idx)) ∙ taken f ins at others h (origin_at old pull ins out idx);
+    fits = λ old new s h.
+        let O = sym (grid_same f old new out (s.writes 0 0 (omega arith))) in
+        let T = sym (type_same f old new out (s.writes 0 0 (omega arith))) in
+        let S = sym (shapes_same f old new ins s.reads) in
+        record {
+          shapes = transport (λ i. FitsPull pull (S i) (O i).shape) h.shapes;
+          types = all_renumbered f old new (λ a. Converts pull (type_at old a) (type_at old out)) (λ a. Converts pull (type_at new a) (type_at new (f out))) ins s.reads
+              (λ a k own. transport (λ i. Converts pull (sym (type_same f old new a k) i) (T i)) own) h.types;
+          numbers = transport (λ i. (idx : List ℕ) (x : ℤ) → IsInside (O i).shape idx → origin_of pull (S i) (O i).shape idx ≡ Number x → InRange (T i) x) h.numbers;
+        };
+    tasks = λ old new s. grid_same f old new out (s.writes 0 0 (omega arith));
+    input_room = λ old new s. refl;
+    output_room = λ old new s. room_same f old new out (s.writes 0 0 (omega arith));
+  };
 }

@@ -4,7 +4,8 @@ use Rattle.cu_op.specs.declared.layout.ArrayInfo.{ArrayInfo}
 use Rattle.cu_op.specs.PlanView.{PlanView}
 use Rattle.cu_op.specs.Sound.{Sound}
 use Rattle.cu_fuse.specs.Close.{closed, remaining_arrays, remaining_numbers, renumbered_planned}
-use Rattle.cu_fuse.specs.Fused.{SettingView, number_in}
+use Rattle.cu_fuse.specs.Fused.{SettingView}
+use Rattle.cu_op.specs.Numbers.{number_in}
 use Rattle.cu_fuse.proofs.Scanning.{numbers_few, numbers_within}
 use Rattle.cu_fuse.proofs.close.close.Goals as goal
 

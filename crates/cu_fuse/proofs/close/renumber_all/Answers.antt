@@ -2,7 +2,7 @@ use Rattle.std.proofs.Common.{◌<◌, length, get_or, ap, ◌∙◌, arith}
 use Rattle.std.proofs.Math.ListN.{set}
 use Rattle.cu_op.specs.declared.operation.Planned.{Planned}
 use Rattle.cu_fuse.specs.Close.{renumbered_planned}
-use Rattle.cu_fuse.specs.Fused.{number_in}
+use Rattle.cu_op.specs.Numbers.{number_in}
 use Rattle.cu_fuse.proofs.Renumbering.{mapped_next}
 use Rattle.cu_fuse.proofs.close.renumber_all.Goals as goal
 

@@ -1,6 +1,6 @@
 use Rattle.std.proofs.Common.{◌≡◌, ◌++◌, drop, map, take}
 use Rattle.cu_fuse.specs.Close.{renumbered_planned}
-use Rattle.cu_fuse.specs.Fused.{number_in}
+use Rattle.cu_op.specs.Numbers.{number_in}
 use Rattle.cu_fuse.proofs.close.renumber_all.Given as goal
 
 abbrev pub invariant-loop-planned : goal.invariant-loop-planned

@@ -5,7 +5,8 @@ use Rattle.cu_op.specs.declared.operation.Op.{Op}
 use Rattle.cu_op.specs.declared.operation.Op.TheVariants.{Map}
 use Rattle.cu_op.specs.Arrays.{type_at}
 use Rattle.cu_op.specs.Operation.{reads_of, writes_of, Fits}
-use Rattle.cu_fuse.specs.Fused.{stands_in, number_in}
+use Rattle.cu_fuse.specs.Fused.{stands_in}
+use Rattle.cu_op.specs.Numbers.{number_in}
 use Rattle.cu_fuse.specs.Splice.{AreNumbersBelow, put_in}
 use Rattle.cu_fuse.proofs.Fusing.{at_place}
 use Rattle.cu_fuse.proofs.Merging.{all_put_in}
