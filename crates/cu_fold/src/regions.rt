@@ -29,7 +29,7 @@ fn fill_with(t: Dtype, x: i128, out: &mut [u8])
 }
 
 /// Writes the unit of a reduction as each result, with loops for each type.
-fn fill(kind: FoldKind, acc: Dtype, out: &mut [u8])
+pub fn fill(kind: FoldKind, acc: Dtype, out: &mut [u8])
     ensures { (q : ℕ) → q * size_of acc + size_of acc ≤ length out.old → HasNumber acc out.new q (unit_of kind acc) }
 {
     let unit = unit(kind, acc);

@@ -50,7 +50,7 @@ fn joined(kind: FoldKind, from: Dtype, acc: Dtype, x: i128, y: i128) -> i128
 
 /// Takes element `place` of `input`, of type `from`, into result `q` of `out`, of type `acc`.
 #[inline(always)]
-pub(crate) fn take_one(
+pub fn take_one(
     kind: FoldKind,
     from: Dtype,
     acc: Dtype,

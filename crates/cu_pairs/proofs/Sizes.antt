@@ -1,5 +1,5 @@
 -- Sizes before an axis, of it and behind it.
-use Rattle.std.proofs.Common.{◌≡◌, ℕ, ◌+◌, ◌*◌, ◌<◌, ◌≤◌, ◌^◌, zero, suc, true, false, List, [], ◌∷◌, length, get_or, take, drop, None, Some, sym, ap, ◌∙◌, subst, arith, ◌==◌, inl, inr}
+use Rattle.std.proofs.Common.{◌≡◌, ℕ, ◌+◌, ◌*◌, ◌<◌, ◌≤◌, ◌^◌, zero, suc, set, true, false, List, [], ◌∷◌, length, get_or, take, drop, None, Some, refl, sym, ap, ◌∙◌, subst, arith, ◌==◌, inl, inr}
 use Rattle.std.proofs.Math.Nat.{mul-le-mul_right, mul-le-mul_left, le-mul_of_pos_right}
 use Rattle.std.proofs.lemmas.List.{drop_more}
 use Rattle.std.proofs.lemmas.Bool.Decides.{eqb_tells}
@@ -75,6 +75,24 @@ drop_more_below ns k axis width size b h small e f =
     let rest = (size_positive ns k h b).1 in
     let less : width * size ≤ width * size * product (drop (k + 1) ns) = le-mul_of_pos_right (width * size) rest in
     (omega arith, step)
+
+-- ---- sizes
+
+-- sizes of which the axis' own is set
+pub take_set : (ns : List ℕ) (axis n : ℕ) → take axis (set ns axis n) ≡ take axis ns
+take_set [] axis n = ap (λ xs. take axis xs) (none_set axis n)
+  where
+    none_set : (axis n : ℕ) → set [] axis n ≡ []
+    none_set zero n = refl
+    none_set (suc axis) n = refl
+take_set (m ∷ ns) zero n = refl
+take_set (m ∷ ns) (suc axis) n = ap (λ xs. m ∷ xs) (take_set ns axis n)
+
+pub drop_set : (ns : List ℕ) (axis n : ℕ) → drop (suc axis) (set ns axis n) ≡ drop (suc axis) ns
+drop_set [] zero n = refl
+drop_set [] (suc axis) n = refl
+drop_set (m ∷ ns) zero n = refl
+drop_set (m ∷ ns) (suc axis) n = drop_set ns axis n
 
 -- ---- an array with elements
 

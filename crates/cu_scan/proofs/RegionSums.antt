@@ -1,6 +1,6 @@
 -- Blocks of rows as a region, and its indices.
 use Rattle.std.proofs.Common.{◌≡◌, ℕ, zero, suc, ◌+◌, ◌+ℤ◌, ◌*◌, ◌<◌, ◌≤◌, set, List, [], ◌∷◌, length, get_or, take, drop, refl, sym, ap, ◌∙◌, subst, arith}
-use Rattle.std.proofs.lemmas.List.{set-get_or}
+use Rattle.std.proofs.lemmas.List.{length-set, set-get_or}
 use Rattle.std.proofs.lemmas.Nat.{mul-add-lt}
 use Rattle.cu_num.specs.Dtype.{size_of}
 use Rattle.cu_num.specs.Element.{element_at, element_bytes}
@@ -10,11 +10,11 @@ use Rattle.cu_num.specs.declared.layout.Endian.TheVariants.{Little}
 use Rattle.cu_shape.specs.Index.{product, place_of, IsInside}
 use Rattle.cu_shape.proofs.Places.{place-below}
 use Rattle.cu_grid.proofs.Regions.{inside-at}
-use Rattle.cu_reduce.specs.Numbers.{HasNumber}
+use Rattle.cu_reduce.specs.Numbers.{HasNumber, line_element}
 use Rattle.cu_reduce.specs.Prefix.{sum_below}
-use Rattle.cu_pairs.proofs.Sizes.{HasSizes}
+use Rattle.cu_pairs.proofs.Sizes.{HasSizes, take_set, drop_set}
 use Rattle.cu_pairs.proofs.WholeGroups.{product_split}
-use Rattle.cu_scan.specs.Scanned.{given_at, given_into, line_element, row_element, IsGiven, HasBlocks, HasTotals}
+use Rattle.cu_scan.specs.Scanned.{given_at, given_into, row_element, IsGiven, HasBlocks, HasTotals}
 use Rattle.cu_scan.proofs.RowSums.{sums_same}
 
 pub some_of : (n size bytes : ℕ) → bytes ≡ n * size → 0 < bytes → 0 < n
@@ -74,28 +74,6 @@ placed (n ∷ ns) zero (i ∷ is) b h =
 placed (n ∷ ns) (suc axis) (i ∷ is) b h = placed_behind n i axis ns is (omega arith) h.0
     (placed ns axis is (omega arith) h.1)
 
--- sizes of which the axis' own is set
-take_set : (ns : List ℕ) (axis n : ℕ) → take axis (set ns axis n) ≡ take axis ns
-take_set [] axis n = ap (λ xs. take axis xs) (none_set axis n)
-  where
-    none_set : (axis n : ℕ) → set [] axis n ≡ []
-    none_set zero n = refl
-    none_set (suc axis) n = refl
-take_set (m ∷ ns) zero n = refl
-take_set (m ∷ ns) (suc axis) n = ap (λ xs. m ∷ xs) (take_set ns axis n)
-
-drop_set : (ns : List ℕ) (axis n : ℕ) → drop (suc axis) (set ns axis n) ≡ drop (suc axis) ns
-drop_set [] zero n = refl
-drop_set [] (suc axis) n = refl
-drop_set (m ∷ ns) zero n = refl
-drop_set (m ∷ ns) (suc axis) n = drop_set ns axis n
-
-length_set : (ns : List ℕ) (axis n : ℕ) → length (set ns axis n) ≡ length ns
-length_set [] zero n = refl
-length_set [] (suc axis) n = refl
-length_set (m ∷ ns) zero n = refl
-length_set (m ∷ ns) (suc axis) n = ap suc (length_set ns axis n)
-
 pub record HasCarrySizes (ns : List ℕ) (axis width blocks count : ℕ) : Type 0 where
   pub below : axis < length ns
   pub behind : width ≡ product (drop (suc axis) ns)
@@ -118,7 +96,7 @@ carry_sizes ns whole axis width blocks count e b w k c some = record {
 
 pub whole_length : (ns whole : List ℕ) (axis : ℕ) → whole ≡ set ns axis 1 → axis < length ns
     → axis < length whole
-whole_length ns whole axis e b = let n = ap length e ∙ length_set ns axis 1 in omega arith
+whole_length ns whole axis e b = let n = ap length e ∙ length-set ns axis 1 in omega arith
 
 pub carry_width : (ns : List ℕ) (axis width blocks count : ℕ)
     → HasCarrySizes ns axis width blocks count → 0 < width

@@ -16,11 +16,6 @@ abbrev pub given_at : Dtype → List ℕ → ℕ → ℤ
 given_at acc [] p = pos 0
 given_at acc (b ∷ bytes) p = element_at Little acc (b ∷ bytes) p
 
--- the element at place k of the line through an index
-abbrev pub line_element : Dtype → List ℕ → ℕ → List ℕ → List ℕ → ℕ → ℤ
-line_element t dims axis bytes idx k =
-    element_at Little t bytes (place_of dims (slice_set idx axis k))
-
 -- what is carried into the line through an index, which has one place for each line
 abbrev pub given_into : Dtype → List ℕ → ℕ → List ℕ → List ℕ → ℤ
 given_into acc dims axis carry idx =

@@ -4,10 +4,10 @@ ghost use Rattle.cu_num.specs.Dtype.{size_of, IsInteger};
 ghost use Rattle.cu_num.specs.Element.{element_at};
 ghost use Rattle.cu_num.specs.Wrap.{wrapped};
 ghost use Rattle.cu_num.specs.declared.layout.Endian.TheVariants.{Little};
-ghost use Rattle.cu_reduce.specs.Numbers.{HasNumber};
+ghost use Rattle.cu_reduce.specs.Numbers.{HasNumber, line_element};
 ghost use Rattle.cu_reduce.specs.Prefix.{sum_below};
 ghost use Rattle.cu_shape.specs.Index.{product, place_of, IsInside};
-ghost use Rattle.cu_scan.specs.Scanned.{given_into, line_element, IsGiven};
+ghost use Rattle.cu_scan.specs.Scanned.{given_into, IsGiven};
 
 use crate::blocks::Parts;
 use crate::carries::carry_by_type;
