@@ -3,7 +3,7 @@ use Rattle.std.specs.Prelude.{◌≡◌, ◌⊎◌, ◌<◌, ℕ, List, length, 
 use Rattle.cu_grid.specs.Grid.{IsGrid, IsCoordinate}
 use Rattle.cu_meta.specs.Fault.{Fault, json, format, field, dtype, grid, key_encoding, fill, codec, unknown, too_long, other}
 use Rattle.cu_meta.specs.Metadata.{read_metadata}
-use Rattle.cu_meta.specs.Storable.{IsStorable}
+use Rattle.cu_meta_members.specs.Storable.{IsStorable}
 use Rattle.cu_op.specs.Layout.{layout_view}
 use Rattle.cu_op.specs.declared.layout.Layout.{Layout}
 use Rattle.cu_store.specs.Faults.{Rose}

@@ -25,9 +25,9 @@ use Rattle.cu_grid.specs.Grid.{RegularGrid}
 use Rattle.cu_grid.specs.Limits.{first_fault, IsWithinLimits}
 use Rattle.cu_grid.specs.declared.fault.GridFault.{GridFault}
 use Rattle.cu_grid.proofs.Products.{product_within}
-use Rattle.cu_meta.specs.Members.{fill_of}
+use Rattle.cu_meta_members.specs.Members.{fill_of}
 use Rattle.cu_num.specs.TypeName.{dtype_named}
-use Rattle.cu_meta.specs.Storable.{IsStorable}
+use Rattle.cu_meta_members.specs.Storable.{IsStorable}
 use Rattle.cu_meta.proofs.Accepted.{few_sizes, fill_accepted}
 use Rattle.cu_load.specs.Name.{name_in}
 use Rattle.cu_name.specs.Name.{is_name}

@@ -13,7 +13,7 @@ use Rattle.cu_num.specs.declared.types.Dtype.{Dtype}
 use Rattle.cu_num.specs.TypeName.{dtype_named}
 use Rattle.cu_shape.specs.Index.{product}
 use Rattle.cu_grid.specs.Limits.{first_fault}
-use Rattle.cu_meta.specs.Members.{fill_of}
+use Rattle.cu_meta_members.specs.Members.{fill_of}
 use Rattle.cu_meta.specs.Said.{said_grid}
 use Rattle.cu_zarr.specs.Layout.{ArrayLayout}
 use Rattle.cu_load.specs.Name.{name_in}

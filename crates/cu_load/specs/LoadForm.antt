@@ -16,9 +16,9 @@ use Rattle.cu_grid.specs.Limits.{first_fault}
 use Rattle.cu_zarr.specs.Layout.{ArrayLayout}
 use Rattle.cu_result.specs.Results.{◌>>=◌, check}
 use Rattle.cu_json.specs.Form.{is_object_of, naturals_of}
-use Rattle.cu_meta.specs.Members.{fill_of}
+use Rattle.cu_meta_members.specs.Members.{fill_of}
 use Rattle.cu_num.specs.TypeName.{dtype_named}
-use Rattle.cu_meta.specs.Storable.{IsStorable}
+use Rattle.cu_meta_members.specs.Storable.{IsStorable}
 use Rattle.cu_op.specs.Layout.{layout_view}
 use Rattle.cu_load.specs.Name.{name_in}
 use Rattle.cu_name.specs.Name.{is_name}

@@ -13,7 +13,7 @@ ghost use Rattle.cu_load.specs.LoadForm.{head_view, given_by, IfCode, text_membe
 
 use cu_grid::Grid;
 use cu_json::is_object_of;
-use cu_meta::{fill_in, sizes_in};
+use cu_meta_members::{fill_in, sizes_in};
 use cu_name::{IdText, is_name};
 use cu_num::{Dtype, Encoding, Endian, Sep, dtype_named, size};
 use cu_op::Layout;

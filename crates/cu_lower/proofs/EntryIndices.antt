@@ -9,7 +9,7 @@ use Rattle.std.proofs.lemmas.List.Sums.{sum_by-cons}
 use Rattle.cu_shape.specs.Index.{product, IsInside, place_of, index_at}
 use Rattle.cu_shape.specs.Slice.{at_least_zero, from_end, first_of, index_taken}
 use Rattle.cu_shape.specs.declared.slice.Run.{Run}
-use Rattle.cu_shape.proofs.Places.{inside-length, index-place}
+use Rattle.cu_shape.proofs.Places.{inside-length, index-place, length-index_at}
 use Rattle.cu_node.specs.declared.index_item.IndexItem.{IndexItem}
 use Rattle.cu_pull.specs.Pull.{counts_of_runs, taken_by, sliced as read_by_runs}
 use Rattle.cu_typing_view.specs.Entries.{takes_axis, step_of, count_taken, untaken, is_wrong, first_wrong, index_shape}
@@ -57,10 +57,10 @@ counts_whole (n ∷ ns) = ap (λ xs. n ∷ xs) (counts_whole ns)
 all_taken : (i n : ℕ) → at_least_zero (index_taken (whole_run n) i) ≡ i
 all_taken i n = let e : pos 0 +ℤ pos i *ℤ pos 1 ≡ pos i = omega (arith, ints) in ap at_least_zero e
 
-taken_whole : (ns is : List ℕ) → IsInside ns is → taken_by (map whole_run ns) is ≡ is
-taken_whole [] [] h = refl
-taken_whole (n ∷ ns) (i ∷ is) h = ap (λ x. x ∷ taken_by (map whole_run ns) is) (all_taken i n) ∙ ap (λ xs. i ∷ xs) (taken_whole ns is h.1)
-taken_whole ns is h = absurd h
+taken_whole : (ns is : List ℕ) → length is ≡ length ns → taken_by (map whole_run ns) is ≡ is
+taken_whole [] [] e = refl
+taken_whole (n ∷ ns) (i ∷ is) e = ap (λ x. x ∷ taken_by (map whole_run ns) is) (all_taken i n) ∙ ap (λ xs. i ∷ xs) (taken_whole ns is (omega arith))
+taken_whole ns is e = absurd (omega arith)
 
 taken_append : (runs others : List Run) (is js : List ℕ) → length is ≡ length runs → taken_by (runs ++ others) (is ++ js) ≡ taken_by runs is ++ taken_by others js
 taken_append [] others [] js e = refl
@@ -145,7 +145,7 @@ reads more seen k [] ns idx right spare h =
       sizes = ap product whole;
       place = ap (λ c. place_of c idx) whole;
       inside = subst (λ (c : List ℕ). IsInside c idx) whole h;
-      taken = taken_whole ns idx h;
+      taken = taken_whole ns idx (inside-length ns idx h);
     }
 reads more seen k (IndexItem.At x ∷ items) [] idx right spare h = cc
 reads more seen k (IndexItem.At x ∷ items) (n ∷ ns) idx right spare h =
@@ -214,7 +214,7 @@ reads more seen k (IndexItem.Ellipsis ∷ items) ns idx right spare h =
           ∙ ap (λ c. place_of c (here ++ there)) (sym all);
       inside = subst (λ (c : List ℕ). IsInside c (here ++ there)) (sym all) (inside_append front counts here there parts.0 r.inside);
       taken = taken_append (map whole_run front) runs here there short
-          ∙ ap (λ is. is ++ taken_by runs there) (taken_whole front here parts.0)
+          ∙ ap (λ is. is ++ taken_by runs there) (taken_whole front here (inside-length front here parts.0))
           ∙ ap (λ is. here ++ is) r.taken;
     }
 
@@ -246,3 +246,10 @@ read_by_entries items source shape idx right is h =
     ∙ ap (taken_by runs) (index-place (counts_of_runs runs) (along more items idx) r.inside)
     ∙ r.taken
     ∙ ap (λ c. indexed_from (length source - c) items source idx) (sym (same_count items))
+
+-- ---- the whole of each axis
+
+pub read_whole : (source shape idx : List ℕ) → read_by_runs (map whole_run source) shape idx ≡ index_at source (place_of shape idx)
+read_whole source shape idx =
+    ap (λ counts. taken_by (map whole_run source) (index_at counts (place_of shape idx))) (counts_whole source)
+    ∙ taken_whole source (index_at source (place_of shape idx)) (length-index_at source (place_of shape idx))

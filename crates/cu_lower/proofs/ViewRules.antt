@@ -20,6 +20,7 @@ use Rattle.cu_node.specs.declared.faults.FaultCode.TheVariants.{Axis as WrongAxi
 use Rattle.cu_node.specs.declared.faults.NodeFault.{NodeFault}
 use Rattle.cu_node.specs.declared.index_item.IndexItem.{IndexItem}
 use Rattle.cu_node.specs.declared.info.NodeInfo.{NodeInfo}
+use Rattle.cu_node.specs.declared.new_shape.NewShape.{NewShape}
 use Rattle.cu_node.proofs.KeptLimits.{given}
 use Rattle.cu_typing_view.specs.Entries.{untaken, first_wrong, index_shape, index_chunk, unless_wrong}
 use Rattle.cu_typing_view.specs.Rearranged.{is_permutation, permuted_sizes}
@@ -31,11 +32,11 @@ use Rattle.cu_pull.specs.declared.provenance.Provenance.TheVariants.{From, Const
 use Rattle.cu_pull.specs.declared.pull.Pull.{Pull}
 use Rattle.cu_pull.specs.declared.pull.Pull.TheVariants as pulls
 use Rattle.cu_lower_view.specs.Axes.{named_axis, is_turned, axes_that, shifts_along}
-use Rattle.cu_lower_view.specs.Runs.{index_runs, axes_taken}
+use Rattle.cu_lower_view.specs.Runs.{whole_run, index_runs, axes_taken}
 use Rattle.cu_lower_view.specs.Sources.{sources_of, shapes_of, source_shapes}
 use Rattle.cu_lower_view.specs.Typed.{IsTypedView, IsPull}
 use Rattle.cu_lower.proofs.AxisIndices.{flipped_same, rolled_same, are_axes, permuted_same, concat_same, taken_from, taken_choice}
-use Rattle.cu_lower.proofs.EntryIndices.{read_by_entries}
+use Rattle.cu_lower.proofs.EntryIndices.{read_by_entries, read_whole}
 
 -- ---- arguments
 
@@ -132,6 +133,18 @@ module _ (infos : List NodeInfo) (env at : NodeElements) (k : ℕ) (p : Pull) (i
       carry (Arg.Node n ∷ []) (source.dims ∷ []) (rule_of infos env at k (Form.Roll (Arg.Node n ∷ []) shifts axes) idx) (made result.dims) (sym (ap made shape) ∙ is)
       (ap (at n) (sym (rolled_same shifts axes result.dims idx)))
 
+  whole_takes : (shape : NewShape) (n : ℕ) → pulls.Slice (record { items = map whole_run (info_at infos n).dims }) (record { items = [] }) ≡ p → Takes (Form.Reshape (Arg.Node n ∷ []) shape)
+  whole_takes shape n same =
+      let source = (info_at infos n).dims in
+      carry (Arg.Node n ∷ []) (source ∷ []) (rule_of infos env at k (Form.Reshape (Arg.Node n ∷ []) shape) idx) (pulls.Slice (record { items = map whole_run source }) (record { items = [] })) same
+      (ap (at n) (sym (read_whole source result.dims idx)))
+
+  new_shape_takes : (shape : NewShape) (n : ℕ) → IsTypedView infos (Form.Reshape (Arg.Node n ∷ []) shape) result → IsPull infos (Form.Reshape (Arg.Node n ∷ []) shape) result p → Takes (Form.Reshape (Arg.Node n ∷ []) shape)
+  new_shape_takes (NewShape.Sizes sizes) n typed pull =
+      carry (Arg.Node n ∷ []) ((info_at infos n).dims ∷ []) (rule_of infos env at k (Form.Reshape (Arg.Node n ∷ []) (NewShape.Sizes sizes)) idx) pulls.Reshape (cc pull.pull) refl
+  new_shape_takes (NewShape.Expanded axis) n typed pull = whole_takes (NewShape.Expanded axis) n (cc pull.pull)
+  new_shape_takes (NewShape.Squeezed axes) n typed pull = whole_takes (NewShape.Squeezed axes) n (cc pull.pull)
+
   -- ---- arrays put together
 
   -- the axis is counted in as many axes as the result has
@@ -202,9 +215,7 @@ module _ (infos : List NodeInfo) (env at : NodeElements) (k : ℕ) (p : Pull) (i
   view_takes (Form.Concat args axis) typed pull = concat_takes args axis typed pull
   view_takes (Form.Stack args axis) typed pull = stack_takes args axis typed pull
   view_takes (Form.PermuteDims args axes) typed pull = with_one (λ xs. Form.PermuteDims xs axes) args typed.args (permute_takes axes) typed pull
-  view_takes (Form.Reshape args shape) typed pull =
-      with_one (λ xs. Form.Reshape xs shape) args typed.args
-      (λ n t q. carry (Arg.Node n ∷ []) ((info_at infos n).dims ∷ []) (rule_of infos env at k (Form.Reshape (Arg.Node n ∷ []) shape) idx) pulls.Reshape (cc q.pull) refl) typed pull
+  view_takes (Form.Reshape args shape) typed pull = with_one (λ xs. Form.Reshape xs shape) args typed.args (new_shape_takes shape) typed pull
   view_takes (Form.Flip args axes) typed pull = with_one (λ xs. Form.Flip xs axes) args typed.args (flip_takes axes) typed pull
   view_takes (Form.Roll args shifts axes) typed pull = with_one (λ xs. Form.Roll xs shifts axes) args typed.args (roll_takes shifts axes) typed pull
   view_takes (Form.BroadcastTo args shape chunk) typed pull =

@@ -6,6 +6,7 @@ pub mod Numbers
 pub mod Permuted
 pub mod Promoted
 pub mod Pulls
+pub mod OnesLeftOut
 pub mod Sliced
 pub mod Sources
 pub mod Stretched

@@ -1,5 +1,5 @@
 -- The pull of a typed view.
-use Rattle.std.proofs.Common.{◌≡◌, ◌∙◌, ℕ, ◌+◌, ◌≤◌, ◌==◌, ◌&&◌, ℤ, pos, Bool, true, false, List, length, Option, Some, None, Result, Ok, refl, ap, sym, arith, if◌then◌else◌}
+use Rattle.std.proofs.Common.{◌≡◌, ◌∙◌, ℕ, ◌+◌, ◌≤◌, ◌==◌, ◌&&◌, ℤ, pos, Bool, true, false, List, [], length, Option, Some, None, Result, Ok, refl, ap, sym, arith, if◌then◌else◌}
 use Rattle.std.specs.Prelude.{nat_le, map}
 use Rattle.std.specs.Ordering.{int_eq}
 use Rattle.std.proofs.lemmas.Bool.{and_parts, le-leb, leb-true}
@@ -17,6 +17,7 @@ use Rattle.cu_node.specs.declared.info.NodeInfo.{NodeInfo}
 use Rattle.cu_node.specs.declared.new_shape.NewShape.{NewShape}
 use Rattle.cu_form.specs.declared.args.Arg.{Arg}
 use Rattle.cu_form.specs.declared.form.Form.{Form}
+use Rattle.cu_pull.specs.Fits.{FitsSlice}
 use Rattle.cu_pull.specs.Pull.{is_in_triangle, diagonal_of}
 use Rattle.cu_pull.specs.declared.provenance.Provenance.TheVariants.{From, Const}
 use Rattle.cu_pull.specs.declared.pull.Pull.{Pull}
@@ -26,14 +27,15 @@ use Rattle.cu_typing_view.specs.Rearranged.{is_permutation, permuted_sizes, are_
 use Rattle.cu_typing_view.specs.Reshaped.{stretches_to}
 use Rattle.cu_typing_view.proofs.NewShapes.{new_shape_count, new_shape_type}
 use Rattle.cu_lower_view.specs.Axes.{named_axis, shift_along, shifts_along}
-use Rattle.cu_lower_view.specs.Runs.{index_runs, axes_taken}
+use Rattle.cu_lower_view.specs.Runs.{whole_run, index_runs, axes_taken}
 use Rattle.cu_lower_view.specs.Sources.{sources_of}
 use Rattle.cu_lower_view.specs.Typed.{IsTypedView, IsPull}
 use Rattle.cu_lower_view.specs.View.{flip_pull}
 use Rattle.cu_lower_view.proofs.Joined.{concat_typed, stack_typed}
 use Rattle.cu_lower_view.proofs.Numbers.{zero_in, one_in, tells_const, tells_from, tells_when, tells_concat, full_typed, arange_typed, eye_typed}
 use Rattle.cu_lower_view.proofs.Permuted.{few_axes, fits_permute}
-use Rattle.cu_lower_view.proofs.Sliced.{length-runs, runs_right, fits_slice}
+use Rattle.cu_lower_view.proofs.OnesLeftOut.{expanded_ones, squeezed_ones}
+use Rattle.cu_lower_view.proofs.Sliced.{length-runs, runs_right, fits_slice, fits_whole}
 use Rattle.cu_lower_view.proofs.Sources.{one_source, fits_one, types_one, short_source}
 use Rattle.cu_lower_view.proofs.Stretched.{stretched_to}
 use Rattle.cu_lower_view.proofs.Typed.{limited_array, checked_array}
@@ -144,14 +146,36 @@ permute infos args axes i h =
     )
 
 reshape : (infos : List NodeInfo) (args : List Arg) (shape : NewShape) (i : NodeInfo) → IsTypedView infos (Form.Reshape args shape) i → HasPull infos (Form.Reshape args shape) i
-reshape infos args shape i h =
+reshape infos args (NewShape.Sizes sizes) i h =
     let a = source infos args in
     let one = one_source infos args h.args in (
       pull.Reshape,
       record {
         pull = refl;
-        fits = fits_one (λ s. product s ≡ product i.dims) (sources_of infos args) one (new_shape_count a i shape h.ranges h.typed);
-        types = types_one i.dtype (sources_of infos args) one (new_shape_type a i shape h.typed);
+        fits = fits_one (λ s. product s ≡ product i.dims) (sources_of infos args) one (new_shape_count a i (NewShape.Sizes sizes) h.ranges h.typed);
+        types = types_one i.dtype (sources_of infos args) one (new_shape_type a i (NewShape.Sizes sizes) h.typed);
+        numbers = λ idx x inside e. cc;
+      },
+    )
+reshape infos args (NewShape.Expanded axis) i h =
+    let a = source infos args in
+    let one = one_source infos args h.args in (
+      pull.Slice (record { items = map whole_run a.dims }) (record { items = [] }),
+      record {
+        pull = refl;
+        fits = fits_one (FitsSlice (map whole_run a.dims) [] i.dims) (sources_of infos args) one (fits_whole i.dims a.dims (expanded_ones a axis i h.typed));
+        types = types_one i.dtype (sources_of infos args) one (new_shape_type a i (NewShape.Expanded axis) h.typed);
+        numbers = λ idx x inside e. cc;
+      },
+    )
+reshape infos args (NewShape.Squeezed axes) i h =
+    let a = source infos args in
+    let one = one_source infos args h.args in (
+      pull.Slice (record { items = map whole_run a.dims }) (record { items = [] }),
+      record {
+        pull = refl;
+        fits = fits_one (FitsSlice (map whole_run a.dims) [] i.dims) (sources_of infos args) one (fits_whole i.dims a.dims (squeezed_ones a axes i h.typed));
+        types = types_one i.dtype (sources_of infos args) one (new_shape_type a i (NewShape.Squeezed axes) h.typed);
         numbers = λ idx x inside e. cc;
       },
     )

@@ -18,7 +18,7 @@ use Rattle.cu_lower_view.specs.Runs.{whole_run, single_run, slice_run, runs_left
 
 -- ---- the runs take indices of their axes
 
-runs_whole : (ns : List ℕ) → AreRuns (map whole_run ns) ns
+pub runs_whole : (ns : List ℕ) → AreRuns (map whole_run ns) ns
 runs_whole [] = tt
 runs_whole (n ∷ ns) = (λ k l. (omega (arith, ints), omega (arith, ints)), runs_whole ns)
 
@@ -100,7 +100,7 @@ runs_right more seen k (Ellipsis ∷ items) ns right =
 
 -- ---- the sizes
 
-counts_whole : (ns : List ℕ) → counts_of_runs (map whole_run ns) ≡ ns
+pub counts_whole : (ns : List ℕ) → counts_of_runs (map whole_run ns) ≡ ns
 counts_whole [] = refl
 counts_whole (n ∷ ns) = ap (λ xs. n ∷ xs) (counts_whole ns)
 
@@ -193,4 +193,13 @@ fits_slice more items shape source right e = record {
   inside = runs_right more false 0 items source right;
   single = taken_single more false 0 items source [] (length source) right (omega arith);
   sizes = ap without_ones e ∙ sizes_same more items source;
+}
+
+-- ---- the whole of each axis
+
+pub fits_whole : (shape source : List ℕ) → without_ones shape ≡ without_ones source → FitsSlice (map whole_run source) [] shape source
+fits_whole shape source same = record {
+  inside = runs_whole source;
+  single = All-nil (λ d. (d < length source) × (get_or (counts_of_runs (map whole_run source)) d 0 ≡ 1));
+  sizes = same ∙ ap without_ones (sym (counts_whole source));
 }

@@ -1,5 +1,6 @@
 //! The runs that an index takes of an array.
 ghost use Rattle.std.specs.Prelude.{◌≡◌, ◌+◌, ◌<◌, ◌≤◌, ◌^◌, ◌++◌, [], ◌∷◌, IfSome, IfNone, length, map, take, drop};
+ghost use Rattle.cu_pull.specs.declared.pull.Pull.TheVariants.{Slice};
 ghost use Rattle.cu_lower_view.specs.Runs.{whole_run, single_run, slice_run, runs_left, index_runs, axis_taken, axes_taken};
 ghost use Rattle.cu_lower_view.specs.View.{slice_pull};
 
@@ -157,4 +158,18 @@ pub(crate) fn slice_pull(items: &[IndexItem], source: &Dims) -> Option<Pull>
     let runs = index_runs(more, items, source)?;
     let taken = axes_taken(more, items, source);
     Some(Pull::Slice { runs, taken })
+}
+
+/// The pull of the whole of each axis.
+pub(crate) fn whole_pull(source: &Dims) -> Pull
+    ensures { result ≡ Slice (record { items = map whole_run source.now }) (record { items = [] }) }
+{
+    let mut runs = ArrayVec::new();
+    for axis in 0..source.rank() {
+        runs.push(whole_run(source.at(axis)));
+    }
+    Pull::Slice {
+        runs,
+        taken: ArrayVec::new(),
+    }
 }

@@ -4,12 +4,12 @@ ghost use Rattle.cu_form.specs.Form.{HasShortIndex};
 ghost use Rattle.cu_node.specs.Info.{info_at};
 ghost use Rattle.cu_node.specs.Literal.{literal_number};
 ghost use Rattle.cu_lower_view.specs.Sources.{sources_of};
-ghost use Rattle.cu_lower_view.specs.View.{permute_pull, flip_pull, view_of, pull_of};
+ghost use Rattle.cu_lower_view.specs.View.{permute_pull, flip_pull, new_shape_pull, view_of, pull_of};
 
 use crate::axes::{named_axes, named_axis, shifts_along, turned_axes};
-use crate::entries::slice_pull;
+use crate::entries::{slice_pull, whole_pull};
 use cu_form::{Arg, Form, Items};
-use cu_node::{Literal, NodeInfo, info_at};
+use cu_node::{Literal, NewShape, NodeInfo, info_at};
 use cu_pull::Pull;
 use cu_shape::Dims;
 
@@ -48,6 +48,16 @@ fn flip_pull(axes: &Option<Items<i64>>, source: &Dims) -> Pull
     Pull::Flip { axes: turned }
 }
 
+/// The pull of a new shape: of sizes that are written a reshape, of axes of size 1 that are put in or taken out the whole array.
+fn new_shape_pull(shape: &NewShape, source: &Dims) -> Pull
+    ensures { result ≡ new_shape_pull shape.now source.now }
+{
+    match shape {
+        NewShape::Sizes(_) => Pull::Reshape,
+        NewShape::Expanded(_) | NewShape::Squeezed(_) => whole_pull(source),
+    }
+}
+
 /// The view that a form is, where the first array that it reads has this shape; none where it is no view.
 fn view_of(form: &Form, source: &Dims) -> Option<Pull>
     requires { HasShortIndex form.now }
@@ -75,7 +85,7 @@ fn view_of(form: &Form, source: &Dims) -> Option<Pull>
             axis: named_axis(rank + 1, *axis),
         }),
         Form::PermuteDims { axes, .. } => permute_pull(axes.as_slice(), source),
-        Form::Reshape { .. } => Some(Pull::Reshape),
+        Form::Reshape { shape, .. } => Some(new_shape_pull(shape, source)),
         Form::Flip { axes, .. } => Some(flip_pull(axes, source)),
         Form::Roll { shifts, axes, .. } => Some(Pull::Roll {
             shifts: shifts_along(rank, shifts.as_slice(), axes.as_slice()),

@@ -20,10 +20,11 @@ use Rattle.cu_zarr.specs.Layout.{ArrayLayout}
 use Rattle.cu_json.specs.Form.{is_text, is_number, is_list_of, as_natural, naturals_after, naturals_of}
 use Rattle.cu_meta.specs.Fault.{Fault}
 use Rattle.cu_meta.specs.Part.{is_part_of, configuration_member}
-use Rattle.cu_meta.specs.Members.{data_type_of, chunk_grid_of, encoding_of, within, truth, whole_of, fill_of, endian_of, are_attributes, are_dimension_names, are_no_transformers, are_understood}
+use Rattle.cu_meta.specs.Members.{data_type_of, chunk_grid_of, encoding_of, endian_of, are_attributes, are_dimension_names, are_no_transformers, are_understood}
+use Rattle.cu_meta_members.specs.Members.{within, truth, whole_of, fill_of}
 use Rattle.cu_meta.specs.Metadata.{layout_in, read_metadata}
 use Rattle.cu_meta.specs.Said.{said_grid, SaysLayout, IsMetadataOf}
-use Rattle.cu_meta.specs.Storable.{IsStorable}
+use Rattle.cu_meta_members.specs.Storable.{IsStorable}
 
 -- ---- a value that cannot be absent is there
 

@@ -18,8 +18,8 @@ use Rattle.cu_zarr.specs.Layout.{ArrayLayout}
 use Rattle.cu_zarr.specs.Metadata.{more_numbers, number_list, encoding_text, codec_with_endian, codec_text, truth_text, fill_text, metadata_text}
 use Rattle.cu_num.specs.TypeName.{type_name}
 use Rattle.cu_meta.specs.Written.{text_of}
-use Rattle.cu_meta.specs.Storable.{IsStorable}
-use Rattle.cu_meta.proofs.Sizes.{AreSmall, same_ranks, small_shape, small_chunk}
+use Rattle.cu_meta_members.specs.Storable.{IsStorable}
+use Rattle.cu_meta_members.proofs.Sizes.{AreSmall, same_ranks, small_shape, small_chunk}
 use Rattle.cu_meta.proofs.Fills.{most, least_below}
 
 -- ASCII, of at most n bytes

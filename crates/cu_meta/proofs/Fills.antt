@@ -9,7 +9,7 @@ use Rattle.cu_json.proofs.Compact.{IsWritten}
 use Rattle.cu_num.specs.Dtype.{least, greatest, InRange}
 use Rattle.cu_num.specs.declared.types.Dtype.{Dtype}
 use Rattle.cu_num.specs.declared.types.Dtype.TheVariants.{Bool, Int8, Int16, Int32, Int64, Uint8, Uint16, Uint32, Uint64}
-use Rattle.cu_meta.specs.Members.{within, whole_of, fill_of}
+use Rattle.cu_meta_members.specs.Members.{within, whole_of, fill_of}
 use Rattle.cu_meta.proofs.LayoutData.{fill_data}
 
 pos_within : (n m : ℕ) → pos n ≤ℤ pos m → n ≤ m

@@ -1,10 +1,8 @@
-pub mod Counted
 pub mod ReadSteps
 pub mod Answered
 pub mod Assembled
 pub mod LayoutData
 pub mod KnownMembers
-pub mod Sizes
 pub mod Fills
 pub mod Plain
 pub mod Bytes

@@ -6,7 +6,7 @@ use Rattle.cu_zarr.specs.Layout.{ArrayLayout}
 use Rattle.cu_zarr.specs.Metadata.{metadata_text}
 use Rattle.cu_meta.specs.Fault.{Fault}
 use Rattle.cu_meta.specs.Metadata.{read_metadata}
-use Rattle.cu_meta.specs.Storable.{IsStorable}
+use Rattle.cu_meta_members.specs.Storable.{IsStorable}
 use Rattle.cu_meta.proofs.Answered.{read_value}
 use Rattle.cu_meta.proofs.Bytes.{fits_metadata}
 use Rattle.cu_meta.proofs.LayoutData.{layout_data, layout_data_text}

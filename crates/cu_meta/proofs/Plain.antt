@@ -16,9 +16,9 @@ use Rattle.cu_num.specs.declared.layout.Endian.{Endian}
 use Rattle.cu_zarr.specs.Layout.{ArrayLayout}
 use Rattle.cu_zarr.specs.Metadata.{separator_name, endian_name}
 use Rattle.cu_num.specs.TypeName.{type_name}
-use Rattle.cu_meta.specs.Storable.{IsStorable}
+use Rattle.cu_meta_members.specs.Storable.{IsStorable}
 use Rattle.cu_meta.proofs.LayoutData.{numbers, configured, encoding_data, endian_data, codec_data, fill_data, whole_data, layout_data}
-use Rattle.cu_meta.proofs.Sizes.{AreSmall, small_shape, small_chunk}
+use Rattle.cu_meta_members.proofs.Sizes.{AreSmall, small_shape, small_chunk}
 use Rattle.cu_meta.proofs.Fills.{written_integer}
 
 -- what a part has for its text to read back inside the whole

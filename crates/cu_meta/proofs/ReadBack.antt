@@ -16,11 +16,12 @@ use Rattle.cu_grid.specs.Limits.{first_fault}
 use Rattle.cu_zarr.specs.Layout.{ArrayLayout}
 use Rattle.cu_num.specs.TypeName.{type_name}
 use Rattle.cu_json.specs.Form.{is_number, is_text, naturals_after, naturals_of}
-use Rattle.cu_meta.specs.Members.{data_type_of, chunk_grid_of, encoding_of, fill_of, endian_of, are_understood}
+use Rattle.cu_meta.specs.Members.{data_type_of, chunk_grid_of, encoding_of, endian_of, are_understood}
+use Rattle.cu_meta_members.specs.Members.{fill_of}
 use Rattle.cu_meta.specs.Metadata.{layout_in}
-use Rattle.cu_meta.specs.Storable.{IsStorable}
+use Rattle.cu_meta_members.specs.Storable.{IsStorable}
 use Rattle.cu_meta.proofs.LayoutData.{numbers, configured, encoding_data, endian_data, codec_data, fill_data, whole_data, layout_data}
-use Rattle.cu_meta.proofs.Sizes.{same_ranks}
+use Rattle.cu_meta_members.proofs.Sizes.{same_ranks}
 use Rattle.cu_meta.proofs.Fills.{fill_back}
 
 numbers_len : (ns : List ℕ) → items_len (numbers ns) ≡ length ns

@@ -1,23 +1,15 @@
 -- The reading in steps gives what the reading gives.
-use Rattle.std.proofs.Common.{◌≡◌, ◌&&◌, length, codes, Result, Ok, Err, ok_or, refl, sym}
+use Rattle.std.proofs.Common.{◌≡◌, ◌&&◌, length, codes, ok_or, refl, sym}
 use Rattle.serde_json.specs.Data.{Data}
 use Rattle.serde_json.specs.Find.{get, as_object}
-use Rattle.cu_result.specs.Results.{◌>>=◌, check}
+use Rattle.cu_result.specs.Results.{check}
+use Rattle.cu_result.proofs.ResultSteps.{same_rest, within_step}
 use Rattle.cu_json.specs.Form.{is_text, is_number}
 use Rattle.cu_meta.specs.Fault.{json, format, field, dtype, grid, key_encoding, fill, codec}
-use Rattle.cu_meta.specs.Members.{data_type_of, chunk_grid_of, encoding_of, fill_of, endian_of, are_attributes, are_dimension_names, are_no_transformers}
+use Rattle.cu_meta.specs.Members.{data_type_of, chunk_grid_of, encoding_of, endian_of, are_attributes, are_dimension_names, are_no_transformers}
+use Rattle.cu_meta_members.specs.Members.{fill_of}
 use Rattle.cu_meta.specs.Metadata.{required_member, layout_in}
 use Rattle.cu_meta.specs.ReadSteps.{layout_by_steps}
-
--- two steps whose rests are the same
-same_rest : {A B E : Type 0} (m : Result A E) (f g : A → Result B E) → ((x : A) → f x ≡ g x) → (m >>= f) ≡ (m >>= g)
-same_rest (Ok x) f g h = h x
-same_rest (Err e) f g h = refl
-
--- a step within a step
-within_step : {A B C E : Type 0} (m : Result A E) (f : A → Result B E) (k : B → Result C E) (g : A → Result C E) → ((x : A) → (f x >>= k) ≡ g x) → ((m >>= f) >>= k) ≡ (m >>= g)
-within_step (Ok x) f k g h = h x
-within_step (Err e) f k g h = refl
 
 by_steps_is : (d : Data) → layout_by_steps d ≡ layout_in d
 by_steps_is d =

@@ -4,5 +4,4 @@ pub mod Members
 pub mod Metadata
 pub mod ReadSteps
 pub mod Written
-pub mod Storable
 pub mod Said

@@ -1,14 +1,12 @@
 -- The members of an array's metadata (Zarr v3 core, "Array metadata"), each by itself; what is accepted is this project's choice.
-use Rattle.std.specs.Prelude.{ℕ, ◌&&◌, ◌||◌, ◌==◌, not, ℤ, pos, int_lt, List, codes, bytes_eq, is_some, is_none, Option, Some, None, option_map, option_and_then, unwrap_or, if◌then◌else◌}
+use Rattle.std.specs.Prelude.{ℕ, ◌&&◌, ◌||◌, ◌==◌, not, List, codes, bytes_eq, is_some, is_none, Option, Some, None, option_map, option_and_then, unwrap_or, if◌then◌else◌}
 use Rattle.std.specs.Prelude.{Bool as Test, true, false}
 use Rattle.serde_json.specs.Data.{Data, Members}
-use Rattle.serde_json.specs.Find.{get, at, as_null, as_str, as_bool, as_array, as_object, as_number, as_integer}
-use Rattle.cu_num.specs.Dtype.{size_of, least, greatest}
+use Rattle.serde_json.specs.Find.{get, at, as_null, as_str, as_bool, as_array, as_object}
+use Rattle.cu_num.specs.Dtype.{size_of}
 use Rattle.cu_num.specs.declared.types.Dtype.{Dtype}
-use Rattle.cu_num.specs.declared.types.Dtype.TheVariants.{Bool, Int8, Int16, Int32, Int64, Uint8, Uint16, Uint32, Uint64}
 use Rattle.cu_num.specs.declared.layout.Encoding.{Encoding}
 use Rattle.cu_num.specs.declared.layout.Encoding.TheVariants.{Plain, V2}
-use Rattle.cu_num.specs.declared.layout.Sep.{Sep}
 use Rattle.cu_num.specs.declared.layout.Sep.TheVariants.{Slash, Dot}
 use Rattle.cu_num.specs.declared.layout.Endian.{Endian}
 use Rattle.cu_num.specs.declared.layout.Endian.TheVariants.{Little, Big}
@@ -17,6 +15,7 @@ use Rattle.cu_grid.specs.Grid.{RegularGrid}
 use Rattle.cu_grid.specs.Limits.{first_fault}
 use Rattle.cu_json.specs.Form.{is_text, is_list_of, each_item, each_member, naturals_of}
 use Rattle.cu_result.specs.Options.{◌>>=◌, when}
+use Rattle.cu_meta_members.specs.Members.{separator_of}
 use Rattle.cu_meta.specs.Part.{is_part, is_part_of, part_name, configuration_member, sets_nothing}
 
 -- `data_type`: a part that sets nothing
@@ -36,48 +35,12 @@ chunk_grid_of t shape part = do
   _ ← when (is_none (first_fault sizes chunk (size_of t)))
   Some (record { shape = sizes; chunk = chunk })
 
--- the separator that is set, or else the usual one of the encoding
-abbrev pub separator_of : Sep → Option Data → Option Sep
-separator_of usual value =
-    if is_none value then Some usual
-    else if is_text (codes "/") value then Some Slash
-    else if is_text (codes ".") value then Some Dot
-    else None
-
 -- `chunk_key_encoding`
 abbrev pub encoding_of : Data → Option Encoding
 encoding_of part =
     if is_part_of (codes "default") (codes "separator") part then option_map Plain (separator_of Slash (configuration_member (codes "separator") part))
     else if is_part_of (codes "v2") (codes "separator") part then option_map V2 (separator_of Dot (configuration_member (codes "separator") part))
     else None
-
--- a number of the type
-abbrev pub within : Dtype → ℤ → Test
-within t x = not (int_lt x (least t)) && not (int_lt (greatest t) x)
-
--- a truth value as a number
-abbrev pub truth : Test → ℤ
-truth true = pos 1
-truth false = pos 0
-
--- an integer of the type
-abbrev pub whole_of : Dtype → Data → Option ℤ
-whole_of t d = do
-  number ← as_number d
-  x ← as_integer number
-  if within t x then Some x else None
-
--- `fill_value`
-abbrev pub fill_of : Dtype → Data → Option ℤ
-fill_of Bool d = option_map truth (as_bool d)
-fill_of Int8 d = whole_of Int8 d
-fill_of Int16 d = whole_of Int16 d
-fill_of Int32 d = whole_of Int32 d
-fill_of Int64 d = whole_of Int64 d
-fill_of Uint8 d = whole_of Uint8 d
-fill_of Uint16 d = whole_of Uint16 d
-fill_of Uint32 d = whole_of Uint32 d
-fill_of Uint64 d = whole_of Uint64 d
 
 -- the byte order that is set; it may be left out for types of one byte, which are always little-endian
 abbrev pub endian_set : Dtype → Option Data → Option Endian

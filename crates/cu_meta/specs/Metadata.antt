@@ -8,7 +8,8 @@ use Rattle.cu_zarr.specs.Layout.{ArrayLayout}
 use Rattle.cu_result.specs.Results.{◌>>=◌, check}
 use Rattle.cu_json.specs.Form.{is_text, is_number}
 use Rattle.cu_meta.specs.Fault.{Fault, json, format, field, dtype, grid, key_encoding, fill, codec, unknown, too_long}
-use Rattle.cu_meta.specs.Members.{data_type_of, chunk_grid_of, encoding_of, fill_of, endian_of, are_attributes, are_dimension_names, are_no_transformers, are_understood}
+use Rattle.cu_meta.specs.Members.{data_type_of, chunk_grid_of, encoding_of, endian_of, are_attributes, are_dimension_names, are_no_transformers, are_understood}
+use Rattle.cu_meta_members.specs.Members.{fill_of}
 
 -- a member that has to be there
 abbrev pub required_member : List ℕ → Data → Result Data Fault

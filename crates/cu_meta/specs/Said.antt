@@ -7,7 +7,8 @@ use Rattle.serde_json.specs.Read.{read}
 use Rattle.cu_grid.specs.Grid.{RegularGrid}
 use Rattle.cu_zarr.specs.Layout.{ArrayLayout}
 use Rattle.cu_json.specs.Form.{is_text, is_number}
-use Rattle.cu_meta.specs.Members.{data_type_of, chunk_grid_of, encoding_of, fill_of, endian_of}
+use Rattle.cu_meta.specs.Members.{data_type_of, chunk_grid_of, encoding_of, endian_of}
+use Rattle.cu_meta_members.specs.Members.{fill_of}
 use Rattle.cu_meta.specs.Members.{are_attributes, are_dimension_names, are_no_transformers}
 use Rattle.cu_meta.specs.Members.{are_understood}
 

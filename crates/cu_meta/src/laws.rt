@@ -4,7 +4,7 @@ ghost use Rattle.cu_zarr.specs.Layout.{ArrayLayout};
 ghost use Rattle.cu_zarr.specs.Metadata.{metadata_text};
 ghost use Rattle.cu_meta.specs.Metadata.{read_metadata};
 ghost use Rattle.cu_meta.specs.Said.{IsMetadataOf};
-ghost use Rattle.cu_meta.specs.Storable.{IsStorable};
+ghost use Rattle.cu_meta_members.specs.Storable.{IsStorable};
 
 /// The written metadata of a layout in which an array may be stored is read back as that layout.
 /// Each layout that is read is one, and two of them have two written texts. A text is read as a layout exactly where its members

@@ -10,6 +10,5 @@ mod write;
 
 pub use fault::{MetaFault, MetaRefused};
 pub use laws::meta_law;
-pub use members::{fill_in, sizes_in};
 pub use read::read_meta;
 pub use write::write_meta;

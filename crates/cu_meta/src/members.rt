@@ -1,21 +1,17 @@
 //! The members of an array's metadata, each by itself.
-ghost use Rattle.std.specs.Prelude.{◌≡◌, ◌<◌, ◌≤◌, ◌&&◌, false, [], option_map, unwrap_or, length};
+ghost use Rattle.std.specs.Prelude.{◌≡◌, ◌<◌, ◌&&◌, false, option_map, unwrap_or};
 ghost use Rattle.serde_json.specs.Find.{as_array};
 ghost use Rattle.serde_json.specs.View.{view, items_view, members_view};
-ghost use Rattle.cu_num.specs.Dtype.{size_of, least, greatest};
-ghost use Rattle.cu_json.specs.Form.{naturals_of, naturals_after, each_item, is_list_of};
-ghost use Rattle.cu_meta.specs.Members.{data_type_of, chunk_grid_of, separator_of, encoding_of, within, whole_of, fill_of, endian_set, endian_of, are_attributes, is_text_or_null, are_dimension_names, are_no_transformers, names_array, names_chunks, names_optional, is_known, may_be_passed_over, are_understood};
+ghost use Rattle.cu_num.specs.Dtype.{size_of};
+ghost use Rattle.cu_json.specs.Form.{each_item, is_list_of};
+ghost use Rattle.cu_meta.specs.Members.{data_type_of, chunk_grid_of, encoding_of, endian_set, endian_of, are_attributes, is_text_or_null, are_dimension_names, are_no_transformers, names_array, names_chunks, names_optional, is_known, may_be_passed_over, are_understood};
 
 use crate::part::{is_part_of, is_plain_part, part_name, setting};
-use arrayvec::ArrayVec;
 use cu_grid::Grid;
 use cu_json::{is_list_of, is_text};
+use cu_meta_members::{separator_in, sizes_in};
 use cu_num::{Dtype, Encoding, Endian, Sep, dtype_named, size};
-use cu_shape::Dims;
 use serde_json::{Map, Value};
-
-/// The most axes of an array.
-const MOST_AXES: usize = 6;
 
 /// The type that `data_type` names.
 pub(crate) fn dtype_in(value: &Value) -> Option<Dtype>
@@ -25,30 +21,6 @@ pub(crate) fn dtype_in(value: &Value) -> Option<Dtype>
         return None;
     }
     dtype_named(part_name(value)?)
-}
-
-/// The numbers of a list of at most six.
-pub fn sizes_in(value: &Value) -> Option<Dims>
-    ensures { result ≡ naturals_of 6 (view value.now) }
-{
-    let Some(items) = value.as_array() else {
-        return None;
-    };
-    if items.len() > MOST_AXES {
-        return None;
-    }
-    naturals(items)
-}
-
-fn naturals(items: &Vec<Value>) -> Option<Dims>
-    requires { length items.now.items ≤ 6 }
-    ensures { result ≡ naturals_after [] (items_view items.now.items) }
-{
-    let mut numbers = ArrayVec::<u64, 6>::new();
-    for item in items {
-        numbers.try_push(item.as_u64()?).ok()?;
-    }
-    Dims::make(numbers.as_slice()).ok()
 }
 
 /// The grid that `shape` and `chunk_grid` say.
@@ -70,21 +42,6 @@ fn item_size(dtype: Dtype) -> u64
     size(dtype)
 }
 
-fn separator_in(usual: Sep, value: Option<&Value>) -> Option<Sep>
-    ensures { result ≡ separator_of usual (option_map (λ v. view v.now) value.entry) }
-{
-    if value.is_none() {
-        return Some(usual);
-    }
-    if is_text(value, "/") {
-        return Some(Sep::Slash);
-    }
-    if is_text(value, ".") {
-        return Some(Sep::Dot);
-    }
-    None
-}
-
 /// The encoding that `chunk_key_encoding` names.
 pub(crate) fn encoding_in(part: &Value) -> Option<Encoding>
     ensures { result ≡ encoding_of (view part.now) }
@@ -98,62 +55,6 @@ pub(crate) fn encoding_in(part: &Value) -> Option<Encoding>
         return Some(Encoding::V2(sep));
     }
     None
-}
-
-/// The least number of a type.
-fn least(dtype: Dtype) -> i128
-    ensures { result ≡ least dtype }
-{
-    match dtype {
-        Dtype::Bool | Dtype::Uint8 | Dtype::Uint16 | Dtype::Uint32 | Dtype::Uint64 => 0,
-        Dtype::Int8 => i8::MIN as i128,
-        Dtype::Int16 => i16::MIN as i128,
-        Dtype::Int32 => i32::MIN as i128,
-        Dtype::Int64 => i64::MIN as i128,
-    }
-}
-
-/// The greatest number of a type.
-fn greatest(dtype: Dtype) -> i128
-    ensures { result ≡ greatest dtype }
-{
-    match dtype {
-        Dtype::Bool => 1,
-        Dtype::Int8 => i8::MAX as i128,
-        Dtype::Int16 => i16::MAX as i128,
-        Dtype::Int32 => i32::MAX as i128,
-        Dtype::Int64 => i64::MAX as i128,
-        Dtype::Uint8 => u8::MAX as i128,
-        Dtype::Uint16 => u16::MAX as i128,
-        Dtype::Uint32 => u32::MAX as i128,
-        Dtype::Uint64 => u64::MAX as i128,
-    }
-}
-
-fn is_within(dtype: Dtype, x: i128) -> bool
-    ensures { result ≡ within dtype x }
-{
-    !(x < least(dtype)) && !(greatest(dtype) < x)
-}
-
-fn whole_in(dtype: Dtype, value: &Value) -> Option<i128>
-    ensures { result ≡ whole_of dtype (view value.now) }
-{
-    let x = value.as_number()?.as_i128()?;
-    if is_within(dtype, x) { Some(x) } else { None }
-}
-
-/// The element that `fill_value` says.
-pub fn fill_in(dtype: Dtype, value: &Value) -> Option<i128>
-    ensures { result ≡ fill_of dtype (view value.now) }
-{
-    match dtype {
-        Dtype::Bool => match value.as_bool()? {
-            true => Some(1),
-            false => Some(0),
-        },
-        _ => whole_in(dtype, value),
-    }
 }
 
 fn endian_set(dtype: Dtype, value: Option<&Value>) -> Option<Endian>

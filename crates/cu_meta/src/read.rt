@@ -13,10 +13,11 @@ ghost use Rattle.cu_meta.specs.ReadSteps.{required_view, required_members, said_
 use crate::fault::{MetaFault, MetaRefused};
 use crate::members::{
     are_attributes, are_dimension_names, are_no_transformers, are_understood, dtype_in,
-    encoding_in, endian_in, fill_in, grid_in,
+    encoding_in, endian_in, grid_in,
 };
 use arrayvec::ArrayString;
 use cu_json::{is_number, is_text};
+use cu_meta_members::fill_in;
 use cu_op::Layout;
 use serde_json::{Map, Value};
 use std::alloc::Global;

@@ -52,3 +52,13 @@ need_step_ok None e f y h = cc
 pub need_step_err : {A B E : Type 0} (o : Option A) (e e' : E) (f : A → Result B E) → (need o e >>= f) ≡ Err e' → ((o ≡ None) × (e ≡ e')) ⊎ ((x : A) × (o ≡ Some x) × (f x ≡ Err e'))
 need_step_err (Some x) e e' f h = inr (x, refl, h)
 need_step_err None e e' f h = inl (refl, cc)
+
+-- two steps whose rests are the same
+pub same_rest : {A B E : Type 0} (m : Result A E) (f g : A → Result B E) → ((x : A) → f x ≡ g x) → (m >>= f) ≡ (m >>= g)
+same_rest (Ok x) f g h = h x
+same_rest (Err e) f g h = refl
+
+-- a step within a step
+pub within_step : {A B C E : Type 0} (m : Result A E) (f : A → Result B E) (k : B → Result C E) (g : A → Result C E) → ((x : A) → (f x >>= k) ≡ g x) → ((m >>= f) >>= k) ≡ (m >>= g)
+within_step (Ok x) f k g h = h x
+within_step (Err e) f k g h = refl

@@ -4,7 +4,7 @@ use crate::findings::{CasePlace, Findings};
 use crate::members::{Said, list_of, number_of, refuse_others};
 use anyhow::{Result, bail};
 use cu_grid::{Grid, GridFault};
-use cu_meta::sizes_in;
+use cu_meta_members::sizes_in;
 use cu_shape::{Dims, Run, ShapeFault, broadcast, index_of, place, slice_of};
 use serde_json::Value;
 

@@ -10,7 +10,7 @@ use Rattle.cu_zarr.specs.Key.{metadata_key_of, zarray_key_of}
 use Rattle.cu_zarr.specs.Layout.{ArrayLayout}
 use Rattle.cu_zarr.specs.Metadata.{metadata_text}
 use Rattle.cu_meta.specs.Metadata.{read_metadata}
-use Rattle.cu_meta.specs.Storable.{IsStorable}
+use Rattle.cu_meta_members.specs.Storable.{IsStorable}
 use Rattle.cu_op.specs.declared.cells.Cell.{Cell}
 use Rattle.cu_op.specs.Layout.{layout_view}
 use Rattle.cu_op.specs.Schedule.{key_of}

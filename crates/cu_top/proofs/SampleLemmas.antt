@@ -30,7 +30,7 @@ use Rattle.cu_store.specs.Held.{IsAmong}
 use Rattle.cu_region.specs.Steady.{IsSteady}
 use Rattle.cu_zarr.specs.Key.{chunk_key_of, metadata_key_of, zarray_key_of}
 use Rattle.cu_meta.proofs.MetaLaw.{read_back}
-use Rattle.cu_meta.specs.Storable.{IsStorable}
+use Rattle.cu_meta_members.specs.Storable.{IsStorable}
 use Rattle.cu_command.proofs.JobLemmas.{inputs_read}
 use Rattle.cu_command.specs.Inputs.{names_in, AreCalmAt, IsCalmAt}
 use Rattle.cu_command.specs.Job.{IsJob, IsTypable}

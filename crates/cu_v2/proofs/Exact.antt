@@ -15,9 +15,9 @@ use Rattle.cu_num.specs.declared.layout.Sep.TheVariants.{Dot}
 use Rattle.cu_grid.specs.Grid.{RegularGrid}
 use Rattle.cu_zarr.specs.Layout.{ArrayLayout}
 use Rattle.cu_json.specs.Form.{is_text, is_number, is_list_of}
-use Rattle.cu_meta.specs.Members.{separator_of}
-use Rattle.cu_meta.specs.Storable.{IsStorable}
-use Rattle.cu_meta.proofs.Sizes.{same_ranks}
+use Rattle.cu_meta_members.specs.Members.{separator_of}
+use Rattle.cu_meta_members.specs.Storable.{IsStorable}
+use Rattle.cu_meta_members.proofs.Sizes.{same_ranks}
 use Rattle.cu_v2.specs.Fault.{ZarrayFault}
 use Rattle.cu_v2.specs.Members.{element_of, plain_grid_of, is_uncoded, fill_or_null}
 use Rattle.cu_v2.specs.Zarray.{zarray_in, zarray_layout}

@@ -18,7 +18,7 @@ use Rattle.cu_grid.specs.Grid.{RegularGrid}
 use Rattle.cu_grid.specs.Limits.{first_fault}
 use Rattle.cu_grid.specs.declared.fault.GridFault.{GridFault}
 use Rattle.cu_json.specs.Form.{is_text, is_list_of, naturals_of}
-use Rattle.cu_meta.specs.Members.{separator_of, truth, within, whole_of}
+use Rattle.cu_meta_members.specs.Members.{separator_of, truth, within, whole_of}
 use Rattle.cu_v2.specs.Members.{plain_grid_of, fill_or_null}
 use Rattle.cu_v2.specs.Form.{number_items, IsFillOf, IsSeparatorOf}
 use Rattle.cu_v2.proofs.Values.{some_of, true_of, none_is_no_some, is_null, is_this_text, is_empty_list, IsSizes, are_sizes, sizes_back}

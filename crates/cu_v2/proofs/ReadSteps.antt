@@ -1,22 +1,13 @@
 -- The reading in steps gives what the reading gives.
-use Rattle.std.proofs.Common.{◌≡◌, codes, is_some, Result, Ok, Err, refl, sym}
+use Rattle.std.proofs.Common.{◌≡◌, codes, is_some, refl, sym}
 use Rattle.serde_json.specs.Data.{Data}
 use Rattle.serde_json.specs.Find.{get, as_object}
-use Rattle.cu_result.specs.Results.{◌>>=◌, check}
+use Rattle.cu_result.specs.Results.{check}
+use Rattle.cu_result.proofs.ResultSteps.{same_rest, within_step}
 use Rattle.cu_json.specs.Form.{is_number}
 use Rattle.cu_v2.specs.Fault.{no_object, not_version_2}
 use Rattle.cu_v2.specs.Zarray.{held_member, zarray_in}
 use Rattle.cu_v2.specs.ReadSteps.{zarray_by_steps}
-
--- two steps whose rests are the same
-same_rest : {A B E : Type 0} (m : Result A E) (f g : A → Result B E) → ((x : A) → f x ≡ g x) → (m >>= f) ≡ (m >>= g)
-same_rest (Ok x) f g h = h x
-same_rest (Err e) f g h = refl
-
--- a step within a step
-within_step : {A B C E : Type 0} (m : Result A E) (f : A → Result B E) (k : B → Result C E) (g : A → Result C E) → ((x : A) → (f x >>= k) ≡ g x) → ((m >>= f) >>= k) ≡ (m >>= g)
-within_step (Ok x) f k g h = h x
-within_step (Err e) f k g h = refl
 
 by_steps_is : (d : Data) → zarray_by_steps d ≡ zarray_in d
 by_steps_is d =

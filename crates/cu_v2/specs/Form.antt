@@ -13,7 +13,7 @@ use Rattle.cu_num.specs.declared.layout.Endian.{Endian}
 use Rattle.cu_num.specs.declared.layout.Endian.TheVariants.{Little, Big}
 use Rattle.cu_grid.specs.Limits.{first_fault}
 use Rattle.cu_zarr.specs.Layout.{ArrayLayout}
-use Rattle.cu_meta.specs.Members.{truth}
+use Rattle.cu_meta_members.specs.Members.{truth}
 
 -- a list of numbers
 abbrev pub number_items : List ℕ → Items

@@ -13,7 +13,7 @@ use Rattle.cu_grid.specs.Grid.{RegularGrid}
 use Rattle.cu_grid.specs.Limits.{first_fault}
 use Rattle.cu_json.specs.Form.{is_list_of, naturals_of}
 use Rattle.cu_result.specs.Options.{◌>>=◌, when}
-use Rattle.cu_meta.specs.Members.{whole_of, fill_of}
+use Rattle.cu_meta_members.specs.Members.{whole_of, fill_of}
 
 -- the type of a code: its kind and its count of bytes (NumPy, "The array interface", typestr)
 abbrev pub type_of_code : List ℕ → Option Dtype

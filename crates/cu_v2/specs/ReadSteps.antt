@@ -8,7 +8,7 @@ use Rattle.cu_num.specs.declared.layout.Sep.TheVariants.{Dot}
 use Rattle.cu_zarr.specs.Layout.{ArrayLayout}
 use Rattle.cu_result.specs.Results.{◌>>=◌, check}
 use Rattle.cu_json.specs.Form.{is_text, is_number}
-use Rattle.cu_meta.specs.Members.{separator_of}
+use Rattle.cu_meta_members.specs.Members.{separator_of}
 use Rattle.cu_v2.specs.Fault.{ZarrayFault, no_object, not_version_2, no_type, no_grid, no_separator, no_fill, coded, not_row_major}
 use Rattle.cu_v2.specs.Members.{element_of, plain_grid_of, is_uncoded, fill_or_null}
 use Rattle.cu_v2.specs.Zarray.{held_member}

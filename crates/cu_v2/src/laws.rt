@@ -1,7 +1,7 @@
 //! Laws of the definitions: a call that does nothing, and whose clauses are the laws.
 ghost use Rattle.std.specs.Prelude.{◌≡◌, ◌↔◌, ℕ, List, Ok};
 ghost use Rattle.cu_zarr.specs.Layout.{ArrayLayout};
-ghost use Rattle.cu_meta.specs.Storable.{IsStorable};
+ghost use Rattle.cu_meta_members.specs.Storable.{IsStorable};
 ghost use Rattle.cu_v2.specs.Form.{IsZarray};
 ghost use Rattle.cu_v2.specs.Zarray.{zarray_layout};
 

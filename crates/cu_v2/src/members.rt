@@ -1,14 +1,13 @@
 //! The members of a `.zarray`, each by itself.
-ghost use Rattle.std.specs.Prelude.{◌≡◌, ◌<◌, option_map};
+ghost use Rattle.std.specs.Prelude.{◌≡◌, ◌<◌};
 ghost use Rattle.serde_json.specs.View.{view};
 ghost use Rattle.cu_num.specs.Dtype.{size_of};
-ghost use Rattle.cu_meta.specs.Members.{separator_of, within, whole_of};
 ghost use Rattle.cu_v2.specs.Members.{type_of_code, order_of_sign, element_of_text, element_of, plain_grid_of, is_uncoded, fill_or_null};
 
 use cu_grid::Grid;
-use cu_json::{is_list_of, is_text};
-use cu_meta::{fill_in, sizes_in};
-use cu_num::{Dtype, Endian, Sep, greatest, least, size};
+use cu_json::is_list_of;
+use cu_meta_members::{fill_in, sizes_in, whole_in};
+use cu_num::{Dtype, Endian, size};
 use serde_json::Value;
 
 /// The type that a code names: its kind, and its count of bytes.
@@ -85,19 +84,6 @@ pub(crate) fn is_uncoded(compressor: &Value, filters: &Value) -> bool
     compressor.is_null() && (filters.is_null() || is_list_of(filters, 0))
 }
 
-fn is_within(dtype: Dtype, x: i128) -> bool
-    ensures { result ≡ within dtype x }
-{
-    !(x < least(dtype)) && !(greatest(dtype) < x)
-}
-
-fn whole_in(dtype: Dtype, value: &Value) -> Option<i128>
-    ensures { result ≡ whole_of dtype (view value.now) }
-{
-    let x = value.as_number()?.as_i128()?;
-    if is_within(dtype, x) { Some(x) } else { None }
-}
-
 /// The element that `fill_value` says.
 pub(crate) fn fill_or_null(dtype: Dtype, value: &Value) -> Option<i128>
     ensures { result ≡ fill_or_null dtype (view value.now) }
@@ -109,20 +95,4 @@ pub(crate) fn fill_or_null(dtype: Dtype, value: &Value) -> Option<i128>
         Some(x) => Some(x),
         None => whole_in(dtype, value),
     }
-}
-
-/// The separator that `dimension_separator` says, and the usual one where it is absent.
-pub(crate) fn separator_in(usual: Sep, value: Option<&Value>) -> Option<Sep>
-    ensures { result ≡ separator_of usual (option_map (λ v. view v.now) value.entry) }
-{
-    if value.is_none() {
-        return Some(usual);
-    }
-    if is_text(value, "/") {
-        return Some(Sep::Slash);
-    }
-    if is_text(value, ".") {
-        return Some(Sep::Dot);
-    }
-    None
 }

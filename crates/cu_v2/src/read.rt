@@ -9,9 +9,10 @@ ghost use Rattle.cu_v2.specs.ReadSteps.{held_view, held_members, held_layout, za
 ghost use Rattle.cu_v2.specs.Zarray.{held_member, zarray_layout};
 
 use crate::fault::{V2Fault, V2Refused};
-use crate::members::{element_in, fill_or_null, grid_in, is_uncoded, separator_in};
+use crate::members::{element_in, fill_or_null, grid_in, is_uncoded};
 use arrayvec::ArrayString;
 use cu_json::{is_number, is_text};
+use cu_meta_members::separator_in;
 use cu_num::{Encoding, Sep};
 use cu_op::Layout;
 use serde_json::Value;

@@ -12,7 +12,7 @@ use Rattle.cu_num.specs.Dtype.{size_of}
 use Rattle.cu_num.specs.declared.types.Dtype.{Dtype}
 use Rattle.cu_num.specs.declared.types.Dtype.TheVariants.{Bool as Truth, Int8, Int16, Int32, Int64, Uint8, Uint16, Uint32, Uint64}
 use Rattle.cu_zarr.specs.Layout.{ArrayLayout}
-use Rattle.cu_meta.specs.Storable.{IsStorable}
+use Rattle.cu_meta_members.specs.Storable.{IsStorable}
 
 -- each number fits 64 bits
 abbrev pub AreSmall : List ℕ → Type 0
