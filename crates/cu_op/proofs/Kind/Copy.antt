@@ -7,7 +7,7 @@ use Rattle.cu_num.specs.declared.types.Dtype.{Dtype}
 use Rattle.cu_op.proofs.Filled.{filled_region}
 use Rattle.cu_op.proofs.Kind.{Laws}
 use Rattle.cu_op.proofs.NewNumbers.{grid_same, type_same}
-use Rattle.cu_op.proofs.Results.{only_written, differ_only}
+use Rattle.cu_op.proofs.Results.{only_written, differ_only, none_given}
 use Rattle.cu_op.proofs.Rooms.{size_few, times_few}
 use Rattle.cu_op.proofs.SameCells.{of_one, box_same}
 use Rattle.cu_op.proofs.WalksOf.{over_one, apart_one, first_of_walks}
@@ -68,4 +68,8 @@ copy_laws region source out = record {
     input_room = λ old new s. ap (λ t. product region * size_of t) (type_same f old new source (s.reads 0 0 (omega arith)));
     output_room = λ old new s. refl;
   };
+  compares = λ array is. absurd (none_given array is);
+  stores = λ array is. absurd (none_given array is);
+  stores_none = λ is. refl;
+  stored_type = λ arrays array fits is. absurd (none_given array is);
 }

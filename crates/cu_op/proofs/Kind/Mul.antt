@@ -11,7 +11,7 @@ use Rattle.cu_op.proofs.Kind.{Laws, Stands, Keeps}
 use Rattle.cu_op.proofs.Matrices.{left_over, right_over, left_reads, right_reads, operands_apart, left_box, right_box, left_long, right_long, left_span, right_span}
 use Rattle.cu_op.proofs.NewNumbers.{grid_same, type_same, room_same}
 use Rattle.cu_op.proofs.ResultRanges.{fold_range}
-use Rattle.cu_op.proofs.Results.{differ_only, nested_only}
+use Rattle.cu_op.proofs.Results.{differ_only, nested_only, none_given}
 use Rattle.cu_op.proofs.Rooms.{any_room_few}
 use Rattle.cu_op.proofs.SameCells.{HaveSame, of_two, operand_same}
 use Rattle.cu_op.proofs.Spans.{chunk_span}
@@ -82,6 +82,10 @@ mul_laws left right out = record {
     input_room = λ old new s. λ i. room_same f old new left (s.reads 0 0 (omega arith)) i + room_same f old new right (s.reads 1 0 (omega arith)) i;
     output_room = λ old new s. room_same f old new out (s.writes 0 0 (omega arith));
   };
+  compares = λ array is. absurd (none_given array is);
+  stores = λ array is. absurd (none_given array is);
+  stores_none = λ is. refl;
+  stored_type = λ arrays array fits is. absurd (none_given array is);
 }
   where
     mul_over : (arrays : List ArrayInfo) (lo hi : List ℕ) → Stands arrays (mul_kind left right out) → IsFilled (grid_at arrays out).shape lo hi

@@ -8,7 +8,7 @@ use Rattle.cu_op.proofs.Kind.{Laws, Stands}
 use Rattle.cu_op.proofs.NewNumbers.{bool_same, pairs_renumbered, grid_same, place_kept, pair_fits, place_axis, room_same, value_room_same}
 use Rattle.cu_op.proofs.PairRanges.{best_listed, found_parts, place_range, pair_range}
 use Rattle.cu_op.proofs.PlanGroups.{chunk_ranks}
-use Rattle.cu_op.proofs.Results.{pair_last, nested_pair, differ_pair}
+use Rattle.cu_op.proofs.Results.{pair_last, nested_pair, differ_pair, pair_compares, pair_stored, pair_only, type_stored}
 use Rattle.cu_op.proofs.Rooms.{any_room_few}
 use Rattle.cu_op.proofs.SameCells.{of_one, folded_same}
 use Rattle.cu_op.proofs.WalksOf.{over_one, apart_one, first_of_walks}
@@ -87,6 +87,10 @@ pair_fold_laws least axis source values out = record {
         let ko = place_kept f old new values out s.writes in
         λ i. value_room_same f old new source out ks ko i + room_same f old new out ko i;
   };
+  compares = pair_compares source ([]);
+  stores = pair_stored values out;
+  stores_none = pair_only values out;
+  stored_type = λ arrays array fits is. (source, refl, type_stored arrays values source out array fits.1.stored is);
 }
   where
     made : (arrays : List ArrayInfo) → All (λ a. a < length arrays) (pair_writes values out) → out < length arrays

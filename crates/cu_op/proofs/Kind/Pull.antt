@@ -7,7 +7,7 @@ use Rattle.cu_op.proofs.CellsOfTasks.{map_contains}
 use Rattle.cu_op.proofs.Kind.{Laws, Stands, ReadsTypes}
 use Rattle.cu_op.proofs.NewNumbers.{given_same, grid_same, type_same, shapes_same, all_renumbered, room_same}
 use Rattle.cu_op.proofs.PairRanges.{some_then}
-use Rattle.cu_op.proofs.Results.{only_written, differ_only, nested_only}
+use Rattle.cu_op.proofs.Results.{only_written, differ_only, nested_only, none_given}
 use Rattle.cu_op.proofs.Rooms.{any_room_few}
 use Rattle.cu_op.proofs.SameCells.{of_each, whole_same}
 use Rattle.cu_op.proofs.WalksOf.{apart_each, own_arrays}
@@ -121,4 +121,8 @@ pull_laws pull ins out = record {
     input_room = λ old new s. refl;
     output_room = λ old new s. room_same f old new out (s.writes 0 0 (omega arith));
   };
+  compares = λ array is. absurd (none_given array is);
+  stores = λ array is. absurd (none_given array is);
+  stores_none = λ is. refl;
+  stored_type = λ arrays array fits is. absurd (none_given array is);
 }
