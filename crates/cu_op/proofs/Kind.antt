@@ -20,8 +20,9 @@ use Rattle.cu_op.specs.Kind.{Kind}
 use Rattle.cu_op.specs.Kinds.{kind_of}
 use Rattle.cu_op.specs.Layout.{IsArray}
 use Rattle.cu_op.specs.Schedule.{IsNested}
-use Rattle.cu_op.specs.Value.{Elements}
-use Rattle.cu_op.specs.Walks.{walk, IsWalkOver, cells_of_walks}
+use Rattle.cu_op.specs.Elements.{Elements}
+use Rattle.cu_op.specs.Chunks.{walk}
+use Rattle.cu_op.specs.Walks.{IsWalkOver, cells_of_walks}
 use Rattle.cu_op.specs.declared.cells.Cell.{Cell}
 use Rattle.cu_op.specs.declared.layout.ArrayInfo.{ArrayInfo}
 use Rattle.cu_op.specs.declared.walks.Walk.{Walk}

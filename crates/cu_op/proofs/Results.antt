@@ -4,9 +4,9 @@ use Rattle.cu_grid.specs.Grid.{RegularGrid, IsGrid}
 use Rattle.cu_op.proofs.Nested.{nested_same}
 use Rattle.cu_op.proofs.WalkCells.{AreDifferent}
 use Rattle.cu_op.specs.Arrays.{grid_at, type_at}
-use Rattle.cu_op.specs.Operation.{pair_writes, StoresValues}
+use Rattle.cu_op.specs.Places.{pair_writes, StoresValues}
 use Rattle.cu_op.specs.Schedule.{IsNested}
-use Rattle.cu_op.specs.Walks.{walk}
+use Rattle.cu_op.specs.Chunks.{walk}
 use Rattle.cu_op.specs.declared.layout.ArrayInfo.{ArrayInfo}
 use Rattle.cu_op.specs.declared.walks.Walk.{Walk}
 use Rattle.std.proofs.Common.{◌≡◌, ℕ, zero, suc, ◌<◌, List, [], ◌∷◌, map, All, Contains, Option, None, Some, refl, ap, sym, subst, arith, ◌≢◌}

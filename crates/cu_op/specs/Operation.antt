@@ -1,11 +1,4 @@
 -- What each kind of operation reads and writes, and how its arrays stand to one another.
-pub use Rattle.cu_op.specs.Places.{pair_writes, StoresValues, PairFits, HasPlaceAxis, ArePairs}
-pub use Rattle.cu_op.specs.Aligned.{IsAlignedAlong, IsAligned}
-pub use Rattle.cu_op.specs.Kind.Map.{MapFits}
-pub use Rattle.cu_op.specs.Kind.Pull.{shapes_at, origin_at, Converts, PullFits}
-pub use Rattle.cu_op.specs.Kind.Copy.{region_grid, CopyFits}
-pub use Rattle.cu_op.specs.Reductions.{FoldFits, IsMergeAlong}
-pub use Rattle.cu_op.specs.Kind.Mul.{MulFits}
 use Rattle.cu_op.specs.Arrays.{maker_at, grid_at}
 use Rattle.cu_op.specs.Form.{Form}
 use Rattle.cu_op.specs.Kinds.{kind_of}

@@ -12,10 +12,9 @@ use Rattle.cu_op.proofs.Rooms.{size_few, times_few}
 use Rattle.cu_op.proofs.SameCells.{of_one, box_same}
 use Rattle.cu_op.proofs.WalksOf.{over_one, apart_one, first_of_walks}
 use Rattle.cu_op.specs.Arrays.{grid_at, type_at}
-use Rattle.cu_op.specs.Kind.Copy.{copy_kind}
-use Rattle.cu_op.specs.Operation.{region_grid}
+use Rattle.cu_op.specs.Kind.Copy.{copy_kind, region_grid}
 use Rattle.cu_op.specs.Schedule.{IsNested}
-use Rattle.cu_op.specs.Walks.{walk}
+use Rattle.cu_op.specs.Chunks.{walk}
 use Rattle.cu_shape.specs.Index.{product}
 use Rattle.std.proofs.Common.{ℕ, List, [], length, Option, refl, sym, ◌∙◌, subst, arith, ℤ, ap, ◌*◌}
 use Rattle.std.proofs.lemmas.List.Elements.{All-cons, All-nil}

@@ -15,7 +15,8 @@ use Rattle.cu_op.proofs.WalksOf.{over_one, apart_one, first_of_walks}
 use Rattle.cu_op.specs.Arrays.{grid_at, type_at}
 use Rattle.cu_op.specs.Kind.Fold.{fold_kind}
 use Rattle.cu_op.specs.Partial.{partial_indices, chunk_groups}
-use Rattle.cu_op.specs.Walks.{IsWalkOver, partial_walk}
+use Rattle.cu_op.specs.Walks.{IsWalkOver}
+use Rattle.cu_op.specs.Reductions.{partial_walk}
 use Rattle.cu_op.specs.declared.layout.ArrayInfo.{ArrayInfo}
 use Rattle.cu_pull.specs.Pull.{has_axis}
 use Rattle.cu_pull.specs.declared.axes.Axes.{Axes}

@@ -16,12 +16,12 @@ use Rattle.cu_op.proofs.Rooms.{any_room_few, room_few}
 use Rattle.cu_op.proofs.SameCells.{HaveSame, same_list, of_each, read_same}
 use Rattle.cu_op.proofs.WalksOf.{LiesIn, apart_each, own_arrays}
 use Rattle.cu_op.specs.Arrays.{grid_at, type_at, chunk_room, HasLayoutOf}
-use Rattle.cu_op.specs.Cells.{cell}
+use Rattle.cu_op.specs.Chunks.{cell}
 use Rattle.cu_op.specs.KernelTypes.{KernelFits, LoadsTypes}
-use Rattle.cu_op.specs.Kind.Map.{map_kind}
-use Rattle.cu_op.specs.Operation.{IsAligned}
-use Rattle.cu_op.specs.Value.{Elements, loaded}
-use Rattle.cu_op.specs.Walks.{back_as, IsWalkOver, cells_of_walks, read_walk}
+use Rattle.cu_op.specs.Kind.Map.{map_kind, loaded, read_walk}
+use Rattle.cu_op.specs.Aligned.{IsAligned}
+use Rattle.cu_op.specs.Elements.{Elements}
+use Rattle.cu_op.specs.Walks.{back_as, IsWalkOver, cells_of_walks}
 use Rattle.cu_op.specs.declared.cells.Cell.{Cell}
 use Rattle.cu_op.specs.declared.kernel.Instr.{Instr}
 use Rattle.cu_op.specs.declared.layout.ArrayInfo.{ArrayInfo}

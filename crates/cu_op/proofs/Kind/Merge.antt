@@ -13,7 +13,7 @@ use Rattle.cu_op.proofs.WalksOf.{over_one, apart_one, first_of_walks}
 use Rattle.cu_op.specs.Arrays.{grid_at, type_at, chunk_room}
 use Rattle.cu_op.specs.Kind.Merge.{merge_kind}
 use Rattle.cu_op.specs.Partial.{partial_indices, merge_groups}
-use Rattle.cu_op.specs.Walks.{partial_walk}
+use Rattle.cu_op.specs.Reductions.{partial_walk}
 use Rattle.cu_reduce.specs.Folds.{reduced_to}
 use Rattle.cu_reduce.specs.Groups.{group_indices, group_of}
 use Rattle.std.proofs.Common.{ℕ, [], refl, sym, ◌∙◌, arith, map, ap, ◌*◌}

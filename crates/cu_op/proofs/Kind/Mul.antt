@@ -17,11 +17,10 @@ use Rattle.cu_op.proofs.SameCells.{HaveSame, of_two, operand_same}
 use Rattle.cu_op.proofs.Spans.{chunk_span}
 use Rattle.cu_op.proofs.WalksOf.{over_two, apart_two, first_of_walks, second_of_walks}
 use Rattle.cu_op.specs.Arrays.{grid_at, type_at}
-use Rattle.cu_op.specs.Kind.Mul.{mul_kind}
+use Rattle.cu_op.specs.Kind.Mul.{mul_kind, MulFits, products_at, left_walk, right_walk}
 use Rattle.cu_op.specs.Matrix.{left_inner, inner_chunk_count, batch_rank, right_inner, batch_grid, product_index, part_number, inner_places, rows_of, columns_of, product_at, HasParts}
-use Rattle.cu_op.specs.Operation.{IsAligned, MulFits}
-use Rattle.cu_op.specs.Value.{products_at}
-use Rattle.cu_op.specs.Walks.{IsWalkOver, cells_of_walks, left_walk, right_walk}
+use Rattle.cu_op.specs.Aligned.{IsAligned}
+use Rattle.cu_op.specs.Walks.{IsWalkOver, cells_of_walks}
 use Rattle.cu_op.specs.declared.cells.Cell.{Cell}
 use Rattle.cu_op.specs.declared.layout.ArrayInfo.{ArrayInfo}
 use Rattle.cu_reduce.specs.Folds.{reduced_to}

@@ -14,10 +14,10 @@ use Rattle.cu_op.proofs.SameCells.{of_one, folded_same}
 use Rattle.cu_op.proofs.WalksOf.{over_one, apart_one, first_of_walks}
 use Rattle.cu_op.specs.Arrays.{grid_at}
 use Rattle.cu_op.specs.Kind.PairFold.{pair_fold_kind}
-use Rattle.cu_op.specs.Operation.{pair_writes}
+use Rattle.cu_op.specs.Places.{pair_writes, pair_part, counted_at}
 use Rattle.cu_op.specs.Partial.{partial_indices, place_groups}
-use Rattle.cu_op.specs.Value.{pair_part, counted_at}
-use Rattle.cu_op.specs.Walks.{IsWalkOver, partial_walk}
+use Rattle.cu_op.specs.Walks.{IsWalkOver}
+use Rattle.cu_op.specs.Reductions.{partial_walk}
 use Rattle.cu_op.specs.declared.layout.ArrayInfo.{ArrayInfo}
 use Rattle.cu_reduce.specs.Groups.{group_indices, group_of}
 use Rattle.cu_reduce.specs.Places.{Found, counted_place, found_at, best_in, is_sought}

@@ -15,10 +15,9 @@ use Rattle.cu_op.proofs.SameCells.{of_two, merged_same}
 use Rattle.cu_op.proofs.WalksOf.{apart_each, over_two, first_of_walks, second_of_walks}
 use Rattle.cu_op.specs.Arrays.{grid_at, chunk_room}
 use Rattle.cu_op.specs.Kind.PairMerge.{pair_merge_kind}
-use Rattle.cu_op.specs.Operation.{pair_writes}
+use Rattle.cu_op.specs.Places.{pair_writes, pair_part}
 use Rattle.cu_op.specs.Partial.{partial_indices, merge_groups}
-use Rattle.cu_op.specs.Value.{pair_part}
-use Rattle.cu_op.specs.Walks.{partial_walk}
+use Rattle.cu_op.specs.Reductions.{partial_walk}
 use Rattle.cu_op.specs.declared.layout.ArrayInfo.{ArrayInfo}
 use Rattle.cu_reduce.specs.Groups.{group_indices, group_of}
 use Rattle.cu_reduce.specs.Places.{Found, found_at, best_in}

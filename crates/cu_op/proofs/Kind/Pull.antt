@@ -13,11 +13,10 @@ use Rattle.cu_op.proofs.SameCells.{of_each, whole_same}
 use Rattle.cu_op.proofs.WalksOf.{apart_each, own_arrays}
 use Rattle.cu_op.proofs.Wholes.{whole_within, whole_over}
 use Rattle.cu_op.specs.Arrays.{grid_at, type_at}
-use Rattle.cu_op.specs.InputCells.{all_chunks}
-use Rattle.cu_op.specs.Kind.Pull.{pull_kind}
-use Rattle.cu_op.specs.Operation.{shapes_at, origin_at, Converts, PullFits}
-use Rattle.cu_op.specs.Value.{Elements, pulled}
-use Rattle.cu_op.specs.Walks.{IsWalkOver, whole_walk}
+use Rattle.cu_op.specs.Chunks.{all_chunks, whole_walk}
+use Rattle.cu_op.specs.Kind.Pull.{pull_kind, shapes_at, origin_at, Converts, PullFits, pulled}
+use Rattle.cu_op.specs.Elements.{Elements}
+use Rattle.cu_op.specs.Walks.{IsWalkOver}
 use Rattle.cu_op.specs.declared.layout.ArrayInfo.{ArrayInfo}
 use Rattle.cu_pull.proofs.OriginsInside.{inside_sources}
 use Rattle.cu_pull.specs.Fits.{FitsPull}
