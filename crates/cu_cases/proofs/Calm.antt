@@ -1,12 +1,11 @@
 -- Where nothing is late, nothing is in the way of a run; and the words of another command ask for none that goes on.
 use Rattle.std.proofs.Common.{◌≡◌, List, ℕ, [], ◌∷◌, Bool, true, false, Option, Some, None, Result, Ok, Err, bytes_eq, codes, nat_eq, length, if◌then◌else◌, refl, ap, ◌∙◌, subst, sym, true≢false}
-use Rattle.cu_store.specs.Held.{Contents, Write}
+use Rattle.cu_store.specs.Held.{Contents, Write, IsAmong}
 use Rattle.cu_store.specs.Steps.{Shown}
 use Rattle.cu_op.specs.Value.{stored_inputs}
 use Rattle.cu_lower.specs.declared.options.Options.{Options}
 use Rattle.cu_state.specs.Left.{IsQuiet}
 use Rattle.cu_state.specs.Pieces.{PlanRun}
-use Rattle.cu_store.specs.Held.{IsAmong}
 use Rattle.cu_top.specs.Demo.{IsDemoCalm, WhereTold}
 use Rattle.cu_top.specs.Held.{IsLeftBy, IsLeftEntry}
 use Rattle.cu_top.specs.Prepare.{HasNoOwnInput}

@@ -6,7 +6,8 @@ use Rattle.cu_num.specs.declared.types.Dtype.TheVariants.{Int32}
 use Rattle.cu_grid.specs.Grid.{IsGrid}
 use Rattle.cu_op.specs.Arrays.{array_at, grid_at, maker_at, array_chunk_count}
 use Rattle.cu_op.specs.Layout.{IsArray}
-use Rattle.cu_op.specs.Operation.{writes_of, IsAligned, IsReadable, IsMadeBy}
+use Rattle.cu_op.specs.Operation.{writes_of, IsReadable, IsMadeBy}
+use Rattle.cu_op.specs.Aligned.{IsAligned}
 use Rattle.cu_op.specs.PlanView.{operation_at}
 use Rattle.cu_op.specs.Sound.{Sound, IsOperation}
 use Rattle.cu_op.proofs.KeyTexts.{keys_differ}

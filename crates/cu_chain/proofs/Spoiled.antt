@@ -12,40 +12,35 @@ use Rattle.cu_num.specs.Element.{element_bytes, element_at}
 use Rattle.cu_num.specs.Wrap.{wrapped}
 use Rattle.cu_store.specs.Held.{Contents}
 use Rattle.cu_op.specs.declared.cells.Cell.{Cell}
-use Rattle.cu_op.specs.Cells.{cell}
-use Rattle.cu_op.specs.Arrays.{grid_at}
+use Rattle.cu_op.specs.Chunks.{cell}
+use Rattle.cu_op.specs.Arrays.{grid_at, array_at, maker_at}
 use Rattle.cu_grid.specs.Grid.{IsCoordinate}
-use Rattle.cu_op.specs.Schedule.{key_of, cell_value}
-use Rattle.cu_op.specs.Value.{Elements, stored_inputs}
+use Rattle.cu_op.specs.Schedule.{key_of, cell_value, op_of}
+use Rattle.cu_op.specs.Elements.{Elements}
+use Rattle.cu_op.specs.Value.{stored_inputs, HasTypes}
 use Rattle.cu_state.specs.Left.{IsLeft}
-use Rattle.cu_state.specs.Pieces.{chunks_alone, Chunk}
+use Rattle.cu_state.specs.Pieces.{chunks_alone, Chunk, PlanRun, Piece, IsPiece, piece_key, KeysApart, HoldsPiece}
 use Rattle.cu_history.specs.declared.entry.Entry.{Entry}
 use Rattle.cu_history.specs.declared.entry.EventKind.{EventKind}
 use Rattle.cu_history.specs.declared.entry.EventKind.TheVariants.{Start, Done}
 use Rattle.cu_table.specs.declared.state.TaskId.{TaskId}
 use Rattle.cu_table.specs.declared.state.RunningCopy.{RunningCopy}
-use Rattle.cu_table.specs.Machine.{Machine, opening, copy_started}
+use Rattle.cu_table.specs.Machine.{Machine, opening, copy_started, AreInputsDone, copy_ended, done_now, state_at}
 use Rattle.cu_table.specs.Step.{Settings}
-use Rattle.cu_work.specs.World.{World, Event, Steps, Puts, first_world, put_at, computed, still, IsRight}
+use Rattle.cu_work.specs.World.{World, Event, Steps, Puts, first_world, put_at, computed, still, IsRight, Stops, IsFound, Happens}
 use Rattle.cu_chain.specs.Chain.{chain_plan, chain_arrays}
 use Rattle.cu_num.specs.declared.types.Dtype.TheVariants.{Int32}
 use Rattle.cu_num.specs.Promotion.{promotion}
 use Rattle.cu_name.specs.Keys.{record_key_of, made_prefix_of}
 use Rattle.cu_name.specs.Name.{IsArrayName}
 use Rattle.cu_zarr.specs.Key.{metadata_key_of}
-use Rattle.cu_op.specs.Arrays.{array_at, maker_at}
 use Rattle.cu_op.specs.InputCells.{input_cells}
-use Rattle.cu_op.specs.Schedule.{op_of}
-use Rattle.cu_op.specs.Value.{HasTypes}
 use Rattle.cu_op.proofs.TaskCells.{written_cell}
 use Rattle.cu_state.specs.Names.{HasPlanNames}
-use Rattle.cu_state.specs.Pieces.{PlanRun, Piece, IsPiece, piece_key, KeysApart, HoldsPiece}
 use Rattle.cu_state.proofs.PlanNames.{keys_apart}
 use Rattle.cu_state.proofs.Keeping.{left_at_first, left_alone}
 use Rattle.cu_chain.proofs.Chains.{chain_sound}
 use Rattle.cu_table.specs.Numbers.{IsTask, task_number}
-use Rattle.cu_table.specs.Machine.{AreInputsDone, copy_ended, done_now, state_at}
-use Rattle.cu_work.specs.World.{Stops, IsFound, Happens}
 use Rattle.cu_chain.specs.Weakened.{AllMay, HappensEarly, HappensUnstored, HappensAnyhow}
 
 abbrev pub nothing_done : List Bool

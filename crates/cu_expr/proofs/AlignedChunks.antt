@@ -4,7 +4,7 @@ use Rattle.std.proofs.lemmas.Bool.{cases_eq, le-leb, eq-eqb, ne_eqb}
 use Rattle.std.proofs.lemmas.List.{get_or-drop, length-drop}
 use Rattle.std.proofs.lemmas.List.FromFn.{get_or-map-range_with_len}
 use Rattle.cu_node.specs.declared.info.NodeInfo.{NodeInfo}
-use Rattle.cu_op.specs.Operation.{IsAlignedAlong, IsAligned}
+use Rattle.cu_op.specs.Aligned.{IsAlignedAlong, IsAligned}
 use Rattle.cu_typing.specs.Accepted.{GoesInto}
 use Rattle.cu_typing.specs.Joined.{lead_of, fills, aligned_on, aligned_chunk}
 use Rattle.cu_typing.proofs.Chunks.{length-aligned_chunk}

@@ -4,7 +4,7 @@ use Rattle.std.proofs.lemmas.List.Elements.{All-weaker}
 use Rattle.cu_num.specs.declared.types.Dtype.{Dtype}
 use Rattle.cu_node.specs.declared.element_op.ElementOp.{ElementOp}
 use Rattle.cu_node.specs.declared.info.NodeInfo.{NodeInfo}
-use Rattle.cu_op.specs.Operation.{IsAligned}
+use Rattle.cu_op.specs.Aligned.{IsAligned}
 use Rattle.cu_typing.specs.Accepted.{GoesInto, IsElementwise}
 use Rattle.cu_typing.specs.Joined.{arrays_of}
 use Rattle.cu_typing.specs.declared.argument.Argument.{Argument}

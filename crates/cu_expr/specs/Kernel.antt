@@ -8,7 +8,7 @@ use Rattle.cu_node.specs.Literal.{literal_number}
 use Rattle.cu_node.specs.declared.info.NodeInfo.{NodeInfo}
 use Rattle.cu_grid.specs.Grid.{RegularGrid}
 use Rattle.cu_op.specs.KernelTypes.{KernelFits}
-use Rattle.cu_op.specs.Operation.{IsAligned}
+use Rattle.cu_op.specs.Aligned.{IsAligned}
 use Rattle.cu_op.specs.declared.kernel.Instr.{Instr}
 use Rattle.cu_op.specs.declared.kernel.Instr.TheVariants as instr
 use Rattle.cu_typing.specs.Joined.{arrays_of, aligned_chunk}

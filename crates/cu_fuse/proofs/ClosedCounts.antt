@@ -12,11 +12,10 @@ use Rattle.cu_op.specs.declared.operation.Op.TheVariants.{Map}
 use Rattle.cu_op.specs.declared.operation.Planned.{Planned}
 use Rattle.cu_op.specs.Arrays.{array_at, maker_at, grid_counts, array_chunk_count}
 use Rattle.cu_op.specs.Cells.{tasks_of, task_grid}
-use Rattle.cu_op.specs.Operation.{writes_of}
+use Rattle.cu_op.specs.Operation.{writes_of, renumbered}
 use Rattle.cu_op.specs.PlanView.{PlanView}
 use Rattle.cu_op.specs.Sound.{Sound, cells_by, made_chunks}
 use Rattle.cu_fuse.specs.Close.{remains, remaining_from, remaining_numbers, remaining_array, remaining_arrays, count_behind, renumbered_planned, new_number, closed, fused, setting_of, HasMadeNames}
-use Rattle.cu_op.specs.Operation.{renumbered}
 use Rattle.cu_fuse.specs.Fused.{SettingView, fused_ops, map_inputs, joint}
 use Rattle.cu_fuse.specs.Merge.{merged_op}
 use Rattle.cu_fuse.specs.Runs.{HasWriter}

@@ -7,20 +7,18 @@ use Rattle.cu_op.specs.declared.layout.ArrayInfo.{ArrayInfo}
 use Rattle.cu_op.specs.declared.layout.Layout.{Layout}
 use Rattle.cu_op.specs.declared.operation.Planned.{Planned}
 use Rattle.cu_op.specs.Arrays.{grid_at, maker_at}
-use Rattle.cu_op.specs.Operation.{reads_of, writes_of}
+use Rattle.cu_op.specs.Operation.{reads_of, writes_of, renumbered}
 use Rattle.cu_op.specs.PlanView.{PlanView}
 use Rattle.cu_op.specs.Sound.{Sound}
-use Rattle.cu_op.specs.Value.{Elements, rule, plan_value}
+use Rattle.cu_op.specs.Elements.{Elements}
+use Rattle.cu_op.specs.Value.{rule, plan_value}
 use Rattle.cu_op.proofs.Members.{contains_any}
 use Rattle.cu_op.proofs.Values.{value_solves}
-use Rattle.cu_op.specs.Operation.{renumbered}
-use Rattle.cu_fuse.specs.Close.{renumbered_planned, remaining_numbers, new_number, closed, fused, setting_of}
+use Rattle.cu_fuse.specs.Close.{renumbered_planned, remaining_numbers, new_number, closed, fused, setting_of, remains, has_maker}
 use Rattle.std.proofs.lemmas.Bool.{cases_Bool}
-use Rattle.cu_fuse.specs.Close.{remains, has_maker}
 use Rattle.cu_fuse.specs.Fused.{fused_ops, stands_in}
-use Rattle.cu_fuse.specs.Runs.{HasWriter, CanRun}
+use Rattle.cu_fuse.specs.Runs.{HasWriter, CanRun, AreMade}
 use Rattle.cu_fuse.proofs.Running.{written_left, written_right}
-use Rattle.cu_fuse.specs.Runs.{AreMade}
 use Rattle.cu_fuse.proofs.Closing.{renumbered_rule, writes_renumbered}
 use Rattle.cu_fuse.proofs.FromSound.{fused_sound}
 use Rattle.cu_fuse.proofs.LeftArrays.{kept_layout, placed, placed_once, within, numbers_in, old_array, was_input}

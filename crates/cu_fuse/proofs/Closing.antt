@@ -7,7 +7,8 @@ use Rattle.cu_op.specs.Cells.{task_grid}
 use Rattle.cu_op.specs.Kinds.{kind_of}
 use Rattle.cu_op.specs.Operation.{writes_of, reads_of, Fits, renumbered}
 use Rattle.cu_op.specs.Projection.{projection, scratch_room}
-use Rattle.cu_op.specs.Value.{Elements, rule}
+use Rattle.cu_op.specs.Elements.{Elements}
+use Rattle.cu_op.specs.Value.{rule}
 use Rattle.cu_op.specs.declared.layout.ArrayInfo.{ArrayInfo}
 use Rattle.cu_op.specs.declared.operation.Op.{Op}
 use Rattle.cu_shape.specs.Counts.{largest}

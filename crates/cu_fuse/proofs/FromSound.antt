@@ -8,7 +8,8 @@ use Rattle.cu_op.specs.Arrays.{maker_at}
 use Rattle.cu_op.specs.Operation.{reads_of, writes_of, IsBefore, IsMadeBy}
 use Rattle.cu_op.specs.PlanView.{PlanView, operation_at, no_operation}
 use Rattle.cu_op.specs.Sound.{Sound, IsOperation}
-use Rattle.cu_op.specs.Value.{Elements, rule, plan_value}
+use Rattle.cu_op.specs.Elements.{Elements}
+use Rattle.cu_op.specs.Value.{rule, plan_value}
 use Rattle.cu_op.proofs.Values.{one_maker, value_solves}
 use Rattle.cu_fuse.specs.Close.{setting_of}
 use Rattle.cu_fuse.specs.Fused.{fused_ops}

@@ -10,7 +10,8 @@ use Rattle.cu_op.specs.declared.operation.Planned.{Planned}
 use Rattle.cu_op.specs.Arrays.{array_at, maker_at, grid_at}
 use Rattle.cu_op.specs.PlanView.{PlanView, operation_at, no_operation}
 use Rattle.cu_op.specs.Sound.{Sound}
-use Rattle.cu_op.specs.Value.{Elements, plan_value}
+use Rattle.cu_op.specs.Elements.{Elements}
+use Rattle.cu_op.specs.Value.{plan_value}
 use Rattle.cu_op.proofs.Values.{value_solves}
 use Rattle.cu_fuse.specs.Close.{remains, remaining_from, remaining_numbers, remaining_array, new_number, fused, setting_of, renumbered_planned, HasMadeNames, HasInputsFirst}
 use Rattle.cu_fuse.specs.Fused.{SettingView, fused_ops, map_inputs, joint}

@@ -15,7 +15,7 @@ use Rattle.cu_op.specs.declared.operation.Planned.{Planned}
 use Rattle.cu_op.specs.Arrays.{grid_at}
 use Rattle.cu_op.specs.Operation.{reads_of, writes_of, target_of}
 use Rattle.cu_op.specs.Projection.{instruction_count}
-use Rattle.cu_op.specs.Value.{Elements}
+use Rattle.cu_op.specs.Elements.{Elements}
 use Rattle.cu_op.proofs.Members.{any_contains, contains_any}
 use Rattle.cu_fuse.specs.Fused.{SettingView, is_map, stands_in, is_reader, stands_once, same_grid, joint_op, joint, are_maps, is_between, has_one_reader, has_grid_of, is_small, may_merge, into_reader, merged_away, map_inputs, merged_all, fused_ops}
 use Rattle.cu_op.specs.Numbers.{number_in}

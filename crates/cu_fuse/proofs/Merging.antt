@@ -16,8 +16,9 @@ use Rattle.cu_op.specs.declared.layout.ArrayInfo.{ArrayInfo}
 use Rattle.cu_op.specs.Arrays.{grid_at, type_at}
 use Rattle.cu_op.specs.Kernel.{last_of, instruction_value, results_from, kernel_value}
 use Rattle.cu_op.specs.KernelTypes.{Operand, GivesOperand, KernelFits}
-use Rattle.cu_op.specs.Operation.{IsAligned, MapFits}
-use Rattle.cu_op.specs.Value.{Elements, loaded}
+use Rattle.cu_op.specs.Aligned.{IsAligned}
+use Rattle.cu_op.specs.Kind.Map.{MapFits, loaded}
+use Rattle.cu_op.specs.Elements.{Elements}
 use Rattle.cu_op.proofs.Alike.{same_then}
 use Rattle.cu_fuse.specs.Splice.{put_in, input_behind, spliced}
 use Rattle.cu_fuse.proofs.Splicing.{put_in_here, put_in_same, spliced_value, spliced_fits}

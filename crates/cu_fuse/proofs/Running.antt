@@ -12,7 +12,8 @@ use Rattle.cu_op.specs.declared.operation.Op.TheVariants.{Map}
 use Rattle.cu_op.specs.declared.operation.Planned.{Planned}
 use Rattle.cu_op.specs.Arrays.{grid_at, maker_at}
 use Rattle.cu_op.specs.Operation.{reads_of, writes_of, Fits}
-use Rattle.cu_op.specs.Value.{Elements, rule}
+use Rattle.cu_op.specs.Elements.{Elements}
+use Rattle.cu_op.specs.Value.{rule}
 use Rattle.cu_fuse.specs.Merge.{merged_op, Joins, IsMerged}
 use Rattle.cu_fuse.specs.Runs.{HasWriter, HasReader, IsAtHand, IsNew, CanFollow, CanRun, IsMade, AreMade}
 use Rattle.cu_fuse.specs.Splice.{put_in}

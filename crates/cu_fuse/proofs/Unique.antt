@@ -12,7 +12,8 @@ use Rattle.cu_op.specs.Operation.{reads_of, writes_of, IsBefore, IsReadable}
 use Rattle.cu_op.specs.PlanView.{PlanView, operation_at}
 use Rattle.cu_op.specs.Nested.{IsNested}
 use Rattle.cu_op.specs.Sound.{Sound}
-use Rattle.cu_op.specs.Value.{Elements, plan_value}
+use Rattle.cu_op.specs.Elements.{Elements}
+use Rattle.cu_op.specs.Value.{plan_value}
 use Rattle.cu_op.proofs.Operations.{Fit, nested_writes, reads_inside}
 use Rattle.cu_op.proofs.Plans.{grid_ok}
 use Rattle.cu_op.proofs.Values.{value_solves, rule_reads, reads_listed}

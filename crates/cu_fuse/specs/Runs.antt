@@ -8,7 +8,8 @@ use Rattle.cu_op.specs.declared.operation.Planned.{Planned}
 use Rattle.cu_op.specs.Arrays.{maker_at, grid_at}
 use Rattle.cu_op.specs.Operation.{reads_of, writes_of, Fits}
 use Rattle.cu_op.specs.Projection.{projection}
-use Rattle.cu_op.specs.Value.{Elements, rule}
+use Rattle.cu_op.specs.Elements.{Elements}
+use Rattle.cu_op.specs.Value.{rule}
 
 -- some operation of the list writes the array, and some one reads it
 abbrev pub HasWriter : List Planned → ℕ → Type 0

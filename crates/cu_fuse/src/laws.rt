@@ -2,8 +2,8 @@
 
 ghost use Rattle.std.specs.Prelude.{All, Contains, ◌≡◌, ◌≢◌, ◌<◌, ◌≤◌, ◌+◌, ◌∷◌, ◌++◌, [], ℕ, ℤ, List, Option, Some, length, ◌⊎◌, None, ◌^◌, ◌↔◌, true};
 ghost use Rattle.std.specs.List.{slice_get};
-ghost use Rattle.cu_op.specs.Operation.{renumbered};
-ghost use Rattle.cu_op.specs.Arrays.{HasLayoutOf};
+ghost use Rattle.cu_op.specs.Operation.{renumbered, reads_of, writes_of, Fits};
+ghost use Rattle.cu_op.specs.Arrays.{HasLayoutOf, grid_at, array_at, maker_at};
 ghost use Rattle.cu_fuse.specs.Close.{fused, HasMadeNames, HasInputsFirst};
 ghost use Rattle.cu_fuse.specs.Fused.{SettingView, may_merge};
 ghost use Rattle.cu_fuse.specs.Merge.{Around, apart_ops, joined_ops, Joins, IsMerged};
@@ -12,14 +12,13 @@ ghost use Rattle.cu_fuse.specs.Runs.{CanRun, AreMade};
 ghost use Rattle.cu_fuse.specs.Splice.{spliced, put_in, input_behind};
 ghost use Rattle.cu_name.specs.Keys.{made_prefix_of};
 ghost use Rattle.cu_num.specs.declared.types.Dtype.{Dtype};
-ghost use Rattle.cu_op.specs.Arrays.{grid_at, array_at, maker_at};
 ghost use Rattle.cu_op.specs.Kernel.{kernel_value};
 ghost use Rattle.cu_op.specs.KernelTypes.{KernelFits};
 ghost use Rattle.cu_op.specs.Names.{HasOwnNames};
-ghost use Rattle.cu_op.specs.Operation.{reads_of, writes_of, Fits};
 ghost use Rattle.cu_op.specs.PlanView.{PlanView, operation_at};
 ghost use Rattle.cu_op.specs.Sound.{Sound};
-ghost use Rattle.cu_op.specs.Value.{Elements, rule, plan_value};
+ghost use Rattle.cu_op.specs.Elements.{Elements};
+ghost use Rattle.cu_op.specs.Value.{rule, plan_value};
 ghost use Rattle.cu_op.specs.declared.kernel.Instr.{Instr};
 ghost use Rattle.cu_op.specs.declared.layout.ArrayInfo.{ArrayInfo};
 ghost use Rattle.cu_op.specs.declared.operation.Op.{Op};

@@ -5,7 +5,7 @@ use Rattle.cu_copy.specs.Copies.{rechunked}
 use Rattle.cu_copy.specs.declared.copies.Rechunk.{Rechunk}
 use Rattle.cu_node.specs.declared.info.NodeInfo.{NodeInfo}
 use Rattle.cu_op.specs.Operation.{reads_of}
-use Rattle.cu_op.specs.Value.{Elements}
+use Rattle.cu_op.specs.Elements.{Elements}
 use Rattle.cu_op.specs.declared.layout.ArrayInfo.{ArrayInfo}
 use Rattle.cu_lower_reduce.specs.Copies.{aligned_places, aligned_steps, AreOperands}
 use Rattle.cu_lower_reduce.specs.Steps.{all_made, last_made, made_infos, HaveEach, HaveInfos, IsGiven, AreSteps, SolveSteps}

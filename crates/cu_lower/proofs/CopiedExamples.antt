@@ -12,7 +12,8 @@ use Rattle.cu_num.specs.declared.folds.FoldKind.TheVariants.{Sum}
 use Rattle.cu_num.specs.declared.types.Dtype.TheVariants.{Int16, Int32}
 use Rattle.cu_name.specs.Keys.{made_prefix_of}
 use Rattle.cu_op.specs.Layout.{IsLayout}
-use Rattle.cu_op.specs.Value.{Elements, plan_value}
+use Rattle.cu_op.specs.Elements.{Elements}
+use Rattle.cu_op.specs.Value.{plan_value}
 use Rattle.cu_op.specs.declared.kernel.Instr.TheVariants.{Load, Two}
 use Rattle.cu_op.specs.declared.operation.Op.TheVariants.{Copy, Map, Merge, Mul}
 use Rattle.cu_form.specs.Expression.{Expression, IsNode}

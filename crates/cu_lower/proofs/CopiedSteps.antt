@@ -3,7 +3,7 @@ use Rattle.std.proofs.Common.{ℕ, ◌≤◌, ◌+◌, ℤ, Bool, List, [], ◌�
 use Rattle.std.specs.Prelude.{slice_index}
 use Rattle.cu_copy.specs.Copies.{in_chunks, rechunked}
 use Rattle.cu_shape.specs.Index.{IsInside}
-use Rattle.cu_op.specs.Value.{Elements}
+use Rattle.cu_op.specs.Elements.{Elements}
 use Rattle.cu_op.specs.declared.layout.ArrayInfo.{ArrayInfo}
 use Rattle.cu_form.specs.declared.args.Arg.{Arg}
 use Rattle.cu_form.specs.declared.form.Form.{Form}

@@ -10,8 +10,9 @@ use Rattle.cu_num.specs.declared.functions.Fn2.{Fn2}
 use Rattle.cu_shape.specs.Index.{is_inside}
 use Rattle.cu_name.specs.Name.{is_name}
 use Rattle.cu_op.specs.Layout.{IsLayout}
-use Rattle.cu_op.specs.Value.{Elements, plan_value}
-use Rattle.cu_form.specs.Expression.{IsNode}
+use Rattle.cu_op.specs.Elements.{Elements}
+use Rattle.cu_op.specs.Value.{plan_value}
+use Rattle.cu_form.specs.Expression.{IsNode, Expression}
 use Rattle.cu_form.specs.Form.{takes_args, names_earlier, in_ranges, HasShortIndex}
 use Rattle.cu_meaning.specs.Meaning.{meaning_of}
 use Rattle.cu_lower.specs.Premises.{IsLowerable}
@@ -23,7 +24,6 @@ use Rattle.cu_num.specs.declared.types.Dtype.TheVariants.{Bool, Int32}
 use Rattle.cu_op.specs.declared.kernel.Instr.TheVariants.{Load, Const, Two}
 use Rattle.cu_op.specs.declared.operation.Op.TheVariants.{Map}
 use Rattle.cu_op.specs.Sound.{cell_key}
-use Rattle.cu_form.specs.Expression.{Expression}
 use Rattle.cu_form.specs.declared.args.Arg.{Arg}
 use Rattle.cu_form.specs.declared.expr.Node.{Node}
 use Rattle.cu_node.specs.declared.element_op.ElementOp.{ElementOp}

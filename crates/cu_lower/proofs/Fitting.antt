@@ -4,13 +4,14 @@ use Rattle.std.proofs.Common.{◌≡◌, ℕ, suc, ◌+◌, ◌*◌, true, max, 
 use Rattle.std.proofs.lemmas.List.{length-append, length-map, get_or_default}
 use Rattle.std.proofs.lemmas.List.Elements.{All-nil, All-cons}
 use Rattle.std.proofs.lemmas.List.Sums.{sum_by-cons}
-use Rattle.cu_num.specs.Dtype.{size_of}
+use Rattle.cu_num.specs.Dtype.{size_of, InRange}
 use Rattle.cu_num.specs.declared.types.Dtype.{Dtype}
-use Rattle.cu_shape.specs.Index.{product}
+use Rattle.cu_shape.specs.Index.{product, IsInside}
 use Rattle.cu_grid.specs.Grid.{RegularGrid}
 use Rattle.cu_op.specs.Arrays.{grid_at, type_at, chunk_room, grid_counts}
 use Rattle.cu_op.specs.KernelTypes.{KernelFits}
-use Rattle.cu_op.specs.Operation.{IsAligned, MapFits}
+use Rattle.cu_op.specs.Aligned.{IsAligned}
+use Rattle.cu_op.specs.Kind.Map.{MapFits}
 use Rattle.cu_op.specs.Projection.{projection}
 use Rattle.cu_op.proofs.Lists.{greatest_push}
 use Rattle.cu_op.specs.declared.kernel.Instr.{Instr}
@@ -22,10 +23,9 @@ use Rattle.cu_form.specs.declared.form.Form.{Form}
 use Rattle.cu_node.specs.Info.{info_at}
 use Rattle.cu_node.specs.declared.info.NodeInfo.{NodeInfo}
 use Rattle.cu_typing.specs.Accepted.{IsElementwise}
-use Rattle.cu_expr.specs.Kernel.{aligned_grid, result_grid}
+use Rattle.cu_expr.specs.Kernel.{aligned_grid, result_grid, loads_from, kernel_of, types_of, function_of}
 use Rattle.cu_expr.proofs.Maps.{elementwise_map}
 use Rattle.cu_typing.specs.Joined.{arrays_of}
-use Rattle.cu_expr.specs.Kernel.{loads_from, kernel_of, types_of, function_of}
 use Rattle.cu_typing.specs.declared.argument.Argument.{Argument}
 use Rattle.cu_typing.specs.declared.argument.Argument.TheVariants.{Array, Written}
 use Rattle.cu_expr.specs.Typing.{argument_of}
@@ -33,13 +33,11 @@ use Rattle.cu_copy.specs.Copies.{rechunked}
 use Rattle.cu_need.specs.Chunks.{aligned_bytes, arrays_in, chunk_bytes}
 use Rattle.cu_need.specs.Need.{own_need}
 use Rattle.cu_need.specs.Operands.{in_aligned, operands_of}
-use Rattle.cu_num.specs.Dtype.{InRange}
-use Rattle.cu_shape.specs.Index.{IsInside}
 use Rattle.cu_pull.specs.Fits.{FitsPull}
 use Rattle.cu_pull.specs.Pull.{origin_of}
 use Rattle.cu_pull.specs.declared.pull.Pull.{Pull as View}
 use Rattle.cu_pull.specs.declared.pull.Pull.TheVariants as views
-use Rattle.cu_op.specs.Operation.{Converts, PullFits, shapes_at}
+use Rattle.cu_op.specs.Kind.Pull.{Converts, PullFits, shapes_at}
 use Rattle.cu_need.specs.View.{is_view, view_need}
 use Rattle.cu_lower_view.specs.Sources.{source_shapes}
 use Rattle.cu_lower_view.specs.Typed.{IsTypedView, IsPull, SuitsType}

@@ -8,7 +8,8 @@ use Rattle.cu_name.specs.Name.{IsArrayName}
 use Rattle.cu_shape.specs.Index.{IsInside}
 use Rattle.cu_op.specs.Arrays.{array_at, maker_at}
 use Rattle.cu_op.specs.PlanView.{operation_at}
-use Rattle.cu_op.specs.Value.{Elements, plan_value}
+use Rattle.cu_op.specs.Elements.{Elements}
+use Rattle.cu_op.specs.Value.{plan_value}
 use Rattle.cu_op.specs.declared.layout.ArrayInfo.{ArrayInfo}
 use Rattle.cu_state.specs.Names.{HasPlanNames}
 use Rattle.cu_form.specs.Expression.{Expression}

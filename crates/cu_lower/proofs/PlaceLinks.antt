@@ -9,7 +9,7 @@ use Rattle.std.proofs.lemmas.Bool.Decides.{eqb_tells}
 use Rattle.cu_shape.specs.Index.{product, place_of, index_at, sums, indices_of}
 use Rattle.cu_shape.proofs.Axes.{get_or-axis_by_axis}
 use Rattle.cu_shape.proofs.Places.{place-index, mul_positive, length-index_at}
-use Rattle.cu_op.specs.Operation.{HasPlaceAxis}
+use Rattle.cu_op.specs.Places.{HasPlaceAxis}
 use Rattle.cu_reduce.specs.Folds.{least_of, greatest_of, all_some}
 use Rattle.cu_reduce.specs.Groups.{groups_from, groups_of, HasElements}
 use Rattle.cu_reduce.specs.Places.{Found, best_of, best_place, is_sought, counted_place, found_at, best_in, numbered}

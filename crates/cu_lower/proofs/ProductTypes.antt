@@ -12,12 +12,11 @@ use Rattle.cu_num.proofs.Promoted.{promotion_apart}
 use Rattle.cu_shape.specs.Index.{product}
 use Rattle.cu_reduce.specs.Products.{batch_of}
 use Rattle.cu_op.specs.Matrix.{batch_rank, batch_grid, columns_of, right_inner}
-use Rattle.cu_op.specs.Operation.{IsAligned}
+use Rattle.cu_op.specs.Aligned.{IsAligned}
 use Rattle.cu_copy.specs.Copies.{rechunked}
 use Rattle.cu_node.specs.Info.{IsInfo, info_of}
 use Rattle.cu_node.specs.declared.info.NodeInfo.{NodeInfo}
-use Rattle.cu_typing.specs.Accepted.{GoesInto}
-use Rattle.cu_typing.specs.Accepted.{IsAcceptedProduct as HasPassed}
+use Rattle.cu_typing.specs.Accepted.{GoesInto, IsAcceptedProduct as HasPassed}
 use Rattle.cu_typing.specs.Joined.{aligned_chunk, aligned_on, chunk_on, fills, lead_of}
 use Rattle.cu_typing.specs.Matmul.{leading, rows, columns, left_summed, leading_array, leading_arrays, leading_chunk, right_aligned, typed_matmul}
 use Rattle.cu_typing.proofs.PassedTogether.{product_passed}

@@ -10,7 +10,8 @@ use Rattle.cu_name.specs.Keys.{made_prefix_of}
 use Rattle.cu_num.specs.declared.folds.FoldKind.TheVariants.{Sum}
 use Rattle.cu_num.specs.declared.types.Dtype.TheVariants.{Int32, Int64}
 use Rattle.cu_op.specs.Layout.{IsLayout}
-use Rattle.cu_op.specs.Value.{Elements, plan_value}
+use Rattle.cu_op.specs.Elements.{Elements}
+use Rattle.cu_op.specs.Value.{plan_value}
 use Rattle.cu_op.specs.declared.operation.Op.TheVariants.{Fold, Merge, PairFold, PairMerge, Mul}
 use Rattle.cu_form.specs.Expression.{Expression, IsNode}
 use Rattle.cu_form.specs.Form.{HasShortIndex}

@@ -14,7 +14,7 @@ use Rattle.cu_form.specs.Form.{are_arrays, is_array}
 use Rattle.cu_form.specs.declared.args.Arg.{Arg}
 use Rattle.cu_node.specs.Info.{IsInfo}
 use Rattle.cu_node.specs.declared.info.NodeInfo.{NodeInfo}
-use Rattle.cu_op.specs.Operation.{HasPlaceAxis}
+use Rattle.cu_op.specs.Places.{HasPlaceAxis}
 use Rattle.cu_op.specs.Partial.{partial_grid, IsSqueezed}
 use Rattle.cu_pull.specs.Pull.{has_axis}
 use Rattle.cu_reduce.specs.Groups.{groups_of}

@@ -9,7 +9,8 @@ use Rattle.cu_shape.specs.Index.{IsInside}
 use Rattle.cu_reduce.specs.Folds.{reduced_to}
 use Rattle.cu_reduce.specs.Places.{best_in}
 use Rattle.cu_node.specs.declared.info.NodeInfo.{NodeInfo}
-use Rattle.cu_op.specs.Value.{Elements, counted_at, pair_part}
+use Rattle.cu_op.specs.Elements.{Elements}
+use Rattle.cu_op.specs.Places.{counted_at, pair_part}
 use Rattle.cu_op.specs.declared.layout.ArrayInfo.{ArrayInfo}
 use Rattle.cu_form.specs.declared.form.Form.{Form}
 use Rattle.cu_pull.specs.declared.pull.Pull.{Pull as View}

@@ -11,7 +11,8 @@ use Rattle.cu_op.specs.Cells.{tasks_of}
 use Rattle.cu_op.specs.Operation.{writes_of}
 use Rattle.cu_op.specs.PlanView.{operation_at, no_operation}
 use Rattle.cu_op.specs.Sound.{made_chunks}
-use Rattle.cu_op.specs.Value.{Elements, rule}
+use Rattle.cu_op.specs.Elements.{Elements}
+use Rattle.cu_op.specs.Value.{rule}
 use Rattle.cu_op.specs.declared.layout.ArrayInfo.{ArrayInfo}
 use Rattle.cu_op.specs.declared.layout.Layout.{Layout}
 use Rattle.cu_op.specs.declared.operation.Planned.{Planned}

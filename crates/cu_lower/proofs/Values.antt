@@ -9,8 +9,10 @@ use Rattle.cu_shape.specs.Index.{IsInside, back}
 use Rattle.cu_grid.specs.Grid.{RegularGrid}
 use Rattle.cu_op.specs.Arrays.{grid_at}
 use Rattle.cu_op.specs.Kernel.{kernel_value}
-use Rattle.cu_op.specs.Operation.{IsAligned}
-use Rattle.cu_op.specs.Value.{Elements, loaded, pulled}
+use Rattle.cu_op.specs.Aligned.{IsAligned}
+use Rattle.cu_op.specs.Elements.{Elements}
+use Rattle.cu_op.specs.Kind.Map.{loaded}
+use Rattle.cu_op.specs.Kind.Pull.{pulled}
 use Rattle.cu_op.specs.declared.kernel.Instr.{Instr}
 use Rattle.cu_op.specs.declared.layout.ArrayInfo.{ArrayInfo}
 use Rattle.cu_pull.specs.Pull.{origin_of, IsInSources}

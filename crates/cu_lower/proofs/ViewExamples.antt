@@ -8,7 +8,8 @@ use Rattle.cu_num.specs.Dtype.{InRange}
 use Rattle.cu_num.specs.declared.types.Dtype.TheVariants.{Int32, Int64}
 use Rattle.cu_pull.specs.declared.pull.Pull.TheVariants.{Slice, Concat, Arange}
 use Rattle.cu_op.specs.Layout.{IsLayout}
-use Rattle.cu_op.specs.Value.{Elements, plan_value}
+use Rattle.cu_op.specs.Elements.{Elements}
+use Rattle.cu_op.specs.Value.{plan_value}
 use Rattle.cu_op.specs.declared.operation.Op.TheVariants.{Pull}
 use Rattle.cu_form.specs.Expression.{Expression, IsNode}
 use Rattle.cu_form.specs.Form.{HasShortIndex}

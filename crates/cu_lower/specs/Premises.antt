@@ -8,7 +8,8 @@ use Rattle.cu_op.specs.Layout.{IsLayout}
 use Rattle.cu_op.specs.Cells.{tasks_of}
 use Rattle.cu_op.specs.PlanView.{PlanView, operation_at}
 use Rattle.cu_op.specs.Sound.{made_chunks}
-use Rattle.cu_op.specs.Value.{Elements, HasTypes}
+use Rattle.cu_op.specs.Elements.{Elements}
+use Rattle.cu_op.specs.Value.{HasTypes}
 use Rattle.cu_op.specs.declared.layout.ArrayInfo.{ArrayInfo}
 use Rattle.cu_op.specs.declared.operation.Planned.{Planned}
 use Rattle.cu_name.specs.Keys.{record_key_of, made_prefix_of}

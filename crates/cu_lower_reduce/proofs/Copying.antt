@@ -11,8 +11,8 @@ use Rattle.cu_rechunk.specs.declared.staging.Staging.{Staging}
 use Rattle.cu_grid.specs.Grid.{RegularGrid, IsGrid}
 use Rattle.cu_op.specs.Arrays.{chunk_room, type_at}
 use Rattle.cu_op.specs.Nested.{IsNested}
-use Rattle.cu_op.specs.Operation.{region_grid}
-use Rattle.cu_op.specs.Value.{Elements}
+use Rattle.cu_op.specs.Kind.Copy.{region_grid}
+use Rattle.cu_op.specs.Elements.{Elements}
 use Rattle.cu_op.specs.declared.layout.ArrayInfo.{ArrayInfo}
 use Rattle.cu_node.specs.Info.{IsInfo, info_of}
 use Rattle.cu_node.specs.declared.info.NodeInfo.{NodeInfo}

@@ -15,7 +15,8 @@ use Rattle.cu_reduce.proofs.Grouped.{length-groups_from}
 use Rattle.cu_pull.specs.Pull.{has_axis}
 use Rattle.cu_pull.specs.declared.axes.Axes.{Axes}
 use Rattle.cu_op.specs.Partial.{partial_grid, chunk_groups, merge_groups, IsSqueezed}
-use Rattle.cu_op.specs.Value.{Elements, rule}
+use Rattle.cu_op.specs.Elements.{Elements}
+use Rattle.cu_op.specs.Value.{rule}
 use Rattle.cu_op.specs.declared.layout.ArrayInfo.{ArrayInfo}
 use Rattle.cu_op.specs.declared.operation.Op.TheVariants.{Fold, Merge}
 use Rattle.cu_node.specs.declared.info.NodeInfo.{NodeInfo}

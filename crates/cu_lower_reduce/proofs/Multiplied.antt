@@ -7,9 +7,9 @@ use Rattle.cu_num.specs.Dtype.{IsInteger}
 use Rattle.cu_num.specs.Promotion.{promotion}
 use Rattle.cu_num.specs.declared.folds.FoldKind.TheVariants.{Sum}
 use Rattle.cu_grid.specs.Grid.{RegularGrid}
-use Rattle.cu_op.specs.Matrix.{batch_rank, rows_of, columns_of, left_inner, right_inner, batch_grid, HasParts}
-use Rattle.cu_op.specs.Matrix.{inner_chunk_count as chunks_between}
-use Rattle.cu_op.specs.Operation.{Fits, IsAligned}
+use Rattle.cu_op.specs.Matrix.{batch_rank, rows_of, columns_of, left_inner, right_inner, batch_grid, HasParts, inner_chunk_count as chunks_between}
+use Rattle.cu_op.specs.Operation.{Fits}
+use Rattle.cu_op.specs.Aligned.{IsAligned}
 use Rattle.cu_op.specs.declared.layout.ArrayInfo.{ArrayInfo}
 use Rattle.cu_op.specs.declared.operation.Op.TheVariants.{Mul}
 use Rattle.cu_node.specs.declared.info.NodeInfo.{NodeInfo}

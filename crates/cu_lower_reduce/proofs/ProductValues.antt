@@ -15,7 +15,9 @@ use Rattle.cu_reduce.specs.Products.{outer_axes, left_index, right_index}
 use Rattle.cu_reduce.proofs.Ranges.{map-map}
 use Rattle.cu_pull.specs.Pull.{has_axis}
 use Rattle.cu_op.specs.Matrix.{product_rank, rows_of, columns_of, left_inner, inner_places, product_at}
-use Rattle.cu_op.specs.Value.{Elements, rule, products_at}
+use Rattle.cu_op.specs.Elements.{Elements}
+use Rattle.cu_op.specs.Value.{rule}
+use Rattle.cu_op.specs.Kind.Mul.{products_at}
 use Rattle.cu_op.specs.declared.layout.ArrayInfo.{ArrayInfo}
 use Rattle.cu_op.specs.declared.operation.Op.TheVariants.{Mul}
 use Rattle.cu_node.specs.declared.info.NodeInfo.{NodeInfo}

@@ -15,7 +15,9 @@ use Rattle.cu_reduce.proofs.Regions.{region_all}
 use Rattle.cu_pull.specs.Pull.{has_axis}
 use Rattle.cu_pull.specs.declared.axes.Axes.{Axes}
 use Rattle.cu_op.specs.Partial.{chunk_groups, place_groups, merge_groups}
-use Rattle.cu_op.specs.Value.{Elements, rule, counted_at, pair_part}
+use Rattle.cu_op.specs.Elements.{Elements}
+use Rattle.cu_op.specs.Value.{rule}
+use Rattle.cu_op.specs.Places.{counted_at, pair_part}
 use Rattle.cu_op.specs.declared.layout.ArrayInfo.{ArrayInfo}
 use Rattle.cu_op.specs.declared.operation.Op.TheVariants.{PairFold, PairMerge}
 use Rattle.cu_node.specs.declared.info.NodeInfo.{NodeInfo}

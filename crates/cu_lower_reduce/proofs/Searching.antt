@@ -11,9 +11,9 @@ use Rattle.cu_reduce.specs.Places.{is_sought}
 use Rattle.cu_pull.specs.Pull.{has_axis}
 use Rattle.cu_pull.specs.declared.axes.Axes.{Axes}
 use Rattle.cu_op.specs.Arrays.{grid_at}
-use Rattle.cu_op.specs.Operation.{Fits, StoresValues, HasPlaceAxis}
+use Rattle.cu_op.specs.Operation.{Fits}
+use Rattle.cu_op.specs.Places.{StoresValues, HasPlaceAxis, value_room}
 use Rattle.cu_op.specs.Partial.{partial_grid, chunk_groups, place_groups, merge_groups, IsSqueezed}
-use Rattle.cu_op.specs.Projection.{value_room}
 use Rattle.cu_op.specs.declared.layout.ArrayInfo.{ArrayInfo}
 use Rattle.cu_op.specs.declared.operation.Op.TheVariants.{PairFold, PairMerge}
 use Rattle.cu_node.specs.Info.{info_of}

@@ -1,13 +1,12 @@
 -- The steps of a product of matrices (this project's own rule): a product for each chunk of the inner axis, and a merge for each round.
-use Rattle.std.specs.Prelude.{◌≡◌, ℕ, ◌≤◌, ◌^◌, List, ◌∷◌, ◌++◌, map, length, Some, None}
+use Rattle.std.specs.Prelude.{◌≡◌, ℕ, ◌≤◌, ◌^◌, List, ◌∷◌, ◌++◌, map, length, Some, None, ℤ, Option}
 use Rattle.std.specs.List.{range_with_len}
-use Rattle.std.specs.Prelude.{ℤ, Option}
 use Rattle.cu_num.specs.Dtype.{IsInteger}
 use Rattle.cu_num.specs.Promotion.{promotion}
 use Rattle.cu_num.specs.declared.folds.FoldKind.TheVariants.{Sum}
 use Rattle.cu_reduce.specs.Products.{left_index, right_index}
 use Rattle.cu_op.specs.Matrix.{batch_rank, rows_of, columns_of, left_inner, right_inner, batch_grid, product_at}
-use Rattle.cu_op.specs.Operation.{IsAligned}
+use Rattle.cu_op.specs.Aligned.{IsAligned}
 use Rattle.cu_op.specs.declared.operation.Op.TheVariants.{Mul}
 use Rattle.cu_node.specs.Info.{IsInfo}
 use Rattle.cu_node.specs.declared.info.NodeInfo.{NodeInfo}

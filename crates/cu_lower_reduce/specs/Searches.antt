@@ -5,7 +5,7 @@ use Rattle.cu_num.specs.Dtype.{size_of}
 use Rattle.cu_num.specs.declared.types.Dtype.TheVariants.{Int64}
 use Rattle.cu_shape.specs.Index.{product}
 use Rattle.cu_reduce.specs.Groups.{HasElements}
-use Rattle.cu_op.specs.Operation.{HasPlaceAxis}
+use Rattle.cu_op.specs.Places.{HasPlaceAxis}
 use Rattle.cu_op.specs.Partial.{partial_grid, IsSqueezed}
 use Rattle.cu_op.specs.declared.operation.Op.TheVariants.{PairFold, PairMerge}
 use Rattle.cu_node.specs.Info.{IsInfo}

@@ -10,7 +10,8 @@ use Rattle.cu_op.specs.Arrays.{grid_at, type_at}
 use Rattle.cu_op.specs.Cells.{tasks_of}
 use Rattle.cu_op.specs.Operation.{reads_of, writes_of, Fits}
 use Rattle.cu_op.specs.Projection.{projection}
-use Rattle.cu_op.specs.Value.{Elements, rule}
+use Rattle.cu_op.specs.Elements.{Elements}
+use Rattle.cu_op.specs.Value.{rule}
 use Rattle.cu_op.specs.declared.layout.ArrayInfo.{ArrayInfo}
 use Rattle.cu_op.specs.declared.operation.Op.{Op}
 use Rattle.cu_op.specs.declared.operation.Op.TheVariants.{Copy}

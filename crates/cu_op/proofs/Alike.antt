@@ -1,6 +1,7 @@
 -- What depends on some elements alone is the same where these are.
 use Rattle.cu_op.specs.Kernel.{kernel_value, last_of, instruction_value, results_from}
-use Rattle.cu_op.specs.Value.{Elements, pulled}
+use Rattle.cu_op.specs.Elements.{Elements}
+use Rattle.cu_op.specs.Kind.Pull.{pulled}
 use Rattle.cu_op.specs.declared.kernel.Instr.{Instr}
 use Rattle.cu_op.specs.declared.kernel.Instr.TheVariants.{Load}
 use Rattle.cu_pull.specs.declared.provenance.Provenance.{Provenance}

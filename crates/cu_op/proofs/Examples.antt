@@ -11,12 +11,14 @@ use Rattle.cu_op.specs.declared.kernel.Instr.TheVariants.{Load, Const, Two, Sele
 use Rattle.cu_op.specs.declared.layout.ArrayInfo.{ArrayInfo}
 use Rattle.cu_op.specs.declared.operation.Op.{Op}
 use Rattle.cu_op.specs.declared.operation.Op.TheVariants.{Map, Pull}
-use Rattle.cu_op.specs.Cells.{cell, tasks_of}
+use Rattle.cu_op.specs.Chunks.{cell}
+use Rattle.cu_op.specs.Cells.{tasks_of}
 use Rattle.cu_op.specs.Walks.{written_chunks, read_chunks}
 use Rattle.cu_op.specs.Kernel.{kernel_value}
 use Rattle.cu_op.specs.PlanView.{PlanView}
 use Rattle.cu_op.specs.Projection.{projection}
-use Rattle.cu_op.specs.Value.{Elements, plan_value}
+use Rattle.cu_op.specs.Elements.{Elements}
+use Rattle.cu_op.specs.Value.{plan_value}
 
 unfoldable array : List ℕ → List ℕ → Option ℕ → ArrayInfo
 array shape chunk made = record {

@@ -11,9 +11,8 @@ use Rattle.cu_grid.proofs.Parting.{only_chunk}
 use Rattle.cu_op.specs.declared.cells.Cell.{Cell}
 use Rattle.cu_op.specs.declared.layout.ArrayInfo.{ArrayInfo}
 use Rattle.cu_op.specs.Arrays.{grid_at, grid_counts}
-use Rattle.cu_op.specs.Cells.{cell}
-use Rattle.cu_op.specs.InputCells.{chunk_where}
-use Rattle.cu_op.specs.Walks.{walk, IsWalkOver, walk_cells}
+use Rattle.cu_op.specs.Chunks.{cell, chunk_where, walk}
+use Rattle.cu_op.specs.Walks.{IsWalkOver, walk_cells}
 use Rattle.cu_op.proofs.Nested.{begins_within}
 use Rattle.cu_op.proofs.Spans.{IsSpanOn, IsSpan}
 use Rattle.cu_op.proofs.Members.{bool_cases}

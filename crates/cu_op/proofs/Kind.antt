@@ -20,14 +20,15 @@ use Rattle.cu_op.specs.Kind.{Kind}
 use Rattle.cu_op.specs.Kinds.{kind_of}
 use Rattle.cu_op.specs.Layout.{IsArray}
 use Rattle.cu_op.specs.Schedule.{IsNested}
-use Rattle.cu_op.specs.Value.{Elements}
-use Rattle.cu_op.specs.Walks.{walk, IsWalkOver, cells_of_walks}
+use Rattle.cu_op.specs.Elements.{Elements}
+use Rattle.cu_op.specs.Chunks.{walk}
+use Rattle.cu_op.specs.Walks.{IsWalkOver, cells_of_walks}
 use Rattle.cu_op.specs.declared.cells.Cell.{Cell}
 use Rattle.cu_op.specs.declared.layout.ArrayInfo.{ArrayInfo}
 use Rattle.cu_op.specs.declared.walks.Walk.{Walk}
 use Rattle.cu_shape.specs.Counts.{at_least_one}
 use Rattle.cu_shape.specs.Index.{IsInside, product}
-use Rattle.std.proofs.Common.{◌≡◌, ℕ, ◌<◌, List, length, All, Contains, Some, ℤ, map, ◌≤◌, ◌≢◌, ◌^◌}
+use Rattle.std.proofs.Common.{◌≡◌, ℕ, ◌<◌, List, length, All, Contains, Some, ℤ, map, ◌≤◌, ◌≢◌, ◌^◌, None, [], ◌∷◌}
 
 -- its arrays are among those of a plan, which stand in chunks, and it fits them
 pub record Stands (arrays : List ArrayInfo) (k : Kind) : Type 0 where
@@ -107,3 +108,9 @@ pub record Laws (k : Kind) : Type 0 where
   pub outputs_few : (arrays : List ArrayInfo) → All IsArray arrays → k.output_room arrays ≤ 2 ^ 44
   -- over arrays with other numbers
   pub renumbered : (f : ℕ → ℕ) → IsRenumbered f k (kind_of (k.renumbered f))
+  -- a search compares an array that it reads, and writes the array of the values before that of the places
+  pub compares : (array : ℕ) → k.compared ≡ Some array → Contains k.reads array
+  pub stores : (array : ℕ) → k.stored ≡ Some array → k.writes ≡ array ∷ k.target ∷ []
+  pub stores_none : k.stored ≡ None → k.writes ≡ k.target ∷ []
+  -- the values have the type of what is compared
+  pub stored_type : (arrays : List ArrayInfo) (array : ℕ) → k.fits arrays → k.stored ≡ Some array → (source : ℕ) × (k.compared ≡ Some source) × (type_at arrays array ≡ type_at arrays source)

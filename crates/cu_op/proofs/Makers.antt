@@ -7,7 +7,8 @@ use Rattle.cu_grid.specs.Counts.{chunk_lo}
 use Rattle.cu_grid.specs.Grid.{IsGrid, IsCoordinate}
 use Rattle.cu_grid.proofs.Regions.{coordinate-length}
 use Rattle.cu_op.specs.Arrays.{grid_at, grid_counts, maker_at}
-use Rattle.cu_op.specs.Cells.{cell, task_grid}
+use Rattle.cu_op.specs.Chunks.{cell}
+use Rattle.cu_op.specs.Cells.{task_grid}
 use Rattle.cu_op.specs.Operation.{writes_of}
 use Rattle.cu_op.specs.PlanView.{PlanView}
 use Rattle.cu_op.specs.Schedule.{op_of, task_at, WritesCell, IsNested}

@@ -6,8 +6,10 @@ use Rattle.cu_grid.specs.Counts.{IsRegion, IsWithin}
 use Rattle.cu_grid.specs.Grid.{RegularGrid}
 use Rattle.cu_op.specs.declared.layout.ArrayInfo.{ArrayInfo}
 use Rattle.cu_op.specs.Arrays.{grid_at}
-use Rattle.cu_op.specs.Operation.{IsAlignedAlong, IsAligned, IsNoLonger}
-use Rattle.cu_op.specs.Walks.{IsWalkOver, back_as, read_walk}
+use Rattle.cu_op.specs.Aligned.{IsAlignedAlong, IsAligned}
+use Rattle.cu_op.specs.Operation.{IsNoLonger}
+use Rattle.cu_op.specs.Walks.{IsWalkOver, back_as}
+use Rattle.cu_op.specs.Kind.Map.{read_walk}
 
 -- an axis of size 1 is read whole
 region_on : (n c m d l h : ℕ) → ((n ≡ m) × (c ≡ d)) ⊎ ((n ≡ 1) × (m ≢ 1)) → l ≤ h → h ≤ m

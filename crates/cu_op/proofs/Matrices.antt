@@ -15,8 +15,9 @@ use Rattle.cu_op.specs.declared.layout.ArrayInfo.{ArrayInfo}
 use Rattle.cu_op.specs.Arrays.{grid_at}
 use Rattle.cu_op.specs.Matrix.{batch_rank, product_rank, left_inner, right_inner, batch_grid, inner_chunk_count, product_index, part_number, end_number, inner_lo, inner_hi, inner_places, first_inner, end_inner, IsProductRegion}
 use Rattle.cu_op.specs.Broadcast.{back_as}
-use Rattle.cu_op.specs.Operation.{MulFits, IsAligned}
-use Rattle.cu_op.specs.Walks.{walk, left_walk, right_walk}
+use Rattle.cu_op.specs.Kind.Mul.{MulFits, left_walk, right_walk}
+use Rattle.cu_op.specs.Aligned.{IsAligned}
+use Rattle.cu_op.specs.Chunks.{walk}
 use Rattle.cu_op.proofs.Filled.{IsFilled, filled_at, filled_take, filled_region, filled_lengths, within_take, within_at, past, other_default, below_range}
 use Rattle.cu_op.proofs.Grouped.{begins_on}
 use Rattle.cu_op.proofs.MatrixBoxes.{BatchBegins, aligned_begins, take_products, long_back, left_begins, right_begins, left_index_long, right_index_long}

@@ -8,7 +8,7 @@ use Rattle.cu_grid.specs.Grid.{RegularGrid}
 use Rattle.cu_reduce.specs.Products.{batch_of, outer_axes, left_index, right_index}
 use Rattle.cu_op.specs.Broadcast.{back_as}
 use Rattle.cu_op.specs.Matrix.{batch_rank, product_rank, left_inner, right_inner, product_index, left_numbers, right_numbers}
-use Rattle.cu_op.specs.Operation.{IsAlignedAlong, IsAligned}
+use Rattle.cu_op.specs.Aligned.{IsAlignedAlong, IsAligned}
 use Rattle.cu_op.proofs.Broadcasting.{axes_drop}
 use Rattle.cu_op.proofs.MatrixRegions.{matrix_axes, vector_axis, vector_first, left_index_at, right_index_at}
 

@@ -7,9 +7,8 @@ use Rattle.cu_op.proofs.Results.{pair_last}
 use Rattle.cu_op.specs.Arrays.{grid_at, type_at, chunk_room, HasLayoutOf}
 use Rattle.cu_op.specs.Kind.Pull.{shapes_at}
 use Rattle.cu_op.specs.Layout.{layout_view}
-use Rattle.cu_op.specs.Operation.{pair_writes, StoresValues, HasPlaceAxis}
+use Rattle.cu_op.specs.Places.{pair_writes, StoresValues, HasPlaceAxis, PairFits, value_room}
 use Rattle.cu_op.specs.Partial.{partial_grid, IsSqueezed}
-use Rattle.cu_op.specs.Places.{PairFits, value_room}
 use Rattle.cu_op.specs.Reductions.{FoldFits, IsMergeAlong}
 use Rattle.cu_op.specs.declared.layout.ArrayInfo.{ArrayInfo}
 use Rattle.cu_op.specs.declared.layout.Layout.{Layout}

@@ -15,7 +15,8 @@ use Rattle.cu_op.specs.Kinds.{kind_of}
 use Rattle.cu_op.specs.Operation.{writes_of, reads_of, target_of, IsMadeBy, IsReadable, Fits}
 use Rattle.cu_op.specs.Schedule.{IsNested}
 use Rattle.cu_op.specs.Value.{ReadsAt}
-use Rattle.cu_op.specs.Walks.{walk, IsWalkOver, region_walks, input_walks}
+use Rattle.cu_op.specs.Chunks.{walk}
+use Rattle.cu_op.specs.Walks.{IsWalkOver, region_walks, input_walks}
 use Rattle.cu_op.specs.declared.layout.ArrayInfo.{ArrayInfo}
 use Rattle.cu_op.specs.declared.operation.Op.{Op}
 use Rattle.cu_op.specs.declared.walks.Walk.{Walk}

@@ -16,8 +16,7 @@ use Rattle.cu_reduce.specs.Folds.{all_some}
 use Rattle.cu_reduce.specs.Places.{Found, counted_place, found_at, better_of, better_of_some, is_better, best_of, best_in}
 use Rattle.cu_op.specs.declared.layout.ArrayInfo.{ArrayInfo}
 use Rattle.cu_op.specs.Arrays.{type_at}
-use Rattle.cu_op.specs.Operation.{pair_writes, StoresValues, HasPlaceAxis}
-use Rattle.cu_op.specs.Value.{pair_part}
+use Rattle.cu_op.specs.Places.{pair_writes, StoresValues, HasPlaceAxis, pair_part}
 
 pub some_map : {A B : Type 0} (f : A → B) (o : Option A) (y : B) → option_map f o ≡ Some y → (x : A) × (o ≡ Some x) × (f x ≡ y)
 some_map f None y e = cc

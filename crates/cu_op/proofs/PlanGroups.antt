@@ -3,7 +3,7 @@ use Rattle.cu_grid.specs.Counts.{IsWithin}
 use Rattle.cu_grid.specs.Grid.{RegularGrid, IsGrid}
 use Rattle.cu_op.proofs.Grouped.{length-groups}
 use Rattle.cu_op.specs.Arrays.{grid_at}
-use Rattle.cu_op.specs.Operation.{ArePairs}
+use Rattle.cu_op.specs.Places.{ArePairs}
 use Rattle.cu_op.specs.Partial.{partial_grid, IsSqueezed, partial_lo, partial_hi, merge_groups}
 use Rattle.cu_op.specs.declared.layout.ArrayInfo.{ArrayInfo}
 use Rattle.cu_reduce.specs.Groups.{groups_of, group_lo, group_hi, group_of}

@@ -15,7 +15,8 @@ use Rattle.cu_op.specs.Operation.{writes_of, reads_of, IsReadable, IsBefore}
 use Rattle.cu_op.specs.PlanView.{PlanView, operation_at}
 use Rattle.cu_op.specs.Schedule.{IsNested}
 use Rattle.cu_op.specs.Sound.{Sound, IsOperation}
-use Rattle.cu_op.specs.Value.{Elements, plan_value, updated, values_after, stored_inputs, HasTypes}
+use Rattle.cu_op.specs.Elements.{Elements}
+use Rattle.cu_op.specs.Value.{plan_value, updated, values_after, stored_inputs, HasTypes}
 use Rattle.cu_op.specs.declared.layout.ArrayInfo.{ArrayInfo}
 use Rattle.cu_op.specs.declared.operation.Planned.{Planned}
 use Rattle.cu_shape.specs.Index.{IsInside, place_of, quotients, remainders}

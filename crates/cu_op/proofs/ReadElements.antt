@@ -6,7 +6,7 @@ use Rattle.cu_shape.specs.Index.{IsInside, back_along, back, quotients}
 use Rattle.cu_shape.proofs.Axes.{length-axis_by_axis}
 use Rattle.cu_shape.proofs.Places.{inside-length}
 use Rattle.cu_grid.specs.Grid.{RegularGrid, IsGrid}
-use Rattle.cu_op.specs.Operation.{IsAlignedAlong, IsAligned}
+use Rattle.cu_op.specs.Aligned.{IsAlignedAlong, IsAligned}
 use Rattle.cu_op.proofs.Broadcasting.{read_on, inside_drop, axes_drop}
 
 -- an axis of an aligned argument: an index of the result is read inside the argument, in the chunk from which the result's chunk is read

@@ -13,7 +13,7 @@ use Rattle.cu_grid.proofs.Regions.{coordinate-length}
 use Rattle.cu_reduce.specs.Groups.{Groups, groups_from, groups_of, group_counts, group_lo, group_hi}
 use Rattle.cu_op.specs.declared.layout.ArrayInfo.{ArrayInfo}
 use Rattle.cu_op.specs.Arrays.{grid_at}
-use Rattle.cu_op.specs.InputCells.{source_coord}
+use Rattle.cu_op.specs.Reductions.{source_coord}
 use Rattle.cu_op.specs.Partial.{partial_chunk, partial_grid, IsSqueezedAlong, IsSqueezed, partial_lo, partial_hi}
 use Rattle.cu_op.proofs.Filled.{chunk_filled, filled_first, filled_last}
 use Rattle.cu_op.proofs.Grouped.{widened, widened_ok, named}

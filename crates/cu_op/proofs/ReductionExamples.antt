@@ -11,12 +11,14 @@ use Rattle.cu_pull.specs.declared.axes.Axes.{Axes}
 use Rattle.cu_op.specs.declared.layout.ArrayInfo.{ArrayInfo}
 use Rattle.cu_op.specs.declared.operation.Op.{Op}
 use Rattle.cu_op.specs.declared.operation.Op.TheVariants.{Copy, Fold, Merge, PairFold, PairMerge, Mul}
-use Rattle.cu_op.specs.Cells.{cell, tasks_of}
+use Rattle.cu_op.specs.Chunks.{cell, walk}
+use Rattle.cu_op.specs.Cells.{tasks_of}
 use Rattle.cu_op.specs.Nested.{IsNestedAlong}
 use Rattle.cu_op.specs.Partial.{partial_grid, chunk_groups}
 use Rattle.cu_op.specs.Projection.{projection}
-use Rattle.cu_op.specs.Value.{Elements, values_after}
-use Rattle.cu_op.specs.Walks.{written_chunks, read_chunks, input_walks, walk}
+use Rattle.cu_op.specs.Elements.{Elements}
+use Rattle.cu_op.specs.Value.{values_after}
+use Rattle.cu_op.specs.Walks.{written_chunks, read_chunks, input_walks}
 
 unfoldable array : Dtype → List ℕ → List ℕ → ArrayInfo
 array t shape chunk = record {

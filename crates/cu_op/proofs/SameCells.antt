@@ -16,11 +16,12 @@ use Rattle.cu_op.proofs.Spans.{IsSpan, span_back, span_chunk, chunk_span}
 use Rattle.cu_op.proofs.WalkCells.{walk_meets, meets_walk, kept_walk, All-new_walks, one_walk, from_walk}
 use Rattle.cu_op.proofs.Wholes.{whole_within}
 use Rattle.cu_op.specs.Arrays.{grid_at, grid_counts}
-use Rattle.cu_op.specs.Cells.{cell}
-use Rattle.cu_op.specs.InputCells.{chunk_where, source_coord, all_chunks, chunks_in_box, merged_chunks}
-use Rattle.cu_op.specs.Operation.{IsAligned}
+use Rattle.cu_op.specs.Chunks.{cell, chunk_where, all_chunks, chunks_in_box, walk, whole_walk}
+use Rattle.cu_op.specs.Reductions.{source_coord, merged_chunks, partial_walk}
+use Rattle.cu_op.specs.Aligned.{IsAligned}
 use Rattle.cu_op.specs.Partial.{partial_grid, IsSqueezed, merge_groups}
-use Rattle.cu_op.specs.Walks.{back_as, walk, IsWalkOver, walk_cells, read_walk, whole_walk, partial_walk, cells_of_walks, new_walks}
+use Rattle.cu_op.specs.Walks.{back_as, IsWalkOver, walk_cells, cells_of_walks, new_walks}
+use Rattle.cu_op.specs.Kind.Map.{read_walk}
 use Rattle.cu_op.specs.declared.cells.Cell.{Cell}
 use Rattle.cu_op.specs.declared.layout.ArrayInfo.{ArrayInfo}
 use Rattle.cu_op.specs.declared.walks.Walk.{Walk}

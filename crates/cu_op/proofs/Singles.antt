@@ -16,7 +16,8 @@ use Rattle.cu_op.specs.Cells.{tasks_of}
 use Rattle.cu_op.specs.KernelTypes.{Typed, KernelFits}
 use Rattle.cu_op.specs.Layout.{IsArray}
 use Rattle.cu_op.specs.OneMap.{OneMap, Makes, addition_of, HasGridAndType, AddsAlike}
-use Rattle.cu_op.specs.Operation.{writes_of, IsAlignedAlong, IsAligned, reads_of, target_of, IsMadeBy, IsReadable, Fits, IsBefore}
+use Rattle.cu_op.specs.Operation.{writes_of, reads_of, target_of, IsMadeBy, IsReadable, Fits, IsBefore}
+use Rattle.cu_op.specs.Aligned.{IsAlignedAlong, IsAligned}
 use Rattle.cu_op.specs.PlanView.{operation_at}
 use Rattle.cu_op.specs.Projection.{projection, instruction_count, HasSmallRegions}
 use Rattle.cu_op.specs.Sound.{Sound, made_chunks, cells_by, IsOperation}

@@ -6,7 +6,7 @@ use Rattle.std.proofs.lemmas.List.Elements.{All-head, All-tail}
 use Rattle.cu_shape.specs.Index.{product, axis_by_axis, differences, quotients}
 use Rattle.cu_grid.specs.Counts.{chunk_lo, chunk_hi, IsWithin}
 use Rattle.cu_grid.specs.Grid.{RegularGrid}
-use Rattle.cu_op.specs.Operation.{IsAlignedAlong, IsAligned}
+use Rattle.cu_op.specs.Aligned.{IsAlignedAlong, IsAligned}
 use Rattle.cu_op.specs.Broadcast.{back_as}
 
 -- on an axis of size n in chunks of c

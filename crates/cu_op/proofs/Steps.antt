@@ -6,8 +6,9 @@ use Rattle.cu_op.specs.declared.cells.Cell.{Cell}
 use Rattle.cu_op.specs.declared.layout.ArrayInfo.{ArrayInfo}
 use Rattle.cu_op.specs.declared.walks.Walk.{Walk}
 use Rattle.cu_op.specs.Arrays.{grid_at, no_array}
-use Rattle.cu_op.specs.Cells.{cell}
-use Rattle.cu_op.specs.Walks.{IsWalkOver, back_as, walk, read_walk, walk_cells, cells_of_walks}
+use Rattle.cu_op.specs.Chunks.{cell, walk}
+use Rattle.cu_op.specs.Walks.{IsWalkOver, back_as, walk_cells, cells_of_walks}
+use Rattle.cu_op.specs.Kind.Map.{read_walk}
 
 -- ---- a list that is made an item at a time
 

@@ -11,13 +11,15 @@ use Rattle.cu_op.specs.declared.cells.Cell.{Cell}
 use Rattle.cu_op.specs.declared.operation.Op.{Op}
 use Rattle.cu_op.specs.declared.walks.Walk.{Walk}
 use Rattle.cu_op.specs.Arrays.{grid_at, maker_at, grid_counts}
-use Rattle.cu_op.specs.Cells.{cell, task_grid, tasks_of, task_coord, task_lo, task_hi, IsChunk}
+use Rattle.cu_op.specs.Chunks.{cell, walk}
+use Rattle.cu_op.specs.Cells.{task_grid, tasks_of, task_coord, task_lo, task_hi, IsChunk}
 use Rattle.cu_op.specs.Operation.{reads_of, writes_of, IsMadeBy, IsReadable, target_of, Fits}
 use Rattle.cu_op.specs.PlanView.{PlanView}
 use Rattle.cu_op.specs.Schedule.{op_of, IsNested, task_at, WritesCell, IsReady}
 use Rattle.cu_op.specs.Sound.{Sound, IsCell}
-use Rattle.cu_op.specs.Value.{Elements, ReadsAt, rule, plan_value, stored_inputs}
-use Rattle.cu_op.specs.Walks.{walk, IsWalkOver, walk_cells, new_walks, output_walks, input_walks, written_chunks, read_chunks, EachOnce}
+use Rattle.cu_op.specs.Elements.{Elements}
+use Rattle.cu_op.specs.Value.{ReadsAt, rule, plan_value, stored_inputs}
+use Rattle.cu_op.specs.Walks.{IsWalkOver, walk_cells, new_walks, output_walks, input_walks, written_chunks, read_chunks, EachOnce}
 use Rattle.cu_op.proofs.CellsOfTasks.{map_contains}
 use Rattle.cu_op.proofs.Filled.{filled_first, filled_last}
 use Rattle.cu_op.proofs.Operations as ops

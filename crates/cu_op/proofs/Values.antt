@@ -5,7 +5,8 @@ use Rattle.cu_op.specs.Arrays.{maker_at}
 use Rattle.cu_op.specs.Operation.{writes_of, reads_of, IsMadeBy, IsReadable, IsBefore}
 use Rattle.cu_op.specs.PlanView.{PlanView, operation_at}
 use Rattle.cu_op.specs.Sound.{Sound, IsOperation}
-use Rattle.cu_op.specs.Value.{Elements, plan_value, ReadsAt, rule, updated, values_after, Solves}
+use Rattle.cu_op.specs.Elements.{Elements}
+use Rattle.cu_op.specs.Value.{plan_value, ReadsAt, rule, updated, values_after, Solves}
 use Rattle.cu_op.specs.declared.layout.ArrayInfo.{ArrayInfo}
 use Rattle.cu_op.specs.declared.operation.Op.{Op}
 use Rattle.cu_op.specs.declared.operation.Planned.{Planned}

@@ -19,7 +19,7 @@ use Rattle.cu_op.specs.declared.cells.Cell.{Cell}
 use Rattle.cu_op.specs.declared.layout.ArrayInfo.{ArrayInfo}
 use Rattle.cu_op.specs.declared.walks.Walk.{Walk}
 use Rattle.cu_op.specs.Arrays.{grid_at}
-use Rattle.cu_op.specs.Cells.{cell}
+use Rattle.cu_op.specs.Chunks.{cell}
 use Rattle.cu_op.specs.Walks.{IsWalkOver, walk_cells, cells_of_walks, same_walk, new_walks, EachOnce}
 use Rattle.cu_op.proofs.CellsOfTasks.{same_array, same_coord, map_contains}
 use Rattle.cu_op.proofs.Members.{bool_cases}

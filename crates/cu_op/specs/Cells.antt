@@ -1,5 +1,4 @@
 -- The tasks of an operation, the region of each, and the chunks of a plan's arrays. Chunks are numbered row-major.
-pub use Rattle.cu_op.specs.Chunks.{cell}
 use Rattle.cu_grid.specs.Counts.{chunk_lo, chunk_hi}
 use Rattle.cu_grid.specs.Grid.{RegularGrid, IsCoordinate}
 use Rattle.cu_op.specs.Arrays.{grid_at, grid_counts}

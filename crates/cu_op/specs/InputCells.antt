@@ -1,7 +1,5 @@
 -- The chunks that a task needs, by the kind of its operation, from the coordinate of the task's own chunk (this project's rule). An axis that
 -- an array lacks, or on which it is stretched, counts as 0.
-pub use Rattle.cu_op.specs.Chunks.{all_chunks, chunk_where, chunks_in_box}
-pub use Rattle.cu_op.specs.Reductions.{source_coord, reduced_chunk, merged_chunks}
 use Rattle.cu_op.specs.Cells.{task_coord}
 use Rattle.cu_op.specs.Kinds.{kind_of}
 use Rattle.cu_op.specs.declared.cells.Cell.{Cell}

@@ -27,3 +27,4 @@ pub mod TaskView
 pub mod Value
 pub mod Walks
 pub mod Numbers
+pub mod Form

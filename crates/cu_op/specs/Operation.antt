@@ -1,12 +1,6 @@
 -- What each kind of operation reads and writes, and how its arrays stand to one another.
-pub use Rattle.cu_op.specs.Places.{pair_writes, StoresValues, PairFits, HasPlaceAxis, ArePairs}
-pub use Rattle.cu_op.specs.Aligned.{IsAlignedAlong, IsAligned}
-pub use Rattle.cu_op.specs.Kind.Map.{MapFits}
-pub use Rattle.cu_op.specs.Kind.Pull.{shapes_at, origin_at, Converts, PullFits}
-pub use Rattle.cu_op.specs.Kind.Copy.{region_grid, CopyFits}
-pub use Rattle.cu_op.specs.Reductions.{FoldFits, IsMergeAlong}
-pub use Rattle.cu_op.specs.Kind.Mul.{MulFits}
 use Rattle.cu_op.specs.Arrays.{maker_at, grid_at}
+use Rattle.cu_op.specs.Form.{Form}
 use Rattle.cu_op.specs.Kinds.{kind_of}
 use Rattle.cu_op.specs.declared.layout.ArrayInfo.{ArrayInfo}
 use Rattle.cu_op.specs.declared.operation.Op.{Op}
@@ -46,3 +40,14 @@ IsNoLonger arrays coord a = (a < length arrays) × (length (grid_at arrays a).sh
 -- the operation over arrays with these numbers
 abbrev pub renumbered : (ℕ → ℕ) → Op → Op
 renumbered f op = (kind_of op).renumbered f
+
+-- how its tasks come by the elements that they write
+abbrev pub form_of : Op → Form
+form_of op = (kind_of op).form
+
+-- the array whose elements a search compares, and the array of their values, where it is stored
+abbrev pub compared_array : Op → Option ℕ
+compared_array op = (kind_of op).compared
+
+abbrev pub value_array : Op → Option ℕ
+value_array op = (kind_of op).stored

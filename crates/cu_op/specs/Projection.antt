@@ -1,6 +1,5 @@
 -- The memory of an operation's tasks, in bytes: what is reserved, scratch, the input regions and the output regions, and
 -- 512 for each kernel instruction, which is 64 words (this project's rule).
-pub use Rattle.cu_op.specs.Places.{value_room}
 use Rattle.cu_op.specs.Arrays.{chunk_room}
 use Rattle.cu_op.specs.Kinds.{kind_of}
 use Rattle.cu_op.specs.Operation.{writes_of, reads_of}

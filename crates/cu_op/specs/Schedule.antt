@@ -8,11 +8,13 @@ use Rattle.cu_op.specs.declared.layout.ArrayInfo.{ArrayInfo}
 use Rattle.cu_op.specs.declared.operation.Op.{Op}
 use Rattle.cu_op.specs.declared.cells.Cell.{Cell}
 use Rattle.cu_op.specs.Arrays.{layout_at, grid_at, grid_counts}
-use Rattle.cu_op.specs.Cells.{cell, task_grid, tasks_of}
+use Rattle.cu_op.specs.Chunks.{cell}
+use Rattle.cu_op.specs.Cells.{task_grid, tasks_of}
 pub use Rattle.cu_op.specs.Nested.{IsNestedAlong, IsNested}
 use Rattle.cu_op.specs.PlanView.{PlanView, operation_at}
 use Rattle.cu_op.specs.Sound.{cell_key}
-use Rattle.cu_op.specs.Value.{Elements, plan_value, stored_inputs, ReadsAt}
+use Rattle.cu_op.specs.Elements.{Elements}
+use Rattle.cu_op.specs.Value.{plan_value, stored_inputs, ReadsAt}
 use Rattle.cu_op.specs.Walks.{written_chunks}
 
 -- the operation by its number

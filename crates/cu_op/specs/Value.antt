@@ -1,10 +1,6 @@
 -- The value of each array of a plan, element by element: an input has its element of the environment, and a made array goes by
 -- the operation that makes it. Where the rule reads an index that has no element, its own element isn't defined.
-pub use Rattle.cu_op.specs.Elements.{Elements}
-pub use Rattle.cu_op.specs.Kind.Map.{loaded}
-pub use Rattle.cu_op.specs.Kind.Pull.{pulled}
-pub use Rattle.cu_op.specs.Places.{counted_at, pair_part}
-pub use Rattle.cu_op.specs.Kind.Mul.{products_at}
+use Rattle.cu_op.specs.Elements.{Elements}
 use Rattle.cu_num.specs.Dtype.{InRange}
 use Rattle.cu_op.specs.Arrays.{array_at, maker_at, layout_at, type_at}
 use Rattle.cu_op.specs.Kinds.{kind_of}

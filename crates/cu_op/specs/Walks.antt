@@ -1,14 +1,10 @@
 -- The chunks that a task writes and those that it reads: of each of some arrays those that share an element with a region.
 pub use Rattle.cu_op.specs.Broadcast.{back_as}
-pub use Rattle.cu_op.specs.Chunks.{walk, whole_walk}
-pub use Rattle.cu_op.specs.Kind.Map.{read_walk}
-pub use Rattle.cu_op.specs.Reductions.{partial_walk}
-pub use Rattle.cu_op.specs.Kind.Mul.{left_walk, right_walk}
+use Rattle.cu_op.specs.Chunks.{walk, cell}
 use Rattle.cu_grid.specs.Counts.{IsRegion}
 use Rattle.cu_grid.specs.Cover.{covering}
 use Rattle.cu_op.specs.Arrays.{grid_at}
 use Rattle.cu_op.specs.Cells.{task_lo, task_hi}
-use Rattle.cu_op.specs.Chunks.{cell}
 use Rattle.cu_op.specs.Kinds.{kind_of}
 use Rattle.cu_op.specs.Operation.{writes_of}
 use Rattle.cu_op.specs.declared.cells.Cell.{Cell}

@@ -5,7 +5,7 @@ ghost use Rattle.cu_shape.specs.Counts.{at_least_one};
 ghost use Rattle.cu_reduce.specs.Groups.{groups_of, group_counts, group_lo, group_hi, group_of};
 ghost use Rattle.cu_op.specs.Arrays.{grid_at};
 ghost use Rattle.cu_op.specs.Partial.{is_reduced, AreGroupSizes, count_on, start_on, end_on, merge_groups, partial_grid, IsSqueezed};
-ghost use Rattle.cu_op.specs.Walks.{partial_walk};
+ghost use Rattle.cu_op.specs.Reductions.{partial_walk};
 
 use crate::layout::{ArrayInfo, grid_of};
 use crate::walks::Walk;

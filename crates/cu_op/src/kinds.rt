@@ -6,7 +6,7 @@ ghost use Rattle.cu_op.specs.Cells.{task_grid};
 ghost use Rattle.cu_op.specs.KindText.{kind_text};
 ghost use Rattle.cu_op.specs.Kinds.{ReducesToValues, ReducesToPlaces};
 ghost use Rattle.cu_op.specs.Numbers.{number_in};
-ghost use Rattle.cu_op.specs.Operation.{Fits, reads_of, writes_of, target_of, renumbered};
+ghost use Rattle.cu_op.specs.Operation.{Fits, reads_of, writes_of, target_of, renumbered, compared_array, value_array};
 ghost use Rattle.cu_op.specs.Projection.{input_room, output_room, instruction_count};
 ghost use Rattle.cu_op.specs.Walks.{region_walks};
 
@@ -130,6 +130,27 @@ impl Op {
                 renumber_both(numbers, left, right);
                 *out = new_number(numbers, *out);
             }
+        }
+    }
+
+    /// The array whose elements a search compares.
+    pub fn compared(&self) -> Option<u32>
+        ensures { result ≡ compared_array self.now }
+    {
+        match self {
+            Op::PairFold { source, .. } => Some(*source),
+            Op::PairMerge { value_source, .. } => Some(*value_source),
+            _ => None,
+        }
+    }
+
+    /// The array in which a search stores the values.
+    pub fn stored(&self) -> Option<u32>
+        ensures { result ≡ value_array self.now }
+    {
+        match self {
+            Op::PairFold { values, .. } | Op::PairMerge { values, .. } => *values,
+            _ => None,
         }
     }
 }

@@ -4,7 +4,9 @@ ghost use Rattle.cu_shape.specs.Index.{IsInside};
 ghost use Rattle.cu_grid.specs.Grid.{IsGrid};
 ghost use Rattle.cu_op.specs.Cells.{task_grid};
 ghost use Rattle.cu_op.specs.Operation.{Fits, IsNoLonger, reads_of, writes_of, target_of};
-ghost use Rattle.cu_op.specs.Walks.{walk, read_walk, whole_walk, region_walks, back_as};
+ghost use Rattle.cu_op.specs.Chunks.{walk, whole_walk};
+ghost use Rattle.cu_op.specs.Kind.Map.{read_walk};
+ghost use Rattle.cu_op.specs.Walks.{region_walks, back_as};
 
 use crate::operation::Op;
 use crate::walks::Walk;

@@ -3,7 +3,7 @@ ghost use Rattle.std.specs.Prelude.{◌≡◌, ◌↔◌, ◌≤◌, IsTrue, All
 ghost use Rattle.std.specs.List.{list_any};
 ghost use Rattle.std.specs.Iterator.{YieldsFirst, item_count};
 ghost use Rattle.arrayvec.specs.ArrayVec.{array_vec_len};
-ghost use Rattle.cu_op.specs.Cells.{cell};
+ghost use Rattle.cu_op.specs.Chunks.{cell};
 ghost use Rattle.cu_op.specs.Walks.{IsWalkOver, walk_cells, same_walk, new_walks, cells_of_walks, open_cells};
 
 use crate::cells::Cell;
@@ -24,7 +24,7 @@ pub struct Walk {
 
 impl Default for Walk {
     ghost use Rattle.std.specs.Prelude.{◌≡◌, []};
-    ghost use Rattle.cu_op.specs.Walks.{walk};
+    ghost use Rattle.cu_op.specs.Chunks.{walk};
 
     ghost is_default = { λ w. w ≡ walk 0 [] [] };
 

@@ -10,7 +10,8 @@ use Rattle.cu_name.specs.Name.{IsArrayName}
 use Rattle.cu_op.specs.Arrays.{array_at, grid_at, maker_at}
 use Rattle.cu_op.specs.PlanView.{PlanView, operation_at}
 use Rattle.cu_op.specs.Sound.{Sound}
-use Rattle.cu_op.specs.Value.{Elements, HasTypes, plan_value}
+use Rattle.cu_op.specs.Elements.{Elements}
+use Rattle.cu_op.specs.Value.{HasTypes, plan_value}
 use Rattle.cu_op.specs.declared.layout.ArrayInfo.{ArrayInfo}
 use Rattle.cu_op.specs.declared.layout.Layout.{Layout}
 use Rattle.cu_state.specs.Names.{HasPlanNames}

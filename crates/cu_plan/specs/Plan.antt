@@ -9,7 +9,8 @@ use Rattle.cu_lower.specs.declared.options.Options.{Options}
 use Rattle.cu_meaning.specs.Argument.{NodeElements}
 use Rattle.cu_node.specs.declared.info.NodeInfo.{NodeInfo}
 use Rattle.cu_op.specs.PlanView.{PlanView}
-use Rattle.cu_op.specs.Value.{Elements, HasTypes}
+use Rattle.cu_op.specs.Elements.{Elements}
+use Rattle.cu_op.specs.Value.{HasTypes}
 
 -- the operations that its live nodes add, after the merges of the maps among them
 unfoldable pub merged_plan_of : Expression → List NodeInfo → List InputInfo → Options → PlanView

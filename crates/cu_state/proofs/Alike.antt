@@ -12,7 +12,8 @@ use Rattle.cu_op.specs.Operation.{reads_of, writes_of, IsReadable, IsBefore}
 use Rattle.cu_op.specs.PlanView.{PlanView}
 use Rattle.cu_op.specs.Schedule.{op_of, cell_value}
 use Rattle.cu_op.specs.Sound.{Sound}
-use Rattle.cu_op.specs.Value.{Elements, plan_value, ReadsAt}
+use Rattle.cu_op.specs.Elements.{Elements}
+use Rattle.cu_op.specs.Value.{plan_value, ReadsAt}
 use Rattle.cu_op.proofs.Operations.{Fit, nested_writes, reads_inside}
 use Rattle.cu_op.proofs.Plans.{grid_ok}
 use Rattle.cu_op.proofs.Spellings.{spelled_alike}

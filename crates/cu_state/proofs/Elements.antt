@@ -9,10 +9,11 @@ use Rattle.cu_store.specs.Steps.{Shown}
 use Rattle.cu_zarr.specs.Stored.{element_in}
 use Rattle.cu_zarr.proofs.Spelled.{spelled_element}
 use Rattle.cu_op.specs.Arrays.{layout_at, grid_at, type_at}
-use Rattle.cu_op.specs.Cells.{cell}
+use Rattle.cu_op.specs.Chunks.{cell}
 use Rattle.cu_op.specs.PlanView.{PlanView}
 use Rattle.cu_op.specs.Sound.{Sound}
-use Rattle.cu_op.specs.Value.{Elements, plan_value, stored_inputs, HasTypes}
+use Rattle.cu_op.specs.Elements.{Elements}
+use Rattle.cu_op.specs.Value.{plan_value, stored_inputs, HasTypes}
 use Rattle.cu_op.proofs.Plans.{grid_ok}
 use Rattle.cu_op.proofs.Spellings.{defined_at}
 use Rattle.cu_state.specs.Left.{IsLeft}

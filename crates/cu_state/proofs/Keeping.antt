@@ -8,10 +8,11 @@ use Rattle.cu_store.proofs.Steps.{steps_wider}
 use Rattle.cu_zarr.specs.Stored.{element_in}
 use Rattle.cu_op.specs.declared.cells.Cell.{Cell}
 use Rattle.cu_op.specs.Arrays.{layout_at, grid_at}
-use Rattle.cu_op.specs.Cells.{cell}
+use Rattle.cu_op.specs.Chunks.{cell}
 use Rattle.cu_op.specs.Schedule.{key_of}
 use Rattle.cu_op.specs.Sound.{Sound}
-use Rattle.cu_op.specs.Value.{Elements, stored_inputs, HasTypes}
+use Rattle.cu_op.specs.Elements.{Elements}
+use Rattle.cu_op.specs.Value.{stored_inputs, HasTypes}
 use Rattle.cu_op.proofs.Plans.{grid_ok}
 use Rattle.cu_state.specs.Left.{IsQuiet, IsLeft, Begun, RunChange}
 use Rattle.cu_state.specs.Pieces.{PlanRun, chunks_alone, Piece, Text, Chunk, IsPiece, piece_key, piece_value, IsInputChunk, KeysApart, HoldsPiece, PieceChange}

@@ -20,7 +20,7 @@ use Rattle.cu_state.specs.Names.{HasPlanNames}
 use Rattle.cu_state.specs.Pieces.{PlanRun, Piece, Text, Chunk, IsPiece, IsInputChunk, piece_key, KeysApart, InputsApart}
 use Rattle.cu_codec.proofs.KeyLaws.{same_chunk}
 use Rattle.cu_op.proofs.CellsOfTasks.{coordinates_small}
-use Rattle.cu_op.specs.Cells.{cell}
+use Rattle.cu_op.specs.Chunks.{cell}
 use Rattle.cu_shape.proofs.Places.{inside-length}
 
 -- the key begins with the name and a slash

@@ -6,11 +6,13 @@ use Rattle.cu_grid.proofs.Parting.{has_coordinate}
 use Rattle.cu_store.specs.Steps.{Shown}
 use Rattle.cu_op.specs.declared.cells.Cell.{Cell}
 use Rattle.cu_op.specs.Arrays.{grid_at, maker_at}
-use Rattle.cu_op.specs.Cells.{cell, tasks_of}
+use Rattle.cu_op.specs.Chunks.{cell}
+use Rattle.cu_op.specs.Cells.{tasks_of}
 use Rattle.cu_op.specs.Operation.{reads_of, IsReadable, IsBefore}
 use Rattle.cu_op.specs.Schedule.{op_of, task_at, IsReady}
 use Rattle.cu_op.specs.Sound.{Sound, IsCell}
-use Rattle.cu_op.specs.Value.{Elements, plan_value, stored_inputs}
+use Rattle.cu_op.specs.Elements.{Elements}
+use Rattle.cu_op.specs.Value.{plan_value, stored_inputs}
 use Rattle.cu_op.specs.Walks.{read_chunks}
 use Rattle.cu_op.proofs.Plans.{grid_ok}
 use Rattle.cu_op.proofs.TaskCells.{fit_of, reads_lie_in, read_array, task_for, some_task}

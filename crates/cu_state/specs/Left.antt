@@ -9,7 +9,8 @@ use Rattle.cu_op.specs.Cells.{tasks_of}
 use Rattle.cu_op.specs.PlanView.{PlanView}
 use Rattle.cu_op.specs.Schedule.{op_of, key_of}
 use Rattle.cu_op.specs.Sound.{Sound}
-use Rattle.cu_op.specs.Value.{Elements, stored_inputs, HasTypes}
+use Rattle.cu_op.specs.Elements.{Elements}
+use Rattle.cu_op.specs.Value.{stored_inputs, HasTypes}
 use Rattle.cu_state.specs.Pieces.{PlanRun, Piece, IsPiece, piece_key, piece_value, IsInputChunk, KeysApart, PieceChange, HoldsTask}
 
 -- what is late: each put on a piece carries its value, and each on a chunk of an input what that chunk holds

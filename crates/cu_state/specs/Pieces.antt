@@ -1,5 +1,5 @@
 -- What a run of a plan stores: pieces, each with one value under a key of its own. This project's own rule.
-use Rattle.std.specs.Prelude.{◌≡◌, ◌≢◌, ℕ, ◌<◌, List, [], length, slice_index_or, Option, Some, None}
+use Rattle.std.specs.Prelude.{◌≡◌, ◌≢◌, ℕ, ◌<◌, List, [], length, slice_index_or, Option, Some, None, Contains}
 use Rattle.cu_grid.specs.Grid.{IsCoordinate}
 use Rattle.cu_store.specs.Held.{Write, Holds}
 use Rattle.cu_store.specs.Steps.{Shown, Changes}
@@ -9,9 +9,8 @@ use Rattle.cu_op.specs.Arrays.{grid_at, maker_at}
 use Rattle.cu_op.specs.PlanView.{PlanView}
 use Rattle.cu_op.specs.Schedule.{op_of, key_of, cell_value}
 use Rattle.cu_op.specs.Sound.{IsCell}
-use Rattle.cu_op.specs.Value.{Elements}
+use Rattle.cu_op.specs.Elements.{Elements}
 use Rattle.cu_op.specs.Walks.{written_chunks}
-use Rattle.std.specs.Prelude.{Contains}
 
 -- a plan, and the texts that are stored before its first chunk, each under its key: the plan's record and the metadata
 pub record PlanRun : Type 0 where

@@ -12,13 +12,14 @@ use Rattle.cu_op.specs.declared.operation.Op.{Op}
 use Rattle.cu_op.specs.declared.operation.Op.TheVariants.{Pull}
 use Rattle.cu_op.specs.declared.walks.Walk.{Walk}
 use Rattle.cu_op.specs.Arrays.{grid_at, grid_counts}
-use Rattle.cu_op.specs.Cells.{cell, task_grid, task_coord, task_lo, task_hi}
-use Rattle.cu_op.specs.InputCells.{all_chunks, needed_chunks}
+use Rattle.cu_op.specs.Chunks.{cell, all_chunks, walk}
+use Rattle.cu_op.specs.Cells.{task_grid, task_coord, task_lo, task_hi}
+use Rattle.cu_op.specs.InputCells.{needed_chunks}
 use Rattle.cu_op.specs.Operation.{reads_of, writes_of, IsReadable}
 use Rattle.cu_op.specs.PlanView.{PlanView}
 use Rattle.cu_op.specs.Schedule.{op_of, IsNested, WritesCell}
 use Rattle.cu_op.specs.Sound.{Sound}
-use Rattle.cu_op.specs.Walks.{walk, IsWalkOver, output_walks}
+use Rattle.cu_op.specs.Walks.{IsWalkOver, output_walks}
 use Rattle.cu_op.proofs.CellsOfTasks.{map_contains}
 use Rattle.cu_op.proofs.Nested.{begins_within}
 use Rattle.cu_op.proofs.Operations as ops

@@ -14,11 +14,13 @@ use Rattle.cu_store.proofs.Specs.{made_is_served}
 use Rattle.cu_zarr.specs.Stored.{element_in}
 use Rattle.cu_zarr.proofs.Spelled.{spelled_element, length-spelled}
 use Rattle.cu_op.specs.Arrays.{grid_at, layout_at, type_at, maker_at, chunk_room}
-use Rattle.cu_op.specs.Cells.{cell, tasks_of}
+use Rattle.cu_op.specs.Chunks.{cell}
+use Rattle.cu_op.specs.Cells.{tasks_of}
 use Rattle.cu_op.specs.PlanView.{PlanView}
 use Rattle.cu_op.specs.Schedule.{op_of, key_of, cell_value, IsReady}
 use Rattle.cu_op.specs.Sound.{Sound, IsCell}
-use Rattle.cu_op.specs.Value.{Elements, plan_value, stored_inputs, HasTypes}
+use Rattle.cu_op.specs.Elements.{Elements}
+use Rattle.cu_op.specs.Value.{plan_value, stored_inputs, HasTypes}
 use Rattle.cu_op.specs.Walks.{read_chunks, written_chunks}
 use Rattle.cu_op.specs.Layout.{IsArray}
 use Rattle.cu_op.specs.declared.cells.Cell.{Cell}

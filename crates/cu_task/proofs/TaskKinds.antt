@@ -1,12 +1,14 @@
 -- Operations of a kind: their fields, what they read and write, and the rooms of their tasks.
-use Rattle.std.proofs.Common.{◌≡◌, ◌+◌, ◌*◌, ◌^◌, ◌≤◌, ◌<◌, ℕ, Bool, List, [], ◌∷◌, Contains, Option, Some, None, refl, sym, ap, subst, arith}
+use Rattle.std.specs.Prelude.{unwrap_or}
+use Rattle.cu_op.proofs.KindLaws.{laws_of}
+use Rattle.std.proofs.Common.{◌≡◌, ◌+◌, ◌*◌, ◌^◌, ◌≤◌, ◌<◌, ℕ, Bool, List, [], ◌∷◌, Contains, Option, Some, None, refl, sym, ap, subst, arith, ◌∙◌}
 use Rattle.cu_num.specs.Dtype.{size_of}
 use Rattle.cu_num.specs.declared.types.Dtype.{Dtype}
 use Rattle.cu_shape.specs.Index.{product, differences}
 use Rattle.cu_num.specs.declared.folds.FoldKind.{FoldKind}
 use Rattle.cu_op.specs.Arrays.{type_at}
 use Rattle.cu_op.specs.Cells.{tasks_of, task_lo, task_hi}
-use Rattle.cu_op.specs.Operation.{reads_of, writes_of, pair_writes, target_of}
+use Rattle.cu_op.specs.Operation.{reads_of, writes_of, target_of, compared_array, value_array}
 use Rattle.cu_op.specs.PlanView.{PlanView}
 use Rattle.cu_op.specs.Projection.{projection, instruction_count, input_room, output_room}
 use Rattle.cu_op.specs.Sound.{Sound}
@@ -22,9 +24,9 @@ use Rattle.cu_op.proofs.Operations.{Fit}
 use Rattle.cu_op.proofs.TaskCells.{fit_of}
 use Rattle.cu_task.specs.Inputs.{IsMergeOf, IsSearchOf, IsSearchAmong}
 use Rattle.cu_task.specs.OfTask.{scratch_bytes, kept_bytes, found_bytes, made_bytes}
-use Rattle.cu_task.specs.Task.{IsPlaceSearch, IsComputing, kept_room, compared_by, compared_array, value_array, room_beside}
+use Rattle.cu_task.specs.Task.{IsPlaceSearch, IsComputing, kept_room, compared_by, room_beside, IsThere}
 use Rattle.cu_task.proofs.SearchTask.{search_room}
-use Rattle.cu_task.proofs.TaskRegions.{type_stored, lent_to}
+use Rattle.cu_task.proofs.TaskRegions.{lent_to}
 use Rattle.cu_task.proofs.TaskRooms.{single_room}
 
 pub record Merged (op : Op) (kind : FoldKind) (axis out : ℕ) : Type 0 where
@@ -103,38 +105,29 @@ pub none_stored : (array : ℕ) → None ≡ Some array → ⊥
 none_stored array e = subst IsNone e tt
 
 pub both_written : (op : Op) (array : ℕ) → value_array op ≡ Some array → writes_of op ≡ array ∷ target_of op ∷ []
-both_written (PairFold least axis source values out) array is = ap (λ (v : Option ℕ). pair_writes v out) is
-both_written (PairMerge least axis group value_source place_source values out) array is = ap (λ (v : Option ℕ). pair_writes v out) is
-both_written op array is = absurd (none_stored array is)
+both_written op array is = (laws_of op).stores array is
 
 pub only_written : (op : Op) → value_array op ≡ None → writes_of op ≡ target_of op ∷ []
-only_written (PairFold least axis source values out) is = ap (λ (v : Option ℕ). pair_writes v out) is
-only_written (PairMerge least axis group value_source place_source values out) is = ap (λ (v : Option ℕ). pair_writes v out) is
-only_written op is = refl
+only_written op is = (laws_of op).stores_none is
 
 pub compared_reads : (op : Op) (array : ℕ) → compared_array op ≡ Some array → Contains (reads_of op) array
-compared_reads (PairFold least axis source values out) array is = let same : source ≡ array = cc in subst (Contains (reads_of (PairFold least axis source values out))) same (0, omega arith, refl)
-compared_reads (PairMerge least axis group value_source place_source values out) array is =
-    let same : value_source ≡ array = cc in subst (Contains (reads_of (PairMerge least axis group value_source place_source values out))) same (0, omega arith, refl)
-compared_reads op array is = absurd (none_stored array is)
+compared_reads op array is = (laws_of op).compares array is
 
 -- ---- rooms
 
 pub searched_room : (arrays : List ArrayInfo) (op : Op) (task : ℕ) → IsPlaceSearch op
     → room_beside arrays op task (compared_array op) ≡ product (differences (task_hi arrays op task) (task_lo arrays op task)) * size_of (type_at arrays (compared_by op))
-searched_room arrays (PairFold least axis source values out) task is = refl
-searched_room arrays (PairMerge least axis group value_source place_source values out) task is = refl
-searched_room arrays op task is = absurd is
+searched_room arrays op task is = room_by (compared_array op) is
+  where
+    room_by : (compared : Option ℕ) → IsThere compared → room_beside arrays op task compared ≡ product (differences (task_hi arrays op task) (task_lo arrays op task)) * size_of (type_at arrays (unwrap_or compared 0))
+    room_by None is = absurd is
+    room_by (Some array) is = refl
 
 pub stored_room : (arrays : List ArrayInfo) (k : ℕ) (op : Op) (task array : ℕ) → Fit arrays k op → value_array op ≡ Some array
     → room_beside arrays op task (compared_array op) ≡ product (differences (task_hi arrays op task) (task_lo arrays op task)) * size_of (type_at arrays array)
-stored_room arrays k (PairFold least axis source values out) task array fit is =
-    ap (λ (t : Dtype). product (differences (task_hi arrays (PairFold least axis source values out) task) (task_lo arrays (PairFold least axis source values out) task)) * size_of t)
-    (sym (type_stored arrays values source out array fit.2.1.stored is))
-stored_room arrays k (PairMerge least axis group value_source place_source values out) task array fit is =
-    ap (λ (t : Dtype). product (differences (task_hi arrays (PairMerge least axis group value_source place_source values out) task) (task_lo arrays (PairMerge least axis group value_source place_source values out) task)) * size_of t)
-    (sym (type_stored arrays values value_source out array fit.2.2.stored is))
-stored_room arrays k op task array fit is = absurd (none_stored array is)
+stored_room arrays k op task array fit is =
+    let (source, compared, typed) = (laws_of op).stored_type arrays array fit.2 is in
+    ap (room_beside arrays op task) compared ∙ ap (λ (t : Dtype). product (differences (task_hi arrays op task) (task_lo arrays op task)) * size_of t) (sym typed)
 
 -- a task's rooms fit into what it is lent
 pub rooms_fit : (p : PlanView) (s : Sound p) (k : ℕ) (op : Op) (task : ℕ) → Fit p.arrays k op → task < tasks_of p.arrays op

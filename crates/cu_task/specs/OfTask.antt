@@ -7,7 +7,7 @@ use Rattle.cu_op.specs.Arrays.{type_at}
 use Rattle.cu_op.specs.Operation.{target_of}
 use Rattle.cu_op.specs.Projection.{scratch_room}
 use Rattle.cu_op.specs.TaskView.{TaskView, task_op}
-use Rattle.cu_op.specs.Value.{Elements}
+use Rattle.cu_op.specs.Elements.{Elements}
 use Rattle.cu_op.specs.Walks.{input_walks, written_chunks}
 use Rattle.cu_region.specs.Writing.{AreElements}
 use Rattle.cu_task.specs.Asks.{MayReadTask, MayReadWritten}

@@ -8,7 +8,8 @@ use Rattle.cu_op.specs.Projection.{instruction_count}
 use Rattle.cu_op.specs.TaskView.{TaskView, task_op}
 use Rattle.cu_region.specs.Writing.{AreElements}
 use Rattle.cu_task.specs.OfTask.{scratch_bytes, kept_bytes, found_bytes, made_bytes, HasMade, IsMadeOver, AreOfItsType, ChangeBy}
-use Rattle.cu_task.specs.Task.{value_array, HasResult, IsResultOver}
+use Rattle.cu_op.specs.Operation.{value_array}
+use Rattle.cu_task.specs.Task.{HasResult, IsResultOver}
 use Rattle.cu_task.specs.declared.room.TaskRoom.{TaskRoom}
 
 -- each part is as long as the task wants

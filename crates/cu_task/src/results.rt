@@ -5,20 +5,21 @@ ghost use Rattle.cu_task.specs.Asks.{MayReadRegion, AllowsRegion, AllowsResult};
 ghost use Rattle.cu_store.specs.Steps.{Shown, Steps};
 ghost use Rattle.cu_op.specs.Arrays.{array_at, type_at};
 ghost use Rattle.cu_op.specs.Cells.{task_lo, task_hi};
-ghost use Rattle.cu_op.specs.Operation.{target_of, writes_of};
+ghost use Rattle.cu_op.specs.Operation.{target_of, writes_of, compared_array, value_array};
 ghost use Rattle.cu_op.specs.Sound.{Sound};
 ghost use Rattle.cu_op.specs.TaskView.{task_op};
-ghost use Rattle.cu_op.specs.Value.{Elements};
-ghost use Rattle.cu_op.specs.Walks.{walk, walk_cells};
+ghost use Rattle.cu_op.specs.Elements.{Elements};
+ghost use Rattle.cu_op.specs.Chunks.{walk};
+ghost use Rattle.cu_op.specs.Walks.{walk_cells};
 ghost use Rattle.cu_region.specs.Calls.{Made};
 ghost use Rattle.cu_region.specs.Writing.{AreElements, LateIsOwn, RegionPut, StoresRegion, IsWriteFault};
 ghost use Rattle.cu_task.specs.OfTask.{found_bytes, calls_to_write, MayReadMade, IsReadyFor, HoldsMade, scratch_bytes, made_bytes, IsMadeOver, AreOfItsType, ChangeBy};
-ghost use Rattle.cu_task.specs.Task.{compared_array, value_array, result_room};
+ghost use Rattle.cu_task.specs.Task.{result_room};
 ghost use Rattle.cu_task.specs.TaskRoom.{IsRoomOf, IsAllMadeOver, AreAllOfTheirTypes, AllowsMade};
 
 use crate::inputs::region_bytes;
 use crate::room::TaskRoom;
-use cu_op::{Op, PlanTask};
+use cu_op::PlanTask;
 use cu_region::write_region_of;
 use cu_store::{Chunks, TaskFault};
 
@@ -34,20 +35,9 @@ pub(crate) fn result_bytes(task: &PlanTask<'_>) -> usize
 pub(crate) fn value_bytes(task: &PlanTask<'_>) -> usize
     ensures { result ≡ found_bytes task.now }
 {
-    match compared(task.operation()) {
+    match task.operation().compared() {
         Some(array) => region_room(task, array),
         None => 0,
-    }
-}
-
-/// The array whose elements a search compares.
-fn compared(operation: &Op) -> Option<u32>
-    ensures { result ≡ compared_array operation.now }
-{
-    match operation {
-        Op::PairFold { source, .. } => Some(*source),
-        Op::PairMerge { value_source, .. } => Some(*value_source),
-        _ => None,
     }
 }
 
@@ -196,22 +186,12 @@ pub(crate) fn write_results<C: Chunks>(
     ensures cause { IfErr result (IsWriteFault (C.shown access.old).faults
         (C.shown access.new).faults (C.shown access.new).lacks) }
 {
-    match stored_values(task.operation()) {
+    match task.operation().stored() {
         Some(array) => write_both::<C>(store, access, task, array, room),
         None => {
             let output = &mut *room.output;
             let scratch = &mut *room.scratch;
             write_only::<C>(store, access, task, output, scratch)
         }
-    }
-}
-
-/// The array in which a search stores the values.
-fn stored_values(operation: &Op) -> Option<u32>
-    ensures { result ≡ value_array operation.now }
-{
-    match operation {
-        Op::PairFold { values, .. } | Op::PairMerge { values, .. } => *values,
-        _ => None,
     }
 }

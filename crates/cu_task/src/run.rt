@@ -9,11 +9,12 @@ ghost use Rattle.cu_op.specs.Cells.{tasks_of};
 ghost use Rattle.cu_op.specs.Projection.{projection, instruction_count};
 ghost use Rattle.cu_op.specs.Schedule.{op_of};
 ghost use Rattle.cu_op.specs.TaskView.{task_op};
-ghost use Rattle.cu_op.specs.Value.{Elements};
+ghost use Rattle.cu_op.specs.Elements.{Elements};
 ghost use Rattle.cu_region.specs.Calls.{Made};
 ghost use Rattle.cu_region.specs.Writing.{AreElements};
 ghost use Rattle.cu_task.specs.OfTask.{found_bytes, calls_to_write, MayReadMade, IsReadyFor, HoldsMade, read_bytes, made_bytes, calls_to_read, MayRead, AreSteady, IsMadeFrom, AreOfItsType, ChangeBy, IsOwnFault};
-ghost use Rattle.cu_task.specs.Task.{IsTaskReady, TaskChange, HoldsCells, calls_of, HasSureCalls, IsComputing, value_array, IsComputed, IsTaskFault};
+ghost use Rattle.cu_task.specs.Task.{IsTaskReady, TaskChange, HoldsCells, calls_of, HasSureCalls, IsComputing, IsComputed, IsTaskFault};
+ghost use Rattle.cu_op.specs.Operation.{value_array};
 ghost use Rattle.cu_task.specs.TaskRoom.{IsRoomOf, HasMadeAll, AreAllOfTheirTypes};
 
 use crate::copies::copy_region;

@@ -5,7 +5,8 @@ ghost use Rattle.cu_op.specs.TaskView.{task_op};
 ghost use Rattle.cu_region.specs.Writing.{AreElements};
 ghost use Rattle.cu_task.specs.Inputs.{IsSearchOf, IsSearchAmong};
 ghost use Rattle.cu_task.specs.OfTask.{read_bytes, made_bytes, IsMadeFrom, AreOfItsType};
-ghost use Rattle.cu_task.specs.Task.{compared_by, value_array, result_room, IsComputed};
+ghost use Rattle.cu_task.specs.Task.{compared_by, result_room, IsComputed};
+ghost use Rattle.cu_op.specs.Operation.{value_array};
 
 use crate::inputs::{input_walk, walk_bytes};
 use crate::reductions::dtype_of;

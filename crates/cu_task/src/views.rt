@@ -6,7 +6,7 @@ ghost use Rattle.cu_store.specs.Held.{Contents};
 ghost use Rattle.cu_store.specs.Chunks.{Keeps, StaysOpen};
 ghost use Rattle.cu_task.specs.Asks.{MayReadSources};
 ghost use Rattle.cu_store.specs.Steps.{NoChange, Steps};
-ghost use Rattle.cu_op.specs.Operation.{shapes_at};
+ghost use Rattle.cu_op.specs.Kind.Pull.{shapes_at};
 ghost use Rattle.cu_region.specs.Reading.{IsChunkReadFault};
 ghost use Rattle.cu_region.specs.Writing.{AreElements};
 ghost use Rattle.cu_task.specs.Views.{source_in, is_exact, source_calls, sure_calls, view_calls, IsSourceKey, IsKnown, HaveCome, IsAny, HasPulled};

@@ -1,13 +1,13 @@
 -- The run of an accepted plan's tasks, whatever is done and held when it starts.
-use Rattle.std.proofs.Common.{◌≡◌, ℕ, ◌+◌, ◌*◌, ◌<◌, ◌≤◌, List, [], ◌∷◌, length}
-use Rattle.std.proofs.Common.{Option, Some, None, Result, Ok, Err, IfOk, IfErr, refl, sym, ◌∙◌, subst, arith}
+use Rattle.std.proofs.Common.{◌≡◌, ℕ, ◌+◌, ◌*◌, ◌<◌, ◌≤◌, List, [], ◌∷◌, length, Option, Some, None, Result, Ok, Err, IfOk, IfErr, refl, sym, ◌∙◌, subst, arith}
 use Rattle.std.specs.Prelude.{Bool, true, false, ◌==◌, ◌&&◌, if◌then◌else◌, OnOk, OnErr, IsTrue}
 use Rattle.cu_store.specs.Faults.{last_count, Rose}
 use Rattle.cu_store.specs.Held.{Contents}
 use Rattle.cu_store.specs.Steps.{Shown, Changes, NoChange, OrLate, Lands, Within, Steps}
 use Rattle.cu_op.specs.PlanView.{PlanView, operation_at}
 use Rattle.cu_op.specs.Sound.{Sound}
-use Rattle.cu_op.specs.Value.{Elements, stored_inputs}
+use Rattle.cu_op.specs.Elements.{Elements}
+use Rattle.cu_op.specs.Value.{stored_inputs}
 use Rattle.cu_history.specs.declared.entry.Entry.{Entry}
 use Rattle.cu_history.specs.declared.entry.EventKind.{EventKind}
 use Rattle.cu_history.specs.History.{is_done, is_failed, count_kind, count_of_task}
@@ -26,8 +26,7 @@ use Rattle.cu_table.specs.Table.{TableView}
 use Rattle.cu_work.proofs.FewFailures.{failures_few}
 use Rattle.cu_work.proofs.Running.{left_stored}
 use Rattle.cu_work.specs.Drive.{IsBadChunk, IsInputKey}
-use Rattle.cu_work.specs.Run.{AreTextsHeld, HoldsTexts, IsMissingKey, IsRunFault, PutOfMissing, run_of as work_run}
-use Rattle.cu_work.specs.Run.{IsRecordFirst as IsTextFirst, IsUnstored as IsTextUnstored}
+use Rattle.cu_work.specs.Run.{AreTextsHeld, HoldsTexts, IsMissingKey, IsRunFault, PutOfMissing, run_of as work_run, IsRecordFirst as IsTextFirst, IsUnstored as IsTextUnstored}
 use Rattle.cu_work.specs.Shared.{IsOpen, IsOpenAs, HoldsDone, HasDriven, AreCounted, opened_table, IfBadChunk, IfComplete, IfLacked}
 use Rattle.cu_work.specs.declared.options.RunOptions.{RunOptions}
 use Rattle.cu_work.specs.declared.outcome.Outcome.{Outcome}
@@ -48,8 +47,7 @@ use Rattle.cu_top.specs.Driven.{DriveCase, drive_case, run_options, AreHeld, Mis
 use Rattle.cu_top.specs.Prepare.{HasNoOwnInput, job_plan, out_metadata}
 use Rattle.cu_top.specs.Quiet.{run_of_job}
 use Rattle.cu_top.specs.Record.{record_text}
-use Rattle.cu_top.specs.Run.{RunCase, job_run, plan_in, env_of, IsMeant, HoldsAll, WhereLeft}
-use Rattle.cu_top.specs.Run.{IsHistory, HasBroken, settings_of}
+use Rattle.cu_top.specs.Run.{RunCase, job_run, plan_in, env_of, IsMeant, HoldsAll, WhereLeft, IsHistory, HasBroken, settings_of}
 use Rattle.cu_top.proofs.PlanLemmas.{differs}
 
 -- the laws of histories that the report and the cause of a task rest on

@@ -1,6 +1,5 @@
 -- The removal of a plan's keys: which they are, what it leaves, and how it ends.
-use Rattle.std.proofs.Common.{◌≡◌, ◌⊎◌, inl, inr, ℕ, zero, suc, ◌+◌, ◌*◌, ◌≤◌, List, [], ◌∷◌, length, All, Contains}
-use Rattle.std.proofs.Common.{Option, Some, None, Ok, Err, sym, ap, ◌∙◌, subst, arith}
+use Rattle.std.proofs.Common.{◌≡◌, ◌⊎◌, inl, inr, ℕ, zero, suc, ◌+◌, ◌*◌, ◌≤◌, List, [], ◌∷◌, length, All, Contains, Option, Some, None, Ok, Err, sym, ap, ◌∙◌, subst, arith}
 use Rattle.std.proofs.lemmas.List.Elements.{All-weaker, All-contains, All-contains_itself, Contains-append_left, Contains-append_right, Contains-append_cases}
 use Rattle.cu_store.specs.Faults.{Rose}
 use Rattle.cu_store.specs.Held.{Contents, Write, IsAmong}
@@ -9,7 +8,7 @@ use Rattle.cu_zarr.specs.Key.{metadata_key_of}
 use Rattle.cu_name.specs.Keys.{record_key_of}
 use Rattle.cu_op.specs.PlanView.{PlanView}
 use Rattle.cu_op.specs.Sound.{Sound}
-use Rattle.cu_op.specs.Value.{Elements}
+use Rattle.cu_op.specs.Elements.{Elements}
 use Rattle.cu_state.specs.Left.{IsLeft}
 use Rattle.cu_state.specs.Pieces.{PlanRun, Piece, Text, Chunk, IsPiece, piece_key}
 use Rattle.cu_work.specs.Commands.{CommandChange}

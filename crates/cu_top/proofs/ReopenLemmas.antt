@@ -1,6 +1,5 @@
 -- A plan that is found again: what it was left as, what a run that goes on begins with and comes to.
-use Rattle.std.proofs.Common.{◌≡◌, inl, inr, ℕ, suc, ◌+◌, ◌<◌, ◌≤◌, List, ◌∷◌, ◌++◌, length, Contains, Option, Some, None}
-use Rattle.std.proofs.Common.{Result, Ok, Err, refl, sym, subst, arith}
+use Rattle.std.proofs.Common.{◌≡◌, inl, inr, ℕ, suc, ◌+◌, ◌<◌, ◌≤◌, List, ◌∷◌, ◌++◌, length, Contains, Option, Some, None, Result, Ok, Err, refl, sym, subst, arith}
 use Rattle.std.specs.Prelude.{Bool, ◌↔◌}
 use Rattle.std.proofs.lemmas.List.Elements.{Contains-append_right}
 use Rattle.cu_store.specs.Faults.{last_count, Rose}
@@ -10,7 +9,7 @@ use Rattle.cu_zarr.specs.Key.{metadata_key_of}
 use Rattle.cu_name.specs.Keys.{record_key_of}
 use Rattle.cu_op.specs.PlanView.{PlanView}
 use Rattle.cu_op.specs.Schedule.{key_of}
-use Rattle.cu_op.specs.Value.{Elements}
+use Rattle.cu_op.specs.Elements.{Elements}
 use Rattle.cu_history.specs.declared.entry.Entry.{Entry}
 use Rattle.cu_history.specs.History.{is_start, count_of_task}
 use Rattle.cu_state.specs.Left.{IsLeft, RunChange}
@@ -49,8 +48,7 @@ use Rattle.cu_top.specs.Report.{report_line}
 use Rattle.cu_top.specs.Resume.{IsResumed, MetadataPut, HoldsTextsNow, AreFoundDone, HasGoneOn, IsCountedOn, HasRecord, IsRestFault, find_answer, WasResumed, ResumeEnded}
 use Rattle.cu_top.specs.Run.{RunCase, job_run, plan_in, env_of, IsAccepted, settings_of, WroteTo}
 use Rattle.cu_top.specs.declared.report.RunCounts.{RunCounts}
-use Rattle.cu_top.proofs.DriveLemmas.{HistoryLaws, PlanLaws, apart_run, left_start, kept, rose_since, started_case, run_step, left_end, stored}
-use Rattle.cu_top.proofs.DriveLemmas.{history_of, legal_of, few_failures, broken_task, broken_by, broken_rose}
+use Rattle.cu_top.proofs.DriveLemmas.{HistoryLaws, PlanLaws, apart_run, left_start, kept, rose_since, started_case, run_step, left_end, stored, history_of, legal_of, few_failures, broken_task, broken_by, broken_rose}
 use Rattle.cu_top.proofs.HeldLemmas.{held_before}
 use Rattle.cu_top.proofs.PlanLemmas.{lent_within}
 

@@ -1,7 +1,6 @@
 -- A run: what clears its way, what it keeps once it is started, and how it ends.
-use Rattle.std.proofs.Common.{◌≡◌, ◌⊎◌, inl, inr, ℕ, zero, suc, ◌+◌, ◌<◌, ◌≤◌, List, [], ◌∷◌, length, map, All, Contains, Option, Some, None, Result, Ok, Err, IfErr, refl, sym, ap, ◌∙◌, subst, arith}
+use Rattle.std.proofs.Common.{◌≡◌, ◌⊎◌, inl, inr, ℕ, zero, suc, ◌+◌, ◌<◌, ◌≤◌, List, [], ◌∷◌, length, map, All, Contains, Option, Some, None, Result, Ok, Err, IfErr, refl, sym, ap, ◌∙◌, subst, arith, replicate}
 use Rattle.std.specs.Prelude.{Bool, false}
-use Rattle.std.proofs.Common.{replicate}
 use Rattle.std.proofs.lemmas.List.{get_or-replicate, length-replicate}
 use Rattle.std.proofs.lemmas.Bool.{cases_lt}
 use Rattle.std.proofs.lemmas.List.Elements.{All-weaker, All-contains, Contains-append_left, Contains-append_right}
@@ -15,7 +14,7 @@ use Rattle.cu_op.specs.Cells.{tasks_of}
 use Rattle.cu_op.specs.PlanView.{PlanView}
 use Rattle.cu_op.specs.Schedule.{op_of, key_of}
 use Rattle.cu_op.specs.Sound.{Sound}
-use Rattle.cu_op.specs.Value.{Elements}
+use Rattle.cu_op.specs.Elements.{Elements}
 use Rattle.cu_op.specs.Walks.{written_chunks}
 use Rattle.cu_op.proofs.TaskCells.{some_task}
 use Rattle.cu_state.specs.Left.{IsLeft, RunChange}
@@ -45,8 +44,7 @@ use Rattle.cu_top.specs.Quiet.{IsCalm, IsCalmFor}
 use Rattle.cu_top.specs.Run.{RunCase, job_run, plan_in, env_of, IsAccepted, IsStarted, IsCleared, WhereQuiet, WroteTo, IsCounted, IsStop, TextPut, Ran, Ended, PrintsOnly}
 use Rattle.cu_top.specs.Report.{report_line}
 use Rattle.cu_top.specs.declared.report.RunCounts.{RunCounts}
-use Rattle.cu_top.proofs.DriveLemmas.{HistoryLaws, PlanLaws, apart_run, open_start, left_start, rose_since, started_case, run_step, left_end, stored}
-use Rattle.cu_top.proofs.DriveLemmas.{history_of, few_failures, broken_task, broken_by, broken_rose}
+use Rattle.cu_top.proofs.DriveLemmas.{HistoryLaws, PlanLaws, apart_run, open_start, left_start, rose_since, started_case, run_step, left_end, stored, history_of, few_failures, broken_task, broken_by, broken_rose}
 use Rattle.cu_top.proofs.PlanLemmas.{lent_within}
 use Rattle.cu_table.specs.Numbers.{task_count}
 

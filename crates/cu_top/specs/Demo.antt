@@ -1,6 +1,5 @@
 -- What the command `demo` answers, and what it leaves. This project's own rules.
-use Rattle.std.specs.Prelude.{◌≡◌, ◌≢◌, ◌⊎◌, Bool, ℕ, ◌+◌, ◌≤◌, ℤ, List, [], ◌∷◌, ◌++◌}
-use Rattle.std.specs.Prelude.{length, codes, decimal, All, Contains, Option, Some, None}
+use Rattle.std.specs.Prelude.{◌≡◌, ◌≢◌, ◌⊎◌, Bool, ℕ, ◌+◌, ◌≤◌, ℤ, List, [], ◌∷◌, ◌++◌, length, codes, decimal, All, Contains, Option, Some, None}
 use Rattle.std.specs.Fmt.{signed_decimal}
 use Rattle.cu_num.specs.declared.types.Dtype.TheVariants.{Int64}
 use Rattle.cu_node.specs.Info.{info_of}
@@ -23,9 +22,7 @@ use Rattle.cu_command.specs.Seen.{Seen, Stepped, WroteNothing, stream}
 use Rattle.cu_command.specs.Streams.{WroteFront}
 use Rattle.cu_command.specs.declared.job.Job.{Job}
 use Rattle.cu_command.specs.declared.status.Status.{Status}
-use Rattle.cu_command.specs.declared.status.Status.TheVariants.{Done, OverMemory, OverLimit}
-use Rattle.cu_command.specs.declared.status.Status.TheVariants.{Exists, TaskFailed, WriteFault}
-use Rattle.cu_command.specs.declared.status.Status.TheVariants.{BadChunk, DepotFailed, NoMemory}
+use Rattle.cu_command.specs.declared.status.Status.TheVariants.{Done, OverMemory, OverLimit, Exists, TaskFailed, WriteFault, BadChunk, DepotFailed, NoMemory}
 use Rattle.cu_load.specs.Keys.{AreFree, IsAskedFor, IsAskFault}
 use Rattle.cu_load.specs.Load.{ArrayPut, IsArrayCalm, IsArrayKey, StoresGiven}
 use Rattle.cu_load.specs.LoadForm.{GivenArray}

@@ -1,11 +1,10 @@
 -- The tasks of an accepted plan: what their run is given, what it tells, and what it answers.
 -- This project's own rules.
-use Rattle.std.specs.Prelude.{◌≡◌, ◌⊎◌, Bool, IsTrue, ℕ, ◌+◌, ◌*◌, List, Option}
-use Rattle.std.specs.Prelude.{Result, Ok, Err, IfOk, IfErr}
+use Rattle.std.specs.Prelude.{◌≡◌, ◌⊎◌, Bool, IsTrue, ℕ, ◌+◌, ◌*◌, List, Option, Result, Ok, Err, IfOk, IfErr}
 use Rattle.cu_store.specs.Faults.{last_count, Rose}
 use Rattle.cu_store.specs.Held.{Contents, IsHeldIn}
 use Rattle.cu_store.specs.Steps.{Shown, Changes, NoChange, PutOf, Steps}
-use Rattle.cu_op.specs.Value.{Elements}
+use Rattle.cu_op.specs.Elements.{Elements}
 use Rattle.cu_history.specs.History.{is_start, is_failed, count_kind}
 use Rattle.cu_history.specs.declared.entry.Entry.{Entry}
 use Rattle.cu_lower.specs.declared.options.Options.{Options}
@@ -14,8 +13,7 @@ use Rattle.cu_state.specs.Pieces.{PlanRun, text_at, IsComplete}
 use Rattle.cu_table.specs.Table.{TableView}
 use Rattle.cu_work.specs.Drive.{IsBadChunk, IsInputKey}
 use Rattle.cu_work.specs.Run.{IsRecordFirst, IsUnstored, HoldsTexts}
-use Rattle.cu_work.specs.Shared.{opened_table, HasDriven, HoldsDone, AreCounted}
-use Rattle.cu_work.specs.Shared.{IfBadChunk, IfComplete, IfLacked}
+use Rattle.cu_work.specs.Shared.{opened_table, HasDriven, HoldsDone, AreCounted, IfBadChunk, IfComplete, IfLacked}
 use Rattle.cu_work.specs.declared.options.RunOptions.{RunOptions}
 use Rattle.cu_work.specs.declared.outcome.Outcome.{Outcome}
 use Rattle.cu_work.specs.declared.outcome.Outcome.TheVariants as ended
@@ -25,8 +23,7 @@ use Rattle.cu_work.specs.declared.run.HeldTexts.TheVariants.{Neither, Record, Bo
 use Rattle.cu_work.specs.declared.run.RunFault.{RunFault}
 use Rattle.cu_work.specs.declared.run.RunFault.TheVariants as text
 use Rattle.cu_command.specs.declared.status.Status.{Status}
-use Rattle.cu_command.specs.declared.status.Status.TheVariants.{TaskFailed, BadChunk}
-use Rattle.cu_command.specs.declared.status.Status.TheVariants.{DepotFailed, NoMemory}
+use Rattle.cu_command.specs.declared.status.Status.TheVariants.{TaskFailed, BadChunk, DepotFailed, NoMemory}
 use Rattle.cu_top.specs.Prepare.{job_plan, out_metadata}
 use Rattle.cu_top.specs.Record.{record_text}
 use Rattle.cu_top.specs.declared.drive.Ready.{Ready}

@@ -1,27 +1,25 @@
 -- The record that is held, beside that of a plan. This project's own rules.
-use Rattle.std.specs.Prelude.{◌≡◌, ◌≢◌, ◌⊎◌, ℕ, ◌+◌, List, slice_get, take, Option, Some, None}
-use Rattle.std.specs.Prelude.{Result, Ok, Err}
+use Rattle.std.specs.Prelude.{◌≡◌, ◌≢◌, ◌⊎◌, ℕ, ◌+◌, List, slice_get, take, Option, Some, None, Result, Ok, Err}
 use Rattle.cu_store.specs.Faults.{Rose}
 use Rattle.cu_store.specs.Held.{Contents, Holds, IsGone, IsAmong}
 use Rattle.cu_store.specs.Steps.{Shown, NoChange}
 use Rattle.cu_state.specs.Left.{IsLeft}
 use Rattle.cu_state.specs.Pieces.{PlanRun, KeysApart, text_at}
 use Rattle.cu_op.specs.Sound.{Sound}
-use Rattle.cu_op.specs.Value.{Elements, stored_inputs}
+use Rattle.cu_op.specs.Elements.{Elements}
+use Rattle.cu_op.specs.Value.{stored_inputs}
 use Rattle.cu_name.specs.Keys.{record_key_of}
 use Rattle.cu_command.specs.Job.{IsJob}
 use Rattle.cu_command.specs.Seen.{Stepped}
 use Rattle.cu_command.specs.declared.job.Job.{Job}
 use Rattle.cu_command.specs.declared.job.JobFault.TheVariants as fault
 use Rattle.cu_command.specs.declared.status.Status.{Status}
-use Rattle.cu_command.specs.declared.status.Status.TheVariants.{OtherPlan, NoPlan, DepotFailed}
-use Rattle.cu_command.specs.declared.status.Status.TheVariants.{NoMemory}
+use Rattle.cu_command.specs.declared.status.Status.TheVariants.{OtherPlan, NoPlan, DepotFailed, NoMemory}
 use Rattle.cu_lower.specs.declared.options.Options.{Options}
 use Rattle.cu_top.specs.Prepare.{HasPlan, HasNoOwnInput, IsLentWithin}
 use Rattle.cu_top.specs.Quiet.{run_of_job}
 use Rattle.cu_top.specs.Record.{record_text}
-use Rattle.cu_top.specs.Run.{RunCase, plan_in, job_run, env_of, IsAccepted}
-use Rattle.cu_top.specs.Run.{HasNoJob, IsSpared, OfPlanned, WasRefused}
+use Rattle.cu_top.specs.Run.{RunCase, plan_in, job_run, env_of, IsAccepted, HasNoJob, IsSpared, OfPlanned, WasRefused}
 use Rattle.cu_top.specs.declared.held.RecordFault.{RecordFault}
 use Rattle.cu_top.specs.declared.held.RecordFault.TheVariants as held
 

@@ -1,6 +1,5 @@
 -- What the command `resume` answers, and what it leaves. This project's own rules.
-use Rattle.std.specs.Prelude.{◌≡◌, ◌⊎◌, Bool, false, IsTrue, ℕ, ◌+◌, ◌*◌, ◌<◌, ◌≤◌}
-use Rattle.std.specs.Prelude.{List, Contains, length, Some, Result, Ok, Err}
+use Rattle.std.specs.Prelude.{◌≡◌, ◌⊎◌, Bool, false, IsTrue, ℕ, ◌+◌, ◌*◌, ◌<◌, ◌≤◌, List, Contains, length, Some, Result, Ok, Err}
 use Rattle.cu_store.specs.Faults.{Rose}
 use Rattle.cu_store.specs.Held.{Contents}
 use Rattle.cu_store.specs.Steps.{Shown, Changes, PutOf}
@@ -26,17 +25,14 @@ use Rattle.cu_work.specs.declared.run.HeldTexts.TheVariants.{Neither}
 use Rattle.cu_command.specs.Seen.{Stepped}
 use Rattle.cu_command.specs.declared.job.Job.{Job}
 use Rattle.cu_command.specs.declared.status.Status.{Status}
-use Rattle.cu_command.specs.declared.status.Status.TheVariants.{Done, TaskFailed, ReadFault}
-use Rattle.cu_command.specs.declared.status.Status.TheVariants.{WriteFault, BadChunk, DepotFailed}
-use Rattle.cu_command.specs.declared.status.Status.TheVariants.{NoMemory}
+use Rattle.cu_command.specs.declared.status.Status.TheVariants.{Done, TaskFailed, ReadFault, WriteFault, BadChunk, DepotFailed, NoMemory}
 use Rattle.cu_lower.specs.declared.options.Options.{Options}
 use Rattle.cu_top.specs.Call.{AreSpared, CameToRun, IsReadFault}
 use Rattle.cu_top.specs.Driven.{run_counts_in}
 use Rattle.cu_top.specs.Held.{IsNotReopened, IsReopened, IsUnasked, WhereEntryTold}
 use Rattle.cu_top.specs.Prepare.{keys_of, out_metadata}
 use Rattle.cu_top.specs.Report.{report_line}
-use Rattle.cu_top.specs.Run.{Scene, RunCase, plan_in, job_run, HasBroken, HoldsAll, IsHistory}
-use Rattle.cu_top.specs.Run.{IsSpared, OfPlanned, WroteTo}
+use Rattle.cu_top.specs.Run.{Scene, RunCase, plan_in, job_run, HasBroken, HoldsAll, IsHistory, IsSpared, OfPlanned, WroteTo}
 use Rattle.cu_top.specs.declared.report.RunCounts.{RunCounts}
 
 -- The plan was found again, and its run goes on. Nothing but values was put under its keys. Where

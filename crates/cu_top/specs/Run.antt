@@ -13,7 +13,8 @@ use Rattle.cu_op.specs.Layout.{layout_view}
 use Rattle.cu_op.specs.PlanView.{PlanView}
 use Rattle.cu_op.specs.Schedule.{op_of, key_of}
 use Rattle.cu_op.specs.Sound.{Sound}
-use Rattle.cu_op.specs.Value.{Elements, stored_inputs}
+use Rattle.cu_op.specs.Elements.{Elements}
+use Rattle.cu_op.specs.Value.{stored_inputs}
 use Rattle.cu_op.specs.Walks.{written_chunks}
 use Rattle.cu_meaning.specs.Argument.{shape_of_node}
 use Rattle.cu_meaning.specs.Meaning.{meaning_of}

@@ -1,7 +1,7 @@
 //! Laws of the commands: calls that do nothing and whose clauses are the laws.
 ghost use Rattle.std.specs.Prelude.{◌∷◌, [], ℕ, Bool, List, All, Some, codes};
 ghost use Rattle.cu_store.specs.Steps.{Shown};
-ghost use Rattle.cu_op.specs.Value.{Elements};
+ghost use Rattle.cu_op.specs.Elements.{Elements};
 ghost use Rattle.cu_state.specs.Left.{IsLeft};
 ghost use Rattle.cu_state.specs.Pieces.{PlanRun};
 ghost use Rattle.cu_work.specs.Commands.{AreCommands, IsCommand};

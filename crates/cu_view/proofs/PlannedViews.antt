@@ -9,11 +9,13 @@ use Rattle.cu_op.specs.declared.layout.ArrayInfo.{ArrayInfo}
 use Rattle.cu_op.specs.declared.operation.Op.{Op}
 use Rattle.cu_op.specs.declared.operation.Op.TheVariants.{Pull}
 use Rattle.cu_op.specs.Arrays.{grid_at}
-use Rattle.cu_op.specs.Operation.{reads_of, writes_of, target_of, shapes_at}
+use Rattle.cu_op.specs.Operation.{reads_of, writes_of, target_of}
+use Rattle.cu_op.specs.Kind.Pull.{shapes_at, pulled}
 use Rattle.cu_op.specs.PlanView.{PlanView}
 use Rattle.cu_op.specs.Schedule.{op_of}
 use Rattle.cu_op.specs.Sound.{Sound}
-use Rattle.cu_op.specs.Value.{Elements, rule, plan_value, pulled}
+use Rattle.cu_op.specs.Elements.{Elements}
+use Rattle.cu_op.specs.Value.{rule, plan_value}
 use Rattle.cu_op.proofs.Operations.{Fit}
 use Rattle.cu_op.proofs.Plans.{grid_ok}
 use Rattle.cu_op.proofs.Values.{value_solves}

@@ -7,7 +7,7 @@ use Rattle.cu_op.specs.declared.layout.ArrayInfo.{ArrayInfo}
 use Rattle.cu_op.specs.declared.operation.Op.{Op}
 use Rattle.cu_op.specs.declared.operation.Op.TheVariants.{Pull}
 use Rattle.cu_op.specs.Arrays.{grid_at}
-use Rattle.cu_op.specs.Operation.{origin_at}
+use Rattle.cu_op.specs.Kind.Pull.{origin_at}
 
 -- the operation is a view
 abbrev pub IsViewOperation : Op → Type 0

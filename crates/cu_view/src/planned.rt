@@ -4,9 +4,11 @@ ghost use Rattle.cu_shape.specs.Index.{IsInside};
 ghost use Rattle.cu_grid.specs.Counts.{IsRegion, IsWithin};
 ghost use Rattle.cu_pull.specs.Pull.{IsInSources};
 ghost use Rattle.cu_pull.specs.declared.provenance.Provenance.TheVariants.{From};
-ghost use Rattle.cu_op.specs.Operation.{reads_of, target_of, shapes_at};
+ghost use Rattle.cu_op.specs.Operation.{reads_of, target_of};
+ghost use Rattle.cu_op.specs.Kind.Pull.{shapes_at, pulled};
 ghost use Rattle.cu_op.specs.Schedule.{op_of};
-ghost use Rattle.cu_op.specs.Value.{Elements, plan_value, pulled};
+ghost use Rattle.cu_op.specs.Elements.{Elements};
+ghost use Rattle.cu_op.specs.Value.{plan_value};
 ghost use Rattle.cu_view_box.specs.Reshape.{MeetsRun};
 ghost use Rattle.cu_view.specs.Planned.{IsViewOperation, Reshapes, pull_origin, shape_at};
 

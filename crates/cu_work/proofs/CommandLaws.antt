@@ -10,11 +10,12 @@ use Rattle.cu_store.proofs.Steps.{steps_wider}
 use Rattle.cu_zarr.specs.Stored.{element_in}
 use Rattle.cu_op.specs.declared.cells.Cell.{Cell}
 use Rattle.cu_op.specs.Arrays.{layout_at, grid_at, maker_at}
-use Rattle.cu_op.specs.Cells.{cell, tasks_of}
+use Rattle.cu_op.specs.Chunks.{cell}
+use Rattle.cu_op.specs.Cells.{tasks_of}
 use Rattle.cu_op.specs.PlanView.{PlanView}
 use Rattle.cu_op.specs.Schedule.{op_of, key_of, task_at}
 use Rattle.cu_op.specs.Sound.{Sound, IsCell}
-use Rattle.cu_op.specs.Value.{Elements}
+use Rattle.cu_op.specs.Elements.{Elements}
 use Rattle.cu_op.specs.Walks.{written_chunks}
 use Rattle.cu_op.proofs.CellsOfTasks.{map_contains}
 use Rattle.cu_op.proofs.Plans.{grid_ok}

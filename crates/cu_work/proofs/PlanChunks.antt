@@ -11,7 +11,8 @@ use Rattle.cu_store.specs.Yard.{is_served, is_made}
 use Rattle.cu_op.specs.declared.cells.Cell.{Cell}
 use Rattle.cu_op.specs.declared.layout.ArrayInfo.{ArrayInfo}
 use Rattle.cu_op.specs.Arrays.{array_at, grid_at, grid_counts, maker_at, array_chunk_count}
-use Rattle.cu_op.specs.Cells.{cell, IsChunk}
+use Rattle.cu_op.specs.Chunks.{cell}
+use Rattle.cu_op.specs.Cells.{IsChunk}
 use Rattle.cu_op.specs.PlanView.{PlanView}
 use Rattle.cu_op.specs.Schedule.{key_of}
 use Rattle.cu_op.specs.Sound.{IsCell}

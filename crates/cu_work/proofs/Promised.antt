@@ -24,7 +24,8 @@ use Rattle.cu_op.specs.Cells.{IsChunk}
 use Rattle.cu_op.specs.PlanView.{PlanView}
 use Rattle.cu_op.specs.Schedule.{key_of, cell_value}
 use Rattle.cu_op.specs.Sound.{IsCell}
-use Rattle.cu_op.specs.Value.{Elements, plan_value}
+use Rattle.cu_op.specs.Elements.{Elements}
+use Rattle.cu_op.specs.Value.{plan_value}
 use Rattle.cu_work.specs.Shared.{plan_chunks, spec_of, specs_of, with_write, put_value, writes_of_chunks}
 use Rattle.cu_work.proofs.PlanChunks.{ChunksApart, chunk_listed, listed_chunk, first_is, behind, front_or, none_in}
 

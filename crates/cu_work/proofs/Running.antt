@@ -11,7 +11,8 @@ use Rattle.cu_store.proofs.Steps.{steps_then, steps_wider, steps_none}
 use Rattle.cu_op.specs.declared.cells.Cell.{Cell}
 use Rattle.cu_op.specs.PlanView.{PlanView}
 use Rattle.cu_op.specs.Schedule.{key_of}
-use Rattle.cu_op.specs.Value.{Elements, stored_inputs}
+use Rattle.cu_op.specs.Elements.{Elements}
+use Rattle.cu_op.specs.Value.{stored_inputs}
 use Rattle.cu_op.proofs.Ranges.{stored_range}
 use Rattle.cu_state.specs.Left.{IsLeft, Begun, RunChange}
 use Rattle.cu_state.specs.Pieces.{PlanRun, chunks_alone, Piece, Text, Chunk, IsPiece, piece_key, piece_value, HoldsPiece, IsComplete, IsInputChunk, KeysApart}

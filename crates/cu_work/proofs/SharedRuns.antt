@@ -17,11 +17,12 @@ use Rattle.cu_zarr.specs.Stored.{element_in}
 use Rattle.cu_history.specs.History.{is_start, is_failed, count_kind}
 use Rattle.cu_op.specs.declared.cells.Cell.{Cell}
 use Rattle.cu_op.specs.Arrays.{layout_at, grid_at, maker_at}
-use Rattle.cu_op.specs.Cells.{cell}
+use Rattle.cu_op.specs.Chunks.{cell}
 use Rattle.cu_op.specs.PlanView.{PlanView}
 use Rattle.cu_op.specs.Schedule.{key_of, cell_value}
 use Rattle.cu_op.specs.Sound.{Sound, IsCell}
-use Rattle.cu_op.specs.Value.{Elements, stored_inputs}
+use Rattle.cu_op.specs.Elements.{Elements}
+use Rattle.cu_op.specs.Value.{stored_inputs}
 use Rattle.cu_op.proofs.Plans.{grid_ok}
 use Rattle.cu_op.proofs.TaskCells.{written_cell}
 use Rattle.cu_region.specs.Steady.{HoldsLength}

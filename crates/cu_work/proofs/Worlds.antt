@@ -9,7 +9,8 @@ use Rattle.cu_op.specs.Arrays.{layout_at, grid_at, maker_at}
 use Rattle.cu_op.specs.PlanView.{PlanView}
 use Rattle.cu_op.specs.Schedule.{op_of, key_of, cell_value, task_at, WritesCell, IsReady as IsReadyOf}
 use Rattle.cu_op.specs.Sound.{Sound, IsCell}
-use Rattle.cu_op.specs.Value.{Elements, rule, plan_value, stored_inputs}
+use Rattle.cu_op.specs.Elements.{Elements}
+use Rattle.cu_op.specs.Value.{rule, plan_value, stored_inputs}
 use Rattle.cu_op.specs.Walks.{written_chunks, read_chunks}
 use Rattle.cu_op.specs.declared.cells.Cell.{Cell}
 use Rattle.cu_op.specs.InputCells.{input_cells}

@@ -7,7 +7,8 @@ use Rattle.cu_store.specs.Steps.{Shown}
 use Rattle.cu_op.specs.Arrays.{layout_at, maker_at}
 use Rattle.cu_op.specs.PlanView.{PlanView}
 use Rattle.cu_op.specs.Schedule.{op_of, key_of}
-use Rattle.cu_op.specs.Value.{Elements, rule, stored_inputs}
+use Rattle.cu_op.specs.Elements.{Elements}
+use Rattle.cu_op.specs.Value.{rule, stored_inputs}
 use Rattle.cu_op.specs.InputCells.{input_cells}
 use Rattle.cu_op.specs.Walks.{written_chunks}
 use Rattle.cu_op.specs.declared.cells.Cell.{Cell}

@@ -10,7 +10,7 @@ ghost use Rattle.cu_op.specs.declared.cells.Cell.{Cell};
 ghost use Rattle.cu_op.specs.PlanView.{PlanView};
 ghost use Rattle.cu_op.specs.Schedule.{key_of};
 ghost use Rattle.cu_op.specs.Sound.{Sound, IsCell};
-ghost use Rattle.cu_op.specs.Value.{Elements};
+ghost use Rattle.cu_op.specs.Elements.{Elements};
 ghost use Rattle.cu_state.specs.Left.{IsLeft, RunChange};
 ghost use Rattle.cu_state.specs.Pieces.{PlanRun, Piece, IsPiece, piece_key, HoldsTask};
 ghost use Rattle.cu_table.specs.Machine.{Machine, IsDone, opening};

@@ -4,7 +4,7 @@ ghost use Rattle.cu_store.specs.Faults.{last_count};
 ghost use Rattle.cu_store.specs.Held.{Contents, Holds};
 ghost use Rattle.cu_store.specs.Steps.{PutOf, Steps};
 ghost use Rattle.cu_history.specs.History.{is_start, count_kind};
-ghost use Rattle.cu_op.specs.Value.{Elements};
+ghost use Rattle.cu_op.specs.Elements.{Elements};
 ghost use Rattle.cu_state.specs.Left.{IsLeft, RunChange};
 ghost use Rattle.cu_state.specs.Pieces.{KeysApart, InputsApart, IsComplete};
 ghost use Rattle.cu_work.specs.Drive.{IsBadChunk, IsInputKey, IsTaskMost};

@@ -5,7 +5,7 @@ ghost use Rattle.cu_store.specs.Held.{Contents};
 ghost use Rattle.cu_store.specs.Share.{IsShareFault};
 ghost use Rattle.cu_store.specs.Steps.{NoChange, Steps};
 ghost use Rattle.cu_history.specs.History.{is_start, count_kind};
-ghost use Rattle.cu_op.specs.Value.{Elements};
+ghost use Rattle.cu_op.specs.Elements.{Elements};
 ghost use Rattle.cu_state.specs.Left.{IsLeft, RunChange};
 ghost use Rattle.cu_state.specs.Pieces.{chunks_alone, KeysApart, InputsApart};
 ghost use Rattle.cu_work.specs.Drive.{IsBadChunk, IsInputKey, IsTaskMost};

@@ -7,15 +7,14 @@ use Rattle.cu_num.specs.declared.types.Dtype.{Dtype}
 use Rattle.cu_op.proofs.Filled.{filled_region}
 use Rattle.cu_op.proofs.Kind.{Laws}
 use Rattle.cu_op.proofs.NewNumbers.{grid_same, type_same}
-use Rattle.cu_op.proofs.Results.{only_written, differ_only}
+use Rattle.cu_op.proofs.Results.{only_written, differ_only, none_given}
 use Rattle.cu_op.proofs.Rooms.{size_few, times_few}
 use Rattle.cu_op.proofs.SameCells.{of_one, box_same}
 use Rattle.cu_op.proofs.WalksOf.{over_one, apart_one, first_of_walks}
 use Rattle.cu_op.specs.Arrays.{grid_at, type_at}
-use Rattle.cu_op.specs.Kind.Copy.{copy_kind}
-use Rattle.cu_op.specs.Operation.{region_grid}
+use Rattle.cu_op.specs.Kind.Copy.{copy_kind, region_grid}
 use Rattle.cu_op.specs.Schedule.{IsNested}
-use Rattle.cu_op.specs.Walks.{walk}
+use Rattle.cu_op.specs.Chunks.{walk}
 use Rattle.cu_shape.specs.Index.{product}
 use Rattle.std.proofs.Common.{ℕ, List, [], length, Option, refl, sym, ◌∙◌, subst, arith, ℤ, ap, ◌*◌}
 use Rattle.std.proofs.lemmas.List.Elements.{All-cons, All-nil}
@@ -68,4 +67,8 @@ copy_laws region source out = record {
     input_room = λ old new s. ap (λ t. product region * size_of t) (type_same f old new source (s.reads 0 0 (omega arith)));
     output_room = λ old new s. refl;
   };
+  compares = λ array is. absurd (none_given array is);
+  stores = λ array is. absurd (none_given array is);
+  stores_none = λ is. refl;
+  stored_type = λ arrays array fits is. absurd (none_given array is);
 }

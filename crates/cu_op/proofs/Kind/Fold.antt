@@ -8,14 +8,15 @@ use Rattle.cu_op.proofs.Kind.{Laws, Stands}
 use Rattle.cu_op.proofs.NewNumbers.{grid_same, type_same, fold_fits, room_same}
 use Rattle.cu_op.proofs.PlanGroups.{chunk_ranks}
 use Rattle.cu_op.proofs.ResultRanges.{fold_range}
-use Rattle.cu_op.proofs.Results.{differ_only, nested_only}
+use Rattle.cu_op.proofs.Results.{differ_only, nested_only, none_given}
 use Rattle.cu_op.proofs.Rooms.{any_room_few}
 use Rattle.cu_op.proofs.SameCells.{of_one, folded_same}
 use Rattle.cu_op.proofs.WalksOf.{over_one, apart_one, first_of_walks}
 use Rattle.cu_op.specs.Arrays.{grid_at, type_at}
 use Rattle.cu_op.specs.Kind.Fold.{fold_kind}
 use Rattle.cu_op.specs.Partial.{partial_indices, chunk_groups}
-use Rattle.cu_op.specs.Walks.{IsWalkOver, partial_walk}
+use Rattle.cu_op.specs.Walks.{IsWalkOver}
+use Rattle.cu_op.specs.Reductions.{partial_walk}
 use Rattle.cu_op.specs.declared.layout.ArrayInfo.{ArrayInfo}
 use Rattle.cu_pull.specs.Pull.{has_axis}
 use Rattle.cu_pull.specs.declared.axes.Axes.{Axes}
@@ -68,6 +69,10 @@ fold_laws kind axes source out = record {
     input_room = λ old new s. room_same f old new source (s.reads 0 0 (omega arith));
     output_room = λ old new s. room_same f old new out (s.writes 0 0 (omega arith));
   };
+  compares = λ array is. absurd (none_given array is);
+  stores = λ array is. absurd (none_given array is);
+  stores_none = λ is. refl;
+  stored_type = λ arrays array fits is. absurd (none_given array is);
 }
   where
     fold_over : (kind : FoldKind) (axes : Axes) (source out : ℕ) (arrays : List ArrayInfo) (lo hi : List ℕ) → Stands arrays (fold_kind kind axes source out) → IsFilled (grid_at arrays out).shape lo hi

@@ -11,17 +11,17 @@ use Rattle.cu_op.proofs.Kind.{Laws, Stands, ReadsTypes}
 use Rattle.cu_op.proofs.MapRegions.{read_within, within_lengths, read_over}
 use Rattle.cu_op.proofs.NewNumbers.{given_same, grid_same, type_same, types_same, all_renumbered, room_same, sum_same}
 use Rattle.cu_op.proofs.PairRanges.{some_map, some_then}
-use Rattle.cu_op.proofs.Results.{only_written, differ_only, nested_only}
+use Rattle.cu_op.proofs.Results.{only_written, differ_only, nested_only, none_given}
 use Rattle.cu_op.proofs.Rooms.{any_room_few, room_few}
 use Rattle.cu_op.proofs.SameCells.{HaveSame, same_list, of_each, read_same}
 use Rattle.cu_op.proofs.WalksOf.{LiesIn, apart_each, own_arrays}
 use Rattle.cu_op.specs.Arrays.{grid_at, type_at, chunk_room, HasLayoutOf}
-use Rattle.cu_op.specs.Cells.{cell}
+use Rattle.cu_op.specs.Chunks.{cell}
 use Rattle.cu_op.specs.KernelTypes.{KernelFits, LoadsTypes}
-use Rattle.cu_op.specs.Kind.Map.{map_kind}
-use Rattle.cu_op.specs.Operation.{IsAligned}
-use Rattle.cu_op.specs.Value.{Elements, loaded}
-use Rattle.cu_op.specs.Walks.{back_as, IsWalkOver, cells_of_walks, read_walk}
+use Rattle.cu_op.specs.Kind.Map.{map_kind, loaded, read_walk}
+use Rattle.cu_op.specs.Aligned.{IsAligned}
+use Rattle.cu_op.specs.Elements.{Elements}
+use Rattle.cu_op.specs.Walks.{back_as, IsWalkOver, cells_of_walks}
 use Rattle.cu_op.specs.declared.cells.Cell.{Cell}
 use Rattle.cu_op.specs.declared.kernel.Instr.{Instr}
 use Rattle.cu_op.specs.declared.layout.ArrayInfo.{ArrayInfo}
@@ -130,4 +130,8 @@ map_laws code ins out = record {
     input_room = λ old new s. sum_same f old new ins s.reads;
     output_room = λ old new s. room_same f old new out (s.writes 0 0 (omega arith));
   };
+  compares = λ array is. absurd (none_given array is);
+  stores = λ array is. absurd (none_given array is);
+  stores_none = λ is. refl;
+  stored_type = λ arrays array fits is. absurd (none_given array is);
 }

@@ -6,14 +6,14 @@ use Rattle.cu_op.proofs.Kind.{Laws}
 use Rattle.cu_op.proofs.NewNumbers.{grid_same, type_same, fold_fits, merge_along, room_same}
 use Rattle.cu_op.proofs.PlanGroups.{merge_ranks}
 use Rattle.cu_op.proofs.ResultRanges.{fold_range}
-use Rattle.cu_op.proofs.Results.{differ_only, nested_only}
+use Rattle.cu_op.proofs.Results.{differ_only, nested_only, none_given}
 use Rattle.cu_op.proofs.Rooms.{any_room_few, group_few}
 use Rattle.cu_op.proofs.SameCells.{of_one, merged_same}
 use Rattle.cu_op.proofs.WalksOf.{over_one, apart_one, first_of_walks}
 use Rattle.cu_op.specs.Arrays.{grid_at, type_at, chunk_room}
 use Rattle.cu_op.specs.Kind.Merge.{merge_kind}
 use Rattle.cu_op.specs.Partial.{partial_indices, merge_groups}
-use Rattle.cu_op.specs.Walks.{partial_walk}
+use Rattle.cu_op.specs.Reductions.{partial_walk}
 use Rattle.cu_reduce.specs.Folds.{reduced_to}
 use Rattle.cu_reduce.specs.Groups.{group_indices, group_of}
 use Rattle.std.proofs.Common.{ℕ, [], refl, sym, ◌∙◌, arith, map, ap, ◌*◌}
@@ -60,4 +60,8 @@ merge_laws kind axis group source out = record {
     input_room = λ old new s. ap (λ n. group * n) (room_same f old new source (s.reads 0 0 (omega arith)));
     output_room = λ old new s. room_same f old new out (s.writes 0 0 (omega arith));
   };
+  compares = λ array is. absurd (none_given array is);
+  stores = λ array is. absurd (none_given array is);
+  stores_none = λ is. refl;
+  stored_type = λ arrays array fits is. absurd (none_given array is);
 }

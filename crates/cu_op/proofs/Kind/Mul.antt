@@ -11,17 +11,16 @@ use Rattle.cu_op.proofs.Kind.{Laws, Stands, Keeps}
 use Rattle.cu_op.proofs.Matrices.{left_over, right_over, left_reads, right_reads, operands_apart, left_box, right_box, left_long, right_long, left_span, right_span}
 use Rattle.cu_op.proofs.NewNumbers.{grid_same, type_same, room_same}
 use Rattle.cu_op.proofs.ResultRanges.{fold_range}
-use Rattle.cu_op.proofs.Results.{differ_only, nested_only}
+use Rattle.cu_op.proofs.Results.{differ_only, nested_only, none_given}
 use Rattle.cu_op.proofs.Rooms.{any_room_few}
 use Rattle.cu_op.proofs.SameCells.{HaveSame, of_two, operand_same}
 use Rattle.cu_op.proofs.Spans.{chunk_span}
 use Rattle.cu_op.proofs.WalksOf.{over_two, apart_two, first_of_walks, second_of_walks}
 use Rattle.cu_op.specs.Arrays.{grid_at, type_at}
-use Rattle.cu_op.specs.Kind.Mul.{mul_kind}
+use Rattle.cu_op.specs.Kind.Mul.{mul_kind, MulFits, products_at, left_walk, right_walk}
 use Rattle.cu_op.specs.Matrix.{left_inner, inner_chunk_count, batch_rank, right_inner, batch_grid, product_index, part_number, inner_places, rows_of, columns_of, product_at, HasParts}
-use Rattle.cu_op.specs.Operation.{IsAligned, MulFits}
-use Rattle.cu_op.specs.Value.{products_at}
-use Rattle.cu_op.specs.Walks.{IsWalkOver, cells_of_walks, left_walk, right_walk}
+use Rattle.cu_op.specs.Aligned.{IsAligned}
+use Rattle.cu_op.specs.Walks.{IsWalkOver, cells_of_walks}
 use Rattle.cu_op.specs.declared.cells.Cell.{Cell}
 use Rattle.cu_op.specs.declared.layout.ArrayInfo.{ArrayInfo}
 use Rattle.cu_reduce.specs.Folds.{reduced_to}
@@ -82,6 +81,10 @@ mul_laws left right out = record {
     input_room = λ old new s. λ i. room_same f old new left (s.reads 0 0 (omega arith)) i + room_same f old new right (s.reads 1 0 (omega arith)) i;
     output_room = λ old new s. room_same f old new out (s.writes 0 0 (omega arith));
   };
+  compares = λ array is. absurd (none_given array is);
+  stores = λ array is. absurd (none_given array is);
+  stores_none = λ is. refl;
+  stored_type = λ arrays array fits is. absurd (none_given array is);
 }
   where
     mul_over : (arrays : List ArrayInfo) (lo hi : List ℕ) → Stands arrays (mul_kind left right out) → IsFilled (grid_at arrays out).shape lo hi

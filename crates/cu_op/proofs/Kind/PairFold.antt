@@ -8,16 +8,16 @@ use Rattle.cu_op.proofs.Kind.{Laws, Stands}
 use Rattle.cu_op.proofs.NewNumbers.{bool_same, pairs_renumbered, grid_same, place_kept, pair_fits, place_axis, room_same, value_room_same}
 use Rattle.cu_op.proofs.PairRanges.{best_listed, found_parts, place_range, pair_range}
 use Rattle.cu_op.proofs.PlanGroups.{chunk_ranks}
-use Rattle.cu_op.proofs.Results.{pair_last, nested_pair, differ_pair}
+use Rattle.cu_op.proofs.Results.{pair_last, nested_pair, differ_pair, pair_compares, pair_stored, pair_only, type_stored}
 use Rattle.cu_op.proofs.Rooms.{any_room_few}
 use Rattle.cu_op.proofs.SameCells.{of_one, folded_same}
 use Rattle.cu_op.proofs.WalksOf.{over_one, apart_one, first_of_walks}
 use Rattle.cu_op.specs.Arrays.{grid_at}
 use Rattle.cu_op.specs.Kind.PairFold.{pair_fold_kind}
-use Rattle.cu_op.specs.Operation.{pair_writes}
+use Rattle.cu_op.specs.Places.{pair_writes, pair_part, counted_at}
 use Rattle.cu_op.specs.Partial.{partial_indices, place_groups}
-use Rattle.cu_op.specs.Value.{pair_part, counted_at}
-use Rattle.cu_op.specs.Walks.{IsWalkOver, partial_walk}
+use Rattle.cu_op.specs.Walks.{IsWalkOver}
+use Rattle.cu_op.specs.Reductions.{partial_walk}
 use Rattle.cu_op.specs.declared.layout.ArrayInfo.{ArrayInfo}
 use Rattle.cu_reduce.specs.Groups.{group_indices, group_of}
 use Rattle.cu_reduce.specs.Places.{Found, counted_place, found_at, best_in, is_sought}
@@ -87,6 +87,10 @@ pair_fold_laws least axis source values out = record {
         let ko = place_kept f old new values out s.writes in
         λ i. value_room_same f old new source out ks ko i + room_same f old new out ko i;
   };
+  compares = pair_compares source ([]);
+  stores = pair_stored values out;
+  stores_none = pair_only values out;
+  stored_type = λ arrays array fits is. (source, refl, type_stored arrays values source out array fits.1.stored is);
 }
   where
     made : (arrays : List ArrayInfo) → All (λ a. a < length arrays) (pair_writes values out) → out < length arrays

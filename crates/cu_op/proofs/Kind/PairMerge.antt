@@ -9,16 +9,15 @@ use Rattle.cu_op.proofs.Kind.{Laws}
 use Rattle.cu_op.proofs.NewNumbers.{bool_same, pairs_renumbered, grid_same, type_same, merge_along, place_kept, pair_fits, room_same, value_room_same}
 use Rattle.cu_op.proofs.PairRanges.{best_listed, found_parts, pair_range}
 use Rattle.cu_op.proofs.PlanGroups.{merge_ranks, place_squeezed, place_within}
-use Rattle.cu_op.proofs.Results.{pair_last, nested_pair, differ_pair}
+use Rattle.cu_op.proofs.Results.{pair_last, nested_pair, differ_pair, pair_compares, pair_stored, pair_only, type_stored}
 use Rattle.cu_op.proofs.Rooms.{any_room_few, group_few}
 use Rattle.cu_op.proofs.SameCells.{of_two, merged_same}
 use Rattle.cu_op.proofs.WalksOf.{apart_each, over_two, first_of_walks, second_of_walks}
 use Rattle.cu_op.specs.Arrays.{grid_at, chunk_room}
 use Rattle.cu_op.specs.Kind.PairMerge.{pair_merge_kind}
-use Rattle.cu_op.specs.Operation.{pair_writes}
+use Rattle.cu_op.specs.Places.{pair_writes, pair_part}
 use Rattle.cu_op.specs.Partial.{partial_indices, merge_groups}
-use Rattle.cu_op.specs.Value.{pair_part}
-use Rattle.cu_op.specs.Walks.{partial_walk}
+use Rattle.cu_op.specs.Reductions.{partial_walk}
 use Rattle.cu_op.specs.declared.layout.ArrayInfo.{ArrayInfo}
 use Rattle.cu_reduce.specs.Groups.{group_indices, group_of}
 use Rattle.cu_reduce.specs.Places.{Found, found_at, best_in}
@@ -97,6 +96,10 @@ pair_merge_laws least axis group value_source place_source values out = record {
         let ko = place_kept f old new values out s.writes in
         λ i. value_room_same f old new value_source out ks ko i + room_same f old new out ko i;
   };
+  compares = pair_compares value_source (place_source ∷ []);
+  stores = pair_stored values out;
+  stores_none = pair_only values out;
+  stored_type = λ arrays array fits is. (value_source, refl, type_stored arrays values value_source out array fits.2.stored is);
 }
   where
     made : (arrays : List ArrayInfo) → All (λ a. a < length arrays) (pair_writes values out) → out < length arrays

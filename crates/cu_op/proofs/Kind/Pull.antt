@@ -7,17 +7,16 @@ use Rattle.cu_op.proofs.CellsOfTasks.{map_contains}
 use Rattle.cu_op.proofs.Kind.{Laws, Stands, ReadsTypes}
 use Rattle.cu_op.proofs.NewNumbers.{given_same, grid_same, type_same, shapes_same, all_renumbered, room_same}
 use Rattle.cu_op.proofs.PairRanges.{some_then}
-use Rattle.cu_op.proofs.Results.{only_written, differ_only, nested_only}
+use Rattle.cu_op.proofs.Results.{only_written, differ_only, nested_only, none_given}
 use Rattle.cu_op.proofs.Rooms.{any_room_few}
 use Rattle.cu_op.proofs.SameCells.{of_each, whole_same}
 use Rattle.cu_op.proofs.WalksOf.{apart_each, own_arrays}
 use Rattle.cu_op.proofs.Wholes.{whole_within, whole_over}
 use Rattle.cu_op.specs.Arrays.{grid_at, type_at}
-use Rattle.cu_op.specs.InputCells.{all_chunks}
-use Rattle.cu_op.specs.Kind.Pull.{pull_kind}
-use Rattle.cu_op.specs.Operation.{shapes_at, origin_at, Converts, PullFits}
-use Rattle.cu_op.specs.Value.{Elements, pulled}
-use Rattle.cu_op.specs.Walks.{IsWalkOver, whole_walk}
+use Rattle.cu_op.specs.Chunks.{all_chunks, whole_walk}
+use Rattle.cu_op.specs.Kind.Pull.{pull_kind, shapes_at, origin_at, Converts, PullFits, pulled}
+use Rattle.cu_op.specs.Elements.{Elements}
+use Rattle.cu_op.specs.Walks.{IsWalkOver}
 use Rattle.cu_op.specs.declared.layout.ArrayInfo.{ArrayInfo}
 use Rattle.cu_pull.proofs.OriginsInside.{inside_sources}
 use Rattle.cu_pull.specs.Fits.{FitsPull}
@@ -121,4 +120,8 @@ pull_laws pull ins out = record {
     input_room = λ old new s. refl;
     output_room = λ old new s. room_same f old new out (s.writes 0 0 (omega arith));
   };
+  compares = λ array is. absurd (none_given array is);
+  stores = λ array is. absurd (none_given array is);
+  stores_none = λ is. refl;
+  stored_type = λ arrays array fits is. absurd (none_given array is);
 }

@@ -1,4 +1,4 @@
-use Rattle.cu_op.specs.Cells.{cell}
+use Rattle.cu_op.specs.Chunks.{cell}
 use Rattle.cu_op.specs.Schedule.{op_of}
 use Rattle.cu_op.proofs.Plans.{grid_ok}
 use Rattle.cu_op.proofs.TaskCells.{fit_of, reads_lie_in}

@@ -1,6 +1,6 @@
 use Rattle.std.proofs.Common.{◌≡◌, take, map}
 use Rattle.arrayvec.specs.ArrayVec.{array_vec_len}
-use Rattle.cu_op.specs.Walks.{walk}
+use Rattle.cu_op.specs.Chunks.{walk}
 use Rattle.cu_op.proofs.regions.output_walks.Given as goal
 
 abbrev pub invariant-loop-array : goal.invariant-loop-array

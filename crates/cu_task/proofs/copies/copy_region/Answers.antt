@@ -12,7 +12,8 @@ use Rattle.cu_op.specs.Operation.{target_of}
 use Rattle.cu_op.specs.Projection.{scratch_room}
 use Rattle.cu_op.specs.Schedule.{op_of}
 use Rattle.cu_op.specs.Value.{rule, stored_inputs}
-use Rattle.cu_op.specs.Walks.{walk, walk_cells, input_walks}
+use Rattle.cu_op.specs.Chunks.{walk}
+use Rattle.cu_op.specs.Walks.{walk_cells, input_walks}
 use Rattle.cu_op.specs.declared.operation.Op.{Op}
 use Rattle.cu_op.specs.declared.operation.Op.TheVariants.{Copy}
 use Rattle.cu_op.specs.declared.walks.Walk.{Walk}

@@ -13,7 +13,7 @@ use Rattle.std.proofs.lemmas.List.{length-map}
 use Rattle.cu_store.specs.Steps.{NoChange, Steps}
 use Rattle.cu_op.specs.Layout.{IsArray}
 use Rattle.cu_op.specs.Walks.{walk_cells}
-use Rattle.cu_op.specs.Cells.{cell}
+use Rattle.cu_op.specs.Chunks.{cell}
 use Rattle.cu_region.specs.Calls.{Made, chunks_met}
 use Rattle.cu_op.specs.declared.walks.Walk.{Walk}
 use Rattle.cu_task.proofs.inputs.read_walk.Goals as goal

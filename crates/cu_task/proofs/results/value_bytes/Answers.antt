@@ -1,9 +1,9 @@
 use Rattle.std.proofs.Common.{◌≡◌, Some, None, sym, ap, ◌∙◌}
 use Rattle.std.proofs.lemmas.List.Elements.{All-contains}
-use Rattle.cu_op.specs.Operation.{reads_of, IsReadable}
+use Rattle.cu_op.specs.Operation.{reads_of, IsReadable, compared_array}
 use Rattle.cu_op.specs.Schedule.{op_of}
 use Rattle.cu_op.proofs.TaskCells.{fit_of}
-use Rattle.cu_task.specs.Task.{compared_array, room_beside}
+use Rattle.cu_task.specs.Task.{room_beside}
 use Rattle.cu_task.proofs.TaskKinds.{compared_reads}
 use Rattle.cu_task.proofs.results.value_bytes.Goals as goal
 

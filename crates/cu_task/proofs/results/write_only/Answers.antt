@@ -6,7 +6,8 @@ use Rattle.cu_op.specs.Arrays.{array_at}
 use Rattle.cu_op.specs.Cells.{task_lo, task_hi}
 use Rattle.cu_op.specs.Operation.{target_of}
 use Rattle.cu_op.specs.Schedule.{op_of}
-use Rattle.cu_op.specs.Walks.{walk, walk_cells}
+use Rattle.cu_op.specs.Chunks.{walk}
+use Rattle.cu_op.specs.Walks.{walk_cells}
 use Rattle.cu_region.specs.Calls.{Made}
 use Rattle.cu_region.specs.Writing.{LateIsOwn, RegionPut, StoresRegion}
 use Rattle.cu_task.proofs.InputReads.{on_ok_then}

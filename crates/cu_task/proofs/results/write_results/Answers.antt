@@ -1,14 +1,14 @@
 use Rattle.std.proofs.Common.{sym, ap, ◌∙◌}
 use Rattle.cu_op.specs.Schedule.{op_of}
-use Rattle.cu_task.specs.Task.{value_array}
+use Rattle.cu_op.specs.Operation.{value_array}
 use Rattle.cu_task.proofs.TaskKinds.{only_written}
 use Rattle.cu_task.proofs.results.write_results.Goals as goal
 
 pub write_both-requires-clause-stored : goal.write_both-requires-clause-stored
-write_both-requires-clause-stored g c = sym (c.stored_values.ensures ∙ ap value_array c.operation.ensures.operation) ∙ c.in-Some.is
+write_both-requires-clause-stored g c = sym (c.stored.ensures ∙ ap value_array c.operation.ensures.operation) ∙ c.in-Some.is
 
 pub write_only-requires-clause-only : goal.write_only-requires-clause-only
-write_only-requires-clause-only g c = only_written (op_of c.args.task.now.plan c.args.task.now.op) (sym (c.stored_values.ensures ∙ ap value_array c.operation.ensures.operation) ∙ c.in-None.is)
+write_only-requires-clause-only g c = only_written (op_of c.args.task.now.plan c.args.task.now.op) (sym (c.stored.ensures ∙ ap value_array c.operation.ensures.operation) ∙ c.in-None.is)
 
 pub write_only-requires-clause-puts : goal.write_only-requires-clause-puts
 write_only-requires-clause-puts g c = (c.requires.puts.start, c.requires.puts.made.output, c.requires.puts.changes)

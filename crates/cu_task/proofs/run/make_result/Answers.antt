@@ -4,7 +4,8 @@ use Rattle.cu_op.specs.declared.operation.Op.{Op}
 use Rattle.cu_op.proofs.TaskCells.{fit_of}
 use Rattle.cu_task.specs.Inputs.{IsPullOf}
 use Rattle.cu_task.specs.OfTask.{scratch_bytes}
-use Rattle.cu_task.specs.Task.{IsComputing, value_array}
+use Rattle.cu_task.specs.Task.{IsComputing}
+use Rattle.cu_op.specs.Operation.{value_array}
 use Rattle.cu_task.proofs.InputReads.{on_ok_then}
 use Rattle.cu_task.proofs.JobViews.{job_is_view}
 use Rattle.cu_task.proofs.PullTask.{of_pull}

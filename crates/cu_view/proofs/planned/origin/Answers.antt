@@ -2,9 +2,10 @@ use Rattle.std.proofs.Common.{◌≡◌, ◌≤◌, ℕ, List, length, ap, sym, 
 use Rattle.cu_pull.specs.Pull.{IsInSources}
 use Rattle.cu_pull.specs.declared.provenance.Provenance.{Provenance}
 use Rattle.cu_op.specs.declared.layout.ArrayInfo.{ArrayInfo}
-use Rattle.cu_op.specs.Operation.{reads_of, shapes_at}
+use Rattle.cu_op.specs.Operation.{reads_of}
+use Rattle.cu_op.specs.Kind.Pull.{shapes_at, pulled}
 use Rattle.cu_op.specs.Schedule.{op_of}
-use Rattle.cu_op.specs.Value.{plan_value, pulled}
+use Rattle.cu_op.specs.Value.{plan_value}
 use Rattle.cu_op.specs.declared.operation.Op.{Op}
 use Rattle.cu_op.specs.declared.operation.Planned.{Planned}
 use Rattle.cu_view.specs.Planned.{pull_origin, shape_at}

@@ -1,6 +1,6 @@
 use Rattle.std.proofs.Common.{◌≡◌, take}
 use Rattle.arrayvec.specs.ArrayVec.{array_vec_len}
-use Rattle.cu_op.specs.Operation.{shapes_at}
+use Rattle.cu_op.specs.Kind.Pull.{shapes_at}
 use Rattle.cu_view.proofs.planned.shapes_of.Given as goal
 
 abbrev pub invariant-loop-number : goal.invariant-loop-number

@@ -1,6 +1,7 @@
 use Rattle.std.proofs.Common.{◌≡◌, ◌≤◌, ℕ, List, length, ap, sym, ◌∙◌, subst, rules}
 use Rattle.cu_op.specs.declared.layout.ArrayInfo.{ArrayInfo}
-use Rattle.cu_op.specs.Operation.{reads_of, shapes_at}
+use Rattle.cu_op.specs.Operation.{reads_of}
+use Rattle.cu_op.specs.Kind.Pull.{shapes_at}
 use Rattle.cu_op.specs.Schedule.{op_of}
 use Rattle.cu_op.specs.declared.operation.Op.{Op}
 use Rattle.cu_op.specs.declared.operation.Planned.{Planned}

@@ -3,7 +3,7 @@ use Rattle.std.proofs.lemmas.List.{map-append}
 use Rattle.cu_grid.specs.Grid.{coordinate_of}
 use Rattle.cu_store.specs.declared.yard.Spec.{Spec}
 use Rattle.cu_op.specs.Arrays.{grid_at}
-use Rattle.cu_op.specs.Cells.{cell}
+use Rattle.cu_op.specs.Chunks.{cell}
 use Rattle.cu_op.specs.declared.layout.ArrayInfo.{ArrayInfo}
 use Rattle.cu_work.specs.Shared.{spec_of, chunks_below}
 use Rattle.cu_work.proofs.Pushed.{pushed}

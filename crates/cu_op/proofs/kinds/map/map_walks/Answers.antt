@@ -1,5 +1,5 @@
 use Rattle.std.proofs.Common.{refl, slice_index, ◌∙◌, arith}
-use Rattle.cu_op.specs.Walks.{read_walk}
+use Rattle.cu_op.specs.Kind.Map.{read_walk}
 use Rattle.cu_op.proofs.Steps.{one_mapped, all_mapped, read_as}
 use Rattle.cu_op.proofs.kinds.map.map_walks.Goals as goal
 

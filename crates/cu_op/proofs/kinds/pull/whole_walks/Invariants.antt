@@ -1,6 +1,6 @@
 use Rattle.std.proofs.Common.{◌≡◌, take, map}
 use Rattle.arrayvec.specs.ArrayVec.{array_vec_len}
-use Rattle.cu_op.specs.Walks.{whole_walk}
+use Rattle.cu_op.specs.Chunks.{whole_walk}
 use Rattle.cu_op.proofs.kinds.pull.whole_walks.Given as goal
 
 abbrev pub invariant-loop-array : goal.invariant-loop-array
