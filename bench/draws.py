@@ -153,6 +153,9 @@ def random_function(pick, ident, told):
         at = pick.randrange(2)
         args[count - 2 + at] = literal_for(pick, told[values[1 - at]][0])
     node = {"id": ident, "op": op, "args": args}
+    if op == "clip":
+        dtype = told[args[0]][0].replace("bool", "uint8")
+        return {**node, "min": literal_for(pick, dtype), "max": literal_for(pick, dtype)}
     return {**node, "dtype": pick.choice(TYPES)} if op == "astype" else node
 
 
@@ -392,8 +395,10 @@ def damaged_argument(pick, text):
         node = value["nodes"][at]
         if pick.random() < 0.3:
             count = FUNCTIONS[node["op"]][0]
-            node["op"] = pick.choice([op for op, row in FUNCTIONS.items() if row[0] == count and op != "astype"])
-            node.pop("dtype", None)
+            others = [op for op, row in FUNCTIONS.items() if row[0] == count and op not in rules.MEMBERS]
+            node["op"] = pick.choice(others)
+            for name in ("dtype", "min", "max"):
+                node.pop(name, None)
         else:
             node["args"][pick.randrange(len(node["args"]))] = pick.choice([before["id"] for before in value["nodes"][:at]] + [3, True])
     return json.dumps(value)

@@ -53,7 +53,16 @@ ORDER = {
 LOGICAL = {
     "logical_and": (2, lambda w, x, y: x & y), "logical_or": (2, lambda w, x, y: x | y),
     "logical_xor": (2, lambda w, x, y: x ^ y), "logical_not": (1, lambda w, x: 1 - x)}
-FUNCTIONS = {**ARITHMETIC, **BITWISE, **EQUALITY, **ORDER, **LOGICAL, "where": (3, None), "astype": (1, None)}
+EXTREMES = {"maximum": (2, lambda w, x, y: max(x, y)), "minimum": (2, lambda w, x, y: min(x, y))}
+FUNCTIONS = {
+    **ARITHMETIC, **BITWISE, **EQUALITY, **ORDER, **LOGICAL, **EXTREMES,
+    "where": (3, None), "astype": (1, None), "clip": (1, None)}
+
+
+def own_instructions(op):
+    """Returns how many instructions of a map are the function's own, beside one for each argument: an extreme is a
+    comparison and a choice, and `clip` has its two bounds, with a comparison and a choice for each."""
+    return 6 if op == "clip" else 2 if op in EXTREMES else 1
 
 
 def accepts(op, dtype):
@@ -63,8 +72,11 @@ def accepts(op, dtype):
     return dtype != "bool" or op in BITWISE or op in EQUALITY or op in ("where", "astype")
 
 
-def value_of(op, shared, result, args):
+def value_of(node, shared, result, args):
     """Returns the element that a function gives for elements of the shared type."""
+    op = node["op"]
+    if op == "clip":
+        return min(node["max"], max(node["min"], args[0]))
     if op == "where":
         return args[1] if args[0] else args[2]
     if op == "astype":
@@ -111,9 +123,10 @@ def is_literal(value):
 
 # Of each operator the least and greatest count of arguments (nothing: it has no `args`), its members and those that may be absent.
 ONE, MANY = (1, 1), (1, 8)
+MEMBERS = {"astype": {"dtype": DTYPE}, "clip": {"min": LITERAL, "max": LITERAL}}
 ROWS = {
     "input": (None, {"name": is_name}, {}),
-    **{op: ((row[0], row[0]), {"dtype": DTYPE} if op == "astype" else {}, {}) for op, row in FUNCTIONS.items()},
+    **{op: ((row[0], row[0]), MEMBERS.get(op, {}), {}) for op, row in FUNCTIONS.items()},
     "full": (None, {"shape": SIZES_LIST, "dtype": DTYPE, "value": is_literal, "chunk": CHUNK}, {}),
     "arange": (None, {"start": INT64, "stop": INT64, "step": INT64, "dtype": DTYPE, "chunk": CHUNK}, {}),
     "eye": (None, {"rows": SIZE, "cols": SIZE, "k": INT64, "dtype": DTYPE, "chunk": CHUNK}, {}),
@@ -415,7 +428,10 @@ def elementwise(node, args):
     if op == "where" and args[0][0] != "bool" or any(not accepts(op, dtype) for dtype in typed_values):
         return 6
     shared = typed_values[0]
-    if any(not is_value(shared, arg) for arg in values if type(arg) is not tuple):
+    written = [arg for arg in values if type(arg) is not tuple]
+    if op == "clip":
+        written += [node["min"], node["max"]]
+    if any(not is_value(shared, value) for value in written):
         return 5
     for dtype in typed_values[1:]:
         shared = promoted(shared, dtype)
@@ -456,7 +472,7 @@ class Plan:
         when it is taken. An input is told by the node of which it is an argument and its place among this node's arrays."""
         maps = [k for k in self.lowered if self.expr["nodes"][k]["op"] in FUNCTIONS]
         self.map_inputs = {k: [(k, at) for at in range(len(self.arrays(k)))] for k in maps}
-        self.instructions = {k: len(self.arrays(k)) + self.literals(k) + 1 for k in maps}
+        self.instructions = {k: self.instruction_count(k) for k in maps}
         self.merged = set()
         reads = collections.Counter(arg for k in self.lowered for arg in self.arrays(k))
         for k in maps:
@@ -550,8 +566,10 @@ class Plan:
         """Returns the numbers of the nodes that are a node's arguments, in order."""
         return [self.places[arg] for arg in self.expr["nodes"][k].get("args", []) if type(arg) is str]
 
-    def literals(self, k):
-        return len(self.expr["nodes"][k].get("args", [])) - len(self.arrays(k))
+    def instruction_count(self, k):
+        """Returns how many instructions the map of an elementwise node has: those of its arguments, and its function's own."""
+        node = self.expr["nodes"][k]
+        return len(node["args"]) + own_instructions(node["op"])
 
     def room(self, k):
         """Returns the bytes that a task of an elementwise node or of a view needs beside those that are reserved."""
@@ -559,7 +577,7 @@ class Plan:
         if self.expr["nodes"][k]["op"] in PULLS:
             return max([bytes_of(*self.infos[arg][::2]) for arg in self.arrays(k)] + [result]) + result
         args = [bytes_of(self.infos[arg][0], chunk) for arg, chunk in zip(self.arrays(k), self.aligned_args(k))]
-        return max([*args, result]) + sum(args) + result + 512 * (len(args) + self.literals(k) + 1)
+        return max([*args, result]) + sum(args) + result + 512 * self.instruction_count(k)
 
     def need(self, k):
         """Returns the bytes that a node needs."""
@@ -711,7 +729,7 @@ def meant_node(plan, k, node, found):
         own = index[len(index) - len(sizes):]
         return found[plan.places[arg]][tuple(0 if size == 1 else i for size, i in zip(sizes, own))]
 
-    return {index: value_of(node["op"], shared, result, [element(arg, index) for arg in node["args"]]) for index in indices(shape)}
+    return {index: value_of(node, shared, result, [element(arg, index) for arg in node["args"]]) for index in indices(shape)}
 
 
 def chunk_bytes(array, elements, place, past=0):

@@ -17,6 +17,9 @@ def elementwise(node, args, dtype):
             return numpy.where(args[0], *values)
         if node["op"] == "astype":
             return values[0].astype(dtype)
+        if node["op"] == "clip":
+            bounds = [numpy.asarray(node[name], shared) for name in ("min", "max")]
+            return numpy.clip(values[0], *bounds)
         return getattr(numpy, NAMES.get(node["op"], node["op"]))(*values)
 
 

@@ -217,6 +217,14 @@ def families():
     yield same("rows are compared with one array", {"a": m, "b": r}, [node("s", "less", ["a", "b"])], Array("bool", m.values < r.values, [1, 2]))
     yield same("the third of three where the first isn't so", {"a": m, "b": r}, [node("c", "greater", ["a", "b"]), node("s", "where", ["c", "a", -7])],
                Array("int16", np.where(m.values > r.values, m.values, np.int16(-7)), [1, 2]))
+    greatest = np.maximum(m.values, r.values) - np.minimum(m.values, np.int16(3))
+    yield same("the greater and the lesser", {"a": m, "b": r},
+               [node("g", "maximum", ["a", "b"]), node("l", "minimum", ["a", 3]), node("s", "subtract", ["g", "l"])],
+               Array("int16", greatest, [1, 2]))
+    yield same("numbers between two bounds", {"a": m}, [node("s", "clip", ["a"], min=-1, max=4)],
+               Array("int16", np.clip(m.values, -1, 4), [1, 2]))
+    yield same("numbers between exchanged bounds", {"a": m}, [node("s", "clip", ["a"], min=4, max=-1)],
+               Array("int16", np.full([2, 3], -1), [1, 2]))
     yield same("numbers become truth values", {"a": m}, [node("s", "astype", ["a"], dtype="bool")], Array("bool", m.values != 0, [1, 2]))
     none = Array("int32", [], [4])
     yield same("nothing sums to 0", {"a": none}, [node("s", "sum", ["a"])], Array("int64", 0, []))

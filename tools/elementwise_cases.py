@@ -306,6 +306,140 @@ def literal_rows():
         (truth, "logical_xor", (True, "a")), (truth, "not_equal", ("a", False)), (truth, "bitwise_or", (False, "a")))]
 
 
+# The greater, the lesser, and numbers between bounds
+
+AB, X = inputs_of("a", "b"), inputs_of("x")
+
+
+def clipped(ident, arg, least, most):
+    return node(ident, "clip", arg, min=least, max=most)
+
+
+def ending(row, values, peak=None):
+    """Returns a row of one array in one chunk, whose elements and peak stand here by hand."""
+    key, chunk = row["leaves"][-1]
+    assert key.startswith("y/c") and chunk["hex"].split() == values, chunk
+    assert peak is None or row["output"].endswith(f" peak={peak}\n"), row["output"]
+    return row
+
+
+def extreme_pairs():
+    """Returns two arrays of one type and of two types each, at the ends of the types."""
+    column, row = [8, 1], [1, 7]
+    signed, unsigned = [-128, -9, -1, 0, 3, 8, 127], [0, 1, 3, 7, 8, 200, 255]
+    yield {"a": stored("int8", column, [4, 1], SIGNED), "b": stored("int8", row, row, signed)}
+    yield {"a": stored("uint8", column, [4, 1], UNSIGNED), "b": stored("uint8", row, row, unsigned)}
+    for dtype, (left, right) in WIDE.items():
+        yield {"a": line_of(dtype, left, 6), "b": line_of(dtype, right, 6)}
+    whole = [-(2**31), 2**31 - 1, -1, 0]
+    yield {"a": line_of("int32", whole), "b": line_of("uint32", [0, 2**32 - 1, 1, 0])}
+    yield {"a": line_of("uint16", [65535, 0, 7]), "b": line_of("int16", [-32768, 32767, 7])}
+    yield {"a": line_of("int64", [-(2**63), 2**63 - 1, 5]), "b": line_of("uint32", [2**32 - 1, 0, 5])}
+
+
+def extreme_rows():
+    mixed = {"a": line_of("int8", [-128, 5], 2), "b": line_of("uint8", [200, 1], 2)}
+    return [ending(ran(mixed, expression([*AB, node("m", "maximum", "a", "b")])), ["c800", "0500"]),
+            ending(ran(mixed, expression([*AB, node("m", "minimum", "a", "b")])), ["80ff", "0100"]),
+            *[each_of([*rules.EXTREMES], arrays) for arrays in extreme_pairs()]]
+
+
+def extreme_literal_rows():
+    """A number on either side, at the ends of its array's type."""
+    rows = []
+    for dtype in ("int8", "uint8", "int64", "uint64"):
+        low, high = rules.limits(dtype)
+        array = {"x": line_of(dtype, [low, low + 1, high // 2 + 1, high], 3)}
+        for op, args in (("maximum", ("x", low + 1)), ("maximum", (high, "x")),
+                         ("minimum", (low, "x")), ("minimum", ("x", high // 2))):
+            rows.append(ran(array, expression([*X, node("m", op, *args)])))
+    return rows
+
+
+def extreme_shape_rows():
+    """Shapes that broadcast, an array that is copied to other chunks, one that is read twice, no axes, no elements."""
+    both, bounded = expression([*AB, node("m", "maximum", "a", "b")]), expression([*X, clipped("m", "x", -4, 3)])
+    matrix, row = stored("int32", [2, 3], [1, 2], [1, -2, 3, -4, 5, -6]), stored("int16", [3], [2], [0, 4, -4])
+    three, four = stored("int32", [6], [3], [6, 5, 4, 3, 2, 1]), six([6, 5, 4, 3, 2, 1])
+    copied = ran({"a": six([1, 2, 3, 4, 5, 6]), "b": three}, both)
+    nothing = stored("int32", [0], [4], [])
+    return [ran({"a": matrix, "b": row}, both), ran({"a": row, "b": matrix}, both),
+            with_copy(copied, "_cubed/y/0", four),
+            ran({"x": four}, expression([*X, node("m", "minimum", "x", "x")])),
+            ran({"a": number("int8", -5), "b": number("uint8", 200)}, both),
+            ran({"x": number("int8", -5)}, bounded),
+            ran({"a": nothing, "b": stored("int32", [1], [4], [7])}, both),
+            ran({"x": stored("int8", [2, 0], [1, 3], [])}, bounded)]
+
+
+def clip_rows():
+    """Bounds inside, at the ends of the type, equal, and exchanged, where all elements are the upper one."""
+    def bounded(*bounds):
+        return expression([*X, clipped("n", "x", *bounds)])
+
+    short, one = ({"x": line_of("int32", [1, 2, 3, 4, 5, 6], side)} for side in (4, 6))
+    between = [f"{x:02x}000000" for x in (2, 2, 3, 4, 5, 5)]
+    rows = [reported(ran(short, bounded(2, 5)), 1, 2, 3632), reported(ran(short, bounded(5, 2)), 1, 2, 3632),
+            reported(ran(short, bounded(2, 5), 3639, 7), 1, 2, 3639),
+            refused(short, bounded(2, 5), "error 5 node=1 need=3632 allowed=3631", 3631),
+            ending(ran(one, bounded(2, 5)), between, 3656), ending(ran(one, bounded(5, 2)), ["02000000"] * 6, 3656)]
+    for dtype in list(rules.SIZES)[1:]:
+        low, high = rules.limits(dtype)
+        half = high // 2
+        array = {"x": line_of(dtype, [low, low + 1, half, high - 1, high], 5)}
+        rows += [ran(array, bounded(*bounds)) for bounds in ((low, high), (low + 1, high - 1), (half, half), (high, low))]
+    return rows
+
+
+def bounds_of(count):
+    """Returns so many nodes with bounds, each of the one before."""
+    return [*X, *[clipped(f"m{at}", f"m{at - 1}" if at else "x", at, 100 - at) for at in range(count)]]
+
+
+def extreme_merged_rows():
+    """Maps that are merged with others, and with each other, as long as 32 instructions hold them."""
+    three = {**a_and_b(), "c": six([7, 30, 7, 41, 9, 9])}
+    one = {"x": six([-7, 2, 3, 98, 99, 6])}
+    abc = inputs_of("a", "b", "c")
+    bounds = expression([*abc, node("s", "subtract", "b", "a"), clipped("n", "s", 10, 40),
+                         node("m", "maximum", "n", "c"), node("t", "multiply", "m", 2)])
+    below = expression([*abc, node("m", "minimum", "b", "c"), node("n", "maximum", 9, "a"), node("t", "minimum", "m", "n")])
+    twice = expression([*AB, node("m", "maximum", "a", "b"), node("n", "minimum", "a", "b"), node("t", "subtract", "m", "n")])
+    chosen = expression([*abc, node("l", "less", "a", 3), node("w", "where", "l", "b", "c"), clipped("t", "w", 20, 30)])
+    narrow = expression([*X, node("n", "astype", "x", dtype="int8"), clipped("m", "n", -2, 3), node("t", "maximum", "m", "x")])
+    return [reported(ran(three, bounds), 1, 2, 7248), ran(three, bounds, 7247), ran(three, bounds, 3632),
+            ran(three, below), ran(a_and_b(), twice), ran(three, chosen), ran(one, narrow),
+            reported(ran(one, expression(bounds_of(5))), 1, 2, 15920),
+            reported(ran(one, expression(bounds_of(6))), 2, 4, 15920), ran(one, expression(bounds_of(11)))]
+
+
+def planned(arrays, text, allowed):
+    return {"words": ["plan", "--allowed-mem", str(allowed)], "input": text, "holds": holds_of(arrays),
+            "output": plan_over(text, arrays, allowed).lines()}
+
+
+def extreme_planned_rows():
+    """What `plan` prints: maps as any other."""
+    both = expression([*AB, node("m", "minimum", "a", "b"), clipped("n", "m", -1, 30)])
+    apart, merged = (planned(a_and_b(), both, allowed) for allowed in (5183, 5184))
+    assert apart["output"].splitlines() == ["op 0 map node=2 tasks=2 cells=2 projected=2112",
+                                            "op 1 map node=3 tasks=2 cells=2 projected=3632",
+                                            "plan ops=2 tasks=4 cells=4 peak=3632"]
+    assert merged["output"].splitlines() == ["op 0 map node=3 tasks=2 cells=2 projected=5184",
+                                             "plan ops=1 tasks=2 cells=2 peak=5184"]
+    return [apart, merged]
+
+
+def extreme_cases():
+    return [
+        {"name": "the greater and the lesser, of one type and of two", "rows": extreme_rows()},
+        {"name": "the greater and the lesser of an array and a number", "rows": extreme_literal_rows()},
+        {"name": "the greater and the lesser over other shapes and chunks", "rows": extreme_shape_rows()},
+        {"name": "numbers between two bounds", "rows": clip_rows()},
+        {"name": "extremes and bounds in maps that are merged", "rows": extreme_merged_rows()},
+        {"name": "plans of extremes and bounds", "rows": extreme_planned_rows()}]
+
+
 # Shapes of plans
 
 def chain(count):
@@ -472,7 +606,8 @@ def elementwise_cases():
         {"name": "memory that is set aside", "rows": reserved_rows()},
         {"name": "where", "rows": where_rows()},
         {"name": "literals", "rows": literal_rows()},
-        *function_cases()]
+        *function_cases(),
+        *extreme_cases()]
 
 
 # Lengths: each function at some, and each length from 0 to 131 by a function of one type and one of two types
@@ -495,7 +630,8 @@ def length_row(length):
     dtype = list(PARTNERS)[(length + length // 8) % 8]
     arrays = {name: line_of(kind, numbers(kind, length, seed), max(length, 1))
               for name, kind, seed in (("a", dtype, 3 * length), ("b", dtype, length + 1), ("c", PARTNERS[dtype], length))}
-    last = node("t", second, "s", "c") if first in rules.ARITHMETIC or first in rules.BITWISE else node("t", "where", "s", "a", "c")
+    gives_numbers = first in rules.ARITHMETIC or first in rules.BITWISE or first in rules.EXTREMES
+    last = node("t", second, "s", "c") if gives_numbers else node("t", "where", "s", "a", "c")
     return ran(arrays, expression([*inputs_of("a", "b", "c"), node("s", first, "a", "b"), last]))
 
 
@@ -523,6 +659,12 @@ def text_rows():
              expression([a, sum_of], "s", "../x"), expression([a, 7], "a"), expression([a, {**sum_of, "more": 1}]),
              expression([a, node("s", "sort", "a")]), expression([a, node("s", "Add", "a", "a")]),
              expression([a, node("s", "add", "a")]), expression([a, node("s", "add", 1, 2)]), expression([a, node("s", "negative", 5)]),
+             expression([a, node("s", "maximum", "a")]), expression([a, node("s", "minimum", 1, 2)]),
+             expression([a, node("s", "maximum", "a", "a", axis=0)]), expression([a, clipped("s", 5, 0, 9)]),
+             expression([a, node("s", "clip", "a", "a", min=0, max=9)]), expression([a, node("s", "clip", "a", min=0)]),
+             expression([a, clipped("s", "a", 0, True)]), expression([a, clipped("s", "a", -(2**63) - 1, 0)]),
+             expression([a, clipped("s", "a", 0, 2**64)]), expression([a, clipped("s", "a", None, 9)]),
+             expression([a, clipped("s", 5, 0, 2**64)]), expression([a, clipped("s", "q", 0, 9)]),
              expression([a, node("a", "negative", "a")], "a"), expression([a, node("s", "add", "a", "q")]), expression(nodes),
              '{"nodes":[{"id":"a","op":"input","name":"a"},{"id":"s","op":"add","args":["a",1.0]}],"out":"s","store_as":"y"}',
              '{"nodes":[{"id":"a","op":"input","name":"a"},{"id":"s","op":"add","args":["a",-0]}],"out":"s","store_as":"y"}',
@@ -546,6 +688,10 @@ def type_rows():
         (lines, [*of_two, node("s", "where", "a", "c", "c")]), (lines, [*of_two, node("s", "less", "c", "c")]),
         (lines, [*of_two, node("s", "add", "a", 128)]), (lines, [*of_two, node("s", "add", "a", True)]),
         (lines, [*of_two, node("s", "where", "c", "c", 1)]), (lines, [*of_two, node("s", "equal", "a", "c")]),
+        (lines, [*of_two, node("s", "maximum", "a", "c")]), (lines, [*of_two, node("s", "minimum", True, "a")]),
+        (lines, [*of_two, node("s", "maximum", "c", 300)]), (lines, [*of_two, node("s", "maximum", 128, "a")]),
+        (lines, [*of_two, clipped("s", "c", 0, 300)]), (lines, [*of_two, clipped("s", "a", -129, 5)]),
+        (lines, [*of_two, clipped("s", "a", 5, 128)]), (lines, [*of_two, clipped("s", "a", -(2**63), 2**64 - 1)]),
         (lines, [*of_two, node("s", "bitwise_and", "c", "a")]), (lines, [*of_two, node("s", "where", "c", "a", "c")]),
         (wide, ADDED), (deep, ADDED), (many, ADDED)]
     by_hand = [

@@ -179,6 +179,44 @@ def kinds_of_two():
          [node("w", "where", args=["c", "x", "c"])], "w", fault=[1, 2, 0])
 
 
+def extremes():
+    for op in ["maximum", "minimum"]:
+        for a, b in itertools.product(SIGNED + UNSIGNED + ["bool"], repeat=2):
+            t = promoted(a, b)
+            code = 6 if "bool" in (a, b) else 1 if t is None else 0
+            answer = {"fault": [code, 2, 0]} if code else {"typed": (t, [2], [1])}
+            if op == "maximum" or a != b:
+                case("%s of %s and %s" % (op, a, b), [("x", a, [2], [1]), ("y", b, [2], [1])],
+                     [node("m", op, args=["x", "y"])], "m", **answer)
+    shape = np.maximum(zeros([2, 1, 3]), zeros([4, 1])).shape
+    case("maximum of two ranks", [("x", "int8", [2, 1, 3], [1, 1, 2]), ("y", "uint8", [4, 1], [3, 1])],
+         [node("m", "maximum", args=["x", "y"])], "m", ("int16", shape, [1, 3, 2]))
+    case("minimum of [2] and [3]", [("x", "int8", [2], [1]), ("y", "int8", [3], [1])],
+         [node("m", "minimum", args=["x", "y"])], "m", fault=[2, 2, 0])
+    case("maximum of bool and 300: the kind comes first", [("x", "bool", [2], [1])],
+         [node("m", "maximum", args=[300, "x"])], "m", fault=[6, 1, 0])
+    case("minimum of int8 and true", [("x", "int8", [2], [1])],
+         [node("m", "minimum", args=["x", True])], "m", fault=[5, 1, 0])
+
+
+def bounded(t, low, high, shape, **answer):
+    case("clip of %s from %d to %d" % (t, low, high), [("x", t, shape, [1] * len(shape))],
+         [node("c", "clip", args=["x"], min=low, max=high)], "c", **answer)
+
+
+def bounds():
+    for t in SIGNED + UNSIGNED:
+        least, greatest = int(np.iinfo(t).min), int(np.iinfo(t).max)
+        for low, high in [(least, greatest), (greatest, least), (0, 0)]:
+            bounded(t, low, high, [2, 3], typed=(t, [2, 3], [1, 1]))
+        for low, high in [(least - 1, greatest), (least, greatest + 1), (greatest + 1, least)]:
+            if all(-2 ** 63 <= end < 2 ** 64 for end in (low, high)):
+                bounded(t, low, high, [2, 3], fault=[5, 1, 0])
+    bounded("bool", 0, 1, [2], fault=[6, 1, 0])
+    bounded("bool", 0, 300, [2], fault=[6, 1, 0])
+    bounded("int16", -5, 5, [], typed=("int16", [], []))
+
+
 def literals():
     limits = {"int8": (-128, 127), "int64": (-2 ** 63, 2 ** 63 - 1), "uint8": (0, 255), "uint64": (0, 2 ** 64 - 1)}
     for t, (least, greatest) in limits.items():
@@ -559,7 +597,7 @@ def orders():
 
 
 def main():
-    parts = (broadcasts, types, kinds_of_one, kinds_of_two, literals, limits, reductions, places, products, views, reshapes, stretched, indices, pieces, made, chains, orders)
+    parts = (broadcasts, types, kinds_of_one, kinds_of_two, extremes, bounds, literals, limits, reductions, places, products, views, reshapes, stretched, indices, pieces, made, chains, orders)
     for part in parts:
         part()
     names = [c["name"] for c in CASES]

@@ -1,9 +1,11 @@
 -- The kernel of an elementwise function: a load or a literal for each argument in order, then the function (this project's own rule).
-use Rattle.std.specs.Prelude.{ℕ, ◌+◌, List, [], ◌∷◌, ◌++◌, map, All}
+use Rattle.std.specs.Prelude.{ℕ, ◌+◌, Bool, List, [], ◌∷◌, ◌++◌, map, All, if◌then◌else◌}
 use Rattle.cu_num.specs.declared.types.Dtype.{Dtype}
 use Rattle.cu_num.specs.declared.functions.Fn1.TheVariants.{Astype as Cast}
+use Rattle.cu_num.specs.declared.functions.Fn2.{Fn2}
+use Rattle.cu_num.specs.declared.functions.Fn2.TheVariants.{LessEqual, GreaterEqual}
 use Rattle.cu_node.specs.declared.element_op.ElementOp.{ElementOp}
-use Rattle.cu_node.specs.declared.element_op.ElementOp.TheVariants.{One, Two, Where, Astype}
+use Rattle.cu_node.specs.declared.element_op.ElementOp.TheVariants.{One, Two, Where, Astype, Extreme, Clip}
 use Rattle.cu_node.specs.Literal.{literal_number}
 use Rattle.cu_node.specs.declared.info.NodeInfo.{NodeInfo}
 use Rattle.cu_grid.specs.Grid.{RegularGrid}
@@ -21,15 +23,23 @@ loads_from k [] = []
 loads_from k (Array i ∷ xs) = instr.Load k ∷ loads_from (k + 1) xs
 loads_from k (Written v ∷ xs) = instr.Const (literal_number v) ∷ loads_from k xs
 
--- the function of arguments that have the type t together
-abbrev pub function_of : ElementOp → Dtype → Instr
-function_of (One f) t = instr.One f t 0
-function_of (Two f) t = instr.Two f t 0 1
-function_of Where t = instr.Select 0 1 2
-function_of (Astype d) t = instr.One Cast d 0
+-- the test by which the first of two numbers is the lesser, or the greater
+abbrev pub first_is : Bool → Fn2
+first_is least = if least then LessEqual else GreaterEqual
+
+-- the function of arguments that have the type t together and are the first results
+abbrev pub function_of : ElementOp → Dtype → List Instr
+function_of (One f) t = instr.One f t 0 ∷ []
+function_of (Two f) t = instr.Two f t 0 1 ∷ []
+function_of Where t = instr.Select 0 1 2 ∷ []
+function_of (Astype d) t = instr.One Cast d 0 ∷ []
+function_of (Extreme least) t = instr.Two (first_is least) t 0 1 ∷ instr.Select 2 0 1 ∷ []
+function_of (Clip min max) t =
+    instr.Const min ∷ instr.Two GreaterEqual t 0 1 ∷ instr.Select 2 0 1
+    ∷ instr.Const max ∷ instr.Two LessEqual t 3 4 ∷ instr.Select 5 3 4 ∷ []
 
 abbrev pub kernel_of : ElementOp → Dtype → List Argument → List Instr
-kernel_of op t args = loads_from 0 args ++ function_of op t ∷ []
+kernel_of op t args = loads_from 0 args ++ function_of op t
 
 -- the types of arrays
 abbrev pub types_of : List NodeInfo → List Dtype

@@ -20,6 +20,30 @@ no_array = refl
 written_choice : takes_args (Form.Elementwise ElementOp.Where (Arg.Truth true ∷ Arg.Node 0 ∷ Arg.Node 0 ∷ [])) ≡ false
 written_choice = refl
 
+-- the greater of a number and an array, of two numbers, and of one array
+greater_of_number : takes_args (Form.Elementwise (ElementOp.Extreme false) (Arg.Int (pos 5) ∷ Arg.Node 0 ∷ [])) ≡ true
+greater_of_number = refl
+
+greater_of_numbers : takes_args (Form.Elementwise (ElementOp.Extreme false) (Arg.Int (pos 5) ∷ Arg.Int (pos 6) ∷ [])) ≡ false
+greater_of_numbers = refl
+
+lesser_of_one : takes_args (Form.Elementwise (ElementOp.Extreme true) (Arg.Node 0 ∷ [])) ≡ false
+lesser_of_one = refl
+
+-- a number between bounds
+number_clipped : takes_args (Form.Elementwise (ElementOp.Clip (pos 2) (pos 5)) (Arg.Int (pos 7) ∷ [])) ≡ false
+number_clipped = refl
+
+-- the ends of the integers that may be written as bounds, and one past each
+widest_bounds : in_ranges (Form.Elementwise (ElementOp.Clip (negsuc 9223372036854775807) (pos 18446744073709551615)) (Arg.Node 0 ∷ [])) ≡ true
+widest_bounds = refl
+
+bound_too_low : in_ranges (Form.Elementwise (ElementOp.Clip (negsuc 9223372036854775808) (pos 5)) (Arg.Node 0 ∷ [])) ≡ false
+bound_too_low = refl
+
+bound_too_high : in_ranges (Form.Elementwise (ElementOp.Clip (pos 2) (pos (2 ^ 64))) (Arg.Node 0 ∷ [])) ≡ false
+bound_too_high = refl
+
 -- a join of nothing, and of a number
 nothing_joined : takes_args (Form.Concat [] (pos 0)) ≡ false
 nothing_joined = refl

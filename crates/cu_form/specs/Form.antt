@@ -52,6 +52,8 @@ are_arrays least most args = nat_le least (length args) && nat_le (length args) 
 abbrev pub element_takes : ElementOp → List Arg → Bool
 element_takes (ElementOp.Two f) (x ∷ y ∷ []) = is_array x || is_array y
 element_takes (ElementOp.Two f) args = false
+element_takes (ElementOp.Extreme least) (x ∷ y ∷ []) = is_array x || is_array y
+element_takes (ElementOp.Extreme least) args = false
 element_takes ElementOp.Where (c ∷ x ∷ y ∷ []) = is_array c && (is_array x || is_array y)
 element_takes ElementOp.Where args = false
 element_takes op args = are_arrays 1 1 args
@@ -86,9 +88,10 @@ abbrev pub is_written_value : Literal → Bool
 is_written_value (Literal.Int x) = is_written x
 is_written_value value = true
 
--- `astype` is a function of its own
+-- `astype` is a function of its own, and the bounds of `clip` are integers that may be written
 abbrev pub is_function : ElementOp → Bool
 is_function (ElementOp.One fn1.Astype) = false
+is_function (ElementOp.Clip min max) = is_written min && is_written max
 is_function op = true
 
 -- the members of the form lie in their ranges

@@ -117,10 +117,12 @@ fn element_takes(op: &ElementOp, args: &[Arg]) -> bool
     ensures { result ≡ element_takes op.now args.now }
 {
     match (op, args) {
-        (ElementOp::Two(_), [x, y]) => x.is_array() || y.is_array(),
+        (ElementOp::Two(_) | ElementOp::Extreme(_), [x, y]) => x.is_array() || y.is_array(),
         (ElementOp::Where, [c, x, y]) => c.is_array() && (x.is_array() || y.is_array()),
-        (ElementOp::Two(_) | ElementOp::Where, _) => false,
-        (ElementOp::One(_) | ElementOp::Astype(_), _) => are_arrays(1, 1, args),
+        (ElementOp::Two(_) | ElementOp::Extreme(_) | ElementOp::Where, _) => false,
+        (ElementOp::One(_) | ElementOp::Astype(_) | ElementOp::Clip(..), _) => {
+            are_arrays(1, 1, args)
+        }
     }
 }
 

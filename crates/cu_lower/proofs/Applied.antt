@@ -1,12 +1,14 @@
 -- The kernel of an elementwise node gives the function of its arguments' elements.
 use Rattle.std.proofs.Common.{◌≡◌, ◌⊎◌, inl, inr, ℕ, zero, suc, ◌+◌, ℤ, pos, negsuc, ◌≤ℤ◌, Bool, true, false, List, [], ◌∷◌, ◌++◌, map, Option, None, Some, refl, ap, sym, ◌∙◌, subst, arith, if◌then◌else◌}
-use Rattle.std.specs.Prelude.{option_and_then}
-use Rattle.std.proofs.lemmas.Int.{ints}
+use Rattle.std.specs.Prelude.{int_le, option_and_then}
+use Rattle.std.specs.Int.{int_min, int_max}
+use Rattle.std.proofs.lemmas.Int.{ints, int_min_is, int_max_is}
 use Rattle.std.proofs.lemmas.List.{append-nil, append_assoc}
 use Rattle.cu_num.specs.Dtype.{InRange}
-use Rattle.cu_num.specs.Scalar.{is_nonzero}
+use Rattle.cu_num.specs.Scalar.{op2, truth_number, is_nonzero}
 use Rattle.cu_num.proofs.ScalarRange.{op1-result_type1, op2-result_type2}
 use Rattle.cu_num.proofs.TypeTests.{bool-is_bool}
+use Rattle.cu_num.specs.declared.functions.Fn2.TheVariants.{LessEqual, GreaterEqual}
 use Rattle.cu_num.specs.declared.types.Dtype.{Dtype}
 use Rattle.cu_num.specs.declared.types.Dtype.TheVariants as types
 use Rattle.cu_shape.specs.Index.{back}
@@ -32,6 +34,40 @@ same_choice (pos zero) x y h = refl
 same_choice (pos (suc zero)) x y h = refl
 same_choice (pos (suc (suc n))) x y h = let w : pos (suc (suc n)) ≤ℤ pos 1 = h.1 in absurd (omega (arith, ints))
 same_choice (negsuc n) x y h = let w : pos 0 ≤ℤ negsuc n = h.0 in absurd (omega (arith, ints))
+
+-- ---- the lesser and the greater by a test and a choice
+
+chosen : (b : Bool) (x y : ℤ) → selected (truth_number b) x y ≡ (if b then x else y)
+chosen true x y = refl
+chosen false x y = refl
+
+greater_by : (b : Bool) (x y : ℤ) → int_le y x ≡ b → (if b then x else y) ≡ int_max x y
+greater_by true x y e = grind (arith, ints, int_max_is x y)
+greater_by false x y e = grind (arith, ints, int_max_is x y)
+
+lesser_by : (b : Bool) (x y : ℤ) → int_le x y ≡ b → (if b then x else y) ≡ int_min x y
+lesser_by true x y e = grind (arith, ints, int_min_is x y)
+lesser_by false x y e = grind (arith, ints, int_min_is x y)
+
+greater_chosen : (x y : ℤ) → selected (op2 GreaterEqual types.Bool x y) x y ≡ int_max x y
+greater_chosen x y = chosen (int_le y x) x y ∙ greater_by (int_le y x) x y refl
+
+lesser_chosen : (x y : ℤ) → selected (op2 LessEqual types.Bool x y) x y ≡ int_min x y
+lesser_chosen x y = chosen (int_le x y) x y ∙ lesser_by (int_le x y) x y refl
+
+greater_turned : (x y : ℤ) → int_max x y ≡ int_max y x
+greater_turned x y = omega (arith, ints, int_max_is x y, int_max_is y x)
+
+lesser_turned : (x y : ℤ) → int_min x y ≡ int_min y x
+lesser_turned x y = omega (arith, ints, int_min_is x y, int_min_is y x)
+
+-- of two bounds the upper comes last
+bounds_chosen : (min max x : ℤ)
+    → selected (truth_number (int_le (selected (truth_number (int_le min x)) x min) max)) (selected (truth_number (int_le min x)) x min) max
+    ≡ int_min max (int_max min x)
+bounds_chosen min max x =
+    ap (λ m. selected (truth_number (int_le m max)) m max) (greater_chosen x min ∙ greater_turned x min)
+    ∙ lesser_chosen (int_max min x) max ∙ lesser_turned (int_max min x) max
 
 -- `at` are the elements of the nodes, and `load` those that a kernel loads
 module _ (must : Bool) (infos : List NodeInfo) (at : NodeElements) (idx : List ℕ) (load : ℕ → Option ℤ) where
@@ -98,7 +134,7 @@ module _ (must : Bool) (infos : List NodeInfo) (at : NodeElements) (idx : List �
 
   -- the function of the arguments' elements
   applied : (op : ElementOp) (t : Dtype) (args : List Arg) → accepts_arguments op (map (argument_of infos) args) ≡ true → AreRead args
-      → option_and_then last_of (results_from (function_of op t ∷ []) load (values args)) ≡ Some (function_value op (result_type op t) (values args))
+      → option_and_then last_of (results_from (function_of op t) load (values args)) ≡ Some (function_value op (result_type op t) (values args))
   applied (ElementOp.One f) t [] accepted are = cc
   applied (ElementOp.One f) t (x ∷ []) accepted are = ap Some (op1-result_type1 f t (argument_at infos at idx x))
   applied (ElementOp.One f) t (x ∷ y ∷ zs) accepted are = cc
@@ -118,12 +154,22 @@ module _ (must : Bool) (infos : List NodeInfo) (at : NodeElements) (idx : List �
   applied (ElementOp.Astype d) t [] accepted are = cc
   applied (ElementOp.Astype d) t (x ∷ []) accepted are = refl
   applied (ElementOp.Astype d) t (x ∷ y ∷ zs) accepted are = cc
+  applied (ElementOp.Extreme least) t [] accepted are = cc
+  applied (ElementOp.Extreme least) t (x ∷ []) accepted are = cc
+  applied (ElementOp.Extreme true) t (x ∷ y ∷ []) accepted are =
+      ap Some (lesser_chosen (argument_at infos at idx x) (argument_at infos at idx y))
+  applied (ElementOp.Extreme false) t (x ∷ y ∷ []) accepted are =
+      ap Some (greater_chosen (argument_at infos at idx x) (argument_at infos at idx y))
+  applied (ElementOp.Extreme least) t (x ∷ y ∷ z ∷ zs) accepted are = cc
+  applied (ElementOp.Clip min max) t [] accepted are = cc
+  applied (ElementOp.Clip min max) t (x ∷ []) accepted are = ap Some (bounds_chosen min max (argument_at infos at idx x))
+  applied (ElementOp.Clip min max) t (x ∷ y ∷ zs) accepted are = cc
 
   -- the whole kernel
   pub kernel_told : (op : ElementOp) (t : Dtype) (args : List Arg) → accepts_arguments op (map (argument_of infos) args) ≡ true → Loaded 0 args
       → Told must (kernel_value (kernel_of op t (map (argument_of infos) args)) load) (function_value op (result_type op t) (values args))
   kernel_told op t args accepted l =
-      elim (run 0 args (function_of op t ∷ []) [] l) [
+      elim (run 0 args (function_of op t) [] l) [
         | inl all ↦ inl (ap (option_and_then last_of) all.0 ∙ applied op t args accepted all.1)
         | inr none ↦ inr (none.0, ap (option_and_then last_of) none.1)
       ]

@@ -18,10 +18,10 @@ use Rattle.cu_meaning.specs.Meaning.{meaning_of}
 use Rattle.cu_lower.specs.Premises.{IsLowerable}
 use Rattle.std.specs.Fmt.{digits}
 use Rattle.cu_num.specs.Promotion.{promotion}
-use Rattle.cu_num.specs.declared.functions.Fn2.TheVariants.{Add, Multiply, Subtract, Less}
+use Rattle.cu_num.specs.declared.functions.Fn2.TheVariants.{Add, Multiply, Subtract, Less, LessEqual, GreaterEqual}
 use Rattle.cu_num.specs.declared.types.Dtype.{Dtype}
 use Rattle.cu_num.specs.declared.types.Dtype.TheVariants.{Bool, Int32}
-use Rattle.cu_op.specs.declared.kernel.Instr.TheVariants.{Load, Const, Two}
+use Rattle.cu_op.specs.declared.kernel.Instr.TheVariants.{Load, Const, Two, Select}
 use Rattle.cu_op.specs.declared.operation.Op.TheVariants.{Map}
 use Rattle.cu_op.specs.Sound.{cell_key}
 use Rattle.cu_form.specs.declared.args.Arg.{Arg}
@@ -135,6 +135,27 @@ chosen = refl
 not_chosen : plan_value (plan_of choice choice_infos inputs options) (λ array idx. Some (pos 6)) 3 (0 ∷ []) ≡ Some (pos 7)
 unfolding promotion
 not_chosen = refl
+
+-- m = the greater of a and b; n = m between 2 and 5
+abbrev bounded : Expression
+bounded = expression (a ∷ b ∷ of_form (codes "m") (Form.Elementwise (ElementOp.Extreme false) (Arg.Node 0 ∷ Arg.Node 1 ∷ []))
+    ∷ of_form (codes "n") (Form.Elementwise (ElementOp.Clip (pos 2) (pos 5)) (Arg.Node 2 ∷ [])) ∷ []) 3
+
+bounded_operations : (plan_of bounded all_ten inputs options).ops
+    ≡ record { op = Map (record { code = record { items = Load 0 ∷ Load 1 ∷ Two GreaterEqual Int32 0 1 ∷ Select 2 0 1 ∷ [] } }) (record { items = 0 ∷ 1 ∷ [] }) 2; node = 2; projected = 2112 }
+    ∷ record {
+      op = Map (record { code = record { items = Load 0 ∷ Const (pos 2) ∷ Two GreaterEqual Int32 0 1 ∷ Select 2 0 1 ∷ Const (pos 5) ∷ Two LessEqual Int32 3 4 ∷ Select 5 3 4 ∷ [] } })
+          (record { items = 2 ∷ [] }) 3;
+      node = 3;
+      projected = 3632;
+    } ∷ []
+unfolding promotion
+bounded_operations = refl
+
+-- the greater of 5 and 6 is cut to 5
+bounded_value : plan_value (plan_of bounded all_ten inputs options) five_six 3 (0 ∷ []) ≡ Some (pos 5)
+unfolding promotion
+bounded_value = refl
 
 -- ---- the premises hold of the first expression
 

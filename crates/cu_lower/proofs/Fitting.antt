@@ -31,6 +31,7 @@ use Rattle.cu_typing.specs.declared.argument.Argument.TheVariants.{Array, Writte
 use Rattle.cu_expr.specs.Typing.{argument_of}
 use Rattle.cu_copy.specs.Copies.{rechunked}
 use Rattle.cu_need.specs.Chunks.{aligned_bytes, arrays_in, chunk_bytes}
+use Rattle.cu_need.specs.Elementwise.{own_instructions}
 use Rattle.cu_need.specs.Need.{own_need}
 use Rattle.cu_need.specs.Operands.{in_aligned, operands_of}
 use Rattle.cu_pull.specs.Fits.{FitsPull}
@@ -69,8 +70,20 @@ loads_long k [] = refl
 loads_long k (Array i ∷ told) = ap suc (loads_long (k + 1) told)
 loads_long k (Written v ∷ told) = ap suc (loads_long k told)
 
-kernel_long : (op : ElementOp) (t : Dtype) (told : List Argument) → length (kernel_of op t told) ≡ length told + 1
-kernel_long op t told = let a = length-append (loads_from 0 told) (function_of op t ∷ []) in let l = loads_long 0 told in omega (arith, a, l)
+function_long : (op : ElementOp) (t : Dtype) → length (function_of op t) ≡ own_instructions op
+function_long (ElementOp.One f) t = refl
+function_long (ElementOp.Two f) t = refl
+function_long ElementOp.Where t = refl
+function_long (ElementOp.Astype d) t = refl
+function_long (ElementOp.Extreme least) t = refl
+function_long (ElementOp.Clip min max) t = refl
+
+kernel_long : (op : ElementOp) (t : Dtype) (told : List Argument) → length (kernel_of op t told) ≡ length told + own_instructions op
+kernel_long op t told =
+    let a = length-append (loads_from 0 told) (function_of op t) in
+    let l = loads_long 0 told in
+    let f = function_long op t in
+    omega (arith, a, l, f)
 
 -- ---- lists
 
@@ -204,8 +217,8 @@ module _ (infos : List NodeInfo) (options : Options) (arrays : List ArrayInfo) (
         let result = room_of_known arrays out r out_known in
         let scratch = greatest_of arrays r out reads (map (aligned_bytes r) is) out_known rooms in
         let sums : sum_by (chunk_room arrays) reads ≡ sum_by (aligned_bytes r) is = sum_mapped (chunk_room arrays) reads ∙ ap (sum_by (λ n. n)) rooms ∙ sym (sum_mapped (aligned_bytes r) is) in
-        let steps : length (instructions_of op (map (argument_of infos) args)) ≡ length args + 1 =
-        ap length code_is ∙ kernel_long op t (map (argument_of infos) args) ∙ ap (λ n. n + 1) (length-map args (argument_of infos)) in
+        let steps : length (instructions_of op (map (argument_of infos) args)) ≡ length args + own_instructions op =
+        ap length code_is ∙ kernel_long op t (map (argument_of infos) args) ∙ ap (λ n. n + own_instructions op) (length-map args (argument_of infos)) in
         omega (arith, result, scratch, sums, steps)
 
     pub map_steps : CanCopy infos options k (Form.Elementwise op args) first

@@ -2,6 +2,7 @@ mod Examples
 mod ViewExamples
 mod ReducedExamples
 mod CopiedExamples
+mod BoundedTypes
 pub mod NoNode
 pub mod Collected
 pub mod Aligning

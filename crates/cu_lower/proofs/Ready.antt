@@ -58,8 +58,10 @@ three_arguments op (x ∷ y ∷ z ∷ w ∷ args) h = too_many op h
     too_many : (op : ElementOp) → element_takes op (x ∷ y ∷ z ∷ w ∷ args) ≡ true → length (x ∷ y ∷ z ∷ w ∷ args) ≤ 3
     too_many (element.Two f) h = cc
     too_many element.Where h = cc
+    too_many (element.Extreme least) h = cc
     too_many (element.One f) h = let (n, one) = one_array (x ∷ y ∷ z ∷ w ∷ args) h in let l = ap length one in absurd (omega (arith, l))
     too_many (element.Astype t) h = let (n, one) = one_array (x ∷ y ∷ z ∷ w ∷ args) h in let l = ap length one in absurd (omega (arith, l))
+    too_many (element.Clip min max) h = let (n, one) = one_array (x ∷ y ∷ z ∷ w ∷ args) h in let l = ap length one in absurd (omega (arith, l))
 
 some_arrays : (infos : List NodeInfo) (args : List Arg) → length (arrays_in infos args) ≤ length args
 some_arrays infos [] = omega arith

@@ -82,7 +82,7 @@ abbrev pub type_or_bool : Result Dtype NodeFault → Dtype
 type_or_bool (Ok t) = t
 type_or_bool (Err f) = Bool
 
--- a load or a literal for each argument in order, then the function
+-- a load or a literal for each argument in order, then the instructions of the function
 abbrev pub instructions_of : ElementOp → List Argument → List Instr
 instructions_of op told = kernel_of op (type_or_bool (shared_type op told)) told
 

@@ -1,6 +1,6 @@
 //! The operation of an elementwise node and of a view, and the arrays that operations make.
 
-ghost use Rattle.std.specs.Prelude.{◌≡◌, ◌<◌, ◌≤◌, ◌^◌, ℕ, List, [], ◌∷◌, IsOk, map, true, length};
+ghost use Rattle.std.specs.Prelude.{◌≡◌, ◌<◌, ◌≤◌, ◌^◌, ℕ, List, [], ◌∷◌, ◌++◌, IsOk, map, true, length};
 ghost use Rattle.std.specs.List.{list_all};
 ghost use Rattle.cu_form.specs.Expression.{Expression};
 ghost use Rattle.cu_form.specs.Form.{args_of, is_earlier, names_earlier, element_takes, HasShortIndex};
@@ -8,7 +8,7 @@ ghost use Rattle.cu_grid.specs.Grid.{IsGrid};
 ghost use Rattle.cu_node.specs.Info.{info_at};
 ghost use Rattle.cu_lower_reduce.specs.Steps.{grid_of};
 ghost use Rattle.cu_node.specs.declared.info.NodeInfo.{NodeInfo as Known};
-ghost use Rattle.cu_expr.specs.Kernel.{loads_from, function_of};
+ghost use Rattle.cu_expr.specs.Kernel.{first_is, loads_from, function_of};
 ghost use Rattle.cu_typing.specs.Types.{array_type, pair_type, shared_type};
 ghost use Rattle.cu_expr.specs.Typing.{argument_of};
 ghost use Rattle.cu_lower.specs.Inputs.{input_names};
@@ -21,7 +21,7 @@ use cu_grid::Grid;
 use cu_lower_view::pull_of;
 use cu_name::{IdText, key_of_name, made_prefix};
 use cu_node::{NodeInfo, info_at};
-use cu_num::{Dtype, Encoding, Endian, Fn1, Sep, promote};
+use cu_num::{Dtype, Encoding, Endian, Fn1, Fn2, Sep, promote};
 use cu_op::{ArrayInfo, Instr, Kernel, Layout, Op, Pull};
 
 /// The type of an argument that is an array.
@@ -56,21 +56,46 @@ fn shared_type(op: ElementOp, infos: &[NodeInfo], args: &[Arg]) -> Dtype
 {
     match (op, args) {
         (ElementOp::One(_) | ElementOp::Astype(_), [x]) => array_type(infos, x),
-        (ElementOp::Two(_), [x, y]) => pair_type(infos, x, y),
+        (ElementOp::Two(_) | ElementOp::Extreme(_), [x, y]) => pair_type(infos, x, y),
         (ElementOp::Where, [_, x, y]) => pair_type(infos, x, y),
+        (ElementOp::Clip(..), [x]) => array_type(infos, x),
         _ => Dtype::Bool,
     }
 }
 
-/// The instruction of a function whose arguments have this type together.
-fn function_of(op: ElementOp, t: Dtype) -> Instr
-    ensures { result ≡ function_of op t }
+/// The test by which the first of two numbers is the lesser, or the greater.
+fn first_is(least: bool) -> Fn2
+    ensures { result ≡ first_is least }
+{
+    if least {
+        Fn2::LessEqual
+    } else {
+        Fn2::GreaterEqual
+    }
+}
+
+/// Appends a function of the first results, which have this type together.
+fn push_function(code: &mut ArrayVec<Instr, 32>, op: ElementOp, t: Dtype)
+    requires room { length code.old.items ≤ 3 }
+    ensures code { code.new.items ≡ code.old.items ++ function_of op t }
 {
     match op {
-        ElementOp::One(f) => Instr::One(f, t, 0),
-        ElementOp::Two(f) => Instr::Two(f, t, 0, 1),
-        ElementOp::Where => Instr::Select(0, 1, 2),
-        ElementOp::Astype(d) => Instr::One(Fn1::Astype, d, 0),
+        ElementOp::One(f) => code.push(Instr::One(f, t, 0)),
+        ElementOp::Two(f) => code.push(Instr::Two(f, t, 0, 1)),
+        ElementOp::Where => code.push(Instr::Select(0, 1, 2)),
+        ElementOp::Astype(d) => code.push(Instr::One(Fn1::Astype, d, 0)),
+        ElementOp::Extreme(least) => {
+            code.push(Instr::Two(first_is(least), t, 0, 1));
+            code.push(Instr::Select(2, 0, 1));
+        }
+        ElementOp::Clip(min, max) => {
+            code.push(Instr::Const(min));
+            code.push(Instr::Two(Fn2::GreaterEqual, t, 0, 1));
+            code.push(Instr::Select(2, 0, 1));
+            code.push(Instr::Const(max));
+            code.push(Instr::Two(Fn2::LessEqual, t, 3, 4));
+            code.push(Instr::Select(5, 3, 4));
+        }
     }
 }
 
@@ -148,7 +173,7 @@ pub(crate) fn map_of(
     ensures { result ≡ map_of infos.now op args.now ins.items out }
 {
     let mut code = loads(args);
-    code.push(function_of(op, shared_type(op, infos, args)));
+    push_function(&mut code, op, shared_type(op, infos, args));
     Op::Map {
         kernel: Kernel { code },
         ins,

@@ -10,6 +10,8 @@ arity (ElementOp.One f) = 1
 arity (ElementOp.Two f) = 2
 arity ElementOp.Where = 3
 arity (ElementOp.Astype t) = 1
+arity (ElementOp.Extreme least) = 2
+arity (ElementOp.Clip min max) = 1
 
 -- with another number of arguments it gives 0
 pub other_arity : (op : ElementOp) (t : Dtype) (value : Arg → ℤ) (args : List Arg) → length args ≢ arity op → pos 0 ≡ function_value op t (map value args)
@@ -17,6 +19,8 @@ other_arity (ElementOp.One f) t value (x ∷ []) other = absurd (other refl)
 other_arity (ElementOp.Two f) t value (x ∷ y ∷ []) other = absurd (other refl)
 other_arity ElementOp.Where t value (x ∷ y ∷ z ∷ []) other = absurd (other refl)
 other_arity (ElementOp.Astype d) t value (x ∷ []) other = absurd (other refl)
+other_arity (ElementOp.Extreme least) t value (x ∷ y ∷ []) other = absurd (other refl)
+other_arity (ElementOp.Clip min max) t value (x ∷ []) other = absurd (other refl)
 other_arity op t value args other = refl
 
 -- ---- the arguments of a list of so many

@@ -1,5 +1,6 @@
 //! Elementwise functions at an index of the result.
 ghost use Rattle.std.specs.Prelude.{◌≡◌, ◌∷◌, [], map, All, Ok, if◌then◌else◌};
+ghost use Rattle.std.specs.Int.{int_min, int_max};
 ghost use Rattle.cu_num.specs.Scalar.{op1, op2, is_nonzero};
 ghost use Rattle.cu_meaning.specs.Rule.{function_value};
 ghost use Rattle.cu_typing.specs.Types.{pair_type, typed_elements};
@@ -91,6 +92,28 @@ fn selected(condition: Arg, a: Arg, b: Arg, scope: &Scope<'_>) -> i128
     argument(a, scope)
 }
 
+/// The lesser or the greater of two arguments.
+fn extreme(least: bool, a: Arg, b: Arg, scope: &Scope<'_>) -> i128
+    requires first { GoesBack scope.now.infos.now scope.now.idx.now a }
+    requires second { GoesBack scope.now.infos.now scope.now.idx.now b }
+    requires arrays { HaveTypesAndShapes scope.now.infos.now scope.now.plains.now }
+    ensures { result ≡ if least then int_min (argument_in scope.now a) (argument_in scope.now b)
+        else int_max (argument_in scope.now a) (argument_in scope.now b) }
+{
+    let x = argument(a, scope);
+    let y = argument(b, scope);
+    if least { x.min(y) } else { x.max(y) }
+}
+
+/// An argument between two bounds; the upper one where they are exchanged.
+fn clipped(min: i128, max: i128, arg: Arg, scope: &Scope<'_>) -> i128
+    requires rank { GoesBack scope.now.infos.now scope.now.idx.now arg }
+    requires arrays { HaveTypesAndShapes scope.now.infos.now scope.now.plains.now }
+    ensures { result ≡ int_min max (int_max min (argument_in scope.now arg)) }
+{
+    max.min(min.max(argument(arg, scope)))
+}
+
 /// The element of an elementwise function at an index of the result, which has the type `t`.
 pub(crate) fn function_at(op: ElementOp, t: Dtype, args: &[Arg], scope: &Scope<'_>) -> i128
     requires typed { typed_elements op (map (argument_of scope.now.infos.now) args.now) ≡ Ok t }
@@ -103,6 +126,8 @@ pub(crate) fn function_at(op: ElementOp, t: Dtype, args: &[Arg], scope: &Scope<'
         (ElementOp::Two(f), [x, y]) => two(f, t, *x, *y, scope),
         (ElementOp::Where, [condition, x, y]) => { selected(*condition, *x, *y, scope) }
         (ElementOp::Astype(d), [x]) => scalar1(Fn1::Astype, d, argument(*x, scope)),
+        (ElementOp::Extreme(least), [x, y]) => extreme(least, *x, *y, scope),
+        (ElementOp::Clip(min, max), [x]) => clipped(min, max, *x, scope),
         _ => 0,
     }
 }

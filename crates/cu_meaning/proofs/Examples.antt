@@ -1,9 +1,9 @@
 -- The meaning on small arrays, with the numbers of the worked examples.
-use Rattle.std.proofs.Common.{◌≡◌, ℕ, ℤ, pos, negsuc, true, false, List, [], ◌∷◌, refl, None, Some, codes, get_or, map}
+use Rattle.std.proofs.Common.{◌≡◌, ℕ, ℤ, pos, negsuc, Bool, true, false, List, [], ◌∷◌, refl, None, Some, codes, get_or, map}
 use Rattle.cu_num.specs.declared.folds.FoldKind.TheVariants.{Sum, Prod, Max}
 use Rattle.cu_num.specs.declared.functions.Fn2.TheVariants.{Add, FloorDivide}
 use Rattle.cu_num.specs.declared.types.Dtype.{Dtype}
-use Rattle.cu_num.specs.declared.types.Dtype.TheVariants.{Int8, Int32, Int64}
+use Rattle.cu_num.specs.declared.types.Dtype.TheVariants.{Int8, Int16, Int32, Int64, Uint8}
 use Rattle.cu_num.specs.Wrap.{wrapped}
 use Rattle.cu_num.specs.Division.{floor_quotient}
 use Rattle.cu_shape.specs.Index.{place_of, indices_of}
@@ -54,6 +54,29 @@ row_added : all_of (x ∷ x ∷ Form.Elementwise (ElementOp.Two Add) (Arg.Node 0
     ≡ pos 11 ∷ pos 22 ∷ pos 33 ∷ pos 14 ∷ pos 25 ∷ pos 36 ∷ []
 unfolding wrapped
 row_added = refl
+
+-- the greater and the lesser of -128 and 200, and of 5 and 1
+abbrev extreme : Bool → List ℤ
+extreme least =
+    all_of (x ∷ x ∷ Form.Elementwise (ElementOp.Extreme least) (Arg.Node 0 ∷ Arg.Node 1 ∷ []) ∷ [])
+    (info_of Int8 (2 ∷ []) [] ∷ info_of Uint8 (2 ∷ []) [] ∷ info_of Int16 (2 ∷ []) [] ∷ []) ((2 ∷ []) ∷ (2 ∷ []) ∷ [])
+    ((negsuc 127 ∷ pos 5 ∷ []) ∷ (pos 200 ∷ pos 1 ∷ []) ∷ []) 2 (2 ∷ [])
+
+the_greater : extreme false ≡ pos 200 ∷ pos 5 ∷ []
+the_greater = refl
+
+the_lesser : extreme true ≡ negsuc 127 ∷ pos 1 ∷ []
+the_lesser = refl
+
+-- 1 to 6 between 2 and 5, and where the bounds are exchanged
+abbrev clipped : ℤ → ℤ → List ℤ
+clipped min max = over (Form.Elementwise (ElementOp.Clip min max) one) Int32 (6 ∷ []) six Int32 (6 ∷ [])
+
+between_bounds : clipped (pos 2) (pos 5) ≡ pos 2 ∷ pos 2 ∷ pos 3 ∷ pos 4 ∷ pos 5 ∷ pos 5 ∷ []
+between_bounds = refl
+
+exchanged_bounds : clipped (pos 5) (pos 2) ≡ pos 2 ∷ pos 2 ∷ pos 2 ∷ pos 2 ∷ pos 2 ∷ pos 2 ∷ []
+exchanged_bounds = refl
 
 -- 127 and 1 wrap to -128
 sum_wraps : over (Form.Elementwise (ElementOp.Two Add) (Arg.Node 0 ∷ Arg.Int (pos 1) ∷ [])) Int8 (1 ∷ []) (pos 127 ∷ []) Int8 (1 ∷ []) ≡ negsuc 127 ∷ []

@@ -1,10 +1,11 @@
 -- Each element is a number of its node's type.
-use Rattle.std.proofs.Common.{◌≡◌, ◌<◌, ◌≤◌, ◌^◌, ◌&&◌, nat_lt, zero, suc, Bool, true, false, List, [], ◌∷◌, ℕ, ℤ, pos, length, map, slice_index, Option, Some, None, refl, sym, subst, arith}
+use Rattle.std.proofs.Common.{◌≡◌, ◌⊎◌, inl, inr, ◌<◌, ◌≤◌, ◌^◌, ◌&&◌, nat_lt, zero, suc, Bool, true, false, List, [], ◌∷◌, ℕ, ℤ, pos, length, map, slice_index, Option, Some, None, refl, sym, subst, arith}
 use Rattle.std.specs.Prelude.{if◌then◌else◌, slice_get, All}
 use Rattle.std.specs.List.{list_all, position_or_len}
 use Rattle.std.specs.Ordering.{int_eq}
 use Rattle.std.proofs.lemmas.Bool.{ltb-true}
-use Rattle.std.proofs.lemmas.Int.{ints}
+use Rattle.std.specs.Int.{int_min, int_max}
+use Rattle.std.proofs.lemmas.Int.{ints, int_min_is, int_max_is}
 use Rattle.std.proofs.lemmas.List.{length-map}
 use Rattle.std.proofs.lemmas.List.FromFn.{length-range_with_len}
 use Rattle.std.proofs.lemmas.List.Elements.{All-head, All-tail}
@@ -92,6 +93,23 @@ one_fits_result f t x h = subst (λ (r : Dtype). InRange r (op1 f t x)) h (InRan
 two_fits_result : (f : Fn2) (t : Dtype) (x y : ℤ) → result_type2 f t ≡ t → InRange t (op2 f t x y)
 two_fits_result f t x y h = subst (λ (r : Dtype). InRange r (op2 f t x y)) h (InRange-op2 f t x y)
 
+-- the lesser and the greater of two numbers are one of them
+either_is : (z x y : ℤ) (P : ℤ → Type 0) → (z ≡ x) ⊎ (z ≡ y) → P x → P y → P z
+either_is z x y P (inl e) h k = rw e h
+either_is z x y P (inr e) h k = rw e k
+
+lesser_is : (x y : ℤ) → (int_min x y ≡ x) ⊎ (int_min x y ≡ y)
+lesser_is x y = grind (arith, ints, int_min_is x y)
+
+greater_is : (x y : ℤ) → (int_max x y ≡ x) ⊎ (int_max x y ≡ y)
+greater_is x y = grind (arith, ints, int_max_is x y)
+
+lesser_fits : (t : Dtype) (x y : ℤ) → InRange t x → InRange t y → InRange t (int_min x y)
+lesser_fits t x y h k = either_is (int_min x y) x y (InRange t) (lesser_is x y) h k
+
+greater_fits : (t : Dtype) (x y : ℤ) → InRange t x → InRange t y → InRange t (int_max x y)
+greater_fits t x y h k = either_is (int_max x y) x y (InRange t) (greater_is x y) h k
+
 function_fits : (infos : List NodeInfo) (at : NodeElements) (k : ℕ) (t : Dtype) (op : ElementOp) (args : List Arg) (idx : List ℕ) → FitBelow infos at k → list_all (is_earlier k) args ≡ true
     → IsResultType infos t op args → InRange t (function_value op t (map (argument_at infos at idx) args))
 function_fits infos at k t (ElementOp.One f) [] idx below earlier is = zero_in_range t
@@ -113,6 +131,21 @@ function_fits infos at k t ElementOp.Where (c ∷ x ∷ y ∷ z ∷ args) idx be
 function_fits infos at k t (ElementOp.Astype d) [] idx below earlier is = zero_in_range t
 function_fits infos at k t (ElementOp.Astype d) (x ∷ []) idx below earlier is = subst (λ (r : Dtype). InRange r (op1 Astype d (argument_at infos at idx x))) is (InRange-op1 Astype d (argument_at infos at idx x))
 function_fits infos at k t (ElementOp.Astype d) (x ∷ y ∷ args) idx below earlier is = zero_in_range t
+function_fits infos at k t (ElementOp.Extreme least) [] idx below earlier is = zero_in_range t
+function_fits infos at k t (ElementOp.Extreme least) (x ∷ []) idx below earlier is = zero_in_range t
+function_fits infos at k t (ElementOp.Extreme least) (x ∷ y ∷ []) idx below earlier is =
+    let fits = FitsType infos t in
+    let first = argument_fits infos at k t x idx below (left_true (is_earlier k x) _ earlier) (All-head fits x (y ∷ []) is) in
+    let rest = left_true (is_earlier k y) true (right_true (is_earlier k x) _ earlier) in
+    let second = argument_fits infos at k t y idx below rest (All-head fits y [] (All-tail fits x (y ∷ []) is)) in
+    either_fits t least _ _ (lesser_fits t _ _ first second) (greater_fits t _ _ first second)
+function_fits infos at k t (ElementOp.Extreme least) (x ∷ y ∷ z ∷ args) idx below earlier is = zero_in_range t
+function_fits infos at k t (ElementOp.Clip min max) [] idx below earlier is = zero_in_range t
+function_fits infos at k t (ElementOp.Clip min max) (x ∷ []) idx below earlier is =
+    let only = left_true (is_earlier k x) true earlier in
+    let value = argument_fits infos at k t x idx below only (All-head (FitsType infos t) x [] is.2) in
+    lesser_fits t max _ is.1 (greater_fits t min _ is.0 value)
+function_fits infos at k t (ElementOp.Clip min max) (x ∷ y ∷ args) idx below earlier is = zero_in_range t
 
 -- ---- places
 

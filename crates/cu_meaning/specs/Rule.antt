@@ -1,5 +1,6 @@
 -- The element of a node by its operator, over the elements of its arguments (Python array API). Nothing here speaks of chunks.
 use Rattle.std.specs.Prelude.{ℕ, ℤ, pos, List, [], ◌∷◌, length, map, Option, option_map, if◌then◌else◌}
+use Rattle.std.specs.Int.{int_min, int_max}
 use Rattle.cu_num.specs.Scalar.{op1, op2, is_nonzero}
 use Rattle.cu_num.specs.Wrap.{wrapped}
 use Rattle.cu_num.specs.declared.functions.Fn1.TheVariants.{Astype}
@@ -26,6 +27,8 @@ function_value (ElementOp.One f) t (x ∷ []) = op1 f t x
 function_value (ElementOp.Two f) t (x ∷ y ∷ []) = op2 f t x y
 function_value ElementOp.Where t (c ∷ x ∷ y ∷ []) = if is_nonzero c then x else y
 function_value (ElementOp.Astype d) t (x ∷ []) = op1 Astype d x
+function_value (ElementOp.Extreme least) t (x ∷ y ∷ []) = if least then int_min x y else int_max x y
+function_value (ElementOp.Clip min max) t (x ∷ []) = int_min max (int_max min x)
 function_value op t xs = pos 0
 
 -- the axes over which a place is sought: one, or all

@@ -27,12 +27,15 @@ FitsType infos t (Arg.Node n) = (x : ℤ) → InRange (type_of_node infos n) x �
 FitsType infos t (Arg.Int x) = InRange t x
 FitsType infos t (Arg.Truth b) = InRange t (truth_number b)
 
--- the type is that of the function's result; of `where` both values are of it
+-- the type is that of the function's result; of `where`, `maximum` and `minimum` both values are
+-- of it, of `clip` the value and the bounds
 abbrev pub IsResultType : List NodeInfo → Dtype → ElementOp → List Arg → Type 0
 IsResultType infos t (ElementOp.One f) args = result_type1 f t ≡ t
 IsResultType infos t (ElementOp.Two f) args = result_type2 f t ≡ t
 IsResultType infos t ElementOp.Where args = All (FitsType infos t) (drop 1 args)
 IsResultType infos t (ElementOp.Astype d) args = d ≡ t
+IsResultType infos t (ElementOp.Extreme least) args = All (FitsType infos t) args
+IsResultType infos t (ElementOp.Clip min max) args = InRange t min × InRange t max × All (FitsType infos t) args
 
 -- the form of node k gives numbers of the node's type
 abbrev pub KeepsType : List NodeInfo → NodeElements → ℕ → Form → Type 0

@@ -14,7 +14,7 @@ use Rattle.cu_shape.specs.Index.{product}
 use Rattle.cu_typing.specs.Joined.{aligned_chunk}
 use Rattle.cu_need.specs.Chunks.{arrays_in, chunk_bytes, aligned_bytes, is_aligned}
 use Rattle.cu_copy.specs.Copies.{is_misaligned, rechunk_need}
-use Rattle.cu_need.specs.Elementwise.{are_aligned, function_need}
+use Rattle.cu_need.specs.Elementwise.{are_aligned, own_instructions, function_need}
 use Rattle.cu_need.specs.Need.{need_of}
 use Rattle.cu_need.specs.Operands.{copies_of, in_aligned}
 use Rattle.cu_copy.specs.declared.copies.Rechunk.{Rechunk}
@@ -63,9 +63,9 @@ function_aligned reserved instructions result is h =
 
 pub aligned_need : (reserved split_every out k : ℕ) (infos : List NodeInfo) (op : ElementOp) (args : List Arg) → are_aligned (info_at infos k) (arrays_in infos args) ≡ true
     → need_of reserved split_every infos out k (Form.Elementwise op args)
-    ≡ reserved + largest (map chunk_bytes (info_at infos k ∷ arrays_in infos args)) + sum_by chunk_bytes (arrays_in infos args) + chunk_bytes (info_at infos k) + 512 * (length args + 1)
+    ≡ reserved + largest (map chunk_bytes (info_at infos k ∷ arrays_in infos args)) + sum_by chunk_bytes (arrays_in infos args) + chunk_bytes (info_at infos k) + 512 * (length args + own_instructions op)
 aligned_need reserved split_every out k infos op args h =
     let none : largest (map (rechunk_need reserved) (copies_of infos out k (Form.Elementwise op args))) ≡ 0 =
     ap (λ (copies : List Rechunk). largest (map (rechunk_need reserved) copies)) (none_misaligned (info_at infos k) (arrays_in infos args) h) in
-    let own = function_aligned reserved (length args + 1) (info_at infos k) (arrays_in infos args) h in
+    let own = function_aligned reserved (length args + own_instructions op) (info_at infos k) (arrays_in infos args) h in
     omega (arith, none, own)

@@ -71,6 +71,17 @@ product_with_a_number = refl
 truth_of_rank_0 : need_of 0 4 (info_of Bool [] [] ∷ info_of Bool [] [] ∷ []) 1 1 (Form.Elementwise (ElementOp.One LogicalNot) (Arg.Node 0 ∷ [])) ≡ 1027
 truth_of_rank_0 = refl
 
+-- two arguments, a test and a choice; a number in place of one of them
+greater_of_two : need_of 0 4 sixes 2 2 (Form.Elementwise (ElementOp.Extreme false) (Arg.Node 0 ∷ Arg.Node 1 ∷ [])) ≡ 2112
+greater_of_two = refl
+
+lesser_of_a_number : need_of 0 4 sixes 2 2 (Form.Elementwise (ElementOp.Extreme true) (Arg.Int (pos 3) ∷ Arg.Node 1 ∷ [])) ≡ 2096
+lesser_of_a_number = refl
+
+-- seven instructions
+between_bounds : need_of 0 4 sixes 1 1 (Form.Elementwise (ElementOp.Clip (pos 2) (pos 5)) (Arg.Node 0 ∷ [])) ≡ 3632
+between_bounds = refl
+
 -- 1000 elements in one chunk, beside chunks of 2: the copy needs more than the sum
 one_misaligned : need_of 0 4 (info_of Int32 (1000 ∷ []) (2 ∷ []) ∷ info_of Int32 (1000 ∷ []) (1000 ∷ []) ∷ info_of Int32 (1000 ∷ []) (2 ∷ []) ∷ []) 2 2 (sum_of (Arg.Node 0 ∷ Arg.Node 1 ∷ [])) ≡ 8000
 one_misaligned = refl

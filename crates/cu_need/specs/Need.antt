@@ -16,7 +16,7 @@ use Rattle.cu_typing.specs.Reduction.{typed_reduction, typed_arg_place}
 use Rattle.cu_typing.specs.declared.argument.Argument.{Argument}
 use Rattle.cu_need.specs.Chunks.{arrays_in}
 use Rattle.cu_copy.specs.Copies.{IsRechunk, rechunk_need}
-use Rattle.cu_need.specs.Elementwise.{function_need}
+use Rattle.cu_need.specs.Elementwise.{own_instructions, function_need}
 use Rattle.cu_need.specs.Live.{is_live, live_nodes}
 use Rattle.cu_need.specs.Reduction.{array_of, axes_reduced, axes_sought, reduction_need, place_need, matmul_need}
 use Rattle.cu_need.specs.View.{is_view, view_need}
@@ -27,7 +27,7 @@ use Rattle.cu_shape.specs.Counts.{largest}
 -- The bytes that node k's operations need besides copies: the function over aligned chunks, the reduction with its merges, the product of
 -- operands in the chunks that are wanted of them, or the view. A rechunk and an input have none, and need the reserved bytes.
 abbrev pub own_need : ℕ → ℕ → List NodeInfo → ℕ → Form → ℕ
-own_need reserved split_every infos k (Form.Elementwise op args) = function_need reserved (info_at infos k) (length args + 1) (arrays_in infos args)
+own_need reserved split_every infos k (Form.Elementwise op args) = function_need reserved (info_at infos k) (length args + own_instructions op) (arrays_in infos args)
 own_need reserved split_every infos k (Form.Reduce kind args axes keepdims) = reduction_need reserved split_every (info_at infos k) (array_of infos args 0) (axes_reduced (array_of infos args 0) axes)
 own_need reserved split_every infos k (Form.ArgPlace least args axis keepdims) = place_need reserved split_every (info_at infos k) (array_of infos args 0) (axes_sought (array_of infos args 0) axis)
 own_need reserved split_every infos k (Form.Matmul args) =

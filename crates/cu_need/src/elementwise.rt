@@ -4,14 +4,14 @@ ghost use Rattle.std.specs.Prelude.{◌≡◌, ◌≤◌, ◌+◌, ◌*◌, ◌^
 ghost use Rattle.cu_node.specs.Info.{IsInfo};
 ghost use Rattle.cu_typing.specs.Joined.{aligned_within};
 ghost use Rattle.cu_need.specs.Chunks.{arrays_in};
-ghost use Rattle.cu_need.specs.Elementwise.{function_need};
+ghost use Rattle.cu_need.specs.Elementwise.{own_instructions, function_need};
 ghost use Rattle.cu_need.specs.Operands.{in_aligned};
 
 use crate::chunks::aligned_bytes;
 use arrayvec::ArrayVec;
 use cu_copy::{Rechunk, chunk_bytes};
 use cu_form::Arg;
-use cu_node::{NodeInfo, info_at};
+use cu_node::{ElementOp, NodeInfo, info_at};
 use cu_typing::chunk_aligned;
 
 /// The bytes that an instruction of a kernel needs.
@@ -45,13 +45,30 @@ pub(crate) fn push_aligned(
     }
 }
 
+/// The instructions of a function's kernel besides those of its arguments.
+fn own_instructions(op: ElementOp) -> u64
+    ensures { result ≡ own_instructions op }
+{
+    match op {
+        ElementOp::Extreme(_) => 2,
+        ElementOp::Clip(..) => 6,
+        ElementOp::One(_) | ElementOp::Two(_) | ElementOp::Where | ElementOp::Astype(_) => 1,
+    }
+}
+
 /// The bytes of the operation that computes the function.
-pub(crate) fn function_need(reserved: u64, made: &NodeInfo, infos: &[NodeInfo], args: &[Arg]) -> u64
+pub(crate) fn function_need(
+    reserved: u64,
+    made: &NodeInfo,
+    infos: &[NodeInfo],
+    op: ElementOp,
+    args: &[Arg],
+) -> u64
     requires reserved { reserved ≤ 2 ^ 40 }
     requires few { length args.now ≤ 3 }
     requires made { IsInfo made.now }
     requires within { aligned_within made.now.dims made.now.chunk (arrays_in infos.now args.now) ≡ true }
-    ensures need { result ≡ function_need reserved made.now (length args.now + 1) (arrays_in infos.now args.now) }
+    ensures need { result ≡ function_need reserved made.now (length args.now + own_instructions op) (arrays_in infos.now args.now) }
 {
     let own = chunk_bytes(made);
     let mut scratch = own;
@@ -63,5 +80,6 @@ pub(crate) fn function_need(reserved: u64, made: &NodeInfo, infos: &[NodeInfo], 
             regions += aligned;
         }
     }
-    reserved + scratch + regions + own + INSTRUCTION_BYTES * (args.len() as u64 + 1)
+    let instructions = args.len() as u64 + own_instructions(op);
+    reserved + scratch + regions + own + INSTRUCTION_BYTES * instructions
 }

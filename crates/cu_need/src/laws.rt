@@ -12,7 +12,7 @@ ghost use Rattle.cu_typing.specs.Joined.{aligned_chunk};
 ghost use Rattle.cu_need.specs.Chunks.{arrays_in, chunk_bytes};
 ghost use Rattle.cu_copy.specs.Copies.{IsRechunk, greater_chunk, in_chunks, is_misaligned, max_mem, rechunk_need};
 ghost use Rattle.cu_need.specs.Counts.{over_limit};
-ghost use Rattle.cu_need.specs.Elementwise.{are_aligned};
+ghost use Rattle.cu_need.specs.Elementwise.{are_aligned, own_instructions};
 ghost use Rattle.cu_need.specs.Need.{need_of, first_over, IsTyped, AreWithinLimits, IsLiveNode, IsFirstOver};
 ghost use Rattle.cu_need.specs.Reduction.{array_of};
 ghost use Rattle.cu_need.specs.Operands.{copies_of, in_aligned};
@@ -40,12 +40,13 @@ pub fn over_law()
 {}
 
 /// An argument is aligned exactly where its chunk shape is that to which it is aligned. Where all are, an elementwise node needs the
-/// reserved bytes, its greatest chunk, a chunk of each array and of the result, and 512 bytes for each argument and for the function.
+/// reserved bytes, its greatest chunk, a chunk of each array and of the result, and 512 bytes for each argument and for each further
+/// instruction of the function.
 pub fn aligned_law()
     ensures chunk { (result i : NodeInfo) → (is_misaligned (in_aligned result i) ≡ false) ↔ (i.chunk ≡ aligned_chunk result.dims result.chunk i) }
     ensures need { (reserved split_every out k : ℕ) (infos : List NodeInfo) (op : ElementOp) (args : List Arg) → are_aligned (info_at infos k) (arrays_in infos args) ≡ true
         → need_of reserved split_every infos out k (Form.Elementwise op args)
-        ≡ reserved + largest (map chunk_bytes (info_at infos k ∷ arrays_in infos args)) + sum_by chunk_bytes (arrays_in infos args) + chunk_bytes (info_at infos k) + 512 * (length args + 1) }
+        ≡ reserved + largest (map chunk_bytes (info_at infos k ∷ arrays_in infos args)) + sum_by chunk_bytes (arrays_in infos args) + chunk_bytes (info_at infos k) + 512 * (length args + own_instructions op) }
 {}
 
 /// A rechunk needs the reserved bytes and twice the greater of its chunks, and so does an input that is itself stored, whose chunks are its

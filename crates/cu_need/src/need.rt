@@ -49,7 +49,9 @@ pub fn own_need(
     info_law();
     let made = info_at(infos, number);
     match form {
-        Form::Elementwise { args, .. } => { function_need(reserved, &made, infos, args.as_slice()) }
+        Form::Elementwise { op, args } => {
+            function_need(reserved, &made, infos, *op, args.as_slice())
+        }
         Form::Reduce { args, axes, .. } => {
             let source = array_of(infos, args.as_slice(), 0);
             let axes = axes_reduced(&source, axes);

@@ -1,5 +1,5 @@
 -- The definition on texts: an expression, and texts with a fault.
-use Rattle.std.proofs.Common.{◌≡◌, [], ◌∷◌, refl, codes, Ok, Err}
+use Rattle.std.proofs.Common.{◌≡◌, [], ◌∷◌, pos, refl, codes, Ok, Err}
 use Rattle.std.specs.Str.{is_utf8, chars}
 use Rattle.serde_json.proofs.OnLiterals.{serde_json_on_literals}
 use Rattle.cu_num.specs.declared.functions.Fn2.TheVariants.{Add}
@@ -18,6 +18,17 @@ addition : expression_of (codes "{\"nodes\":[{\"id\":\"a\",\"op\":\"input\",\"na
     })
 unfolding expression_of serde_json_on_literals is_utf8 chars
 addition = refl
+
+-- numbers between two bounds
+bounds : expression_of (codes "{\"nodes\":[{\"id\":\"a\",\"op\":\"input\",\"name\":\"x\"},{\"id\":\"n\",\"op\":\"clip\",\"max\":5,\"args\":[\"a\"],\"min\":2}],\"out\":\"n\",\"store_as\":\"z\"}")
+    ≡ Ok (record {
+      nodes = record { name = codes "a"; form = Form.Input (codes "x") }
+          ∷ record { name = codes "n"; form = Form.Elementwise (ElementOp.Clip (pos 2) (pos 5)) (Arg.Node 0 ∷ []) } ∷ [];
+      out = 1;
+      store_as = codes "z";
+    })
+unfolding expression_of serde_json_on_literals is_utf8 chars
+bounds = refl
 
 cut_short : expression_of (codes "{\"nodes\":[") ≡ Err (record { code = 1; node = 0 })
 unfolding expression_of serde_json_on_literals is_utf8 chars

@@ -14,12 +14,12 @@ use Rattle.cu_node.specs.declared.element_op.ElementOp.{ElementOp}
 use Rattle.cu_read.specs.Form.{HasArgs, IsFunction, IsRow, SaysNode, SayNodes, SaysExpression}
 use Rattle.cu_read.specs.IndexItem.{index_item_of}
 use Rattle.cu_read.specs.Lists.{entries_of}
-use Rattle.cu_read.specs.Members.{integer_of, literal_of, natural_of, dtype_of, name_of, integers_of, sizes_of, chunk_sizes_of, or_null, present, Has}
+use Rattle.cu_read.specs.Members.{integer_of, written_of, literal_of, natural_of, dtype_of, name_of, integers_of, sizes_of, chunk_sizes_of, or_null, present, Has}
 use Rattle.cu_read.specs.Read.{expression_of}
 use Rattle.cu_read.proofs.NewShapes.{shape_plain}
 use Rattle.cu_read.proofs.PlainMembers.{IsPlainReader, Hold, hold_none, and_plain, and_has, and_may, object_plain}
 use Rattle.cu_read.proofs.PlainNodes.{HasTexts, node_of, args_hold, bare_plain, one_plain, two_plain, one_more, folded_plain}
-use Rattle.cu_read.proofs.PlainReaders.{text_plain, integer_plain, natural_plain, literal_plain, dtype_plain, name_plain, or_null_plain, list_plain, integers_plain, index_plain}
+use Rattle.cu_read.proofs.PlainReaders.{text_plain, integer_plain, written_plain, natural_plain, literal_plain, dtype_plain, name_plain, or_null_plain, list_plain, integers_plain, index_plain}
 use Rattle.cu_read.proofs.Says.{text_has_form}
 use Rattle.cu_read.proofs.TextItems.{stepped}
 
@@ -30,6 +30,8 @@ function_plain ids op d (ElementOp.One f) args t is h = bare_plain ids d args t 
 function_plain ids op d (ElementOp.Two f) args t is h = bare_plain ids d args t is.1 h
 function_plain ids op d ElementOp.Where args t is h = bare_plain ids d args t is.1 h
 function_plain ids op d (ElementOp.Astype dtype) args t is h = one_plain dtype_of (codes "dtype") ids d dtype args dtype_plain refl t is.1 is.2 h
+function_plain ids op d (ElementOp.Extreme least) args t is h = bare_plain ids d args t is.1 h
+function_plain ids op d (ElementOp.Clip min max) args t is h = two_plain written_of (codes "min") written_of (codes "max") ids d min max args written_plain written_plain refl t is.1 is.2 is.3 h
 
 sizes_plain : IsPlainReader sizes_of
 sizes_plain = list_plain (natural_of is_size) (natural_plain is_size)

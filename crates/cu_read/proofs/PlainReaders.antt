@@ -85,7 +85,7 @@ integer_plain = number_plain as_i64 (λ x. refl)
 pub natural_plain : (test : ℕ → Bool) → IsPlainReader (natural_of test)
 natural_plain test = then_plain (passing test) (λ d. option_and_then as_u64 (as_number d)) (number_plain as_u64 (λ x. refl))
 
-written_plain : IsPlainReader written_of
+pub written_plain : IsPlainReader written_of
 written_plain = then_plain (passing is_written) (λ d. option_and_then as_integer (as_number d)) (number_plain as_integer (λ x. refl))
 
 pub literal_plain : IsPlainReader literal_of

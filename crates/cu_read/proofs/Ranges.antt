@@ -17,7 +17,7 @@ use Rattle.cu_form.specs.declared.form.Form.{Form}
 use Rattle.cu_name.specs.Name.{is_name}
 use Rattle.cu_result.proofs.OptionSteps.{step_some}
 use Rattle.cu_read.specs.Args.{node_named, written_arg, arg_of}
-use Rattle.cu_read.specs.Elementwise.{unary_named, binary_named, function_named}
+use Rattle.cu_read.specs.Elementwise.{unary_named, binary_named, extreme_named, function_named}
 use Rattle.cu_read.specs.Form.{IsRow, IsFunction}
 use Rattle.cu_read.specs.Lists.{entries_after, entries_of}
 use Rattle.cu_read.specs.Members.{written_of, literal_of, natural_of, name_of, sizes_of, chunk_sizes_of, member_of}
@@ -78,21 +78,26 @@ arg_passes ids d x h = arg_by ids d (as_str d) (literal_of d) x refl h
 unary_is : (op : List ℕ) (f : Fn1) → unary_named op ≡ Some f → is_function (ElementOp.One f) ≡ true
 unary_is op f h = grind arith
 
-function_by : (op : List ℕ) (is : Bool) (f : Option Fn1) (g : Option Fn2) (function : ElementOp) → unary_named op ≡ f
-    → (if is then Some ElementOp.Where else option_or (option_map ElementOp.One f) (option_map ElementOp.Two g)) ≡ Some function → is_function function ≡ true
-function_by op true f g function e h = let same : ElementOp.Where ≡ function = cc in subst (λ k. is_function k ≡ true) same refl
-function_by op false (Some f) g function e h = let same : ElementOp.One f ≡ function = cc in subst (λ k. is_function k ≡ true) same (unary_is op f e)
-function_by op false None (Some g) function e h = let same : ElementOp.Two g ≡ function = cc in subst (λ k. is_function k ≡ true) same refl
-function_by op false None None function e h = cc
+function_by : (op : List ℕ) (is : Bool) (f : Option Fn1) (g : Option Fn2) (least : Option Bool) (function : ElementOp) → unary_named op ≡ f
+    → (if is then Some ElementOp.Where else option_or (option_map ElementOp.One f) (option_or (option_map ElementOp.Two g) (option_map ElementOp.Extreme least))) ≡ Some function
+    → is_function function ≡ true
+function_by op true f g least function e h = let same : ElementOp.Where ≡ function = cc in subst (λ k. is_function k ≡ true) same refl
+function_by op false (Some f) g least function e h = let same : ElementOp.One f ≡ function = cc in subst (λ k. is_function k ≡ true) same (unary_is op f e)
+function_by op false None (Some g) least function e h = let same : ElementOp.Two g ≡ function = cc in subst (λ k. is_function k ≡ true) same refl
+function_by op false None None (Some b) function e h = let same : ElementOp.Extreme b ≡ function = cc in subst (λ k. is_function k ≡ true) same refl
+function_by op false None None None function e h = cc
 
 function_named_is : (op : List ℕ) (function : ElementOp) → function_named op ≡ Some function → is_function function ≡ true
-function_named_is op function h = function_by op (bytes_eq op (codes "where")) (unary_named op) (binary_named op) function refl h
+function_named_is op function h = function_by op (bytes_eq op (codes "where")) (unary_named op) (binary_named op) (extreme_named op) function refl h
 
 function_is : (op : List ℕ) (d : Data) (function : ElementOp) → IsFunction op d function → is_function function ≡ true
 function_is op d (ElementOp.One f) h = function_named_is op (ElementOp.One f) h.0
 function_is op d (ElementOp.Two f) h = refl
 function_is op d ElementOp.Where h = refl
 function_is op d (ElementOp.Astype t) h = refl
+function_is op d (ElementOp.Extreme least) h = refl
+function_is op d (ElementOp.Clip min max) h =
+    both (is_written min) (is_written max) (member_passes written_of is_written written_passes (get (codes "min") d) min h.2) (member_passes written_of is_written written_passes (get (codes "max") d) max h.3)
 
 -- ---- forms
 

@@ -1,5 +1,5 @@
 -- Each row's form has the row's members, as the relation says.
-use Rattle.std.proofs.Common.{◌≡◌, ◌+◌, Bool, true, false, Option, Some, None, List, ℕ, codes, Result, Ok, Err, IfOk, refl}
+use Rattle.std.proofs.Common.{◌≡◌, ◌+◌, Bool, true, false, Option, Some, None, List, ℕ, ℤ, codes, Result, Ok, Err, IfOk, refl}
 use Rattle.std.specs.Prelude.{bytes_eq, option_map, if◌then◌else◌}
 use Rattle.std.specs.Option.{option_or}
 use Rattle.serde_json.specs.Data.{Data}
@@ -16,11 +16,11 @@ use Rattle.cu_num.specs.declared.functions.Fn2.{Fn2}
 use Rattle.cu_num.specs.declared.types.Dtype.{Dtype}
 use Rattle.cu_result.specs.Results.{◌>>=◌}
 use Rattle.cu_read.specs.Creation.{input_in, full_in, arange_in, eye_in, creation_row}
-use Rattle.cu_read.specs.Elementwise.{unary_named, binary_named, function_named, function_in, function_row, astype_in, elementwise_row}
+use Rattle.cu_read.specs.Elementwise.{unary_named, binary_named, extreme_named, function_named, function_in, function_row, astype_in, clip_in, elementwise_row}
 use Rattle.cu_read.specs.Form.{IsRow, IsFunction, triangle_name, place_name}
 use Rattle.cu_read.specs.IndexItem.{index_item_of}
 use Rattle.cu_read.specs.Lists.{entries_of}
-use Rattle.cu_read.specs.Members.{integer_of, literal_of, natural_of, dtype_of, name_of, integers_of, sizes_of, chunk_sizes_of, member_of, member_or, or_null, present}
+use Rattle.cu_read.specs.Members.{integer_of, written_of, literal_of, natural_of, dtype_of, name_of, integers_of, sizes_of, chunk_sizes_of, member_of, member_or, or_null, present}
 use Rattle.cu_read.specs.NewShape.{IsNewShape, new_shape_in, new_shape_row}
 use Rattle.cu_read.specs.Node.{or_row, row_of}
 use Rattle.cu_read.specs.Reduction.{fold_named, reduce_in, search_in, matmul_in, reduce_row, reduction_row}
@@ -61,31 +61,51 @@ astype_says : (ids : List (List ℕ)) (op : List ℕ) (d : Data) → op ≡ code
 astype_says ids op d is = one_member (is_object_of 4 d) (member_of dtype_of (codes "dtype") d) (args_in ids d) (λ dtype xs. Form.Elementwise (ElementOp.Astype dtype) xs) (IsRow ids op d)
     (λ m dtype a xs r. ((is, m, a), args_are ids d xs r))
 
--- the table of functions has no `astype`
-astype_in_no_table : (is : Bool) (f : Option Fn1) (g : Option Fn2) (t : Dtype)
-    → (if is then Some ElementOp.Where else option_or (option_map ElementOp.One f) (option_map ElementOp.Two g)) ≡ Some (ElementOp.Astype t) → ⊥
-astype_in_no_table true f g t h = cc
-astype_in_no_table false (Some f) g t h = cc
-astype_in_no_table false None (Some g) t h = cc
-astype_in_no_table false None None t h = cc
+clip_says : (ids : List (List ℕ)) (op : List ℕ) (d : Data) → op ≡ codes "clip" → IfOk (clip_in ids d) (IsRow ids op d)
+clip_says ids op d is = two_members (is_object_of 5 d) (member_of written_of (codes "min") d) (member_of written_of (codes "max") d) (args_in ids d) (λ x y xs. Form.Elementwise (ElementOp.Clip x y) xs) (IsRow ids op d)
+    (λ m x a y b xs r. ((is, m, a, b), args_are ids d xs r))
+
+-- the table of functions has neither `astype` nor `clip`
+abbrev table : Bool → Option Fn1 → Option Fn2 → Option Bool → Option ElementOp
+table is f g e = if is then Some ElementOp.Where else option_or (option_map ElementOp.One f) (option_or (option_map ElementOp.Two g) (option_map ElementOp.Extreme e))
+
+astype_in_no_table : (is : Bool) (f : Option Fn1) (g : Option Fn2) (e : Option Bool) (t : Dtype) → table is f g e ≡ Some (ElementOp.Astype t) → ⊥
+astype_in_no_table true f g e t h = cc
+astype_in_no_table false (Some f) g e t h = cc
+astype_in_no_table false None (Some g) e t h = cc
+astype_in_no_table false None None (Some e) t h = cc
+astype_in_no_table false None None None t h = cc
+
+clip_in_no_table : (is : Bool) (f : Option Fn1) (g : Option Fn2) (e : Option Bool) (min max : ℤ) → table is f g e ≡ Some (ElementOp.Clip min max) → ⊥
+clip_in_no_table true f g e min max h = cc
+clip_in_no_table false (Some f) g e min max h = cc
+clip_in_no_table false None (Some g) e min max h = cc
+clip_in_no_table false None None (Some e) min max h = cc
+clip_in_no_table false None None None min max h = cc
 
 no_astype : (op : List ℕ) (t : Dtype) → function_named op ≡ Some (ElementOp.Astype t) → ⊥
-no_astype op t h = astype_in_no_table (bytes_eq op (codes "where")) (unary_named op) (binary_named op) t h
+no_astype op t h = astype_in_no_table (bytes_eq op (codes "where")) (unary_named op) (binary_named op) (extreme_named op) t h
 
-not_astype : (op : List ℕ) (d : Data) (function : ElementOp) → function_named op ≡ Some function → is_object_of 3 d ≡ true → IsFunction op d function
-not_astype op d (ElementOp.One f) h members = (h, members)
-not_astype op d (ElementOp.Two f) h members = (h, members)
-not_astype op d ElementOp.Where h members = (h, members)
-not_astype op d (ElementOp.Astype t) h members = absurd (no_astype op t h)
+no_clip : (op : List ℕ) (min max : ℤ) → function_named op ≡ Some (ElementOp.Clip min max) → ⊥
+no_clip op min max h = clip_in_no_table (bytes_eq op (codes "where")) (unary_named op) (binary_named op) (extreme_named op) min max h
+
+in_table : (op : List ℕ) (d : Data) (function : ElementOp) → function_named op ≡ Some function → is_object_of 3 d ≡ true → IsFunction op d function
+in_table op d (ElementOp.One f) h members = (h, members)
+in_table op d (ElementOp.Two f) h members = (h, members)
+in_table op d ElementOp.Where h members = (h, members)
+in_table op d (ElementOp.Extreme least) h members = (h, members)
+in_table op d (ElementOp.Astype t) h members = absurd (no_astype op t h)
+in_table op d (ElementOp.Clip min max) h members = absurd (no_clip op min max h)
 
 function_row_says : (ids : List (List ℕ)) (op : List ℕ) (d : Data) (found : Option ElementOp) → function_named op ≡ found
     → IfOk (function_row found ids d) (IsRow ids op d)
-function_row_says ids op d (Some function) h = function_says ids op d function (not_astype op d function h)
+function_row_says ids op d (Some function) h = function_says ids op d function (in_table op d function h)
 function_row_says ids op d None h = tt
 
 elementwise_says : (ids : List (List ℕ)) (op : List ℕ) (d : Data) → IfOk (elementwise_row op ids d) (IsRow ids op d)
 elementwise_says ids op d =
-    by_name op (codes "astype") _ _ (λ r. IfOk r (IsRow ids op d)) (astype_says ids op d) (function_row_says ids op d (function_named op) refl)
+    by_name op (codes "astype") _ _ (λ r. IfOk r (IsRow ids op d)) (astype_says ids op d)
+    (by_name op (codes "clip") _ _ (λ r. IfOk r (IsRow ids op d)) (clip_says ids op d) (function_row_says ids op d (function_named op) refl))
 
 -- ---- views
 

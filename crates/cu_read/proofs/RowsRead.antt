@@ -19,7 +19,7 @@ use Rattle.cu_read.specs.Elementwise.{function_named, function_in, elementwise_r
 use Rattle.cu_read.specs.Form.{HasArgs, IsRow}
 use Rattle.cu_read.specs.IndexItem.{index_item_of}
 use Rattle.cu_read.specs.Lists.{entries_after, entries_of}
-use Rattle.cu_read.specs.Members.{integer_of, literal_of, natural_of, dtype_of, name_of, integers_of, sizes_of, chunk_sizes_of, member_of, member_or, or_null, present}
+use Rattle.cu_read.specs.Members.{integer_of, written_of, literal_of, natural_of, dtype_of, name_of, integers_of, sizes_of, chunk_sizes_of, member_of, member_or, or_null, present}
 use Rattle.cu_read.specs.NewShape.{new_shape_in, new_shape_row}
 use Rattle.cu_read.specs.Node.{or_row, row_of}
 use Rattle.cu_read.specs.Reduction.{fold_named, reduce_in, reduction_row}
@@ -127,7 +127,7 @@ no_creation op d function h =
     rw (other op (codes "input") function h refl, other op (codes "full") function h refl, other op (codes "arange") function h refl, other op (codes "eye") function h refl) refl
 
 is_function_row : (op : List ℕ) (ids : List (List ℕ)) (d : Data) (function : ElementOp) → function_named op ≡ Some function → elementwise_row op ids d ≡ function_in function ids d
-is_function_row op ids d function h = rw (other op (codes "astype") function h refl, h) refl
+is_function_row op ids d function h = rw (other op (codes "astype") function h refl, other op (codes "clip") function h refl, h) refl
 
 function_read : (op : List ℕ) (ids : List (List ℕ)) (d : Data) (function : ElementOp) (xs : List Arg) → function_named op ≡ Some function → is_object_of 3 d ≡ true → HasArgs ids d xs
     → row_of op ids d ≡ Ok (Form.Elementwise function xs)
@@ -179,6 +179,9 @@ row_read ids op d (Form.Input name) h = named_row op (codes "input") ids d (Form
     (created (codes "input") ids d (Form.Input name) (alone_read (is_object_of 3 d) (member_of name_of (codes "name") d) (λ (n : List ℕ). Form.Input n) name h.1 h.2))
 row_read ids op d (Form.Elementwise (ElementOp.Astype t) args) h = named_row op (codes "astype") ids d (Form.Elementwise (ElementOp.Astype t) args) h.0.0
     (computed (codes "astype") ids d (Form.Elementwise (ElementOp.Astype t) args) refl (one_read (is_object_of 4 d) (member_of dtype_of (codes "dtype") d) (args_in ids d) (λ x xs. Form.Elementwise (ElementOp.Astype x) xs) t args h.0.1 h.0.2 (args_read ids d args h.1)))
+row_read ids op d (Form.Elementwise (ElementOp.Clip min max) args) h = named_row op (codes "clip") ids d (Form.Elementwise (ElementOp.Clip min max) args) h.0.0
+    (computed (codes "clip") ids d (Form.Elementwise (ElementOp.Clip min max) args) refl (two_read (is_object_of 5 d) (member_of written_of (codes "min") d) (member_of written_of (codes "max") d) (args_in ids d) (λ x y xs. Form.Elementwise (ElementOp.Clip x y) xs) min max args h.0.1 h.0.2 h.0.3 (args_read ids d args h.1)))
+row_read ids op d (Form.Elementwise (ElementOp.Extreme least) args) h = function_read op ids d (ElementOp.Extreme least) args h.0.0 h.0.1 h.1
 row_read ids op d (Form.Elementwise (ElementOp.One f) args) h = function_read op ids d (ElementOp.One f) args h.0.0 h.0.1 h.1
 row_read ids op d (Form.Elementwise (ElementOp.Two f) args) h = function_read op ids d (ElementOp.Two f) args h.0.0 h.0.1 h.1
 row_read ids op d (Form.Elementwise ElementOp.Where args) h = function_read op ids d ElementOp.Where args h.0.0 h.0.1 h.1

@@ -1,5 +1,6 @@
--- The rows of elementwise functions (Python array API, "Element-wise Functions"; `where` of "Searching Functions"; `astype`).
-use Rattle.std.specs.Prelude.{ℕ, List, codes, bytes_eq, Option, Some, None, option_map, Result, Ok, Err, if◌then◌else◌}
+-- The rows of elementwise functions (Python array API, "Element-wise Functions"; `where` of "Searching Functions"; `astype`;
+-- `maximum`, `minimum` and `clip` of its version 2023.12).
+use Rattle.std.specs.Prelude.{ℕ, Bool, true, false, List, codes, bytes_eq, Option, Some, None, option_map, Result, Ok, Err, if◌then◌else◌}
 use Rattle.std.specs.Option.{option_or}
 use Rattle.serde_json.specs.Data.{Data}
 use Rattle.cu_num.specs.declared.functions.Fn1.{Fn1}
@@ -10,7 +11,7 @@ use Rattle.cu_node.specs.declared.element_op.ElementOp.{ElementOp}
 use Rattle.cu_form.specs.declared.form.Form.{Form}
 use Rattle.cu_result.specs.Results.{◌>>=◌}
 use Rattle.cu_read.specs.Args.{args_in}
-use Rattle.cu_read.specs.Members.{dtype_of}
+use Rattle.cu_read.specs.Members.{dtype_of, written_of}
 use Rattle.cu_read.specs.Rows.{has_members, required}
 use Rattle.cu_read.specs.declared.faults.NodeCode.{NodeCode}
 
@@ -59,11 +60,20 @@ comparison_named op =
 abbrev pub binary_named : List ℕ → Option Fn2
 binary_named op = option_or (arithmetic_named op) (comparison_named op)
 
+-- the functions that give one of two arguments: true for the lesser
+abbrev pub extreme_named : List ℕ → Option Bool
+extreme_named op =
+    if bytes_eq op (codes "minimum") then Some true
+    else if bytes_eq op (codes "maximum") then Some false
+    else None
+
 -- the functions that have no member of their own
 abbrev pub function_named : List ℕ → Option ElementOp
 function_named op =
     if bytes_eq op (codes "where") then Some ElementOp.Where
-    else option_or (option_map ElementOp.One (unary_named op)) (option_map ElementOp.Two (binary_named op))
+    else
+    option_or (option_map ElementOp.One (unary_named op))
+    (option_or (option_map ElementOp.Two (binary_named op)) (option_map ElementOp.Extreme (extreme_named op)))
 
 abbrev pub function_in : ElementOp → List (List ℕ) → Data → Result Form NodeCode
 function_in op ids d = do
@@ -82,8 +92,17 @@ astype_in ids d = do
   args ← args_in ids d
   Ok (Form.Elementwise (ElementOp.Astype dtype) args)
 
+abbrev pub clip_in : List (List ℕ) → Data → Result Form NodeCode
+clip_in ids d = do
+  _ ← has_members 5 d
+  min ← required written_of (codes "min") d
+  max ← required written_of (codes "max") d
+  args ← args_in ids d
+  Ok (Form.Elementwise (ElementOp.Clip min max) args)
+
 -- the row of an operator of this family
 abbrev pub elementwise_row : List ℕ → List (List ℕ) → Data → Result Form NodeCode
 elementwise_row op ids d =
     if bytes_eq op (codes "astype") then astype_in ids d
+    else if bytes_eq op (codes "clip") then clip_in ids d
     else function_row (function_named op) ids d

@@ -15,7 +15,7 @@ use Rattle.cu_read.specs.Args.{arg_of}
 use Rattle.cu_read.specs.Elementwise.{function_named}
 use Rattle.cu_read.specs.IndexItem.{index_item_of}
 use Rattle.cu_read.specs.Lists.{entries_of}
-use Rattle.cu_read.specs.Members.{integer_of, literal_of, natural_of, dtype_of, name_of, integers_of, sizes_of, chunk_sizes_of, or_null, present, IsObjectOf, Has, MayHave}
+use Rattle.cu_read.specs.Members.{integer_of, written_of, literal_of, natural_of, dtype_of, name_of, integers_of, sizes_of, chunk_sizes_of, or_null, present, IsObjectOf, Has, MayHave}
 use Rattle.cu_read.specs.NewShape.{IsNewShape}
 use Rattle.cu_read.specs.Reduction.{fold_named}
 
@@ -23,9 +23,10 @@ use Rattle.cu_read.specs.Reduction.{fold_named}
 abbrev pub HasArgs : List (List ℕ) → Data → List Arg → Type 0
 HasArgs ids d args = Has (entries_of (arg_of ids)) (codes "args") d args
 
--- an elementwise function; `astype` has a member of its own
+-- an elementwise function; `astype` and `clip` have members of their own
 abbrev pub IsFunction : List ℕ → Data → ElementOp → Type 0
 IsFunction op d (ElementOp.Astype dtype) = (op ≡ codes "astype") × IsObjectOf 4 d × Has dtype_of (codes "dtype") d dtype
+IsFunction op d (ElementOp.Clip min max) = (op ≡ codes "clip") × IsObjectOf 5 d × Has written_of (codes "min") d min × Has written_of (codes "max") d max
 IsFunction op d function = (function_named op ≡ Some function) × IsObjectOf 3 d
 
 abbrev pub triangle_name : Bool → List ℕ

@@ -1,13 +1,13 @@
 //! The rows of elementwise functions.
 ghost use Rattle.std.specs.Prelude.{◌≡◌};
 ghost use Rattle.serde_json.specs.View.{view};
-ghost use Rattle.cu_read.specs.Elementwise.{unary_named, arithmetic_named, comparison_named, binary_named, function_named, function_in, astype_in, elementwise_row};
+ghost use Rattle.cu_read.specs.Elementwise.{unary_named, arithmetic_named, comparison_named, binary_named, extreme_named, function_named, function_in, astype_in, clip_in, elementwise_row};
 ghost use Rattle.cu_read.specs.Faults.{Gives};
 
 use crate::args::args_in;
 use crate::faults::{NodeCode, NodeRefused};
 use crate::ids::Ids;
-use crate::rows::{dtype, has_members};
+use crate::rows::{dtype, has_members, written};
 use cu_form::{ElementOp, Form};
 use cu_num::{Fn1, Fn2};
 use serde_json::Value;
@@ -77,6 +77,17 @@ pub fn binary_named(op: &str) -> Option<Fn2>
     comparison_named(op)
 }
 
+/// The functions that give one of two arguments: true for the lesser.
+fn extreme_named(op: &str) -> Option<bool>
+    ensures { result ≡ extreme_named op.now }
+{
+    match op {
+        "minimum" => Some(true),
+        "maximum" => Some(false),
+        _ => None,
+    }
+}
+
 /// The functions that have no member of their own.
 fn function_named(op: &str) -> Option<ElementOp>
     ensures { result ≡ function_named op.now }
@@ -87,7 +98,10 @@ fn function_named(op: &str) -> Option<ElementOp>
     if let Some(function) = unary_named(op) {
         return Some(ElementOp::One(function));
     }
-    Some(ElementOp::Two(binary_named(op)?))
+    if let Some(function) = binary_named(op) {
+        return Some(ElementOp::Two(function));
+    }
+    Some(ElementOp::Extreme(extreme_named(op)?))
 }
 
 fn function_in(alloc: Global, op: ElementOp, ids: &Ids, value: &Value) -> Result<Form, NodeRefused>
@@ -110,6 +124,19 @@ fn astype_in(alloc: Global, ids: &Ids, value: &Value) -> Result<Form, NodeRefuse
     })
 }
 
+fn clip_in(alloc: Global, ids: &Ids, value: &Value) -> Result<Form, NodeRefused>
+    ensures { Gives result (clip_in ids.now (view value.now)) }
+{
+    has_members(value, 5)?;
+    let min = written(value, "min")?;
+    let max = written(value, "max")?;
+    let args = args_in(alloc, ids, value)?;
+    Ok(Form::Elementwise {
+        op: ElementOp::Clip(min, max),
+        args,
+    })
+}
+
 /// The row of an operator of this family.
 pub(crate) fn elementwise_row(
     alloc: Global,
@@ -121,6 +148,9 @@ pub(crate) fn elementwise_row(
 {
     if op == "astype" {
         return astype_in(alloc, ids, value);
+    }
+    if op == "clip" {
+        return clip_in(alloc, ids, value);
     }
     match function_named(op) {
         Some(function) => function_in(alloc, function, ids, value),

@@ -22,7 +22,7 @@ fn is_written(x: i128) -> bool
 }
 
 /// An integer from -2^63 to 2^64 - 1.
-fn written_of(value: &Value) -> Option<i128>
+pub(crate) fn written_of(value: &Value) -> Option<i128>
     ensures { result ≡ written_of (view value.now) }
 {
     let x = value.as_number()?.as_i128()?;

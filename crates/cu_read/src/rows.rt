@@ -4,11 +4,11 @@ ghost use Rattle.std.specs.Result.{result_map_both};
 ghost use Rattle.serde_json.specs.Find.{as_bool, as_array, as_str};
 ghost use Rattle.serde_json.specs.View.{view, items_view};
 ghost use Rattle.cu_node.specs.NewShape.{is_size};
-ghost use Rattle.cu_read.specs.Members.{integer_of, literal_of, natural_of, dtype_of, name_of, or_null};
+ghost use Rattle.cu_read.specs.Members.{integer_of, written_of, literal_of, natural_of, dtype_of, name_of, or_null};
 ghost use Rattle.cu_read.specs.Rows.{has_members, required, optional};
 
 use crate::faults::NodeCode;
-use crate::members::{dtype_of, literal_of, name_of, size_of};
+use crate::members::{dtype_of, literal_of, name_of, size_of, written_of};
 use cu_form::Literal;
 use cu_json::is_object_of;
 use cu_name::IdText;
@@ -62,6 +62,16 @@ pub(crate) fn size(value: &Value, name: &str) -> Result<u64, NodeCode>
 {
     match value.get(name) {
         Some(found) => size_of(found).ok_or(NodeCode::Form),
+        None => Err(NodeCode::Form),
+    }
+}
+
+/// The integer from -2^63 to 2^64 - 1 at a member.
+pub(crate) fn written(value: &Value, name: &str) -> Result<i128, NodeCode>
+    ensures { result ≡ required written_of name.now (view value.now) }
+{
+    match value.get(name) {
+        Some(found) => written_of(found).ok_or(NodeCode::Form),
         None => Err(NodeCode::Form),
     }
 }

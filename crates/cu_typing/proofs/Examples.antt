@@ -5,7 +5,7 @@ use Rattle.cu_num.specs.declared.types.Dtype.{Dtype}
 use Rattle.cu_num.specs.declared.types.Dtype.TheVariants.{Bool, Int8, Int16, Int32, Int64, Uint8, Uint64}
 use Rattle.cu_num.specs.declared.functions.Fn2.TheVariants.{Add, Equal}
 use Rattle.cu_node.specs.declared.literal.Literal.TheVariants.{Int, Truth}
-use Rattle.cu_node.specs.declared.element_op.ElementOp.TheVariants.{Two, Where, Astype}
+use Rattle.cu_node.specs.declared.element_op.ElementOp.TheVariants.{Two, Where, Astype, Extreme, Clip}
 use Rattle.cu_num.specs.declared.folds.FoldKind.TheVariants as fold
 use Rattle.cu_node.specs.Fault.{fault, fault_at}
 use Rattle.cu_node.specs.Info.{info_of}
@@ -78,6 +78,44 @@ comparison = refl
 cast : typed_elementwise (Astype Uint8) (one Bool ∷ []) ≡ Ok (info_of Uint8 (1 ∷ []) (1 ∷ []))
 unfolding promotion
 cast = refl
+
+-- the extremes of numbers promote as a sum does
+greater_promotes : typed_elementwise (Extreme false) (one Int8 ∷ one Uint8 ∷ []) ≡ Ok (info_of Int16 (1 ∷ []) (1 ∷ []))
+unfolding promotion
+greater_promotes = refl
+
+lesser_of_a_number : typed_elementwise (Extreme true) (Written (Int (pos 5)) ∷ one Int8 ∷ []) ≡ Ok (info_of Int8 (1 ∷ []) (1 ∷ []))
+unfolding promotion
+lesser_of_a_number = refl
+
+greater_of_truth : typed_elementwise (Extreme false) (one Bool ∷ one Bool ∷ []) ≡ Err (fault Kind)
+unfolding promotion
+greater_of_truth = refl
+
+greater_out_of_range : typed_elementwise (Extreme false) (one Uint8 ∷ Written (Int (negsuc 0)) ∷ []) ≡ Err (fault Scalar)
+unfolding promotion
+greater_out_of_range = refl
+
+-- bounds at the ends of the type, one past each end, and exchanged
+widest_bounds : typed_elementwise (Clip (negsuc 127) (pos 127)) (one Int8 ∷ []) ≡ Ok (info_of Int8 (1 ∷ []) (1 ∷ []))
+unfolding promotion
+widest_bounds = refl
+
+low_bound_outside : typed_elementwise (Clip (negsuc 128) (pos 127)) (one Int8 ∷ []) ≡ Err (fault Scalar)
+unfolding promotion
+low_bound_outside = refl
+
+high_bound_outside : typed_elementwise (Clip (negsuc 127) (pos 128)) (one Int8 ∷ []) ≡ Err (fault Scalar)
+unfolding promotion
+high_bound_outside = refl
+
+bounds_exchanged : typed_elementwise (Clip (pos 5) (pos 2)) (one Int8 ∷ []) ≡ Ok (info_of Int8 (1 ∷ []) (1 ∷ []))
+unfolding promotion
+bounds_exchanged = refl
+
+truth_between_bounds : typed_elementwise (Clip (pos 0) (pos 300)) (one Bool ∷ []) ≡ Err (fault Kind)
+unfolding promotion
+truth_between_bounds = refl
 
 -- ---- shapes and chunks
 

@@ -2,14 +2,15 @@
 
 ghost use Rattle.std.specs.Prelude.{◌≡◌};
 ghost use Rattle.cu_result.specs.Results.{need};
+ghost use Rattle.cu_num.specs.Dtype.{is_integer};
 ghost use Rattle.cu_num.specs.Functions.{accepts2};
 ghost use Rattle.cu_num.specs.Promotion.{promotion};
 ghost use Rattle.cu_node.specs.Fault.{fault};
 ghost use Rattle.cu_node.specs.declared.faults.FaultCode.TheVariants.{Promote};
-ghost use Rattle.cu_typing.specs.Types.{may_be, accepts_arguments, typed_elements, met_type, pair_type, array_type, shared_type, result_type};
+ghost use Rattle.cu_typing.specs.Types.{may_be, accepts_arguments, typed_elements, met_type, pair_type, array_type, bounded_type, shared_type, result_type};
 
 use crate::argument::Argument;
-use cu_node::{ElementOp, FaultCode, Literal, NodeFault, fault};
+use cu_node::{ElementOp, FaultCode, Literal, NodeFault, fault, is_integer};
 use cu_num::{Dtype, Fn2, accepts1, accepts2, is_bool, promote, result1, result2};
 
 /// Whether each array has a type that the function accepts.
@@ -21,6 +22,8 @@ pub(crate) fn accepts_all(op: ElementOp, args: &[Argument]) -> bool
         (ElementOp::Two(f), [x, y]) => accepts_either(f, x) && accepts_either(f, y),
         (ElementOp::Where, [Argument::Array(c), _, _]) => is_bool(c.dtype),
         (ElementOp::Astype(_), [Argument::Array(_)]) => true,
+        (ElementOp::Extreme(_), [x, y]) => may_be_integer(x) && may_be_integer(y),
+        (ElementOp::Clip(..), [Argument::Array(x)]) => is_integer(x.dtype),
         _ => false,
     }
 }
@@ -31,6 +34,16 @@ fn accepts_either(f: Fn2, arg: &Argument) -> bool
 {
     match arg {
         Argument::Array(i) => accepts2(f, i.dtype),
+        Argument::Written(_) => true,
+    }
+}
+
+/// Whether the argument has an integer type; a written value has none yet.
+fn may_be_integer(arg: &Argument) -> bool
+    ensures { result ≡ may_be is_integer arg.now }
+{
+    match arg {
+        Argument::Array(i) => is_integer(i.dtype),
         Argument::Written(_) => true,
     }
 }
@@ -75,14 +88,24 @@ fn type_of_array(x: &Argument) -> Result<Dtype, NodeFault>
     }
 }
 
+/// The type of an array between two bounds, which take its type.
+fn type_bounded(min: i128, max: i128, x: &Argument) -> Result<Dtype, NodeFault>
+    ensures { result ≡ bounded_type min max x.now }
+{
+    let t = type_of_array(x)?;
+    type_met(t, Literal::Int(min))?;
+    type_met(t, Literal::Int(max))
+}
+
 /// The type to which the arguments are promoted; of `where` to which the last two are.
 fn type_shared(op: ElementOp, args: &[Argument]) -> Result<Dtype, NodeFault>
     ensures { result ≡ shared_type op args.now }
 {
     match (op, args) {
         (ElementOp::One(_) | ElementOp::Astype(_), [x]) => type_of_array(x),
-        (ElementOp::Two(_), [x, y]) => type_of_pair(x, y),
+        (ElementOp::Two(_) | ElementOp::Extreme(_), [x, y]) => type_of_pair(x, y),
         (ElementOp::Where, [_, x, y]) => type_of_pair(x, y),
+        (ElementOp::Clip(min, max), [x]) => type_bounded(min, max, x),
         _ => Err(fault(FaultCode::Kind)),
     }
 }
@@ -94,7 +117,7 @@ fn type_given(op: ElementOp, t: Dtype) -> Dtype
     match op {
         ElementOp::One(f) => result1(f, t),
         ElementOp::Two(f) => result2(f, t),
-        ElementOp::Where => t,
+        ElementOp::Where | ElementOp::Extreme(_) | ElementOp::Clip(..) => t,
         ElementOp::Astype(d) => d,
     }
 }
