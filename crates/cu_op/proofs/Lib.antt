@@ -40,5 +40,4 @@ pub mod TaskInputs
 pub mod Makers
 pub mod Spellings
 mod Examples
-mod ReductionExamples
-mod InputExamples
+mod KindExamples

@@ -229,6 +229,7 @@ fn compute(
             value_source,
             ..
         } => find_again(task, *least, *axis, *value_source, inputs, values, output),
-        _ => unreachable!(),
+        Op::Pull { .. } => unreachable!(),
+        Op::Copy { .. } => unreachable!(),
     }
 }
