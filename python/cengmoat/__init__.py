@@ -14,16 +14,16 @@ import os
 from typing import Any, Optional, Union
 
 from . import array_api
-from .array import Array
-from .dtypes import NDArray
+from ._array import Array
+from ._dtypes import NDArray
 from .errors import (
     BadChunk, BadExpression, BadLoad, BadMetadata, BadType, BadWords, CengmoatError, Exists, Locked, NoArray, NoMemory, NoPlan,
     NoProgram, OtherPlan, OverLimit, OverMemory, ReadFault, Stopped, StoreFailed, TaskFailed, Unequal, Unfinished, WriteFault,
 )
-from .plans import Operation, Plan, Report
-from .running import compute_node
-from .status import ArrayStatus, Status
-from .store import Store
+from ._plans import Operation, Plan, Report
+from ._running import compute_node
+from ._status import ArrayStatus, Status
+from ._store import Store
 
 __version__ = "0.1.0"
 

@@ -4,7 +4,7 @@ from __future__ import annotations
 import re
 from typing import Any, Callable, Optional
 
-from .answers import text_of
+from ._answers import text_of
 
 
 AGAIN = "In Python: store.remove(name) removes a result with its record, and x.store(name, resume=True) goes on with a run that stopped."

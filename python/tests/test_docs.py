@@ -76,7 +76,7 @@ class Install(Case):
             self.skipTest("setuptools isn't there")
         ended = subprocess.run([*pip, "install", "--no-index", "--no-deps", "--quiet", "--target", target, source], capture_output=True, text=True)
         self.assertEqual(ended.returncode, 0, ended.stderr)
-        code = "import cengmoat; print(cengmoat.__file__, len(cengmoat.answers.rows()) > 30)"
+        code = "import cengmoat; print(cengmoat.__file__, len(cengmoat._answers.rows()) > 30)"
         said = subprocess.run([sys.executable, "-c", code], env={**os.environ, "PYTHONPATH": target}, cwd=self.folder, capture_output=True,
                               text=True)
         self.assertIn(os.path.join(target, "cengmoat"), said.stdout)

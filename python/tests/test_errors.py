@@ -58,10 +58,10 @@ class Lines(Case):
         if not os.path.isfile(GUIDE):
             self.skipTest("the guide lies in the repository")
         with open(GUIDE, encoding="utf-8") as file:
-            wanted = cengmoat.answers.rows_of(file.read())
+            wanted = cengmoat._answers.rows_of(file.read())
         with open(os.path.join(os.path.dirname(cengmoat.__file__), "answers.md"), encoding="utf-8") as file:
-            self.assertEqual(file.read().splitlines(), wanted, "python3 -m cengmoat.answers docs/GUIDE.md writes them anew")
-        for row in cengmoat.answers.rows():
+            self.assertEqual(file.read().splitlines(), wanted, "python3 -m cengmoat._answers docs/GUIDE.md writes them anew")
+        for row in cengmoat._answers.rows():
             self.assertTrue(row.cause, row)
 
     def test_programs_that_are_none(self) -> None:
@@ -85,7 +85,7 @@ class Answers(WithProgram):
         self.t = self.here.save("t", np.arange(6, dtype="int32"), 4)
 
     def call(self, command: str, text: str) -> None:
-        cengmoat.program.call_program([self.here.program, self.here.folder, *command.split()], text)
+        cengmoat._program.call_program([self.here.program, self.here.folder, *command.split()], text)
 
     def expression(self, op: str) -> str:
         nodes = [{"id": "t", "op": "input", "name": "t"}, {"id": "y", "op": op, "args": ["t", "t"]}]

@@ -91,7 +91,7 @@ class Interrupts(Case):
         before = signal.signal(signal.SIGINT, signal.default_int_handler)
         self.addCleanup(signal.signal, signal.SIGINT, before)
         with self.assertRaises(KeyboardInterrupt):
-            with cengmoat.running.uninterrupted():
+            with cengmoat._running.uninterrupted():
                 signal.raise_signal(signal.SIGINT)
                 done.append(True)
         self.assertEqual(done, [True])
@@ -119,7 +119,7 @@ class Interrupts(Case):
         """End the program whose starter was killed. It holds the lock as long as it runs."""
         locks = os.path.join(self.here.folder, ".locks")
         [name] = [it for it in os.listdir(locks) if it.startswith("tmp-")]
-        self.assertTrue(cengmoat.locks.is_locked(self.here.folder, name))
+        self.assertTrue(cengmoat._locks.is_locked(self.here.folder, name))
         for number in filter(str.isdigit, os.listdir("/proc")):
             try:
                 with open(f"/proc/{number}/cmdline", "rb") as file:
@@ -128,7 +128,7 @@ class Interrupts(Case):
             except OSError:
                 continue
         self.end(process)
-        until(lambda: not cengmoat.locks.is_locked(self.here.folder, name))
+        until(lambda: not cengmoat._locks.is_locked(self.here.folder, name))
 
     def test_two_runs_of_one_name(self) -> None:
         process = self.begin("(t + 1).store('y')", self.fake_program(ENDLESS))
@@ -194,7 +194,7 @@ class Programs(Case):
         return path
 
     def test_behind_the_script_of_a_repository(self) -> None:
-        find = cengmoat.program.find_program
+        find = cengmoat._program.find_program
         script = self.put("cubed")
         self.assertEqual(find(script), script)
         source, _ = self.put("crates/cu_top/src/lib.rt", 0o644), self.put("crates.txt", 0o644)
@@ -211,12 +211,12 @@ class Programs(Case):
         self.assertEqual(find(script), archived)
 
     def test_the_environment_and_the_path(self) -> None:
-        code = "import cengmoat; print(cengmoat.program.find_program())"
+        code = "import cengmoat; print(cengmoat._program.find_program())"
         one, other = self.put("one/cubed"), self.put("other/program")
         for more, wanted in (({"CENGMOAT_CUBED": other}, other), ({"CENGMOAT_CUBED": other, "PATH": os.path.dirname(one)}, other)):
             said = subprocess.run([sys.executable, "-c", code], env={**os.environ, "PYTHONPATH": PYTHON, **more}, capture_output=True, text=True)
             self.assertEqual(said.stdout.strip(), wanted, said.stderr)
-        self.assertRaises(cengmoat.NoProgram, cengmoat.program.find_program, os.path.join(self.folder, "none"))
+        self.assertRaises(cengmoat.NoProgram, cengmoat._program.find_program, os.path.join(self.folder, "none"))
 
 
 class Unfinished(WithProgram):
@@ -352,7 +352,7 @@ class Running(WithProgram):
     def test_progress(self) -> None:
         plan = (self.t * 2 + 1).plan()
         stream = io.StringIO()
-        bar = cengmoat.progress.Bar(self.here.folder, "p", plan, "p", stream)
+        bar = cengmoat._progress.Bar(self.here.folder, "p", plan, "p", stream)
         bar.bar = None
         (self.t * 2 + 1).store("p")
         self.assertEqual(bar.stored(), plan.stored)

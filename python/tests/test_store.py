@@ -116,7 +116,7 @@ class Saving(Case):
             store.save("x", np.zeros(4, "int8"))
 
     def test_metadata_as_the_program_reads_it(self) -> None:
-        for path, read in ((TABLE, cengmoat.metadata.read_metadata), (TABLE_V2, cengmoat.metadata.read_zarray)):
+        for path, read in ((TABLE, cengmoat._metadata.read_metadata), (TABLE_V2, cengmoat._metadata.read_zarray)):
             if not os.path.isfile(path):
                 self.skipTest("the table of cases lies in the repository")
             with open(path, encoding="utf-8") as file:
@@ -261,7 +261,7 @@ class Known(Case):
 
     def test_expressions_are_said(self) -> None:
         t, o = (self.store().save(name, np.ones((2, 3), "int8")) for name in "to")
-        said = cengmoat.nodes.expression
+        said = cengmoat._nodes.expression
         self.assertEqual(said(((t * 2 + o) > 3).node), "((t * 2) + o) > 3")
         self.assertEqual(said((-t)[1:, ::-1].sum(axis=0, keepdims=True).node), "sum((-t)[1:, ::-1], axis=0, keepdims=True)")
         self.assertEqual(said((-(t[1:])).node), "-t[1:]")
@@ -274,12 +274,12 @@ class Known(Case):
 
     def test_same_nodes_are_one(self) -> None:
         t = self.store().save("t", np.ones(3, "int8"))
-        graph = cengmoat.nodes.Graph(((t + 1) * (t + 1) + (t + 1)).node)
+        graph = cengmoat._nodes.Graph(((t + 1) * (t + 1) + (t + 1)).node)
         self.assertEqual([node.op for node in graph.nodes], ["input", "add", "multiply", "add"])
         deep = t
         for _ in range(5000):
             deep = deep + deep
-        self.assertEqual(len(cengmoat.nodes.Graph(deep.node).nodes), 5001)
+        self.assertEqual(len(cengmoat._nodes.Graph(deep.node).nodes), 5001)
         with self.assertRaises(cengmoat.BadExpression) as found:
             deep.compute()
         self.assertIn("5001", str(found.exception))

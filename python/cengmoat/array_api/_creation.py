@@ -5,11 +5,11 @@ from typing import Any, Optional, Union
 
 import numpy as np
 
-from .. import build, views
-from ..array import Array
-from ..dtypes import BOOL, INT64, DType, as_dtype, as_int, as_literal, is_written
-from ..operators import memory_node, scalar_node
-from ..shapes import ChunksLike, as_chunks, as_shape
+from .. import _build as build, _views as views
+from .._array import Array
+from .._dtypes import BOOL, INT64, DType, as_dtype, as_int, as_literal, is_written
+from .._operators import memory_node, scalar_node
+from .._shapes import ChunksLike, as_chunks, as_shape
 from ._common import FLOATS, check_device, dtype_or, lacks, made_dtype, node_of
 
 

@@ -3,7 +3,7 @@ from __future__ import annotations
 
 from typing import Any, Union
 
-from ..array import Array
+from .._array import Array
 from ._common import FLOATS, Axes, lacks, node_of
 
 

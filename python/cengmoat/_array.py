@@ -4,15 +4,15 @@ from __future__ import annotations
 from types import ModuleType
 from typing import TYPE_CHECKING, Any, Iterator, Optional
 
-from . import build, views
-from .dtypes import DType, NDArray, as_dtype
-from .operators import Operators
-from .shapes import ChunksLike, Shape, numblocks, product
-from .show import array_html, array_text
+from . import _build as build, _views as views
+from ._dtypes import DType, NDArray, as_dtype
+from ._operators import Operators
+from ._shapes import ChunksLike, Shape, numblocks, product
+from ._show import array_html, array_text
 
 if TYPE_CHECKING:
-    from .plans import Plan
-    from .store import Store
+    from ._plans import Plan
+    from ._store import Store
 
 API_VERSIONS = ("2021.12", "2022.12")
 
@@ -194,12 +194,12 @@ class Array(Operators):
 
     def compute(self, *, store: Optional[Store] = None, progress: Optional[bool] = None) -> NDArray:
         """Compute the array and return it; see `cengmoat.compute`."""
-        from .running import compute_node
+        from ._running import compute_node
         return compute_node(self.node, store, progress)
 
     def store(self, name: str, *, store: Optional[Store] = None, progress: Optional[bool] = None, resume: bool = False) -> Array:
         """Compute the array, store it under a name, and return it as a stored array; see `cengmoat.to_zarr`."""
-        from .running import store_node
+        from ._running import store_node
         return Array(store_node(self.node, name, store, progress, resume))
 
     def check(self, name: str, *, store: Optional[Store] = None) -> int:
@@ -210,12 +210,12 @@ class Array(Operators):
         Unequal
             At the first element that differs.
         """
-        from .running import check_node
+        from ._running import check_node
         return check_node(self.node, name, store)
 
     def plan(self, *, store: Optional[Store] = None) -> Plan:
         """Return the operations by which the array would be computed, with their tasks, memory and bytes."""
-        from .running import plan_node
+        from ._running import plan_node
         return plan_node(self.node, store)
 
     def __array__(self, dtype: Any = None, copy: Optional[bool] = None) -> NDArray:

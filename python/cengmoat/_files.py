@@ -9,11 +9,11 @@ from typing import Any, Iterator, Optional
 
 import numpy as np
 
-from .dtypes import NDArray
+from ._dtypes import NDArray
 from .errors import BadChunk
-from .index import Index, Taken
-from .metadata import Metadata
-from .shapes import Shape
+from ._index import Index, Taken
+from ._metadata import Metadata
+from ._shapes import Shape
 
 _COUNTER = itertools.count()
 

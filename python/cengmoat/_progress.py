@@ -6,8 +6,8 @@ import sys
 import time
 from typing import Any, Optional, TextIO
 
-from .plans import Plan
-from .sizes import bytes_text
+from ._plans import Plan
+from ._sizes import bytes_text
 
 # The part of the time that may go into counting, and the seconds between two counts at least.
 MOST_PART = 0.01

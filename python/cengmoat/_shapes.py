@@ -3,7 +3,7 @@ from __future__ import annotations
 
 from typing import Any, Iterable, Mapping, Optional, Sequence, Union
 
-from .dtypes import DType, as_int
+from ._dtypes import DType, as_int
 
 Shape = tuple[int, ...]
 ChunksLike = Union[int, Sequence[int], Mapping[int, int], None]

@@ -5,10 +5,10 @@ from typing import Any, Optional, TypeVar
 
 import numpy as np
 
-from . import build, views
-from .dtypes import DType, Literal, NDArray, as_dtype, as_literal, is_written
-from .nodes import Node
-from .shapes import Shape, check_limits, chosen_chunks
+from . import _build as build, _views as views
+from ._dtypes import DType, Literal, NDArray, as_dtype, as_literal, is_written
+from ._nodes import Node
+from ._shapes import Shape, check_limits, chosen_chunks
 
 Self = TypeVar("Self", bound="Operators")
 

@@ -1,8 +1,8 @@
 """Which chunks a copy into other chunks stores on its way: by the program's rule, for the bytes that a plan shows."""
 from __future__ import annotations
 
-from .nodes import Node
-from .shapes import Shape, product
+from ._nodes import Node
+from ._shapes import Shape, product
 
 
 def _consolidated(chunk: Shape, shape: Shape, limit: Shape, item: int, most: int) -> Shape:

@@ -6,22 +6,22 @@ from typing import Any, Iterator, Optional, Union
 
 import numpy as np
 
-from .array import Array
-from .dtypes import NDArray, as_dtype, as_int
+from ._array import Array
+from ._dtypes import NDArray, as_dtype, as_int
 from .errors import NoArray
-from .files import read_index_of
-from .index import read_index
-from .locks import locked
-from .metadata import Metadata
-from .names import check_name
-from .nodes import Node
-from .plans import Report
-from .program import find_program
-from .running import remove_array
-from .saving import check_absent, write_array
-from .shapes import ChunksLike, as_chunks, check_limits
-from .sizes import as_bytes
-from .status import Status, all_names, array_names, check_finished, metadata_of, status_of
+from ._files import read_index_of
+from ._index import read_index
+from ._locks import locked
+from ._metadata import Metadata
+from ._names import check_name
+from ._nodes import Node
+from ._plans import Report
+from ._program import find_program
+from ._running import remove_array
+from ._saving import check_absent, write_array
+from ._shapes import ChunksLike, as_chunks, check_limits
+from ._sizes import as_bytes
+from ._status import Status, all_names, array_names, check_finished, metadata_of, status_of
 
 
 def _count(value: Any, low: int, high: int, what: str) -> int:

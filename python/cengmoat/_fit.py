@@ -9,10 +9,10 @@ import tempfile
 from typing import Any, Callable, Optional
 
 from .errors import CengmoatError, OverMemory
-from .files import write_file
-from .metadata import Metadata
-from .names import metadata_key
-from .shapes import Shape
+from ._files import write_file
+from ._metadata import Metadata
+from ._names import metadata_key
+from ._shapes import Shape
 
 MOST_TRIES = 40
 

@@ -11,22 +11,22 @@ import tempfile
 import threading
 from typing import TYPE_CHECKING, Iterator, Optional
 
-from .dtypes import NDArray
+from ._dtypes import NDArray
 from .errors import BadExpression, BadWords, Locked, OtherPlan, OverMemory
-from .files import read_file, remove_folder, write_file
-from .fit import fitting_chunks
-from .locks import lock_names, locked
-from .metadata import Metadata
-from .names import check_name, metadata_key, record_key
-from .nodes import MOST_NODES, Graph, Node, expression, in_order
-from .plans import Plan, Report, read_plan, read_report
-from .program import call_program
-from .progress import Bar, is_wanted
-from .saving import write_array
-from .status import check_finished, has_record, metadata_of, status_of
+from ._files import read_file, remove_folder, write_file
+from ._fit import fitting_chunks
+from ._locks import lock_names, locked
+from ._metadata import Metadata
+from ._names import check_name, metadata_key, record_key
+from ._nodes import MOST_NODES, Graph, Node, expression, in_order
+from ._plans import Plan, Report, read_plan, read_report
+from ._program import call_program
+from ._progress import Bar, is_wanted
+from ._saving import write_array
+from ._status import check_finished, has_record, metadata_of, status_of
 
 if TYPE_CHECKING:
-    from .store import Store
+    from ._store import Store
 
 TEMPORARY = "tmp-"
 IN_MEMORY = "data-"
@@ -57,7 +57,7 @@ def _some_store(node: Node, store: Optional[Store]) -> Iterator[Store]:
     if store is not None or node.store is not None:
         yield store_of(node, store)
         return
-    from .store import Store
+    from ._store import Store
     with tempfile.TemporaryDirectory(prefix="cengmoat-") as folder:
         yield Store(folder)
 

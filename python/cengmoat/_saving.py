@@ -7,12 +7,12 @@ from typing import Any
 
 import numpy as np
 
-from .dtypes import NDArray
+from ._dtypes import NDArray
 from .errors import Exists
-from .files import chunk_slices, whole_chunk, write_file
-from .metadata import Metadata
-from .names import metadata_key, record_key, zarray_key
-from .shapes import Shape
+from ._files import chunk_slices, whole_chunk, write_file
+from ._metadata import Metadata
+from ._names import metadata_key, record_key, zarray_key
+from ._shapes import Shape
 
 
 def check_absent(folder: str, name: str) -> None:

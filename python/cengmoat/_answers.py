@@ -85,7 +85,7 @@ def text_of(status: int, values: Mapping[str, Any]) -> str:
 
 
 def main() -> None:
-    """Write the rows of a guide into the package: `python3 -m cengmoat.answers docs/GUIDE.md`."""
+    """Write the rows of a guide into the package: `python3 -m cengmoat._answers docs/GUIDE.md`."""
     import sys
 
     with open(sys.argv[1], encoding="utf-8") as file:

@@ -4,9 +4,9 @@ from __future__ import annotations
 from html import escape
 from typing import Any, Sequence
 
-from .nodes import Node, operations
-from .shapes import numblocks, product
-from .sizes import bytes_text
+from ._nodes import Node, operations
+from ._shapes import numblocks, product
+from ._sizes import bytes_text
 
 
 def _name(node: Node) -> str:

@@ -4,12 +4,12 @@ from __future__ import annotations
 import json
 from typing import TYPE_CHECKING, Any, Iterator, Mapping, Optional, Sequence, Union
 
-from .dtypes import DType, Literal, NDArray
-from .shapes import Shape, product
+from ._dtypes import DType, Literal, NDArray
+from ._shapes import Shape, product
 
 if TYPE_CHECKING:
-    from .metadata import Metadata
-    from .store import Store
+    from ._metadata import Metadata
+    from ._store import Store
 
 MOST_NODES = 256
 INFIX = {

@@ -7,9 +7,9 @@ from typing import Any, Iterator, Optional
 
 import numpy as np
 
-from .dtypes import BOOL, NAMES, DType, greatest, least
+from ._dtypes import BOOL, NAMES, DType, greatest, least
 from .errors import BadMetadata
-from .shapes import MOST_AXES, MOST_CHUNK_BYTES, MOST_CHUNKS, MOST_ELEMENTS, Shape, numblocks, product
+from ._shapes import MOST_AXES, MOST_CHUNK_BYTES, MOST_CHUNKS, MOST_ELEMENTS, Shape, numblocks, product
 
 MOST_TEXT = 1_048_576
 REQUIRED = ("zarr_format", "node_type", "shape", "data_type", "chunk_grid", "chunk_key_encoding", "fill_value", "codecs")

@@ -5,12 +5,12 @@ import re
 from dataclasses import dataclass
 from typing import Iterator, NamedTuple
 
-from .dtypes import DType
-from .nodes import Graph, Node, expression
-from .shapes import Shape
-from .show import table_html, table_text
-from .sizes import bytes_text
-from .stages import copies_of
+from ._dtypes import DType
+from ._nodes import Graph, Node, expression
+from ._shapes import Shape
+from ._show import table_html, table_text
+from ._sizes import bytes_text
+from ._stages import copies_of
 
 
 class Report(NamedTuple):

@@ -5,15 +5,15 @@ import os
 from dataclasses import dataclass
 from typing import Iterator, Optional, Sequence
 
-from .dtypes import DType
+from ._dtypes import DType
 from .errors import CengmoatError, Unfinished
-from .files import read_file, stored_chunks
-from .locks import is_locked
-from .metadata import Metadata, read_metadata, read_zarray
-from .names import is_name, metadata_key, record_key, zarray_key
-from .shapes import Shape
-from .show import table_html, table_text
-from .sizes import bytes_text
+from ._files import read_file, stored_chunks
+from ._locks import is_locked
+from ._metadata import Metadata, read_metadata, read_zarray
+from ._names import is_name, metadata_key, record_key, zarray_key
+from ._shapes import Shape
+from ._show import table_html, table_text
+from ._sizes import bytes_text
 
 
 @dataclass(frozen=True)

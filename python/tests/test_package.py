@@ -1,0 +1,56 @@
+"""The package as a whole: what a user imports, and what type checkers say of it."""
+from __future__ import annotations
+
+import os
+import shutil
+import subprocess
+import textwrap
+import unittest
+
+from .support import PYTHON, Case, cengmoat
+
+PACKAGE = os.path.dirname(cengmoat.__file__)
+
+
+class Modules(Case):
+    def test_only_what_a_user_imports_has_a_public_name(self) -> None:
+        found = {entry.split(".")[0] for entry in os.listdir(PACKAGE) if entry.endswith(".py") or os.path.isdir(os.path.join(PACKAGE, entry))}
+        self.assertEqual({name for name in found if not name.startswith("_")}, {"array_api", "errors"})
+        self.assertEqual([name for name in cengmoat.__all__ if not hasattr(cengmoat, name)], [])
+
+
+class Types(Case):
+    def test_a_script_of_a_user(self) -> None:
+        """Operators with numbers and NumPy's arrays on either side are lazy arrays to mypy, and nothing in the package is wrong."""
+        mypy = shutil.which("mypy")
+        if mypy is None:
+            self.skipTest("mypy isn't there")
+        script = os.path.join(self.folder, "script.py")
+        with open(script, "w", encoding="utf-8") as file:
+            file.write(textwrap.dedent("""
+                import numpy as np
+                import cengmoat
+                from cengmoat import array_api as xp
+
+                store = cengmoat.Store("folder", allowed_mem="1GB")
+                t: cengmoat.Array = store["t"]
+                a: cengmoat.Array = 1 + t - 2
+                b: cengmoat.Array = 7 // (3 * t) % 2
+                c: cengmoat.Array = (1 << t) | (255 & t) ^ (t >> 1)
+                d: cengmoat.Array = (1 < t) & (t != 4) | (True ^ (t == 3))
+                e: cengmoat.Array = xp.where(d, t, 0).sum(axis=0, keepdims=True)
+                f: cengmoat.Array = e.store("f")
+                g: np.ndarray = f.compute()
+                h: cengmoat.Array = -abs(~t) @ t.T
+                i: int = t.check("i")
+                j: cengmoat.Array = t + np.arange(3)
+                k: str = store.status()["t"].state
+            """))
+        said = subprocess.run([mypy, "--strict", "--no-incremental", "--cache-dir", self.folder, script], env={**os.environ, "MYPYPATH": PYTHON},
+                              cwd=self.folder, capture_output=True, text=True)
+        lines = [line for line in said.stdout.splitlines() if "tqdm" not in line and "mypy" not in line and "type parameters" not in line]
+        self.assertEqual([line for line in lines if "error" in line and not line.startswith("Found")], [], said.stdout)
+
+
+if __name__ == "__main__":
+    unittest.main()
