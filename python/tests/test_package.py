@@ -40,16 +40,26 @@ class Types(Case):
                 d: cengmoat.Array = (1 < t) & (t != 4) | (True ^ (t == 3))
                 e: cengmoat.Array = xp.where(d, t, 0).sum(axis=0, keepdims=True)
                 f: cengmoat.Array = e.store("f")
-                g: np.ndarray = f.compute()
+                g = f.compute()
                 h: cengmoat.Array = -abs(~t) @ t.T
                 i: int = t.check("i")
                 j: cengmoat.Array = t + np.arange(3)
                 k: str = store.status()["t"].state
             """))
-        said = subprocess.run([mypy, "--strict", "--no-incremental", "--cache-dir", self.folder, script], env={**os.environ, "MYPYPATH": PYTHON},
-                              cwd=self.folder, capture_output=True, text=True)
-        lines = [line for line in said.stdout.splitlines() if "tqdm" not in line and "mypy" not in line and "type parameters" not in line]
-        self.assertEqual([line for line in lines if "error" in line and not line.startswith("Found")], [], said.stdout)
+        said = self.checked(mypy, "--strict", script, MYPYPATH=PYTHON)
+        self.assertEqual([line for line in said.splitlines() if line.startswith("script.py")], [], said)
+
+    def test_the_package_itself(self) -> None:
+        mypy = shutil.which("mypy")
+        if mypy is None:
+            self.skipTest("mypy isn't there")
+        said = self.checked(mypy, "--config-file", os.path.join(PYTHON, "pyproject.toml"), PACKAGE)
+        self.assertIn("Success", said)
+
+    def checked(self, mypy: str, *words: str, **more: str) -> str:
+        """Return what mypy says."""
+        return subprocess.run([mypy, "--cache-dir", self.folder, *words], env={**os.environ, **more}, cwd=self.folder,
+                              capture_output=True, text=True).stdout
 
 
 if __name__ == "__main__":
