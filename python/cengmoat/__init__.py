@@ -18,7 +18,7 @@ from ._array import Array
 from ._dtypes import NDArray
 from .errors import (
     BadChunk, BadExpression, BadLoad, BadMetadata, BadType, BadWords, CengmoatError, Exists, Locked, NoArray, NoMemory, NoPlan,
-    NoProgram, OtherPlan, OverLimit, OverMemory, ReadFault, Stopped, StoreFailed, TaskFailed, Unequal, Unfinished, WriteFault,
+    NoProgram, NotRemoved, OtherPlan, OverLimit, OverMemory, ReadFault, Stale, Stopped, StoreFailed, TaskFailed, Unequal, Unfinished, WriteFault,
 )
 from ._plans import Operation, Plan, Report
 from ._running import compute_node
@@ -29,8 +29,8 @@ __version__ = "0.1.0"
 
 __all__ = [
     "Array", "ArrayStatus", "BadChunk", "BadExpression", "BadLoad", "BadMetadata", "BadType", "BadWords", "CengmoatError", "Exists",
-    "Locked", "NoArray", "NoMemory", "NoPlan", "NoProgram", "Operation", "OtherPlan", "OverLimit", "OverMemory", "Plan", "ReadFault",
-    "Report", "Status", "Stopped", "Store", "StoreFailed", "TaskFailed", "Unequal", "Unfinished", "WriteFault", "array_api", "compute",
+    "Locked", "NoArray", "NoMemory", "NoPlan", "NoProgram", "NotRemoved", "Operation", "OtherPlan", "OverLimit", "OverMemory", "Plan", "ReadFault",
+    "Report", "Stale", "Status", "Stopped", "Store", "StoreFailed", "TaskFailed", "Unequal", "Unfinished", "WriteFault", "array_api", "compute",
     "from_zarr", "to_zarr",
 ]
 
@@ -57,7 +57,8 @@ def from_zarr(folder: Union[str, os.PathLike[str]], name: str, *, unfinished: bo
     return Store(folder, **options).array(name, unfinished=unfinished)
 
 
-def to_zarr(x: Array, name: str, *, store: Optional[Store] = None, progress: Optional[bool] = None, resume: bool = False) -> Array:
+def to_zarr(x: Array, name: str, into: Optional[Store] = None, *, progress: Optional[bool] = None, resume: bool = False,
+            keep: bool = False) -> Array:
     """Compute an array, store it under a name, and return it as a stored array.
 
     Parameters
@@ -66,12 +67,14 @@ def to_zarr(x: Array, name: str, *, store: Optional[Store] = None, progress: Opt
         The array.
     name : str
         The name of the result.
-    store : Store, optional
+    into : Store, optional
         Where it is stored; must be given where no stored array is in the expression.
     progress : bool, optional
         Whether a bar is shown; else on a terminal.
     resume : bool
         Whether a run that stopped is gone on with; where none was begun, one begins.
+    keep : bool
+        Whether what was stored on the way to the result stays beside it. Else it is removed at the end, and the record stays.
 
     Raises
     ------
@@ -79,6 +82,8 @@ def to_zarr(x: Array, name: str, *, store: Optional[Store] = None, progress: Opt
         The class of the program's answer, as OverMemory and Exists.
     Unfinished
         Where an input is the result of a run that hasn't finished.
+    Stale
+        Where an input was replaced after the lazy array was made.
     Locked
         Where another process stores this name now.
     TypeError, ValueError
@@ -86,7 +91,7 @@ def to_zarr(x: Array, name: str, *, store: Optional[Store] = None, progress: Opt
     """
     if not isinstance(x, Array):
         raise TypeError(f"to_zarr takes a lazy array, and not {type(x).__name__}: store.save stores an array in memory")
-    return x.store(name, store=store, progress=progress, resume=resume)
+    return x.store(name, into, progress=progress, resume=resume, keep=keep)
 
 
 def compute(*arrays: Array, store: Optional[Store] = None, progress: Optional[bool] = None) -> tuple[NDArray, ...]:

@@ -197,10 +197,11 @@ class Array(Operators):
         from ._running import compute_node
         return compute_node(self.node, store, progress)
 
-    def store(self, name: str, *, store: Optional[Store] = None, progress: Optional[bool] = None, resume: bool = False) -> Array:
+    def store(self, name: str, into: Optional[Store] = None, *, progress: Optional[bool] = None, resume: bool = False,
+              keep: bool = False) -> Array:
         """Compute the array, store it under a name, and return it as a stored array; see `cengmoat.to_zarr`."""
         from ._running import store_node
-        return Array(store_node(self.node, name, store, progress, resume))
+        return Array(store_node(self.node, name, into, progress, resume, keep))
 
     def check(self, name: str, *, store: Optional[Store] = None) -> int:
         """Compare the stored array of a name with what this expression means, and return the count of its elements.

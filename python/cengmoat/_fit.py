@@ -4,7 +4,6 @@ from __future__ import annotations
 import copy
 import dataclasses
 import json
-import os
 import tempfile
 from typing import Any, Callable, Optional
 
@@ -85,5 +84,5 @@ def _ask(job: dict[str, Any], inputs: dict[str, Metadata], sides: dict[str, list
     with tempfile.TemporaryDirectory(prefix="cengmoat-") as folder:
         for name, meta in inputs.items():
             text = dataclasses.replace(meta, chunks=tuple(sides[name])).text()
-            write_file(os.path.join(folder, metadata_key(name)), text.encode())
+            write_file(folder, metadata_key(name), text.encode(), sync=False)
         plan(folder, json.dumps(changed))

@@ -6,7 +6,7 @@ from typing import Any, Optional, TypeVar
 import numpy as np
 
 from . import _build as build, _views as views
-from ._dtypes import DType, Literal, NDArray, as_dtype, as_literal, is_written
+from ._dtypes import DType, Literal, NDArray, as_dtype, as_literal, check_unmasked, is_written
 from ._nodes import Node
 from ._shapes import Shape, check_limits, chosen_chunks
 
@@ -21,6 +21,7 @@ def memory_node(data: NDArray, chunks: Optional[Shape] = None) -> Node:
     TypeError, NotImplementedError
         Where its type isn't one of the program's.
     """
+    check_unmasked(data)
     dtype = as_dtype(data.dtype)
     sides = chosen_chunks(data.shape, dtype) if chunks is None else chunks
     check_limits(data.shape, sides, dtype, "asarray")
@@ -46,6 +47,7 @@ def operand(value: Any) -> Any:
         return value.node
     if is_written(value):
         return as_literal(value)
+    check_unmasked(value)
     if isinstance(value, np.ndarray):
         return as_literal(value[()]) if value.ndim == 0 else memory_node(value)
     if value is None or isinstance(value, (float, complex, np.inexact, str, bytes)):
@@ -88,6 +90,12 @@ class Operators:
 
     def __init__(self, node: Node) -> None:
         self.node = node
+
+    @property
+    def _data(self) -> NDArray:
+        """What numpy.ma asks of an array that it computes with; a TypeError, so that nothing is computed and no mask is lost."""
+        raise TypeError("numpy.ma computes with arrays in memory: say which value stands for what is masked, as in"
+                        " numpy.ma.filled(x, value), or compute the lazy array first, as in numpy.ma.add(m, x.compute())")
 
     def __add__(self: Self, other: Any) -> Self:
         return _binary("add", self, other)

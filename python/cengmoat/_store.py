@@ -1,27 +1,30 @@
 """A folder of stored arrays, and how expressions over them are run."""
 from __future__ import annotations
 
+import difflib
 import os
-from typing import Any, Iterator, Optional, Union
+from typing import Any, Iterator, Mapping, NoReturn, Optional, Union
 
 import numpy as np
 
 from ._array import Array
-from ._dtypes import NDArray, as_dtype, as_int
+from ._build import astype
+from ._dtypes import NDArray, as_dtype, as_int, check_unmasked
 from .errors import NoArray
 from ._files import read_index_of
 from ._index import read_index
 from ._locks import locked
 from ._metadata import Metadata
-from ._names import check_name
+from ._names import check_free_name, check_name
 from ._nodes import Node
 from ._plans import Report
 from ._program import find_program
-from ._running import remove_array
+from ._removing import Removal
 from ._saving import check_absent, write_array
 from ._shapes import ChunksLike, as_chunks, check_limits
 from ._sizes import as_bytes
 from ._status import Status, all_names, array_names, check_finished, metadata_of, status_of
+from ._temporary import uninterrupted
 
 
 def _count(value: Any, low: int, high: int, what: str) -> int:
@@ -31,8 +34,8 @@ def _count(value: Any, low: int, high: int, what: str) -> int:
     return count
 
 
-class Store:
-    """A folder of arrays, as uncompressed Zarr v3 arrays.
+class Store(Mapping[str, Array]):
+    """A folder of arrays, as uncompressed Zarr v3 arrays. It is a mapping from names to lazy arrays, and `save` adds one.
 
     An expression over arrays of two stores of one folder runs with the options of the first, unless `store=` names another.
 
@@ -106,13 +109,41 @@ class Store:
     def __iter__(self) -> Iterator[str]:
         return iter(self.names())
 
+    def __len__(self) -> int:
+        return len(self.names())
+
     def __contains__(self, name: object) -> bool:
         return name in self.names()
+
+    # (two stores are the same if they are one object: their arrays aren't compared)
+    __eq__ = object.__eq__
+    __hash__ = object.__hash__
+
+    def __setitem__(self, name: str, value: Any) -> NoReturn:
+        call = f"x.store({name!r}) computes and stores" if isinstance(value, Array) else f"store.save({name!r}, x) stores"
+        raise TypeError(f"nothing is stored by an assignment: {call} an array")
+
+    def __delitem__(self, name: str) -> NoReturn:
+        raise TypeError(f"del removes nothing: store.remove({name!r}) removes a result with the record of its run")
+
+    def __enter__(self) -> Store:
+        return self
+
+    def __exit__(self, *error: object) -> None:
+        """Do nothing: no file is open between two calls."""
+
+    def _missing(self, name: str) -> NoArray:
+        """Return the error that says that there is no array, and which names are near."""
+        names = all_names(self.folder)
+        near = difflib.get_close_matches(name, names, 3, 0.5) or [it for it in names if it.lower() == name.lower()]
+        said = f" Near names: {', '.join(near)}." if near else f" There are: {', '.join(names[:10])}{', ..' if len(names) > 10 else ''}." if names else ""
+        where = "" if os.path.isdir(self.folder) else ", which is no folder"
+        return NoArray(f"there is no array {name!r} in {self.folder}{where}.{said}", name=name)
 
     def _layout(self, name: str) -> Metadata:
         found = metadata_of(self.folder, check_name(name))
         if found is None:
-            raise NoArray(name=name)
+            raise self._missing(name)
         return found
 
     def array(self, name: str, *, unfinished: bool = False) -> Array:
@@ -139,7 +170,8 @@ class Store:
         meta = self._layout(name)
         if not unfinished:
             check_finished(self.folder, name)
-        return Array(Node.stored(self, name, meta, unfinished))
+        node = Node.stored(self, name, meta, unfinished)
+        return Array(astype(node, meta.seen_dtype))
 
     def __getitem__(self, name: str) -> Array:
         return self.array(name)
@@ -166,9 +198,10 @@ class Store:
         Exists
             Where there is an array of this name, or the record of a plan that makes one.
         """
-        check_name(name)
-        if isinstance(data, Array):
+        check_free_name(name)
+        if isinstance(data, Array) or not isinstance(data, np.ndarray) and isinstance(getattr(data, "data", None), Array):
             raise TypeError(f"save takes an array in memory: x.store({name!r}) computes and stores a lazy one")
+        check_unmasked(data)
         if not all(hasattr(data, it) for it in ("shape", "dtype", "__getitem__")):
             data = np.asarray(data)
         try:
@@ -207,23 +240,46 @@ class Store:
         meta = self._layout(name)
         if not unfinished:
             check_finished(self.folder, name)
-        return read_index_of(self.folder, name, meta, read_index(index, meta.shape))
+        found = read_index_of(self.folder, name, meta, read_index(index, meta.shape))
+        return found != 0 if meta.is_truth else found
 
     def status(self) -> Status:
         """Return the name, type, shape, stored chunks, state and bytes of each array, of unfinished ones too."""
         return Status([status_of(self.folder, name) for name in all_names(self.folder)])
 
-    def remove(self, name: str) -> None:
-        """Remove an array, the record of the plan that made it, and all on the way to it.
+    def remove(self, name: str, *, inputs: bool = False) -> list[str]:
+        """Remove an array, the record of the run that made it, and all on the way to it.
+
+        A link is removed, and nothing of what it leads to. Files in the array's folder that are no part of it stay. All is tested
+        before the first file goes, and the metadata goes first: no reader takes the rest for an array.
+
+        Parameters
+        ----------
+        name : str
+            The name.
+        inputs : bool
+            Whether an array is removed that no run made, as one that `save` stored.
+
+        Returns
+        -------
+        list of str
+            The files that stay, since they are no part of the array.
 
         Raises
         ------
         NoArray
             Where there is neither an array nor a record of this name.
+        NotRemoved
+            Where no run made it and `inputs` isn't set, or it is a group of arrays.
         Locked
             Where another process computes or stores it now.
+        StoreFailed
+            Where a file can't be removed.
         """
-        if check_name(name) not in all_names(self.folder):
-            raise NoArray(name=name)
-        with locked(self.folder, name, remove=True):
-            remove_array(self, name)
+        if Removal(self.folder, check_name(name)).is_nothing:
+            raise self._missing(name)
+        with locked(self.folder, name, remove=True), uninterrupted():
+            found = Removal(self.folder, name)
+            found.check(inputs)
+            found.remove()
+        return found.kept

@@ -207,8 +207,27 @@ class Unfinished(CengmoatError):
     """An array is the result of a run that stopped: some of its chunks are missing, and would be read as fill values."""
 
 
+class Stale(CengmoatError):
+    """A stored array was replaced after the lazy array was made, and has another layout now. Fields: name."""
+
+    fields = ("name",)
+    name: str
+
+
+class NotRemoved(CengmoatError):
+    """An array isn't removed, since no run made it, or what lies there is no array; nothing is removed then. Fields: name."""
+
+    fields = ("name",)
+    name: str
+
+
 class Locked(CengmoatError):
-    """Another process computes or stores an array of this name now."""
+    """Another process computes or stores an array of this name now. Fields: pid, host, since, where they are known."""
+
+    fields = ("pid", "host", "since")
+    pid: Optional[int]
+    host: Optional[str]
+    since: Optional[str]
 
 
 BY_STATUS: dict[int, type[CengmoatError]] = {

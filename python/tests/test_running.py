@@ -91,7 +91,7 @@ class Interrupts(Case):
         before = signal.signal(signal.SIGINT, signal.default_int_handler)
         self.addCleanup(signal.signal, signal.SIGINT, before)
         with self.assertRaises(KeyboardInterrupt):
-            with cengmoat._running.uninterrupted():
+            with cengmoat._temporary.uninterrupted():
                 signal.raise_signal(signal.SIGINT)
                 done.append(True)
         self.assertEqual(done, [True])
@@ -268,7 +268,7 @@ class Unfinished(WithProgram):
         with self.assertRaises(cengmoat.OtherPlan):
             (self.t * 2 + 3).store("y", resume=True)
         with self.assertRaises(cengmoat.OtherPlan):
-            self.y.store("y", store=self.store(allowed_mem=10**6), resume=True)
+            self.y.store("y", self.store(allowed_mem=10**6), resume=True)
         self.assertFalse(self.here.status()["y"].is_finished)
         self.same(self.y.store("y", resume=True).compute(), self.exact)
         self.same(self.y.store("y", resume=True).compute(), self.exact)
@@ -314,10 +314,10 @@ class Running(WithProgram):
         self.assertEqual(self.here.report.ops, 1)
         self.same(self.here.read("turned", (slice(1, None, 2), -1)), self.data.T[1::2, -1])
         self.same(cengmoat.from_zarr(self.here.folder, "turned", program=PROGRAM).compute(), self.data.T)
-        (xp.asarray([1, 2]) - xp.asarray([5, 9])).store("memory", store=self.here)
+        (xp.asarray([1, 2]) - xp.asarray([5, 9])).store("memory", self.here)
         self.same(self.here.read("memory"), np.array([-4, -7]))
         self.assertEqual([name for name in self.here.names() if name.startswith("data-")], [])
-        xp.ones((2, 2), dtype="uint8").store("made", store=self.here)
+        xp.ones((2, 2), dtype="uint8").store("made", self.here)
         self.same(self.here.read("made"), np.ones((2, 2), "uint8"))
 
     def test_plans(self) -> None:
@@ -345,7 +345,7 @@ class Running(WithProgram):
                                        wide @ wide.T, xp.matmul(wide[:, 0], wide), wide.astype("int8").astype("int64"), wide.sum(axis=0))):
             here = self.store(allowed_mem=300 if number == 0 else 10**5)
             plan = lazy.plan(store=here)
-            lazy.store(f"r{number}", store=here)
+            lazy.store(f"r{number}", here)
             self.assertEqual(self.stored_bytes(f"r{number}"), plan.nbytes, plan)
         self.assertEqual([it.kind for it in wide.rechunk((1, 12)).plan(store=self.store(allowed_mem=300))], ["copy", "copy"])
 

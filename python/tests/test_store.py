@@ -57,6 +57,20 @@ class Saving(Case):
         self.same(store.save("a", np.array([1, 258], ">u2")).compute(), np.array([1, 258], "uint16"))
         self.same(store.save("b", [[1, 2], [3, 4]]).compute(), np.array([[1, 2], [3, 4]]))
 
+    def test_counts_of_stored_chunks(self) -> None:
+        """Each chunk that is stored counts, in each form of keys, and no other file does."""
+        for encoding, separator in itertools.product(("default", "v2"), "./"):
+            for shape, chunks in (((), ()), ((5,), (2,)), ((4, 6), (2, 4)), ((3, 4, 5), (1, 2, 2))):
+                meta = cengmoat._metadata.Metadata(np.dtype("int8"), shape, chunks, 0, False, encoding, separator)
+                name, path = f"{encoding}{'.-'[separator == '/']}{len(shape)}", ""
+                for count, coordinate in enumerate(meta.coordinates(), 1):
+                    path = os.path.join(self.folder, meta.chunk_key(name, coordinate))
+                    os.makedirs(os.path.dirname(path), exist_ok=True)
+                    for other in (path, f"{path}.new12", os.path.join(os.path.dirname(path), "99")):
+                        with open(other, "w", encoding="utf-8"):
+                            pass
+                    self.assertEqual(cengmoat._files.stored_chunks(self.folder, name, meta), count, (encoding, separator, shape))
+
     def test_a_chunk_at_a_time(self) -> None:
         class Source:
             """An array of which single parts are read."""
@@ -213,7 +227,7 @@ class BadInput(Case):
         other = cengmoat.Store(os.path.join(self.folder, "second"))
         y = other.save("y", np.arange(3))
         self.assertRaises(ValueError, lambda: self.x + y)
-        self.assertRaises(ValueError, self.x.store, "z", store=other)
+        self.assertRaises(ValueError, self.x.store, "z", other)
 
 
 class Known(Case):
