@@ -19,7 +19,7 @@ import numpy as np  # noqa: E402
 import cengmoat  # noqa: E402
 from cengmoat import array_api as xp  # noqa: E402
 from cengmoat._program import VARIABLE, program_of  # noqa: E402
-from cengmoat._program import BUILT as IN_REPOSITORY  # noqa: E402
+from cengmoat._finding import BUILT as IN_REPOSITORY  # noqa: E402
 
 INTEGERS = ("int8", "int16", "int32", "int64", "uint8", "uint16", "uint32", "uint64")
 TYPES = ("bool", *INTEGERS)
