@@ -12,6 +12,7 @@ from .errors import BadExpression, NoArray, OtherPlan, OverMemory, Stale
 from ._files import read_index_of, write_file
 from ._fit import fitting_chunks
 from ._index import read_index
+from ._left import telling, with_cause
 from ._locks import locked
 from ._metadata import Metadata
 from ._names import check_free_name, check_name, is_own, metadata_key, record_key
@@ -151,7 +152,7 @@ def plan_node(node: Node, store: Optional[Store]) -> Plan:
     """Return the plan of an expression. Nothing is stored."""
     graph = _graph(node, "plan")
     text = graph.text("plan")
-    with _some_store(node, store) as found, _advised(found, graph, text):
+    with _some_store(node, store) as found, telling("x.plan()", found.folder, "plan", True), _advised(found, graph, text):
         _check_fresh(found, graph)
         if not any(it.op == "data" for it in graph.nodes):
             return _ask_plan(found, found.folder, graph, text)
@@ -166,7 +167,8 @@ def _run(store: Store, graph: Graph, name: str, lock: int, progress: Optional[bo
     """Run an expression whose arrays in memory are stored, and return the report."""
     text = graph.text(name)
     bar, is_done = None, False
-    with _advised(store, graph, text):
+    most = max(node.chunk_bytes for node in graph.nodes)
+    with _advised(store, graph, text), with_cause(store.folder, name, most, graph.inputs):
         if is_wanted(progress):
             label = expression(graph.nodes[graph.out], LABEL) if is_own(name) else name
             bar = Bar(store.folder, name, _ask_plan(store, store.folder, graph, text), label)
@@ -203,8 +205,8 @@ def store_node(node: Node, name: str, store: Optional[Store], progress: Optional
     check_free_name(name)
     found = store_of(node, store)
     graph = _graph(node, name)
-    _check_inputs(found, graph)
-    with locked(found.folder, name) as lock:
+    with telling(f"x.store({name!r})", found.folder, name), locked(found.folder, name) as lock:
+        _check_inputs(found, graph)
         goes_on = resume and has_record(found.folder, name)
         if goes_on:
             _check_record(found, graph, name)
@@ -221,12 +223,13 @@ def check_node(node: Node, name: str, store: Optional[Store]) -> int:
     check_name(name)
     found = store_of(node, store)
     graph = _graph(node, name)
-    _check_inputs(found, graph)
-    check_finished(found.folder, name)
-    if not memory_nodes(graph):
-        return _checked(found, graph, name)
-    with locked(found.folder, name) as lock, memory_stored(found.folder, graph, lock):
-        return _checked(found, graph, name)
+    with telling(f"x.check({name!r})", found.folder, name, True):
+        _check_inputs(found, graph)
+        check_finished(found.folder, name)
+        if not memory_nodes(graph):
+            return _checked(found, graph, name)
+        with locked(found.folder, name) as lock, memory_stored(found.folder, graph, lock):
+            return _checked(found, graph, name)
 
 
 def _checked(store: Store, graph: Graph, name: str) -> int:
@@ -245,9 +248,16 @@ def compute_node(node: Node, store: Optional[Store], progress: Optional[bool]) -
             return found.read(its.members["name"], unfinished=its.takes_unfinished)
         name = new_name(found.folder)
         graph = _graph(node, name)
-        _check_inputs(found, graph)
-        sweep(found.folder)
-        with locked(found.folder, name, remove=True) as lock, memory_stored(found.folder, graph, lock, [name]):
-            _run(found, graph, name, lock.descriptor, progress)
-            check_finished(found.folder, name)
-            return read_index_of(found.folder, name, _layout(node), read_index(..., node.shape))
+        with telling("x.compute()", found.folder, name, True):
+            return _computed(found, graph, name, progress)
+
+
+def _computed(store: Store, graph: Graph, name: str, progress: Optional[bool]) -> NDArray:
+    """Run an expression under a temporary name, and read its result."""
+    _check_inputs(store, graph)
+    sweep(store.folder)
+    node = graph.nodes[graph.out]
+    with locked(store.folder, name, remove=True) as lock, memory_stored(store.folder, graph, lock, [name]):
+        _run(store, graph, name, lock.descriptor, progress)
+        check_finished(store.folder, name)
+        return read_index_of(store.folder, name, _layout(node), read_index(..., node.shape))

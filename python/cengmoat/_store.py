@@ -13,6 +13,7 @@ from ._dtypes import NDArray, as_dtype, as_int, check_unmasked
 from .errors import NoArray
 from ._files import read_index_of
 from ._index import read_index
+from ._left import telling
 from ._locks import locked
 from ._metadata import Metadata
 from ._names import check_free_name, check_name
@@ -211,7 +212,7 @@ class Store(Mapping[str, Array]):
         shape = tuple(int(size) for size in data.shape)
         sides = as_chunks(chunks, shape, dtype)
         check_limits(shape, sides, dtype, "save")
-        with locked(self.folder, name):
+        with telling(f"store.save({name!r}, ..)", self.folder, name, True), locked(self.folder, name):
             check_absent(self.folder, name)
             write_array(self.folder, name, Metadata(dtype, shape, sides), data)
         return self.array(name)
@@ -278,7 +279,7 @@ class Store(Mapping[str, Array]):
         """
         if Removal(self.folder, check_name(name)).is_nothing:
             raise self._missing(name)
-        with locked(self.folder, name, remove=True), uninterrupted():
+        with telling(f"store.remove({name!r})", self.folder, name), locked(self.folder, name, remove=True), uninterrupted():
             found = Removal(self.folder, name)
             found.check(inputs)
             found.remove()

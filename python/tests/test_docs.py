@@ -94,7 +94,7 @@ class Install(Case):
 
     def test_without_a_program(self) -> None:
         target = self.installed()
-        code = "import cengmoat; print(cengmoat.__file__, len(cengmoat._answers.rows()) > 30)"
+        code = "import cengmoat; print(cengmoat.__file__, len(cengmoat._texts.TEXTS) > 30)"
         self.assertEqual(self.said(target, code), f"{os.path.join(target, 'cengmoat', '__init__.py')} True")
         self.assertTrue(os.path.isfile(os.path.join(target, "cengmoat", "py.typed")))
         said = self.said(target, textwrap.dedent("""

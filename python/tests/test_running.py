@@ -115,6 +115,31 @@ class Interrupts(Case):
         self.assertRaises(cengmoat.NoMemory, (store["t"] + 1).compute)
         self.assertEqual(self.left(), [])
 
+    def test_ctrl_c_says_what_is_left(self) -> None:
+        for work, wanted in (("(t + 1).compute()", ["x.compute() in", "was stopped. Nothing of it is left."]),
+                             ("(t + 1).store('y')", ["x.store('y') in", "Left of y: 1 of 2 chunks (16 B), 1 files on the way to them (1 B), and the record",
+                                                     "x.store('y', resume=True) goes on", "store.remove('y') removes it"])):
+            if os.path.exists(self.begun):
+                os.unlink(self.begun)
+            process = self.begin(work, self.fake_program(ENDLESS))
+            until(lambda: os.path.exists(self.begun))
+            process.send_signal(signal.SIGINT)
+            said = process.communicate(timeout=60)[1].decode()
+            last = said.strip().splitlines()[-1]
+            self.assertTrue(last.startswith("KeyboardInterrupt: "), said)
+            for text in wanted:
+                self.assertIn(text, last)
+
+    def test_a_lock_says_who_holds_it(self) -> None:
+        process = self.begin("(t + 1).store('y')", self.fake_program(ENDLESS))
+        until(lambda: os.path.exists(self.begun))
+        with self.assertRaises(cengmoat.Locked) as found:
+            self.here.save("y", np.arange(3))
+        self.assertEqual(found.exception.pid, process.pid)
+        self.assertRegex(str(found.exception), rf"process {process.pid}, since \d{{4}}-\d\d-\d\d \d\d:\d\d:\d\d: wait")
+        process.send_signal(signal.SIGINT)
+        self.end(process)
+
     def end_of_children(self, process: subprocess.Popen[bytes]) -> None:
         """End the program whose starter was killed. It holds the lock as long as it runs."""
         locks = os.path.join(self.here.folder, ".locks")
@@ -327,7 +352,7 @@ class Running(WithProgram):
         self.assertEqual([it.nbytes for it in plan], [2 * 4, 6 * 16, 6 * 32, 2 * 32])
         self.assertEqual((plan.tasks, plan.stored, plan.nbytes), (1 + 6 + 6 + 2, 2 + 6 + 6 + 2, sum(it.nbytes for it in plan)))
         self.assertEqual(plan.peak, max(it.memory for it in plan))
-        lazy.store("sums")
+        lazy.store("sums", keep=True)
         self.assertEqual((self.here.report.tasks, self.here.report.peak), (plan.tasks, plan.peak))
         self.assertEqual(self.stored_bytes("sums"), plan.nbytes)
         for said in ("t + o", "sum(t + o, axis=0)", "(5, 6)", "int16", "copy", "peak"):
@@ -345,7 +370,7 @@ class Running(WithProgram):
                                        wide @ wide.T, xp.matmul(wide[:, 0], wide), wide.astype("int8").astype("int64"), wide.sum(axis=0))):
             here = self.store(allowed_mem=300 if number == 0 else 10**5)
             plan = lazy.plan(store=here)
-            lazy.store(f"r{number}", here)
+            lazy.store(f"r{number}", here, keep=True)
             self.assertEqual(self.stored_bytes(f"r{number}"), plan.nbytes, plan)
         self.assertEqual([it.kind for it in wide.rechunk((1, 12)).plan(store=self.store(allowed_mem=300))], ["copy", "copy"])
 
@@ -354,7 +379,7 @@ class Running(WithProgram):
         stream = io.StringIO()
         bar = cengmoat._progress.Bar(self.here.folder, "p", plan, "p", stream)
         bar.bar = None
-        (self.t * 2 + 1).store("p")
+        (self.t * 2 + 1).store("p", keep=True)
         self.assertEqual(bar.stored(), plan.stored)
         bar.show(plan.operations[0].stored)
         bar.watch()

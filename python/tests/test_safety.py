@@ -336,7 +336,7 @@ class Rights(Case):
         said = subprocess.run([sys.executable, "-c", code], env={**os.environ, "PYTHONPATH": PYTHON, "PYTHONDONTWRITEBYTECODE": "1"},
                               capture_output=True, text=True, cwd="/")
         self.assertEqual(said.stdout.splitlines()[:1], ["(4,) [0, 1, 2, 3] [0, 1, 2, 3] finished ['t', 'y']"], said.stderr)
-        self.assertIn("StoreFailed .locks/z: Permission denied", said.stdout)
+        self.assertIn(f"StoreFailed x.store('z') in {here.folder}: .locks/z: Permission denied", said.stdout)
 
     def test_reading_makes_nothing(self) -> None:
         folder = os.path.join(self.folder, "arrays")
@@ -346,6 +346,51 @@ class Rights(Case):
         store = cengmoat.Store(folder)
         store.read("t"), store["t"].compute(), store.status(), list(store.items())
         self.assertEqual(os.listdir(folder), ["t"])
+
+
+class FullDisk(Case):
+    """A small disk of its own, where one may be mounted."""
+
+    def setUp(self) -> None:
+        super().setUp()
+        self.disk = os.path.join(self.folder, "disk")
+        os.mkdir(self.disk)
+        if subprocess.run(["mount", "-t", "tmpfs", "-o", "size=256k", "none", self.disk], capture_output=True).returncode:
+            self.skipTest("no disk may be mounted")
+        self.addCleanup(subprocess.run, ["umount", "-l", self.disk])
+
+    def test_the_cause_and_what_is_left_are_said(self) -> None:
+        fills = STORES.replace('put(f"{name}/c/0", bytes([7, 0, 0, 0] * 4))', textwrap.dedent("""
+            put(f"{name}/c/0", bytes(40000))
+                try:
+                    put("filler", bytes(2**20))
+                except OSError:
+                    pass
+                sys.stderr.write("error 10 op=0 task=1")
+                sys.exit(10)
+        """).strip())
+        here = cengmoat.Store(self.disk, program=self.fake_program(fills))
+        t = here.save("t", np.arange(20000, dtype="int32"), 10000)
+        with self.assertRaises(cengmoat.TaskFailed) as found:
+            (t + 1).store("y")
+        for wanted in ("x.store('y') in", "y/c: No space left on device (0 B of 256.00 KiB are free)", "Left of y: 1 of 2 chunks (39.06 KiB)",
+                       "1 files on the way to them (16 B)", "store.remove('y') removes it"):
+            self.assertIn(wanted, str(found.exception))
+        os.unlink(os.path.join(self.disk, "filler"))
+        here.remove("y")
+        with self.assertRaises(cengmoat.TaskFailed) as found:
+            (t + 1).compute()
+        self.assertIn("No space left on device", str(found.exception))
+        self.assertIn("Nothing of it is left.", str(found.exception))
+        self.assertEqual(here.names(), ["t"])
+
+    def test_saving(self) -> None:
+        here = cengmoat.Store(self.disk)
+        with self.assertRaises(cengmoat.StoreFailed) as found:
+            here.save("t", np.zeros(10**6, "int8"), 10**5)
+        self.assertIn("No space left on device", str(found.exception))
+        self.assertIn("Nothing of it is left.", str(found.exception))
+        self.assertEqual((found.exception.key[:4], self.keys(self.disk)), ("t/c/", []))
 
 
 class Replaced(Case):
