@@ -7,7 +7,8 @@ from typing import TYPE_CHECKING, Any, Iterator, Optional
 from . import _build as build, _views as views
 from ._dtypes import DType, NDArray, as_dtype
 from ._operators import Operators
-from ._shapes import ChunksLike, Shape, numblocks, product
+from ._refused import Refused
+from ._shapes import ChunksLike, Shape, numblocks, one_axis, product
 from ._show import array_html, array_text
 
 if TYPE_CHECKING:
@@ -17,7 +18,7 @@ if TYPE_CHECKING:
 API_VERSIONS = ("2021.12", "2022.12")
 
 
-class Array(Operators):
+class Array(Refused, Operators):
     """An array that isn't computed yet.
 
     It is made by a `Store`, by `from_zarr`, by the functions of `cengmoat.array_api`, and by operators on such arrays.
@@ -142,6 +143,45 @@ class Array(Operators):
         """Return the array with its axes in another order, the opposite one where none is given."""
         return Array(views.permute_dims(self.node, tuple(range(self.ndim))[::-1] if axes is None else axes))
 
+    def ravel(self) -> Array:
+        """Return the elements, row by row, along one axis."""
+        return self.reshape(-1)
+
+    flatten = ravel
+
+    def squeeze(self, axis: Any = None) -> Array:
+        """Return the array without axes of size 1, of which a ValueError says where one has another size; all where none is given."""
+        ones = tuple(at for at, size in enumerate(self.shape) if size == 1)
+        return Array(views.squeeze(self.node, ones if axis is None else axis))
+
+    def expand_dims(self, axis: Any) -> Array:
+        """Return the array with axes of size 1 put in, at their places in the result."""
+        axes = axis if isinstance(axis, (tuple, list)) else (axis,)
+        ndim, node = self.ndim + len(axes), self.node
+        for at in sorted(one_axis(it, ndim) for it in axes):
+            node = views.expand_dims(node, at)
+        return Array(node)
+
+    def swapaxes(self, axis1: int, axis2: int) -> Array:
+        """Return the array with two axes exchanged."""
+        order = list(range(self.ndim))
+        one, other = one_axis(axis1, self.ndim), one_axis(axis2, self.ndim)
+        order[one], order[other] = order[other], order[one]
+        return Array(views.permute_dims(self.node, tuple(order)))
+
+    def clip(self, min: Any = None, max: Any = None) -> Array:
+        """Return the lesser of `max` and the greater of `min` and each element; None is no bound."""
+        from ._numpy import clip
+        return clip(self, min, max)
+
+    def copy(self) -> Array:
+        """Return the array: it is never changed."""
+        return self
+
+    def tolist(self) -> Any:
+        """Compute the array and return it as lists."""
+        return self.compute().tolist()
+
     # Reductions. NumPy's own functions call these methods, and hand over `out=None`.
 
     def sum(self, axis: Any = None, *, dtype: Any = None, keepdims: bool = False, out: None = None) -> Array:
@@ -156,7 +196,9 @@ class Array(Operators):
         wanted = None if dtype is None else as_dtype(dtype)
         if wanted is not None and wanted.kind == "b":
             raise TypeError(f"{op} gives integers, and not bool")
-        found = self._reduced(op, axis, keepdims, out)
+        # (truth values are counted, as NumPy counts them)
+        numbers = self.astype("int8") if self.dtype.kind == "b" else self
+        found = numbers._reduced(op, axis, keepdims, out)
         return found if wanted is None else found.astype(wanted)
 
     def _reduced(self, op: str, axis: Any, keepdims: bool, out: None) -> Array:

@@ -50,6 +50,9 @@ def operand(value: Any) -> Any:
     check_unmasked(value)
     if isinstance(value, np.ndarray):
         return as_literal(value[()]) if value.ndim == 0 else memory_node(value)
+    if type(value).__module__.partition(".")[0] == "dask":
+        raise TypeError("an array of Dask and a lazy one of Cengmoat don't go together: convert one. store.save(name, array, chunks) stores Dask's;"
+                        " x.compute() computes the other")
     if value is None or isinstance(value, (float, complex, np.inexact, str, bytes)):
         as_literal(value)
     return NotImplemented
@@ -82,14 +85,22 @@ class Operators:
     """The operators of an array whose expression is `node`."""
 
     __slots__ = ("node",)
-    # NumPy's functions leave operators with such an array to it, and compute nothing by themselves.
-    __array_ufunc__ = None
     __hash__ = None  # type: ignore[assignment]
 
     node: Node
 
     def __init__(self, node: Node) -> None:
         self.node = node
+
+    def __array_ufunc__(self, ufunc: np.ufunc, method: str, *inputs: Any, **options: Any) -> Any:
+        """Return what a ufunc of NumPy gives: a lazy array, or a refusal that says what to write."""
+        from ._numpy import call_ufunc
+        return call_ufunc(ufunc, method, inputs, options)
+
+    def __array_function__(self, function: Any, types: Any, args: Any, options: Any) -> Any:
+        """Return what a function of NumPy gives: a lazy array, or a refusal that says what to write."""
+        from ._numpy import call_function
+        return call_function(function, args, dict(options))
 
     @property
     def _data(self) -> NDArray:
@@ -126,6 +137,12 @@ class Operators:
 
     def __rmod__(self: Self, other: Any) -> Self:
         return _binary("remainder", other, self)
+
+    def __divmod__(self: Self, other: Any) -> tuple[Self, Self]:
+        return self // other, self % other
+
+    def __rdivmod__(self: Self, other: Any) -> tuple[Self, Self]:
+        return other // self, other % self
 
     def __and__(self: Self, other: Any) -> Self:
         return _binary("bitwise_and", self, other)

@@ -88,7 +88,7 @@ class EachType(WithProgram):
         for dtype in TYPES:
             x, _, left, _ = self.pair(dtype)
             for name, axis in itertools.product(("sum", "prod", "min", "max", "any", "all", "argmin", "argmax"), (None, 0, 1)):
-                if dtype == "bool" and name not in ("any", "all"):
+                if dtype == "bool" and name not in ("any", "all", "sum", "prod"):
                     self.assertRaises(TypeError, getattr(xp, name), x)
                     continue
                 with self.subTest(name, dtype=dtype, axis=axis):

@@ -214,11 +214,11 @@ class BadInput(Case):
                      lambda: bool(x), lambda: int(x), lambda: xp.ones(3, dtype="int8").store("made"), lambda: xp.squeeze(x, 1)):
             self.assertRaises(ValueError, call)
         for call in (lambda: x + 0.5, lambda: x + True, lambda: truth + truth, lambda: x & truth, lambda: xp.logical_and(x, x), lambda: x + "a",
-                     lambda: truth.sum(), lambda: x.astype("text"), lambda: x.astype(None), lambda: xp.where(x, x, x), lambda: x.sum(axis=0.5),
+                     lambda: x.astype("text"), lambda: x.astype(None), lambda: xp.where(x, x, x), lambda: x.sum(axis=0.5),
                      lambda: x == 0.5, lambda: x == "a", lambda: x < None, lambda: x.sum(keepdims=1), lambda: xp.add(1, 2), lambda: x + [1, 2],
                      lambda: xp.sum([1, 2]), lambda: x.astype("uint64") + x, lambda: truth < truth, lambda: -truth, lambda: x.argmax(axis=(0,)),
                      lambda: hash(x), lambda: xp.sum(x, dtype="bool"), lambda: cengmoat.compute(3), lambda: cengmoat.to_zarr(3, "a"),
-                     lambda: len(x.sum()), lambda: xp.arange(3, dtype="bool"), lambda: truth @ truth, lambda: range(x), lambda: np.add(x, 1), lambda: list(x.sum())):
+                     lambda: len(x.sum()), lambda: xp.arange(3, dtype="bool"), lambda: truth @ truth, lambda: range(x), lambda: list(x.sum())):
             self.assertRaises(TypeError, call)
         with self.assertRaises(TypeError):
             x[0] = 1  # type: ignore[index]
