@@ -2,7 +2,7 @@
 from __future__ import annotations
 
 import json
-from dataclasses import dataclass, field
+from dataclasses import dataclass, field, replace
 from typing import Any, Iterator, Mapping, Optional
 
 import numpy as np
@@ -79,6 +79,10 @@ class Metadata:
     def stored_dtype(self) -> DType:
         """The type in the byte order of the files."""
         return self.dtype.newbyteorder(">" if self.is_big else "<")
+
+    def plain(self) -> Metadata:
+        """Return the layout without names of axes and attributes, as a record of a run has it."""
+        return replace(self, dimensions=None, attributes={})
 
     def coordinates(self) -> Iterator[Shape]:
         """Go over the coordinates of all chunks, row by row."""

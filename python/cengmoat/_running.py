@@ -30,6 +30,8 @@ if TYPE_CHECKING:
 
 # The bytes of a record: an expression of at most 1 MiB, and what stands around it.
 MOST_RECORD = 2**22
+# The versions of plans that a record may have.
+VERSIONS = (2, 3)
 # The characters of an expression before a bar, about.
 LABEL = 32
 
@@ -191,10 +193,11 @@ def _check_record(store: Store, graph: Graph, name: str) -> None:
         held = json.loads(text)
     except (ValueError, RecursionError):
         held = None
-    asked = {"allowed": store.allowed_mem, "expr": json.loads(graph.text(name)), "reserved": store.reserved_mem,
-             "split_every": store.split_every}
-    texts = [json.dumps({member: it.get(member) for member in asked} if isinstance(it, dict) else it, sort_keys=True, separators=(",", ":"))
-             for it in (held, asked)]
+    is_record = isinstance(held, dict) and held.get("cubed") in VERSIONS
+    asked = {"allowed": store.allowed_mem, "cubed": held["cubed"] if is_record else VERSIONS[0], "expr": json.loads(graph.text(name)),
+             "inputs": {its: json.loads(meta.plain().text()) for its, meta in _layouts(store, graph).items()},
+             "reserved": store.reserved_mem, "split_every": store.split_every}
+    texts = [json.dumps(it, sort_keys=True, separators=(",", ":")) for it in (held, asked)]
     if texts[0] != texts[1]:
         raise OtherPlan(place=len(os.path.commonprefix(texts)), advice=f"{name} was begun as another expression or with other options:"
                         f" store.remove({name!r}) removes it.")

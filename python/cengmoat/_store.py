@@ -48,8 +48,8 @@ class Store(Mapping[str, Array]):
         The path of the program; else it is found beside the package, in CENGMOAT_CUBED, or on the path.
     allowed_mem, reserved_mem : int or str
         The bytes that a task may need, and how many of them are set aside: 200000000, "2GB", "64MiB".
-    workers : int
-        How many tasks run at once, from 1 to 64.
+    workers : int, optional
+        How many tasks run at once, from 1 to 64; else one for each processor that the process may use.
     retries : int
         How often a call or a task that failed is tried again, from 0 to 8.
     split_every : int
@@ -69,11 +69,11 @@ class Store(Mapping[str, Array]):
     """
 
     def __init__(self, folder: Union[str, os.PathLike[str]], program: Optional[str] = None, allowed_mem: Union[int, str] = "200MB",
-                 reserved_mem: Union[int, str] = 0, workers: int = 1, retries: int = 2, split_every: int = 4) -> None:
+                 reserved_mem: Union[int, str] = 0, workers: Optional[int] = None, retries: int = 2, split_every: int = 4) -> None:
         self.folder = os.path.abspath(os.path.expanduser(os.fspath(folder)))
         self.allowed_mem = as_bytes(allowed_mem, "allowed_mem")
         self.reserved_mem = as_bytes(reserved_mem, "reserved_mem")
-        self.workers = _count(workers, 1, 64, "workers")
+        self.workers = min(64, len(os.sched_getaffinity(0))) if workers is None else _count(workers, 1, 64, "workers")
         self.retries = _count(retries, 0, 8, "retries")
         self.split_every = _count(split_every, 2, 64, "split_every")
         self.report: Optional[Report] = None

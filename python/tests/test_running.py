@@ -203,8 +203,16 @@ class Words(Case):
                                 f"{here.folder} check --retries 1"])
         os.unlink(path)
         self.assertRaises(cengmoat.NoMemory, (self.store(program=here.program)["t"] + 1).store, "y")
+        processors = len(os.sched_getaffinity(0))
         with open(path, encoding="utf-8") as file:
-            self.assertEqual(file.read(), f"{here.folder} run --allowed-mem 200000000 --reserved-mem 0 --split-every 4 --retries 2\n")
+            self.assertEqual(file.read(), f"{here.folder} run --allowed-mem 200000000 --reserved-mem 0 --split-every 4 --retries 2"
+                             f"{f' --workers {processors}' if processors > 1 else ''}\n")
+
+    def test_workers_are_the_processors_that_the_process_may_use(self) -> None:
+        code = "import os, cengmoat; os.sched_setaffinity(0, [min(os.sched_getaffinity(0))]); print(cengmoat.Store('x').workers, cengmoat.Store('x', workers=3).workers)"
+        said = subprocess.run([sys.executable, "-c", code], env={**os.environ, "PYTHONPATH": PYTHON}, capture_output=True, text=True)
+        self.assertEqual(said.stdout.split(), ["1", "3"], said.stderr)
+        self.assertEqual(self.store().workers, min(64, len(os.sched_getaffinity(0))))
 
 
 class Programs(Case):
@@ -299,6 +307,23 @@ class Unfinished(WithProgram):
         self.same(self.y.store("y", resume=True).compute(), self.exact)
         self.same(self.y.store("new", resume=True).compute(), self.exact)
         self.assertTrue(all(it.is_finished for it in self.here.status()))
+
+    def test_a_whole_result_is_taken_up_without_the_program(self) -> None:
+        other = self.store()
+        folder = os.path.join(self.here.folder, "old")
+        os.makedirs(folder)
+        with open(os.path.join(folder, ".zarray"), "w", encoding="utf-8") as file:
+            file.write('{"chunks":[2],"compressor":null,"dtype":">i4","fill_value":-1,"filters":null,"order":"C","shape":[4],"zarr_format":2}')
+        old = other["old"]
+        for name, lazy in (("one", self.t * 2 + 1), ("two", old + self.t), ("three", self.t + np.array([1, 2, 3, 4], "int32"))):
+            exact = lazy.store(name, other).compute()
+            other._program = self.fake_program("sys.exit(70)")
+            self.same(lazy.store(name, other, resume=True).compute(), exact)
+            self.assertRaises(cengmoat.OtherPlan, (lazy + 1).store, name, other, resume=True)
+            other._program = PROGRAM
+        other.remove("old", inputs=True)
+        self.here.save("old", np.array([1, 2, 3, 4], "int32"))
+        self.assertRaises(cengmoat.OtherPlan, (other["old"] + self.t).store, "two", other, resume=True)
 
     def test_with_an_array_in_memory(self) -> None:
         def lazy() -> Any:

@@ -25,7 +25,8 @@ def put(key, data):
         file.write(data)
 if words[1] == "run":
     meta = open(os.path.join(words[0], "t", "zarr.json"), "rb").read()
-    put(f"_cubed/{name}/plan.json", json.dumps({"allowed": 200000000, "expr": job, "reserved": 0, "split_every": 4}).encode())
+    put(f"_cubed/{name}/plan.json", json.dumps({
+        "allowed": 200000000, "cubed": 2, "expr": job, "inputs": {"t": json.loads(meta)}, "reserved": 0, "split_every": 4}).encode())
     put(f"_cubed/{name}/0/c/0", bytes(16))
     put(f"{name}/zarr.json", meta)
     put(f"{name}/c/0", bytes([7, 0, 0, 0] * 4))
