@@ -2,9 +2,10 @@
 from __future__ import annotations
 
 from types import ModuleType
-from typing import TYPE_CHECKING, Any, Iterator, Optional
+from typing import TYPE_CHECKING, Any, Iterator, Literal, Optional, Union, overload
 
 from . import _build as build, _views as views
+from ._collection import Collection
 from ._dtypes import DType, NDArray, as_dtype
 from ._operators import Operators
 from ._refused import Refused
@@ -18,7 +19,7 @@ if TYPE_CHECKING:
 API_VERSIONS = ("2021.12", "2022.12")
 
 
-class Array(Refused, Operators):
+class Array(Refused, Collection, Operators):
     """An array that isn't computed yet.
 
     It is made by a `Store`, by `from_zarr`, by the functions of `cengmoat.array_api`, and by operators on such arrays.
@@ -45,14 +46,19 @@ class Array(Refused, Operators):
         return self.node.shape
 
     @property
-    def chunks(self) -> Shape:
+    def chunksize(self) -> Shape:
         """The size of a chunk on each axis, in elements."""
         return self.node.chunks
 
     @property
+    def chunks(self) -> tuple[Shape, ...]:
+        """The size of each chunk along each axis, as Dask and xarray have it; all but the last are `chunksize`."""
+        return tuple(tuple(min(side, size - start) for start in range(0, size, side)) or (0,) for size, side in zip(self.shape, self.chunksize))
+
+    @property
     def numblocks(self) -> Shape:
         """The count of chunks on each axis."""
-        return numblocks(self.shape, self.chunks)
+        return numblocks(self.shape, self.chunksize)
 
     @property
     def ndim(self) -> int:
@@ -127,12 +133,30 @@ class Array(Refused, Operators):
     def __getitem__(self, key: Any) -> Array:
         return Array(views.index(self.node, key))
 
-    def astype(self, dtype: Any, *, copy: bool = True) -> Array:
-        """Return the array in another type: each number is wrapped to it, and 0 becomes false and all else true."""
+    @overload
+    def astype(self, dtype: Any, order: Literal["K", "A"] = "K", casting: str = "unsafe", subok: bool = True, copy: bool = True) -> Array: ...
+
+    @overload
+    def astype(self, dtype: Any, order: Literal["C", "F"], casting: str = "unsafe", subok: bool = True, copy: bool = True) -> NDArray: ...
+
+    def astype(self, dtype: Any, order: Literal["K", "A", "C", "F"] = "K", casting: str = "unsafe", subok: bool = True,
+               copy: bool = True) -> Union[Array, NDArray]:
+        """Return the array in another type: each number is wrapped to it, and 0 becomes false and all else true.
+
+        The other parameters are NumPy's. An order "C" or "F" is one of an array in memory, as zarr wants a chunk that it writes:
+        then the array is computed. `casting` is "unsafe".
+        """
+        if casting != "unsafe":
+            raise TypeError(f"astype wraps each number, which is casting='unsafe', and not {casting!r}")
+        if order in ("C", "F"):
+            return self.compute().astype(as_dtype(dtype), order)
         return Array(build.astype(self.node, as_dtype(dtype)))
 
     def rechunk(self, chunks: ChunksLike) -> Array:
-        """Return the array in other chunks: a size for all axes, one for each, or a mapping; -1 means the whole axis."""
+        """Return the array in other chunks: a size for all axes, one for each, or a mapping; -1 means the whole axis.
+
+        The sizes of all chunks of an axis are taken too, as `chunks` has them, if all but the last are alike.
+        """
         return Array(views.rechunk(self.node, chunks))
 
     def reshape(self, *shape: Any) -> Array:

@@ -7,7 +7,7 @@ from typing import TYPE_CHECKING, Any, Callable, Iterable, Optional, Sequence
 import numpy as np
 
 from . import _build as build, _views as views
-from ._dtypes import BOOL, as_int
+from ._dtypes import BOOL, as_int, as_literal
 from ._nodes import Node
 from ._refused import WAYS, refuse
 from ._shapes import one_axis
@@ -180,6 +180,68 @@ def _round(a: Any, decimals: int = 0) -> Array:
     return _namespace().round(_array(_node(a)))
 
 
+def _stand_in(node: Node) -> Any:
+    """Return an array in memory that NumPy promotes as it would the lazy one: of a written number it looks at the value."""
+    if node.op == "full" and not node.shape:
+        return np.array(node.members["value"], node.dtype)
+    return np.empty((0,) * max(1, len(node.shape)), node.dtype)
+
+
+def _labels(text: str, ndim: int) -> list[str]:
+    """Return a label for each axis of an operand of `einsum`; those of an ellipsis count from the last."""
+    head, dots, tail = text.partition("...")
+    rest = ndim - len(head) - len(tail)
+    if rest < 0 or (rest and not dots):
+        raise ValueError(f"einsum: {text!r} isn't of {ndim} axes")
+    return [*head, *(f".{at}" for at in reversed(range(rest))), *tail]
+
+
+def _einsum(subscripts: str, *operands: Any, **options: Any) -> Array:
+    """Return products of elements, summed over the labels that the result hasn't; exact, and wrapped to the common type."""
+    left, arrow, right = subscripts.replace(" ", "").partition("->")
+    nodes = [_node(it) for it in operands]
+    texts = left.split(",")
+    if not arrow or len(texts) != len(nodes) or not set(options) <= {"optimize"}:
+        refuse("einsum")
+    labels = [_labels(text, len(node.shape)) for text, node in zip(texts, nodes)]
+    dots = max((label for it in labels for label in it if label[0] == "."), key=lambda label: int(label[1:]), default="")
+    out = _labels(right, len(right.replace("...", "")) + (int(dots[1:]) + 1 if dots and "..." in right else 0))
+    order = [*out, *dict.fromkeys(label for it in labels for label in it if label not in out)]
+    if any(len(set(it)) != len(it) for it in [*labels, out]) or len(order) > 6 or any(node.dtype == BOOL for node in nodes):
+        refuse("einsum")
+    found = _array(_spread(nodes[0], labels[0], order))
+    for node, its in zip(nodes[1:], labels[1:]):
+        found = found * _array(_spread(node, its, order))
+    summed = tuple(range(len(out), len(order)))
+    return found.sum(summed).astype(found.dtype) if summed else found
+
+
+def _spread(node: Node, labels: Sequence[str], order: Sequence[str]) -> Node:
+    """Return an operand with its axes in an order of labels, and axes of size 1 where it hasn't one."""
+    node = views.permute_dims(node, tuple(labels.index(label) for label in order if label in labels))
+    for at, label in enumerate(order):
+        if label not in labels:
+            node = views.expand_dims(node, at)
+    return node
+
+
+def _pad(array: Any, pad_width: Any, mode: str = "constant", constant_values: Any = 0) -> Array:
+    """Return an array with so many elements of one value before and behind it along each axis."""
+    node = _node(array)
+    if hasattr(pad_width, "node") or hasattr(constant_values, "node"):
+        raise TypeError("numpy.pad: pad_width and constant_values are numbers, and not lazy arrays")
+    value = np.asarray(constant_values)
+    if mode != "constant" or value.size != 1:
+        refuse("pad")
+    widths = np.broadcast_to(np.asarray(pad_width, "int64"), (len(node.shape), 2)).tolist()
+    for at, (before, behind) in enumerate(widths):
+        parts = [node if count is None else
+                 views.full((*node.shape[:at], count, *node.shape[at + 1:]), as_literal(value.reshape(())[()]), node.dtype, node.chunks)
+                 for count in (before, None, behind) if count != 0]
+        node = views.concat(parts, at)
+    return _array(node)
+
+
 def _known() -> dict[Any, Callable[..., Any]]:
     """Return what stands for each function of NumPy."""
     def turned(a: Any, axes: Any = None) -> Array:
@@ -204,7 +266,8 @@ def _known() -> dict[Any, Callable[..., Any]]:
         np.count_nonzero: lambda a, axis=None, *, keepdims=False: _truth(a).sum(axis, keepdims=keepdims),
         np.copy: lambda a: _array(_node(a)), np.shape: lambda a: a.shape, np.ndim: lambda a: a.ndim,
         np.size: lambda a, axis=None: a.size if axis is None else a.shape[axis], np.iscomplexobj: lambda x: False, np.isrealobj: lambda x: True,
-        np.result_type: lambda *them: np.result_type(*(it.dtype if hasattr(it, "node") else it for it in them)),
+        np.result_type: lambda *them: np.result_type(*(_stand_in(it.node) if hasattr(it, "node") else it for it in them)),
+        np.einsum: _einsum, np.pad: _pad,
         np.can_cast: lambda from_, to, casting="safe": np.can_cast(from_.dtype, to, casting), np.isreal: lambda x: _namespace().ones_like(x, dtype="bool"),
     }
     return found

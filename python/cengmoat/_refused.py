@@ -1,7 +1,7 @@
 """Methods of NumPy's arrays that lazy arrays haven't: each says at the call what to write in its place, and computes nothing."""
 from __future__ import annotations
 
-from typing import Any, Callable, NoReturn
+from typing import Any, Callable, NoReturn, Optional
 
 _FLOATS = "the program has integers of 8 to 64 bits and truth values, and no floats"
 _VALUES = "the shape would depend on values"
@@ -49,6 +49,17 @@ def _method(name: str) -> Callable[..., NoReturn]:
 
     refused.__name__ = refused.__qualname__ = name
     refused.__doc__ = f"Refuse, by NotImplementedError, with what to write in place of {name}."
+    return refused
+
+
+def function(name: str) -> Optional[Callable[..., NoReturn]]:
+    """Return the function of NumPy that is refused under a name, or None where there is none."""
+    if name not in WAYS:
+        return None
+
+    def refused(*args: Any, **kwargs: Any) -> NoReturn:
+        refuse(name)
+
     return refused
 
 

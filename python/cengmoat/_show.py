@@ -15,7 +15,7 @@ def _name(node: Node) -> str:
 
 def array_text(node: Node) -> str:
     """Return one line on a lazy array: what it is, shape, type, chunks, bytes and operations."""
-    return (f"cengmoat.Array<{_name(node)}, shape={node.shape}, dtype={node.dtype}, chunks={node.chunks},"
+    return (f"cengmoat.Array<{_name(node)}, shape={node.shape}, dtype={node.dtype}, chunksize={node.chunks},"
             f" nbytes={bytes_text(product(node.shape) * node.dtype.itemsize)}, operations={operations(node)}>")
 
 

@@ -25,13 +25,14 @@ np.moveaxis(x, 0, -1) ; np.reshape(x, (3, 8)) ; np.ravel(x) ; x.ravel() ; x.flat
 np.flip(x) ; np.flip(x, 0) ; np.fliplr(x) ; np.roll(x, 2, axis=1) ; np.roll(x, 3) ; np.broadcast_to(y, (2, 6)) ; np.tril(x) ; np.triu(x, 1)
 np.matmul(x, y) ; np.dot(x, y) ; np.dot(y, y) ; np.zeros_like(x) ; np.ones_like(x) ; np.full_like(x, 7) ; np.copy(x) ; np.add.reduce(x) ; np.add.reduce(x, axis=1)
 np.maximum.reduce(x, axis=1) ; x.swapaxes(0, 1) ; x.squeeze() ; np.around(x) ; np.int16(3) + x ; y[0] * x ; np.tensordot(x, y, axes=1) ; np.isnan(x) ; np.isfinite(x)
-divmod(x, 5)[0] ; divmod(x, 5)[1] ; divmod(7, x)[1] ; np.divmod(x, y)[0]
+np.einsum('ab,b->a', x, y) ; np.einsum('...b,...b->...', x, x) ; np.einsum('ab,bc->ac', x, x.T) ; np.einsum('ab->b', x) ; np.pad(x, 1)
+np.pad(x, ((0, 0), (2, 1)), constant_values=-3) ; np.einsum('a,b->ba', y, y) ; divmod(x, 5)[0] ; divmod(x, 5)[1] ; divmod(7, x)[1] ; np.divmod(x, y)[0]
 t.sum() ; t.sum(axis=0) ; (x > 3).sum(axis=1, keepdims=True) ; t.prod() ; t.sum(dtype='int32') ; np.arange(6, dtype='int32') - x ; np.arange(6, dtype='int32') == x"""
 REFUSED = """np.mean(x) ; x.mean() ; x.mean(axis=0) ; np.std(x) ; x.std() ; np.var(x) ; x.var(ddof=1) ; np.median(x) ; x.median() ; np.take(x, [0, 1]) ; x.take([0, 1])
 np.cumsum(x) ; x.cumsum(axis=0) ; np.cumprod(x) ; np.sort(x) ; x.sort() ; np.argsort(x) ; x.argsort() ; np.unique(x) ; np.nonzero(x) ; x.nonzero() ; np.where(t)
 np.percentile(x, 5) ; np.quantile(x, 0.5) ; x.quantile(0.5) ; np.average(x) ; np.repeat(x, 2) ; x.repeat(2) ; np.searchsorted(x[0], 3) ; np.trace(x) ; x.diagonal()
 np.sin(x) ; np.sqrt(x) ; np.true_divide(x, 2) ; np.power(x, 2) ; np.linalg.det(x) ; np.fft.fft(x) ; np.array_equal(x, x) ; np.add.accumulate(x) ; np.multiply.outer(x, x)
-np.cov(x) ; np.histogram(x) ; np.bincount(x[0]) ; np.interp(x, y, y) ; np.pad(x, 1) ; np.tile(x, 2) ; np.around(x, -1) ; np.ptp(x) ; x.ptp()"""
+np.cov(x) ; np.histogram(x) ; np.bincount(x[0]) ; np.interp(x, y, y) ; np.pad(x, 1, mode='edge') ; np.tile(x, 2) ; np.around(x, -1) ; np.ptp(x) ; x.ptp()"""
 WRONG = """np.add(x, 1, dtype='int8') ; np.add(x, 1, where=t) ; np.add(e, x, out=e) ; np.sum(x, initial=3) ; np.sum(x, where=t) ; np.multiply(x, 0.5) ; np.float64(2) * x
 np.sum(x, out=e) ; np.logical_and(x, y) ; np.add(x, 'a') ; np.zeros_like(x, shape=(3,))"""
 

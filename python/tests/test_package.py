@@ -41,7 +41,7 @@ class Types(Case):
                 e: cengmoat.Array = xp.where(d, t, 0).sum(axis=0, keepdims=True)
                 f: cengmoat.Array = e.store("f")
                 g = f.compute()
-                h: cengmoat.Array = -abs(~t) @ t.T
+                h: cengmoat.Array = -abs(~t) @ t.T.astype("int64")
                 i: int = t.check("i")
                 j: cengmoat.Array = t + np.arange(3)
                 k: str = store.status()["t"].state

@@ -25,7 +25,7 @@ class Saving(Case):
             data = data.astype(dtype).reshape(shape)
             chunks = tuple(pick.randint(1, size + 2) for size in shape)
             lazy = store.save(f"a{number}", data, chunks)
-            self.assertEqual((lazy.dtype, lazy.shape, lazy.chunks), (data.dtype, shape, chunks))
+            self.assertEqual((lazy.dtype, lazy.shape, lazy.chunksize), (data.dtype, shape, chunks))
             self.same(store.read(f"a{number}"), data)
             key = tuple(pick.choice([slice(None), slice(pick.randint(-9, 9), pick.randint(-9, 9), pick.choice([-3, -2, -1, 1, 2])),
                                      *([pick.randint(-size, size - 1)] if size else [])]) for size in shape)
@@ -113,7 +113,7 @@ class Saving(Case):
         with open(os.path.join(folder, "v", "0.1"), "wb") as file:
             file.write(np.array([5, 99], ">i2").tobytes())
         self.same(cengmoat.Store(folder).read("v"), np.array([[-7, -7, 5], [-7, -7, -7]], "int16"))
-        self.assertEqual(cengmoat.from_zarr(folder, "v").chunks, (1, 2))
+        self.assertEqual(cengmoat.from_zarr(folder, "v").chunksize, (1, 2))
         self.assertEqual(cengmoat.Store(folder).status()["v"].stored, 1)
 
     def test_version_2_is_read_where_there_is_no_version_3(self) -> None:
@@ -236,22 +236,22 @@ class Known(Case):
     def test_attributes(self) -> None:
         x = self.store().save("t", np.zeros((5, 7), "int16"), (2, 3))
         y = x.astype("int64").sum(axis=0)
-        self.assertEqual((x.shape, x.chunks, x.numblocks, x.ndim, x.size, x.nbytes, len(x)), ((5, 7), (2, 3), (3, 3), 2, 35, 70, 5))
-        self.assertEqual((y.shape, y.chunks, y.numblocks, y.nbytes), ((7,), (3,), (3,), 56))
-        self.assertEqual(repr(y), "cengmoat.Array<sum, shape=(7,), dtype=int64, chunks=(3,), nbytes=56 B, operations=2>")
-        self.assertEqual(repr(x), "cengmoat.Array<t, shape=(5, 7), dtype=int16, chunks=(2, 3), nbytes=70 B, operations=0>")
+        self.assertEqual((x.shape, x.chunksize, x.numblocks, x.ndim, x.size, x.nbytes, len(x)), ((5, 7), (2, 3), (3, 3), 2, 35, 70, 5))
+        self.assertEqual((y.shape, y.chunksize, y.numblocks, y.nbytes), ((7,), (3,), (3,), 56))
+        self.assertEqual(repr(y), "cengmoat.Array<sum, shape=(7,), dtype=int64, chunksize=(3,), nbytes=56 B, operations=2>")
+        self.assertEqual(repr(x), "cengmoat.Array<t, shape=(5, 7), dtype=int16, chunksize=(2, 3), nbytes=70 B, operations=0>")
         for said in ("70 B", "(5, 7)", "(2, 3)", "9 chunks", "int16", "0 operations"):
             self.assertIn(said, x._repr_html_())
 
     def test_chosen_chunks(self) -> None:
         for shape, dtype in (((4096, 4096), "int64"), ((10**6, 300), "int8"), ((3,), "int8"), ((0, 5), "int8"), ((2**20, 2**20), "int8")):
             x = xp.zeros(shape, dtype=dtype)
-            chunk = int(np.prod(x.chunks)) * x.itemsize
+            chunk = int(np.prod(x.chunksize)) * x.itemsize
             self.assertLessEqual(chunk, 2**28)
             self.assertLessEqual(int(np.prod(x.numblocks)), 65_536)
             if x.nbytes <= 2**37:
                 self.assertLessEqual(chunk, 16 * 2**20)
-        self.assertEqual(xp.zeros((4, 6), dtype="int8", chunks=(-1, 2)).chunks, (4, 2))
+        self.assertEqual(xp.zeros((4, 6), dtype="int8", chunks=(-1, 2)).chunksize, (4, 2))
 
     def test_chunks_of_results(self) -> None:
         """What the guide says of the chunks of each kind of result."""
@@ -271,7 +271,7 @@ class Known(Case):
             ("matmul of many", x[None] @ xp.broadcast_to(x.T, (5, 6, 4), chunks=(2, 4, 3)), (2, 3, 3)),
             ("rechunk", x.rechunk((-1, 2)), (4, 2)), ("rechunk", x.rechunk({-1: 5}), (3, 5)), ("rechunk", x.rechunk(9), (9, 9)),
         ]:
-            self.assertEqual(lazy.chunks, wanted, said)
+            self.assertEqual(lazy.chunksize, wanted, said)
 
     def test_expressions_are_said(self) -> None:
         t, o = (self.store().save(name, np.ones((2, 3), "int8")) for name in "to")
