@@ -20,24 +20,29 @@ RECORD = re.compile(r"plan\.json(\.new[0-9]+)?\Z")
 MOST_TEXT = 1_048_576
 
 
-def _files_under(path: str) -> tuple[list[str], list[str]]:
-    """Return the files below a folder, and the links to folders in it, which aren't followed; the paths are relative to it.
+class _Under:
+    """What lies below a folder, listed once: its files, the links to folders, which aren't followed, and the folders, outer ones first.
 
-    Raises
-    ------
-    OSError
-        Where a folder can't be read.
+    The paths are relative to the folder. An OSError says where a folder can't be read.
     """
-    def fail(error: OSError) -> None:
-        raise error
 
-    found: list[str] = []
-    links: list[str] = []
-    for at, folders, files in os.walk(path, onerror=fail):
-        head = "" if at == path else os.path.relpath(at, path) + "/"
-        found += [head + name for name in files]
-        links += [head + name for name in folders if os.path.islink(os.path.join(at, name))]
-    return sorted(found), sorted(links)
+    def __init__(self, path: str) -> None:
+        self.files: list[str] = []
+        self.links: list[str] = []
+        self.folders: list[str] = []
+        waiting = [""]
+        while waiting:
+            head = waiting.pop()
+            self.folders.append(head)
+            with os.scandir(os.path.join(path, head)) as entries:
+                for entry in entries:
+                    if entry.is_dir(follow_symlinks=False):
+                        waiting.append(f"{head}{entry.name}/")
+                    else:
+                        is_far = entry.is_symlink() and os.path.isdir(entry.path)
+                        (self.links if is_far else self.files).append(head + entry.name)
+        self.files.sort()
+        self.links.sort()
 
 
 class Removal:
@@ -61,6 +66,7 @@ class Removal:
         self.path, self.between = os.path.join(folder, name), os.path.join(folder, "_cubed", name)
         self.keys: list[str] = []
         self.kept: list[str] = []
+        self.folders: list[str] = []
         self.is_link = os.path.islink(self.path)
         self.has_record = os.path.lexists(os.path.join(folder, record_key(name)))
         try:
@@ -80,17 +86,22 @@ class Removal:
         if self.is_link:
             self.keys.append(self.name)
         elif os.path.isdir(self.path):
-            files, links = _files_under(self.path)
+            under = _Under(self.path)
+            files, links = under.files, under.links
+            self.folders += [os.path.join(self.path, head) for head in under.folders]
             ours = [key for key in files if CHUNK.match(key) or STOPPED.match(key)]
             self.keys += [f"{self.name}/{key}" for key in [*(key for key in METADATA if key in files), *ours]]
-            self.kept += [f"{self.name}/{key}" for key in [*files, *links] if key not in {*METADATA, *ours}]
+            known = {*METADATA, *ours}
+            self.kept += [f"{self.name}/{key}" for key in [*files, *links] if key not in known]
 
     def _find_between(self) -> None:
         head = f"_cubed/{self.name}"
         if os.path.islink(self.between):
             self.keys.append(head)
         elif os.path.isdir(self.between):
-            files, links = _files_under(self.between)
+            under = _Under(self.between)
+            files, links = under.files, under.links
+            self.folders += [os.path.join(self.between, head) for head in under.folders]
             self.keys += [f"{head}/{key}" for key in files if BETWEEN.match(key)]
             # (what a stopped write of it left goes before the record itself)
             self.keys += [f"{head}/{key}" for key in sorted(files, reverse=True) if RECORD.match(key)]
@@ -148,16 +159,14 @@ class Removal:
                 continue
             except OSError as error:
                 raise told(key, error) from None
-        for path in (self.path, self.between):
-            if not os.path.islink(path):
-                _remove_empty(path)
+        _remove_empty(self.folders)
 
 
-def _remove_empty(path: str) -> None:
-    """Remove a folder and those below it, where they are empty."""
-    for at, _, _ in os.walk(path, topdown=False):
+def _remove_empty(folders: list[str]) -> None:
+    """Remove folders, which are given outer ones first, where they are empty."""
+    for path in reversed(folders):
         with contextlib.suppress(OSError):
-            os.rmdir(at)
+            os.rmdir(path)
 
 
 def remove_between(folder: str, name: str) -> int:
@@ -166,14 +175,13 @@ def remove_between(folder: str, name: str) -> int:
     if os.path.islink(head) or not os.path.isdir(head):
         return 0
     with contextlib.suppress(OSError):
-        for key in _files_under(head)[0]:
+        under = _Under(head)
+        for key in under.files:
             if BETWEEN.match(key):
                 path = os.path.join(head, key)
                 count += os.lstat(path).st_size
                 os.unlink(path)
-        for entry in os.scandir(head):
-            if entry.is_dir(follow_symlinks=False):
-                _remove_empty(entry.path)
+        _remove_empty([os.path.join(head, it) for it in under.folders[1:]])
     return count
 
 

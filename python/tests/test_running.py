@@ -335,6 +335,34 @@ class Unfinished(WithProgram):
         self.assertEqual(self.here.names(), ["m", "t", "y"])
 
 
+class Counts(Case):
+    def test_an_input_is_known_to_be_finished_by_one_listing(self) -> None:
+        """No chunk of an input of 1,000 chunks is looked at: its folder is listed once, and its record and metadata are read."""
+        text = "print('equal 1000')"
+        here = self.store(program=self.fake_program(text))
+        y = here.save("y", np.arange(1000, dtype="int8"), 1)
+        os.makedirs(os.path.join(here.folder, "_cubed", "y"))
+        with open(os.path.join(here.folder, "_cubed", "y", "plan.json"), "w", encoding="utf-8"):
+            pass
+        asked: list[str] = []
+        before = os.stat, os.scandir, os.open
+
+        def counting(call: Any) -> Any:
+            def counted(path: Any, *args: Any, **options: Any) -> Any:
+                if isinstance(path, str) and path.startswith(os.path.join(here.folder, "y")):
+                    asked.append(path)
+                return call(path, *args, **options)
+            return counted
+
+        os.stat, os.scandir, os.open = map(counting, before)  # type: ignore[assignment]
+        try:
+            (y + 1).check("y")
+        finally:
+            os.stat, os.scandir, os.open = before
+        self.assertLess(len(asked), 12, asked)
+        self.assertEqual(sum(path.endswith("y/c") for path in asked), 2)
+
+
 class Running(WithProgram):
     def setUp(self) -> None:
         super().setUp()
@@ -360,7 +388,7 @@ class Running(WithProgram):
 
     def test_storing(self) -> None:
         stored = cengmoat.to_zarr(self.t.T, "turned")
-        self.assertEqual((stored.node.op, stored.shape, stored.chunks), ("input", (6, 5), (4, 2)))
+        self.assertEqual((stored.node.op, stored.shape, stored.chunksize), ("input", (6, 5), (4, 2)))
         self.assertEqual(self.here.report.ops, 1)
         self.same(self.here.read("turned", (slice(1, None, 2), -1)), self.data.T[1::2, -1])
         self.same(cengmoat.from_zarr(self.here.folder, "turned", program=PROGRAM).compute(), self.data.T)
