@@ -7,6 +7,7 @@ from typing import TYPE_CHECKING, Any, Iterator, Literal, Optional, Union, overl
 from . import _build as build, _views as views
 from ._collection import Collection
 from ._dtypes import DType, NDArray, as_dtype
+from ._labels import labels_of
 from ._operators import Operators
 from ._refused import Refused
 from ._shapes import ChunksLike, Shape, numblocks, one_axis, product
@@ -54,6 +55,17 @@ class Array(Refused, Collection, Operators):
     def chunks(self) -> tuple[Shape, ...]:
         """The size of each chunk along each axis, as Dask and xarray have it; all but the last are `chunksize`."""
         return tuple(tuple(min(side, size - start) for start in range(0, size, side)) or (0,) for size, side in zip(self.shape, self.chunksize))
+
+    @property
+    def dims(self) -> Optional[tuple[str, ...]]:
+        """The names of the axes, where the stored arrays name them all; so xarray.DataArray(x) has them too."""
+        names = [name for name in labels_of(self.node)[0] if name is not None]
+        return tuple(names) if len(set(names)) == self.ndim and names else None
+
+    @property
+    def attrs(self) -> dict[str, Any]:
+        """The attributes that come from the stored arrays."""
+        return labels_of(self.node)[1]
 
     @property
     def numblocks(self) -> Shape:

@@ -5,6 +5,7 @@ import contextlib
 import json
 import os
 import tempfile
+from dataclasses import replace
 from typing import TYPE_CHECKING, Iterator, Optional
 
 from ._dtypes import NDArray
@@ -12,9 +13,10 @@ from .errors import BadExpression, NoArray, OtherPlan, OverMemory, Stale
 from ._files import read_index_of, write_file
 from ._fit import fitting_chunks
 from ._index import read_index
+from ._labels import labels_of
 from ._left import telling, with_cause
 from ._locks import locked
-from ._metadata import Metadata
+from ._metadata import MOST_TEXT, Metadata
 from ._names import check_free_name, check_name, is_own, metadata_key, record_key
 from ._nodes import MOST_NODES, Graph, Node, expression
 from ._opening import at_most, read_regular
@@ -216,9 +218,22 @@ def store_node(node: Node, name: str, store: Optional[Store], progress: Optional
         if not goes_on or not is_finished(found.folder, name):
             with memory_stored(found.folder, graph, lock):
                 _run(found, graph, name, lock.descriptor, progress, "resume" if goes_on else "run")
+        _label(found.folder, name, node)
         if not keep:
             remove_between(found.folder, name)
     return found.array(name).node
+
+
+def _label(folder: str, name: str, node: Node) -> None:
+    """Write the names of axes and the attributes of a result into its metadata, where it has any."""
+    meta = metadata_of(folder, name)
+    names, attributes = labels_of(node)
+    dimensions = names if any(names) else None
+    if meta is None or (meta.dimensions, dict(meta.attributes)) == (dimensions, attributes):
+        return
+    text = replace(meta, dimensions=dimensions, attributes=attributes).text().encode()
+    if len(text) <= MOST_TEXT:
+        write_file(folder, metadata_key(name), text)
 
 
 def check_node(node: Node, name: str, store: Optional[Store]) -> int:

@@ -1,9 +1,11 @@
 """A folder of stored arrays, and how expressions over them are run."""
 from __future__ import annotations
 
+import contextlib
 import difflib
+import json
 import os
-from typing import Any, Iterator, Mapping, NoReturn, Optional, Union
+from typing import Any, Iterator, Mapping, NoReturn, Optional, Sequence, Union
 
 import numpy as np
 
@@ -33,6 +35,34 @@ def _count(value: Any, low: int, high: int, what: str) -> int:
     if not low <= count <= high:
         raise ValueError(f"{what} is from {low} to {high}, and not {count}")
     return count
+
+
+def _dims(data: Any, dims: Optional[Sequence[str]], ndim: int) -> Optional[tuple[str, ...]]:
+    """Return the names of the axes that are given, or those of an array of xarray."""
+    if dims is None:
+        dims = getattr(data, "dims", None) if type(data).__module__.startswith("xarray.") else None
+    if dims is None:
+        return None
+    if isinstance(dims, str) or len(dims) != ndim or not all(isinstance(name, str) for name in dims):
+        raise ValueError(f"dims {dims!r}: one name for each of {ndim} axes is wanted")
+    return tuple(dims)
+
+
+def _attrs(data: Any, attrs: Optional[Mapping[str, Any]]) -> dict[str, Any]:
+    """Return the attributes that are given, or those of an array of xarray; of the latter those that JSON has."""
+    if attrs is not None:
+        try:
+            json.dumps(dict(attrs), allow_nan=False)
+        except (TypeError, ValueError) as error:
+            raise TypeError(f"attrs: {error}: attributes are texts, numbers, truth values, and lists of these") from None
+        return dict(attrs)
+    found = {}
+    for name, value in (getattr(data, "attrs", {}) if type(data).__module__.startswith("xarray.") else {}).items():
+        plain = value.tolist() if isinstance(value, (np.generic, np.ndarray)) else value
+        with contextlib.suppress(TypeError, ValueError):
+            json.dumps({name: plain}, allow_nan=False)
+            found[str(name)] = plain
+    return found
 
 
 class Store(Mapping[str, Array]):
@@ -177,7 +207,8 @@ class Store(Mapping[str, Array]):
     def __getitem__(self, name: str) -> Array:
         return self.array(name)
 
-    def save(self, name: str, data: Any, chunks: ChunksLike = None) -> Array:
+    def save(self, name: str, data: Any, chunks: ChunksLike = None, *, dims: Optional[Sequence[str]] = None,
+             attrs: Optional[Mapping[str, Any]] = None) -> Array:
         """Store an array chunk by chunk, whole or not at all, and return it as a lazy one.
 
         Parameters
@@ -189,6 +220,10 @@ class Store(Mapping[str, Array]):
             library) only a chunk at a time is in memory.
         chunks : int or tuple of int, optional
             The chunk shape; -1 means the whole axis. Else chunks of at most about 16 MiB.
+        dims : sequence of str, optional
+            The names of the axes; else those of the data, if it is an array of xarray.
+        attrs : mapping, optional
+            Attributes, of what JSON has; else those of the data, if it is an array of xarray.
 
         Raises
         ------
@@ -212,9 +247,10 @@ class Store(Mapping[str, Array]):
         shape = tuple(int(size) for size in data.shape)
         sides = as_chunks(chunks, shape, dtype)
         check_limits(shape, sides, dtype, "save")
+        meta = Metadata(dtype, shape, sides, dimensions=_dims(data, dims, len(shape)), attributes=_attrs(data, attrs))
         with telling(f"store.save({name!r}, ..)", self.folder, name, True), locked(self.folder, name):
             check_absent(self.folder, name)
-            write_array(self.folder, name, Metadata(dtype, shape, sides), data)
+            write_array(self.folder, name, meta, data)
         return self.array(name)
 
     def read(self, name: str, index: Any = ..., *, unfinished: bool = False) -> NDArray:

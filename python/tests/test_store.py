@@ -230,6 +230,45 @@ class BadInput(Case):
         self.assertRaises(ValueError, self.x.store, "z", other)
 
 
+class Mappings(Case):
+    def setUp(self) -> None:
+        super().setUp()
+        self.here = self.store()
+        for name in ("temperature", "rain", "snow"):
+            self.here.save(name, np.arange(3))
+
+    def test_a_store_is_a_mapping(self) -> None:
+        here = self.here
+        self.assertEqual((len(here), list(here), list(here.keys())), (3, ["rain", "snow", "temperature"], ["rain", "snow", "temperature"]))
+        self.assertEqual([(name, x.shape) for name, x in here.items()], [("rain", (3,)), ("snow", (3,)), ("temperature", (3,))])
+        self.assertEqual((here.get("rain").shape, here.get("hail"), "rain" in here, "hail" in here), ((3,), None, True, False))
+        self.assertEqual((here == here, here == self.store(), len({here, self.store()})), (True, False, 2))
+        with self.store() as store:
+            self.assertIsInstance(store, cengmoat.Store)
+
+    def test_what_a_dict_does_and_a_store_doesn_t(self) -> None:
+        with self.assertRaises(TypeError) as found:
+            del self.here["rain"]
+        self.assertIn("store.remove('rain')", str(found.exception))
+        with self.assertRaises(TypeError) as found:
+            self.here["new"] = np.arange(3)
+        self.assertIn("store.save('new', x)", str(found.exception))
+        with self.assertRaises(TypeError) as found:
+            self.here["new"] = self.here["rain"] + 1
+        self.assertIn("x.store('new')", str(found.exception))
+        self.assertEqual(self.here.names(), ["rain", "snow", "temperature"])
+
+    def test_near_names(self) -> None:
+        for call in (self.here.__getitem__, self.here.read, self.here.remove):
+            with self.assertRaises(KeyError) as found:
+                call("temprature")
+            self.assertEqual(str(found.exception).splitlines()[0].partition(": there is ")[2] or str(found.exception).partition("there is ")[2],
+                             f"no array 'temprature' in {self.here.folder}. Near names: temperature.")
+        with self.assertRaises(cengmoat.NoArray) as found:
+            cengmoat.from_zarr(os.path.join(self.folder, "nowhere"), "t")
+        self.assertIn("nowhere, which is no folder", str(found.exception))
+
+
 class Known(Case):
     """What is known of a lazy array without running."""
 
