@@ -58,7 +58,7 @@ def from_zarr(folder: Union[str, os.PathLike[str]], name: str, *, unfinished: bo
 
 
 def to_zarr(x: Array, name: str, into: Optional[Store] = None, *, progress: Optional[bool] = None, resume: bool = False,
-            keep: bool = False) -> Array:
+            keep: bool = False, explain: bool = False) -> Array:
     """Compute an array, store it under a name, and return it as a stored array.
 
     Parameters
@@ -75,6 +75,8 @@ def to_zarr(x: Array, name: str, into: Optional[Store] = None, *, progress: Opti
         Whether a run that stopped is gone on with; where none was begun, one begins.
     keep : bool
         Whether what was stored on the way to the result stays beside it. Else it is removed at the end, and the record stays.
+    explain : bool
+        Whether the plan is printed before: what is read, stored, and computed within the tasks of others, and the memory.
 
     Raises
     ------
@@ -91,10 +93,10 @@ def to_zarr(x: Array, name: str, into: Optional[Store] = None, *, progress: Opti
     """
     if not isinstance(x, Array):
         raise TypeError(f"to_zarr takes a lazy array, and not {type(x).__name__}: store.save stores an array in memory")
-    return x.store(name, into, progress=progress, resume=resume, keep=keep)
+    return x.store(name, into, progress=progress, resume=resume, keep=keep, explain=explain)
 
 
-def compute(*arrays: Array, store: Optional[Store] = None, progress: Optional[bool] = None) -> tuple[NDArray, ...]:
+def compute(*arrays: Array, store: Optional[Store] = None, progress: Optional[bool] = None, explain: bool = False) -> tuple[NDArray, ...]:
     """Compute arrays and return them, each by a run of its own.
 
     A result is stored under a temporary name, read, and removed with all on the way to it, also after an error or Ctrl-C.
@@ -107,6 +109,8 @@ def compute(*arrays: Array, store: Optional[Store] = None, progress: Optional[bo
         Where they are computed; else in the folder of their stored arrays, or in a temporary one where there are none.
     progress : bool, optional
         Whether a bar is shown; else on a terminal.
+    explain : bool
+        Whether the plan of each is printed before.
 
     Raises
     ------
@@ -119,5 +123,5 @@ def compute(*arrays: Array, store: Optional[Store] = None, progress: Optional[bo
     done: dict[int, NDArray] = {}
     for x in arrays:
         if id(x.node) not in done:
-            done[id(x.node)] = compute_node(x.node, store, progress)
+            done[id(x.node)] = compute_node(x.node, store, progress, explain)
     return tuple(done[id(x.node)] for x in arrays)

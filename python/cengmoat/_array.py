@@ -270,16 +270,16 @@ class Array(Refused, Collection, Operators):
 
     # Running
 
-    def compute(self, *, store: Optional[Store] = None, progress: Optional[bool] = None) -> NDArray:
-        """Compute the array and return it; see `cengmoat.compute`."""
+    def compute(self, *, store: Optional[Store] = None, progress: Optional[bool] = None, explain: bool = False) -> NDArray:
+        """Compute the array and return it; `explain` prints its plan before. See `cengmoat.compute`."""
         from ._running import compute_node
-        return compute_node(self.node, store, progress)
+        return compute_node(self.node, store, progress, explain)
 
     def store(self, name: str, into: Optional[Store] = None, *, progress: Optional[bool] = None, resume: bool = False,
-              keep: bool = False) -> Array:
+              keep: bool = False, explain: bool = False) -> Array:
         """Compute the array, store it under a name, and return it as a stored array; see `cengmoat.to_zarr`."""
         from ._running import store_node
-        return Array(store_node(self.node, name, into, progress, resume, keep))
+        return Array(store_node(self.node, name, into, progress, resume, keep, explain))
 
     def check(self, name: str, *, store: Optional[Store] = None) -> int:
         """Compare the stored array of a name with what this expression means, and return the count of its elements.

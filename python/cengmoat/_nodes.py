@@ -128,6 +128,11 @@ class Graph:
         The node that is stored.
     data_names : mapping from int to str, optional
         The names under which arrays in memory are stored, by the identities of their nodes.
+
+    Attributes
+    ----------
+    nodes : list of Node
+        Each node once; `places` has the numbers of all, by their identities, and `out` that of the result.
     """
 
     def __init__(self, out: Node, data_names: Optional[Mapping[int, str]] = None) -> None:
@@ -148,7 +153,7 @@ class Graph:
                 self.nodes.append(node)
                 self.texts.append({"id": f"n{len(self.texts)}", **text})
             places[id(node)] = numbers[key]
-        self.out = places[id(out)]
+        self.places, self.out = places, places[id(out)]
 
     @property
     def computed(self) -> list[Node]:

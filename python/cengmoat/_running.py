@@ -128,7 +128,7 @@ def _check_inputs(store: Store, graph: Graph) -> None:
 
 def _ask_plan(store: Store, folder: str, graph: Graph, text: str) -> Plan:
     said = call_program(store.words("plan", folder), text, expression_of=graph.expression)
-    return read_plan(said, graph, store.allowed_mem, store.reserved_mem)
+    return read_plan(said, graph, store.allowed_mem, store.reserved_mem, store.workers)
 
 
 @contextlib.contextmanager
@@ -205,11 +205,14 @@ def _check_record(store: Store, graph: Graph, name: str) -> None:
                         f" store.remove({name!r}) removes it.")
 
 
-def store_node(node: Node, name: str, store: Optional[Store], progress: Optional[bool], resume: bool, keep: bool) -> Node:
+def store_node(node: Node, name: str, store: Optional[Store], progress: Optional[bool], resume: bool, keep: bool,
+               explain: bool = False) -> Node:
     """Store an expression under a name, and return the stored array's node."""
     check_free_name(name)
     found = store_of(node, store)
     graph = _graph(node, name)
+    if explain:
+        print(plan_node(node, found))
     with telling(f"x.store({name!r})", found.folder, name), locked(found.folder, name) as lock:
         _check_inputs(found, graph)
         goes_on = resume and has_record(found.folder, name)
@@ -255,7 +258,7 @@ def _checked(store: Store, graph: Graph, name: str) -> int:
     return int(said.split()[-1])
 
 
-def compute_node(node: Node, store: Optional[Store], progress: Optional[bool]) -> NDArray:
+def compute_node(node: Node, store: Optional[Store], progress: Optional[bool], explain: bool = False) -> NDArray:
     """Compute an expression under a temporary name, and return its elements; nothing of it is left in the folder."""
     if node.data is not None:
         return node.data.copy()
@@ -264,6 +267,8 @@ def compute_node(node: Node, store: Optional[Store], progress: Optional[bool]) -
         if its is not None:
             check_fresh(found, its)
             return found.read(its.members["name"], unfinished=its.takes_unfinished)
+        if explain:
+            print(plan_node(node, found))
         name = new_name(found.folder)
         graph = _graph(node, name)
         with telling("x.compute()", found.folder, name, True):

@@ -74,6 +74,15 @@ def wanted_chunks(node: Node) -> list[tuple[Node, Shape]]:
     return [(arg, chunks) for arg, chunks in pairs if chunks != arg.chunks]
 
 
+def copied_args(node: Node, most: int) -> list[tuple[Node, bool]]:
+    """Return for each copy that is made for a node, in order, the argument that is copied, and whether it is the second stage."""
+    found = []
+    for arg, chunks in wanted_chunks(node):
+        stages = copied_chunks(arg.shape, arg.chunks, chunks, arg.dtype.itemsize, most)
+        found += [(arg, stage > 0) for stage in range(len(stages))]
+    return found
+
+
 def copies_of(node: Node, most: int) -> list[int]:
     """Return the bytes of a chunk of each array that is stored by the copies for a node, in order."""
     found = []

@@ -412,6 +412,35 @@ class Running(WithProgram):
             self.assertIn(said, repr(plan))
         self.assertIn("<table>", plan._repr_html_())
 
+    def test_what_plans_read_and_inline(self) -> None:
+        store = self.store(workers=3)
+        t, o = store["t"], store.save("o", np.ones(6, "int8"), 6)
+        lines = np.arange(6, dtype="int16")
+        for lazy, reads, inlined in (
+                ((t + o).sum(axis=0), [("o",), ("t", "op 0"), ("op 1",), ("op 2",)], ()), ((t * 2 + 1).rechunk((5, 6)), [("t",), ("op 0",)], ("t * 2",)),
+                (t.argmax(axis=0), [("t",), ("op 0",)], ()), (t @ t.T, [("t",), ("t", "op 0"), ("op 1",)], ()), (xp.flip(t) + 1, [("t",), ("op 0",)], ()),
+                (((t + 1) * (t + 1)).max(), [("t",), ("op 0",), ("op 1",), ("op 2",), ("op 3",)], ()), (t - lines, [("t", "op 0")], ())):
+            plan = lazy.plan()
+            wanted = {(it.kind, it.number): it.reads for it in plan}
+            if plan.operations[0].kind == "copy" and len(plan) == len(reads) + 1:
+                wanted.pop(("copy", 0))
+            self.assertEqual((list(wanted.values()), plan.inlined), (reads, inlined), plan)
+            self.assertEqual((plan.inputs["t"], plan.workers, plan.memory), (6 * 16, 3, plan.peak * min(3, max(it.tasks for it in plan))))
+            for said in ("computed within the tasks of others", "read: t (96 B)", f"memory: at most {cengmoat._sizes.bytes_text(plan.memory)} with 3 workers"):
+                self.assertIn(said, repr(plan))
+                self.assertIn(said, plan._repr_html_())
+
+    def test_a_run_that_is_explained(self) -> None:
+        for call in (lambda: (self.t + 1).compute(explain=True), lambda: (self.t + 1).store("y", explain=True),
+                     lambda: cengmoat.compute(self.t + 1, explain=True), lambda: cengmoat.to_zarr(self.t + 1, "z", explain=True)):
+            before, sys.stdout = sys.stdout, io.StringIO()
+            try:
+                call()
+                said = sys.stdout.getvalue()
+            finally:
+                sys.stdout = before
+            self.assertIn(repr((self.t + 1).plan()), said)
+
     def stored_bytes(self, name: str) -> int:
         """Return the bytes of all chunks of a run."""
         return sum(os.path.getsize(os.path.join(at, file)) for top in (name, f"_cubed/{name}")
@@ -443,6 +472,7 @@ class Running(WithProgram):
         try:
             (self.t + 1).store("q", progress=True)
             self.assertIn("6/6", sys.stderr.getvalue())
+            self.assertIn("96 B of 96 B", sys.stderr.getvalue())
             (self.t + 1).store("r", progress=False)
             self.assertNotIn("r:", sys.stderr.getvalue())
         finally:
