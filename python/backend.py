@@ -1,49 +1,141 @@
-"""The build of the package by setuptools, also without the network: the one that is installed is used where there is one.
+"""The build of the package: a wheel without setuptools, `wheel` or the network.
 
-pip builds in an environment of its own, which hides what is installed and would be filled from the network.
+In a clone whose program is built, the program goes into the wheel, which then is one of this platform. Elsewhere the wheel is pure,
+and the package says at the first run how to get the program.
 """
 from __future__ import annotations
 
-import importlib.util
-import site
+import base64
+import hashlib
+import io
+import os
+import re
+import runpy
+import stat
 import sys
 import sysconfig
-from typing import Any, Optional
+import tarfile
+import zipfile
+from typing import Any, Iterator, Optional
 
-NEEDED = ("setuptools", "wheel")
-sys.path += [path for path in {sysconfig.get_path("purelib"), *site.getsitepackages()} if path not in sys.path]
-
-
-def _missing() -> list[str]:
-    """Return what must be fetched. Later versions of setuptools need no `wheel`."""
-    if importlib.util.find_spec("setuptools") is None:
-        return list(NEEDED)
-    import setuptools
-    major = int(setuptools.__version__.split(".")[0])
-    return ["wheel"] if major < 71 and importlib.util.find_spec("wheel") is None else []
+HERE = os.path.dirname(os.path.abspath(__file__))
+PACKAGE = "cengmoat"
+# The program as the package looks for it, beside its modules.
+BESIDE = f"{PACKAGE}/cubed"
+# (a zip file knows no time before)
+EPOCH = (1980, 1, 1, 0, 0, 0)
+EXECUTABLE, PLAIN = 0o755, 0o644
 
 
-def get_requires_for_build_wheel(config_settings: Optional[dict[str, Any]] = None) -> list[str]:
-    """Return what a wheel needs and isn't installed."""
-    return _missing()
+def _settings() -> dict[str, str]:
+    """Return the texts of pyproject.toml's project, read line by line, since Python 3.9 has no reader of TOML."""
+    with open(os.path.join(HERE, "pyproject.toml"), encoding="utf-8") as file:
+        table = file.read().partition("[project]")[2].partition("\n[")[0]
+    return dict(re.findall(r'^([\w-]+) = "(.*)"$', table, re.M))
 
 
-get_requires_for_build_editable = get_requires_for_build_sdist = get_requires_for_build_wheel
+def _lists(name: str, table: str = "project") -> list[str]:
+    with open(os.path.join(HERE, "pyproject.toml"), encoding="utf-8") as file:
+        text = file.read().partition(f"[{table}]")[2].partition("\n[")[0]
+    found = re.search(rf"^{name} = \[(.*?)\]", text, re.M | re.S)
+    return re.findall(r'"(.*?)"', found[1]) if found else []
+
+
+def _sources() -> Iterator[str]:
+    """Go over the files of the package, relative to this folder."""
+    for at, folders, files in os.walk(os.path.join(HERE, PACKAGE)):
+        folders[:] = sorted(name for name in folders if name != "__pycache__")
+        for name in sorted(files):
+            if name.endswith((".py", ".md", ".typed")):
+                yield os.path.relpath(os.path.join(at, name), HERE)
+
+
+def _program() -> Optional[str]:
+    """Return the path of the program that is built in the clone, and not older than its sources."""
+    # (by its path: the package itself needs NumPy, which isn't here)
+    finding = runpy.run_path(os.path.join(HERE, PACKAGE, "_finding.py"))
+    try:
+        found: Optional[str] = finding["built_program"](os.path.dirname(HERE))
+        return found
+    except LookupError as missing:
+        print(f"cengmoat: {missing}; the package is installed without the program", file=sys.stderr)
+        return None
+
+
+def _metadata(settings: dict[str, str]) -> str:
+    lines = ["Metadata-Version: 2.1", f"Name: {settings['name']}", f"Version: {settings['version']}", f"Summary: {settings['description']}",
+             f"Requires-Python: {settings['requires-python']}", *(f"Classifier: {it}" for it in _lists("classifiers")),
+             *(f"Requires-Dist: {it}" for it in _lists("dependencies"))]
+    for extra in ("progress",):
+        lines += [f"Provides-Extra: {extra}",
+                  *(f"Requires-Dist: {it}; extra == '{extra}'" for it in _lists(extra, "project.optional-dependencies"))]
+    with open(os.path.join(HERE, "README.md"), encoding="utf-8") as file:
+        return "\n".join([*lines, "Description-Content-Type: text/markdown", "", file.read()])
+
+
+class _Wheel:
+    """A wheel that is being written: its files, and the list of them that stands at its end."""
+
+    def __init__(self, folder: str, is_pure: bool) -> None:
+        self.settings = _settings()
+        self.tag = "py3-none-any" if is_pure else f"py3-none-{re.sub(r'[-.]', '_', sysconfig.get_platform())}"
+        self.head = f"{self.settings['name']}-{self.settings['version']}"
+        self.name = f"{self.head}-{self.tag}.whl"
+        self.is_pure = is_pure
+        self.rows: list[str] = []
+        self.file = zipfile.ZipFile(os.path.join(folder, self.name), "w", zipfile.ZIP_DEFLATED)
+
+    def put(self, name: str, data: bytes, mode: int = PLAIN) -> None:
+        info = zipfile.ZipInfo(name, EPOCH)
+        info.external_attr, info.compress_type = (stat.S_IFREG | mode) << 16, zipfile.ZIP_DEFLATED
+        self.file.writestr(info, data)
+        digest = base64.urlsafe_b64encode(hashlib.sha256(data).digest()).rstrip(b"=").decode()
+        self.rows.append(f"{name},sha256={digest},{len(data)}")
+
+    def close(self) -> str:
+        """Write what describes the wheel, and return its name."""
+        info = f"{self.head}.dist-info"
+        self.put(f"{info}/METADATA", _metadata(self.settings).encode())
+        pure = "true" if self.is_pure else "false"
+        self.put(f"{info}/WHEEL", f"Wheel-Version: 1.0\nGenerator: cengmoat\nRoot-Is-Purelib: {pure}\nTag: {self.tag}\n".encode())
+        self.rows.append(f"{info}/RECORD,,")
+        self.file.writestr(zipfile.ZipInfo(f"{info}/RECORD", EPOCH), "\n".join(self.rows) + "\n")
+        self.file.close()
+        return self.name
+
+
+def _read(path: str) -> bytes:
+    with open(path, "rb") as file:
+        return file.read()
 
 
 def build_wheel(wheel_directory: str, config_settings: Optional[dict[str, Any]] = None, metadata_directory: Optional[str] = None) -> str:
-    """Build a wheel by setuptools."""
-    from setuptools import build_meta
-    return build_meta.build_wheel(wheel_directory, config_settings, metadata_directory)
+    """Build a wheel, with the program where it is built, and return its name."""
+    program = _program()
+    wheel = _Wheel(wheel_directory, program is None)
+    for name in _sources():
+        wheel.put(name, _read(os.path.join(HERE, name)))
+    if program is not None:
+        wheel.put(BESIDE, _read(program), EXECUTABLE)
+    return wheel.close()
 
 
 def build_editable(wheel_directory: str, config_settings: Optional[dict[str, Any]] = None, metadata_directory: Optional[str] = None) -> str:
-    """Build an editable wheel by setuptools."""
-    from setuptools import build_meta
-    return build_meta.build_editable(wheel_directory, config_settings, metadata_directory)
+    """Build a wheel that leads here, and return its name."""
+    wheel = _Wheel(wheel_directory, True)
+    wheel.put(f"__editable__.{PACKAGE}.pth", f"{HERE}\n".encode())
+    return wheel.close()
 
 
 def build_sdist(sdist_directory: str, config_settings: Optional[dict[str, Any]] = None) -> str:
-    """Build an archive of the sources by setuptools."""
-    from setuptools import build_meta
-    return build_meta.build_sdist(sdist_directory, config_settings)
+    """Build an archive of the sources, and return its name."""
+    settings = _settings()
+    head = f"{settings['name']}-{settings['version']}"
+    with tarfile.open(os.path.join(sdist_directory, f"{head}.tar.gz"), "w:gz") as archive:
+        for name in ("pyproject.toml", "backend.py", "README.md", *_sources()):
+            archive.add(os.path.join(HERE, name), f"{head}/{name}")
+        info = tarfile.TarInfo(f"{head}/PKG-INFO")
+        data = _metadata(settings).encode()
+        info.size = len(data)
+        archive.addfile(info, io.BytesIO(data))
+    return f"{head}.tar.gz"

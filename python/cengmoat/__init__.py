@@ -14,23 +14,23 @@ import os
 from typing import Any, Optional, Union
 
 from . import array_api
-from .array import Array
-from .dtypes import NDArray
+from ._array import Array
+from ._dtypes import NDArray
 from .errors import (
     BadChunk, BadExpression, BadLoad, BadMetadata, BadType, BadWords, CengmoatError, Exists, Locked, NoArray, NoMemory, NoPlan,
-    NoProgram, OtherPlan, OverLimit, OverMemory, ReadFault, Stopped, StoreFailed, TaskFailed, Unequal, Unfinished, WriteFault,
+    NoProgram, NotRemoved, OtherPlan, OverLimit, OverMemory, ReadFault, Stale, Stopped, StoreFailed, TaskFailed, Unequal, Unfinished, WriteFault,
 )
-from .plans import Operation, Plan, Report
-from .running import compute_node
-from .status import ArrayStatus, Status
-from .store import Store
+from ._plans import Operation, Plan, Report
+from ._running import compute_node
+from ._status import ArrayStatus, Status
+from ._store import Store
 
 __version__ = "0.1.0"
 
 __all__ = [
     "Array", "ArrayStatus", "BadChunk", "BadExpression", "BadLoad", "BadMetadata", "BadType", "BadWords", "CengmoatError", "Exists",
-    "Locked", "NoArray", "NoMemory", "NoPlan", "NoProgram", "Operation", "OtherPlan", "OverLimit", "OverMemory", "Plan", "ReadFault",
-    "Report", "Status", "Stopped", "Store", "StoreFailed", "TaskFailed", "Unequal", "Unfinished", "WriteFault", "array_api", "compute",
+    "Locked", "NoArray", "NoMemory", "NoPlan", "NoProgram", "NotRemoved", "Operation", "OtherPlan", "OverLimit", "OverMemory", "Plan", "ReadFault",
+    "Report", "Stale", "Status", "Stopped", "Store", "StoreFailed", "TaskFailed", "Unequal", "Unfinished", "WriteFault", "array_api", "compute",
     "from_zarr", "to_zarr",
 ]
 
@@ -57,7 +57,8 @@ def from_zarr(folder: Union[str, os.PathLike[str]], name: str, *, unfinished: bo
     return Store(folder, **options).array(name, unfinished=unfinished)
 
 
-def to_zarr(x: Array, name: str, *, store: Optional[Store] = None, progress: Optional[bool] = None, resume: bool = False) -> Array:
+def to_zarr(x: Array, name: str, into: Optional[Store] = None, *, progress: Optional[bool] = None, resume: bool = False,
+            keep: bool = False, explain: bool = False) -> Array:
     """Compute an array, store it under a name, and return it as a stored array.
 
     Parameters
@@ -66,12 +67,16 @@ def to_zarr(x: Array, name: str, *, store: Optional[Store] = None, progress: Opt
         The array.
     name : str
         The name of the result.
-    store : Store, optional
+    into : Store, optional
         Where it is stored; must be given where no stored array is in the expression.
     progress : bool, optional
         Whether a bar is shown; else on a terminal.
     resume : bool
         Whether a run that stopped is gone on with; where none was begun, one begins.
+    keep : bool
+        Whether what was stored on the way to the result stays beside it. Else it is removed at the end, and the record stays.
+    explain : bool
+        Whether the plan is printed before: what is read, stored, and computed within the tasks of others, and the memory.
 
     Raises
     ------
@@ -79,6 +84,8 @@ def to_zarr(x: Array, name: str, *, store: Optional[Store] = None, progress: Opt
         The class of the program's answer, as OverMemory and Exists.
     Unfinished
         Where an input is the result of a run that hasn't finished.
+    Stale
+        Where an input was replaced after the lazy array was made.
     Locked
         Where another process stores this name now.
     TypeError, ValueError
@@ -86,10 +93,10 @@ def to_zarr(x: Array, name: str, *, store: Optional[Store] = None, progress: Opt
     """
     if not isinstance(x, Array):
         raise TypeError(f"to_zarr takes a lazy array, and not {type(x).__name__}: store.save stores an array in memory")
-    return x.store(name, store=store, progress=progress, resume=resume)
+    return x.store(name, into, progress=progress, resume=resume, keep=keep, explain=explain)
 
 
-def compute(*arrays: Array, store: Optional[Store] = None, progress: Optional[bool] = None) -> tuple[NDArray, ...]:
+def compute(*arrays: Array, store: Optional[Store] = None, progress: Optional[bool] = None, explain: bool = False) -> tuple[NDArray, ...]:
     """Compute arrays and return them, each by a run of its own.
 
     A result is stored under a temporary name, read, and removed with all on the way to it, also after an error or Ctrl-C.
@@ -102,6 +109,8 @@ def compute(*arrays: Array, store: Optional[Store] = None, progress: Optional[bo
         Where they are computed; else in the folder of their stored arrays, or in a temporary one where there are none.
     progress : bool, optional
         Whether a bar is shown; else on a terminal.
+    explain : bool
+        Whether the plan of each is printed before.
 
     Raises
     ------
@@ -114,5 +123,5 @@ def compute(*arrays: Array, store: Optional[Store] = None, progress: Optional[bo
     done: dict[int, NDArray] = {}
     for x in arrays:
         if id(x.node) not in done:
-            done[id(x.node)] = compute_node(x.node, store, progress)
+            done[id(x.node)] = compute_node(x.node, store, progress, explain)
     return tuple(done[id(x.node)] for x in arrays)

@@ -4,10 +4,7 @@ from __future__ import annotations
 import re
 from typing import Any, Callable, Optional
 
-from .answers import text_of
-
-
-AGAIN = "In Python: store.remove(name) removes a result with its record, and x.store(name, resume=True) goes on with a run that stopped."
+from ._texts import text_of
 
 
 class CengmoatError(Exception):
@@ -19,40 +16,46 @@ class CengmoatError(Exception):
         The number of the answer; None where the package refuses and the program wasn't asked.
     expression : str or None
         The Python expression of the node that the answer names, where it names one.
+    call : str
+        The call that was refused, with its folder, where it is known.
+    left : str
+        What is stored after it, and how to go on, where it is known.
     """
 
     status: Optional[int] = None
     fields: tuple[str, ...] = ()
-    hint = ""
 
-    def __init__(self, message: str = "", *, expression: Optional[str] = None, advice: str = "", **values: Any) -> None:
-        self.expression = expression
-        self.advice = advice
-        self.message = message
+    def __init__(self, message: str = "", *, expression: Optional[str] = None, advice: str = "", call: str = "", left: str = "",
+                 **values: Any) -> None:
+        self.message, self.expression, self.advice, self.call, self.left = message, expression, advice, call, left
         for field in self.fields:
             setattr(self, field, values.get(field))
-        super().__init__(message or self._text())
+        super().__init__(self._text())
 
     def _text(self) -> str:
-        if self.status is None:
-            return self.advice
+        head = f"{self.call}: " if self.call else ""
+        if self.message or self.status is None:
+            return "\n".join(part for part in (head + self.message, self.left, self.advice) if part)
         values = {field: getattr(self, field) for field in self.fields}
-        line = " ".join([f"error {self.status}", *(f"{field}={value}" for field, value in values.items())])
         if self.expression is not None:
             # The expression stands in place of the node's number.
             values["node"] = f"`{self.expression}`"
-            line = line.replace(f"node={getattr(self, 'node')}", f"node=`{self.expression}`")
-        parts = [line, text_of(self.status, values), self.hint, self.advice]
-        return "\n".join(part for part in parts if part)
+        cause, what = text_of(self.status, values)
+        return "\n".join(part for part in (f"{head}{cause}.", f"What to do: {what}.", self.left, self.advice) if part)
+
+    def say(self, *, call: str = "", left: str = "", advice: str = "") -> None:
+        """Say more: the call, what is left, or advice."""
+        self.call, self.left, self.advice = call or self.call, left or self.left, advice or self.advice
+        self.args = (self._text(),)
 
     def __reduce__(self) -> tuple[Callable[..., CengmoatError], tuple[Any, ...]]:
         values = {field: getattr(self, field) for field in self.fields}
-        return _rebuild, (type(self), self.message, self.expression, self.advice, values)
+        told = {"expression": self.expression, "advice": self.advice, "call": self.call, "left": self.left}
+        return _rebuild, (type(self), self.message, {**told, **values})
 
 
-def _rebuild(kind: Callable[..., CengmoatError], message: str, expression: Optional[str], advice: str,
-             values: dict[str, Any]) -> CengmoatError:
-    return kind(message, expression=expression, advice=advice, **values)
+def _rebuild(kind: Callable[..., CengmoatError], message: str, values: dict[str, Any]) -> CengmoatError:
+    return kind(message, **values)
 
 
 class BadWords(CengmoatError):
@@ -117,7 +120,6 @@ class Exists(CengmoatError):
     """9: a file of the result is there already. Fields: key."""
 
     status, fields = 9, ("key",)
-    hint = AGAIN
     key: str
 
 
@@ -125,7 +127,6 @@ class TaskFailed(CengmoatError):
     """10: a task failed in each of its tries. Fields: op, task."""
 
     status, fields = 10, ("op", "task")
-    hint = AGAIN
     op: int
     task: int
 
@@ -146,7 +147,6 @@ class BadChunk(CengmoatError):
     """13: a chunk file has another count of bytes. Fields: key, got, want."""
 
     status, fields = 13, ("key", "got", "want")
-    hint = AGAIN
     key: str
     got: int
     want: int
@@ -169,7 +169,6 @@ class StoreFailed(CengmoatError):
     """16: the system refused to read or write a file. Fields: key."""
 
     status, fields = 16, ("key",)
-    hint = AGAIN
     key: str
 
 
@@ -207,8 +206,27 @@ class Unfinished(CengmoatError):
     """An array is the result of a run that stopped: some of its chunks are missing, and would be read as fill values."""
 
 
+class Stale(CengmoatError):
+    """A stored array was replaced after the lazy array was made, and has another layout now. Fields: name."""
+
+    fields = ("name",)
+    name: str
+
+
+class NotRemoved(CengmoatError):
+    """An array isn't removed, since no run made it, or what lies there is no array; nothing is removed then. Fields: name."""
+
+    fields = ("name",)
+    name: str
+
+
 class Locked(CengmoatError):
-    """Another process computes or stores an array of this name now."""
+    """Another process computes or stores an array of this name now. Fields: pid, host, since, where they are known."""
+
+    fields = ("pid", "host", "since")
+    pid: Optional[int]
+    host: Optional[str]
+    since: Optional[str]
 
 
 BY_STATUS: dict[int, type[CengmoatError]] = {

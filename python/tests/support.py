@@ -18,8 +18,8 @@ import numpy as np  # noqa: E402
 
 import cengmoat  # noqa: E402
 from cengmoat import array_api as xp  # noqa: E402
-from cengmoat.program import VARIABLE, program_of  # noqa: E402
-from cengmoat.program import BUILT as IN_REPOSITORY  # noqa: E402
+from cengmoat._program import VARIABLE, program_of  # noqa: E402
+from cengmoat._finding import BUILT as IN_REPOSITORY  # noqa: E402
 
 INTEGERS = ("int8", "int16", "int32", "int64", "uint8", "uint16", "uint32", "uint64")
 TYPES = ("bool", *INTEGERS)
@@ -36,7 +36,7 @@ OTHER = os.environ.get("CENGMOAT_TEST_PROGRAM")
 def program() -> Optional[str]:
     """Return the proved program of this checkout, or None where there is none or it is older than its sources."""
     if OTHER:
-        return cengmoat.program.find_program(OTHER)
+        return cengmoat._program.find_program(OTHER)
     os.environ.pop(VARIABLE, None)
     try:
         return program_of(TOP)

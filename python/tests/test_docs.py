@@ -9,9 +9,10 @@ import re
 import shutil
 import subprocess
 import sys
+import textwrap
 import unittest
 
-from .support import PROGRAM, PYTHON, TOP, Case, WithProgram
+from .support import PROGRAM, PYTHON, TOP, Case, WithProgram, cengmoat
 
 PAGE = os.path.join(PYTHON, "README.md")
 
@@ -66,22 +67,76 @@ class OtherPages(WithProgram):
 
 
 class Install(Case):
-    def test_install_without_the_network(self) -> None:
-        pip = [sys.executable, "-m", "pip"]
-        if subprocess.run([*pip, "--version"], capture_output=True).returncode:
+    """`pip install ./python` without the network, setuptools or wheel."""
+
+    def setUp(self) -> None:
+        super().setUp()
+        if subprocess.run([sys.executable, "-m", "pip", "--version"], capture_output=True).returncode:
             self.skipTest("pip isn't there")
-        source, target = os.path.join(self.folder, "python"), os.path.join(self.folder, "target")
-        shutil.copytree(PYTHON, source, ignore=shutil.ignore_patterns("tests", "build", "*.egg-info", "__pycache__"))
-        if importlib.util.find_spec("setuptools") is None:
-            self.skipTest("setuptools isn't there")
-        ended = subprocess.run([*pip, "install", "--no-index", "--no-deps", "--quiet", "--target", target, source], capture_output=True, text=True)
+        self.clone = os.path.join(self.folder, "clone")
+        shutil.copytree(PYTHON, os.path.join(self.clone, "python"), ignore=shutil.ignore_patterns("tests", "build", "*.egg-info", "__pycache__"))
+
+    def installed(self, *words: str) -> str:
+        """Install the package into a folder, and return the folder."""
+        target = os.path.join(self.folder, "target")
+        command = [sys.executable, "-m", "pip", "install", "--no-index", "--no-deps", "--quiet", "--target", target, *words]
+        # (pip's own environment for a build sees no installed packages, so neither setuptools nor wheel)
+        ended = subprocess.run([*command, os.path.join(self.clone, "python")], capture_output=True, text=True)
         self.assertEqual(ended.returncode, 0, ended.stderr)
-        code = "import cengmoat; print(cengmoat.__file__, len(cengmoat.answers.rows()) > 30)"
-        said = subprocess.run([sys.executable, "-c", code], env={**os.environ, "PYTHONPATH": target}, cwd=self.folder, capture_output=True,
-                              text=True)
-        self.assertIn(os.path.join(target, "cengmoat"), said.stdout)
-        self.assertTrue(said.stdout.strip().endswith("True"))
+        return target
+
+    def said(self, target: str, code: str) -> str:
+        environment = {name: value for name, value in os.environ.items() if name != "CENGMOAT_CUBED"}
+        environment |= {"PYTHONPATH": target, "PATH": "/usr/bin:/bin"}
+        ended = subprocess.run([sys.executable, "-c", code], env=environment, cwd=self.folder, capture_output=True, text=True)
+        self.assertEqual(ended.returncode, 0, ended.stderr)
+        return ended.stdout.strip()
+
+    def test_without_a_program(self) -> None:
+        target = self.installed()
+        code = "import cengmoat; print(cengmoat.__file__, len(cengmoat._texts.TEXTS) > 30)"
+        self.assertEqual(self.said(target, code), f"{os.path.join(target, 'cengmoat', '__init__.py')} True")
         self.assertTrue(os.path.isfile(os.path.join(target, "cengmoat", "py.typed")))
+        said = self.said(target, textwrap.dedent("""
+            import cengmoat, numpy
+            t = cengmoat.Store("arrays").save("t", numpy.arange(3))
+            try:
+                (t + 1).compute()
+            except cengmoat.NoProgram as error:
+                print(error)
+        """))
+        for wanted in ("There are two ways out", "pip install ./python", "CENGMOAT_CUBED", "program="):
+            self.assertIn(wanted, said)
+
+    def test_with_the_program_of_a_clone(self) -> None:
+        built = os.path.join(self.clone, "crates", "cu_bin", "out", "cu_bin")
+        os.makedirs(os.path.dirname(built))
+        with open(os.path.join(self.clone, "crates.txt"), "w", encoding="utf-8"):
+            pass
+        shutil.copy(PROGRAM or self.fake_program(""), built)
+        target = self.installed()
+        shutil.rmtree(self.clone)
+        self.assertEqual(self.said(target, "import cengmoat; print(cengmoat.Store('x').program)"), os.path.join(target, "cengmoat", "cubed"))
+        [info] = [name for name in os.listdir(target) if name.endswith(".dist-info")]
+        with open(os.path.join(target, info, "WHEEL"), encoding="utf-8") as file:
+            self.assertIn("Root-Is-Purelib: false\nTag: py3-none-linux", file.read())
+        if PROGRAM is not None:
+            code = "import cengmoat, numpy; print((cengmoat.Store('b').save('t', numpy.arange(3)) + 1).compute())"
+            self.assertEqual(self.said(target, code), "[1 2 3]")
+
+    def test_in_an_environment(self) -> None:
+        """As the page says: `python3 -m venv`, then pip of it; and again as an editable one."""
+        venv = os.path.join(self.folder, "venv")
+        python = "/usr/bin/python3" if os.path.exists("/usr/bin/python3") else sys.executable
+        if subprocess.run([python, "-m", "venv", "--system-site-packages", venv], capture_output=True).returncode:
+            self.skipTest("venv isn't there")
+        for words in ([], ["--editable"]):
+            pip = [os.path.join(venv, "bin", "pip"), "install", "--no-index", "--quiet", "--force-reinstall", "--no-deps", *words]
+            ended = subprocess.run([*pip, os.path.join(self.clone, "python")], capture_output=True, text=True)
+            self.assertEqual(ended.returncode, 0, ended.stderr)
+            said = subprocess.run([os.path.join(venv, "bin", "python"), "-c", "import cengmoat; print(cengmoat.__version__)"], cwd=self.folder,
+                                  capture_output=True, text=True)
+            self.assertEqual(said.stdout.strip(), cengmoat.__version__, said.stderr)
 
 
 if __name__ == "__main__":

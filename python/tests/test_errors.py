@@ -4,6 +4,7 @@ from __future__ import annotations
 import json
 import os
 import pickle
+import re
 import unittest
 
 from .support import TOP, Case, WithProgram, cengmoat, np, xp
@@ -42,10 +43,10 @@ class Lines(Case):
             again = pickle.loads(pickle.dumps(error))
             self.assertEqual((type(again), str(again), again.status), (type(error), str(error), status))
 
-    def test_texts_are_the_guide_s(self) -> None:
+    def test_texts(self) -> None:
         said = str(cengmoat.errors.error_of(5, LINES[5][0] + "\n", lambda node: "a + b"))
-        self.assertIn("node `a + b` needs 1600 bytes and 1599 are allowed", said)
-        self.assertIn("What to do: allow 1600 bytes", said)
+        self.assertIn("a task of `a + b` needs 1600 bytes, and 1599 are allowed", said)
+        self.assertIn("allowed_mem=1600", said)
         self.assertIn("the chunk file a/c/1 has 15 bytes in place of 16", str(cengmoat.errors.error_of(13, LINES[13][0])))
         self.assertIn("t is compressed or sharded", str(cengmoat.errors.error_of(7, LINES[7][0])))
         whole = cengmoat.errors.error_of(3, "error 3 code=7 node=0", lambda node: "a + b")
@@ -54,15 +55,33 @@ class Lines(Case):
         self.assertIn("signal 9", str(cengmoat.errors.error_of(-9, "")))
         self.assertIn("status 1: cubed: broken", str(cengmoat.errors.error_of(1, "cubed: broken\n")))
 
-    def test_rows_are_those_of_the_guide(self) -> None:
+    def test_each_answer_of_the_guide_has_a_text(self) -> None:
         if not os.path.isfile(GUIDE):
             self.skipTest("the guide lies in the repository")
         with open(GUIDE, encoding="utf-8") as file:
-            wanted = cengmoat.answers.rows_of(file.read())
-        with open(os.path.join(os.path.dirname(cengmoat.__file__), "answers.md"), encoding="utf-8") as file:
-            self.assertEqual(file.read().splitlines(), wanted, "python3 -m cengmoat.answers docs/GUIDE.md writes them anew")
-        for row in cengmoat.answers.rows():
-            self.assertTrue(row.cause, row)
+            lines = re.findall(r"^\| `error (\d+)([^`]*)`", file.read().partition("## Each answer")[2], re.M)
+        wanted = {(int(status), int(code[1]) if (code := re.search(r"(?:code|which)=(\d+)", rest)) else None) for status, rest in lines}
+        self.assertGreater(len(wanted), 50)
+        # (nothing is given to the program as a text, so answer 18 never comes)
+        self.assertEqual({it for it in wanted if it[0] != 18} - set(cengmoat._texts.TEXTS), set())
+
+    def test_texts_have_no_word_of_a_command(self) -> None:
+        """Each message is one of Python: no option, no command, no status line, and no field that isn't filled in."""
+        for (status, code), texts in cengmoat._texts.TEXTS.items():
+            fields = {field: 3 for field in cengmoat.errors.BY_STATUS[status].fields} | {"code": code, "which": code}
+            said = str(cengmoat.errors.BY_STATUS[status](**fields, expression="a + b"))
+            for word in ("--", "cubed ", "DIR", "`run`", "`resume`", "`drop`", "`plan`", "`check`", "`print`", "`load`", "error ", "{", "standard input"):
+                self.assertNotIn(word, said)
+            self.assertTrue(all(texts), (status, code))
+
+    def test_the_call_and_the_folder_are_said(self) -> None:
+        store = self.store(program=self.fake_program("sys.stderr.write('error 70')\nsys.exit(70)"))
+        t = store.save("t", np.arange(4))
+        for call, wanted in (((t + 1).compute, "x.compute()"), (lambda: (t + 1).store("y"), "x.store('y')"), ((t + 1).plan, "x.plan()"),
+                             (lambda: (t + 1).check("t"), "x.check('t')")):
+            with self.assertRaises(cengmoat.NoMemory) as found:
+                call()
+            self.assertTrue(str(found.exception).startswith(f"{wanted} in {store.folder}: the system had no memory"), str(found.exception))
 
     def test_programs_that_are_none(self) -> None:
         store = self.store(program=self.fake_program("sys.exit(0)"))
@@ -85,7 +104,7 @@ class Answers(WithProgram):
         self.t = self.here.save("t", np.arange(6, dtype="int32"), 4)
 
     def call(self, command: str, text: str) -> None:
-        cengmoat.program.call_program([self.here.program, self.here.folder, *command.split()], text)
+        cengmoat._program.call_program([self.here.program, self.here.folder, *command.split()], text)
 
     def expression(self, op: str) -> str:
         nodes = [{"id": "t", "op": "input", "name": "t"}, {"id": "y", "op": op, "args": ["t", "t"]}]
@@ -137,7 +156,7 @@ class Answers(WithProgram):
         with self.assertRaises(cengmoat.BadMetadata) as meta:
             both.compute()
         self.assertEqual((meta.exception.name, meta.exception.code), ("y", 2))
-        self.here.remove("y")
+        self.here.remove("y", inputs=True)
         self.assertRaises(cengmoat.NoArray, both.compute)
         self.assertEqual(self.here.names(), ["t"])
 

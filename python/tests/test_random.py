@@ -241,7 +241,7 @@ class Random(WithProgram):
             self.same(pair.lazy.compute(store=store), pair.exact, f"seed {seed}: {pair.lazy}")
             return
         stored = pair.lazy.store("result")
-        self.assertEqual((stored.dtype, stored.shape, stored.chunks), (pair.lazy.dtype, pair.lazy.shape, pair.lazy.chunks), f"seed {seed}")
+        self.assertEqual((stored.dtype, stored.shape, stored.chunksize), (pair.lazy.dtype, pair.lazy.shape, pair.lazy.chunksize), f"seed {seed}")
         self.same(store.read("result"), pair.exact, f"seed {seed}: {pair.lazy}")
 
     def test_random_expressions(self) -> None:

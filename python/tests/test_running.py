@@ -91,7 +91,7 @@ class Interrupts(Case):
         before = signal.signal(signal.SIGINT, signal.default_int_handler)
         self.addCleanup(signal.signal, signal.SIGINT, before)
         with self.assertRaises(KeyboardInterrupt):
-            with cengmoat.running.uninterrupted():
+            with cengmoat._temporary.uninterrupted():
                 signal.raise_signal(signal.SIGINT)
                 done.append(True)
         self.assertEqual(done, [True])
@@ -115,11 +115,36 @@ class Interrupts(Case):
         self.assertRaises(cengmoat.NoMemory, (store["t"] + 1).compute)
         self.assertEqual(self.left(), [])
 
+    def test_ctrl_c_says_what_is_left(self) -> None:
+        for work, wanted in (("(t + 1).compute()", ["x.compute() in", "was stopped. Nothing of it is left."]),
+                             ("(t + 1).store('y')", ["x.store('y') in", "Left of y: 1 of 2 chunks (16 B), 1 files on the way to them (1 B), and the record",
+                                                     "x.store('y', resume=True) goes on", "store.remove('y') removes it"])):
+            if os.path.exists(self.begun):
+                os.unlink(self.begun)
+            process = self.begin(work, self.fake_program(ENDLESS))
+            until(lambda: os.path.exists(self.begun))
+            process.send_signal(signal.SIGINT)
+            said = process.communicate(timeout=60)[1].decode()
+            last = said.strip().splitlines()[-1]
+            self.assertTrue(last.startswith("KeyboardInterrupt: "), said)
+            for text in wanted:
+                self.assertIn(text, last)
+
+    def test_a_lock_says_who_holds_it(self) -> None:
+        process = self.begin("(t + 1).store('y')", self.fake_program(ENDLESS))
+        until(lambda: os.path.exists(self.begun))
+        with self.assertRaises(cengmoat.Locked) as found:
+            self.here.save("y", np.arange(3))
+        self.assertEqual(found.exception.pid, process.pid)
+        self.assertRegex(str(found.exception), rf"process {process.pid}, since \d{{4}}-\d\d-\d\d \d\d:\d\d:\d\d: wait")
+        process.send_signal(signal.SIGINT)
+        self.end(process)
+
     def end_of_children(self, process: subprocess.Popen[bytes]) -> None:
         """End the program whose starter was killed. It holds the lock as long as it runs."""
         locks = os.path.join(self.here.folder, ".locks")
         [name] = [it for it in os.listdir(locks) if it.startswith("tmp-")]
-        self.assertTrue(cengmoat.locks.is_locked(self.here.folder, name))
+        self.assertTrue(cengmoat._locks.is_locked(self.here.folder, name))
         for number in filter(str.isdigit, os.listdir("/proc")):
             try:
                 with open(f"/proc/{number}/cmdline", "rb") as file:
@@ -128,7 +153,7 @@ class Interrupts(Case):
             except OSError:
                 continue
         self.end(process)
-        until(lambda: not cengmoat.locks.is_locked(self.here.folder, name))
+        until(lambda: not cengmoat._locks.is_locked(self.here.folder, name))
 
     def test_two_runs_of_one_name(self) -> None:
         process = self.begin("(t + 1).store('y')", self.fake_program(ENDLESS))
@@ -178,8 +203,16 @@ class Words(Case):
                                 f"{here.folder} check --retries 1"])
         os.unlink(path)
         self.assertRaises(cengmoat.NoMemory, (self.store(program=here.program)["t"] + 1).store, "y")
+        processors = len(os.sched_getaffinity(0))
         with open(path, encoding="utf-8") as file:
-            self.assertEqual(file.read(), f"{here.folder} run --allowed-mem 200000000 --reserved-mem 0 --split-every 4 --retries 2\n")
+            self.assertEqual(file.read(), f"{here.folder} run --allowed-mem 200000000 --reserved-mem 0 --split-every 4 --retries 2"
+                             f"{f' --workers {processors}' if processors > 1 else ''}\n")
+
+    def test_workers_are_the_processors_that_the_process_may_use(self) -> None:
+        code = "import os, cengmoat; os.sched_setaffinity(0, [min(os.sched_getaffinity(0))]); print(cengmoat.Store('x').workers, cengmoat.Store('x', workers=3).workers)"
+        said = subprocess.run([sys.executable, "-c", code], env={**os.environ, "PYTHONPATH": PYTHON}, capture_output=True, text=True)
+        self.assertEqual(said.stdout.split(), ["1", "3"], said.stderr)
+        self.assertEqual(self.store().workers, min(64, len(os.sched_getaffinity(0))))
 
 
 class Programs(Case):
@@ -194,7 +227,7 @@ class Programs(Case):
         return path
 
     def test_behind_the_script_of_a_repository(self) -> None:
-        find = cengmoat.program.find_program
+        find = cengmoat._program.find_program
         script = self.put("cubed")
         self.assertEqual(find(script), script)
         source, _ = self.put("crates/cu_top/src/lib.rt", 0o644), self.put("crates.txt", 0o644)
@@ -211,12 +244,12 @@ class Programs(Case):
         self.assertEqual(find(script), archived)
 
     def test_the_environment_and_the_path(self) -> None:
-        code = "import cengmoat; print(cengmoat.program.find_program())"
+        code = "import cengmoat; print(cengmoat._program.find_program())"
         one, other = self.put("one/cubed"), self.put("other/program")
         for more, wanted in (({"CENGMOAT_CUBED": other}, other), ({"CENGMOAT_CUBED": other, "PATH": os.path.dirname(one)}, other)):
             said = subprocess.run([sys.executable, "-c", code], env={**os.environ, "PYTHONPATH": PYTHON, **more}, capture_output=True, text=True)
             self.assertEqual(said.stdout.strip(), wanted, said.stderr)
-        self.assertRaises(cengmoat.NoProgram, cengmoat.program.find_program, os.path.join(self.folder, "none"))
+        self.assertRaises(cengmoat.NoProgram, cengmoat._program.find_program, os.path.join(self.folder, "none"))
 
 
 class Unfinished(WithProgram):
@@ -268,12 +301,29 @@ class Unfinished(WithProgram):
         with self.assertRaises(cengmoat.OtherPlan):
             (self.t * 2 + 3).store("y", resume=True)
         with self.assertRaises(cengmoat.OtherPlan):
-            self.y.store("y", store=self.store(allowed_mem=10**6), resume=True)
+            self.y.store("y", self.store(allowed_mem=10**6), resume=True)
         self.assertFalse(self.here.status()["y"].is_finished)
         self.same(self.y.store("y", resume=True).compute(), self.exact)
         self.same(self.y.store("y", resume=True).compute(), self.exact)
         self.same(self.y.store("new", resume=True).compute(), self.exact)
         self.assertTrue(all(it.is_finished for it in self.here.status()))
+
+    def test_a_whole_result_is_taken_up_without_the_program(self) -> None:
+        other = self.store()
+        folder = os.path.join(self.here.folder, "old")
+        os.makedirs(folder)
+        with open(os.path.join(folder, ".zarray"), "w", encoding="utf-8") as file:
+            file.write('{"chunks":[2],"compressor":null,"dtype":">i4","fill_value":-1,"filters":null,"order":"C","shape":[4],"zarr_format":2}')
+        old = other["old"]
+        for name, lazy in (("one", self.t * 2 + 1), ("two", old + self.t), ("three", self.t + np.array([1, 2, 3, 4], "int32"))):
+            exact = lazy.store(name, other).compute()
+            other._program = self.fake_program("sys.exit(70)")
+            self.same(lazy.store(name, other, resume=True).compute(), exact)
+            self.assertRaises(cengmoat.OtherPlan, (lazy + 1).store, name, other, resume=True)
+            other._program = PROGRAM
+        other.remove("old", inputs=True)
+        self.here.save("old", np.array([1, 2, 3, 4], "int32"))
+        self.assertRaises(cengmoat.OtherPlan, (other["old"] + self.t).store, "two", other, resume=True)
 
     def test_with_an_array_in_memory(self) -> None:
         def lazy() -> Any:
@@ -283,6 +333,34 @@ class Unfinished(WithProgram):
         os.unlink(os.path.join(self.here.folder, "m", "c", "2", "1"))
         self.same(lazy().store("m", resume=True).compute(), self.exact // 2 + np.array([1, 2, 3, 4]))
         self.assertEqual(self.here.names(), ["m", "t", "y"])
+
+
+class Counts(Case):
+    def test_an_input_is_known_to_be_finished_by_one_listing(self) -> None:
+        """No chunk of an input of 1,000 chunks is looked at: its folder is listed once, and its record and metadata are read."""
+        text = "print('equal 1000')"
+        here = self.store(program=self.fake_program(text))
+        y = here.save("y", np.arange(1000, dtype="int8"), 1)
+        os.makedirs(os.path.join(here.folder, "_cubed", "y"))
+        with open(os.path.join(here.folder, "_cubed", "y", "plan.json"), "w", encoding="utf-8"):
+            pass
+        asked: list[str] = []
+        before = os.stat, os.scandir, os.open
+
+        def counting(call: Any) -> Any:
+            def counted(path: Any, *args: Any, **options: Any) -> Any:
+                if isinstance(path, str) and path.startswith(os.path.join(here.folder, "y")):
+                    asked.append(path)
+                return call(path, *args, **options)
+            return counted
+
+        os.stat, os.scandir, os.open = map(counting, before)  # type: ignore[assignment]
+        try:
+            (y + 1).check("y")
+        finally:
+            os.stat, os.scandir, os.open = before
+        self.assertLess(len(asked), 12, asked)
+        self.assertEqual(sum(path.endswith("y/c") for path in asked), 2)
 
 
 class Running(WithProgram):
@@ -310,14 +388,14 @@ class Running(WithProgram):
 
     def test_storing(self) -> None:
         stored = cengmoat.to_zarr(self.t.T, "turned")
-        self.assertEqual((stored.node.op, stored.shape, stored.chunks), ("input", (6, 5), (4, 2)))
+        self.assertEqual((stored.node.op, stored.shape, stored.chunksize), ("input", (6, 5), (4, 2)))
         self.assertEqual(self.here.report.ops, 1)
         self.same(self.here.read("turned", (slice(1, None, 2), -1)), self.data.T[1::2, -1])
         self.same(cengmoat.from_zarr(self.here.folder, "turned", program=PROGRAM).compute(), self.data.T)
-        (xp.asarray([1, 2]) - xp.asarray([5, 9])).store("memory", store=self.here)
+        (xp.asarray([1, 2]) - xp.asarray([5, 9])).store("memory", self.here)
         self.same(self.here.read("memory"), np.array([-4, -7]))
         self.assertEqual([name for name in self.here.names() if name.startswith("data-")], [])
-        xp.ones((2, 2), dtype="uint8").store("made", store=self.here)
+        xp.ones((2, 2), dtype="uint8").store("made", self.here)
         self.same(self.here.read("made"), np.ones((2, 2), "uint8"))
 
     def test_plans(self) -> None:
@@ -327,12 +405,41 @@ class Running(WithProgram):
         self.assertEqual([it.nbytes for it in plan], [2 * 4, 6 * 16, 6 * 32, 2 * 32])
         self.assertEqual((plan.tasks, plan.stored, plan.nbytes), (1 + 6 + 6 + 2, 2 + 6 + 6 + 2, sum(it.nbytes for it in plan)))
         self.assertEqual(plan.peak, max(it.memory for it in plan))
-        lazy.store("sums")
+        lazy.store("sums", keep=True)
         self.assertEqual((self.here.report.tasks, self.here.report.peak), (plan.tasks, plan.peak))
         self.assertEqual(self.stored_bytes("sums"), plan.nbytes)
         for said in ("t + o", "sum(t + o, axis=0)", "(5, 6)", "int16", "copy", "peak"):
             self.assertIn(said, repr(plan))
         self.assertIn("<table>", plan._repr_html_())
+
+    def test_what_plans_read_and_inline(self) -> None:
+        store = self.store(workers=3)
+        t, o = store["t"], store.save("o", np.ones(6, "int8"), 6)
+        lines = np.arange(6, dtype="int16")
+        for lazy, reads, inlined in (
+                ((t + o).sum(axis=0), [("o",), ("t", "op 0"), ("op 1",), ("op 2",)], ()), ((t * 2 + 1).rechunk((5, 6)), [("t",), ("op 0",)], ("t * 2",)),
+                (t.argmax(axis=0), [("t",), ("op 0",)], ()), (t @ t.T, [("t",), ("t", "op 0"), ("op 1",)], ()), (xp.flip(t) + 1, [("t",), ("op 0",)], ()),
+                (((t + 1) * (t + 1)).max(), [("t",), ("op 0",), ("op 1",), ("op 2",), ("op 3",)], ()), (t - lines, [("t", "op 0")], ())):
+            plan = lazy.plan()
+            wanted = {(it.kind, it.number): it.reads for it in plan}
+            if plan.operations[0].kind == "copy" and len(plan) == len(reads) + 1:
+                wanted.pop(("copy", 0))
+            self.assertEqual((list(wanted.values()), plan.inlined), (reads, inlined), plan)
+            self.assertEqual((plan.inputs["t"], plan.workers, plan.memory), (6 * 16, 3, plan.peak * min(3, max(it.tasks for it in plan))))
+            for said in ("computed within the tasks of others", "read: t (96 B)", f"memory: at most {cengmoat._sizes.bytes_text(plan.memory)} with 3 workers"):
+                self.assertIn(said, repr(plan))
+                self.assertIn(said, plan._repr_html_())
+
+    def test_a_run_that_is_explained(self) -> None:
+        for call in (lambda: (self.t + 1).compute(explain=True), lambda: (self.t + 1).store("y", explain=True),
+                     lambda: cengmoat.compute(self.t + 1, explain=True), lambda: cengmoat.to_zarr(self.t + 1, "z", explain=True)):
+            before, sys.stdout = sys.stdout, io.StringIO()
+            try:
+                call()
+                said = sys.stdout.getvalue()
+            finally:
+                sys.stdout = before
+            self.assertIn(repr((self.t + 1).plan()), said)
 
     def stored_bytes(self, name: str) -> int:
         """Return the bytes of all chunks of a run."""
@@ -345,16 +452,16 @@ class Running(WithProgram):
                                        wide @ wide.T, xp.matmul(wide[:, 0], wide), wide.astype("int8").astype("int64"), wide.sum(axis=0))):
             here = self.store(allowed_mem=300 if number == 0 else 10**5)
             plan = lazy.plan(store=here)
-            lazy.store(f"r{number}", store=here)
+            lazy.store(f"r{number}", here, keep=True)
             self.assertEqual(self.stored_bytes(f"r{number}"), plan.nbytes, plan)
         self.assertEqual([it.kind for it in wide.rechunk((1, 12)).plan(store=self.store(allowed_mem=300))], ["copy", "copy"])
 
     def test_progress(self) -> None:
         plan = (self.t * 2 + 1).plan()
         stream = io.StringIO()
-        bar = cengmoat.progress.Bar(self.here.folder, "p", plan, "p", stream)
+        bar = cengmoat._progress.Bar(self.here.folder, "p", plan, "p", stream)
         bar.bar = None
-        (self.t * 2 + 1).store("p")
+        (self.t * 2 + 1).store("p", keep=True)
         self.assertEqual(bar.stored(), plan.stored)
         bar.show(plan.operations[0].stored)
         bar.watch()
@@ -365,6 +472,7 @@ class Running(WithProgram):
         try:
             (self.t + 1).store("q", progress=True)
             self.assertIn("6/6", sys.stderr.getvalue())
+            self.assertIn("96 B of 96 B", sys.stderr.getvalue())
             (self.t + 1).store("r", progress=False)
             self.assertNotIn("r:", sys.stderr.getvalue())
         finally:

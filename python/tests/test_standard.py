@@ -11,7 +11,7 @@ CONSTANTS = {"e", "inf", "nan", "newaxis", "pi"}
 DATA_TYPES = {"bool", "int8", "int16", "int32", "int64", "uint8", "uint16", "uint32", "uint64", "float32", "float64", "complex64",
               "complex128"}
 # What a function has beside the standard's parameters.
-OWN = {"chunks"}
+OWN = {"chunks", "options"}
 FLOATS_ONE = "acos acosh asin asinh atan atanh conj cos cosh exp expm1 imag log log1p log2 log10 real sin sinh sqrt tan tanh mean std var"
 METHODS = """__abs__ __add__ __and__ __array_namespace__ __bool__ __complex__ __eq__ __float__ __floordiv__ __ge__ __getitem__ __gt__ __index__
 __int__ __invert__ __le__ __lshift__ __lt__ __matmul__ __mod__ __mul__ __ne__ __neg__ __or__ __pos__ __pow__ __rshift__ __sub__ __truediv__
@@ -44,7 +44,7 @@ class Standard(Case):
     def test_own_parameters_are_by_name_alone(self) -> None:
         for name in table():
             for it in inspect.signature(getattr(xp, name)).parameters.values():
-                if it.name in OWN:
+                if it.name in OWN and it.kind != inspect.Parameter.VAR_KEYWORD:
                     self.assertEqual((it.kind, it.default), (inspect.Parameter.KEYWORD_ONLY, None), name)
 
     def test_methods(self) -> None:

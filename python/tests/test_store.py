@@ -25,7 +25,7 @@ class Saving(Case):
             data = data.astype(dtype).reshape(shape)
             chunks = tuple(pick.randint(1, size + 2) for size in shape)
             lazy = store.save(f"a{number}", data, chunks)
-            self.assertEqual((lazy.dtype, lazy.shape, lazy.chunks), (data.dtype, shape, chunks))
+            self.assertEqual((lazy.dtype, lazy.shape, lazy.chunksize), (data.dtype, shape, chunks))
             self.same(store.read(f"a{number}"), data)
             key = tuple(pick.choice([slice(None), slice(pick.randint(-9, 9), pick.randint(-9, 9), pick.choice([-3, -2, -1, 1, 2])),
                                      *([pick.randint(-size, size - 1)] if size else [])]) for size in shape)
@@ -56,6 +56,20 @@ class Saving(Case):
         store = self.store()
         self.same(store.save("a", np.array([1, 258], ">u2")).compute(), np.array([1, 258], "uint16"))
         self.same(store.save("b", [[1, 2], [3, 4]]).compute(), np.array([[1, 2], [3, 4]]))
+
+    def test_counts_of_stored_chunks(self) -> None:
+        """Each chunk that is stored counts, in each form of keys, and no other file does."""
+        for encoding, separator in itertools.product(("default", "v2"), "./"):
+            for shape, chunks in (((), ()), ((5,), (2,)), ((4, 6), (2, 4)), ((3, 4, 5), (1, 2, 2))):
+                meta = cengmoat._metadata.Metadata(np.dtype("int8"), shape, chunks, 0, False, encoding, separator)
+                name, path = f"{encoding}{'.-'[separator == '/']}{len(shape)}", ""
+                for count, coordinate in enumerate(meta.coordinates(), 1):
+                    path = os.path.join(self.folder, meta.chunk_key(name, coordinate))
+                    os.makedirs(os.path.dirname(path), exist_ok=True)
+                    for other in (path, f"{path}.new12", os.path.join(os.path.dirname(path), "99")):
+                        with open(other, "w", encoding="utf-8"):
+                            pass
+                    self.assertEqual(cengmoat._files.stored_chunks(self.folder, name, meta), count, (encoding, separator, shape))
 
     def test_a_chunk_at_a_time(self) -> None:
         class Source:
@@ -99,7 +113,7 @@ class Saving(Case):
         with open(os.path.join(folder, "v", "0.1"), "wb") as file:
             file.write(np.array([5, 99], ">i2").tobytes())
         self.same(cengmoat.Store(folder).read("v"), np.array([[-7, -7, 5], [-7, -7, -7]], "int16"))
-        self.assertEqual(cengmoat.from_zarr(folder, "v").chunks, (1, 2))
+        self.assertEqual(cengmoat.from_zarr(folder, "v").chunksize, (1, 2))
         self.assertEqual(cengmoat.Store(folder).status()["v"].stored, 1)
 
     def test_version_2_is_read_where_there_is_no_version_3(self) -> None:
@@ -116,7 +130,7 @@ class Saving(Case):
             store.save("x", np.zeros(4, "int8"))
 
     def test_metadata_as_the_program_reads_it(self) -> None:
-        for path, read in ((TABLE, cengmoat.metadata.read_metadata), (TABLE_V2, cengmoat.metadata.read_zarray)):
+        for path, read in ((TABLE, cengmoat._metadata.read_metadata), (TABLE_V2, cengmoat._metadata.read_zarray)):
             if not os.path.isfile(path):
                 self.skipTest("the table of cases lies in the repository")
             with open(path, encoding="utf-8") as file:
@@ -200,11 +214,11 @@ class BadInput(Case):
                      lambda: bool(x), lambda: int(x), lambda: xp.ones(3, dtype="int8").store("made"), lambda: xp.squeeze(x, 1)):
             self.assertRaises(ValueError, call)
         for call in (lambda: x + 0.5, lambda: x + True, lambda: truth + truth, lambda: x & truth, lambda: xp.logical_and(x, x), lambda: x + "a",
-                     lambda: truth.sum(), lambda: x.astype("text"), lambda: x.astype(None), lambda: xp.where(x, x, x), lambda: x.sum(axis=0.5),
+                     lambda: x.astype("text"), lambda: x.astype(None), lambda: xp.where(x, x, x), lambda: x.sum(axis=0.5),
                      lambda: x == 0.5, lambda: x == "a", lambda: x < None, lambda: x.sum(keepdims=1), lambda: xp.add(1, 2), lambda: x + [1, 2],
                      lambda: xp.sum([1, 2]), lambda: x.astype("uint64") + x, lambda: truth < truth, lambda: -truth, lambda: x.argmax(axis=(0,)),
                      lambda: hash(x), lambda: xp.sum(x, dtype="bool"), lambda: cengmoat.compute(3), lambda: cengmoat.to_zarr(3, "a"),
-                     lambda: len(x.sum()), lambda: xp.arange(3, dtype="bool"), lambda: truth @ truth, lambda: range(x), lambda: np.add(x, 1), lambda: list(x.sum())):
+                     lambda: len(x.sum()), lambda: xp.arange(3, dtype="bool"), lambda: truth @ truth, lambda: range(x), lambda: list(x.sum())):
             self.assertRaises(TypeError, call)
         with self.assertRaises(TypeError):
             x[0] = 1  # type: ignore[index]
@@ -213,7 +227,46 @@ class BadInput(Case):
         other = cengmoat.Store(os.path.join(self.folder, "second"))
         y = other.save("y", np.arange(3))
         self.assertRaises(ValueError, lambda: self.x + y)
-        self.assertRaises(ValueError, self.x.store, "z", store=other)
+        self.assertRaises(ValueError, self.x.store, "z", other)
+
+
+class Mappings(Case):
+    def setUp(self) -> None:
+        super().setUp()
+        self.here = self.store()
+        for name in ("temperature", "rain", "snow"):
+            self.here.save(name, np.arange(3))
+
+    def test_a_store_is_a_mapping(self) -> None:
+        here = self.here
+        self.assertEqual((len(here), list(here), list(here.keys())), (3, ["rain", "snow", "temperature"], ["rain", "snow", "temperature"]))
+        self.assertEqual([(name, x.shape) for name, x in here.items()], [("rain", (3,)), ("snow", (3,)), ("temperature", (3,))])
+        self.assertEqual((here.get("rain").shape, here.get("hail"), "rain" in here, "hail" in here), ((3,), None, True, False))
+        self.assertEqual((here == here, here == self.store(), len({here, self.store()})), (True, False, 2))
+        with self.store() as store:
+            self.assertIsInstance(store, cengmoat.Store)
+
+    def test_what_a_dict_does_and_a_store_doesn_t(self) -> None:
+        with self.assertRaises(TypeError) as found:
+            del self.here["rain"]
+        self.assertIn("store.remove('rain')", str(found.exception))
+        with self.assertRaises(TypeError) as found:
+            self.here["new"] = np.arange(3)
+        self.assertIn("store.save('new', x)", str(found.exception))
+        with self.assertRaises(TypeError) as found:
+            self.here["new"] = self.here["rain"] + 1
+        self.assertIn("x.store('new')", str(found.exception))
+        self.assertEqual(self.here.names(), ["rain", "snow", "temperature"])
+
+    def test_near_names(self) -> None:
+        for call in (self.here.__getitem__, self.here.read, self.here.remove):
+            with self.assertRaises(KeyError) as found:
+                call("temprature")
+            self.assertEqual(str(found.exception).splitlines()[0].partition(": there is ")[2] or str(found.exception).partition("there is ")[2],
+                             f"no array 'temprature' in {self.here.folder}. Near names: temperature.")
+        with self.assertRaises(cengmoat.NoArray) as found:
+            cengmoat.from_zarr(os.path.join(self.folder, "nowhere"), "t")
+        self.assertIn("nowhere, which is no folder", str(found.exception))
 
 
 class Known(Case):
@@ -222,22 +275,22 @@ class Known(Case):
     def test_attributes(self) -> None:
         x = self.store().save("t", np.zeros((5, 7), "int16"), (2, 3))
         y = x.astype("int64").sum(axis=0)
-        self.assertEqual((x.shape, x.chunks, x.numblocks, x.ndim, x.size, x.nbytes, len(x)), ((5, 7), (2, 3), (3, 3), 2, 35, 70, 5))
-        self.assertEqual((y.shape, y.chunks, y.numblocks, y.nbytes), ((7,), (3,), (3,), 56))
-        self.assertEqual(repr(y), "cengmoat.Array<sum, shape=(7,), dtype=int64, chunks=(3,), nbytes=56 B, operations=2>")
-        self.assertEqual(repr(x), "cengmoat.Array<t, shape=(5, 7), dtype=int16, chunks=(2, 3), nbytes=70 B, operations=0>")
+        self.assertEqual((x.shape, x.chunksize, x.numblocks, x.ndim, x.size, x.nbytes, len(x)), ((5, 7), (2, 3), (3, 3), 2, 35, 70, 5))
+        self.assertEqual((y.shape, y.chunksize, y.numblocks, y.nbytes), ((7,), (3,), (3,), 56))
+        self.assertEqual(repr(y), "cengmoat.Array<sum, shape=(7,), dtype=int64, chunksize=(3,), nbytes=56 B, operations=2>")
+        self.assertEqual(repr(x), "cengmoat.Array<t, shape=(5, 7), dtype=int16, chunksize=(2, 3), nbytes=70 B, operations=0>")
         for said in ("70 B", "(5, 7)", "(2, 3)", "9 chunks", "int16", "0 operations"):
             self.assertIn(said, x._repr_html_())
 
     def test_chosen_chunks(self) -> None:
         for shape, dtype in (((4096, 4096), "int64"), ((10**6, 300), "int8"), ((3,), "int8"), ((0, 5), "int8"), ((2**20, 2**20), "int8")):
             x = xp.zeros(shape, dtype=dtype)
-            chunk = int(np.prod(x.chunks)) * x.itemsize
+            chunk = int(np.prod(x.chunksize)) * x.itemsize
             self.assertLessEqual(chunk, 2**28)
             self.assertLessEqual(int(np.prod(x.numblocks)), 65_536)
             if x.nbytes <= 2**37:
                 self.assertLessEqual(chunk, 16 * 2**20)
-        self.assertEqual(xp.zeros((4, 6), dtype="int8", chunks=(-1, 2)).chunks, (4, 2))
+        self.assertEqual(xp.zeros((4, 6), dtype="int8", chunks=(-1, 2)).chunksize, (4, 2))
 
     def test_chunks_of_results(self) -> None:
         """What the guide says of the chunks of each kind of result."""
@@ -257,11 +310,11 @@ class Known(Case):
             ("matmul of many", x[None] @ xp.broadcast_to(x.T, (5, 6, 4), chunks=(2, 4, 3)), (2, 3, 3)),
             ("rechunk", x.rechunk((-1, 2)), (4, 2)), ("rechunk", x.rechunk({-1: 5}), (3, 5)), ("rechunk", x.rechunk(9), (9, 9)),
         ]:
-            self.assertEqual(lazy.chunks, wanted, said)
+            self.assertEqual(lazy.chunksize, wanted, said)
 
     def test_expressions_are_said(self) -> None:
         t, o = (self.store().save(name, np.ones((2, 3), "int8")) for name in "to")
-        said = cengmoat.nodes.expression
+        said = cengmoat._nodes.expression
         self.assertEqual(said(((t * 2 + o) > 3).node), "((t * 2) + o) > 3")
         self.assertEqual(said((-t)[1:, ::-1].sum(axis=0, keepdims=True).node), "sum((-t)[1:, ::-1], axis=0, keepdims=True)")
         self.assertEqual(said((-(t[1:])).node), "-t[1:]")
@@ -274,12 +327,12 @@ class Known(Case):
 
     def test_same_nodes_are_one(self) -> None:
         t = self.store().save("t", np.ones(3, "int8"))
-        graph = cengmoat.nodes.Graph(((t + 1) * (t + 1) + (t + 1)).node)
+        graph = cengmoat._nodes.Graph(((t + 1) * (t + 1) + (t + 1)).node)
         self.assertEqual([node.op for node in graph.nodes], ["input", "add", "multiply", "add"])
         deep = t
         for _ in range(5000):
             deep = deep + deep
-        self.assertEqual(len(cengmoat.nodes.Graph(deep.node).nodes), 5001)
+        self.assertEqual(len(cengmoat._nodes.Graph(deep.node).nodes), 5001)
         with self.assertRaises(cengmoat.BadExpression) as found:
             deep.compute()
         self.assertIn("5001", str(found.exception))

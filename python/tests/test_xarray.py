@@ -1,10 +1,14 @@
 """Lazy arrays in xarray, where it can be imported."""
 from __future__ import annotations
 
+import importlib.util
+import os
+import re
 import unittest
+import warnings
 from typing import Any
 
-from .support import WithProgram, cengmoat, np, xp
+from .support import PYTHON, WithProgram, cengmoat, np, xp
 
 try:
     import xarray
@@ -62,6 +66,66 @@ class XArray(WithProgram):
         self.assertEqual(int(self.lazy.sum()), int(self.data.sum()))
         before = self.keys(self.here.folder)
         self.assertEqual([key for key in before if key.startswith("tmp-")], [])
+
+    def test_rows_of_the_page(self) -> None:
+        """Each row of the page's table gives what it says, and NumPy's numbers."""
+        with open(os.path.join(PYTHON, "README.md"), encoding="utf-8") as file:
+            rows = re.findall(r"^\| `(.*)` \| (lazy|computed|refused) \|$", file.read(), re.M)
+        self.assertGreater(len(rows), 50)
+        coords = {"time": np.datetime64("2000-01-25", "ns") + np.arange(8) * np.timedelta64(1, "D"), "place": list("abcdef")}
+        data = np.arange(-12, 36, dtype="int32").reshape(8, 6)
+        arrays = {"x": (self.here.save("x", data, (3, 4)), data), "b": (self.here["b"], self.base)}
+        dims = {"x": ("time", "place"), "b": ("place",)}
+        both = [{"np": np, "xarray": xarray, **{name: xarray.DataArray(pair[at], dims=dims[name], coords={dim: coords[dim] for dim in dims[name]})
+                                                for name, pair in arrays.items()}} for at in (0, 1)]
+        for call, what in rows:
+            with self.subTest(call), warnings.catch_warnings():
+                warnings.simplefilter("ignore")
+                if what == "refused":
+                    with self.assertRaises(NotImplementedError) as found:
+                        eval(call, dict(both[0]))
+                    self.assertGreater(len(str(found.exception)), 20)
+                    continue
+                lazy, exact = (eval(call, dict(names)) for names in both)
+                if what == "lazy":
+                    self.agree(lazy, exact)
+                else:
+                    self.assertIsInstance(lazy.data, np.ndarray)
+                    self.assertTrue(lazy.identical(exact))
+
+    def test_chunks(self) -> None:
+        wanted = {"time": (2, 2), "place": (4, 2)}
+        self.assertEqual(self.lazy.chunks, ((2, 2), (4, 2)))
+        self.assertEqual(dict(self.lazy.chunksizes), wanted)
+        self.assertEqual(dict(self.lazy.to_dataset(name="t").chunks), wanted)
+        self.assertEqual(self.lazy.chunk({"time": 1}).chunks, ((1, 1, 1, 1), (4, 2)))
+        self.assertEqual(self.lazy.data.rechunk(((3, 1), (6,))).chunksize, (3, 6))
+        self.assertRaises(ValueError, self.lazy.data.rechunk, ((1, 3), (6,)))
+
+    def test_to_zarr(self) -> None:
+        if importlib.util.find_spec("zarr") is None:
+            self.skipTest("zarr isn't there")
+        path = os.path.join(self.folder, "written")
+        (self.lazy - self.lazy_base).to_dataset(name="anomaly").to_zarr(path)
+        with xarray.open_zarr(path) as found:
+            self.same(found["anomaly"].values, (self.exact - self.exact_base).values)
+
+    def test_an_array_of_dask_says_which_to_convert(self) -> None:
+        if importlib.util.find_spec("dask") is None:
+            self.skipTest("dask isn't there")
+        other = self.exact.chunk(2)
+        for call in (lambda: self.lazy + other, lambda: other - self.lazy, lambda: xarray.where(self.lazy > 2, self.lazy, other)):
+            with self.assertRaises(TypeError) as found:
+                call()
+            self.assertIn("convert one", str(found.exception))
+
+    def test_dask_computes_them(self) -> None:
+        if importlib.util.find_spec("dask") is None:
+            self.skipTest("dask isn't there")
+        import dask
+        one, other = dask.compute(self.lazy.data + 1, self.lazy_base.data)
+        self.same(one, self.data + 1)
+        self.same(other, self.base)
 
     def test_stored_results(self) -> None:
         anomaly = self.lazy - self.lazy_base

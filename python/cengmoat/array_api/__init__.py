@@ -54,3 +54,13 @@ __all__ = [
     "triu", "trunc", "uint16", "uint32", "uint64", "uint8", "unique_all", "unique_counts", "unique_inverse",
     "unique_values", "var", "vecdot", "where", "zeros", "zeros_like",
 ]
+
+
+def __getattr__(name: str) -> object:
+    """Return, of a function of NumPy that the standard hasn't, one that says what to write in its place (xarray asks for them)."""
+    from .._refused import function
+
+    found = function(name)
+    if found is None:
+        raise AttributeError(f"module {__name__!r} has no attribute {name!r}")
+    return found

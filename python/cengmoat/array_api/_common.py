@@ -5,10 +5,10 @@ from typing import Any, NoReturn, Union
 
 import numpy as np
 
-from ..array import Array
-from ..dtypes import DType, Literal, NDArray, as_dtype, as_literal
-from ..nodes import Node
-from ..operators import memory_node, operand, scalar_node
+from .._array import Array
+from .._dtypes import DType, Literal, NDArray, as_dtype, as_literal
+from .._nodes import Node
+from .._operators import memory_node, operand, scalar_node
 
 Axes = Union[int, tuple[int, ...], None]
 Argument = Union[Array, NDArray, Literal]

@@ -5,11 +5,11 @@ from typing import Any, Optional, Union
 
 import numpy as np
 
-from .. import build, views
-from ..array import Array
-from ..dtypes import BOOL, INT64, DType, as_dtype, as_int, as_literal, is_written
-from ..operators import memory_node, scalar_node
-from ..shapes import ChunksLike, as_chunks, as_shape
+from .. import _build as build, _views as views
+from .._array import Array
+from .._dtypes import BOOL, INT64, DType, as_dtype, as_int, as_literal, check_unmasked, is_written
+from .._operators import memory_node, scalar_node
+from .._shapes import ChunksLike, as_chunks, as_shape
 from ._common import FLOATS, check_device, dtype_or, lacks, made_dtype, node_of
 
 
@@ -77,6 +77,7 @@ def asarray(obj: Any, /, *, dtype: Any = None, device: Any = None, copy: Optiona
         value = as_literal(obj)
         default = np.asarray(obj).dtype if isinstance(obj, np.generic) else BOOL if isinstance(value, bool) else INT64
         return Array(scalar_node(value, dtype_or(dtype, default)))
+    check_unmasked(obj)
     data = np.asarray(obj)
     if data.dtype == object or (data.size == 0 and not isinstance(obj, np.ndarray) and dtype is None):
         raise TypeError(f"an array of {data.dtype} isn't one of integers or truth values: say dtype= of what is empty")

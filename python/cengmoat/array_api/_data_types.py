@@ -7,10 +7,10 @@ from typing import Any, Union
 
 import numpy as np
 
-from .. import build, views
-from ..array import Array
-from ..dtypes import DType, as_dtype, greatest, least, promote
-from ..shapes import broadcast
+from .. import _build as build, _views as views
+from .._array import Array
+from .._dtypes import DType, as_dtype, greatest, least, promote
+from .._shapes import broadcast
 from ._common import FLOATS, lacks, node_of
 
 bool = np.dtype("bool")

@@ -3,10 +3,10 @@ from __future__ import annotations
 
 from typing import Any
 
-from .. import build, views
-from ..array import Array
-from ..dtypes import BOOL
-from ..nodes import Node
+from .. import _build as build, _views as views
+from .._array import Array
+from .._dtypes import BOOL
+from .._nodes import Node
 from ._common import FLOATS, Argument, lacks, node_of, node_or_literal
 
 

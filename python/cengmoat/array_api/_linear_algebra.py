@@ -3,10 +3,10 @@ from __future__ import annotations
 
 from typing import Sequence, Union
 
-from .. import build, views
-from ..array import Array
-from ..dtypes import BOOL, promote
-from ..shapes import one_axis, product
+from .. import _build as build, _views as views
+from .._array import Array
+from .._dtypes import BOOL, promote
+from .._shapes import one_axis, product
 from ._common import node_of
 
 

@@ -3,8 +3,8 @@ from __future__ import annotations
 
 from typing import Optional, Union
 
-from .. import views
-from ..array import Array
+from .. import _views as views
+from .._array import Array
 from ._common import Axes, node_of
 
 

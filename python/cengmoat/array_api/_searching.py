@@ -3,11 +3,11 @@ from __future__ import annotations
 
 from typing import Any, Optional
 
-from .. import build
-from ..array import Array
-from ..dtypes import BOOL, INT64
-from ..nodes import Node
-from ..operators import scalar_node
+from .. import _build as build
+from .._array import Array
+from .._dtypes import BOOL, INT64
+from .._nodes import Node
+from .._operators import scalar_node
 from ._common import VALUES, Argument, lacks, node_of, node_or_literal
 
 SORTING = "a result would need all chunks along the axis at once"

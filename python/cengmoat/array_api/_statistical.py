@@ -3,7 +3,7 @@ from __future__ import annotations
 
 from typing import Any, Union
 
-from ..array import Array
+from .._array import Array
 from ._common import FLOATS, Axes, lacks, node_of
 
 
@@ -22,7 +22,7 @@ def max(x: Array, /, *, axis: Axes = None, keepdims: bool = False) -> Array:
     return Array(node_of(x)).max(axis, keepdims=keepdims)
 
 
-def mean(x: Array, /, *, axis: Axes = None, keepdims: bool = False) -> Array:
+def mean(x: Array, /, *, axis: Axes = None, keepdims: bool = False, **options: Any) -> Array:
     """Refuse: there are no floats."""
     lacks("mean", f"{FLOATS}; sum(x) // n is the mean rounded down")
 
@@ -37,7 +37,8 @@ def prod(x: Array, /, *, axis: Axes = None, dtype: Any = None, keepdims: bool = 
     return Array(node_of(x)).prod(axis, dtype=dtype, keepdims=keepdims)
 
 
-def std(x: Array, /, *, axis: Axes = None, correction: Union[int, float] = 0.0, keepdims: bool = False) -> Array:
+def std(x: Array, /, *, axis: Axes = None, correction: Union[int, float] = 0.0, keepdims: bool = False,
+        **options: Any) -> Array:
     """Refuse: there are no floats."""
     lacks("std", FLOATS)
 
@@ -48,7 +49,7 @@ def sum(x: Array, /, *, axis: Axes = None, dtype: Any = None, keepdims: bool = F
     Parameters
     ----------
     x : Array
-        Of integers.
+        Of integers, or of truth values, which are counted.
     axis : int or tuple of int, optional
         The axes that are summed.
     dtype : dtype, optional
@@ -58,8 +59,6 @@ def sum(x: Array, /, *, axis: Axes = None, dtype: Any = None, keepdims: bool = F
 
     Raises
     ------
-    TypeError
-        For bool.
     IndexError
         Where the array hasn't an axis.
     ValueError
@@ -68,6 +67,7 @@ def sum(x: Array, /, *, axis: Axes = None, dtype: Any = None, keepdims: bool = F
     return Array(node_of(x)).sum(axis, dtype=dtype, keepdims=keepdims)
 
 
-def var(x: Array, /, *, axis: Axes = None, correction: Union[int, float] = 0.0, keepdims: bool = False) -> Array:
+def var(x: Array, /, *, axis: Axes = None, correction: Union[int, float] = 0.0, keepdims: bool = False,
+        **options: Any) -> Array:
     """Refuse: there are no floats."""
     lacks("var", FLOATS)

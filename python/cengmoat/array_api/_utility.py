@@ -1,7 +1,7 @@
 """Whether some or all elements over axes are true; of integers those count as true that aren't 0."""
 from __future__ import annotations
 
-from ..array import Array
+from .._array import Array
 from ._common import Axes, node_of
 
 

@@ -4,50 +4,54 @@ from __future__ import annotations
 import contextlib
 import itertools
 import os
-import shutil
 from typing import Any, Iterator, Optional
 
 import numpy as np
 
-from .dtypes import NDArray
+from ._dtypes import NDArray
 from .errors import BadChunk
-from .index import Index, Taken
-from .metadata import Metadata
-from .shapes import Shape
+from ._index import Index, Taken
+from ._metadata import Metadata
+from ._opening import new_file, read_regular, told
+from ._shapes import Shape
 
-_COUNTER = itertools.count()
 
+def write_file(folder: str, key: str, data: bytes, sync: bool = True) -> None:
+    """Store a file whole: no moment and no stop leaves a part of it under its name.
 
-def write_file(path: str, data: bytes) -> None:
-    """Store a file whole: no moment and no stop leaves a part of it under its name."""
-    os.makedirs(os.path.dirname(path), exist_ok=True)
-    # (the form of the program's own names: `.new` and a number)
-    new = f"{path}.new{os.getpid()}{next(_COUNTER):06}"
+    Parameters
+    ----------
+    folder, key : str
+        The folder of the arrays, and the file below it.
+    data : bytes
+        What it has.
+    sync : bool
+        Whether it is on the disk before it has its name.
+
+    Raises
+    ------
+    StoreFailed
+        Where the system refuses, as on a full disk; it says what the system says.
+    """
+    path = os.path.join(folder, key)
+    new = None
     try:
-        with open(new, "wb") as file:
-            file.write(data)
-            file.flush()
-            os.fsync(file.fileno())
+        os.makedirs(os.path.dirname(path), exist_ok=True)
+        descriptor, new = new_file(path)
+        with open(descriptor, "wb", buffering=0) as file:
+            left = memoryview(data)
+            while left:
+                left = left[file.write(left):]
+            if sync:
+                os.fsync(descriptor)
         os.replace(new, path)
-    except BaseException:
-        with contextlib.suppress(OSError):
-            os.unlink(new)
+    except BaseException as error:
+        if new is not None:
+            with contextlib.suppress(OSError):
+                os.unlink(new)
+        if isinstance(error, OSError):
+            raise told(key, error) from None
         raise
-
-
-def read_file(path: str) -> Optional[bytes]:
-    """Return a file's content, or None where there is none."""
-    try:
-        with open(path, "rb") as file:
-            return file.read()
-    except (FileNotFoundError, NotADirectoryError):
-        return None
-
-
-def remove_folder(path: str) -> None:
-    """Remove a folder and all that is in it; that it is missing is no fault."""
-    with contextlib.suppress(FileNotFoundError):
-        shutil.rmtree(path)
 
 
 def chunk_slices(meta: Metadata, coordinate: Shape) -> tuple[slice, ...]:
@@ -71,13 +75,21 @@ def read_chunk(folder: str, name: str, meta: Metadata, coordinate: Shape) -> Opt
     ------
     BadChunk
         Where its file hasn't the bytes of a chunk.
+    StoreFailed
+        Where something else than a regular file lies there, or the system refuses to read it.
     """
-    key = meta.chunk_key(name, coordinate)
-    data = read_file(os.path.join(folder, key))
+    key, want = meta.chunk_key(name, coordinate), meta.chunk_bytes
+
+    def check(length: int) -> int:
+        if length != want:
+            raise BadChunk(key=key, got=length, want=want)
+        return length
+
+    data = read_regular(os.path.join(folder, key), key, check)
     if data is None:
         return None
-    if len(data) != meta.chunk_bytes:
-        raise BadChunk(key=key, got=len(data), want=meta.chunk_bytes)
+    # (it may have been cut off since)
+    check(len(data))
     if meta.dtype == np.dtype("bool"):
         return (np.frombuffer(data, np.uint8) != 0).reshape(meta.chunks)
     return np.frombuffer(data, meta.stored_dtype).reshape(meta.chunks)
@@ -119,21 +131,26 @@ def read_index_of(folder: str, name: str, meta: Metadata, index: Index) -> NDArr
     return out.reshape(index.shape)
 
 
+def _is_file(entry: os.DirEntry[str]) -> bool:
+    try:
+        return entry.is_file()
+    except OSError:
+        return False
+
+
 def stored_chunks(folder: str, name: str, meta: Metadata) -> int:
-    """Return how many chunks of an array are stored."""
-    top = os.path.join(folder, name)
-    # The folders in which chunks lie are read whole: that is faster than to ask for each file.
-    inner = 0 if meta.separator == "." else max(0, len(meta.shape) - 1)
-    heads = itertools.product(*(range(count) for count in meta.numblocks[:inner]))
+    """Return how many chunks of an array are stored: each folder in which chunks lie is listed once, and no file is looked at."""
     if meta.nchunks == 0:
         return 0
+    # Below a separator `/` each axis but the last is a folder; else all chunks lie in one.
+    inner = 0 if meta.separator == "." else max(0, len(meta.shape) - 1)
+    first = meta.chunk_key(name, (0,) * len(meta.shape))
+    top = os.path.join(folder, *first.split("/")[:-1 - inner])
+    head = "c." if meta.encoding == "default" and meta.separator == "." else ""
+    tails = itertools.product(*(map(str, range(count)) for count in meta.numblocks[inner:]))
+    names = {head + ".".join(tail) for tail in tails} if meta.shape else {first.split("/")[-1]}
     found = 0
-    for head in heads:
-        keys = [meta.chunk_key("", (*head, *rest))[1:] for rest in np.ndindex(*meta.numblocks[inner:])]
-        at = os.path.join(top, os.path.dirname(keys[0]))
-        try:
-            held = {entry.name for entry in os.scandir(at) if entry.is_file()}
-        except (FileNotFoundError, NotADirectoryError):
-            continue
-        found += sum(os.path.basename(key) in held for key in keys)
+    for at in itertools.product(*(map(str, range(count)) for count in meta.numblocks[:inner])):
+        with contextlib.suppress(OSError), os.scandir(os.path.join(top, *at)) as entries:
+            found += sum(entry.name in names and _is_file(entry) for entry in entries)
     return found

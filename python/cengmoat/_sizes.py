@@ -4,7 +4,7 @@ from __future__ import annotations
 import re
 from typing import Union
 
-from .dtypes import as_int
+from ._dtypes import as_int
 
 UNITS = {"": 1, "b": 1, "kb": 10**3, "mb": 10**6, "gb": 10**9, "tb": 10**12,
          "k": 10**3, "m": 10**6, "g": 10**9, "t": 10**12,

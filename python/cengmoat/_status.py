@@ -1,19 +1,22 @@
 """Whether arrays are finished: by the record of a plan and the chunks that are stored."""
 from __future__ import annotations
 
+import contextlib
 import os
+import stat
 from dataclasses import dataclass
 from typing import Iterator, Optional, Sequence
 
-from .dtypes import DType
-from .errors import CengmoatError, Unfinished
-from .files import read_file, stored_chunks
-from .locks import is_locked
-from .metadata import Metadata, read_metadata, read_zarray
-from .names import is_name, metadata_key, record_key, zarray_key
-from .shapes import Shape
-from .show import table_html, table_text
-from .sizes import bytes_text
+from ._dtypes import DType
+from .errors import CengmoatError, StoreFailed, Unfinished
+from ._files import stored_chunks
+from ._locks import is_locked
+from ._metadata import MOST_TEXT, Metadata, read_metadata, read_zarray, read_zattrs
+from ._names import is_name, is_own, metadata_key, record_key, zarray_key
+from ._opening import at_most, read_regular, told
+from ._shapes import Shape
+from ._show import table_html, table_text
+from ._sizes import bytes_text
 
 
 @dataclass(frozen=True)
@@ -86,13 +89,37 @@ class Status(Sequence[ArrayStatus]):
         return table_html(*self._table())
 
 
+def _text(folder: str, key: str) -> Optional[bytes]:
+    return read_regular(os.path.join(folder, key), key, at_most(MOST_TEXT))
+
+
 def metadata_of(folder: str, name: str) -> Optional[Metadata]:
-    """Return the layout of a stored array, or None where it has no metadata; a BadMetadata where that isn't accepted."""
-    for key, read in ((metadata_key(name), read_metadata), (zarray_key(name), read_zarray)):
-        text = read_file(os.path.join(folder, key))
-        if text is not None:
-            return read(name, text)
-    return None
+    """Return the layout of a stored array, or None where it has no metadata.
+
+    Raises
+    ------
+    BadMetadata
+        Where its metadata isn't accepted.
+    StoreFailed
+        Where something else than a regular file lies in its place, or the system refuses to read it.
+    """
+    try:
+        if stat.S_ISREG(os.stat(os.path.join(folder, name)).st_mode):
+            return None
+    except (FileNotFoundError, NotADirectoryError):
+        return None
+    except OSError as error:
+        raise told(name, error) from None
+    text = _text(folder, metadata_key(name))
+    if text is not None:
+        return read_metadata(name, text)
+    text = _text(folder, zarray_key(name))
+    if text is None:
+        return None
+    attributes = None
+    with contextlib.suppress(StoreFailed):
+        attributes = read_zattrs(_text(folder, f"{name}/.zattrs"))
+    return read_zarray(name, text, attributes)
 
 
 def has_record(folder: str, name: str) -> bool:
@@ -116,21 +143,35 @@ def status_of(folder: str, name: str) -> ArrayStatus:
 
 def _entries(folder: str) -> list[str]:
     try:
-        return [entry.name for entry in os.scandir(folder) if is_name(entry.name) and entry.is_dir()]
+        return [entry.name for entry in os.scandir(folder) if is_name(entry.name) and not is_own(entry.name) and entry.is_dir()]
     except (FileNotFoundError, NotADirectoryError):
         return []
+    except OSError as error:
+        raise told(folder, error) from None
 
 
 def array_names(folder: str) -> list[str]:
-    """Return the names of the arrays of a folder that have metadata."""
+    """Return the names of the arrays of a folder that have metadata. What one call stores for itself isn't among them."""
     return sorted(name for name in _entries(folder)
-                  if any(os.path.isfile(os.path.join(folder, key)) for key in (metadata_key(name), zarray_key(name))))
+                  if any(os.path.lexists(os.path.join(folder, key)) for key in (metadata_key(name), zarray_key(name))))
 
 
 def all_names(folder: str) -> list[str]:
     """Return the names that have metadata or the record of a plan."""
     recorded = [name for name in _entries(os.path.join(folder, "_cubed")) if has_record(folder, name)]
     return sorted({*array_names(folder), *recorded})
+
+
+def _counts(folder: str, name: str) -> tuple[int, int]:
+    """Return how many chunks of a result are stored, and how many it has; at least one where its metadata is missing."""
+    meta = metadata_of(folder, name)
+    return (0, 1) if meta is None else (stored_chunks(folder, name, meta), meta.nchunks)
+
+
+def is_finished(folder: str, name: str) -> bool:
+    """Return whether all chunks of a result are stored."""
+    stored, count = _counts(folder, name)
+    return stored == count
 
 
 def check_finished(folder: str, name: str) -> None:
@@ -143,8 +184,8 @@ def check_finished(folder: str, name: str) -> None:
     """
     if not has_record(folder, name):
         return
-    found = status_of(folder, name)
-    if not found.is_finished:
-        raise Unfinished(f"{name} is the result of a run that hasn't finished: {found.stored} of {found.nchunks} chunks are stored,"
+    stored, count = _counts(folder, name)
+    if stored < count:
+        raise Unfinished(f"{name} is the result of a run that hasn't finished: {stored} of {count} chunks are stored,"
                          " and the others would be read as fill values. Take it up again by store(.., resume=True) of its expression,"
                          " or say unfinished=True to use it as it is")

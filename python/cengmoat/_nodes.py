@@ -4,12 +4,12 @@ from __future__ import annotations
 import json
 from typing import TYPE_CHECKING, Any, Iterator, Mapping, Optional, Sequence, Union
 
-from .dtypes import DType, Literal, NDArray
-from .shapes import Shape, product
+from ._dtypes import DType, Literal, NDArray
+from ._shapes import Shape, product
 
 if TYPE_CHECKING:
-    from .metadata import Metadata
-    from .store import Store
+    from ._metadata import Metadata
+    from ._store import Store
 
 MOST_NODES = 256
 INFIX = {
@@ -42,9 +42,11 @@ class Node:
         The array in memory, of "data" alone.
     takes_unfinished : bool
         Of an input, whether it is used also where the run that makes it hasn't finished.
+    meta : Metadata or None
+        Of an input, the layout that was read when it was made.
     """
 
-    __slots__ = ("op", "args", "members", "dtype", "shape", "chunks", "store", "data", "takes_unfinished")
+    __slots__ = ("op", "args", "members", "dtype", "shape", "chunks", "store", "data", "takes_unfinished", "meta")
 
     def __init__(self, op: str, args: Sequence[Union[Node, Literal]], members: Mapping[str, Any], dtype: DType, shape: Shape,
                  chunks: Shape) -> None:
@@ -52,6 +54,7 @@ class Node:
         self.dtype, self.shape, self.chunks = dtype, shape, chunks
         self.data: Optional[NDArray] = None
         self.takes_unfinished = False
+        self.meta: Optional[Metadata] = None
         self.store: Optional[Store] = None
         for arg in self.arrays:
             if self.store is None:
@@ -64,7 +67,7 @@ class Node:
     def stored(cls, store: Store, name: str, meta: Metadata, takes_unfinished: bool) -> Node:
         """Return the node of a stored array."""
         found = cls("input", (), {"name": name}, meta.dtype, meta.shape, meta.chunks)
-        found.store, found.takes_unfinished = store, takes_unfinished
+        found.store, found.takes_unfinished, found.meta = store, takes_unfinished, meta
         return found
 
     @classmethod
@@ -73,6 +76,15 @@ class Node:
         found = cls("data", (), {}, data.dtype, data.shape, chunks)
         found.data = data
         return found
+
+    @property
+    def stored_as(self) -> Optional[Node]:
+        """The input whose elements these are as they are stored; also of int8 numbers that stand for truth values."""
+        if self.op == "input":
+            return self
+        first = self.arrays[0] if self.op == "astype" else None
+        is_truth = first is not None and self.dtype.kind == "b" and first.meta is not None and first.meta.is_truth
+        return first if is_truth else None
 
     @property
     def arrays(self) -> tuple[Node, ...]:
@@ -116,6 +128,11 @@ class Graph:
         The node that is stored.
     data_names : mapping from int to str, optional
         The names under which arrays in memory are stored, by the identities of their nodes.
+
+    Attributes
+    ----------
+    nodes : list of Node
+        Each node once; `places` has the numbers of all, by their identities, and `out` that of the result.
     """
 
     def __init__(self, out: Node, data_names: Optional[Mapping[int, str]] = None) -> None:
@@ -136,7 +153,7 @@ class Graph:
                 self.nodes.append(node)
                 self.texts.append({"id": f"n{len(self.texts)}", **text})
             places[id(node)] = numbers[key]
-        self.out = places[id(out)]
+        self.places, self.out = places, places[id(out)]
 
     @property
     def computed(self) -> list[Node]:

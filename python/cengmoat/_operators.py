@@ -5,10 +5,10 @@ from typing import Any, Optional, TypeVar
 
 import numpy as np
 
-from . import build, views
-from .dtypes import DType, Literal, NDArray, as_dtype, as_literal, is_written
-from .nodes import Node
-from .shapes import Shape, check_limits, chosen_chunks
+from . import _build as build, _views as views
+from ._dtypes import DType, Literal, NDArray, as_dtype, as_literal, check_unmasked, is_written
+from ._nodes import Node
+from ._shapes import Shape, check_limits, chosen_chunks
 
 Self = TypeVar("Self", bound="Operators")
 
@@ -21,6 +21,7 @@ def memory_node(data: NDArray, chunks: Optional[Shape] = None) -> Node:
     TypeError, NotImplementedError
         Where its type isn't one of the program's.
     """
+    check_unmasked(data)
     dtype = as_dtype(data.dtype)
     sides = chosen_chunks(data.shape, dtype) if chunks is None else chunks
     check_limits(data.shape, sides, dtype, "asarray")
@@ -46,8 +47,12 @@ def operand(value: Any) -> Any:
         return value.node
     if is_written(value):
         return as_literal(value)
+    check_unmasked(value)
     if isinstance(value, np.ndarray):
         return as_literal(value[()]) if value.ndim == 0 else memory_node(value)
+    if type(value).__module__.partition(".")[0] == "dask":
+        raise TypeError("an array of Dask and a lazy one of Cengmoat don't go together: convert one. store.save(name, array, chunks) stores Dask's;"
+                        " x.compute() computes the other")
     if value is None or isinstance(value, (float, complex, np.inexact, str, bytes)):
         as_literal(value)
     return NotImplemented
@@ -80,14 +85,28 @@ class Operators:
     """The operators of an array whose expression is `node`."""
 
     __slots__ = ("node",)
-    # NumPy's functions leave operators with such an array to it, and compute nothing by themselves.
-    __array_ufunc__ = None
     __hash__ = None  # type: ignore[assignment]
 
     node: Node
 
     def __init__(self, node: Node) -> None:
         self.node = node
+
+    def __array_ufunc__(self, ufunc: np.ufunc, method: str, *inputs: Any, **options: Any) -> Any:
+        """Return what a ufunc of NumPy gives: a lazy array, or a refusal that says what to write."""
+        from ._numpy import call_ufunc
+        return call_ufunc(ufunc, method, inputs, options)
+
+    def __array_function__(self, function: Any, types: Any, args: Any, options: Any) -> Any:
+        """Return what a function of NumPy gives: a lazy array, or a refusal that says what to write."""
+        from ._numpy import call_function
+        return call_function(function, args, dict(options))
+
+    @property
+    def _data(self) -> NDArray:
+        """What numpy.ma asks of an array that it computes with; a TypeError, so that nothing is computed and no mask is lost."""
+        raise TypeError("numpy.ma computes with arrays in memory: say which value stands for what is masked, as in"
+                        " numpy.ma.filled(x, value), or compute the lazy array first, as in numpy.ma.add(m, x.compute())")
 
     def __add__(self: Self, other: Any) -> Self:
         return _binary("add", self, other)
@@ -118,6 +137,12 @@ class Operators:
 
     def __rmod__(self: Self, other: Any) -> Self:
         return _binary("remainder", other, self)
+
+    def __divmod__(self: Self, other: Any) -> tuple[Self, Self]:
+        return self // other, self % other
+
+    def __rdivmod__(self: Self, other: Any) -> tuple[Self, Self]:
+        return other // self, other % self
 
     def __and__(self: Self, other: Any) -> Self:
         return _binary("bitwise_and", self, other)

@@ -4,15 +4,14 @@ from __future__ import annotations
 import copy
 import dataclasses
 import json
-import os
 import tempfile
 from typing import Any, Callable, Optional
 
 from .errors import CengmoatError, OverMemory
-from .files import write_file
-from .metadata import Metadata
-from .names import metadata_key
-from .shapes import Shape
+from ._files import write_file
+from ._metadata import Metadata
+from ._names import metadata_key
+from ._shapes import Shape
 
 MOST_TRIES = 40
 
@@ -85,5 +84,5 @@ def _ask(job: dict[str, Any], inputs: dict[str, Metadata], sides: dict[str, list
     with tempfile.TemporaryDirectory(prefix="cengmoat-") as folder:
         for name, meta in inputs.items():
             text = dataclasses.replace(meta, chunks=tuple(sides[name])).text()
-            write_file(os.path.join(folder, metadata_key(name)), text.encode())
+            write_file(folder, metadata_key(name), text.encode(), sync=False)
         plan(folder, json.dumps(changed))

@@ -48,6 +48,13 @@ def as_dtype(value: Any) -> DType:
     return dtype.newbyteorder("=")
 
 
+def check_unmasked(value: Any) -> None:
+    """Refuse an array whose elements may be masked, with a TypeError: no stored array has a mask."""
+    if isinstance(value, np.ma.MaskedArray):
+        raise TypeError("an array of numpy.ma has a mask, which a stored array hasn't: say which value stands for what is masked,"
+                        " as in numpy.ma.filled(x, value)")
+
+
 def promote(left: DType, right: DType) -> DType:
     """Return the least integer type that holds both types.
 

@@ -6,11 +6,11 @@ from typing import Any, Sequence
 
 import numpy as np
 
-from .build import astype, make_node
-from .dtypes import BOOL, DType, Literal, as_int, check_literal, greatest, least, promote
-from .index import read_index
-from .nodes import Node
-from .shapes import ChunksLike, Shape, as_chunks, as_shape, broadcast, chosen_chunks, one_axis, product, some_axes
+from ._build import astype, make_node
+from ._dtypes import BOOL, DType, Literal, as_int, check_literal, greatest, least, promote
+from ._index import read_index
+from ._nodes import Node
+from ._shapes import ChunksLike, Shape, as_chunks, as_shape, broadcast, chosen_chunks, one_axis, product, some_axes
 
 MOST_JOINED = 8
 

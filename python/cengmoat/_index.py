@@ -7,7 +7,7 @@ from typing import Any, Optional
 
 import numpy as np
 
-from .shapes import Shape
+from ._shapes import Shape
 
 MOST = 2**63 - 1
 

@@ -6,9 +6,9 @@ from typing import Any, Mapping, Optional, Sequence, Union
 
 import numpy as np
 
-from .dtypes import BOOL, INT64, UINT64, DType, Literal, check_literal, promote
-from .nodes import Node
-from .shapes import Shape, broadcast, broadcast_chunks, check_limits, one_axis, product, some_axes
+from ._dtypes import BOOL, INT64, UINT64, DType, Literal, check_literal, promote
+from ._nodes import Node
+from ._shapes import Shape, broadcast, broadcast_chunks, check_limits, one_axis, product, some_axes
 
 INTEGERS, LOGICAL, ANY = "integers", "truth values", "any type"
 # What each function accepts, and whether it gives truth values.

@@ -2,22 +2,25 @@
 from __future__ import annotations
 
 from types import ModuleType
-from typing import TYPE_CHECKING, Any, Iterator, Optional
+from typing import TYPE_CHECKING, Any, Iterator, Literal, Optional, Union, overload
 
-from . import build, views
-from .dtypes import DType, NDArray, as_dtype
-from .operators import Operators
-from .shapes import ChunksLike, Shape, numblocks, product
-from .show import array_html, array_text
+from . import _build as build, _views as views
+from ._collection import Collection
+from ._dtypes import DType, NDArray, as_dtype
+from ._labels import labels_of
+from ._operators import Operators
+from ._refused import Refused
+from ._shapes import ChunksLike, Shape, numblocks, one_axis, product
+from ._show import array_html, array_text
 
 if TYPE_CHECKING:
-    from .plans import Plan
-    from .store import Store
+    from ._plans import Plan
+    from ._store import Store
 
 API_VERSIONS = ("2021.12", "2022.12")
 
 
-class Array(Operators):
+class Array(Refused, Collection, Operators):
     """An array that isn't computed yet.
 
     It is made by a `Store`, by `from_zarr`, by the functions of `cengmoat.array_api`, and by operators on such arrays.
@@ -44,14 +47,30 @@ class Array(Operators):
         return self.node.shape
 
     @property
-    def chunks(self) -> Shape:
+    def chunksize(self) -> Shape:
         """The size of a chunk on each axis, in elements."""
         return self.node.chunks
 
     @property
+    def chunks(self) -> tuple[Shape, ...]:
+        """The size of each chunk along each axis, as Dask and xarray have it; all but the last are `chunksize`."""
+        return tuple(tuple(min(side, size - start) for start in range(0, size, side)) or (0,) for size, side in zip(self.shape, self.chunksize))
+
+    @property
+    def dims(self) -> Optional[tuple[str, ...]]:
+        """The names of the axes, where the stored arrays name them all; so xarray.DataArray(x) has them too."""
+        names = [name for name in labels_of(self.node)[0] if name is not None]
+        return tuple(names) if len(set(names)) == self.ndim and names else None
+
+    @property
+    def attrs(self) -> dict[str, Any]:
+        """The attributes that come from the stored arrays."""
+        return labels_of(self.node)[1]
+
+    @property
     def numblocks(self) -> Shape:
         """The count of chunks on each axis."""
-        return numblocks(self.shape, self.chunks)
+        return numblocks(self.shape, self.chunksize)
 
     @property
     def ndim(self) -> int:
@@ -126,12 +145,30 @@ class Array(Operators):
     def __getitem__(self, key: Any) -> Array:
         return Array(views.index(self.node, key))
 
-    def astype(self, dtype: Any, *, copy: bool = True) -> Array:
-        """Return the array in another type: each number is wrapped to it, and 0 becomes false and all else true."""
+    @overload
+    def astype(self, dtype: Any, order: Literal["K", "A"] = "K", casting: str = "unsafe", subok: bool = True, copy: bool = True) -> Array: ...
+
+    @overload
+    def astype(self, dtype: Any, order: Literal["C", "F"], casting: str = "unsafe", subok: bool = True, copy: bool = True) -> NDArray: ...
+
+    def astype(self, dtype: Any, order: Literal["K", "A", "C", "F"] = "K", casting: str = "unsafe", subok: bool = True,
+               copy: bool = True) -> Union[Array, NDArray]:
+        """Return the array in another type: each number is wrapped to it, and 0 becomes false and all else true.
+
+        The other parameters are NumPy's. An order "C" or "F" is one of an array in memory, as zarr wants a chunk that it writes:
+        then the array is computed. `casting` is "unsafe".
+        """
+        if casting != "unsafe":
+            raise TypeError(f"astype wraps each number, which is casting='unsafe', and not {casting!r}")
+        if order in ("C", "F"):
+            return self.compute().astype(as_dtype(dtype), order)
         return Array(build.astype(self.node, as_dtype(dtype)))
 
     def rechunk(self, chunks: ChunksLike) -> Array:
-        """Return the array in other chunks: a size for all axes, one for each, or a mapping; -1 means the whole axis."""
+        """Return the array in other chunks: a size for all axes, one for each, or a mapping; -1 means the whole axis.
+
+        The sizes of all chunks of an axis are taken too, as `chunks` has them, if all but the last are alike.
+        """
         return Array(views.rechunk(self.node, chunks))
 
     def reshape(self, *shape: Any) -> Array:
@@ -141,6 +178,45 @@ class Array(Operators):
     def transpose(self, axes: Optional[tuple[int, ...]] = None) -> Array:
         """Return the array with its axes in another order, the opposite one where none is given."""
         return Array(views.permute_dims(self.node, tuple(range(self.ndim))[::-1] if axes is None else axes))
+
+    def ravel(self) -> Array:
+        """Return the elements, row by row, along one axis."""
+        return self.reshape(-1)
+
+    flatten = ravel
+
+    def squeeze(self, axis: Any = None) -> Array:
+        """Return the array without axes of size 1, of which a ValueError says where one has another size; all where none is given."""
+        ones = tuple(at for at, size in enumerate(self.shape) if size == 1)
+        return Array(views.squeeze(self.node, ones if axis is None else axis))
+
+    def expand_dims(self, axis: Any) -> Array:
+        """Return the array with axes of size 1 put in, at their places in the result."""
+        axes = axis if isinstance(axis, (tuple, list)) else (axis,)
+        ndim, node = self.ndim + len(axes), self.node
+        for at in sorted(one_axis(it, ndim) for it in axes):
+            node = views.expand_dims(node, at)
+        return Array(node)
+
+    def swapaxes(self, axis1: int, axis2: int) -> Array:
+        """Return the array with two axes exchanged."""
+        order = list(range(self.ndim))
+        one, other = one_axis(axis1, self.ndim), one_axis(axis2, self.ndim)
+        order[one], order[other] = order[other], order[one]
+        return Array(views.permute_dims(self.node, tuple(order)))
+
+    def clip(self, min: Any = None, max: Any = None) -> Array:
+        """Return the lesser of `max` and the greater of `min` and each element; None is no bound."""
+        from ._numpy import clip
+        return clip(self, min, max)
+
+    def copy(self) -> Array:
+        """Return the array: it is never changed."""
+        return self
+
+    def tolist(self) -> Any:
+        """Compute the array and return it as lists."""
+        return self.compute().tolist()
 
     # Reductions. NumPy's own functions call these methods, and hand over `out=None`.
 
@@ -156,7 +232,9 @@ class Array(Operators):
         wanted = None if dtype is None else as_dtype(dtype)
         if wanted is not None and wanted.kind == "b":
             raise TypeError(f"{op} gives integers, and not bool")
-        found = self._reduced(op, axis, keepdims, out)
+        # (truth values are counted, as NumPy counts them)
+        numbers = self.astype("int8") if self.dtype.kind == "b" else self
+        found = numbers._reduced(op, axis, keepdims, out)
         return found if wanted is None else found.astype(wanted)
 
     def _reduced(self, op: str, axis: Any, keepdims: bool, out: None) -> Array:
@@ -192,15 +270,16 @@ class Array(Operators):
 
     # Running
 
-    def compute(self, *, store: Optional[Store] = None, progress: Optional[bool] = None) -> NDArray:
-        """Compute the array and return it; see `cengmoat.compute`."""
-        from .running import compute_node
-        return compute_node(self.node, store, progress)
+    def compute(self, *, store: Optional[Store] = None, progress: Optional[bool] = None, explain: bool = False) -> NDArray:
+        """Compute the array and return it; `explain` prints its plan before. See `cengmoat.compute`."""
+        from ._running import compute_node
+        return compute_node(self.node, store, progress, explain)
 
-    def store(self, name: str, *, store: Optional[Store] = None, progress: Optional[bool] = None, resume: bool = False) -> Array:
+    def store(self, name: str, into: Optional[Store] = None, *, progress: Optional[bool] = None, resume: bool = False,
+              keep: bool = False, explain: bool = False) -> Array:
         """Compute the array, store it under a name, and return it as a stored array; see `cengmoat.to_zarr`."""
-        from .running import store_node
-        return Array(store_node(self.node, name, store, progress, resume))
+        from ._running import store_node
+        return Array(store_node(self.node, name, into, progress, resume, keep, explain))
 
     def check(self, name: str, *, store: Optional[Store] = None) -> int:
         """Compare the stored array of a name with what this expression means, and return the count of its elements.
@@ -210,12 +289,12 @@ class Array(Operators):
         Unequal
             At the first element that differs.
         """
-        from .running import check_node
+        from ._running import check_node
         return check_node(self.node, name, store)
 
     def plan(self, *, store: Optional[Store] = None) -> Plan:
         """Return the operations by which the array would be computed, with their tasks, memory and bytes."""
-        from .running import plan_node
+        from ._running import plan_node
         return plan_node(self.node, store)
 
     def __array__(self, dtype: Any = None, copy: Optional[bool] = None) -> NDArray:

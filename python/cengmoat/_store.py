@@ -1,27 +1,33 @@
 """A folder of stored arrays, and how expressions over them are run."""
 from __future__ import annotations
 
+import contextlib
+import difflib
+import json
 import os
-from typing import Any, Iterator, Optional, Union
+from typing import Any, Iterator, Mapping, NoReturn, Optional, Sequence, Union
 
 import numpy as np
 
-from .array import Array
-from .dtypes import NDArray, as_dtype, as_int
+from ._array import Array
+from ._build import astype
+from ._dtypes import NDArray, as_dtype, as_int, check_unmasked
 from .errors import NoArray
-from .files import read_index_of
-from .index import read_index
-from .locks import locked
-from .metadata import Metadata
-from .names import check_name
-from .nodes import Node
-from .plans import Report
-from .program import find_program
-from .running import remove_array
-from .saving import check_absent, write_array
-from .shapes import ChunksLike, as_chunks, check_limits
-from .sizes import as_bytes
-from .status import Status, all_names, array_names, check_finished, metadata_of, status_of
+from ._files import read_index_of
+from ._index import read_index
+from ._left import telling
+from ._locks import locked
+from ._metadata import Metadata
+from ._names import check_free_name, check_name
+from ._nodes import Node
+from ._plans import Report
+from ._program import find_program
+from ._removing import Removal
+from ._saving import check_absent, write_array
+from ._shapes import ChunksLike, as_chunks, check_limits
+from ._sizes import as_bytes
+from ._status import Status, all_names, array_names, check_finished, metadata_of, status_of
+from ._temporary import uninterrupted
 
 
 def _count(value: Any, low: int, high: int, what: str) -> int:
@@ -31,8 +37,36 @@ def _count(value: Any, low: int, high: int, what: str) -> int:
     return count
 
 
-class Store:
-    """A folder of arrays, as uncompressed Zarr v3 arrays.
+def _dims(data: Any, dims: Optional[Sequence[str]], ndim: int) -> Optional[tuple[str, ...]]:
+    """Return the names of the axes that are given, or those of an array of xarray."""
+    if dims is None:
+        dims = getattr(data, "dims", None) if type(data).__module__.startswith("xarray.") else None
+    if dims is None:
+        return None
+    if isinstance(dims, str) or len(dims) != ndim or not all(isinstance(name, str) for name in dims):
+        raise ValueError(f"dims {dims!r}: one name for each of {ndim} axes is wanted")
+    return tuple(dims)
+
+
+def _attrs(data: Any, attrs: Optional[Mapping[str, Any]]) -> dict[str, Any]:
+    """Return the attributes that are given, or those of an array of xarray; of the latter those that JSON has."""
+    if attrs is not None:
+        try:
+            json.dumps(dict(attrs), allow_nan=False)
+        except (TypeError, ValueError) as error:
+            raise TypeError(f"attrs: {error}: attributes are texts, numbers, truth values, and lists of these") from None
+        return dict(attrs)
+    found = {}
+    for name, value in (getattr(data, "attrs", {}) if type(data).__module__.startswith("xarray.") else {}).items():
+        plain = value.tolist() if isinstance(value, (np.generic, np.ndarray)) else value
+        with contextlib.suppress(TypeError, ValueError):
+            json.dumps({name: plain}, allow_nan=False)
+            found[str(name)] = plain
+    return found
+
+
+class Store(Mapping[str, Array]):
+    """A folder of arrays, as uncompressed Zarr v3 arrays. It is a mapping from names to lazy arrays, and `save` adds one.
 
     An expression over arrays of two stores of one folder runs with the options of the first, unless `store=` names another.
 
@@ -44,8 +78,8 @@ class Store:
         The path of the program; else it is found beside the package, in CENGMOAT_CUBED, or on the path.
     allowed_mem, reserved_mem : int or str
         The bytes that a task may need, and how many of them are set aside: 200000000, "2GB", "64MiB".
-    workers : int
-        How many tasks run at once, from 1 to 64.
+    workers : int, optional
+        How many tasks run at once, from 1 to 64; else one for each processor that the process may use.
     retries : int
         How often a call or a task that failed is tried again, from 0 to 8.
     split_every : int
@@ -65,11 +99,11 @@ class Store:
     """
 
     def __init__(self, folder: Union[str, os.PathLike[str]], program: Optional[str] = None, allowed_mem: Union[int, str] = "200MB",
-                 reserved_mem: Union[int, str] = 0, workers: int = 1, retries: int = 2, split_every: int = 4) -> None:
+                 reserved_mem: Union[int, str] = 0, workers: Optional[int] = None, retries: int = 2, split_every: int = 4) -> None:
         self.folder = os.path.abspath(os.path.expanduser(os.fspath(folder)))
         self.allowed_mem = as_bytes(allowed_mem, "allowed_mem")
         self.reserved_mem = as_bytes(reserved_mem, "reserved_mem")
-        self.workers = _count(workers, 1, 64, "workers")
+        self.workers = min(64, len(os.sched_getaffinity(0))) if workers is None else _count(workers, 1, 64, "workers")
         self.retries = _count(retries, 0, 8, "retries")
         self.split_every = _count(split_every, 2, 64, "split_every")
         self.report: Optional[Report] = None
@@ -106,13 +140,41 @@ class Store:
     def __iter__(self) -> Iterator[str]:
         return iter(self.names())
 
+    def __len__(self) -> int:
+        return len(self.names())
+
     def __contains__(self, name: object) -> bool:
         return name in self.names()
+
+    # (two stores are the same if they are one object: their arrays aren't compared)
+    __eq__ = object.__eq__
+    __hash__ = object.__hash__
+
+    def __setitem__(self, name: str, value: Any) -> NoReturn:
+        call = f"x.store({name!r}) computes and stores" if isinstance(value, Array) else f"store.save({name!r}, x) stores"
+        raise TypeError(f"nothing is stored by an assignment: {call} an array")
+
+    def __delitem__(self, name: str) -> NoReturn:
+        raise TypeError(f"del removes nothing: store.remove({name!r}) removes a result with the record of its run")
+
+    def __enter__(self) -> Store:
+        return self
+
+    def __exit__(self, *error: object) -> None:
+        """Do nothing: no file is open between two calls."""
+
+    def _missing(self, name: str) -> NoArray:
+        """Return the error that says that there is no array, and which names are near."""
+        names = all_names(self.folder)
+        near = difflib.get_close_matches(name, names, 3, 0.5) or [it for it in names if it.lower() == name.lower()]
+        said = f" Near names: {', '.join(near)}." if near else f" There are: {', '.join(names[:10])}{', ..' if len(names) > 10 else ''}." if names else ""
+        where = "" if os.path.isdir(self.folder) else ", which is no folder"
+        return NoArray(f"there is no array {name!r} in {self.folder}{where}.{said}", name=name)
 
     def _layout(self, name: str) -> Metadata:
         found = metadata_of(self.folder, check_name(name))
         if found is None:
-            raise NoArray(name=name)
+            raise self._missing(name)
         return found
 
     def array(self, name: str, *, unfinished: bool = False) -> Array:
@@ -139,12 +201,14 @@ class Store:
         meta = self._layout(name)
         if not unfinished:
             check_finished(self.folder, name)
-        return Array(Node.stored(self, name, meta, unfinished))
+        node = Node.stored(self, name, meta, unfinished)
+        return Array(astype(node, meta.seen_dtype))
 
     def __getitem__(self, name: str) -> Array:
         return self.array(name)
 
-    def save(self, name: str, data: Any, chunks: ChunksLike = None) -> Array:
+    def save(self, name: str, data: Any, chunks: ChunksLike = None, *, dims: Optional[Sequence[str]] = None,
+             attrs: Optional[Mapping[str, Any]] = None) -> Array:
         """Store an array chunk by chunk, whole or not at all, and return it as a lazy one.
 
         Parameters
@@ -156,6 +220,10 @@ class Store:
             library) only a chunk at a time is in memory.
         chunks : int or tuple of int, optional
             The chunk shape; -1 means the whole axis. Else chunks of at most about 16 MiB.
+        dims : sequence of str, optional
+            The names of the axes; else those of the data, if it is an array of xarray.
+        attrs : mapping, optional
+            Attributes, of what JSON has; else those of the data, if it is an array of xarray.
 
         Raises
         ------
@@ -166,9 +234,10 @@ class Store:
         Exists
             Where there is an array of this name, or the record of a plan that makes one.
         """
-        check_name(name)
-        if isinstance(data, Array):
+        check_free_name(name)
+        if isinstance(data, Array) or not isinstance(data, np.ndarray) and isinstance(getattr(data, "data", None), Array):
             raise TypeError(f"save takes an array in memory: x.store({name!r}) computes and stores a lazy one")
+        check_unmasked(data)
         if not all(hasattr(data, it) for it in ("shape", "dtype", "__getitem__")):
             data = np.asarray(data)
         try:
@@ -178,9 +247,10 @@ class Store:
         shape = tuple(int(size) for size in data.shape)
         sides = as_chunks(chunks, shape, dtype)
         check_limits(shape, sides, dtype, "save")
-        with locked(self.folder, name):
+        meta = Metadata(dtype, shape, sides, dimensions=_dims(data, dims, len(shape)), attributes=_attrs(data, attrs))
+        with telling(f"store.save({name!r}, ..)", self.folder, name, True), locked(self.folder, name):
             check_absent(self.folder, name)
-            write_array(self.folder, name, Metadata(dtype, shape, sides), data)
+            write_array(self.folder, name, meta, data)
         return self.array(name)
 
     def read(self, name: str, index: Any = ..., *, unfinished: bool = False) -> NDArray:
@@ -207,23 +277,46 @@ class Store:
         meta = self._layout(name)
         if not unfinished:
             check_finished(self.folder, name)
-        return read_index_of(self.folder, name, meta, read_index(index, meta.shape))
+        found = read_index_of(self.folder, name, meta, read_index(index, meta.shape))
+        return found != 0 if meta.is_truth else found
 
     def status(self) -> Status:
         """Return the name, type, shape, stored chunks, state and bytes of each array, of unfinished ones too."""
         return Status([status_of(self.folder, name) for name in all_names(self.folder)])
 
-    def remove(self, name: str) -> None:
-        """Remove an array, the record of the plan that made it, and all on the way to it.
+    def remove(self, name: str, *, inputs: bool = False) -> list[str]:
+        """Remove an array, the record of the run that made it, and all on the way to it.
+
+        A link is removed, and nothing of what it leads to. Files in the array's folder that are no part of it stay. All is tested
+        before the first file goes, and the metadata goes first: no reader takes the rest for an array.
+
+        Parameters
+        ----------
+        name : str
+            The name.
+        inputs : bool
+            Whether an array is removed that no run made, as one that `save` stored.
+
+        Returns
+        -------
+        list of str
+            The files that stay, since they are no part of the array.
 
         Raises
         ------
         NoArray
             Where there is neither an array nor a record of this name.
+        NotRemoved
+            Where no run made it and `inputs` isn't set, or it is a group of arrays.
         Locked
             Where another process computes or stores it now.
+        StoreFailed
+            Where a file can't be removed.
         """
-        if check_name(name) not in all_names(self.folder):
-            raise NoArray(name=name)
-        with locked(self.folder, name, remove=True):
-            remove_array(self, name)
+        if Removal(self.folder, check_name(name)).is_nothing:
+            raise self._missing(name)
+        with telling(f"store.remove({name!r})", self.folder, name), locked(self.folder, name, remove=True), uninterrupted():
+            found = Removal(self.folder, name)
+            found.check(inputs)
+            found.remove()
+        return found.kept

@@ -1,39 +1,20 @@
 """The program: where it is, and calls of it."""
 from __future__ import annotations
 
-import functools
 import os
 import shutil
 import subprocess
 from typing import Callable, Optional, Sequence
 
+from ._finding import SCRIPT, built_program, is_program
 from .errors import NoProgram, error_of
 
 VARIABLE = "CENGMOAT_CUBED"
 HERE = os.path.dirname(os.path.abspath(__file__))
 # The repository in which the package lies, where it isn't installed elsewhere.
 TOP = os.path.dirname(os.path.dirname(HERE))
-SCRIPT = "cubed"
-# Where the gate and the script leave the program that they proved and built, and where it lies in an archive.
-BUILT = os.path.join("crates", "cu_bin", "out", "cu_bin")
-ARCHIVED = os.path.join("program", "cubed")
 # The seconds after which a run is looked at for the first time.
 FIRST_WAIT = 0.2
-LEFT_OUT = ("out", "must-fail", "more-edits")
-
-
-def _is_program(path: str) -> bool:
-    return os.path.isfile(path) and os.access(path, os.X_OK)
-
-
-@functools.lru_cache(maxsize=None)
-def _is_old(top: str, built: int) -> bool:
-    """Return whether a source of a repository is newer than the program that was built in it at this time, in nanoseconds."""
-    for at, folders, files in os.walk(os.path.join(top, "crates")):
-        folders[:] = [name for name in folders if name not in LEFT_OUT]
-        if any(name.endswith((".rt", ".antt")) and os.stat(os.path.join(at, name)).st_mtime_ns > built for name in files):
-            return True
-    return os.stat(os.path.join(top, "crates.txt")).st_mtime_ns > built
 
 
 def program_of(top: str) -> Optional[str]:
@@ -44,16 +25,10 @@ def program_of(top: str) -> Optional[str]:
     NoProgram
         Where it isn't built, or is older than its sources.
     """
-    archived, built = os.path.join(top, ARCHIVED), os.path.join(top, BUILT)
-    if _is_program(archived):
-        return archived
-    if not os.path.isfile(os.path.join(top, "crates.txt")):
-        return None
-    if not _is_program(built):
-        raise NoProgram(f"the program isn't built: {os.path.join(top, SCRIPT)} proves and builds it")
-    if _is_old(top, os.stat(built).st_mtime_ns):
-        raise NoProgram(f"{built} is older than its sources: {os.path.join(top, SCRIPT)} proves and builds it anew")
-    return built
+    try:
+        return built_program(top)
+    except LookupError as error:
+        raise NoProgram(str(error)) from None
 
 
 def _behind(path: str) -> str:
@@ -78,10 +53,11 @@ def find_program(given: Optional[str] = None) -> str:
                 raise NoProgram(f"{said} says {path}, which is no program")
             return _behind(found)
     beside = os.path.join(HERE, SCRIPT)
-    found = beside if _is_program(beside) else program_of(TOP) or shutil.which(SCRIPT)
+    found = beside if is_program(beside) else program_of(TOP) or shutil.which(SCRIPT)
     if found is None:
-        raise NoProgram(f"the program isn't found: say program=, set {VARIABLE}, put cubed on the path, or build it by ./cubed"
-                        " at the top of the repository")
+        raise NoProgram("the program isn't here: the package was installed without it. There are two ways out. Either ./cubed at the top of a"
+                        " clone proves and builds it, and `pip install ./python` there puts it into the package. Or a program that is"
+                        f" built already is named: Store(.., program=\"path/to/cubed\"), or the environment variable {VARIABLE}")
     return _behind(found)
 
 

@@ -2,19 +2,20 @@
 from __future__ import annotations
 
 import json
-from dataclasses import dataclass
-from typing import Any, Iterator, Optional
+from dataclasses import dataclass, field, replace
+from typing import Any, Iterator, Mapping, Optional
 
 import numpy as np
 
-from .dtypes import BOOL, NAMES, DType, greatest, least
+from ._dtypes import BOOL, NAMES, DType, greatest, least
 from .errors import BadMetadata
-from .shapes import MOST_AXES, MOST_CHUNK_BYTES, MOST_CHUNKS, MOST_ELEMENTS, Shape, numblocks, product
+from ._shapes import MOST_AXES, MOST_CHUNK_BYTES, MOST_CHUNKS, MOST_ELEMENTS, Shape, numblocks, product
 
 MOST_TEXT = 1_048_576
 REQUIRED = ("zarr_format", "node_type", "shape", "data_type", "chunk_grid", "chunk_key_encoding", "fill_value", "codecs")
 OPTIONAL = ("attributes", "dimension_names", "storage_transformers")
 # Of version 2.
+DIMENSIONS_V2 = "_ARRAY_DIMENSIONS"
 REQUIRED_V2 = ("shape", "chunks", "dtype", "compressor", "fill_value", "order", "filters")
 KINDS_V2 = {"b1": "bool", **{f"{sign[0]}{bits // 8}": f"{sign}{bits}" for sign in ("int", "uint") for bits in (8, 16, 32, 64)}}
 
@@ -36,7 +37,11 @@ class Metadata:
     encoding, separator : str
         How the keys of its chunks are written.
     dimensions : tuple of str or None, or None
-        Its `dimension_names`, where there are any.
+        The names of its axes, where it has any: `dimension_names`, of version 2 the attribute that xarray writes.
+    attributes : mapping
+        Its attributes. Neither these nor the names of axes count where two layouts are compared.
+    is_truth : bool
+        Whether its attributes say that its int8 numbers are truth values, as xarray stores them in version 2.
     """
 
     dtype: DType
@@ -46,7 +51,14 @@ class Metadata:
     is_big: bool = False
     encoding: str = "default"
     separator: str = "/"
-    dimensions: Optional[tuple[Optional[str], ...]] = None
+    dimensions: Optional[tuple[Optional[str], ...]] = field(default=None, compare=False)
+    attributes: Mapping[str, Any] = field(default_factory=dict, compare=False)
+    is_truth: bool = False
+
+    @property
+    def seen_dtype(self) -> DType:
+        """The type as which its elements are seen."""
+        return BOOL if self.is_truth else self.dtype
 
     @property
     def numblocks(self) -> Shape:
@@ -67,6 +79,10 @@ class Metadata:
     def stored_dtype(self) -> DType:
         """The type in the byte order of the files."""
         return self.dtype.newbyteorder(">" if self.is_big else "<")
+
+    def plain(self) -> Metadata:
+        """Return the layout without names of axes and attributes, as a record of a run has it."""
+        return replace(self, dimensions=None, attributes={})
 
     def coordinates(self) -> Iterator[Shape]:
         """Go over the coordinates of all chunks, row by row."""
@@ -89,6 +105,10 @@ class Metadata:
             "chunk_key_encoding": {"name": self.encoding, "configuration": {"separator": self.separator}},
             "codecs": [codec], "fill_value": bool(self.fill) if self.dtype == BOOL else self.fill,
         }
+        if self.dimensions is not None:
+            members["dimension_names"] = list(self.dimensions)
+        if self.attributes:
+            members["attributes"] = dict(self.attributes)
         return json.dumps(members, sort_keys=True, separators=(",", ":"))
 
 
@@ -226,10 +246,27 @@ def read_metadata(name: str, text: bytes) -> Metadata:
     fill = reader.fill(members["fill_value"], dtype)
     is_big = reader.is_big(members["codecs"], dtype)
     dimensions = reader.others(members, len(shape))
-    return Metadata(dtype, shape, chunks, fill, is_big, encoding, separator, dimensions)
+    attributes = members.get("attributes", {})
+    return Metadata(dtype, shape, chunks, fill, is_big, encoding, separator, dimensions, attributes, _is_truth(dtype, attributes))
 
 
-def read_zarray(name: str, text: bytes) -> Metadata:
+def _is_truth(dtype: DType, attributes: Mapping[str, Any]) -> bool:
+    """Return whether attributes say that int8 numbers are truth values."""
+    return dtype == np.dtype("int8") and attributes.get("dtype") == "bool"
+
+
+def read_zattrs(text: Optional[bytes]) -> dict[str, Any]:
+    """Return the attributes that a text of version 2 says; none where it can't be read, since the program doesn't read it."""
+    if text is None or len(text) > MOST_TEXT:
+        return {}
+    try:
+        found = json.loads(text.decode("utf-8"))
+    except (ValueError, RecursionError):
+        return {}
+    return found if isinstance(found, dict) else {}
+
+
+def read_zarray(name: str, text: bytes, attributes: Optional[dict[str, Any]] = None) -> Metadata:
     """Return the layout that a metadata text of version 2 says.
 
     Parameters
@@ -238,6 +275,8 @@ def read_zarray(name: str, text: bytes) -> Metadata:
         The array's name, for the refusal.
     text : bytes
         The content of its `.zarray`.
+    attributes : dict, optional
+        Its attributes.
 
     Raises
     ------
@@ -263,4 +302,8 @@ def read_zarray(name: str, text: bytes) -> Metadata:
         reader.need(value is None or _is_int(value) and least(dtype) <= value <= greatest(dtype), 27)
     separator = members.get("dimension_separator", ".")
     reader.need(separator in (".", "/"), 26)
-    return Metadata(dtype, shape, chunks, int(value or 0), said[0] == ">" and dtype.itemsize > 1, "v2", separator)
+    held = dict(attributes or {})
+    named = held.pop(DIMENSIONS_V2, None)
+    is_named = isinstance(named, list) and len(named) == len(shape) and all(isinstance(it, str) for it in named)
+    return Metadata(dtype, shape, chunks, int(value or 0), said[0] == ">" and dtype.itemsize > 1, "v2", separator,
+                    tuple(named) if named is not None and is_named else None, held, _is_truth(dtype, held))

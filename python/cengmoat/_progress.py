@@ -6,8 +6,8 @@ import sys
 import time
 from typing import Any, Optional, TextIO
 
-from .plans import Plan
-from .sizes import bytes_text
+from ._plans import Plan
+from ._sizes import bytes_text
 
 # The part of the time that may go into counting, and the seconds between two counts at least.
 MOST_PART = 0.01
@@ -29,7 +29,7 @@ def _count(folder: str) -> int:
 
 
 class Bar:
-    """Shows the tasks that are done of all, the bytes that are stored, and the bytes each second.
+    """Shows the tasks that are done of all of an expression, the bytes that are stored of all, and the bytes each second.
 
     Parameters
     ----------
@@ -71,7 +71,7 @@ class Bar:
         """Show the bar for a count of stored chunks."""
         tasks, nbytes = self._done(stored)
         rate = nbytes / max(1e-9, time.monotonic() - self.began)
-        said = f"{bytes_text(nbytes)}, {bytes_text(int(rate))}/s"
+        said = f"{bytes_text(nbytes)} of {bytes_text(self.plan.nbytes)}, {bytes_text(int(rate))}/s"
         if self.bar is not None:
             self.bar.set_postfix_str(said, refresh=False)
             self.bar.update(tasks - self.bar.n)

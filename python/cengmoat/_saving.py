@@ -7,12 +7,12 @@ from typing import Any
 
 import numpy as np
 
-from .dtypes import NDArray
+from ._dtypes import NDArray, check_unmasked
 from .errors import Exists
-from .files import chunk_slices, whole_chunk, write_file
-from .metadata import Metadata
-from .names import metadata_key, record_key, zarray_key
-from .shapes import Shape
+from ._files import chunk_slices, whole_chunk, write_file
+from ._metadata import Metadata
+from ._names import metadata_key, record_key, zarray_key
+from ._shapes import Shape
 
 
 def check_absent(folder: str, name: str) -> None:
@@ -31,7 +31,9 @@ def _part(data: Any, meta: Metadata, coordinate: Shape) -> NDArray:
         Where it has another type or another shape than the array says.
     """
     slices = chunk_slices(meta, coordinate)
-    part = np.asarray(data[slices] if slices else data[()])
+    taken = data[slices] if slices else data[()]
+    check_unmasked(taken)
+    part = np.asarray(taken)
     if part.dtype.newbyteorder("=") != meta.dtype:
         raise TypeError(f"a part of the array has type {part.dtype}, and the array {meta.dtype}")
     wanted = tuple(it.stop - it.start for it in slices)
@@ -40,7 +42,7 @@ def _part(data: Any, meta: Metadata, coordinate: Shape) -> NDArray:
     return part
 
 
-def write_array(folder: str, name: str, meta: Metadata, data: Any) -> None:
+def write_array(folder: str, name: str, meta: Metadata, data: Any, sync: bool = True) -> None:
     """Store an array under a name that is free, or nothing.
 
     Parameters
@@ -51,15 +53,17 @@ def write_array(folder: str, name: str, meta: Metadata, data: Any) -> None:
         The layout.
     data : array-like
         Has the type and shape of the layout; parts of it are taken by slices.
+    sync : bool
+        Whether each file is on the disk before it has its name.
     """
     written: list[str] = []
     try:
         for coordinate in meta.coordinates():
-            path = os.path.join(folder, meta.chunk_key(name, coordinate))
+            key = meta.chunk_key(name, coordinate)
             part = _part(data, meta, coordinate)
-            written.append(path)
-            write_file(path, whole_chunk(meta, part))
-        write_file(os.path.join(folder, metadata_key(name)), meta.text().encode())
+            written.append(os.path.join(folder, key))
+            write_file(folder, key, whole_chunk(meta, part), sync)
+        write_file(folder, metadata_key(name), meta.text().encode(), sync)
     except BaseException:
         _take_back(os.path.join(folder, name), written)
         raise

@@ -4,9 +4,9 @@ from __future__ import annotations
 from html import escape
 from typing import Any, Sequence
 
-from .nodes import Node, operations
-from .shapes import numblocks, product
-from .sizes import bytes_text
+from ._nodes import Node, operations
+from ._shapes import numblocks, product
+from ._sizes import bytes_text
 
 
 def _name(node: Node) -> str:
@@ -15,7 +15,7 @@ def _name(node: Node) -> str:
 
 def array_text(node: Node) -> str:
     """Return one line on a lazy array: what it is, shape, type, chunks, bytes and operations."""
-    return (f"cengmoat.Array<{_name(node)}, shape={node.shape}, dtype={node.dtype}, chunks={node.chunks},"
+    return (f"cengmoat.Array<{_name(node)}, shape={node.shape}, dtype={node.dtype}, chunksize={node.chunks},"
             f" nbytes={bytes_text(product(node.shape) * node.dtype.itemsize)}, operations={operations(node)}>")
 
 

@@ -5,6 +5,9 @@ import re
 from typing import Any
 
 NAME = re.compile(r"[A-Za-z0-9][A-Za-z0-9_.-]{0,31}\Z")
+# The names that the package gives itself: of what is stored while one call runs, and is removed at its end.
+TEMPORARY, IN_MEMORY = "tmp-cengmoat-", "data-cengmoat-"
+OWN = re.compile(rf"({TEMPORARY}[0-9a-f]{{10}}(-[0-9]{{1,3}})?|{IN_MEMORY}[0-9a-f]{{18}})\Z")
 
 
 def is_name(value: Any) -> bool:
@@ -28,6 +31,19 @@ def check_name(value: Any) -> str:
         raise ValueError(f"{value!r} isn't a name: a name has 1 to 32 of the letters A to Z and a to z, digits, _, - and .,"
                          " and begins with a letter or a digit")
     return value
+
+
+def is_own(value: Any) -> bool:
+    """Return whether a value is a name that the package gives itself."""
+    return isinstance(value, str) and OWN.match(value) is not None
+
+
+def check_free_name(value: Any) -> str:
+    """Return a name under which a user may store; a ValueError also where it is one that the package gives itself."""
+    name = check_name(value)
+    if is_own(name):
+        raise ValueError(f"{name!r} is a name of the package's own, for what it stores and removes within one call: take another")
+    return name
 
 
 def metadata_key(name: str) -> str:

@@ -1,8 +1,8 @@
 """Which chunks a copy into other chunks stores on its way: by the program's rule, for the bytes that a plan shows."""
 from __future__ import annotations
 
-from .nodes import Node
-from .shapes import Shape, product
+from ._nodes import Node
+from ._shapes import Shape, product
 
 
 def _consolidated(chunk: Shape, shape: Shape, limit: Shape, item: int, most: int) -> Shape:
@@ -72,6 +72,15 @@ def wanted_chunks(node: Node) -> list[tuple[Node, Shape]]:
         return [(node, node.chunks)]
     pairs = _matrices(node) if node.op == "matmul" else [(arg, _aligned(node, arg)) for arg in node.arrays]
     return [(arg, chunks) for arg, chunks in pairs if chunks != arg.chunks]
+
+
+def copied_args(node: Node, most: int) -> list[tuple[Node, bool]]:
+    """Return for each copy that is made for a node, in order, the argument that is copied, and whether it is the second stage."""
+    found = []
+    for arg, chunks in wanted_chunks(node):
+        stages = copied_chunks(arg.shape, arg.chunks, chunks, arg.dtype.itemsize, most)
+        found += [(arg, stage > 0) for stage in range(len(stages))]
+    return found
 
 
 def copies_of(node: Node, most: int) -> list[int]:

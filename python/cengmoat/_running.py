@@ -1,0 +1,286 @@
+"""Runs of expressions: under a name, or under a temporary one that is removed afterwards."""
+from __future__ import annotations
+
+import contextlib
+import json
+import os
+import tempfile
+from dataclasses import replace
+from typing import TYPE_CHECKING, Iterator, Optional
+
+from ._dtypes import NDArray
+from .errors import BadExpression, NoArray, OtherPlan, OverMemory, Stale
+from ._files import read_index_of, write_file
+from ._fit import fitting_chunks
+from ._index import read_index
+from ._labels import labels_of
+from ._left import telling, with_cause
+from ._locks import locked
+from ._metadata import MOST_TEXT, Metadata
+from ._names import check_free_name, check_name, is_own, metadata_key, record_key
+from ._nodes import MOST_NODES, Graph, Node, expression
+from ._opening import at_most, read_regular
+from ._plans import Plan, Report, read_plan, read_report
+from ._program import call_program
+from ._progress import Bar, is_wanted
+from ._removing import remove_between
+from ._status import check_finished, has_record, is_finished, metadata_of
+from ._temporary import memory_names, memory_nodes, memory_stored, new_name, sweep
+
+if TYPE_CHECKING:
+    from ._store import Store
+
+# The bytes of a record: an expression of at most 1 MiB, and what stands around it.
+MOST_RECORD = 2**22
+# The versions of plans that a record may have.
+VERSIONS = (2, 3)
+# The characters of an expression before a bar, about.
+LABEL = 32
+
+
+def store_of(node: Node, store: Optional[Store]) -> Store:
+    """Return the store of an expression.
+
+    Raises
+    ------
+    ValueError
+        Where none is given and no stored array is in it, or its arrays are in another one.
+    """
+    if store is None:
+        if node.store is None:
+            raise ValueError("no stored array is in this expression: say store=, where its result is to be stored")
+        return node.store
+    if node.store is not None and node.store.folder != store.folder:
+        raise ValueError(f"the expression is over arrays of {node.store.folder}, and not of {store.folder}")
+    return store
+
+
+@contextlib.contextmanager
+def _some_store(node: Node, store: Optional[Store]) -> Iterator[Store]:
+    """Give the store of an expression, or one in a temporary folder where no stored array is in it."""
+    if store is not None or node.store is not None:
+        yield store_of(node, store)
+        return
+    from ._store import Store
+    with tempfile.TemporaryDirectory(prefix="cengmoat-") as folder:
+        yield Store(folder)
+
+
+def _graph(node: Node, name: str) -> Graph:
+    """Return the expression of a node that is stored under a name.
+
+    Raises
+    ------
+    BadExpression
+        Where it has more than 256 nodes.
+    """
+    graph = Graph(node, memory_names(node, name))
+    if len(graph.nodes) > MOST_NODES:
+        raise BadExpression(code=7, node=0, advice=f"This expression has {len(graph.nodes)} different nodes, and {MOST_NODES} are allowed:"
+                            " y = x.store(\"part\") computes a part of it and gives it as a stored array, with which to go on.")
+    return graph
+
+
+def _layout(node: Node) -> Metadata:
+    return Metadata(node.dtype, node.shape, node.chunks)
+
+
+def check_fresh(store: Store, node: Node) -> None:
+    """Refuse an input whose layout isn't the one that was read when the lazy array was made.
+
+    Raises
+    ------
+    NoArray
+        Where it isn't there any more.
+    Stale
+        Where another array was stored under its name.
+    """
+    name = node.members["name"]
+    now = metadata_of(store.folder, name)
+    if now is None:
+        raise NoArray(name=name)
+    if now != node.meta:
+        raise Stale(f"{name} was replaced after this lazy array was made: it was {said_of(node.meta)}, and is {said_of(now)}."
+                    f" Begin again from store[{name!r}]", name=name)
+
+
+def said_of(meta: Optional[Metadata]) -> str:
+    """Return a layout in words."""
+    if meta is None:
+        return "unknown"
+    order = ", big-endian" if meta.is_big else ""
+    return f"{meta.seen_dtype} of shape {meta.shape} in chunks {meta.chunks}, fill value {meta.fill}, keys {meta.encoding!r} {meta.separator!r}{order}"
+
+
+def _check_fresh(store: Store, graph: Graph) -> None:
+    for node in graph.nodes:
+        if node.op == "input":
+            check_fresh(store, node)
+
+
+def _check_inputs(store: Store, graph: Graph) -> None:
+    """Refuse inputs that were replaced, or that a run has begun and not finished, unless they were asked for as they are."""
+    _check_fresh(store, graph)
+    for node in graph.nodes:
+        if node.op == "input" and not node.takes_unfinished:
+            check_finished(store.folder, node.members["name"])
+
+
+def _ask_plan(store: Store, folder: str, graph: Graph, text: str) -> Plan:
+    said = call_program(store.words("plan", folder), text, expression_of=graph.expression)
+    return read_plan(said, graph, store.allowed_mem, store.reserved_mem, store.workers)
+
+
+@contextlib.contextmanager
+def _advised(store: Store, graph: Graph, text: str) -> Iterator[None]:
+    """Say with a refusal for memory which chunks would fit."""
+    try:
+        yield
+    except OverMemory as error:
+        found = fitting_chunks(text, _layouts(store, graph), lambda folder, job: call_program(store.words("plan", folder), job))
+        advice = f"These would fit: {found}." if found else "No smaller chunks would fit: allow more memory."
+        raise OverMemory(expression=error.expression, advice=advice, node=error.node, need=error.need, allowed=error.allowed) from None
+
+
+def _layouts(store: Store, graph: Graph) -> dict[str, Metadata]:
+    """Return the layouts of all inputs, of arrays in memory too."""
+    found = {name: _layout(node) for name, node in memory_nodes(graph).items()}
+    for name in graph.inputs:
+        meta = metadata_of(store.folder, name)
+        if meta is not None:
+            found[name] = meta
+    return found
+
+
+def plan_node(node: Node, store: Optional[Store]) -> Plan:
+    """Return the plan of an expression. Nothing is stored."""
+    graph = _graph(node, "plan")
+    text = graph.text("plan")
+    with _some_store(node, store) as found, telling("x.plan()", found.folder, "plan", True), _advised(found, graph, text):
+        _check_fresh(found, graph)
+        if not any(it.op == "data" for it in graph.nodes):
+            return _ask_plan(found, found.folder, graph, text)
+        # Metadata suffices, so arrays in memory aren't stored for it.
+        with tempfile.TemporaryDirectory(prefix="cengmoat-") as folder:
+            for name, meta in _layouts(found, graph).items():
+                write_file(folder, metadata_key(name), meta.text().encode(), sync=False)
+            return _ask_plan(found, folder, graph, text)
+
+
+def _run(store: Store, graph: Graph, name: str, lock: int, progress: Optional[bool], command: str = "run") -> Report:
+    """Run an expression whose arrays in memory are stored, and return the report."""
+    text = graph.text(name)
+    bar, is_done = None, False
+    most = max(node.chunk_bytes for node in graph.nodes)
+    with _advised(store, graph, text), with_cause(store.folder, name, most, graph.inputs):
+        if is_wanted(progress):
+            label = expression(graph.nodes[graph.out], LABEL) if is_own(name) else name
+            bar = Bar(store.folder, name, _ask_plan(store, store.folder, graph, text), label)
+        try:
+            said = call_program(store.words(command), text, expression_of=graph.expression, locks=[lock],
+                                watch=None if bar is None else bar.watch)
+            is_done = True
+        finally:
+            if bar is not None:
+                bar.close(is_done)
+    store.report = read_report(said)
+    return store.report
+
+
+def _check_record(store: Store, graph: Graph, name: str) -> None:
+    """Refuse the record of another plan, by OtherPlan."""
+    key = record_key(name)
+    text = read_regular(os.path.join(store.folder, key), key, at_most(MOST_RECORD)) or b""
+    try:
+        held = json.loads(text)
+    except (ValueError, RecursionError):
+        held = None
+    is_record = isinstance(held, dict) and held.get("cubed") in VERSIONS
+    asked = {"allowed": store.allowed_mem, "cubed": held["cubed"] if is_record else VERSIONS[0], "expr": json.loads(graph.text(name)),
+             "inputs": {its: json.loads(meta.plain().text()) for its, meta in _layouts(store, graph).items()},
+             "reserved": store.reserved_mem, "split_every": store.split_every}
+    texts = [json.dumps(it, sort_keys=True, separators=(",", ":")) for it in (held, asked)]
+    if texts[0] != texts[1]:
+        raise OtherPlan(place=len(os.path.commonprefix(texts)), advice=f"{name} was begun as another expression or with other options:"
+                        f" store.remove({name!r}) removes it.")
+
+
+def store_node(node: Node, name: str, store: Optional[Store], progress: Optional[bool], resume: bool, keep: bool,
+               explain: bool = False) -> Node:
+    """Store an expression under a name, and return the stored array's node."""
+    check_free_name(name)
+    found = store_of(node, store)
+    graph = _graph(node, name)
+    if explain:
+        print(plan_node(node, found))
+    with telling(f"x.store({name!r})", found.folder, name), locked(found.folder, name) as lock:
+        _check_inputs(found, graph)
+        goes_on = resume and has_record(found.folder, name)
+        if goes_on:
+            _check_record(found, graph, name)
+        if not goes_on or not is_finished(found.folder, name):
+            with memory_stored(found.folder, graph, lock):
+                _run(found, graph, name, lock.descriptor, progress, "resume" if goes_on else "run")
+        _label(found.folder, name, node)
+        if not keep:
+            remove_between(found.folder, name)
+    return found.array(name).node
+
+
+def _label(folder: str, name: str, node: Node) -> None:
+    """Write the names of axes and the attributes of a result into its metadata, where it has any."""
+    meta = metadata_of(folder, name)
+    names, attributes = labels_of(node)
+    dimensions = names if any(names) else None
+    if meta is None or (meta.dimensions, dict(meta.attributes)) == (dimensions, attributes):
+        return
+    text = replace(meta, dimensions=dimensions, attributes=attributes).text().encode()
+    if len(text) <= MOST_TEXT:
+        write_file(folder, metadata_key(name), text)
+
+
+def check_node(node: Node, name: str, store: Optional[Store]) -> int:
+    """Compare a stored array with an expression, and return the count of its elements."""
+    check_name(name)
+    found = store_of(node, store)
+    graph = _graph(node, name)
+    with telling(f"x.check({name!r})", found.folder, name, True):
+        _check_inputs(found, graph)
+        check_finished(found.folder, name)
+        if not memory_nodes(graph):
+            return _checked(found, graph, name)
+        with locked(found.folder, name) as lock, memory_stored(found.folder, graph, lock):
+            return _checked(found, graph, name)
+
+
+def _checked(store: Store, graph: Graph, name: str) -> int:
+    said = call_program(store.words("check"), graph.text(name), expression_of=graph.expression)
+    return int(said.split()[-1])
+
+
+def compute_node(node: Node, store: Optional[Store], progress: Optional[bool], explain: bool = False) -> NDArray:
+    """Compute an expression under a temporary name, and return its elements; nothing of it is left in the folder."""
+    if node.data is not None:
+        return node.data.copy()
+    with _some_store(node, store) as found:
+        its = node.stored_as
+        if its is not None:
+            check_fresh(found, its)
+            return found.read(its.members["name"], unfinished=its.takes_unfinished)
+        if explain:
+            print(plan_node(node, found))
+        name = new_name(found.folder)
+        graph = _graph(node, name)
+        with telling("x.compute()", found.folder, name, True):
+            return _computed(found, graph, name, progress)
+
+
+def _computed(store: Store, graph: Graph, name: str, progress: Optional[bool]) -> NDArray:
+    """Run an expression under a temporary name, and read its result."""
+    _check_inputs(store, graph)
+    sweep(store.folder)
+    node = graph.nodes[graph.out]
+    with locked(store.folder, name, remove=True) as lock, memory_stored(store.folder, graph, lock, [name]):
+        _run(store, graph, name, lock.descriptor, progress)
+        check_finished(store.folder, name)
+        return read_index_of(store.folder, name, _layout(node), read_index(..., node.shape))
