@@ -35,7 +35,11 @@ def _is_there(descriptor: int, path: str) -> bool:
 def _taken(path: str, kind: int) -> Optional[int]:
     """Return the descriptor of a lock, or None where another holds it."""
     while True:
-        descriptor = _opened(path)
+        try:
+            descriptor = _opened(path)
+        except FileNotFoundError:
+            # (another process has just removed the folder of the locks)
+            continue
         try:
             fcntl.flock(descriptor, kind | fcntl.LOCK_NB)
         except BlockingIOError:
