@@ -4,7 +4,7 @@
 usage: tools/test_scripts.py [TEST..]     as tools/test_scripts.py Folder
 
 What needs the program runs over the one that the gate built, and is left out where there is none. The files of NumPy are read and
-written by NumPy too where it can be imported. test_hostile.py has the tests of strange folders.
+written by NumPy too where it can be imported. test_calls.py has the tests of calls, and test_hostile.py those of strange folders.
 """
 import array
 import contextlib
@@ -20,6 +20,7 @@ import unittest
 
 sys.dont_write_bytecode = True
 from test_base import TOP, InFolder, files_in, put, run
+from test_calls import *  # noqa: F403
 from test_hostile import *  # noqa: F403
 import folder as folder_commands
 import word_cases
@@ -230,6 +231,8 @@ class Help(unittest.TestCase):
         for name, least, most, default, commands in self.ROW.findall(run(f"{TOP}/cubed", "help").stdout.decode()):
             told[name] = (int(least), int(most), int(default), sorted(commands.split(", ")))
         table = {name: (*row[:3], sorted(row[3])) for name, row in word_cases.OPTIONS.items()}
+        # That of the script itself.
+        self.assertEqual(told.pop("progress"), (0, 1, 0, ["resume", "run"]))
         self.assertEqual(told, table)
 
 
