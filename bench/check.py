@@ -18,10 +18,12 @@ import time
 
 import numpy
 
+from stored import HERE, PROGRAM, timed  # stored.py, in this folder
+
+sys.path.append(os.path.join(HERE, "..", "compare"))
 import rules
 from compare import bytes_of, chunks_of, place_of, put, whole_chunk
 from rules import Array, compact
-from stored import PROGRAM, timed
 
 CASES = {
     "addition": ("add", {"a": ("int32", [1333333], [100000]), "b": ("int32", [1333333], [100000])}, {}),

@@ -4,7 +4,7 @@ crates/cu_cases/data.
 
 usage: tools/elementwise_cases.py
 
-Expected bytes, records, counts and lines come from bench/rules.py, as exact whole numbers and by the rules' own formulas; where
+Expected bytes, records, counts and lines come from compare/rules.py, as exact whole numbers and by the rules' own formulas; where
 NumPy can be imported each element is compared with NumPy's too. A line whose rule isn't there is written by hand. Nothing
 comes from the program.
 """
@@ -12,7 +12,7 @@ import os
 import sys
 
 TOP = os.path.dirname(os.path.dirname(os.path.realpath(__file__)))
-sys.path.insert(0, f"{TOP}/bench")
+sys.path.insert(0, f"{TOP}/compare")
 import rules  # noqa: E402
 import worker  # noqa: E402
 from rules import Array, compact  # noqa: E402
@@ -21,7 +21,7 @@ try:
     import compare
 except ImportError:
     compare = None
-    print("NumPy can't be imported: the elements are those of bench/rules.py alone", file=sys.stderr)
+    print("NumPy can't be imported: the elements are those of compare/rules.py alone", file=sys.stderr)
 
 BEFORE = "error 9 key=_cubed/y/plan.json"
 

@@ -1,5 +1,6 @@
 #!/usr/bin/env python3
-"""The commands `status` and `remove` of the script cubed: what lies in a folder of arrays, and removing an array with its plan.
+"""The commands `status` and `remove` of the script cubed: what lies in a folder of arrays, and
+removing an array with its plan.
 
   cubed DIR status [NAME]
   cubed DIR remove NAME [--input] [--dry-run]
@@ -12,10 +13,15 @@ import os
 import signal
 import sys
 
-from zarr_store import CHUNK, GROUP, METADATA, STOPPED, Failed, Stored, Unread, files_under, is_name, names_in, sizes_text
-
+import locks
+from tasks import at_work_in, is_at_work, is_chunk_of_plan, of_record
+from zarr_store import (CHUNK, GROUP, METADATA, NO_METADATA, STOPPED, Failed, Stored, Unread,
+                        files_under, is_name, names_in, shown,
+                        sizes_text)
 
 NO_ARRAY = "no array"
+# How many files of each kind are named.
+NAMED = 5
 
 
 class Wrong(Exception):
@@ -27,12 +33,14 @@ def counted(number, noun):
 
 
 class Found:
-    """What lies under the name of an array: its files by kind, its layout where the program reads it, and its state."""
+    """What lies under the name of an array: its files by kind, its layout where the program reads
+    it, and its state.
+    """
 
-    def __init__(self, stored):
-        self.stored = stored
+    def __init__(self, stored, processes=None):
+        self.stored, self.processes = stored, processes or {}
         self.layout = self.unread = None
-        self.is_link = os.path.islink(stored.path)
+        self.is_link, self.is_plan_link = os.path.islink(stored.path), os.path.islink(stored.plan)
         self.has_array = os.path.isdir(stored.path)
         if self.has_array:
             try:
@@ -40,50 +48,103 @@ class Found:
             except (Unread, OSError) as unread:
                 self.unread = str(unread)
         files, self.links = files_under(stored.path) if self.has_files() else ([], [])
-        self.metadata = [name for name in METADATA if name in files]
-        self.chunks = [name for name in files if CHUNK.match(name)]
-        self.stopped = [name for name in files if STOPPED.match(name)]
-        self.others = [name for name in files if name not in METADATA and not CHUNK.match(name) and not STOPPED.match(name)] + self.links
-        self.between, self.between_stopped, self.plan_others = [], [], []
+        # What a run makes has metadata of version 3 alone.
+        self.metadata = [name for name in (METADATA[:1] if stored.has_record() else METADATA)
+                         if name in files]
+        self.chunks = [name for name in files if self.is_chunk(name)]
+        self.stopped = [name for name in files if self.is_stopped(name)]
+        kinds = {*self.metadata, *self.chunks, *self.stopped}
+        self.others = [name for name in files if name not in kinds] + self.links
         files, links = files_under(stored.plan)
-        self.plan_others += links
-        for name in files:
-            is_chunk = CHUNK.match(name.partition("/")[2]) and name.partition("/")[0].isdigit()
-            if name != "plan.json":
-                (self.between if is_chunk else self.between_stopped if STOPPED.match(name) else self.plan_others).append(name)
+        self.between = [name for name in files if is_chunk_of_plan(name)]
+        self.between_stopped = [name for name in files if is_left_of_plan(name)]
+        kinds = {"plan.json", *self.between, *self.between_stopped}
+        self.plan_others = [name for name in files if name not in kinds] + links
+
+    def is_chunk(self, name):
+        """Whether a file of the array's folder has the name of one of its chunks, or of one that
+        the program writes where the grid isn't known.
+        """
+        if self.layout is not None:
+            return self.layout.coordinate(name) is not None
+        return CHUNK.match(name) is not None
+
+    def is_stopped(self, name):
+        """Whether a file has the name that a write of metadata or of a chunk leaves when it is
+        stopped.
+        """
+        left = STOPPED.match(name)
+        return left is not None and (left[1] in METADATA or self.is_chunk(left[1]))
 
     def has_files(self):
-        """Whether files of an array lie here, and no others' arrays: neither in what a link leads to nor in a group."""
+        """Whether files of an array lie here, and no others' arrays: neither in what a link leads
+        to nor in a group.
+        """
         if self.is_link or not self.has_array or self.unread == GROUP:
             return False
-        names = os.listdir(self.stored.path)
-        return ".zgroup" not in names and any(CHUNK.match(name) or STOPPED.match(name) or name in METADATA for name in names)
+        try:
+            names = os.listdir(self.stored.path)
+        except OSError:
+            return False
+        if ".zgroup" in names:
+            return False
+        return any(name in METADATA or name == "c" or self.is_stopped(name) for name in names)
 
     @functools.cached_property
-    def stored_count(self):
-        """How many of its chunks are stored."""
-        if self.is_link or self.links:
-            return self.stored.stored_chunks(self.layout)
-        names = set(self.chunks)
-        return sum(self.layout.key(at) in names for at in self.layout.coordinates())
+    def state_of_chunks(self):
+        """Which of its chunks are whole, missing, or of another length."""
+        return self.stored.state(self.layout)
+
+    @functools.cached_property
+    def tasks(self):
+        """The tasks of the plan that makes it, or nothing."""
+        return of_record(self.stored)
+
+    @functools.cached_property
+    def is_unfinished(self):
+        return self.stored.has_record() and (self.layout is None
+                                             or bool(self.state_of_chunks.missing))
 
     @property
-    def is_unfinished(self):
-        return self.stored.has_record() and (self.layout is None or self.stored_count < self.layout.chunk_count)
+    def has_own_record(self):
+        """Whether the record lies in the folder itself, and not behind a link."""
+        return self.stored.has_record() and not self.is_plan_link
+
+    @property
+    def is_whole(self):
+        """Whether all of its chunks are files of their length."""
+        return self.layout is not None and self.state_of_chunks.whole == self.layout.chunk_count
 
     def state(self):
         """One phrase, and what to do where something is to be done."""
         if self.is_unfinished:
-            return "unfinished: a run was stopped, or is at work" + ("" if self.layout else "; no metadata")
+            return f"unfinished: {self.progress()}" + ("" if self.layout else f"; {self.no_layout()}")
         if self.layout is None:
             return self.state_unread()
+        wrong = len(self.state_of_chunks.wrong)
+        told = f"; {counted(wrong, 'damaged chunk')}" if wrong else ""
         if self.stored.has_record():
-            return "result of a run"
-        return "array" if self.stored_count == self.layout.chunk_count else "array; a chunk without a file is the fill value"
+            return f"result of a run{told}"
+        return ("array; a chunk without a file is the fill value" if self.state_of_chunks.missing
+                else "array") + told
+
+    def progress(self):
+        """How far a run is, and whether it is at work where that is known."""
+        done = ""
+        if self.tasks:
+            done = f"{sum(self.tasks.done())} of {counted(self.tasks.count, 'task')} done; "
+        if is_at_work(self.stored.folder, self.stored.name, self.processes):
+            return done + "a run is at work"
+        return done + "a run was stopped, or is at work"
+
+    def no_layout(self):
+        return "no metadata" if self.unread in (None, NO_METADATA) else f"not read: {self.unread}"
 
     @property
     def is_left(self):
-        """Whether it is what a write of tools/zarr left when it was stopped, whose metadata would have come last."""
+        """Whether it is what a write of tools/zarr left when it was stopped, whose metadata would
+        have come last.
+        """
         return STOPPED.match(self.stored.name) and not self.metadata
 
     @property
@@ -96,9 +157,15 @@ class Found:
             return "left by a write that was stopped"
         if self.is_link and not self.has_array:
             return "a link that leads to no folder"
-        if self.unread in (None, "it has no zarr.json"):
-            return "no zarr.json; a load that was stopped leaves this" if self.chunks or self.stopped else NO_ARRAY
+        if self.unread in (None, NO_METADATA):
+            return self.state_of_left() if self.chunks or self.stopped else NO_ARRAY
         return f"not read: {self.unread}"
+
+    def state_of_left(self):
+        """What chunks without metadata are."""
+        if locks.is_held(self.stored.folder, self.stored.name):
+            return "no zarr.json; a load is at work"
+        return "no zarr.json; a load that was stopped leaves this: load it again"
 
     def rest(self):
         """What lies there beside the array."""
@@ -108,8 +175,18 @@ class Found:
 
     def row(self):
         layout = self.layout
-        told = [layout.dtype, sizes_text(layout.shape), sizes_text(layout.chunk), f"{self.stored_count} of {layout.chunk_count}"] if layout else ["-"] * 4
-        return [self.stored.name, *told, "; ".join([self.state()] + self.rest())]
+        whole = f"{self.state_of_chunks.whole} of {layout.chunk_count}" if layout else "-"
+        told = [layout.dtype, sizes_text(layout.shape),
+                sizes_text(layout.chunk)] if layout else ["-"] * 3
+        return [self.stored.name, *told, whole, "; ".join([self.state()] + self.rest())]
+
+
+def is_left_of_plan(name):
+    """Whether a file below the folder of a plan has the name that a stopped write of the record or
+    of a chunk leaves.
+    """
+    left = STOPPED.match(name)
+    return left is not None and (left[1] == "plan.json" or is_chunk_of_plan(left[1]))
 
 
 def bytes_of(folder, names):
@@ -134,99 +211,168 @@ def status(folder, words):
         raise Wrong("usage: cubed DIR status [NAME]")
     if not os.path.isdir(folder):
         raise Failed(f"{folder} is no folder")
+    processes = at_work_in(folder)
     if not words:
-        found = [Found(Stored(folder, name)) for name in names_in(folder)]
+        found = [Found(Stored(folder, name), processes) for name in names_in(folder)]
         show_table([it.row() for it in found if not it.is_nothing])
         return 0
-    found = named(folder, words[0])
+    found = named(folder, words[0], processes)
     stored = found.stored
     show_table([found.row()])
     print(f"the array: {bytes_of(stored.path, found.metadata + found.chunks + found.stopped)}")
     if stored.has_record() or found.between:
-        plan = found.between + found.between_stopped + (["plan.json"] if stored.has_record() else [])
+        plan = found.between + found.between_stopped + (["plan.json"] if stored.has_record()
+                                                        else [])
         print(f"its plan and what lies in between: {bytes_of(stored.plan, plan)}")
+    if found.is_unfinished and found.tasks and len(found.tasks.operations) > 1:
+        show_operations(found.tasks)
     if found.layout:
-        show_missing(found)
-    return 1 if found.is_unfinished else 0
+        show_chunks(found)
+    return 1 if found.is_unfinished or found.layout and found.state_of_chunks.wrong else 0
 
 
-def show_missing(found):
-    """The first chunks that have no file, and those whose files have another length."""
-    layout, missing = found.layout, []
-    for coordinate in layout.coordinates():
-        key = layout.key(coordinate)
-        with contextlib.suppress(OSError):
-            size = os.stat(os.path.join(found.stored.path, key)).st_size
-            if size != layout.chunk_bytes:
-                print(f"{key} has {size} bytes in place of {layout.chunk_bytes}")
-            continue
-        missing.append(key)
+def show_operations(tasks):
+    """Of each operation that isn't done how many of its tasks are; of those behind one another the
+    first ones.
+    """
+    done = tasks.done()
+    left = [(it, count) for it, count in zip(tasks.operations, done) if count < it.tasks]
+    for it, count in left[:NAMED]:
+        print(f"op {it.number} {it.kind}: {count} of {counted(it.tasks, 'task')} done")
+    if len(left) > NAMED:
+        print(f"and {counted(len(left) - NAMED, 'further operation')} not done")
+
+
+def show_chunks(found):
+    """The first chunks that have no file, those whose files are wrong, and what to do about these.
+    """
+    state = found.state_of_chunks
+    for key in list(state.wrong)[:NAMED]:
+        print(f"{key} {state.wrong[key]}")
+    if len(state.wrong) > NAMED:
+        print(f"and {counted(len(state.wrong) - NAMED, 'further chunk')} so")
+    if state.wrong and found.stored.has_record():
+        print("resume takes each file that is there for done: check finds a wrong one; remove it, and resume makes it again")
+    elif state.wrong:
+        print("each command that reads such a chunk ends with error 13 or 16: write it again")
+    missing = state.missing
     if missing:
-        print(f"without a file: {', '.join(missing[:5])}{f' and {len(missing) - 5} more' if len(missing) > 5 else ''}")
+        print(f"without a file: {', '.join(missing[:NAMED])}{f' and {len(missing) - NAMED} more' if len(missing) > NAMED else ''}")
 
 
-def named(folder, name):
+def named(folder, name, processes=None):
     if not is_name(name):
-        raise Wrong(f"{name!r} isn't a name: 1 to 32 letters, digits, _, - and ., the first a letter or a digit")
-    stored = Stored(folder, name)
-    found = Found(Stored(folder, name))
+        raise Wrong(f"{shown(name)!r} isn't a name: 1 to 32 letters, digits, _, - and ., the first a letter or a digit")
+    found = Found(Stored(folder, name), processes)
     if found.is_nothing:
         raise Failed(f"{folder} has no array {name}, and no plan of one")
     return found
 
 
 def remove(folder, words):
-    """Removes an array and its plan: the metadata first, so that no reader takes the rest for an array, and the record last."""
+    """Removes an array and its plan: the metadata first, so that no reader takes the rest for an
+    array, and the record last.
+    """
     flags = {word for word in words if word.startswith("-")}
     names = [word for word in words if not word.startswith("-")]
     if len(names) != 1 or not flags <= {"--input", "--dry-run"}:
         raise Wrong("usage: cubed DIR remove NAME [--input] [--dry-run]")
     found = named(folder, names[0])
+    refuse_removal(found, "--input" in flags)
+    print(going(found))
+    for name in kept(found):
+        print(f"stays, since it is no part of the array: {shown(name, 400)}")
+    if "--dry-run" not in flags:
+        with locks.held(folder, found.stored.name):
+            remove_all(found)
+    return 0
+
+
+def refuse_removal(found, is_asked):
     stored = found.stored
     if found.unread == GROUP or os.path.exists(os.path.join(stored.path, ".zgroup")):
         raise Failed(f"{stored.name} is a group; it isn't removed here")
-    if found.has_array and not stored.has_record() and not found.is_left and "--input" not in flags:
+    if found.has_array and not stored.has_record() and not found.is_left and not is_asked:
         raise Failed(f"{stored.name} has no record of a plan, so no run made it; say --input to remove it all the same")
-    print(going(found))
-    for name in kept(found):
-        print(f"stays, since it is no part of the array: {name}")
-    if "--dry-run" not in flags:
-        remove_all(found)
-    return 0
+    if found.metadata and found.layout is None and not stored.has_record() and not found.is_link:
+        raise Failed(f"{stored.name} isn't removed, since its chunks can't be told from other files: {found.unread}")
+    if locks.is_held(stored.folder, stored.name):
+        raise Failed(f"{stored.name} is being computed or stored by another process: wait until it has ended")
 
 
 def going(found):
     """What goes, in one line."""
     if found.is_link:
-        parts = [f"the link to {os.readlink(found.stored.path)}, and nothing of what it leads to"]
+        parts = [f"the link to {shown(os.readlink(found.stored.path), 400)}, and nothing of what it leads to"]
     else:
-        parts = [name for name in found.metadata] + ([counted(len(found.chunks), "chunk")] if found.chunks else [])
-    parts += found.rest() + (["the record of its plan"] if found.stored.has_record() else [])
+        parts = [name for name in found.metadata] + ([counted(len(found.chunks), "chunk")]
+                                                     if found.chunks else [])
+    if found.is_plan_link:
+        parts.append(f"the link _cubed/{found.stored.name} to {shown(os.readlink(found.stored.plan), 400)}, and nothing of what it leads to")
+    parts += found.rest() + (["the record of its plan"] if found.has_own_record else [])
     return f"{found.stored.name}: {', '.join(parts) or 'empty folders'}"
 
 
 def kept(found):
-    return [os.path.join(found.stored.name, name) for name in found.others] + [os.path.join("_cubed", found.stored.name, name) for name in found.plan_others]
+    own = [os.path.join(found.stored.name, name) for name in found.others]
+    return own + [os.path.join("_cubed", found.stored.name, name) for name in found.plan_others]
 
 
 def remove_all(found):
     stored = found.stored
     if found.is_link:
-        os.remove(stored.path)
+        os.unlink(stored.path)
     else:
-        for name in found.metadata + found.chunks + found.stopped:
-            os.remove(os.path.join(stored.path, name))
+        unlink_below(stored.path, found.metadata + found.chunks + found.stopped)
         remove_folders(stored.path)
-    for name in found.between + found.between_stopped:
-        os.remove(os.path.join(stored.plan, name))
-    if stored.has_record():
-        os.remove(stored.record)
+    if found.is_plan_link:
+        os.unlink(stored.plan)
+        return
+    unlink_below(stored.plan, found.between + found.between_stopped
+                 + (["plan.json"] if found.has_own_record else []))
     remove_folders(stored.plan)
+
+
+def unlink_below(top, names):
+    """Removes these files below a folder, in their order. No link to a folder is followed, whenever
+    it was put there.
+    """
+    at, here = None, None
+    try:
+        for name in names:
+            folder, _, last = name.rpartition("/")
+            if here is None or folder != at:
+                if here is not None:
+                    os.close(here)
+                at, here = folder, None
+                here = folder_of(top, folder)
+            with contextlib.suppress(FileNotFoundError):
+                unlink(last, here)
+    finally:
+        if here is not None:
+            os.close(here)
+
+
+def folder_of(top, folder):
+    """The descriptor of a folder below another one."""
+    kind = os.O_RDONLY | os.O_DIRECTORY | os.O_NOFOLLOW | os.O_CLOEXEC
+    found = os.open(top, kind)
+    for part in filter(None, folder.split("/")):
+        try:
+            below = os.open(part, kind, dir_fd=found)
+        finally:
+            os.close(found)
+        found = below
+    return found
+
+
+def unlink(name, folder):
+    os.unlink(name, dir_fd=folder)
 
 
 def remove_folders(path):
     """Removes a folder and those below it where they are empty."""
-    for at, _, _ in os.walk(path, topdown=False):
+    for at, _, _ in os.walk(path, topdown=False) if not os.path.islink(path) else []:
         with contextlib.suppress(OSError):
             os.rmdir(at)
 
@@ -242,7 +388,7 @@ def main(words):
         print(f"cubed: {wrong}", file=sys.stderr)
         return 2
     except (Failed, OSError) as failed:
-        print(f"cubed: {failed}", file=sys.stderr)
+        print(f"cubed: {shown(failed, 1000)}", file=sys.stderr)
         return 1
     except KeyboardInterrupt:
         print("cubed: broken off; the same command goes on where it was", file=sys.stderr)

@@ -5,7 +5,7 @@ come. So they show that tasks run at once, that a task starts before the operati
 usage: tools/gate_cases.py
 
 A case fails if a task gives up at the gate, and if one that is awaited doesn't come. So one thread that runs all tasks in turn is found out. Keys, records and counts
-come from bench/rules.py, bytes from NumPy. Nothing comes from the program.
+come from compare/rules.py, bytes from NumPy. Nothing comes from the program.
 """
 import os
 import sys

@@ -4,8 +4,8 @@ number fails, under each command; and edges of JSON.
 
 usage: tools/hostile_cases.py
 
-Keys, records and counts come from bench/rules.py, bytes from NumPy and tools/demo_cases.py. The answers to the edges of JSON are by hand,
-and compared with bench/rules.py. Nothing comes from the program.
+Keys, records and counts come from compare/rules.py, bytes from NumPy and tools/demo_cases.py. The answers to the edges of JSON are by hand,
+and compared with compare/rules.py. Nothing comes from the program.
 """
 import json
 import os

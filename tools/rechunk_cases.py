@@ -4,14 +4,14 @@ of `plan`.
 
 usage: tools/rechunk_cases.py
 
-Expected bytes come from NumPy; operations, records, counts and lines from bench/rules.py, some of them written here by hand too: those
+Expected bytes come from NumPy; operations, records, counts and lines from compare/rules.py, some of them written here by hand too: those
 of the worked examples. Nothing comes from the program.
 """
 import os
 import sys
 
 TOP = os.path.dirname(os.path.dirname(os.path.realpath(__file__)))
-sys.path.insert(0, f"{TOP}/bench")
+sys.path.insert(0, f"{TOP}/compare")
 sys.path.insert(0, f"{TOP}/tools")
 import elementwise_cases as tables  # noqa: E402
 import rules  # noqa: E402

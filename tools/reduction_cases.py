@@ -4,14 +4,14 @@ matrices.
 
 usage: tools/reduction_cases.py
 
-Expected bytes come from NumPy, also those of each partial result; records, counts and lines by bench/rules.py. Nothing comes from the
+Expected bytes come from NumPy, also those of each partial result; records, counts and lines by compare/rules.py. Nothing comes from the
 program.
 """
 import os
 import sys
 
 TOP = os.path.dirname(os.path.dirname(os.path.realpath(__file__)))
-sys.path.insert(0, f"{TOP}/bench")
+sys.path.insert(0, f"{TOP}/compare")
 sys.path.insert(0, f"{TOP}/tools")
 import compare  # noqa: E402
 import elementwise_cases as tables  # noqa: E402

@@ -6,7 +6,7 @@ usage: tools/stop_cases.py            the tables of the gate: all pairs of stops
        tools/stop_cases.py FOLDER     all cases, some 3,500 calls; `tools/tables_by_stops.py` runs them
 
 A folder tells nothing of its contents, so a run may go on there in a table. Its calls are numbered in the order of their making,
-whichever worker makes them. Keys, records and counts come from bench/rules.py, bytes from NumPy, the order of one worker's tasks from
+whichever worker makes them. Keys, records and counts come from compare/rules.py, bytes from NumPy, the order of one worker's tasks from
 tools/worker.py. Of four workers the order is free, and each line that may come stands in the row. Nothing comes from the program.
 """
 import os

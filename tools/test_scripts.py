@@ -1,9 +1,10 @@
 #!/usr/bin/env python3
-"""Tests the scripts beside the program: tools/zarr, and `status`, `remove` and `explain` of cubed. It needs no program.
+"""Tests the scripts beside the program: tools/zarr, the script cubed, and its commands `status`, `remove` and `explain`.
 
-usage: tools/test_scripts.py
+usage: tools/test_scripts.py [TEST..]     as tools/test_scripts.py Folder
 
-The files of NumPy are read and written by NumPy too where it can be imported.
+What needs the program runs over the one that the gate built, and is left out where there is none. The files of NumPy are read and
+written by NumPy too where it can be imported. test_calls.py has the tests of calls, and test_hostile.py those of strange folders.
 """
 import array
 import contextlib
@@ -14,54 +15,22 @@ import math
 import os
 import random
 import re
-import subprocess
 import sys
-import tempfile
 import unittest
 
-TOP = os.path.dirname(os.path.dirname(os.path.realpath(__file__)))
 sys.dont_write_bytecode = True
-sys.path.insert(0, f"{TOP}/tools")
-import folder as folder_commands  # noqa: E402
-import word_cases  # noqa: E402
-from zarr_store import TYPES, Layout, Stored, item_bytes  # noqa: E402
+from test_base import TOP, InFolder, files_in, put, run
+from test_calls import *  # noqa: F403
+from test_hostile import *  # noqa: F403
+import folder as folder_commands
+import word_cases
+from zarr_store import TYPES, Layout, item_bytes
 
 try:
     import numpy
 except ImportError:
     numpy = None
 RECORD = '{"allowed":200000000}'
-
-
-def run(*words, text=b""):
-    return subprocess.run(words, input=text, stdout=subprocess.PIPE, stderr=subprocess.PIPE, check=False)
-
-
-def put(path, data=b""):
-    os.makedirs(os.path.dirname(path), exist_ok=True)
-    with open(path, "wb") as file:
-        file.write(data)
-
-
-def files_in(top):
-    return sorted(os.path.relpath(os.path.join(at, name), top) for at, _, names in os.walk(top) for name in names)
-
-
-class InFolder(unittest.TestCase):
-    def setUp(self):
-        room = tempfile.TemporaryDirectory()
-        self.addCleanup(room.cleanup)
-        self.top = room.name
-
-    def zarr(self, *words, status=0, text=b""):
-        ended = run(f"{TOP}/tools/zarr", self.top, *words, text=text)
-        self.assertEqual(ended.returncode, status, ended.stderr.decode())
-        return ended.stdout
-
-    def cubed(self, *words, status=0):
-        ended = run(f"{TOP}/cubed", self.top, *words)
-        self.assertEqual(ended.returncode, status, ended.stderr.decode())
-        return ended.stdout.decode()
 
 
 class Zarr(InFolder):
@@ -168,7 +137,7 @@ class Folder(InFolder):
         put(f"{self.top}/y/zarr.json", layout.text().encode())
         for at in range(chunks):
             put(f"{self.top}/y/c/{at}", b"\1\2")
-        put(f"{self.top}/y/c/{chunks}.new17", b"\1")
+        put(f"{self.top}/y/c/{min(chunks, 2)}.new17", b"\1")
         put(f"{self.top}/_cubed/y/plan.json", RECORD.encode())
         for at in range(2):
             put(f"{self.top}/_cubed/y/0/c/{at}", b"\1\2")
@@ -237,20 +206,20 @@ class Folder(InFolder):
 @contextlib.contextmanager
 def stopped_after(count):
     """Lets so many files be removed, and breaks off then."""
-    remove, left = os.remove, [count]
+    unlink, left = folder_commands.unlink, [count]
 
-    def counted(path):
+    def counted(name, at):
         if not left[0]:
             raise KeyboardInterrupt
         left[0] -= 1
-        remove(path)
+        unlink(name, at)
 
-    os.remove = counted
+    folder_commands.unlink = counted
     try:
         with contextlib.redirect_stderr(io.StringIO()):
             yield
     finally:
-        os.remove = remove
+        folder_commands.unlink = unlink
 
 
 class Help(unittest.TestCase):
@@ -262,6 +231,8 @@ class Help(unittest.TestCase):
         for name, least, most, default, commands in self.ROW.findall(run(f"{TOP}/cubed", "help").stdout.decode()):
             told[name] = (int(least), int(most), int(default), sorted(commands.split(", ")))
         table = {name: (*row[:3], sorted(row[3])) for name, row in word_cases.OPTIONS.items()}
+        # That of the script itself.
+        self.assertEqual(told.pop("progress"), (0, 1, 0, ["resume", "run"]))
         self.assertEqual(told, table)
 
 

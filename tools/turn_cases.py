@@ -5,14 +5,14 @@ usage: tools/turn_cases.py
 
 What must come is computed by the machine below, which was written from the rules of the task table and not from the program. A table
 may start any of the tasks that can be started, so the machine keeps every state that can be, and a turn has each answer that may come.
-The operations, their tasks and their memory come from bench/rules.py; which tasks make the chunks that a task reads is said here.
+The operations, their tasks and their memory come from compare/rules.py; which tasks make the chunks that a task reads is said here.
 """
 import json
 import os
 import sys
 
 TOP = os.path.dirname(os.path.dirname(os.path.realpath(__file__)))
-sys.path.insert(0, f"{TOP}/bench")
+sys.path.insert(0, f"{TOP}/compare")
 sys.path.insert(0, f"{TOP}/tools")
 import rules  # noqa: E402
 from elementwise_cases import node  # noqa: E402

@@ -3,14 +3,14 @@
 
 usage: tools/version2_cases.py
 
-Bytes, records, lines and counts of calls are written here by hand or come from bench/rules.py. Nothing comes from the program.
+Bytes, records, lines and counts of calls are written here by hand or come from compare/rules.py. Nothing comes from the program.
 """
 import json
 import os
 import sys
 
 TOP = os.path.dirname(os.path.dirname(os.path.realpath(__file__)))
-sys.path.insert(0, f"{TOP}/bench")
+sys.path.insert(0, f"{TOP}/compare")
 import rules  # noqa: E402
 from rules import Array, compact  # noqa: E402
 from zarray_cases import BASE, said, without  # noqa: E402

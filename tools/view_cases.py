@@ -3,7 +3,7 @@
 
 usage: tools/view_cases.py
 
-Expected bytes come from NumPy, by bench/values.py; records, counts and lines by bench/rules.py. Nothing comes from the program.
+Expected bytes come from NumPy, by compare/values.py; records, counts and lines by compare/rules.py. Nothing comes from the program.
 """
 import os
 import sys
@@ -11,7 +11,7 @@ import sys
 import numpy
 
 TOP = os.path.dirname(os.path.dirname(os.path.realpath(__file__)))
-sys.path.insert(0, f"{TOP}/bench")
+sys.path.insert(0, f"{TOP}/compare")
 sys.path.insert(0, f"{TOP}/tools")
 import compare  # noqa: E402
 import elementwise_cases as tables  # noqa: E402

@@ -10,22 +10,26 @@ import math
 import mmap
 import os
 import re
+import stat
 import sys
+from typing import NamedTuple
 
 # Each type with its letter in the module array. Truth values are bytes.
 TYPES = {"bool": "B", "int8": "b", "int16": "h", "int32": "i", "int64": "q",
          "uint8": "B", "uint16": "H", "uint32": "I", "uint64": "Q"}
 NAME = re.compile(r"[A-Za-z0-9][A-Za-z0-9_.-]{0,31}\Z")
-# The files of an array beside its metadata: chunks of any key encoding, and what a write that was stopped left.
-CHUNK = re.compile(r"(c|(c[/.])?[0-9]+([/.][0-9]+)*)\Z")
-STOPPED = re.compile(r".*\.new[0-9]*\Z")
+# A number as the program writes it, a chunk in the key encoding in which it writes, and what a write that was stopped left behind a name.
+NUMBER = re.compile(r"(0|[1-9][0-9]{0,18})\Z")
+CHUNK = re.compile(r"c(/(0|[1-9][0-9]{0,4})){0,6}\Z")
+STOPPED = re.compile(r"(.+)\.new[0-9]+\Z")
+NO_METADATA = "it has no zarr.json"
 GROUP = "it is a group, whose folder can be given as DIR"
 METADATA = ("zarr.json", ".zarray", ".zattrs")
 MEMBERS = {"zarr_format", "node_type", "shape", "data_type", "chunk_grid", "chunk_key_encoding", "fill_value", "codecs",
            "attributes", "dimension_names", "storage_transformers"}
 MEMBERS_V2 = {"shape", "chunks", "dtype", "compressor", "fill_value", "order", "filters"}
-# The limits of the program: axes, elements, chunks of an array, and bytes of a chunk.
-RANK, ELEMENTS, CHUNKS, CHUNK_BYTES = 6, 2**40, 65536, 2**28
+# The limits of the program: axes, elements, chunks of an array, and bytes of a chunk and of metadata; and those of a record.
+RANK, ELEMENTS, CHUNKS, CHUNK_BYTES, METADATA_BYTES, RECORD_BYTES = 6, 2**40, 65536, 2**28, 2**20, 2**22
 # How much of a mapped file may stay in memory while it is copied.
 MAPPED = 64 << 20
 
@@ -36,6 +40,31 @@ class Failed(Exception):
 
 class Unread(Failed):
     """The metadata isn't one that the program reads."""
+
+
+def shown(value, most=80):
+    """A text of a file as it may be printed: on one line, of characters that a terminal shows."""
+    text = str(value)
+    text = text if len(text) <= most else f"{text[:most]}.."
+    return "".join(letter if letter.isprintable() else ascii(letter)[1:-1] for letter in text)
+
+
+def opened(path):
+    """The descriptor of a regular file, which may lie behind a link. Anything else, as a pipe or a device, isn't waited for."""
+    descriptor = os.open(path, os.O_RDONLY | os.O_NONBLOCK | os.O_CLOEXEC | os.O_NOCTTY)
+    if not stat.S_ISREG(os.fstat(descriptor).st_mode):
+        os.close(descriptor)
+        raise Failed(f"{shown(path, 400)} is no file")
+    return descriptor
+
+
+def bytes_in(path, most):
+    """The bytes of a regular file, of which it has so many at most."""
+    with open(opened(path), "rb") as file:
+        data = file.read(most + 1)
+    if len(data) > most:
+        raise Failed(f"{shown(path, 400)} has more than {most} bytes")
+    return data
 
 
 def is_name(name):
@@ -61,10 +90,12 @@ class Layout:
     def __init__(self, dtype, shape, chunk, fill=0, order="little", encoding="default", separator="/"):
         self.dtype, self.shape, self.chunk, self.fill = dtype, list(shape), list(chunk), int(fill)
         self.order, self.encoding, self.separator = order, encoding, separator
-        if len(self.shape) != len(self.chunk) or 0 in self.chunk:
-            raise Unread("the chunk shape wants one size above 0 for each axis")
         if len(self.shape) > RANK:
             raise Unread(f"the array has {len(self.shape)} axes, and {RANK} are the most")
+        if not is_sizes(self.shape) or not is_sizes(self.chunk):
+            raise Unread(f"a size isn't a whole number from 0 to {ELEMENTS}")
+        if len(self.shape) != len(self.chunk) or 0 in self.chunk:
+            raise Unread("the chunk shape wants one size above 0 for each axis")
         if math.prod(max(size, 1) for size in self.shape) > ELEMENTS:
             raise Unread(f"the array has more than {ELEMENTS} elements")
         if self.chunk_bytes > CHUNK_BYTES:
@@ -94,6 +125,20 @@ class Layout:
         parts = ["c", *parts] if self.encoding == "default" else parts or ["0"]
         return self.separator.join(parts)
 
+    def coordinate(self, key):
+        """The coordinate of the chunk that has this key, or nothing where no chunk has it."""
+        parts = key.split(self.separator)
+        if self.encoding == "default":
+            if parts[0] != "c":
+                return None
+            parts = parts[1:]
+        elif not self.shape:
+            return () if key == "0" else None
+        if len(parts) != len(self.shape) or not all(map(NUMBER.match, parts)):
+            return None
+        found = tuple(map(int, parts))
+        return found if all(at < count for at, count in zip(found, chunk_counts(self.shape, self.chunk))) else None
+
     def text(self):
         """The one text in which metadata is written: compact JSON, members in byte order."""
         codec = {"name": "bytes"}
@@ -118,12 +163,12 @@ def part(value, *allowed):
         raise Unread("a part of its metadata has no name")
     told = value.get("configuration", {})
     if not isinstance(told, dict) or not set(told) <= set(allowed):
-        raise Unread(f"the configuration of {value['name']!r} isn't read")
+        raise Unread(f"the configuration of {shown(value['name'])} isn't read")
     return value["name"], told
 
 
 def is_sizes(value):
-    return isinstance(value, list) and all(isinstance(size, int) and not isinstance(size, bool) and size >= 0 for size in value)
+    return isinstance(value, list) and all(isinstance(size, int) and not isinstance(size, bool) and 0 <= size <= ELEMENTS for size in value)
 
 
 def is_of(dtype, value):
@@ -145,7 +190,7 @@ def layout_of(told):
         raise Unread("its metadata isn't that of an array of version 3")
     dtype, _ = part(told.get("data_type"))
     if dtype not in TYPES:
-        raise Unread(f"its type is {dtype}, and integers and bool are read")
+        raise Unread(f"its type is {shown(dtype)}, and integers and bool are read")
     grid, sides = part(told.get("chunk_grid"), "chunk_shape")
     if grid != "regular" or not is_sizes(told.get("shape")) or not is_sizes(sides.get("chunk_shape")):
         raise Unread("its shape or its chunk grid isn't read")
@@ -157,14 +202,14 @@ def layout_of(told):
         raise Unread(f"its fill value isn't one of {dtype}")
     codecs = told.get("codecs")
     if not isinstance(codecs, list) or len(codecs) != 1 or part(codecs[0], "endian")[0] != "bytes":
-        names = [it if isinstance(it, str) else it.get("name") for it in codecs] if isinstance(codecs, list) else []
-        raise Unread(f"it has the codecs {', '.join(map(str, names)) or 'none'}, and only bytes alone is read")
+        names = [it.get("name") if isinstance(it, dict) else it for it in codecs[:5]] if isinstance(codecs, list) else []
+        raise Unread(f"it has the codecs {', '.join(map(shown, names)) or 'none'}, and only bytes alone is read")
     order = part(codecs[0], "endian")[1].get("endian", "little" if item_bytes(dtype) == 1 else None)
     if order not in ("little", "big"):
         raise Unread("its byte order isn't told")
     for name, value in told.items():
         if name not in MEMBERS and not (isinstance(value, dict) and value.get("must_understand") is False):
-            raise Unread(f"its metadata has the unknown member {name}")
+            raise Unread(f"its metadata has the unknown member {shown(name)}")
     return Layout(dtype, told["shape"], sides["chunk_shape"], told["fill_value"], order, encoding, separator)
 
 
@@ -180,7 +225,7 @@ def layout_of_v2(told):
                               for sign in ("u" if name.startswith("u") else "i",)}}
     dtype = told.get("dtype")
     if not isinstance(dtype, str) or dtype[1:] not in kinds or dtype[:1] not in "<>|":
-        raise Unread(f"its type is {dtype}, and integers and bool are read")
+        raise Unread(f"its type is {shown(dtype)}, and integers and bool are read")
     shape, chunk = told.get("shape"), told.get("chunks")
     if not is_sizes(shape) or not is_sizes(chunk):
         raise Unread("its shape or its chunks aren't read")
@@ -198,11 +243,15 @@ def layout_of_v2(told):
 
 
 def json_of(path):
-    with open(path, "rb") as file:
-        try:
-            return json.loads(file.read())
-        except (ValueError, RecursionError):
-            raise Unread("its metadata isn't JSON") from None
+    data = bytes_in(path, METADATA_BYTES)
+    try:
+        return json.loads(data.decode("utf-8"), parse_constant=no_constant)
+    except (ValueError, RecursionError):
+        raise Unread("its metadata isn't JSON") from None
+
+
+def no_constant(text):
+    raise ValueError(text)
 
 
 class Stored:
@@ -220,27 +269,55 @@ class Stored:
     def layout(self):
         """Its layout, or why the program doesn't read it."""
         for metadata, read in (("zarr.json", layout_of), (".zarray", layout_of_v2)):
-            path = os.path.join(self.path, metadata)
-            if os.path.exists(path):
-                return read(json_of(path))
-        raise Unread("it has no zarr.json")
+            try:
+                return read(json_of(os.path.join(self.path, metadata)))
+            except (FileNotFoundError, NotADirectoryError):
+                continue
+            except OSError as error:
+                raise Unread(f"its {metadata} can't be read: {error.strerror}") from None
+            except Failed as failed:
+                raise Unread(str(failed).replace(shown(self.path, 400) + os.sep, "its ")) from None
+        raise Unread(NO_METADATA)
 
     def chunk_path(self, layout, coordinate):
         return os.path.join(self.path, layout.key(coordinate))
 
-    def stored_chunks(self, layout):
-        """How many of its chunks are stored."""
-        return sum(os.path.exists(self.chunk_path(layout, at)) for at in layout.coordinates())
+    def state(self, layout):
+        """The chunks of the array by what their files are."""
+        found = State(0, [], {})
+        for coordinate in layout.coordinates():
+            key = layout.key(coordinate)
+            try:
+                told = os.stat(os.path.join(self.path, key))
+            except (FileNotFoundError, NotADirectoryError):
+                found.missing.append(key)
+                continue
+            except OSError as error:
+                found.wrong[key] = f"can't be read: {error.strerror}"
+                continue
+            if not stat.S_ISREG(told.st_mode):
+                found.wrong[key] = "is no file"
+            elif told.st_size != layout.chunk_bytes:
+                found.wrong[key] = f"has {told.st_size} bytes in place of {layout.chunk_bytes}"
+        return found._replace(whole=layout.chunk_count - len(found.missing) - len(found.wrong))
 
     def is_unfinished(self, layout):
         """Whether a run began to store it and hasn't stored all of it."""
-        return self.has_record() and self.stored_chunks(layout) < layout.chunk_count
+        return self.has_record() and bool(self.state(layout).missing)
+
+
+class State(NamedTuple):
+    """How many chunks of an array are whole files, the keys that have no file, and what is wrong with the files of others."""
+
+    whole: int
+    missing: list
+    wrong: dict
 
 
 def files_under(path):
     """The files below a folder and the links to folders, which aren't followed; the paths are relative to it."""
     files, links = [], []
-    for at, folders, names in os.walk(path):
+    for at, folders, names in os.walk(path) if not os.path.islink(path) else []:
         links += [os.path.relpath(os.path.join(at, name), path) for name in folders if os.path.islink(os.path.join(at, name))]
         start = os.path.relpath(at, path)
         files += names if start == "." else [f"{start}/{name}" for name in names]
@@ -251,9 +328,17 @@ def names_in(folder):
     """The names of arrays, of plans, and of what else could be an array, in their order."""
     found = set()
     for at in (folder, os.path.join(folder, "_cubed")):
-        with contextlib.suppress(FileNotFoundError, NotADirectoryError):
-            found.update(entry.name for entry in os.scandir(at) if is_name(entry.name) and entry.is_dir())
+        with contextlib.suppress(OSError):
+            found.update(entry.name for entry in os.scandir(at) if is_name(entry.name) and is_folder(entry))
     return sorted(found)
+
+
+def is_folder(entry):
+    """Whether an entry of a folder is one, or a link to one. A link that leads to itself is none."""
+    try:
+        return entry.is_dir()
+    except OSError:
+        return False
 
 
 class Box:

@@ -11,7 +11,7 @@ import os
 import sys
 
 TOP = os.path.dirname(os.path.dirname(os.path.realpath(__file__)))
-sys.path.insert(0, f"{TOP}/bench")
+sys.path.insert(0, f"{TOP}/compare")
 from rules import SIZES, Array, compact, limits  # noqa: E402
 
 BASE = {"chunks": [2], "compressor": None, "dtype": ">i2", "fill_value": -1, "filters": None, "order": "C", "shape": [4], "zarr_format": 2}

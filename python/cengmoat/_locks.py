@@ -21,6 +21,8 @@ FOLDER = ".locks"
 # The seconds for which a lock is waited for.
 MOMENT = 0.25
 MOST_CONTENT = 65_536
+# How often a lock's file is made anew where its folder is removed meanwhile.
+TRIES = 100
 FLAGS = os.O_CLOEXEC | os.O_NOFOLLOW | os.O_NONBLOCK | os.O_NOCTTY
 
 
@@ -32,18 +34,27 @@ def _key(path: str) -> str:
     return os.path.join(FOLDER, os.path.basename(path))
 
 
-def _opened(path: str) -> int:
+def _made(path: str) -> int:
+    """Return the descriptor of a lock's file, which is made where it isn't there."""
+    os.makedirs(os.path.dirname(path), exist_ok=True)
     try:
-        os.makedirs(os.path.dirname(path), exist_ok=True)
+        return os.open(path, os.O_RDWR | os.O_CREAT | FLAGS, 0o666)
+    except PermissionError:
+        if not os.path.lexists(path):
+            raise
+        # (the file of another user: a lock needs no right to write it)
+        return os.open(path, os.O_RDONLY | FLAGS)
+
+
+def _opened(path: str) -> int:
+    for left in reversed(range(TRIES)):
         try:
-            descriptor = os.open(path, os.O_RDWR | os.O_CREAT | FLAGS, 0o666)
-        except PermissionError:
-            if not os.path.lexists(path):
-                raise
-            # (the file of another user: a lock needs no right to write it)
-            descriptor = os.open(path, os.O_RDONLY | FLAGS)
-    except OSError as error:
-        raise told(_key(path), error) from None
+            descriptor = _made(path)
+            break
+        except OSError as error:
+            # (another process may just have removed the folder of the locks)
+            if not left or not isinstance(error, FileNotFoundError):
+                raise told(_key(path), error) from None
     try:
         check_regular(_key(path), os.fstat(descriptor).st_mode)
     except BaseException:

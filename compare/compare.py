@@ -11,8 +11,8 @@ for places, products of matrices and changes of chunks, literals, broadcast shap
 nodes that are used twice, dead nodes, inputs that are themselves the result, any count of partial results that a task merges, and memory
 with which all, some or none of the maps that could be are merged.
 `--only` says which nodes a case has most of: functions, views, reductions, copies (of up to 2,500 elements, in memory around what
-the plan needs), or any. `plan` must print what bench/rules.py says, and store nothing; what `run` must store is computed by NumPy,
-the arrays on the way too, and what it must answer is told by bench/rules.py. One case in four is damaged, in one or two of: the text,
+the plan needs), or any. `plan` must print what compare/rules.py says, and store nothing; what `run` must store is computed by NumPy,
+the arrays on the way too, and what it must answer is told by compare/rules.py. One case in four is damaged, in one or two of: the text,
 an argument, metadata, a chunk, a key in the way, memory, counts. Some arrays are printed too, some loaded, and the output of one run
 in five is checked by `check`. In one case of nine NumPy stores the output of an expression of every operator, now and then with one
 element changed, and the program checks it. With `--workers` each expression is also run with each of these numbers of workers, every

@@ -3,7 +3,7 @@
 
   kills.py [--program FILE] [--dir FOLDER] [--kills N] [--workers N,N..] [--seed N] [--first N] [--only run|views|reductions|copies|any]
 
-A job is a random expression of several tasks over a folder of random arrays, as bench/compare.py has them. It is run once in a copy of
+A job is a random expression of several tasks over a folder of random arrays, as compare/compare.py has them. It is run once in a copy of
 its folder, which tells how long it takes. In the folder itself it is killed (signal 9) up to eight times, at a random moment each time,
 and called again: `resume` if the record is there, else `run`. Each call takes one of the numbers of workers and `--backups` 0 or 1 at
 random. After each kill every file of the plan must be whole and right, the record must be there if any other is, and nothing else may

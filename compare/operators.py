@@ -2,7 +2,7 @@
 project's rules: arrays that are made, views, reductions and matrix products. Each function takes a node and what is known of its
 arguments (a type, a shape and a chunk shape), and returns the same of the result, or the code of the node's first fault.
 
-Nothing here comes from the program. bench/rules.py uses it.
+Nothing here comes from the program. compare/rules.py uses it.
 """
 import math
 

@@ -1,6 +1,6 @@
 """Types, limits, broadcasting and chunk shapes, read anew from the public standards and this project's rules.
 
-Nothing here comes from the program. bench/rules.py and bench/operators.py use it.
+Nothing here comes from the program. compare/rules.py and compare/operators.py use it.
 """
 import math
 

@@ -24,9 +24,11 @@ import numpy
 import xarray
 import zarr
 
-from compare import chunks_of, place_of
+from compare import HERE, chunks_of, place_of
 from rules import SIZES, Array
-from stored import PROGRAM, see_that_it_is_built
+
+sys.path.append(os.path.join(HERE, "..", "bench"))
+from stored import PROGRAM, see_that_it_is_built  # stored.py, in bench
 
 TOP = os.path.dirname(os.path.dirname(os.path.realpath(__file__)))
 SHAPES = [((7, 5), (3, 2)), ((11,), (4,)), ((), ()), ((2, 3, 4), (2, 1, 3)), ((3, 0), (2, 1))]

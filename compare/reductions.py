@@ -2,7 +2,7 @@
 bytes that a task needs beside those that are reserved; and those by which reductions, searches for places and products of matrices
 are computed in parts, with what part of the source each element is made of.
 
-Nothing here comes from the program. bench/rules.py uses it, and bench/compare.py, which takes the elements from NumPy.
+Nothing here comes from the program. compare/rules.py uses it, and compare/compare.py, which takes the elements from NumPy.
 """
 import itertools
 import math

@@ -3,8 +3,7 @@ the metadata of the inputs (8, 7), types and shapes (4), memory (5), counts (6),
 tasks, chunks and memory, also after maps are merged, the record, the keys of the arrays that are made, and the elements of elementwise
 functions as exact whole numbers.
 
-Nothing here comes from the program. bench/compare.py and tools/elementwise_cases.py use it; the first takes the elements from
-NumPy instead.
+Nothing here comes from the program. compare.py and tools/elementwise_cases.py use it; the first takes the elements from NumPy instead.
 """
 import collections
 import itertools

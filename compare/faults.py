@@ -5,7 +5,7 @@
 
 The store tells nothing of what it holds, and any of its calls may fail, those of the workers too. A put that failed may land later, at a
 call of any worker, in any order. Now and then a call lacks memory, or standard input or output fails. A round begins with `run` over the
-inputs of a random expression, as bench/compare.py has them, and goes on with `resume`, each call with odds of its own, then with one `resume`
+inputs of a random expression, as compare/compare.py has them, and goes on with `resume`, each call with odds of its own, then with one `resume`
 over a store that is mended. Some rounds remove the plan with `drop`, too, and run it again. Several workers have second copies of tasks.
 
 After each call every input must be as it was, and each key of the plan absent or with its one value, which NumPy computes; nothing else may
@@ -31,9 +31,11 @@ import tempfile
 
 sys.dont_write_bytecode = True
 import compare
-import programs
 import rules
 from draws import MIXES
+
+sys.path.append(os.path.join(compare.HERE, "..", "bench"))
+import programs  # programs.py, in bench, which also builds the small programs that are measured
 
 NAME = "faults_bench"
 NEEDS = "cu_store cu_mem cu_rows cu_top serde_json anyhow".split()

@@ -1,5 +1,5 @@
 #!/usr/bin/env python3
-"""Runs `demo` at several sizes, and compares what it prints and each byte that it stores with NumPy and bench/rules.py.
+"""Runs `demo` at several sizes, and compares what it prints and each byte that it stores with NumPy and compare/rules.py.
 
   demo.py [--program FILE] [--dir FOLDER] [--sizes N,N..] [--workers N,N..]
 """

@@ -1,4 +1,4 @@
-"""Random stored arrays, random expressions over them, and what is done to spoil both. bench/compare.py uses them; each is drawn by a
+"""Random stored arrays, random expressions over them, and what is done to spoil both. compare/compare.py uses them; each is drawn by a
 generator that is handed in, so that a case comes again by its seed and its number.
 """
 import json

@@ -1,7 +1,7 @@
 """How a stored array is copied to other chunks in little memory (after Rechunker, whose own rule may choose other sizes), read anew
 from this project's rules: the regions that are read and written, the chunks between, and the operations.
 
-Nothing here comes from the program. bench/rules.py uses it.
+Nothing here comes from the program. compare/rules.py uses it.
 """
 import math
 

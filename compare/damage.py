@@ -3,7 +3,7 @@
 
   damage.py [--program FILE] [--dir FOLDER] [--cases N] [--seed N] [--first N] [--only COMMAND] [--longest SECONDS]
 
-A case has a folder of random arrays and an expression over them, as bench/compare.py has them; mostly with a result that an earlier run
+A case has a folder of random arrays and an expression over them, as compare/compare.py has them; mostly with a result that an earlier run
 stored, whole or in part. Up to three things are damaged: the text, a file (cut, longer, other bytes, gone, or a folder, a pipe, a link or
 a huge sparse file in its place), metadata of either version, the record, a key in the way. Files that a killed write left and names that
 differ in case only are put beside. Then one to three commands are called, their words damaged too, now and then with a standard input that

@@ -1,0 +1,369 @@
+#!/usr/bin/env python3
+"""Calls the program as the script cubed does on a terminal, and says what it finds: on standard
+error, behind the program's own line.
+
+usage: tools/call.py PROGRAM DIR COMMAND WORDS..
+
+- `run --progress 1` and `resume --progress 1` show on a terminal how many tasks are done, by the
+  chunks that are there.
+- `load` holds the lock of the array's name, which python/ uses too, so that two that store one
+  array keep each other out.
+- After Ctrl-C it says what is stored and how one goes on; after 10 and 16 the space, files and
+  rights that it finds; after 2, 3 and 4 what is wrong with the words or with the text.
+
+The exit status is the program's, and a signal that ends the program ends this too.
+"""
+import contextlib
+import ctypes
+import os
+import resource
+import signal
+import stat
+import subprocess
+import sys
+import threading
+import time
+
+import locks
+from words import OPTIONS, Wrong, read, told_of, without_progress
+from zarr_store import NAME, Failed, Stored, shown
+
+MOST_TEXT, MOST_LINE = 1 << 20, 1 << 16
+TAKES_TEXT = ("run", "resume", "drop", "plan", "check", "load", "begin", "part")
+ENDING = (signal.SIGINT, signal.SIGTERM, signal.SIGHUP)
+# The seconds between two looks at the folder, and the part of the time that these may take.
+LEAST_WAIT, MOST_PART = 0.25, 0.02
+# The seconds for which the end of standard error is waited for, which another process may keep
+# open.
+LAST_WAIT = 1
+# What takes a line of a terminal away.
+NO_LINE = b"\r\x1b[K"
+FEW_BYTES, FEW_FILES = 64 << 20, 1000
+
+
+class Call:
+    """A call of the program: its words, what its options say, the text that it reads, and the name
+    of the array that it makes.
+    """
+
+    def __init__(self, program, words):
+        self.folder, self.command = words[0], words[1] if len(words) > 1 else ""
+        self.words = [program, *words[:2], *without_progress(words[2:])]
+        try:
+            self.options, _ = read(*words)
+        except Wrong as wrong:
+            self.options, self.wrong = {}, wrong
+        else:
+            self.wrong = None
+        self.text = self.stdin = None
+        if self.command in TAKES_TEXT and not self.wrong:
+            self.take_text()
+
+    def take_text(self):
+        """Reads the text. A file is then read by the program once more, and what came otherwise is handed on. What can't be read is left
+        for the program to say so."""
+        start = place_in_file()
+        with contextlib.suppress(OSError, ValueError, AttributeError):
+            self.text = sys.stdin.buffer.read(MOST_TEXT + 2)
+        if start is not None:
+            os.lseek(0, start, os.SEEK_SET)
+        elif self.text is not None:
+            self.stdin = handed_on(self.text)
+
+    @property
+    def name(self):
+        """The name of the array that the call makes, or nothing where it makes none."""
+        from tasks import name_of_text
+        found = name_of_text(self.text) if self.text else None
+        name = "demo_y" if self.command == "demo" else found
+        return name if isinstance(name, str) and NAME.match(name) else None
+
+    def tasks(self):
+        """The tasks of the plan of the text, or nothing."""
+        import tasks
+        found = [self.options.get(name, OPTIONS[name][2])
+                 for name in ("allowed-mem", "reserved-mem", "split-every")]
+        return tasks.of_text(self.folder, self.text, *found) if self.text else None
+
+
+def place_in_file():
+    """The place in the file that standard input is, or nothing where it is none."""
+    with contextlib.suppress(OSError):
+        if stat.S_ISREG(os.fstat(0).st_mode):
+            return os.lseek(0, 0, os.SEEK_CUR)
+    return None
+
+
+def handed_on(text):
+    """A descriptor from which a text is read: of a file without a name or, where there may be none
+    of that size, of a pipe.
+    """
+    with contextlib.suppress(OSError, AttributeError):
+        made = os.memfd_create("text")
+        if os.write(made, text) == len(text):
+            os.lseek(made, 0, os.SEEK_SET)
+            return made
+    read_end, write_end = os.pipe()
+
+    def feed():
+        with contextlib.suppress(OSError), open(write_end, "wb") as file:
+            file.write(text)
+
+    threading.Thread(target=feed, daemon=True).start()
+    return read_end
+
+
+class Line:
+    """What the program writes on standard error, which is passed on as it comes."""
+
+    def __init__(self):
+        self.before = b""
+        self.read_end, self.write_end = os.pipe()
+        self.told, self.thread = b"", threading.Thread(target=self.follow, daemon=True)
+
+    def begin(self):
+        os.close(self.write_end)
+        self.thread.start()
+
+    def follow(self):
+        while block := os.read(self.read_end, MOST_LINE):
+            self.told = (self.told + block)[:MOST_LINE]
+            sys.stderr.buffer.write(self.before + block)
+            sys.stderr.flush()
+
+
+def as_without_python():
+    """Gives the program what a shell gives it: the end of this script ends it too, a closed pipe is the system's, and a file that is too
+    large is a fault of a write."""
+    with contextlib.suppress(OSError, AttributeError):
+        ctypes.CDLL(None).prctl(1, signal.SIGKILL)
+    signal.signal(signal.SIGPIPE, signal.SIG_DFL)
+    signal.signal(signal.SIGXFSZ, signal.SIG_IGN)
+
+
+class Progress:
+    """A line on the terminal with the tasks that are done of all."""
+
+    def __init__(self, tasks):
+        self.tasks, self.wait = tasks, LEAST_WAIT
+
+    def show(self):
+        began = time.monotonic()
+        done = self.tasks.done()
+        at = next((it for it, count in zip(self.tasks.operations, done) if count < it.tasks),
+                  self.tasks.operations[-1])
+        self.line(f"cubed: {sum(done)} of {self.tasks.count} tasks done, operation {at.number + 1} of {len(done)} ({at.kind})")
+        self.wait = max(LEAST_WAIT, (time.monotonic() - began) / MOST_PART)
+
+    @staticmethod
+    def line(text):
+        sys.stderr.write(NO_LINE.decode() + text)
+        sys.stderr.flush()
+
+
+def run(call, lock=None):
+    """Runs the program to its end, passes its signals on, and returns its status and its line on
+    standard error.
+    """
+    progress, said, child = None, Line(), None
+    if call.options.get("progress") and sys.stderr.isatty():
+        tasks = call.tasks()
+        progress = Progress(tasks) if tasks and tasks.count else None
+        said.before = NO_LINE if progress else b""
+    if lock is not None:
+        os.set_inheritable(lock, True)
+
+    def pass_on(number, _):
+        if child is not None:
+            child.send_signal(number)
+
+    for number in ENDING:
+        signal.signal(number, pass_on)
+    child = subprocess.Popen(call.words, stdin=call.stdin, stderr=said.write_end, close_fds=False,
+                             preexec_fn=as_without_python)
+    said.begin()
+    wait_for(child, progress, said)
+    return child.returncode, said.told.decode("utf-8", "replace")
+
+
+def wait_for(child, progress, said):
+    """Waits for the end of the program and of what it says, and shows meanwhile how far it is."""
+    while True:
+        try:
+            child.wait(progress.wait if progress else None)
+            break
+        except subprocess.TimeoutExpired:
+            progress.show()
+    if progress and child.returncode == 0:
+        progress.show()
+        sys.stderr.write("\n")
+    elif progress:
+        progress.line("")
+    said.thread.join(LAST_WAIT)
+
+
+# What is found
+
+def tell(text):
+    print(f"cubed: {text}", file=sys.stderr)
+
+
+def tell_stopped(call):
+    """What a call that was broken off has stored, and how one goes on."""
+    import tasks
+    name = call.name
+    stored = Stored(call.folder, name) if name else None
+    if call.command in ("plan", "check", "print") or stored is None:
+        return tell("broken off; nothing is stored by this command"
+                    if call.command in ("plan", "check", "print") else "broken off")
+    if call.command == "load":
+        is_there = os.path.lexists(os.path.join(stored.path, "zarr.json"))
+        return tell(f"broken off; {name} is stored" if is_there
+                    else f"broken off; {name} isn't stored whole: load it again")
+    if call.command == "drop":
+        left = stored.has_record()
+        return tell(f"broken off; not all of {name} is removed: the same command goes on" if left
+                    else f"broken off; nothing of {name} is left")
+    if not stored.has_record():
+        again = "run begins anew"
+        if call.command == "demo":
+            again = "remove demo_a and demo_b with --input, if they are there, and begin anew"
+        return tell(f"broken off before the record of {name} was stored: {again}")
+    found = tasks.of_record(stored)
+    done = f"a part of {name} is stored"
+    if found:
+        done = f"{sum(found.done())} of {found.count} tasks of {name} are done"
+    how = "resume with the same text and options goes on"
+    if call.command == "demo":
+        how = "remove it, and begin anew"
+    return tell(f"broken off; {done}: {how}")
+
+
+def rights_text(path):
+    """Who may do what with a file or a folder."""
+    found = os.stat(path)
+    return f"it belongs to user {found.st_uid} and group {found.st_gid}, with the rights {stat.filemode(found.st_mode)}, and this is user {os.geteuid()}"
+
+
+def find_folder(path):
+    """The nearest thing on the way to a path that is there, and what hinders one on the way, if
+    anything.
+    """
+    while not os.path.lexists(path) and os.path.dirname(path) not in ("", path):
+        path = os.path.dirname(path)
+    return path or "."
+
+
+def tell_found(path):
+    """What is found where a file can't be read or written: the kind, the rights, the space and the
+    files that are left.
+    """
+    at = find_folder(path)
+    try:
+        mode = os.stat(at).st_mode
+    except OSError as error:
+        return tell(f"{shown(at, 400)} can't be looked at: {error.strerror}")
+    if at != path and not stat.S_ISDIR(mode):
+        tell(f"{shown(at, 400)} is no folder, and one is wanted on the way to {shown(os.path.basename(path))}")
+    elif at == path and not stat.S_ISREG(mode):
+        tell(f"{shown(at, 400)} is {'a folder' if stat.S_ISDIR(mode) else 'no file'}, and a file is wanted")
+    elif at == path and not os.access(at, os.R_OK):
+        tell(f"{shown(at, 400)} can't be read: {rights_text(at)}")
+    home = at if stat.S_ISDIR(mode) else os.path.dirname(at) or "."
+    if not os.access(home, os.W_OK | os.X_OK):
+        tell(f"{shown(home, 400)} can't be written: {rights_text(home)}")
+    tell_space(home)
+
+
+def tell_space(home):
+    """The space and the count of files that are left, and a limit on the size of files."""
+    with contextlib.suppress(OSError):
+        found = os.statvfs(home)
+        if found.f_flag & os.ST_RDONLY:
+            tell(f"the file system of {shown(home, 400)} can only be read")
+        space, files = found.f_bavail * found.f_frsize, found.f_favail
+        few = " (few)" if space < FEW_BYTES else ""
+        told = f" and {files} files{' (few)' if files < FEW_FILES else ''}" if found.f_files else ""
+        tell(f"{shown(home, 400)} has {space} bytes{few}{told} left")
+    limit = resource.getrlimit(resource.RLIMIT_FSIZE)[0]
+    if limit != resource.RLIM_INFINITY:
+        tell(f"a file may have {limit} bytes at most (ulimit -f)")
+
+
+def path_of_fault(call, fields):
+    """The path that an answer names: its key, or the folder in which its task stores."""
+    if "key" in fields:
+        return os.path.join(call.folder, fields["key"])
+    found, number = call.tasks(), fields.get("op", "")
+    if found and number.isdigit() and int(number) < len(found.operations):
+        return os.path.join(found.operations[int(number)].folders[-1], "c")
+    return os.path.join(call.folder, call.name or "")
+
+
+def tell_more(call, status, line):
+    """What is found after a status, on a terminal."""
+    if status == 2:
+        wrong = told_of(call.words[1:])
+        if wrong:
+            tell(wrong.told)
+    elif status in (3, 4, 5) and call.text:
+        import explain
+        fields = explain.fields_of(line)
+        if fields.get("node", "").isdigit():
+            for told in explain.told(status, fields, call.text, call.folder):
+                tell(told.strip())
+    elif status in (10, 16):
+        tell_found(path_of_fault(call, dict(word.partition("=")[::2] for word in line.split())))
+
+
+def loading_name(call):
+    """The name of the array of a text for `load` that is one, so that nothing is locked for one
+    that is refused anyway.
+    """
+    import array
+    import json
+    from zarr_store import TYPES, Layout
+    if call.command != "load" or call.wrong or not call.text or len(call.text) > MOST_TEXT:
+        return None
+    with contextlib.suppress(ValueError, KeyError, TypeError, OverflowError, RecursionError,
+                             AttributeError, Failed):
+        told = json.loads(call.text.decode("utf-8"))
+        layout = Layout(told["data_type"], told["shape"], told["chunk_shape"])
+        array.array(TYPES[layout.dtype], told["elements"])
+        return call.name
+    return None
+
+
+def main(program, *words):
+    call = Call(program, list(words))
+    if call.wrong and "progress" in call.wrong.told:
+        print(f"error 2 code={call.wrong.code}\ncubed: {call.wrong.told}", file=sys.stderr)
+        return 2
+    name = loading_name(call)
+    try:
+        with locks.held(call.folder, name) if name else contextlib.nullcontext() as lock:
+            status, line = run(call, lock)
+    except Failed as failed:
+        tell(failed)
+        return 1
+    # What is told beside is help: no fault of it may hide the answer.
+    with contextlib.suppress(Exception):
+        if -status in ENDING:
+            tell_stopped(call)
+        elif sys.stderr.isatty():
+            tell_more(call, status, line)
+    return status
+
+
+if __name__ == "__main__":
+    try:
+        ended = main(*sys.argv[1:])
+    except KeyboardInterrupt:
+        tell("broken off before anything was begun")
+        ended = -signal.SIGINT
+    if ended < 0:
+        sys.stderr.flush()
+        if -ended not in (signal.SIGKILL, signal.SIGSTOP):
+            signal.signal(-ended, signal.SIG_DFL)
+        os.kill(os.getpid(), -ended)
+    sys.exit(ended)

@@ -1,0 +1,185 @@
+#!/usr/bin/env python3
+"""Whether the words of a call are ones that the program accepts, and which of them isn't. The
+program itself reads them by the same rules.
+
+usage: tools/words.py DIR COMMAND WORDS..     prints the answer and what is wrong on standard error, and ends with 2; else with 0
+
+`--progress N` is the script's own, and the program doesn't get it.
+"""
+import difflib
+import re
+import sys
+
+from zarr_store import NAME, shown
+
+# Each option: the least and the most number, the number where it isn't given, and the commands that
+# take it.
+OPTIONS = {
+    "allowed-mem": (0, 2**40, 200_000_000, ("plan", "run", "resume", "drop", "demo")),
+    "reserved-mem": (0, 2**40, 0, ("plan", "run", "resume", "drop", "demo")),
+    "split-every": (2, 64, 4, ("plan", "run", "resume", "drop", "demo")),
+    "workers": (1, 64, 1, ("run", "resume", "demo")),
+    "retries": (0, 8, 2, ("run", "resume", "drop", "load", "check", "print", "demo")),
+    "backups": (0, 1, 0, ("run", "resume", "demo")),
+    "progress": (0, 1, 0, ("run", "resume")),
+}
+COMMANDS = ("run", "resume", "drop", "plan", "load", "check", "print", "demo")
+# The script's own commands, which aren't the program's.
+OTHERS = ("status", "remove", "explain")
+# What stands behind an option's name alone.
+POSITIONAL = {"print": "the name of an array", "demo": "a size from 1 to 2048"}
+# Options that a command must have.
+REQUIRED = {}
+NUMBER = re.compile(r"\+?[0-9]+\Z", re.ASCII)
+UNITS = {"": 1, "k": 10**3, "m": 10**6, "g": 10**9, "t": 10**12, "ki": 2**10, "mi": 2**20,
+         "gi": 2**30, "ti": 2**40}
+SIZE = re.compile(r"([0-9]{1,15})(?:[.]([0-9]{1,6}))? ?([kmgt]i?|)b?\Z", re.IGNORECASE | re.ASCII)
+
+
+class Wrong(Exception):
+    """A word isn't accepted: the code of the answer, and what is wrong."""
+
+    def __init__(self, code, told):
+        super().__init__(told)
+        self.code, self.told = code, told
+
+
+def near(word, names):
+    """What to say of the names that a wrong one is near to."""
+    found = difflib.get_close_matches(word.lower(), list(names), 3, 0.6) if len(word) < 100 else []
+    return f" (near: {', '.join(found)})" if found else ""
+
+
+def bytes_text(text):
+    """A size such as 64MiB in bytes, or nothing."""
+    found = SIZE.match(text)
+    if not found or not found[3] and not found[2] and text.isdigit():
+        return ""
+    scale, digits = UNITS[found[3].lower()], found[2] or ""
+    return f" ({int(found[1] + digits) * scale // 10**len(digits)} bytes)"
+
+
+def value_of(text):
+    """The number that a word of digits is. One that is above every range has fewer digits here."""
+    return int(text.lstrip("+0")[:30] or "0")
+
+
+def is_text(word):
+    try:
+        word.encode("utf-8")
+    except UnicodeEncodeError:
+        return False
+    return True
+
+
+def parts(words):
+    """The pairs of an option and its value, and the other words, in their order."""
+    end = words.index("--") if "--" in words else len(words)
+    given, others, rest = [], [], iter(words[:end])
+    for word in rest:
+        if word == "-" or not word.startswith("-"):
+            others.append(word)
+        elif not word.startswith("--"):
+            raise Wrong(2,
+                        f"{shown(word)} isn't an option: an option is written whole, as --workers 4")
+        elif "=" in word:
+            given.append(tuple(word[2:].split("=", 1)))
+        else:
+            given.append((word[2:], next(rest, None)))
+    return given, others + words[end + 1:]
+
+
+def number(name, value, least, most):
+    """The number that an option has."""
+    told = f"--{name} takes a whole number from {least} to {most}"
+    if value is None:
+        raise Wrong(2, f"{told}, and none stands behind it")
+    if not NUMBER.match(value):
+        raise Wrong(2, f"{told}, and {shown(value) or 'nothing'} isn't one{bytes_text(value)}")
+    if not least <= value_of(value) <= most:
+        raise Wrong(2, f"{told}, and not {shown(value)}")
+    return value_of(value)
+
+
+def options(command, given):
+    """The numbers of the options of a command, by their names."""
+    found = {}
+    own = [name for name, row in OPTIONS.items() if command in row[3]]
+    for name, value in given:
+        if name not in OPTIONS:
+            raise Wrong(2, f"there is no option --{shown(name)}{near(name, own)}")
+        if name not in own:
+            raise Wrong(2,
+                        f"{command} has no option --{name}; it has {', '.join(f'--{it}' for it in own)}")
+        if name in found:
+            raise Wrong(2, f"--{name} stands twice")
+        found[name] = number(name, value, *OPTIONS[name][:2])
+    for name in REQUIRED.get(command, ()):
+        if name not in found:
+            raise Wrong(2, f"{command} wants --{name}")
+    return found
+
+
+def read(folder, command=None, *words):
+    """The options and the other words of a call, or what is wrong with it."""
+    if not all(map(is_text, filter(None, (folder, command, *words)))):
+        raise Wrong(1 if command is None or not is_text(command) else 2, "a word isn't UTF-8")
+    if command not in COMMANDS:
+        if folder in COMMANDS:
+            raise Wrong(1, f"the folder comes first: cubed DIR {folder}")
+        told = "no command is given" if command is None else f"{shown(command) or 'an empty word'} isn't a command"
+        raise Wrong(1,
+                    f"{told}{near(command or '', COMMANDS + OTHERS)}; the commands are {', '.join(COMMANDS + OTHERS)}")
+    given, others = parts(list(words))
+    found = options(command, given)
+    wanted = POSITIONAL.get(command)
+    if len(others) != (wanted is not None):
+        extra = others[1:] if wanted else others
+        raise Wrong(2, f"{command} takes no word {shown(extra[0])!r} here" if extra
+                    else f"{command} wants {wanted}")
+    if command == "demo":
+        number_of_demo(others[0])
+    if command == "print" and not NAME.match(others[0]):
+        raise Wrong(3,
+                    f"{shown(others[0])!r} isn't a name: 1 to 32 letters, digits, _, - and ., the first a letter or a digit")
+    return found, others
+
+
+def number_of_demo(word):
+    if not NUMBER.match(word) or not 1 <= value_of(word) <= 2048:
+        raise Wrong(2, f"demo wants {POSITIONAL['demo']}, and not {shown(word)!r}")
+
+
+def without_progress(words):
+    """The words without the script's own option."""
+    end = words.index("--") if "--" in words else len(words)
+    kept, rest = [], iter(words[:end])
+    for word in rest:
+        if word == "--progress":
+            next(rest, None)
+        elif not word.startswith("--progress="):
+            kept.append(word)
+            if word.startswith("--") and "=" not in word:
+                kept += [value for value in [next(rest, None)] if value is not None]
+    return kept + words[end:]
+
+
+def told_of(words):
+    """The code and what is wrong with the words of a call, or nothing."""
+    try:
+        read(*words[:1] or [""], *words[1:])
+    except Wrong as wrong:
+        return wrong
+    return None
+
+
+def main(words):
+    wrong = told_of(words)
+    if wrong:
+        print(f"error 2 code={wrong.code}\ncubed: {wrong.told}", file=sys.stderr)
+        return 2
+    return 0
+
+
+if __name__ == "__main__":
+    sys.exit(main(sys.argv[1:]))
