@@ -249,7 +249,7 @@ class Load(WithProgram):
 
     def test_the_package_sees_the_lock_of_a_load(self):
         try:
-            from cengmoat.locks import is_locked
+            from cengmoat._locks import is_locked
         except ImportError:
             self.skipTest("NumPy can't be imported")
         self.program('cat >/dev/null; echo >"$1/begun"; exec sleep 60')
