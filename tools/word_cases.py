@@ -19,6 +19,7 @@ OPTIONS = {
     "workers": (1, 64, 1, ("run", "resume", "demo")),
     "retries": (0, 8, 2, ("run", "resume", "drop", "load", "check", "print", "demo")),
     "backups": (0, 1, 0, ("run", "resume", "demo")),
+    "sync": (0, 1, 1, ("run", "resume", "load", "demo")),
 }
 ACCEPTED = {
     "run": "error 3 code=1 node=0",
@@ -122,13 +123,13 @@ def numbers():
             "18446744073709551615", "18446744073709551616", "340282366920938463463374607431768211456", "+0", "00000000000000000000009")
         for form in both("allowed-mem", value)]
     yield "small numbers with a plus and with zeros", [
-        ["run", *form] for name, value in (("workers", "+1"), ("workers", "01"), ("backups", "+0"), ("backups", "00"), ("retries", "+8"),
+        ["run", *form] for name, value in (("workers", "+1"), ("workers", "01"), ("backups", "+0"), ("backups", "00"), ("sync", "+1"), ("sync", "00"), ("sync", ""), ("sync", "-0"), ("retries", "+8"),
             ("retries", "08"), ("split-every", "+64"), ("split-every", "002"), ("workers", ""), ("backups", ""), ("backups", "-0"))
         for form in both(name, value)]
 
 
 def forms():
-    every = ["--allowed-mem", "9", "--reserved-mem=8", "--split-every", "7", "--workers=1", "--retries", "6", "--backups=0"]
+    every = ["--allowed-mem", "9", "--reserved-mem=8", "--split-every", "7", "--workers=1", "--retries", "6", "--backups=0", "--sync", "0"]
     yield "all options, in any order", [["run", *every], ["run", *every[3:], *every[:3]], ["run", *every[2:3], *every[:2], *every[3:]],
         ["plan", *every[:5]], ["plan", *every[:6]], ["plan", *every], ["resume", *every], ["drop", *every[:5]], ["drop", *every[:5], *every[6:8]], ["drop", *every]]
     yield "options that are given twice", [

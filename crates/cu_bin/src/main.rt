@@ -1,5 +1,6 @@
 //! `cubed DIR COMMAND OPTIONS`: arrays in a folder, computed by plans of small tasks.
 #![tactic(auto)]
+ghost use Rattle.std.specs.Prelude.{◌≡◌, ◌↔◌, IfOk, IsTrue, OnErr};
 
 mod adapters;
 
@@ -7,11 +8,12 @@ use adapters::{StdSink, StdSource};
 use cu_dir::DirDepot;
 use cu_store::NoGate;
 use cu_top::{Status, number, status_line, top};
+use cu_words::{CommandLine, LineFault, read_line};
 use std::alloc::Global;
 use std::io::ErrorKind;
 use std::process::ExitCode;
 use std::rt::Env;
-use std::{env, io};
+use std::{env, io, process};
 
 /// The words after the program's path: the folder first, and then the command and its options.
 fn words_of(rt: &(impl Env + AllocGlobal), alloc: Global) -> io::Result<Vec<String>> {
@@ -31,6 +33,18 @@ fn ended(rt: &impl Eprint, status: &Status) -> ExitCode {
     ExitCode::from(number(status))
 }
 
+/// Whether puts are synced, as they are unless the words give `--sync 0`. Words that can't be read are
+/// refused by `top`, and then nothing is put.
+fn is_synced(line: &Result<CommandLine, LineFault>) -> bool
+    ensures asked { IfOk line.now (λ l. IsTrue result ↔ l.numbers.sync ≡ 1) }
+    ensures unread { OnErr line.now (IsTrue result) }
+{
+    match line {
+        Ok(line) => line.numbers.sync == 1,
+        Err(_) => true,
+    }
+}
+
 fn main(rt: HostRuntime) -> ExitCode {
     let alloc = rt.alloc();
     let words = match words_of(&rt, alloc) {
@@ -47,6 +61,8 @@ fn main(rt: HostRuntime) -> ExitCode {
     let Ok(mut depot) = DirDepot::make(&rt, alloc, folder.as_str()) else {
         return ended(&rt, &Status::NoMemory);
     };
+    depot.name_after(process::id(rt.process()));
+    depot.set_synced(is_synced(&read_line(alloc, command)));
     let mut source = StdSource::make(&rt);
     let mut sink = StdSink::make(&rt);
     let status = top(

@@ -150,3 +150,15 @@ drops = refl
 drops_with_no_workers : command_of (codes "drop" ∷ codes "--workers" ∷ codes "1" ∷ []) ≡ Err 2
 unfolding command_of line_given
 drops_with_no_workers = refl
+
+unsynced : command_of (codes "run" ∷ codes "--sync" ∷ codes "0" ∷ []) ≡ command_of (codes "run" ∷ [])
+unfolding command_of line_given
+unsynced = refl
+
+synced_or_not : command_of (codes "load" ∷ codes "--sync=2" ∷ []) ≡ Err 2
+unfolding command_of line_given
+synced_or_not = refl
+
+drops_with_no_sync : command_of (codes "drop" ∷ codes "--sync" ∷ codes "1" ∷ []) ≡ Err 2
+unfolding command_of line_given
+drops_with_no_sync = refl

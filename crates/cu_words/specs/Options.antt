@@ -8,7 +8,7 @@ use Rattle.cu_words.specs.declared.options.CommandName.TheVariants.{Demo, Load, 
 use Rattle.cu_words.specs.declared.options.OptionName.{OptionName}
 use Rattle.cu_words.specs.declared.options.OptionName.TheVariants.{AllowedMem, ReservedMem}
 use Rattle.cu_words.specs.declared.options.OptionName.TheVariants.{SplitEvery, Workers, Retries}
-use Rattle.cu_words.specs.declared.options.OptionName.TheVariants.{Backups}
+use Rattle.cu_words.specs.declared.options.OptionName.TheVariants.{Backups, Sync}
 use Rattle.cu_words.specs.declared.options.TableRow.{TableRow}
 
 -- an option's name, the least and the most number that it takes, and its number where it isn't
@@ -28,14 +28,16 @@ option_row SplitEvery = record { name = codes "split-every"; least = 2; most = 6
 option_row Workers = record { name = codes "workers"; least = 1; most = 64; default = 1 }
 option_row Retries = record { name = codes "retries"; least = 0; most = 8; default = 2 }
 option_row Backups = record { name = codes "backups"; least = 0; most = 1; default = 0 }
+option_row Sync = record { name = codes "sync"; least = 0; most = 1; default = 1 }
 
 -- the options that a command takes
 abbrev pub options_of : CommandName → List OptionName
-options_of Run = AllowedMem ∷ ReservedMem ∷ SplitEvery ∷ Workers ∷ Retries ∷ Backups ∷ []
-options_of Demo = AllowedMem ∷ ReservedMem ∷ SplitEvery ∷ Workers ∷ Retries ∷ Backups ∷ []
-options_of Resume = AllowedMem ∷ ReservedMem ∷ SplitEvery ∷ Workers ∷ Retries ∷ Backups ∷ []
+options_of Run = AllowedMem ∷ ReservedMem ∷ SplitEvery ∷ Workers ∷ Retries ∷ Backups ∷ Sync ∷ []
+options_of Demo = AllowedMem ∷ ReservedMem ∷ SplitEvery ∷ Workers ∷ Retries ∷ Backups ∷ Sync ∷ []
+options_of Resume = AllowedMem ∷ ReservedMem ∷ SplitEvery ∷ Workers ∷ Retries ∷ Backups ∷ Sync ∷ []
 options_of Drop = AllowedMem ∷ ReservedMem ∷ SplitEvery ∷ Retries ∷ []
 options_of Plan = AllowedMem ∷ ReservedMem ∷ SplitEvery ∷ []
+options_of Load = Retries ∷ Sync ∷ []
 options_of command = Retries ∷ []
 
 abbrev pub option_names : CommandName → List (List ℕ)

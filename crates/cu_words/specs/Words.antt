@@ -18,7 +18,7 @@ use Rattle.cu_words.specs.declared.options.CommandName.{CommandName}
 use Rattle.cu_words.specs.declared.options.OptionName.{OptionName}
 use Rattle.cu_words.specs.declared.options.OptionName.TheVariants.{AllowedMem, ReservedMem}
 use Rattle.cu_words.specs.declared.options.OptionName.TheVariants.{SplitEvery, Workers, Retries}
-use Rattle.cu_words.specs.declared.options.OptionName.TheVariants.{Backups}
+use Rattle.cu_words.specs.declared.options.OptionName.TheVariants.{Backups, Sync}
 
 -- ---- numbers
 
@@ -54,7 +54,7 @@ number_or_zero given o = unwrap_or (number_given given o) 0
 
 abbrev pub has_numbers : (OptionName → List (List ℕ)) → Bool
 has_numbers given = list_all (λ o. is_some (number_given given o))
-    (AllowedMem ∷ ReservedMem ∷ SplitEvery ∷ Workers ∷ Retries ∷ Backups ∷ [])
+    (AllowedMem ∷ ReservedMem ∷ SplitEvery ∷ Workers ∷ Retries ∷ Backups ∷ Sync ∷ [])
 
 -- the values in the parts of a line
 abbrev pub option_values : List LinePart → OptionName → List (List ℕ)
@@ -69,6 +69,7 @@ numbers_given given = if has_numbers given then Some (record {
   workers = number_or_zero given Workers;
   retries = number_or_zero given Retries;
   backups = number_or_zero given Backups;
+  sync = number_or_zero given Sync;
 }) else None
 
 -- a number of the option's range
@@ -83,6 +84,7 @@ pub record AreInRange (n : Numbers) : Type 0 where
   pub workers : IsInRow Workers n.workers
   pub retries : IsInRow Retries n.retries
   pub backups : IsInRow Backups n.backups
+  pub sync : IsInRow Sync n.sync
 
 -- ---- the whole line
 

@@ -27,6 +27,7 @@ pub struct Numbers {
     pub workers: u64,
     pub retries: u64,
     pub backups: u64,
+    pub sync: u64,
 }
 
 /// The words of the command line, read.
@@ -105,6 +106,7 @@ fn numbers_found(matches: &ArgMatches) -> Option<Numbers>
         workers: number_found(matches, OptionName::Workers)?,
         retries: number_found(matches, OptionName::Retries)?,
         backups: number_found(matches, OptionName::Backups)?,
+        sync: number_found(matches, OptionName::Sync)?,
     })
 }
 

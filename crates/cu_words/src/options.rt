@@ -31,6 +31,8 @@ pub enum OptionName {
     Retries,
     /// Whether a task that runs is started a second time where nothing else is left to start.
     Backups,
+    /// Whether a file's data is synced before the file is put in place.
+    Sync,
 }
 
 /// A row of the table of the options: the name, without its `--`; the least and the most number
@@ -56,6 +58,7 @@ impl OptionName {
             OptionName::Workers => ("workers", 1, 64, 1),
             OptionName::Retries => ("retries", 0, 8, 2),
             OptionName::Backups => ("backups", 0, 1, 0),
+            OptionName::Sync => ("sync", 0, 1, 1),
         };
         TableRow {
             name,
@@ -66,13 +69,14 @@ impl OptionName {
     }
 }
 
-static RUN: [OptionName; 6] = [
+static RUN: [OptionName; 7] = [
     OptionName::AllowedMem,
     OptionName::ReservedMem,
     OptionName::SplitEvery,
     OptionName::Workers,
     OptionName::Retries,
     OptionName::Backups,
+    OptionName::Sync,
 ];
 
 static PLAN: [OptionName; 3] = [
@@ -87,6 +91,8 @@ static DROP: [OptionName; 4] = [
     OptionName::SplitEvery,
     OptionName::Retries,
 ];
+
+static LOAD: [OptionName; 2] = [OptionName::Retries, OptionName::Sync];
 
 static OTHERS: [OptionName; 1] = [OptionName::Retries];
 
@@ -126,7 +132,8 @@ impl CommandName {
             CommandName::Run | CommandName::Resume | CommandName::Demo => RUN.as_slice(),
             CommandName::Drop => DROP.as_slice(),
             CommandName::Plan => PLAN.as_slice(),
-            CommandName::Load | CommandName::Check | CommandName::Print => OTHERS.as_slice(),
+            CommandName::Load => LOAD.as_slice(),
+            CommandName::Check | CommandName::Print => OTHERS.as_slice(),
         }
     }
 }
