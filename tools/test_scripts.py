@@ -255,8 +255,8 @@ class Explain(unittest.TestCase):
         self.assertRegex(self.explain("9"), r"cause: perhaps a run that was stopped")
 
     def test_each_operator_has_an_example_of_itself(self):
-        with open(f"{TOP}/docs/GUIDE.md", encoding="utf-8") as guide:
-            table = guide.read().partition("### Operators")[2].partition("\n\nThe elementwise")[0]
+        with open(f"{TOP}/docs/OPERATORS.md", encoding="utf-8") as page:
+            table = page.read().partition("## All operators")[2].partition("\n## ")[0]
         names = [name for row in re.findall(r"^\| (`.*?) \|", table, re.M) for name in re.findall(r"`(\w+)`", row)]
         self.assertGreater(len(names), 50)
         for name in names:

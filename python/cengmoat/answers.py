@@ -1,4 +1,4 @@
-"""The rows of the guide's table of answers, as the texts of errors say them."""
+"""The rows of the documents' table of answers, as the texts of errors say them."""
 from __future__ import annotations
 
 import functools
@@ -28,7 +28,7 @@ class Row(NamedTuple):
 
 
 def rows_of(text: str) -> list[str]:
-    """Return the lines of a guide that are rows of its table of answers."""
+    """Return the lines of a page that are rows of its table of answers."""
     _, _, behind = text.partition(HEADING + "\n")
     table = re.split(r"^## ", behind, maxsplit=1, flags=re.M)[0]
     return [line for line in table.splitlines() if line.startswith("| `")]
@@ -61,7 +61,7 @@ def filled(text: str, row: Row, values: Mapping[str, Any]) -> str:
 
 
 def text_of(status: int, values: Mapping[str, Any]) -> str:
-    """Return what the guide says of an answer: the cause, what is stored, and what to do.
+    """Return what the page says of an answer: the cause, what is stored, and what to do.
 
     Parameters
     ----------
@@ -85,7 +85,7 @@ def text_of(status: int, values: Mapping[str, Any]) -> str:
 
 
 def main() -> None:
-    """Write the rows of a guide into the package: `python3 -m cengmoat.answers docs/GUIDE.md`."""
+    """Write the rows of the page into the package: `python3 -m cengmoat.answers docs/ANSWERS.md`."""
     import sys
 
     with open(sys.argv[1], encoding="utf-8") as file:

@@ -8,7 +8,7 @@ import unittest
 
 from .support import TOP, Case, WithProgram, cengmoat, np, xp
 
-GUIDE = os.path.join(TOP, "docs", "GUIDE.md")
+PAGE = os.path.join(TOP, "docs", "ANSWERS.md")
 # The line of each answer with the values of its fields.
 LINES = {
     2: ("error 2 code=2", {"code": 2}), 3: ("error 3 code=4 node=1", {"code": 4, "node": 1}),
@@ -54,13 +54,13 @@ class Lines(Case):
         self.assertIn("signal 9", str(cengmoat.errors.error_of(-9, "")))
         self.assertIn("status 1: cubed: broken", str(cengmoat.errors.error_of(1, "cubed: broken\n")))
 
-    def test_rows_are_those_of_the_guide(self) -> None:
-        if not os.path.isfile(GUIDE):
-            self.skipTest("the guide lies in the repository")
-        with open(GUIDE, encoding="utf-8") as file:
+    def test_rows_are_those_of_the_page(self) -> None:
+        if not os.path.isfile(PAGE):
+            self.skipTest("the page lies in the repository")
+        with open(PAGE, encoding="utf-8") as file:
             wanted = cengmoat.answers.rows_of(file.read())
         with open(os.path.join(os.path.dirname(cengmoat.__file__), "answers.md"), encoding="utf-8") as file:
-            self.assertEqual(file.read().splitlines(), wanted, "python3 -m cengmoat.answers docs/GUIDE.md writes them anew")
+            self.assertEqual(file.read().splitlines(), wanted, "python3 -m cengmoat.answers docs/ANSWERS.md writes them anew")
         for row in cengmoat.answers.rows():
             self.assertTrue(row.cause, row)
 
