@@ -35,11 +35,7 @@ def _is_there(descriptor: int, path: str) -> bool:
 def _taken(path: str, kind: int) -> Optional[int]:
     """Return the descriptor of a lock, or None where another holds it."""
     while True:
-        try:
-            descriptor = _opened(path)
-        except FileNotFoundError:
-            # (another process has just removed the folder of the locks)
-            continue
+        descriptor = _opened(path)
         try:
             fcntl.flock(descriptor, kind | fcntl.LOCK_NB)
         except BlockingIOError:
