@@ -12,7 +12,7 @@ can't be read or a standard output that is full. Which commands and options the 
 Of each call these things are looked at:
 
 - it ends by itself, in time, with a status that its command may answer;
-- its line has one of the forms that docs/GUIDE.md has for this status ("Each answer"), and nothing else is printed;
+- its line has one of the forms that docs/ANSWERS.md has for this status ("Each answer"), and nothing else is printed;
 - the files that the command may not touch are the same, byte by byte, also beside the folder: all of them after a refusal and under
   `plan`, `print` and `check`, and otherwise all but those of the array and the plan that the text names;
 - `run` changes no file that was there, `resume` no record and no metadata, and `drop` makes none;
@@ -39,7 +39,7 @@ import draws
 import rules
 from draws import MIXES
 
-GUIDE = os.path.join(compare.HERE, "..", "docs", "GUIDE.md")
+ANSWERS = os.path.join(compare.HERE, "..", "docs", "ANSWERS.md")
 # The statuses of each command beside 2 and 70.
 STATUSES = {
     "plan": {0, 3, 4, 5, 6, 7, 8, 11, 12, 16}, "run": {0, 3, 4, 5, 6, 7, 8, 9, 10, 11, 12, 13, 16},
@@ -71,8 +71,8 @@ class Wrong(Exception):
 
 
 def forms_of_answers():
-    """Returns the forms of the lines in the guide's table of answers, by the status."""
-    with open(GUIDE, encoding="utf-8") as text:
+    """Returns the forms of the lines in the table of answers, by the status."""
+    with open(ANSWERS, encoding="utf-8") as text:
         table = text.read().partition("\n## Each answer\n")[2].partition("\n## ")[0]
     found = collections.defaultdict(list)
     for words in re.findall(r"^\| `(error \d+[^`]*)`", table, re.M):

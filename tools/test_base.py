@@ -29,19 +29,21 @@ ADDITION = {"nodes": [{"id": "a", "op": "input", "name": "a"},
 
 
 def proved_program():
-    """The program that the gate built, or the one that is named; nothing where there is none or it
-    is older than its sources.
+    """The program that the gate built, or the one that is named; nothing where there is none, or it
+    is older than its sources, as ./cubed sees it.
     """
     if os.environ.get(OTHER):
         return os.path.abspath(os.environ[OTHER])
-    try:
-        from cengmoat.program import NoProgram, program_of
-    except ImportError:
+    program = f"{TOP}/crates/cu_bin/out/cu_bin"
+    if not os.access(program, os.X_OK):
         return None
-    try:
-        return program_of(TOP)
-    except NoProgram:
-        return None
+    built = os.stat(program).st_mtime_ns
+    for at, folders, names in os.walk(f"{TOP}/crates"):
+        folders[:] = [name for name in folders if name not in ("out", "must-fail", "more-edits")]
+        for name in names:
+            if name.endswith((".rt", ".antt")) and os.stat(f"{at}/{name}").st_mtime_ns > built:
+                return None
+    return program if os.stat(f"{TOP}/crates.txt").st_mtime_ns <= built else None
 
 
 PROGRAM = proved_program()

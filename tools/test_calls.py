@@ -233,7 +233,8 @@ class Load(WithProgram):
         other = run(self.script, self.top, "load", text=LOADED)
         self.assertEqual((ended[0].returncode, ended[0].stdout), (0, b"ok elements=2 chunks=2\n"))
         self.assertEqual((second.returncode, second.stdout), (1, b""))
-        self.assertIn(b"c is being computed or stored by another process: wait until it has ended, and call again", second.stderr)
+        self.assertRegex(second.stderr.decode(), r"^cubed: c is being computed or stored by process \d+, since "
+                                                 r"[-: \d]+: wait until it has ended, and call again\n$")
         self.assertEqual(other.returncode, 0)
         self.assertEqual(files_in(self.top), ["begun", "go"])
 
@@ -247,11 +248,29 @@ class Load(WithProgram):
         file.close()
         self.assertEqual(run(self.script, self.top, "load", text=LOADED).stdout, b"ok\n")
 
+    def test_what_a_stop_leaves_of_a_lock_holds_nobody_up(self):
+        """Also where its file is another's; what the package noted there for itself stays."""
+        self.program("cat >/dev/null; echo ok")
+        put(f"{self.top}/.locks/c", b'{"pid": 1, "host": "far", "since": "1999", "temporary": ["data-1"]}\n')
+        self.assertEqual(run(self.script, self.top, "load", text=LOADED).stdout, b"ok\n")
+        with open(f"{self.top}/.locks/c", "rb") as file:
+            self.assertEqual(json.load(file)["temporary"], ["data-1"])
+        os.unlink(f"{self.top}/.locks/c")
+        os.symlink("/dev/null", f"{self.top}/.locks/c")
+        self.assertEqual(run(self.script, self.top, "load", text=LOADED).stdout, b"ok\n")
+        os.unlink(f"{self.top}/.locks/c")
+        os.mkfifo(f"{self.top}/.locks/c")
+        ended = run(self.script, self.top, "load", text=LOADED)
+        self.assertEqual((ended.returncode, ended.stdout), (1, b""))
+        self.assertIn(b".locks/c is no file", ended.stderr)
+
     def test_the_package_sees_the_lock_of_a_load(self):
         try:
-            from cengmoat._locks import is_locked
+            import cengmoat
+            import numpy
         except ImportError:
             self.skipTest("NumPy can't be imported")
+        store = cengmoat.Store(self.top)
         self.program('cat >/dev/null; echo >"$1/begun"; exec sleep 60')
         process = subprocess.Popen([self.script, self.top, "load"], stdin=subprocess.PIPE,
                                    stderr=subprocess.DEVNULL)
@@ -260,13 +279,15 @@ class Load(WithProgram):
         process.stdin.write(LOADED)
         process.stdin.close()
         self.assertTrue(wait_until(lambda: os.path.exists(f"{self.top}/begun")))
-        self.assertTrue(is_locked(self.top, "c"))
+        with self.assertRaises(cengmoat.Locked):
+            store.save("c", numpy.arange(2))
         put(f"{self.top}/c/c/0", b"1")
         self.assertIn("a load is at work", self.cubed("status"))
         process.kill()
         process.wait()
-        self.assertTrue(wait_until(lambda: not is_locked(self.top, "c"), 10))
-        self.assertIn("load it again", self.cubed("status"))
+        self.assertTrue(wait_until(lambda: "load it again" in self.cubed("status"), 10))
+        os.rename(f"{self.top}/c", f"{self.room}/c")
+        store.save("c", numpy.arange(2))
 
     def test_what_is_refused_makes_no_folder(self):
         self.program("cat >/dev/null; echo 'error 18 code=2' >&2; exit 18")

@@ -66,7 +66,7 @@ class Zarr(InFolder):
         self.assertEqual(self.chunk("a", 0), bytes([1, 0, 1]))
         for text in (b"128", b"1.0", b"1_0", b"x", "\u0661".encode(), b"1 2-3"):
             self.zarr("write", "b", "--dtype", "int8", status=1, text=text)
-            self.assertEqual(os.listdir(self.top), ["a"])
+            self.assertEqual(set(os.listdir(self.top)) - {".locks"}, {"a"})
 
     def test_what_is_there_or_is_wrong_is_refused_and_leaves_nothing(self):
         self.zarr("write", "a", "1")
@@ -77,7 +77,7 @@ class Zarr(InFolder):
             ended = run(f"{TOP}/tools/zarr", self.top, "write", "c", "1", *words)
             self.assertIn(ended.returncode, (1, 2), words)
             self.assertEqual(ended.stdout, b"")
-        self.assertEqual(sorted(os.listdir(self.top)), ["_cubed", "a"])
+        self.assertEqual(set(os.listdir(self.top)) - {".locks"}, {"_cubed", "a"})
 
     def test_an_absent_chunk_is_the_fill_value_and_a_short_one_is_refused(self):
         self.zarr("write", "a", "--dtype", "int8", "--chunk", "2", "--fill", "7", "1", "2", "3", "4")
@@ -255,8 +255,8 @@ class Explain(unittest.TestCase):
         self.assertRegex(self.explain("9"), r"cause: perhaps a run that was stopped")
 
     def test_each_operator_has_an_example_of_itself(self):
-        with open(f"{TOP}/docs/GUIDE.md", encoding="utf-8") as guide:
-            table = guide.read().partition("### Operators")[2].partition("\n\nThe elementwise")[0]
+        with open(f"{TOP}/docs/OPERATORS.md", encoding="utf-8") as page:
+            table = page.read().partition("## All operators")[2].partition("\n## ")[0]
         names = [name for row in re.findall(r"^\| (`.*?) \|", table, re.M) for name in re.findall(r"`(\w+)`", row)]
         self.assertGreater(len(names), 50)
         for name in names:

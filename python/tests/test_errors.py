@@ -9,7 +9,7 @@ import unittest
 
 from .support import TOP, Case, WithProgram, cengmoat, np, xp
 
-GUIDE = os.path.join(TOP, "docs", "GUIDE.md")
+PAGE = os.path.join(TOP, "docs", "ANSWERS.md")
 # The line of each answer with the values of its fields.
 LINES = {
     2: ("error 2 code=2", {"code": 2}), 3: ("error 3 code=4 node=1", {"code": 4, "node": 1}),
@@ -55,10 +55,10 @@ class Lines(Case):
         self.assertIn("signal 9", str(cengmoat.errors.error_of(-9, "")))
         self.assertIn("status 1: cubed: broken", str(cengmoat.errors.error_of(1, "cubed: broken\n")))
 
-    def test_each_answer_of_the_guide_has_a_text(self) -> None:
-        if not os.path.isfile(GUIDE):
-            self.skipTest("the guide lies in the repository")
-        with open(GUIDE, encoding="utf-8") as file:
+    def test_each_answer_of_the_page_has_a_text(self) -> None:
+        if not os.path.isfile(PAGE):
+            self.skipTest("the page lies in the repository")
+        with open(PAGE, encoding="utf-8") as file:
             lines = re.findall(r"^\| `error (\d+)([^`]*)`", file.read().partition("## Each answer")[2], re.M)
         wanted = {(int(status), int(code[1]) if (code := re.search(r"(?:code|which)=(\d+)", rest)) else None) for status, rest in lines}
         self.assertGreater(len(wanted), 50)
