@@ -207,7 +207,7 @@ class Array(Refused, Collection, Operators):
 
     def clip(self, min: Any = None, max: Any = None) -> Array:
         """Return the lesser of `max` and the greater of `min` and each element; None is no bound."""
-        from ._numpy import clip
+        from .array_api import clip
         return clip(self, min, max)
 
     def copy(self) -> Array:

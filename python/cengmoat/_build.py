@@ -13,8 +13,8 @@ from ._shapes import Shape, broadcast, broadcast_chunks, check_limits, one_axis,
 INTEGERS, LOGICAL, ANY = "integers", "truth values", "any type"
 # What each function accepts, and whether it gives truth values.
 BINARY = {
-    **dict.fromkeys(("add", "subtract", "multiply", "floor_divide", "remainder", "bitwise_left_shift", "bitwise_right_shift"),
-                    (INTEGERS, False)),
+    **dict.fromkeys(("add", "subtract", "multiply", "floor_divide", "remainder", "bitwise_left_shift", "bitwise_right_shift", "maximum",
+                     "minimum"), (INTEGERS, False)),
     **dict.fromkeys(("bitwise_and", "bitwise_or", "bitwise_xor"), (ANY, False)),
     **dict.fromkeys(("equal", "not_equal"), (ANY, True)),
     **dict.fromkeys(("less", "less_equal", "greater", "greater_equal"), (INTEGERS, True)),
@@ -35,6 +35,11 @@ def _accept(op: str, kind: str, dtype: DType) -> None:
         raise TypeError(f"{op} takes integers, and not bool: convert with astype")
     if kind == LOGICAL and dtype != BOOL:
         raise TypeError(f"{op} takes truth values, and not {dtype}: not_equal to 0 makes truth values")
+
+
+def check_integers(op: str, source: Node) -> None:
+    """Refuse truth values, with a TypeError."""
+    _accept(op, INTEGERS, source.dtype)
 
 
 def make_node(op: str, args: Sequence[Argument], dtype: DType, shape: Shape, chunks: Shape,

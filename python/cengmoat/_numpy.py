@@ -24,6 +24,7 @@ UFUNCS: dict[np.ufunc, str] = {
     np.logical_and: "logical_and", np.logical_or: "logical_or", np.logical_xor: "logical_xor", np.logical_not: "logical_not",
     np.absolute: "abs", np.negative: "negative", np.positive: "positive", np.square: "square", np.sign: "sign", np.matmul: "matmul",
     np.isnan: "isnan", np.isinf: "isinf", np.isfinite: "isfinite", np.floor: "floor", np.ceil: "ceil", np.trunc: "trunc",
+    np.maximum: "maximum", np.minimum: "minimum",
 }
 REDUCED: dict[np.ufunc, str] = {
     np.add: "sum", np.multiply: "prod", np.minimum: "min", np.maximum: "max", np.logical_and: "all", np.logical_or: "any",
@@ -58,8 +59,6 @@ def call_ufunc(ufunc: np.ufunc, method: str, inputs: Sequence[Any], options: dic
         raise TypeError(f"numpy.{name} of lazy arrays has no {', '.join(options)}: x.astype converts, and xp.where chooses")
     if any(operand(it) is NotImplemented for it in inputs):
         return NotImplemented
-    if method == "__call__" and ufunc in (np.maximum, np.minimum):
-        return extreme(ufunc is np.minimum, inputs[0], inputs[1])
     if method == "__call__" and ufunc is np.divmod:
         return call_ufunc(np.floor_divide, method, inputs, {}), call_ufunc(np.remainder, method, inputs, {})
     if method != "__call__" or ufunc not in UFUNCS:
@@ -81,19 +80,6 @@ def _array(node: Node) -> Array:
 def _node(x: Any) -> Node:
     from .array_api._common import node_of
     return node_of(x if hasattr(x, "node") or isinstance(x, np.ndarray) else np.asarray(x))
-
-
-def extreme(is_least: bool, x: Any, y: Any) -> Array:
-    """Return the lesser or the greater of two arguments, one of which at least is an array."""
-    xp = _namespace()
-    chosen: Array = xp.where(xp.less_equal(x, y) if is_least else xp.greater_equal(x, y), x, y)
-    return chosen
-
-
-def clip(x: Array, low: Any, high: Any) -> Array:
-    """Return the lesser of `high` and the greater of `low` and x; None is no bound."""
-    found = x if low is None else extreme(False, x, low)
-    return found if high is None else extreme(True, found, high)
 
 
 def _truth(x: Any) -> Array:
@@ -254,7 +240,7 @@ def _known() -> dict[Any, Callable[..., Any]]:
     found |= {
         np.where: _where, np.concatenate: _concatenate, np.stack: _stack, np.hstack: _hstack, np.diff: _diff, np.dot: _dot,
         np.vstack: lambda tup: _concatenate([_rows(x) for x in tup]), np.transpose: turned, np.moveaxis: _moved, np.swapaxes: lambda a, axis1, axis2: _array(_node(a)).swapaxes(axis1, axis2),
-        np.clip: lambda a, a_min=None, a_max=None: clip(_array(_node(a)), a_min, a_max), np.around: _round, np.round: _round,
+        np.clip: lambda a, a_min=None, a_max=None: _namespace().clip(_array(_node(a)), a_min, a_max), np.around: _round, np.round: _round,
         np.reshape: lambda a, newshape: _array(views.reshape(_node(a), newshape)), np.ravel: lambda a: _array(views.reshape(_node(a), (-1,))),
         np.squeeze: lambda a, axis=None: _array(_node(a)).squeeze(axis), np.expand_dims: lambda a, axis: _array(_node(a)).expand_dims(axis),
         np.flip: lambda m, axis=None: _array(views.flip(_node(m), axis)), np.flipud: lambda m: _array(views.flip(_node(m), 0)),

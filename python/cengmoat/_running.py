@@ -177,7 +177,7 @@ def _run(store: Store, graph: Graph, name: str, lock: int, progress: Optional[bo
             label = expression(graph.nodes[graph.out], LABEL) if is_own(name) else name
             bar = Bar(store.folder, name, _ask_plan(store, store.folder, graph, text), label)
         try:
-            said = call_program(store.words(command), text, expression_of=graph.expression, locks=[lock],
+            said = call_program(store.words(command, is_temporary=is_own(name)), text, expression_of=graph.expression, locks=[lock],
                                 watch=None if bar is None else bar.watch)
             is_done = True
         finally:

@@ -20,6 +20,7 @@ from ._locks import locked
 from ._metadata import Metadata
 from ._names import check_free_name, check_name
 from ._nodes import Node
+from ._offers import offers_words
 from ._plans import Report
 from ._program import find_program
 from ._removing import Removal
@@ -119,8 +120,11 @@ class Store(Mapping[str, Array]):
     def __repr__(self) -> str:
         return f"cengmoat.Store({self.folder!r}, {len(self.names())} arrays)"
 
-    def words(self, command: str, folder: Optional[str] = None) -> list[str]:
-        """Return the words of a call of the program, over another folder where one is given."""
+    def words(self, command: str, folder: Optional[str] = None, is_temporary: bool = False) -> list[str]:
+        """Return the words of a call of the program, over another folder where one is given.
+
+        What is temporary isn't written to the disk before it has its name, where the program offers that.
+        """
         found = [self.program, self.folder if folder is None else folder, command]
         if command != "check":
             found += ["--allowed-mem", str(self.allowed_mem), "--reserved-mem", str(self.reserved_mem),
@@ -129,6 +133,8 @@ class Store(Mapping[str, Array]):
             found += ["--retries", str(self.retries)]
         if command in ("run", "resume") and self.workers != 1:
             found += ["--workers", str(self.workers)]
+        if is_temporary and offers_words(self.program, command, "--sync", "0"):
+            found += ["--sync", "0"]
         return found
 
     # Stored arrays

@@ -2,6 +2,7 @@
 from __future__ import annotations
 
 import inspect
+import os
 import unittest
 import warnings
 from typing import Any
@@ -147,6 +148,42 @@ class Numbers(WithProgram):
         for call in calls(CALLS):
             with self.subTest(call):
                 self.same(eval(call, dict(lazy)).compute(), eval(call, dict(exact)), call)
+
+
+class Extremes(WithProgram):
+    def test_within_bounds(self) -> None:
+        store = self.store()
+        data = np.arange(1, 7, dtype="int32")
+        x, low = store.save("x", data, 4), store.save("low", np.array([3, 0, 0, 9, 9, 0], "int8"), 4)
+        exact_low = np.array([3, 0, 0, 9, 9, 0], "int8")
+        for lazy, exact in ((xp.clip(x, 2, 5), [2, 2, 3, 4, 5, 5]), (xp.clip(x, 5, 2), [2] * 6), (xp.clip(x), data), (xp.clip(x, 3), [3, 3, 3, 4, 5, 6]),
+                            (xp.clip(x, None, 3), [1, 2, 3, 3, 3, 3]), (xp.clip(x, low, 8), np.clip(data, exact_low, 8)),
+                            (xp.clip(x, max=low), np.minimum(data, exact_low)), (xp.maximum(x, low), np.maximum(data, exact_low)),
+                            (xp.minimum(4, x), np.minimum(4, data)), (xp.maximum(low, x), np.maximum(data, exact_low))):
+            self.computes(lazy, np.asarray(exact, "int32"), lazy)
+        one, other = store.save("one", np.array([-128, 5], "int8")), store.save("other", np.array([200, 1], "uint8"))
+        self.computes(xp.maximum(one, other), np.array([200, 5], "int16"))
+        for call in (lambda: xp.clip(x, 0, 2**31), lambda: xp.maximum(x, 2**40)):
+            self.assertRaises(ValueError, call)
+        for call in (lambda: xp.clip(x > 3, 0, 1), lambda: xp.maximum(1, 2), lambda: xp.clip(x, 0.5), lambda: xp.minimum(x, x > 2)):
+            self.assertRaises(TypeError, call)
+
+    def test_functions_of_their_own_where_the_program_has_them(self) -> None:
+        path = os.path.join(self.folder, "asked")
+        knows = self.fake_program(f"""
+import json
+job = json.load(sys.stdin)
+open({path!r}, "a").write(job["nodes"][-1]["op"] + chr(10))
+sys.exit(8 if job["nodes"][-1]["op"] in ("maximum", "minimum", "clip") else 3)
+""")
+        x = cengmoat.Store(os.path.join(self.folder, "own"), program=knows).save("x", np.arange(4))
+        self.assertEqual([lazy.node.op for lazy in (xp.maximum(x, 1), xp.minimum(x, x), xp.clip(x, 0, 2), xp.maximum(x, 3))],
+                         ["maximum", "minimum", "clip", "maximum"])
+        self.assertEqual((str(xp.clip(x, 0, 2).node.members), cengmoat._nodes.expression(xp.clip(x, 0, 2).node)), ("{'min': 0, 'max': 2}", "clip(x, min=0, max=2)"))
+        with open(path, encoding="utf-8") as file:
+            self.assertEqual(file.read().split(), ["maximum", "minimum", "clip"])
+        lacks = cengmoat.Store(os.path.join(self.folder, "own"), program=self.fake_program("sys.exit(3)"))["x"]
+        self.assertEqual([lazy.node.op for lazy in (xp.maximum(lacks, 1), xp.clip(lacks, 0, 2))], ["where", "where"])
 
 
 if __name__ == "__main__":

@@ -208,6 +208,28 @@ class Words(Case):
             self.assertEqual(file.read(), f"{here.folder} run --allowed-mem 200000000 --reserved-mem 0 --split-every 4 --retries 2"
                              f"{f' --workers {processors}' if processors > 1 else ''}\n")
 
+    def test_temporary_results_are_stored_without_syncs(self) -> None:
+        """Where the program knows the option, which it is asked once."""
+        for offers in (True, False):
+            path = os.path.join(self.folder, f"words-{offers}")
+            text = f"""
+words = words[1:]
+open({path!r}, 'a').write(' '.join(words) + chr(10))
+if not sys.stdin.read():
+    sys.exit({3 if offers else 2})
+sys.stderr.write("error 70")
+sys.exit(70)
+"""
+            here = self.store(program=self.fake_program(text), workers=1)
+            t = here["t"] if "t" in here else here.save("t", np.arange(4))
+            for call in ((t + 1).compute, (t + 2).compute, lambda: (t + 1).store("y")):
+                self.assertRaises(cengmoat.NoMemory, call)
+            with open(path, encoding="utf-8") as file:
+                said = file.read().splitlines()
+            run = "run --allowed-mem 200000000 --reserved-mem 0 --split-every 4 --retries 2"
+            end = " --sync 0" if offers else ""
+            self.assertEqual(said, ["run --sync 0", run + end, run + end, run])
+
     def test_workers_are_the_processors_that_the_process_may_use(self) -> None:
         code = "import os, cengmoat; os.sched_setaffinity(0, [min(os.sched_getaffinity(0))]); print(cengmoat.Store('x').workers, cengmoat.Store('x', workers=3).workers)"
         said = subprocess.run([sys.executable, "-c", code], env={**os.environ, "PYTHONPATH": PYTHON}, capture_output=True, text=True)

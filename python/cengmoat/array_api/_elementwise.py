@@ -1,9 +1,9 @@
 """The standard's elementwise functions. Each element of a result comes from the elements of the arguments at the same index."""
 from __future__ import annotations
 
-from typing import Any
+from typing import Any, Optional
 
-from .. import _build as build, _views as views
+from .. import _build as build, _extremes as extremes, _views as views
 from .._array import Array
 from .._dtypes import BOOL
 from .._nodes import Node
@@ -21,6 +21,13 @@ def _two(op: str, x1: Any, x2: Any) -> Array:
     if not any(isinstance(arg, Node) for arg in args):
         raise TypeError(f"{op} takes an array, and not numbers alone: asarray makes one")
     return Array(build.elementwise(op, args))
+
+
+def _extreme(op: str, x1: Any, x2: Any) -> Array:
+    args = [node_or_literal(x1, "x1"), node_or_literal(x2, "x2")]
+    if not any(isinstance(arg, Node) for arg in args):
+        raise TypeError(f"{op} takes an array, and not numbers alone: asarray makes one")
+    return Array(extremes.extreme(op, args))
 
 
 def _same(op: str, x: Any) -> Array:
@@ -115,6 +122,12 @@ def bitwise_xor(x1: Argument, x2: Argument, /) -> Array:
 def ceil(x: Array, /) -> Array:
     """Return the least whole number at least x, which of an integer is the integer."""
     return _same("ceil", x)
+
+
+def clip(x: Array, /, min: Optional[Argument] = None, max: Optional[Argument] = None) -> Array:
+    """Return the lesser of max and the greater of min and x; None is no bound. (Of the standard 2023.12.)"""
+    bounds = [None if bound is None else node_or_literal(bound, name) for name, bound in (("min", min), ("max", max))]
+    return Array(extremes.clip(node_of(x), *bounds))
 
 
 def conj(x: Array, /) -> Array:
@@ -245,6 +258,16 @@ def logical_or(x1: Argument, x2: Argument, /) -> Array:
 def logical_xor(x1: Argument, x2: Argument, /) -> Array:
     """Return whether one alone is true."""
     return _two("logical_xor", x1, x2)
+
+
+def maximum(x1: Argument, x2: Argument, /) -> Array:
+    """Return the greater of x1 and x2. (Of the standard 2023.12.)"""
+    return _extreme("maximum", x1, x2)
+
+
+def minimum(x1: Argument, x2: Argument, /) -> Array:
+    """Return the lesser of x1 and x2. (Of the standard 2023.12.)"""
+    return _extreme("minimum", x1, x2)
 
 
 def multiply(x1: Argument, x2: Argument, /) -> Array:

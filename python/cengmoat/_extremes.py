@@ -1,0 +1,57 @@
+"""The greater and the lesser of two arguments, and numbers within bounds: by functions of their own, where the program has them."""
+from __future__ import annotations
+
+from typing import Any, Optional, Sequence, Union
+
+from . import _build as build
+from ._dtypes import Literal, check_literal
+from ._nodes import Node
+from ._offers import offers_op
+
+Argument = Union[Node, Literal]
+
+
+def _program_of(nodes: Sequence[Node]) -> Optional[str]:
+    store = next((node.store for node in nodes if node.store is not None), None)
+    return None if store is None else store.program
+
+
+def _has(op: str, nodes: Sequence[Node]) -> bool:
+    """Return whether the program of some nodes has a function."""
+    try:
+        members: dict[str, object] = {"args": ["x"], "min": 0, "max": 1} if op == "clip" else {"args": ["x", "x"]}
+        return offers_op(op, _program_of(nodes), **members)
+    except LookupError:
+        return False
+
+
+def extreme(op: str, args: Sequence[Argument]) -> Node:
+    """Return the node of `maximum` or `minimum` of two arguments, one of which at least is an array.
+
+    Raises
+    ------
+    TypeError, ValueError
+        As ``elementwise``.
+    """
+    if _has(op, [arg for arg in args if isinstance(arg, Node)]):
+        return build.elementwise(op, args)
+    holds = build.elementwise("greater_equal" if op == "maximum" else "less_equal", args)
+    return build.where(holds, args[0], args[1])
+
+
+def clip(x: Node, low: Any, high: Any) -> Node:
+    """Return the node of the lesser of `high` and the greater of `low` and x; None is no bound, and an array is one for each element.
+
+    Raises
+    ------
+    TypeError, ValueError
+        As ``elementwise``.
+    """
+    bounds = [bound for bound in (low, high) if bound is not None]
+    build.check_integers("clip", x)
+    if len(bounds) == 2 and not any(isinstance(bound, Node) for bound in bounds) and _has("clip", [x]):
+        for bound in bounds:
+            check_literal(bound, x.dtype, "clip")
+        return build.make_node("clip", (x,), x.dtype, x.shape, x.chunks, {"min": low, "max": high})
+    found = x if low is None else extreme("maximum", [x, low])
+    return found if high is None else extreme("minimum", [found, high])
