@@ -1,9 +1,9 @@
 #!/usr/bin/env python3
-"""Compares the pages of the crates with crates.txt: each crate has a row in README.md and a page, and each row and page a crate.
+"""Compares the pages of the crates with crates.txt: each crate has a row in docs/LAYERS.md and a page, and each row and page a crate.
 
 usage: tools/crate_pages.py [--new NAME]
 
---new NAME prints a page to begin with. What is wrong is printed, and then the status is 1: a crate without a row of at most 25 words
+--new NAME prints a page to begin with. What is wrong is printed, and then the status is 1: a crate without a row of at most 40 words
 under the heading of crates.txt, or without a page that has the parts Proved, Tested and Limits, or an order of crates.txt in which a
 crate stands before one that it names.
 """
@@ -12,7 +12,7 @@ import re
 import sys
 
 TOP = os.path.dirname(os.path.dirname(os.path.realpath(__file__)))
-MOST = 25
+MOST = 40
 PARTS = ("Proved", "Tested", "Limits")
 PAGE = """# {}
 
@@ -52,14 +52,14 @@ def listed():
 
 
 def rows():
-    """The rows of the table in README.md, each with its heading and its words."""
+    """The rows of the tables in docs/LAYERS.md, each with its heading and its words."""
     heading, found = "", {}
-    for line in text_of("README.md").split("\n"):
-        if line.startswith("###"):
-            heading = line[4:]
+    for line in text_of("docs/LAYERS.md").split("\n"):
+        if line.startswith("## "):
+            heading = line[3:]
         row = re.match(r"\| `(cu_\w+)` \| (.*?) \| (.*?) \|$", line)
         if row:
-            found[row[1]] = heading, row[2].split()
+            found.setdefault(row[1], (heading, row[2].split()))  # the table of times names them again
     return found
 
 
@@ -71,17 +71,17 @@ def wrong():
             yield f"crates.txt: {name} stands before a crate that it names"
         before.add(name)
         if name not in table:
-            yield f"README.md: no row of {name}"
+            yield f"docs/LAYERS.md: no row of {name}"
         elif len(table[name][1]) > MOST:
-            yield f"README.md: the row of {name} has {len(table[name][1])} words"
+            yield f"docs/LAYERS.md: the row of {name} has {len(table[name][1])} words"
         elif has_headings and table[name][0] != heading:
-            yield f"README.md: {name} stands under {table[name][0]}, and in crates.txt under {heading}"
+            yield f"docs/LAYERS.md: {name} stands under {table[name][0]}, and in crates.txt under {heading}"
         page = f"crates/{name}/README.md"
         if not os.path.exists(f"{TOP}/{page}"):
             yield f"{page} isn't there (tools/crate_pages.py --new {name})"
         else:
             yield from (f"{page}: no part {part}" for part in PARTS if f"\n## {part}\n" not in text_of(page))
-    yield from (f"README.md: {name} is no crate of crates.txt" for name in table if name not in crates)
+    yield from (f"docs/LAYERS.md: {name} is no crate of crates.txt" for name in table if name not in crates)
 
 
 def main(words):
