@@ -2,7 +2,6 @@ mod AnsweredLemmas
 mod AskLemmas
 mod CallLemmas
 mod CallLimits
-mod CheckLemmas
 mod Completeness
 mod DemoCalls
 mod DemoFound
@@ -29,5 +28,6 @@ mod ReopenLemmas
 mod ResumeServed
 mod RunLemmas
 mod SampleLemmas
+mod ToldLemmas
 mod VersionLemmas
 mod WordsExample

@@ -16,5 +16,6 @@ pub mod Report
 pub mod Resume
 pub mod Run
 pub mod Sample
+pub mod Told
 pub mod Versions
 pub mod Words

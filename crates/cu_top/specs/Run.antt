@@ -30,7 +30,7 @@ use Rattle.cu_work.specs.Order.{IsFree}
 use Rattle.cu_work.specs.Run.{HoldsTexts}
 use Rattle.cu_work.specs.Shared.{none_done, HoldsDone}
 use Rattle.cu_command.specs.Job.{IsJob, IsJobFault}
-use Rattle.cu_command.specs.Seen.{Stream, Stepped}
+use Rattle.cu_command.specs.Seen.{Seen, Stream, Stepped, seen}
 use Rattle.cu_command.specs.Streams.{WroteFront}
 use Rattle.cu_command.specs.declared.job.Job.{Job}
 use Rattle.cu_command.specs.declared.job.JobFault.{JobFault}
@@ -54,6 +54,10 @@ pub record Scene : Type 0 where
 
 abbrev pub scene : Stream → Stream → Shown → Scene
 scene source sink depot = record { source = source; sink = sink; depot = depot }
+
+-- the sink and the depot
+abbrev pub seen_in : Scene → Seen
+seen_in s = seen s.sink s.depot
 
 -- a run: its options, the text of its expression, and what is seen when it begins and when it ends
 pub record RunCase : Type 0 where

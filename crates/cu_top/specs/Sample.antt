@@ -2,6 +2,7 @@
 use Rattle.std.specs.Prelude.{ℕ, false, List, [], ◌∷◌, codes, bytes_eq, Some, None, if◌then◌else◌}
 use Rattle.cu_expr.specs.declared.inputs.InputInfo.{InputInfo}
 use Rattle.cu_lower.specs.Parts.{made_layout}
+use Rattle.cu_lower.specs.declared.options.Options.{Options}
 use Rattle.cu_node.specs.Info.{info_of}
 use Rattle.cu_node.specs.declared.info.NodeInfo.{NodeInfo}
 use Rattle.cu_num.specs.declared.types.Dtype.TheVariants.{Int16}
@@ -45,6 +46,17 @@ sample_shown = record { held = Some sample_held; late = sample_late; faults = 0;
 -- a copy of it in chunks of 3
 unfoldable pub sample_text : List ℕ
 sample_text = codes "{\"nodes\":[{\"id\":\"x\",\"op\":\"input\",\"name\":\"x\"},{\"id\":\"t\",\"op\":\"rechunk\",\"args\":[\"x\"],\"chunk\":[3]}],\"out\":\"t\",\"store_as\":\"y\"}"
+
+-- the options of its commands
+abbrev pub sample_options : Options
+sample_options = record {
+  allowed = 64;
+  reserved = 0;
+  split_every = 4;
+  retries = 2;
+  workers = 1;
+  backups = false;
+}
 
 -- the words of a run and of a plan
 abbrev pub sample_run : List (List ℕ)
