@@ -30,13 +30,13 @@ use std::alloc::Global;
 use std::sync::Wait;
 use std::thread::Threads;
 
-/// Carries out the command that the words give. `run` reads an expression from the source, stores the
-/// array that it makes in the depot, and writes the report to the sink. `resume` goes on with a run
-/// that was stopped, and `drop` removes all keys of a plan. `plan` reads an expression and writes what
-/// its plan does; it stores nothing. `load` reads an array from the source and stores it. `check`
-/// reads an expression from the source and compares its stored output with what it means. `print`
-/// writes a stored array to the sink. `demo` stores two inputs that it makes, computes an expression
-/// over them, and writes its one element and the report.
+/// Carries out the command that the words give. `run` reads an expression from the source, stores
+/// the array that it makes in the depot, and writes the report to the sink. `resume` goes on with a
+/// run that was stopped, and `drop` removes all keys of a plan. `plan` reads an expression and writes
+/// what its plan does; it stores nothing. `load` reads an array from the source and stores it.
+/// `check` reads an expression from the source and compares its stored output with what it means.
+/// `print` writes a stored array to the sink. `demo` stores two inputs that it makes, computes an
+/// expression over them, and writes its one element and the report.
 ///
 /// What each command answers, line by line, stands in `specs/Answered.antt`.
 pub fn top<H: Threads + Wait + Sync, R: Source, W: Sink, D: Share, G: Gate>(
@@ -48,16 +48,16 @@ pub fn top<H: Threads + Wait + Sync, R: Source, W: Sink, D: Share, G: Gate>(
     depot: &mut D,
     gate: &G,
 ) -> Status
-    // Where the depot tells its contents, no put that is late when a run begins carries another value
-    // of its plan, or another content of an input; for a demonstration, whose inputs are made, another
-    // value of an input.
+    // Where the depot tells its contents, no put that is late when a run begins carries another
+    // value of its plan, or another content of an input; for a demonstration, whose inputs are made,
+    // another value of an input.
     requires quiet { (o : Options) (text : List ℕ) (next : Option (List ℕ))
         → asked_by words.now ≡ Ok (run o) → ReadsAll (R.left src.old) next text
         → IsCalm o text (D.shown depot.old) }
     requires demo_quiet { (size : ℕ) (o : Options) → asked_by words.now ≡ Ok (demo size o)
         → WhereTold (D.shown depot.old).held (IsDemoCalm o size (D.shown depot.old)) }
-    // Where the depot tells its contents and the record of the plan is held, or a put of it is late,
-    // when a run goes on, the contents are what the plan left.
+    // Where the depot tells its contents and the record of the plan is held, or a put of it is
+    // late, when a run goes on, the contents are what the plan left.
     requires left { (o : Options) (text : List ℕ) (next : Option (List ℕ))
         → asked_by words.now ≡ Ok (resume o) → ReadsAll (R.left src.old) next text
         → IsLeftEntry o text (D.shown depot.old) }
