@@ -27,6 +27,7 @@ mod RecordLemmas
 mod ReopenLemmas
 mod ResumeServed
 mod RunLemmas
+mod SampleArrays
 mod SampleLemmas
 mod ToldLemmas
 mod VersionLemmas

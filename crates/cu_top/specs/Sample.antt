@@ -1,6 +1,7 @@
 -- A small store and the text of an expression over it, which meet the premises of the commands.
-use Rattle.std.specs.Prelude.{ℕ, false, List, [], ◌∷◌, codes, bytes_eq, Some, None, if◌then◌else◌}
+use Rattle.std.specs.Prelude.{ℕ, pos, false, List, [], ◌∷◌, codes, bytes_eq, Some, None, if◌then◌else◌}
 use Rattle.cu_expr.specs.declared.inputs.InputInfo.{InputInfo}
+use Rattle.cu_load.specs.LoadForm.{GivenArray}
 use Rattle.cu_lower.specs.Parts.{made_layout}
 use Rattle.cu_lower.specs.declared.options.Options.{Options}
 use Rattle.cu_node.specs.Info.{info_of}
@@ -64,3 +65,21 @@ sample_run = codes "run" ∷ codes "--allowed-mem" ∷ codes "64" ∷ []
 
 abbrev pub sample_plan : List (List ℕ)
 sample_plan = codes "plan" ∷ codes "--allowed-mem" ∷ codes "64" ∷ []
+
+-- the array of 1 to 7, whose first chunk this is
+abbrev pub sample_array : GivenArray
+sample_array = record {
+  name = codes "x";
+  layout = layout_view sample_layout;
+  elements = pos 1 ∷ pos 2 ∷ pos 3 ∷ pos 4 ∷ pos 5 ∷ pos 6 ∷ pos 7 ∷ [];
+}
+
+-- an empty store, and options for a demonstration of size 2 over it
+abbrev pub empty_held : Contents
+empty_held key = None
+
+abbrev pub empty_shown : Shown
+empty_shown = record { held = Some empty_held; late = []; faults = 0; calls = 0; lacks = false }
+
+abbrev pub demo_options : Options
+demo_options = record sample_options { allowed = 65536 }
