@@ -103,7 +103,7 @@ module _ (c : RunCase) (f : ExpressionFault) (err : expression_of c.text ≡ Err
   refused_resumed lack (TaskFailed op task) (rose, (job, resumed, why)) = no_job job resumed.reopened.accepted
   refused_resumed lack (BadChunk key got want) (job, resumed, why) = no_job job resumed.reopened.accepted
   refused_resumed lack (DepotFailed key) (inl why) = unasked key why
-  refused_resumed lack (DepotFailed key) (inr (rose, inl (spared, (job, accepted, listed)))) = no_job job accepted
+  refused_resumed lack (DepotFailed key) (inr (rose, inl (spared, (job, back, listed)))) = no_job job back.accepted
   refused_resumed lack (DepotFailed key) (inr (rose, inr (job, resumed, why))) = no_job job resumed.reopened.accepted
   refused_resumed lack (OtherPlan place) (spared, (job, accepted, why)) = no_job job accepted
   refused_resumed lack NoPlan (spared, (job, accepted, why)) = no_job job accepted

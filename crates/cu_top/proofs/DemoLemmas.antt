@@ -151,10 +151,10 @@ module _ (options : Options) (job : Job) (found ran new : Shown) (step : Stepped
       )
 
   pub counted_later : (n : RunCounts) → IsCounted (run_to options found ran) job n → IsCounted (run_to options found new) job n
-  counted_later n ((history, m, h, fact), least, exact, most) =
+  counted_later n ((history, m, h, fact), least, exact, most, few) =
       let rose = h.rose in
       let more = step.step.count in
-      ((history, m, record { legal = h.legal; resting = h.resting; rose = omega (arith, rose, more) }, fact), least, exact, most)
+      ((history, m, record { legal = h.legal; resting = h.resting; rose = omega (arith, rose, more) }, fact), least, exact, most, few)
 
 -- ---- the result
 

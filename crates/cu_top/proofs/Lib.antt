@@ -1,3 +1,4 @@
+mod AbsentTasks
 mod AnsweredLemmas
 mod AskLemmas
 mod CallLemmas
@@ -29,6 +30,7 @@ mod ResumeServed
 mod RunLemmas
 mod SampleArrays
 mod SampleLemmas
+mod StartsFew
 mod ToldLemmas
 mod VersionLemmas
 mod WordsExample

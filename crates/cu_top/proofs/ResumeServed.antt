@@ -170,7 +170,7 @@ module _ (c : RunCase) (entry : Contents) (told : c.old.depot.held ≡ Some entr
   resume_cause lack NoMemory why = tt
   resume_cause lack (OtherPlan place) (spared, (job, accepted, (planned, other))) = never_other c job entry (rest job accepted) place spared other
   resume_cause lack NoPlan (spared, (job, accepted, (planned, none))) =
-      absent_or (entry (record_key_of job.expr.store_as)) (record_text c.options job) (none entry told (λ there. ((rest job accepted).left, (rest job accepted).own))) (rest job accepted).recorded
+      absent_or (entry (record_key_of job.expr.store_as)) (record_text c.options job) (none entry told) (rest job accepted).recorded
   resume_cause lack (BadExpr code node) why = never_unread (fault.Expression code node) why (λ e. cc) (λ key e. cc)
   resume_cause lack (BadType code node) why = never_unread (fault.Typing code node) why (λ e. cc) (λ key e. cc)
   resume_cause lack (BadMeta name code) why = never_unread (fault.BadMeta name code) why (λ e. cc) (λ key e. cc)

@@ -30,7 +30,7 @@ use Rattle.cu_top.specs.Drop.{DropTells, IsDropFailed, IsDropShort, IsDropped}
 use Rattle.cu_top.specs.Drop.{IsDroppedUnreported}
 use Rattle.cu_top.specs.Held.{HasNoRecord, IsOtherPlan}
 use Rattle.cu_top.specs.Planned.{IsPrinted, IsUnprinted, PlansWithin, PlanTells}
-use Rattle.cu_top.specs.Resume.{IsResumeFailed, IsResumeShort, IsResumedBad, IsResumedBroken}
+use Rattle.cu_top.specs.Resume.{HadNoRecord, IsResumeFailed, IsResumeShort, IsResumedBad, IsResumedBroken}
 use Rattle.cu_top.specs.Resume.{IsResumedDone, IsResumedUnreported, ResumeTells}
 use Rattle.cu_top.specs.Run.{Scene, scene, IsRunDone, IsUnreported, IsTaskFailed, IsBadInput}
 use Rattle.cu_top.specs.Run.{IsDepotFailed, HasNoJob, HasNoPlan, IsBlocked, IsMissing, IsRefused}
@@ -129,8 +129,8 @@ pub record ResumeAnswered (lack : Bool) (o : Options) (old new : Scene) (status 
   -- 14: the record is another plan's
   pub other_plan : (place : ℕ) → status ≡ OtherPlan place
       → CameToRun o old new (λ c. IsOtherPlan c place)
-  -- 15: there is no record
-  pub no_plan : status ≡ NoPlan → CameToRun o old new HasNoRecord
+  -- 15: there was no record
+  pub no_plan : status ≡ NoPlan → CameToRun o old new HadNoRecord
   -- 16: all calls for this key failed
   pub depot_failed : (key : List ℕ) → status ≡ DepotFailed key
       → CameToRun o old new (λ c. IsResumeFailed c key)
@@ -165,7 +165,7 @@ pub record DropAnswered (o : Options) (old new : Scene) (status : Status) : Type
   -- 14: the record is another plan's
   pub other_plan : (place : ℕ) → status ≡ OtherPlan place
       → CameToRun o old new (λ c. IsOtherPlan c place)
-  -- 15: there is no record
+  -- 15: there was no record, or a node reads the output
   pub no_plan : status ≡ NoPlan → CameToRun o old new HasNoRecord
   -- 16: all calls for this key failed
   pub depot_failed : (key : List ℕ) → status ≡ DepotFailed key

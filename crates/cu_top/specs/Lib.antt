@@ -1,3 +1,4 @@
+pub mod Absent
 pub mod Answered
 pub mod Ask
 pub mod Call

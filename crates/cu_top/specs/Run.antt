@@ -174,12 +174,13 @@ pub record IsHistory (c : RunCase) (job : Job) (done : List Bool) (history : Lis
 abbrev pub WasRun : RunCase → Job → (List Entry → Machine → Type 0) → Type 0
 WasRun c job fact = (history : List Entry) × (m : Machine) × IsHistory c job (none_done (plan_in c job)) history m × fact history m
 
--- All tasks are done: these are how often one was started and how often one failed. Each was started once, and once more for each failure,
--- or with second copies at least so often, and failed at most as often as it is tried again.
+-- All tasks are done: these are how often one was started and how often one failed. Each was started
+-- once, and once more for each failure, or with second copies at least so often; at most as often as
+-- it is tried, and once more; and it failed at most as often as it is tried again.
 abbrev pub IsCounted : RunCase → Job → RunCounts → Type 0
 IsCounted c job n = WasRun c job (λ history m. AllDone (plan_in c job) m × (n.starts ≡ count_kind is_start history) × (n.failures ≡ count_kind is_failed history))
     × (task_count (plan_in c job) + n.failures ≤ n.starts) × (c.options.backups ≡ false → n.starts ≡ task_count (plan_in c job) + n.failures)
-    × (n.failures ≤ c.options.retries * task_count (plan_in c job))
+    × (n.failures ≤ c.options.retries * task_count (plan_in c job)) × (n.starts ≤ (c.options.retries + 2) * task_count (plan_in c job))
 
 -- the same, with a fact of the line that reports it
 abbrev pub Counted : RunCase → Job → (List ℕ → Type 0) → Type 0
