@@ -1,213 +1,185 @@
--- What the call answers: from what the words give to their command's answer, and from it to the clauses of the call.
-use Rattle.std.proofs.Common.{◌≡◌, ℕ, ◌+◌, ℤ, Bool, List, Some, Result, Ok, Err, refl, sym, subst, inl, inr, arith}
-use Rattle.cu_read.specs.Read.{expression_of}
-use Rattle.cu_read.specs.declared.faults.ReadFault.{ReadFault as ExpressionFault}
-use Rattle.cu_store.specs.Held.{Contents}
-use Rattle.cu_store.specs.Steps.{NoChange}
-use Rattle.cu_check.specs.Check.{IsFoundEqual, IsUnequal, ReadsText}
-use Rattle.cu_command.proofs.SeenLemmas.{stepped_same}
-use Rattle.cu_command.specs.Job.{StoodStill}
-use Rattle.cu_command.specs.Seen.{Stepped, Stream, WithinCalls}
-use Rattle.cu_command.specs.Streams.{ReadsAll}
+-- What each command answers, line by line, from the table of its answers.
+use Rattle.std.proofs.Common.{ℕ, ◌+◌, Bool, List, subst}
+use Rattle.cu_check.specs.Check.{CheckEnds}
 use Rattle.cu_command.specs.declared.status.Status.{Status}
-use Rattle.cu_command.specs.declared.status.Status.TheVariants.{BadWords, Done, NoMemory, Unequal}
 use Rattle.cu_lower.specs.declared.options.Options.{Options}
-use Rattle.cu_top.proofs.CallLemmas.{refused_text, told_run, told_resume, told_drop}
-use Rattle.cu_top.proofs.CheckLemmas.{found_equal, found_unequal}
+use Rattle.cu_top.proofs.CallLemmas.{refused_text, resume_refused_text, drop_refused_text}
 use Rattle.cu_top.proofs.Completeness.{served}
-use Rattle.cu_top.proofs.DemoLemmas.{was_demonstrated}
 use Rattle.cu_top.proofs.DemoServed.{demo_served}
-use Rattle.cu_top.proofs.FewFailures.{not_given_up}
-use Rattle.cu_top.proofs.PlannedLemmas.{plan_printed, plan_refused_text, plan_served, plan_spared, told_plan}
+use Rattle.cu_top.proofs.FewFailures.{run_few, resume_few, drop_few, plan_few, load_few, check_few, print_few, demo_few}
+use Rattle.cu_top.proofs.PlannedLemmas.{plan_refused_text, plan_served, plan_spared}
 use Rattle.cu_top.proofs.ResumeServed.{caused, went_on}
-use Rattle.cu_top.specs.Answered.{AreAnswered, CallAnswered, CheckAnswered, DemoAnswered, DropAnswered, IsAnswered, LoadAnswered, PlanAnswered, PrintAnswered, ResumeAnswered, RunAnswered, seen_in}
-use Rattle.cu_top.specs.Call.{AreSpared, CameToRun, DidNothing, IsExpressionRefused, IsWordsRefused, RunTells}
-use Rattle.cu_top.specs.Calls.{DropWithin, ResumeWithin, RunWithin}
-use Rattle.cu_top.specs.Complete.{FewFailed, HasWholeInputs, IsNotGivenUp, IsPlannable, IsResumable, IsResumeCause, IsServable, IsServed, retries_of}
-use Rattle.cu_top.specs.Demo.{IsDemoAtRest, IsDemoDone, demo_case}
-use Rattle.cu_top.specs.Drop.{Dropped}
-use Rattle.cu_top.specs.Planned.{IsPrinted, Plans, plan_calls}
-use Rattle.cu_top.specs.Resume.{WasResumed}
-use Rattle.cu_top.specs.Run.{PrintsOnly, Ran, RunCase, Scene, case, scene}
-use Rattle.cu_top.specs.Words.{Command, command_of, run, resume, drop, plan, load, check, print, demo}
+use Rattle.cu_top.specs.Answered.{TextAnswered, RunAnswered, ResumeAnswered, DropAnswered, PlanAnswered, LoadAnswered, CheckAnswered, PrintAnswered, DemoAnswered}
+use Rattle.cu_top.specs.Call.{RunTells}
+use Rattle.cu_top.specs.Demo.{DemoTells, demo_between}
+use Rattle.cu_top.specs.Drop.{DropTells}
+use Rattle.cu_top.specs.Planned.{PlanTells}
+use Rattle.cu_top.specs.Resume.{ResumeTells}
+use Rattle.cu_top.specs.Run.{Scene, seen_in}
+use Rattle.cu_top.specs.Told.{RunTold, ResumeTold, DropTold, PlanTold, LoadTold, CheckTold, PrintTold, DemoTold}
 
--- ---- the commands that read a text, from what its run or its plan answers; `given` is the text that was read
+-- ---- `run`
 
-module _ (options : Options) (old new : Scene) (text given : List ℕ) (status : Status) (same : given ≡ text) (read : ReadsAll old.source.told new.source.told text)
-    (prints : PrintsOnly status old.sink.told new.sink.told) where
-  -- the case of this text, as what is seen of the source doesn't matter, or of the sink neither
-  abbrev from_sink : Stream → Stream → RunCase
-  from_sink source next = case options given (scene source old.sink old.depot) (scene next new.sink new.depot)
-
-  abbrev from_depot : Stream → Stream → Stream → Stream → RunCase
-  from_depot source next sink after = case options given (scene source sink old.depot) (scene next after new.depot)
-
-  -- so it is of the text that was read
-  came : (fact : RunCase → Type 0) → fact (case options given old new) → CameToRun options old new fact
-  came fact so = (text, read, subst (λ (t : List ℕ). fact (case options t old new)) same so)
-
-  of_text : (fact : RunCase → Type 0) → fact (case options given old new) → fact (case options text old new)
-  of_text fact = subst (λ (t : List ℕ). fact (case options t old new)) same
-
-  pub run_answered : (lack : Bool) → ((source next : Stream) → Ran lack (from_sink source next) status) → ((source next sink after : Stream) → RunWithin (from_depot source next sink after) status)
-      → RunAnswered lack options old new status
-  run_answered lack ran calls = record {
-    tells = told_run lack options old new text status read (of_text (λ c. Ran lack c status) (ran old.source new.source));
-    prints = prints;
-    calls = inr (came (λ c. RunWithin c status) (calls old.source new.source old.sink new.sink));
+module _ {lack : Bool} {o : Options} {old new : Scene} {status : Status} (told : RunTold lack o old new status) where
+  run_text : TextAnswered o old new status
+  run_text = record {
+    bad_expr = λ code node is. subst (RunTells lack o old new) is told.tells;
+    bad_type = λ code node is. subst (RunTells lack o old new) is told.tells;
+    over_memory = λ node need allowed is. subst (RunTells lack o old new) is told.tells;
+    over_limit = λ which count is. subst (RunTells lack o old new) is told.tells;
+    bad_meta = λ name code is. subst (RunTells lack o old new) is told.tells;
+    no_array = λ name is. subst (RunTells lack o old new) is told.tells;
+    read_fault = λ is. subst (RunTells lack o old new) is told.tells;
+    refused_text = λ text f left err. refused_text o old new text f left err lack status told.tells;
   }
 
-  pub resume_answered : (lack : Bool) → ((source next : Stream) → WasResumed lack (from_sink source next) status)
-      → ((source next sink after : Stream) → ResumeWithin (from_depot source next sink after) status) → ResumeAnswered lack options old new status
-  resume_answered lack went calls = record {
-    tells = told_resume lack options old new text status read (of_text (λ c. WasResumed lack c status) (went old.source new.source));
-    prints = prints;
-    calls = inr (came (λ c. ResumeWithin c status) (calls old.source new.source old.sink new.sink));
+  pub run_answers : RunAnswered lack o old new status
+  run_answers = record {
+    done = λ is. subst (RunTells lack o old new) is told.tells;
+    unreported = λ is. subst (RunTells lack o old new) is told.tells;
+    task_failed = λ op task is. subst (RunTells lack o old new) is told.tells;
+    bad_chunk = λ key got want is. subst (RunTells lack o old new) is told.tells;
+    depot_failed = λ key is. subst (RunTells lack o old new) is told.tells;
+    exists = λ key is. subst (RunTells lack o old new) is told.tells;
+    no_memory = λ is. subst (RunTells lack o old new) is told.tells;
+    refused = run_text;
+    runs = told.tells;
+    prints = told.prints;
+    complete = λ text entry left held premise still. served o text entry old new left held premise still.source still.sink still.depot lack status told.tells;
+    calls = told.calls;
+    few_failures = λ few. run_few old new o few lack status told.tells;
   }
 
-  pub drop_answered : ((source next : Stream) → Dropped (from_sink source next) status) → ((source next sink after : Stream) → DropWithin (from_depot source next sink after) status)
-      → DropAnswered options old new status
-  drop_answered dropped calls = record {
-    tells = told_drop options old new text status read (of_text (λ c. Dropped c status) (dropped old.source new.source));
-    prints = prints;
-    calls = inr (came (λ c. DropWithin c status) (calls old.source new.source old.sink new.sink));
+-- ---- `resume`
+
+module _ {lack : Bool} {o : Options} {old new : Scene} {status : Status} (told : ResumeTold lack o old new status) where
+  resume_text : TextAnswered o old new status
+  resume_text = record {
+    bad_expr = λ code node is. subst (ResumeTells lack o old new) is told.tells;
+    bad_type = λ code node is. subst (ResumeTells lack o old new) is told.tells;
+    over_memory = λ node need allowed is. subst (ResumeTells lack o old new) is told.tells;
+    over_limit = λ which count is. subst (ResumeTells lack o old new) is told.tells;
+    bad_meta = λ name code is. subst (ResumeTells lack o old new) is told.tells;
+    no_array = λ name is. subst (ResumeTells lack o old new) is told.tells;
+    read_fault = λ is. subst (ResumeTells lack o old new) is told.tells;
+    refused_text = λ text f left err. resume_refused_text o old new text f left err lack status told.tells;
   }
 
-  pub plan_answered : ((source next : Stream) → Plans (from_sink source next) status) → WithinCalls (plan_calls (options.retries + 1) given) old.depot new.depot → PlanAnswered options old new status
-  plan_answered plans calls = record {
-    tells = told_plan options old new text status read (of_text (λ c. Plans c status) (plans old.source new.source));
-    prints = prints;
-    calls = inr (text, read, subst (λ (t : List ℕ). WithinCalls (plan_calls (options.retries + 1) t) old.depot new.depot) same calls);
+  pub resume_answers : ResumeAnswered lack o old new status
+  resume_answers = record {
+    done = λ is. subst (ResumeTells lack o old new) is told.tells;
+    unreported = λ is. subst (ResumeTells lack o old new) is told.tells;
+    task_failed = λ op task is. subst (ResumeTells lack o old new) is told.tells;
+    bad_chunk = λ key got want is. subst (ResumeTells lack o old new) is told.tells;
+    other_plan = λ place is. subst (ResumeTells lack o old new) is told.tells;
+    no_plan = λ is. subst (ResumeTells lack o old new) is told.tells;
+    depot_failed = λ key is. subst (ResumeTells lack o old new) is told.tells;
+    no_memory = λ is. subst (ResumeTells lack o old new) is told.tells;
+    refused = resume_text;
+    resumes = told.tells;
+    prints = told.prints;
+    causes = λ text entry left held premise. caused o text entry old new left held premise lack status told.tells;
+    complete = λ text entry left held premise whole still. went_on o text entry old new left held premise whole still.source still.sink still.depot lack status told.tells;
+    calls = told.calls;
+    few_failures = λ few. resume_few old new o few lack status told.tells;
   }
 
--- ---- the words are read
+-- ---- `drop`
 
--- they give a command, and it is answered
-pub by_command : (lack : Bool) (asked : Result Command ℕ) (old new : Scene) (status : Status) (command : Command) → asked ≡ Ok command → IsAnswered lack command old new status
-    → CallAnswered lack asked old new status
-by_command lack asked old new status command is answered = record {
-  is_so = subst (λ (a : Result Command ℕ). AreAnswered lack a old new status) (sym is) answered;
-  unknown = λ err. cc;
-}
-
-module _ (lack : Bool) (asked : Result Command ℕ) (same : Scene) where
-  spared : Stepped NoChange same.depot same.depot
-  spared = stepped_same NoChange same.depot
-
-  none : WithinCalls 0 same.depot same.depot
-  none = omega arith
-
-  -- they are refused, and nothing is done
-  pub by_refusal : (code : ℕ) → asked ≡ Err code → CallAnswered lack asked same same (BadWords code)
-  by_refusal code is = record {
-    is_so = subst (λ (a : Result Command ℕ). AreAnswered lack a same same (BadWords code)) (sym is) (refl, (spared, refl, refl));
-    unknown = λ err. cc;
+module _ {o : Options} {old new : Scene} {status : Status} (told : DropTold o old new status) where
+  drop_text : TextAnswered o old new status
+  drop_text = record {
+    bad_expr = λ code node is. subst (DropTells o old new) is told.tells;
+    bad_type = λ code node is. subst (DropTells o old new) is told.tells;
+    over_memory = λ node need allowed is. subst (DropTells o old new) is told.tells;
+    over_limit = λ which count is. subst (DropTells o old new) is told.tells;
+    bad_meta = λ name code is. subst (DropTells o old new) is told.tells;
+    no_array = λ name is. subst (DropTells o old new) is told.tells;
+    read_fault = λ is. subst (DropTells o old new) is told.tells;
+    refused_text = λ text f left err. drop_refused_text o old new text f left err status told.tells;
   }
 
-  wanted : (a : Result Command ℕ) → AreAnswered lack a same same NoMemory
-  wanted (Ok (run options)) = record { tells = inl spared; prints = refl; calls = inl none }
-  wanted (Ok (resume options)) = record { tells = inl spared; prints = refl; calls = inl none }
-  wanted (Ok (drop options)) = record { tells = inl spared; prints = refl; calls = inl none }
-  wanted (Ok (plan options)) = record { tells = spared; prints = refl; calls = inl none }
-  wanted (Ok (load retries)) = record { tells = inl (spared, refl); calls = inl none }
-  wanted (Ok (check retries)) = record { tells = record { spared = spared; printed = refl; ends = tt }; calls = inl none }
-  wanted (Ok (print name retries)) = record { tells = (spared, inl refl); kept = refl; calls = inl (omega arith) }
-  wanted (Ok (demo size options)) = record { tells = inl (spared, refl); kept = refl; calls = inl none }
-  wanted (Err code) = (tt, (spared, refl, refl))
+  pub drop_answers : DropAnswered o old new status
+  drop_answers = record {
+    done = λ is. subst (DropTells o old new) is told.tells;
+    unreported = λ is. subst (DropTells o old new) is told.tells;
+    other_plan = λ place is. subst (DropTells o old new) is told.tells;
+    no_plan = λ is. subst (DropTells o old new) is told.tells;
+    depot_failed = λ key is. subst (DropTells o old new) is told.tells;
+    no_memory = λ is. subst (DropTells o old new) is told.tells;
+    refused = drop_text;
+    drops = told.tells;
+    prints = told.prints;
+    calls = told.calls;
+    few_failures = λ few. drop_few old new o few status told.tells;
+  }
 
-  -- memory was wanted to read them, and nothing is done
-  pub by_want : (asked ≡ Err 1 → ⊥) → CallAnswered lack asked same same NoMemory
-  by_want known = record { is_so = wanted asked; unknown = λ err. absurd (known err) }
+-- ---- `plan`
 
--- ---- what each command answers
+module _ {o : Options} {old new : Scene} {status : Status} (told : PlanTold o old new status) where
+  plan_text : TextAnswered o old new status
+  plan_text = record {
+    bad_expr = λ code node is. subst (PlanTells o old new) is told.tells;
+    bad_type = λ code node is. subst (PlanTells o old new) is told.tells;
+    over_memory = λ node need allowed is. subst (PlanTells o old new) is told.tells;
+    over_limit = λ which count is. subst (PlanTells o old new) is told.tells;
+    bad_meta = λ name code is. subst (PlanTells o old new) is told.tells;
+    no_array = λ name is. subst (PlanTells o old new) is told.tells;
+    read_fault = λ is. subst (PlanTells o old new) is told.tells;
+    refused_text = λ text f left err. plan_refused_text o old new text f status left err told.tells;
+  }
 
-module _ {lack : Bool} {asked : Result Command ℕ} {old new : Scene} {status : Status} (answered : CallAnswered lack asked old new status) where
-  pub answer_to : (command : Command) → asked ≡ Ok command → IsAnswered lack command old new status
-  answer_to command is = subst (λ (a : Result Command ℕ). AreAnswered lack a old new status) is answered.is_so
+  pub plan_answers : PlanAnswered o old new status
+  plan_answers = record {
+    planned = λ is. subst (PlanTells o old new) is told.tells;
+    unprinted = λ is. subst (PlanTells o old new) is told.tells;
+    depot_failed = λ key is. subst (PlanTells o old new) is told.tells;
+    refused = plan_text;
+    plans = told.tells;
+    spared = plan_spared o old new status told.tells;
+    prints = told.prints;
+    complete = λ text left premise still. plan_served o text old new left premise still.source still.sink still.depot status told.tells;
+    calls = told.calls;
+    few_failures = λ few. plan_few old new o few status told.tells;
+  }
 
-  pub words_refused : (code : ℕ) → asked ≡ Err code → IsWordsRefused code status × DidNothing old new
-  words_refused code is = subst (λ (a : Result Command ℕ). AreAnswered lack a old new status) is answered.is_so
+-- ---- `demo`
 
-  pub of_run : (options : Options) → asked ≡ Ok (run options) → RunAnswered lack options old new status
-  of_run options = answer_to (run options)
+module _ {lack : Bool} {size : ℕ} {o : Options} {old new : Scene} {status : Status} (told : DemoTold lack size o old new status) where
+  pub demo_answers : DemoAnswered lack size o old new status
+  demo_answers = record {
+    demonstrated = λ is. subst (DemoTells lack (demo_between size o old new)) is told.tells;
+    unprinted = λ is. subst (DemoTells lack (demo_between size o old new)) is told.tells;
+    over_memory = λ node need allowed is. subst (DemoTells lack (demo_between size o old new)) is told.tells;
+    over_limit = λ which count is. subst (DemoTells lack (demo_between size o old new)) is told.tells;
+    exists = λ key is. subst (DemoTells lack (demo_between size o old new)) is told.tells;
+    task_failed = λ op task is. subst (DemoTells lack (demo_between size o old new)) is told.tells;
+    bad_chunk = λ key got want is. subst (DemoTells lack (demo_between size o old new)) is told.tells;
+    depot_failed = λ key is. subst (DemoTells lack (demo_between size o old new)) is told.tells;
+    no_memory = λ is. subst (DemoTells lack (demo_between size o old new)) is told.tells;
+    demos = told.tells;
+    kept = told.kept;
+    complete = λ entry held rest sink depot. demo_served (demo_between size o old new) entry held rest sink depot lack status told.tells;
+    calls = told.calls;
+    few_failures = λ few. demo_few old new o few lack size status told.tells;
+  }
 
-  pub of_resume : (options : Options) → asked ≡ Ok (resume options) → ResumeAnswered lack options old new status
-  of_resume options = answer_to (resume options)
+-- ---- `load`, `check` and `print`
 
-  pub of_drop : (options : Options) → asked ≡ Ok (drop options) → DropAnswered options old new status
-  of_drop options = answer_to (drop options)
+module _ {retries : ℕ} {old new : Scene} {status : Status} (told : LoadTold retries old new status) where
+  pub load_answers : LoadAnswered retries old new status
+  load_answers = record { loads = told.tells; calls = told.calls; few_failures = λ few. load_few old new retries few status told.tells }
 
-  pub of_plan : (options : Options) → asked ≡ Ok (plan options) → PlanAnswered options old new status
-  of_plan options = answer_to (plan options)
+module _ {retries : ℕ} {old new : Scene} {status : Status} (told : CheckTold retries old new status) where
+  pub check_answers : CheckAnswered retries old new status
+  check_answers = record {
+    equal = λ is. subst (CheckEnds (retries + 1) old.source new.source (seen_in old) (seen_in new)) is told.tells.ends;
+    unequal = λ place stored plain is. subst (CheckEnds (retries + 1) old.source new.source (seen_in old) (seen_in new)) is told.tells.ends;
+    checks = told.tells;
+    calls = told.calls;
+    few_failures = λ few. check_few old new retries few status told.tells;
+  }
 
-  pub of_load : (retries : ℕ) → asked ≡ Ok (load retries) → LoadAnswered retries old new status
-  of_load retries = answer_to (load retries)
-
-  pub of_check : (retries : ℕ) → asked ≡ Ok (check retries) → CheckAnswered retries old new status
-  of_check retries = answer_to (check retries)
-
-  pub of_print : (name : List ℕ) (retries : ℕ) → asked ≡ Ok (print name retries) → PrintAnswered name retries old new status
-  of_print name retries = answer_to (print name retries)
-
-  pub of_demo : (size : ℕ) (options : Options) → asked ≡ Ok (demo size options) → DemoAnswered lack size options old new status
-  of_demo size options = answer_to (demo size options)
-
-  -- ---- a run
-
-  -- one of its answers
-  pub run_as : (other : Status) (options : Options) → asked ≡ Ok (run options) → status ≡ other → RunTells lack options old new other
-  run_as other options is same = subst (RunTells lack options old new) same (of_run options is).tells
-
-  pub run_refused : (options : Options) (text : List ℕ) (fault : ExpressionFault) → asked ≡ Ok (run options) → old.source.told ≡ Some text → expression_of text ≡ Err fault → IsExpressionRefused fault status
-  run_refused options text fault is told err = refused_text lack options old new text fault status told err (of_run options is).tells
-
-  -- ---- a plan
-
-  pub plan_stores_nothing : (options : Options) → asked ≡ Ok (plan options) → AreSpared old new
-  plan_stores_nothing options is = plan_spared options old new status (of_plan options is).tells
-
-  pub planned : (options : Options) → asked ≡ Ok (plan options) → status ≡ Done → CameToRun options old new IsPrinted
-  planned options is = plan_printed options old new status (of_plan options is).tells
-
-  pub plan_refused : (options : Options) (text : List ℕ) (fault : ExpressionFault) → asked ≡ Ok (plan options) → old.source.told ≡ Some text → expression_of text ≡ Err fault → IsExpressionRefused fault status
-  plan_refused options text fault is told err = plan_refused_text options old new text fault status told err (of_plan options is).tells
-
-  -- ---- a comparison and a demonstration
-
-  pub equal : (retries : ℕ) → asked ≡ Ok (check retries) → status ≡ Done → ReadsText old.source new.source (λ text. IsFoundEqual text (seen_in old) (seen_in new))
-  equal retries is = found_equal retries old.source new.source (seen_in old) (seen_in new) status (of_check retries is).tells
-
-  pub unequal : (retries place : ℕ) (stored plain : ℤ) → asked ≡ Ok (check retries) → status ≡ Unequal place stored plain
-      → ReadsText old.source new.source (λ text. IsUnequal text old.depot place stored plain)
-  unequal retries place stored plain is = found_unequal retries old.source new.source (seen_in old) (seen_in new) status (of_check retries is).tells place stored plain
-
-  pub demonstrated : (size : ℕ) (options : Options) → asked ≡ Ok (demo size options) → status ≡ Done → IsDemoDone (demo_case options size (seen_in old) (seen_in new))
-  demonstrated size options is = was_demonstrated lack (demo_case options size (seen_in old) (seen_in new)) status (of_demo size options is).tells
-
-  -- ---- where nothing fails, and where few calls do
-
-  pub demo_complete : (size : ℕ) (options : Options) (entry : Contents) → asked ≡ Ok (demo size options) → old.depot.held ≡ Some entry → IsDemoAtRest options size entry old.depot
-      → StoodStill old.sink.faults new.sink.faults → StoodStill old.depot.faults new.depot.faults → IsServed status
-  demo_complete size options entry is told rest sink depot = demo_served (demo_case options size (seen_in old) (seen_in new)) entry told rest sink depot lack status (of_demo size options is).tells
-
-  pub few_failures : (command : Command) → asked ≡ Ok command → FewFailed (retries_of command) old.depot new.depot → IsNotGivenUp status
-  few_failures command is = not_given_up old new lack status command (answer_to command is)
-
--- the same of words, with the premises that name them
-module _ {lack : Bool} {old new : Scene} {status : Status} (words : List (List ℕ)) (answered : CallAnswered lack (command_of words) old new status) (text : List ℕ) where
-  pub complete : (entry : Contents) → old.source.told ≡ Some text → old.depot.held ≡ Some entry → IsServable words text entry old.depot → StoodStill old.source.faults new.source.faults
-      → StoodStill old.sink.faults new.sink.faults → StoodStill old.depot.faults new.depot.faults → IsServed status
-  complete entry left told premise source sink depot = served words text entry old new left told premise source sink depot lack status (of_run answered premise.options premise.words_give).tells
-
-  pub plan_complete : old.source.told ≡ Some text → IsPlannable words text old.depot → StoodStill old.source.faults new.source.faults → StoodStill old.sink.faults new.sink.faults
-      → StoodStill old.depot.faults new.depot.faults → IsServed status
-  plan_complete left premise source sink depot = plan_served words text old new left premise source sink depot status (of_plan answered premise.options premise.words_give).tells
-
-  pub resume_causes : (entry : Contents) → old.source.told ≡ Some text → old.depot.held ≡ Some entry → IsResumable words text entry old.depot → IsResumeCause status
-  resume_causes entry left told premise = caused words text entry old new left told premise lack status (of_resume answered premise.options premise.words_give).tells
-
-  pub resume_complete : (entry : Contents) → old.source.told ≡ Some text → old.depot.held ≡ Some entry → (premise : IsResumable words text entry old.depot)
-      → HasWholeInputs premise.options text entry old.depot → StoodStill old.source.faults new.source.faults → StoodStill old.sink.faults new.sink.faults
-      → StoodStill old.depot.faults new.depot.faults → IsServed status
-  resume_complete entry left told premise whole source sink depot =
-      went_on words text entry old new left told premise whole source sink depot lack status (of_resume answered premise.options premise.words_give).tells
+module _ {name : List ℕ} {retries : ℕ} {old new : Scene} {status : Status} (told : PrintTold name retries old new status) where
+  pub print_answers : PrintAnswered name retries old new status
+  print_answers = record { prints_array = told.tells; kept = told.kept; calls = told.calls; few_failures = λ few. print_few old new retries few name status told.tells }

@@ -11,10 +11,11 @@ use Rattle.cu_command.specs.Job.{names_or_none, IsJob}
 use Rattle.cu_command.specs.Streams.{ReadsAll}
 use Rattle.cu_command.specs.declared.job.Job.{Job}
 use Rattle.cu_command.specs.declared.status.Status.{Status}
-use Rattle.cu_command.specs.declared.status.Status.TheVariants.{Done, BadExpr, BadType, OverMemory, OverLimit, BadMeta, NoArray, Exists, TaskFailed, ReadFault, WriteFault, BadChunk, DepotFailed, NoMemory}
+use Rattle.cu_command.specs.declared.status.Status.TheVariants.{Done, BadExpr, BadType, OverMemory, OverLimit, BadMeta, NoArray, Exists, TaskFailed, ReadFault, WriteFault, BadChunk, OtherPlan, NoPlan, DepotFailed, NoMemory}
 use Rattle.cu_lower.specs.declared.options.Options.{Options}
 use Rattle.cu_top.specs.Call.{RunTells, IsExpressionRefused}
 use Rattle.cu_top.specs.Drop.{Dropped, DropTells}
+use Rattle.cu_top.specs.Held.{IsUnasked}
 use Rattle.cu_top.specs.Resume.{WasResumed, ResumeTells}
 use Rattle.cu_top.specs.Run.{Scene, RunCase, case, Ran}
 
@@ -90,14 +91,57 @@ module _ (c : RunCase) (f : ExpressionFault) (err : expression_of c.text ≡ Err
   refused_run lack (BadChunk key got want) (job, started, ran) = no_job job started.accepted
   refused_run lack status ran = absurd ran
 
--- so does the command
-pub refused_text : (lack : Bool) (options : Options) (old new : Scene) (left : List ℕ) (f : ExpressionFault) (status : Status) → old.source.told ≡ Some left → expression_of left ≡ Err f → RunTells lack options old new status
-    → IsExpressionRefused f status
-refused_text lack options old new left f ReadFault told err tells = tt
-refused_text lack options old new left f NoMemory told err tells = tt
-refused_text lack options old new left f status told err (text, read, ran) =
-    refused_run (case options text old new) f
-    (same_expression left text new.source.told (subst (λ (o : Option (List ℕ)). ReadsAll o new.source.told text) told read) ∙ err) lack status ran
+  -- so are a run that goes on and a removal
+  unasked : (key : List ℕ) → IsUnasked c key → ⊥
+  unasked key (rose, inl unread) = no_turn (expression_of c.text) f c.old.depot unread.1.0 err unread.1.2
+  unasked key (rose, inr (spared, (job, accepted, rest))) = no_job job accepted
+
+  pub refused_resumed : (lack : Bool) (status : Status) → WasResumed lack c status → IsExpressionRefused f status
+  refused_resumed lack NoMemory why = tt
+  refused_resumed lack Done (job, resumed, why) = no_job job resumed.reopened.accepted
+  refused_resumed lack WriteFault (rose, (job, resumed, why)) = no_job job resumed.reopened.accepted
+  refused_resumed lack (TaskFailed op task) (rose, (job, resumed, why)) = no_job job resumed.reopened.accepted
+  refused_resumed lack (BadChunk key got want) (job, resumed, why) = no_job job resumed.reopened.accepted
+  refused_resumed lack (DepotFailed key) (inl why) = unasked key why
+  refused_resumed lack (DepotFailed key) (inr (rose, inl (spared, (job, back, listed)))) = no_job job back.accepted
+  refused_resumed lack (DepotFailed key) (inr (rose, inr (job, resumed, why))) = no_job job resumed.reopened.accepted
+  refused_resumed lack (OtherPlan place) (spared, (job, accepted, why)) = no_job job accepted
+  refused_resumed lack NoPlan (spared, (job, accepted, why)) = no_job job accepted
+  refused_resumed lack (Exists key) why = absurd why
+  refused_resumed lack status why = refused_run lack status why
+
+  pub refused_dropped : (status : Status) → Dropped c status → IsExpressionRefused f status
+  refused_dropped NoMemory why = tt
+  refused_dropped Done (job, dropping, why) = no_job job dropping.reopened.accepted
+  refused_dropped WriteFault (rose, (job, dropping, why)) = no_job job dropping.reopened.accepted
+  refused_dropped (DepotFailed key) (inl why) = unasked key why
+  refused_dropped (DepotFailed key) (inr (rose, (job, dropping, why))) = no_job job dropping.reopened.accepted
+  refused_dropped (OtherPlan place) (spared, (job, accepted, why)) = no_job job accepted
+  refused_dropped NoPlan (spared, (job, accepted, why)) = no_job job accepted
+  refused_dropped (TaskFailed op task) why = absurd why
+  refused_dropped (BadChunk key got want) why = absurd why
+  refused_dropped (Exists key) why = absurd why
+  refused_dropped status why = refused_run false status why
+
+-- so is what each command answers
+module _ (options : Options) (old new : Scene) (left : List ℕ) (f : ExpressionFault) (told : old.source.told ≡ Some left) (err : expression_of left ≡ Err f) where
+  same_refusal : (text : List ℕ) → ReadsAll old.source.told new.source.told text → expression_of text ≡ Err f
+  same_refusal text read = same_expression left text new.source.told (subst (λ (o : Option (List ℕ)). ReadsAll o new.source.told text) told read) ∙ err
+
+  pub refused_text : (lack : Bool) (status : Status) → RunTells lack options old new status → IsExpressionRefused f status
+  refused_text lack ReadFault tells = tt
+  refused_text lack NoMemory tells = tt
+  refused_text lack status (text, read, ran) = refused_run (case options text old new) f (same_refusal text read) lack status ran
+
+  pub resume_refused_text : (lack : Bool) (status : Status) → ResumeTells lack options old new status → IsExpressionRefused f status
+  resume_refused_text lack ReadFault tells = tt
+  resume_refused_text lack NoMemory tells = tt
+  resume_refused_text lack status (text, read, why) = refused_resumed (case options text old new) f (same_refusal text read) lack status why
+
+  pub drop_refused_text : (status : Status) → DropTells options old new status → IsExpressionRefused f status
+  drop_refused_text ReadFault tells = tt
+  drop_refused_text NoMemory tells = tt
+  drop_refused_text status (text, read, why) = refused_dropped (case options text old new) f (same_refusal text read) status why
 
 -- ---- the other commands
 

@@ -24,6 +24,7 @@ use Rattle.cu_command.specs.declared.status.Status.{Status}
 use Rattle.cu_command.specs.declared.status.Status.TheVariants.{Done, BadExpr, BadType, OverMemory, OverLimit, BadMeta, NoArray, Exists, TaskFailed, ReadFault, WriteFault, BadChunk, DepotFailed, NoMemory}
 use Rattle.cu_top.proofs.CallLemmas.{same_text}
 use Rattle.cu_top.proofs.RunLemmas.{piece_listed}
+use Rattle.cu_lower.specs.declared.options.Options.{Options}
 use Rattle.cu_top.specs.Ask.{IsInWay}
 use Rattle.cu_top.specs.Call.{CameToRun, RunTells}
 use Rattle.cu_top.specs.Complete.{AreWhole, IsServable, IsAtRest, IsServed}
@@ -155,16 +156,16 @@ module _ (c : RunCase) (entry : Contents) (told : c.old.depot.held ≡ Some entr
 
 -- ---- the call
 
-module _ (words : List (List ℕ)) (left : List ℕ) (entry : Contents) (old new : Scene) (told_left : old.source.told ≡ Some left) (told : old.depot.held ≡ Some entry)
-    (premise : IsServable words left entry old.depot) (source : StoodStill old.source.faults new.source.faults) (sink : StoodStill old.sink.faults new.sink.faults)
+module _ (options : Options) (left : List ℕ) (entry : Contents) (old new : Scene) (told_left : old.source.told ≡ Some left) (told : old.depot.held ≡ Some entry)
+    (premise : IsServable options left entry old.depot) (source : StoodStill old.source.faults new.source.faults) (sink : StoodStill old.sink.faults new.sink.faults)
     (depot : StoodStill old.depot.faults new.depot.faults) where
-  came : (lack : Bool) (status : Status) → CameToRun premise.options old new (λ c. Ran lack c status) → IsServed status
+  came : (lack : Bool) (status : Status) → CameToRun options old new (λ c. Ran lack c status) → IsServed status
   came lack status (text, read, ran) =
       let same : text ≡ left = same_text left text new.source.told premise.typable.expr (subst (λ (t : Option (List ℕ)). ReadsAll t new.source.told text) told_left read) premise.typable.said in
-      served_run (case premise.options left old new) entry told premise.typable depot sink premise.rest lack status (subst (λ (t : List ℕ). Ran lack (case premise.options t old new) status) same ran)
+      served_run (case options left old new) entry told premise.typable depot sink premise.rest lack status (subst (λ (t : List ℕ). Ran lack (case options t old new) status) same ran)
 
   -- Where all is accepted, nothing is in the way and no count of faults rises, the run is carried out, or memory is wanted.
-  pub served : (lack : Bool) (status : Status) → RunTells lack premise.options old new status → IsServed status
+  pub served : (lack : Bool) (status : Status) → RunTells lack options old new status → IsServed status
   served lack ReadFault tells = none_rose 1 old.source.faults new.source.faults (omega arith) source tells.0
   served lack NoMemory tells = tt
   served lack status tells = came lack status tells

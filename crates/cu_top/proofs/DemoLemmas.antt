@@ -28,7 +28,7 @@ use Rattle.cu_command.specs.declared.status.Status.TheVariants.{Done, OverMemory
 use Rattle.cu_command.proofs.SeenLemmas.{stepped_none, stepped_same, stepped_then}
 use Rattle.cu_load.proofs.AskLemmas.{rose_earlier}
 use Rattle.cu_demo.specs.Expression.{IsDemoJob, demo_text}
-use Rattle.cu_top.specs.Demo.{DemoCase, DemoTells, IsDemoDone, InputsPut, AreInputsFree, IsDemoAskEnd, IsDemoRefused, IsDemoStarted, IsInputsFault, IsResultUnread, KeepsInputs, ResultTells, demo_case, demo_run, result_key, result_layout, result_line}
+use Rattle.cu_top.specs.Demo.{DemoCase, DemoTells, InputsPut, AreInputsFree, IsDemoAskEnd, IsDemoRefused, IsDemoStarted, IsInputsFault, IsResultUnread, KeepsInputs, ResultTells, demo_case, demo_run, result_key, result_layout, result_line}
 use Rattle.cu_top.proofs.Completeness.{not_bad}
 use Rattle.cu_top.specs.Complete.{AreWhole}
 use Rattle.cu_top.specs.Prepare.{HasPlan, asked_keys, job_plan, out_layout}
@@ -151,10 +151,10 @@ module _ (options : Options) (job : Job) (found ran new : Shown) (step : Stepped
       )
 
   pub counted_later : (n : RunCounts) → IsCounted (run_to options found ran) job n → IsCounted (run_to options found new) job n
-  counted_later n ((history, m, h, fact), least, exact, most) =
+  counted_later n ((history, m, h, fact), least, exact, most, few) =
       let rose = h.rose in
       let more = step.step.count in
-      ((history, m, record { legal = h.legal; resting = h.resting; rose = omega (arith, rose, more) }, fact), least, exact, most)
+      ((history, m, record { legal = h.legal; resting = h.resting; rose = omega (arith, rose, more) }, fact), least, exact, most, few)
 
 -- ---- the result
 
@@ -228,7 +228,3 @@ module _ (lack : Bool) (c : DemoCase) (job : Job) (found ran : Shown) (n : RunCo
   told (DepotFailed key) (silent, fault) = inr (inr (inr (silent, (keeps job s, (job, found, start, (n, s, all, counted, unread (DepotFailed key) fault))))))
   told NoMemory silent = inr (inr (inr (silent, (keeps job s, (job, found, start, (n, s, all, counted, tt))))))
   told status tells = absurd tells
-
--- one of its answers
-pub was_demonstrated : (lack : Bool) (c : DemoCase) (status : Status) → DemoTells lack c status → status ≡ Done → IsDemoDone c
-was_demonstrated lack c status tells same = subst (DemoTells lack c) same tells

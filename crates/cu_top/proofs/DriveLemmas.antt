@@ -10,7 +10,7 @@ use Rattle.cu_op.specs.Elements.{Elements}
 use Rattle.cu_op.specs.Value.{stored_inputs}
 use Rattle.cu_history.specs.declared.entry.Entry.{Entry}
 use Rattle.cu_history.specs.declared.entry.EventKind.{EventKind}
-use Rattle.cu_history.specs.History.{is_done, is_failed, count_kind, count_of_task}
+use Rattle.cu_history.specs.History.{is_start, is_done, is_failed, count_kind, count_of_task}
 use Rattle.cu_lower.specs.Premises.{OutputDiffers}
 use Rattle.cu_state.specs.Left.{IsQuiet, IsLeft, RunChange}
 use Rattle.cu_state.specs.Names.{HasPlanNames}
@@ -49,6 +49,7 @@ use Rattle.cu_top.specs.Quiet.{run_of_job}
 use Rattle.cu_top.specs.Record.{record_text}
 use Rattle.cu_top.specs.Run.{RunCase, job_run, plan_in, env_of, IsMeant, HoldsAll, WhereLeft, IsHistory, HasBroken, settings_of}
 use Rattle.cu_top.proofs.PlanLemmas.{differs}
+use Rattle.cu_top.proofs.StartsFew.{starts_few}
 
 -- the laws of histories that the report and the cause of a task rest on
 pub record HistoryLaws : Type 0 where
@@ -170,6 +171,9 @@ module _ (c : RunCase) (job : Job) (laws : PlanLaws c job) (start : Shown) (spar
 
       pub few_failures : t.state.ended ≡ None → count_kind is_failed t.history ≤ c.options.retries * task_count (plan_in c job)
       few_failures none = failures_few (settings_of c job) done t.history t.state legal_of none
+
+      pub few_starts : count_kind is_start t.history ≤ (c.options.retries + 2) * task_count (plan_in c job)
+      few_starts = starts_few (settings_of c job) done t.history t.state legal_of ends.driven.resting
 
       pub done_at_end : WhereLeft c job (λ env. HoldsDone (job_run c job) env t.state c.new.depot)
       done_at_end entry told left = ends.done (env_of c job entry) (left_start entry told left)

@@ -81,6 +81,11 @@ module _ (c : RunCase) (job : Job) where
   gone_before first late all (Some held) key (inl none) = inl none
   gone_before first late all (Some held) key (inr (bytes, is, among)) = inr (bytes, is, late_before first late all key bytes among)
 
+  gone_at_first : (start : Shown) → Stepped NoChange c.old.depot start → (keys : List (List ℕ)) → All (IsGoneBut start.late c.new.depot.held) keys → All (IsGoneBut c.old.depot.late c.new.depot.held) keys
+  gone_at_first start spared keys gone =
+      All-weaker (IsGoneBut start.late c.new.depot.held) (IsGoneBut c.old.depot.late c.new.depot.held)
+      (λ key was. gone_before c.old.depot.late start.late spared.step.late c.new.depot.held key was) keys gone
+
   all_gone : (start : Shown) → Stepped NoChange c.old.depot start → All (IsGoneBut start.late c.new.depot.held) (dropped_keys c job) → AreGone c job
   all_gone start spared gone =
       All-weaker (Contains (keys_of c.options job)) (IsGoneBut c.old.depot.late c.new.depot.held)
@@ -116,7 +121,7 @@ module _ (c : RunCase) (job : Job) (back : IsReopened c job) (start : Shown) (sp
   pub drop_failed : (key : List ℕ) (l m : ℕ) → AreRemoved (c.options.retries + 1) (dropped_keys c job) start c.new.depot (Err (Failed key))
       → Steps (RemovalIn (keys_first c job)) l m start c.new.depot → Dropped c (DepotFailed key)
   drop_failed key l m removed record_kept =
-      let ends = removed.cause in inr (
+      let ends = removed.cause.ends in inr (
         (let earlier = spared.step.count in let more = ends.before.count in let rose = ends.cause.0 in omega (arith, earlier, more, rose)),
         (
           job,
@@ -126,6 +131,7 @@ module _ (c : RunCase) (job : Job) (back : IsReopened c job) (start : Shown) (sp
             back = ends.back;
             listed = ends.listed;
             removed = stepped_then (stepped_none spared) (stepped_then (stepped ends.before) (stepped_none (stepped ends.last)));
+            gone = gone_at_first c job start spared ends.front removed.cause.gone;
             recorded = stepped_then (stepped_none spared) (stepped record_kept);
           },
         ),

@@ -8,15 +8,13 @@ use Rattle.cu_command.specs.declared.status.Status.TheVariants.{TaskFailed, Depo
 use Rattle.cu_load.specs.Load.{Loaded}
 use Rattle.cu_lower.specs.declared.options.Options.{Options}
 use Rattle.cu_print.specs.Print.{Printed}
-use Rattle.cu_top.specs.Answered.{IsAnswered, seen_in}
 use Rattle.cu_top.specs.Call.{RunTells}
-use Rattle.cu_top.specs.Complete.{FewFailed, IsNotGivenUp, retries_of}
+use Rattle.cu_top.specs.Complete.{FewFailed, IsNotGivenUp}
 use Rattle.cu_top.specs.Demo.{DemoTells, demo_case}
 use Rattle.cu_top.specs.Drop.{DropTells}
 use Rattle.cu_top.specs.Planned.{PlanTells}
 use Rattle.cu_top.specs.Resume.{ResumeTells}
-use Rattle.cu_top.specs.Run.{Scene}
-use Rattle.cu_top.specs.Words.{Command, check, demo, drop, load, plan, print, resume, run}
+use Rattle.cu_top.specs.Run.{Scene, seen_in}
 
 -- fewer calls failed than the tries for a key
 not_so_often : (retries before after : ℕ) (old new : Shown) → old.faults ≤ before → after ≤ new.faults → FewFailed retries old new → Rose (retries + 1) before after → ⊥
@@ -27,29 +25,29 @@ none_so_often retries old new few rose = not_so_often retries old.faults new.fau
 
 module _ (old new : Scene) where
   module _ (options : Options) (few : FewFailed options.retries old.depot new.depot) where
-    run_few : (lack : Bool) (status : Status) → RunTells lack options old new status → IsNotGivenUp status
+    pub run_few : (lack : Bool) (status : Status) → RunTells lack options old new status → IsNotGivenUp status
     run_few lack (TaskFailed op task) (text, read, (rose, rest)) = none_so_often options.retries old.depot new.depot few rose
     run_few lack (DepotFailed key) (text, read, (rose, rest)) = none_so_often options.retries old.depot new.depot few rose
     run_few lack status tells = tt
 
-    resume_few : (lack : Bool) (status : Status) → ResumeTells lack options old new status → IsNotGivenUp status
+    pub resume_few : (lack : Bool) (status : Status) → ResumeTells lack options old new status → IsNotGivenUp status
     resume_few lack (TaskFailed op task) (text, read, (rose, rest)) = none_so_often options.retries old.depot new.depot few rose
     resume_few lack (DepotFailed key) (text, read, inl (rose, rest)) = none_so_often options.retries old.depot new.depot few rose
     resume_few lack (DepotFailed key) (text, read, inr (rose, rest)) = none_so_often options.retries old.depot new.depot few rose
     resume_few lack status tells = tt
 
-    drop_few : (status : Status) → DropTells options old new status → IsNotGivenUp status
+    pub drop_few : (status : Status) → DropTells options old new status → IsNotGivenUp status
     drop_few (TaskFailed op task) (text, read, why) = why
     drop_few (DepotFailed key) (text, read, inl (rose, rest)) = none_so_often options.retries old.depot new.depot few rose
     drop_few (DepotFailed key) (text, read, inr (rose, rest)) = none_so_often options.retries old.depot new.depot few rose
     drop_few status tells = tt
 
-    plan_few : (status : Status) → PlanTells options old new status → IsNotGivenUp status
+    pub plan_few : (status : Status) → PlanTells options old new status → IsNotGivenUp status
     plan_few (TaskFailed op task) (text, read, why) = why
     plan_few (DepotFailed key) (text, read, (spared, (name, asked, turn, rose))) = none_so_often options.retries old.depot new.depot few rose
     plan_few status tells = tt
 
-    demo_few : (lack : Bool) (size : ℕ) (status : Status) → DemoTells lack (demo_case options size (seen_in old) (seen_in new)) status → IsNotGivenUp status
+    pub demo_few : (lack : Bool) (size : ℕ) (status : Status) → DemoTells lack (demo_case options size (seen_in old) (seen_in new)) status → IsNotGivenUp status
     demo_few lack size (TaskFailed op task) (kept, (silent, (job, found, started, (rose, rest)))) =
         not_so_often options.retries found.faults new.depot.faults old.depot new.depot started.entry.faults (omega arith) few rose
     demo_few lack size (DepotFailed key) (inl (nothing, (job, is, (asked, rose)))) = none_so_often options.retries old.depot new.depot few rose
@@ -60,29 +58,18 @@ module _ (old new : Scene) where
     demo_few lack size status tells = tt
 
   module _ (retries : ℕ) (few : FewFailed retries old.depot new.depot) where
-    load_few : (status : Status) → Loaded retries old.source new.source (seen_in old) (seen_in new) status → IsNotGivenUp status
+    pub load_few : (status : Status) → Loaded retries old.source new.source (seen_in old) (seen_in new) status → IsNotGivenUp status
     load_few (TaskFailed op task) tells = tells
     load_few (DepotFailed key) tells = none_so_often retries old.depot new.depot few tells.is_so.0
     load_few status tells = tt
 
-    check_few : (status : Status) → Checked retries old.source new.source (seen_in old) (seen_in new) status → IsNotGivenUp status
+    pub check_few : (status : Status) → Checked retries old.source new.source (seen_in old) (seen_in new) status → IsNotGivenUp status
     check_few (TaskFailed op task) tells = tells.ends.2
     check_few (DepotFailed key) tells = none_so_often retries old.depot new.depot few tells.ends.2.0
     check_few status tells = tt
 
-    print_few : (name : List ℕ) (status : Status) → Printed retries name (seen_in old) (seen_in new) status → IsNotGivenUp status
+    pub print_few : (name : List ℕ) (status : Status) → Printed retries name (seen_in old) (seen_in new) status → IsNotGivenUp status
     print_few name (TaskFailed op task) (step, ends) = ends
     print_few name (DepotFailed key) (step, inl (silent, asked, rose)) = none_so_often retries old.depot new.depot few rose
     print_few name (DepotFailed key) (step, inr (l, layout, stored, (printed, rose))) = none_so_often retries old.depot new.depot few rose
     print_few name status tells = tt
-
-  -- so none of the commands gives up
-  pub not_given_up : (lack : Bool) (status : Status) (command : Command) → IsAnswered lack command old new status → FewFailed (retries_of command) old.depot new.depot → IsNotGivenUp status
-  not_given_up lack status (run options) answered few = run_few options few lack status answered.tells
-  not_given_up lack status (resume options) answered few = resume_few options few lack status answered.tells
-  not_given_up lack status (drop options) answered few = drop_few options few status answered.tells
-  not_given_up lack status (plan options) answered few = plan_few options few status answered.tells
-  not_given_up lack status (load retries) answered few = load_few retries few status answered.tells
-  not_given_up lack status (check retries) answered few = check_few retries few status answered.tells
-  not_given_up lack status (print name retries) answered few = print_few retries few name status answered.tells
-  not_given_up lack status (demo size options) answered few = demo_few options few lack size status answered.tells

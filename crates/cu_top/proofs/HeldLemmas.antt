@@ -1,7 +1,7 @@
 -- The record that is held, and a plan that is found again.
 use Rattle.std.proofs.Common.{◌≡◌, ◌≢◌, ◌⊎◌, inl, inr, ℕ, ◌+◌, ◌<◌, List, length, take, get_or}
 use Rattle.std.proofs.Common.{Option, Some, None, Result, Ok, Err, refl, sym, ap, ◌∙◌, subst, arith}
-use Rattle.std.specs.Prelude.{min, slice_get, OnOk, IfErr, Bool, true, false}
+use Rattle.std.specs.Prelude.{min, slice_get, OnOk, IfErr, true, false}
 use Rattle.std.proofs.lemmas.Bool.{cases_lt}
 use Rattle.std.proofs.lemmas.List.{take_all, take-take, length-take, get_or-take}
 use Rattle.std.proofs.lemmas.Option.{slice_get-get_or, slice_get_past}
@@ -182,8 +182,9 @@ module _ (c : RunCase) (job : Job) (between : Shown) (accepted : IsAccepted c jo
       accepted,
       (
         planned,
-        λ entry told premise.
-            subst (λ (h : Option Contents). IsGone h (record_key_of job.expr.store_as)) told (gone_before c.old.depot c.new.depot (record_key_of job.expr.store_as) whole_step gone),
+        inl
+            (λ entry told.
+            subst (λ (h : Option Contents). IsGone h (record_key_of job.expr.store_as)) told (gone_before c.old.depot c.new.depot (record_key_of job.expr.store_as) whole_step gone)),
       ),
     ),
   )
@@ -199,9 +200,6 @@ module _ (c : RunCase) (job : Job) (between : Shown) (accepted : IsAccepted c jo
       let at_text = subst (λ (t : List ℕ). IsRecordFault (c.options.retries + 1) (record_key_of job.expr.store_as) t (between, c.new.depot) f) text_is at_key in
       subst (λ (s : Status). IsNotReopened c s) (sym (status_is ∙ ap (λ (k : List ℕ). record_answer k f) key_is)) (no_record f at_text)
 
-  both_ways : (b : Bool) → b ≡ true → b ≡ false → ⊥
-  both_ways b holds fails = cc
-
   -- the output is one of the inputs
   pub own_refused : (key text : List ℕ) → key ≡ record_key_of job.expr.store_as → text ≡ record_text c.options job → Holds c.new.depot.held key text → is_own_input job.expr ≡ true → IsNotReopened c NoPlan
   own_refused key text key_is text_is holds own =
@@ -213,9 +211,7 @@ module _ (c : RunCase) (job : Job) (between : Shown) (accepted : IsAccepted c jo
           accepted,
           (
             planned,
-            λ entry told premise.
-                let left = premise (held_before c.old.depot c.new.depot (record_key_of job.expr.store_as) (record_text c.options job) entry whole_step told at_text) in
-                absurd (both_ways (is_own_input job.expr) own left.1),
+            inr (own, λ entry told. held_before c.old.depot c.new.depot (record_key_of job.expr.store_as) (record_text c.options job) entry whole_step told at_text),
           ),
         ),
       )

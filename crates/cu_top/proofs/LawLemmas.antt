@@ -77,6 +77,7 @@ module _ (c : RunCase) where
   resume_is_command lack (DepotFailed key) (inr (rose, inr (job, resumed, rest))) = resumed_command job resumed
   resume_is_command lack NoMemory (inl spared) = inl spared
   resume_is_command lack NoMemory (inr (job, resumed, rest)) = resumed_command job resumed
+  resume_is_command lack NoPlan why = inl why.0
   resume_is_command lack status why = unopened_command status why
 
   pub drop_is_command : (status : Status) → Dropped c status → IsOfPlan c

@@ -1,8 +1,8 @@
+mod AbsentTasks
 mod AnsweredLemmas
 mod AskLemmas
 mod CallLemmas
 mod CallLimits
-mod CheckLemmas
 mod Completeness
 mod DemoCalls
 mod DemoFound
@@ -28,6 +28,9 @@ mod RecordLemmas
 mod ReopenLemmas
 mod ResumeServed
 mod RunLemmas
+mod SampleArrays
 mod SampleLemmas
+mod StartsFew
+mod ToldLemmas
 mod VersionLemmas
 mod WordsExample

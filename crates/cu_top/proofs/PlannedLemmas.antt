@@ -20,7 +20,7 @@ use Rattle.cu_top.proofs.CallLemmas.{same_expression, same_text, refused_run}
 use Rattle.cu_top.proofs.Completeness.{none_rose, none_or_some}
 use Rattle.cu_top.specs.Call.{AreSpared, CameToRun, IsExpressionRefused}
 use Rattle.cu_top.specs.Complete.{IsPlannable, IsServed}
-use Rattle.cu_top.specs.Planned.{IsPlanRefused, IsPrinted, Plans, PlanTells}
+use Rattle.cu_top.specs.Planned.{IsPlanRefused, Plans, PlanTells}
 use Rattle.cu_top.specs.Prepare.{unplanned_status, HasPlan}
 use Rattle.cu_top.specs.Run.{Scene, RunCase, case, plan_in, IsAccepted, IsSpared, HasNoJob, WroteTo, Ran}
 
@@ -92,10 +92,6 @@ module _ (options : Options) (old new : Scene) where
   plan_spared (OverLimit which count) (text, read, why) = why.0
   plan_spared status (text, read, why) = absurd why
 
-  -- 0
-  pub plan_printed : (status : Status) → PlanTells options old new status → status ≡ Done → CameToRun options old new IsPrinted
-  plan_printed status tells same = subst (PlanTells options old new) same tells
-
 -- ---- a text that is no expression
 
 module _ (c : RunCase) (f : ExpressionFault) (err : expression_of c.text ≡ Err f) where
@@ -136,15 +132,15 @@ module _ (c : RunCase) (typable : IsTypable c.old.depot c.text) (depot : StoodSt
   served_plan (OverLimit which count) (spared, (job, accepted, why)) = none_or_some _ _ (planned job accepted) why
   served_plan status why = absurd why
 
-module _ (words : List (List ℕ)) (left : List ℕ) (old new : Scene) (told_left : old.source.told ≡ Some left) (premise : IsPlannable words left old.depot)
+module _ (options : Options) (left : List ℕ) (old new : Scene) (told_left : old.source.told ≡ Some left) (premise : IsPlannable options left old.depot)
     (source : StoodStill old.source.faults new.source.faults) (sink : StoodStill old.sink.faults new.sink.faults) (depot : StoodStill old.depot.faults new.depot.faults) where
-  came : (status : Status) → CameToRun premise.options old new (λ c. Plans c status) → IsServed status
+  came : (status : Status) → CameToRun options old new (λ c. Plans c status) → IsServed status
   came status (text, read, why) =
       let same : text ≡ left = same_text left text new.source.told premise.typable.expr (subst (λ (t : Option (List ℕ)). ReadsAll t new.source.told text) told_left read) premise.typable.said in
-      served_plan (case premise.options left old new) premise.typable depot sink premise.planned status (subst (λ (t : List ℕ). Plans (case premise.options t old new) status) same why)
+      served_plan (case options left old new) premise.typable depot sink premise.planned status (subst (λ (t : List ℕ). Plans (case options t old new) status) same why)
 
   -- Where all is accepted and no count of faults rises, the plan is printed, or memory is wanted.
-  pub plan_served : (status : Status) → PlanTells premise.options old new status → IsServed status
+  pub plan_served : (status : Status) → PlanTells options old new status → IsServed status
   plan_served ReadFault tells = none_rose 1 old.source.faults new.source.faults (omega arith) source tells.0
   plan_served NoMemory tells = tt
   plan_served status tells = came status tells

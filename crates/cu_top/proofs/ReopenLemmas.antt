@@ -1,14 +1,16 @@
 -- A plan that is found again: what it was left as, what a run that goes on begins with and comes to.
-use Rattle.std.proofs.Common.{◌≡◌, inl, inr, ℕ, suc, ◌+◌, ◌<◌, ◌≤◌, List, ◌∷◌, ◌++◌, length, Contains, Option, Some, None, Result, Ok, Err, refl, sym, subst, arith}
-use Rattle.std.specs.Prelude.{Bool, ◌↔◌}
+use Rattle.std.proofs.Common.{◌≡◌, inl, inr, ℕ, suc, ◌+◌, ◌<◌, ◌≤◌, List, ◌∷◌, ◌++◌, length, Contains, Option, Some, None, Result, Ok, Err, refl, sym, ◌∙◌, subst, arith}
+use Rattle.std.specs.Prelude.{Bool, true, false, ◌⊎◌, ◌↔◌, if◌then◌else◌}
 use Rattle.std.proofs.lemmas.List.Elements.{Contains-append_right}
 use Rattle.cu_store.specs.Faults.{last_count, Rose}
 use Rattle.cu_store.specs.Held.{Contents, Holds, IsHeldIn}
-use Rattle.cu_store.specs.Steps.{Shown, NoChange, Within, Steps}
+use Rattle.cu_store.specs.Steps.{Shown, NoChange, OrLate, Lands, Within, Steps}
 use Rattle.cu_zarr.specs.Key.{metadata_key_of}
 use Rattle.cu_name.specs.Keys.{record_key_of}
 use Rattle.cu_op.specs.PlanView.{PlanView}
-use Rattle.cu_op.specs.Schedule.{key_of}
+use Rattle.cu_op.specs.Schedule.{key_of, op_of}
+use Rattle.cu_op.specs.Walks.{written_chunks}
+use Rattle.cu_op.specs.declared.cells.Cell.{Cell}
 use Rattle.cu_op.specs.Elements.{Elements}
 use Rattle.cu_history.specs.declared.entry.Entry.{Entry}
 use Rattle.cu_history.specs.History.{is_start, count_of_task}
@@ -16,10 +18,10 @@ use Rattle.cu_state.specs.Left.{IsLeft, RunChange}
 use Rattle.cu_state.specs.Pieces.{PlanRun, Text, piece_key, text_at, HoldsPiece}
 use Rattle.cu_state.proofs.Keeping.{begun_since, piece_stays}
 use Rattle.cu_table.specs.declared.state.Ending.TheVariants.{Broken}
-use Rattle.cu_table.specs.Machine.{Machine, IsDone, opening}
-use Rattle.cu_table.specs.Numbers.{IsTask}
+use Rattle.cu_table.specs.Machine.{Machine, IsDone, opening, state_at}
+use Rattle.cu_table.specs.Numbers.{IsTask, task_count}
 use Rattle.cu_table.specs.Step.{Settings, Replays, Run}
-use Rattle.cu_table.specs.Table.{TableView}
+use Rattle.cu_table.specs.Table.{TableView, undone_weight}
 use Rattle.cu_work.proofs.Searching.{held_stays, told_then, told_first}
 use Rattle.cu_work.specs.Order.{plan_keys}
 use Rattle.cu_work.specs.Search.{NamesTask, NamesStored, IsSearchEnd}
@@ -37,18 +39,20 @@ use Rattle.cu_command.specs.Seen.{Stepped}
 use Rattle.cu_command.proofs.SeenLemmas.{stepped, stepped_then, stepped_wider, stepped_none}
 use Rattle.cu_command.specs.declared.job.Job.{Job}
 use Rattle.cu_command.specs.declared.status.Status.{Status}
-use Rattle.cu_command.specs.declared.status.Status.TheVariants.{Done, TaskFailed, WriteFault, BadChunk, DepotFailed, NoMemory}
+use Rattle.cu_command.specs.declared.status.Status.TheVariants.{Done, TaskFailed, WriteFault, BadChunk, NoPlan, DepotFailed, NoMemory}
 use Rattle.cu_command.specs.Keys.{IsKeyFault}
 use Rattle.cu_lower.specs.declared.options.Options.{Options}
+use Rattle.cu_top.proofs.AbsentTasks.{at_least_absent, at_most_absent, stored_by_test, tests_stored}
+use Rattle.cu_top.specs.Absent.{is_stored}
 use Rattle.cu_top.specs.Driven.{Driven, HasEnded, IsUnrun, MissingPut, IsMissingText, AreHeld, run_counts_in, outcome_answer, fault_answer, drive_answer}
-use Rattle.cu_top.specs.Held.{IsFoundAgain, IsLeftBy, IsLeftEntry, IsNotReopened, IsReopened, WhereEntryTold}
-use Rattle.cu_top.specs.Prepare.{HasNoOwnInput, HasPlan, job_plan, keys_of}
+use Rattle.cu_top.specs.Held.{IsFoundAgain, IsLeftBy, IsLeftEntry, IsNotReopened, IsReopened, WasRecorded, WasUnrecorded, WhereEntryTold}
+use Rattle.cu_top.specs.Prepare.{HasNoOwnInput, HasPlan, is_own_input, job_plan, keys_of}
 use Rattle.cu_top.specs.Quiet.{run_of_job}
 use Rattle.cu_top.specs.Report.{report_line}
-use Rattle.cu_top.specs.Resume.{IsResumed, MetadataPut, HoldsTextsNow, AreFoundDone, HasGoneOn, IsCountedOn, HasRecord, IsRestFault, find_answer, WasResumed, ResumeEnded}
+use Rattle.cu_top.specs.Resume.{IsResumed, MetadataPut, HoldsTextsNow, AreFoundDone, HasGoneOn, IsCountedOn, HasRecord, IsRestFault, WasHeldOrLate, AreOfAbsent, NoChunkWasLate, find_answer, WasResumed, ResumeEnded}
 use Rattle.cu_top.specs.Run.{RunCase, job_run, plan_in, env_of, IsAccepted, settings_of, WroteTo}
 use Rattle.cu_top.specs.declared.report.RunCounts.{RunCounts}
-use Rattle.cu_top.proofs.DriveLemmas.{HistoryLaws, PlanLaws, apart_run, left_start, kept, rose_since, started_case, run_step, left_end, stored, history_of, legal_of, few_failures, broken_task, broken_by, broken_rose}
+use Rattle.cu_top.proofs.DriveLemmas.{HistoryLaws, PlanLaws, apart_run, left_start, kept, rose_since, started_case, run_step, left_end, stored, history_of, legal_of, few_failures, few_starts, broken_task, broken_by, broken_rose}
 use Rattle.cu_top.proofs.HeldLemmas.{held_before}
 use Rattle.cu_top.proofs.PlanLemmas.{lent_within}
 
@@ -64,6 +68,22 @@ pub stored_later : (p : PlanView) (old new : Shown) (held now : Contents) (op ta
 stored_later p old new held now op task step told later stored_all c listed =
     subst (λ (h : Option Contents). IsHeldIn h (key_of p.arrays c)) later
     (still_held old new (key_of p.arrays c) step (subst (λ (h : Option Contents). IsHeldIn h (key_of p.arrays c)) (sym told) (stored_all c listed)))
+
+told_later : (old new : Shown) (held : Contents) → Stepped NoChange old new → old.held ≡ Some held → (now : Contents) × (new.held ≡ Some now)
+told_later old new held step told = told_then NoChange 0 step.calls old new step.step held told
+
+-- a key that is held later was held at first, or a put of it was late
+held_or_late : (c : RunCase) (start : Shown) (entry : Contents) (key : List ℕ) → Stepped NoChange c.old.depot start → c.old.depot.held ≡ Some entry → IsHeldIn start.held key → WasHeldOrLate c entry key
+held_or_late c start entry key step told held = from start.held (subst (λ (h : Option Contents). Lands (OrLate NoChange c.old.depot.late) h start.held) told step.step.lands) held
+  where
+    at : (v : Option (List ℕ)) (bytes : List ℕ) → (v ≡ entry key) ⊎ OrLate NoChange c.old.depot.late key v → v ≡ Some bytes → WasHeldOrLate c entry key
+    at v bytes (inl same) is = inl (bytes, sym same ∙ is)
+    at v bytes (inr (inl none)) is = absurd none
+    at v bytes (inr (inr (own, there, among))) is = inr (own, among)
+
+    from : (h : Option Contents) → Lands (OrLate NoChange c.old.depot.late) (Some entry) h → IsHeldIn h key → WasHeldOrLate c entry key
+    from None lands there = absurd lands
+    from (Some now) lands (bytes, is) = at (now key) bytes (lands key) is
 
 -- ---- a plan that is found again
 
@@ -92,6 +112,7 @@ reopened c job start found laws = record {
   room = lent_within (plan_in c job) laws.sound laws.needs;
   own = found.own;
   apart = apart_run c job laws found.own;
+  had_record = λ entry told. held_before c.old.depot start _ _ entry found.spared told found.record_held;
 }
 
 -- ---- what a run that goes on begins with
@@ -179,14 +200,14 @@ module _ (c : RunCase) (job : Job) where
   missing_key given.Both key has missing = absurd missing
 
   -- what was refused before the tasks
-  pub rest_refused : (lack : Bool) (start : Shown) (status : Status) → IsAccepted c job → HasPlan c.options job → Stepped NoChange c.old.depot start → Stepped NoChange start c.new.depot
+  pub rest_refused : (lack : Bool) (start : Shown) (status : Status) → IsReopened c job → Stepped NoChange c.old.depot start → Stepped NoChange start c.new.depot
       → IsRestFault (c.options.retries + 1) (keys_of c.options job) (start, c.new.depot) status → WasResumed lack c status
-  rest_refused lack start (DepotFailed key) accepted planned first second (rose, listed) = inr (
+  rest_refused lack start (DepotFailed key) back first second (rose, listed) = inr (
     (let earlier = first.step.count in omega (arith, rose, earlier)),
-    inl (stepped_then first second, (job, accepted, (planned, listed))),
+    inl (stepped_then first second, (job, back, listed)),
   )
-  rest_refused lack start NoMemory accepted planned first second none = inl (stepped_then first second)
-  rest_refused lack start status accepted planned first second none = absurd none
+  rest_refused lack start NoMemory back first second none = inl (stepped_then first second)
+  rest_refused lack start status back first second none = absurd none
 
 module _ (c : RunCase) (job : Job) (laws : PlanLaws c job) (start : Shown) (spared : Stepped NoChange c.old.depot start) (back : IsReopened c job)
     (opens_at : WhereEntryTold c job (λ env. IsLeft (job_run c job) env c.old.depot)) (held : HeldTexts) (has : HasRecord held) (done : List Bool) (lack : Bool) (goes : ResumeLaws) (histories : HistoryLaws) where
@@ -214,6 +235,10 @@ module _ (c : RunCase) (job : Job) (laws : PlanLaws c job) (start : Shown) (spar
 
     opening_done : AreFoundDone c job done
     opening_done = record {
+      stored = λ entry op task told is named_task k listed.
+          let (first, e) = told_later c.old.depot start entry spared told in
+          held_or_late c start entry (key_of (plan_in c job).arrays k) spared told
+          (subst (λ (h : Option Contents). IsHeldIn h (key_of (plan_in c job).arrays k)) (sym e) ((found first e).stored op task is named_task k listed));
       found = λ now told.
           let (first, e) = told_first (RunChange (job_run c job) start) 0 last_count start c.new.depot step now told in
           goes.stays (plan_in c job) (job_run c job) start start c.new.depot 0 last_count first now done step e told (found first e);
@@ -232,10 +257,49 @@ module _ (c : RunCase) (job : Job) (laws : PlanLaws c job) (start : Shown) (spar
       texts_now : HoldsTextsNow c job
       texts_now entry told = ends.texts (env_of c job entry) (left_now entry told)
 
+    module _ (entry : Contents) (told : c.old.depot.held ≡ Some entry) where
+      abbrev tasks_undone : ℕ → ℕ → ℕ
+      tasks_undone op task = undone_weight (state_at (plan_in c job) (opening done) op task)
+
+      long : length done ≡ task_count (plan_in c job)
+      long = let (first, e) = told_later c.old.depot start entry spared told in (found first e).tasks
+
+      most_here : (b d : Bool) → (b ≡ true → d ≡ true) → (if d then 0 else 1) ≤ (if b then 0 else 1)
+      most_here true d so = rw (so refl) (omega arith)
+      most_here false true so = omega arith
+      most_here false false so = omega arith
+
+      least_here : (b d : Bool) → (d ≡ true → b ≡ true) → (if b then 0 else 1) ≤ (if d then 0 else 1)
+      least_here b true so = rw (so refl) (omega arith)
+      least_here true false so = omega arith
+      least_here false false so = omega arith
+
+      undone_most : (op task : ℕ) → IsTask (plan_in c job) op task → tasks_undone op task ≤ (if is_stored (plan_in c job) entry op task then 0 else 1)
+      undone_most op task is = most_here (is_stored (plan_in c job) entry op task) (state_at (plan_in c job) (opening done) op task).done
+          (λ passes. (goes.opened (plan_in c job) done op task).1 (named entry told op task is (stored_by_test (plan_in c job) entry op task passes)))
+
+      undone_least : NoChunkWasLate c job → (op task : ℕ) → IsTask (plan_in c job) op task → (if is_stored (plan_in c job) entry op task then 0 else 1) ≤ tasks_undone op task
+      undone_least none op task is = least_here (is_stored (plan_in c job) entry op task) (state_at (plan_in c job) (opening done) op task).done
+          (λ is_done. tests_stored (plan_in c job) entry op task (λ k listed.
+          held_unless entry op task k is listed (opening_done.stored entry op task told is ((goes.opened (plan_in c job) done op task).0 is_done) k listed)))
+        where
+          held_unless : (e : Contents) (op task : ℕ) (k : Cell) → IsTask (plan_in c job) op task → Contains (written_chunks (plan_in c job).arrays (op_of (plan_in c job) op) task) k
+              → WasHeldOrLate c e (key_of (plan_in c job).arrays k) → (bytes : List ℕ) × (e (key_of (plan_in c job).arrays k) ≡ Some bytes)
+          held_unless e op task k is listed (inl held_there) = held_there
+          held_unless e op task k is listed (inr (bytes, among)) = absurd (none op task k bytes is listed among)
+
+      of_absent : (t : TableView) → HasEnded (started_case c job laws start spared held done lack) ended.Complete t → AreOfAbsent c job entry (run_counts_in t.history)
+      of_absent t ends = record {
+        most = λ alone. let whole = ends.counts.1 alone in let few = at_most_absent (plan_in c job) done long entry undone_most in omega (arith, whole, few);
+        least = λ none. let some = ends.counts.0 in let many = at_least_absent (plan_in c job) done long entry (undone_least none) in omega (arith, some, many);
+      }
+
     counted_on : (t : TableView) → HasEnded (started_case c job laws start spared held done lack) ended.Complete t → IsCountedOn c job (run_counts_in t.history)
     counted_on t ends = (
       (done, t.history, t.state, gone_on ended.Complete t ends, (ends.driven.decided.1, refl, ends.counts.0, ends.counts.1)),
       few_failures c job laws start spared held done lack ended.Complete t ends ends.driven.decided.0,
+      few_starts c job laws start spared held done lack ended.Complete t ends,
+      λ entry told. of_absent entry told t ends,
     )
 
     absent_at_first : (t : TableView) (op task : ℕ) → HasEnded (started_case c job laws start spared held done lack) (ended.Broken op task) t → (entry : Contents) → c.old.depot.held ≡ Some entry
@@ -306,11 +370,23 @@ pub resume_unreported : (lack : Bool) (c : RunCase) (job : Job) (n : RunCounts) 
 resume_unreported lack c job n h rose wrote = (rose, (job, h.0, (h.1, (n, h.2, wrote))))
 
 -- what refused the plan
-pub not_reopened : (lack : Bool) (c : RunCase) (status : Status) → IsNotReopened c status → WasResumed lack c status
-not_reopened lack c (DepotFailed key) why = inl why
-not_reopened lack c NoMemory why = inl why
-not_reopened lack c Done why = absurd why
-not_reopened lack c WriteFault why = absurd why
-not_reopened lack c (TaskFailed op task) why = absurd why
-not_reopened lack c (BadChunk key got want) why = absurd why
-not_reopened lack c status why = why
+both_ways : (b : Bool) → b ≡ true → b ≡ false → ⊥
+both_ways b holds fails = cc
+
+module _ (lack : Bool) (c : RunCase) (premise : IsLeftEntry c.options c.text c.old.depot) where
+  -- where the premise holds and the record was there, no node reads the output
+  no_own : (job : Job) → IsAccepted c job → HasPlan c.options job → (is_own_input job.expr ≡ true) × WasRecorded c job → WasUnrecorded c job
+  no_own job accepted planned (own, was) entry told =
+      let left = subst (λ (h : Option Contents). IsLeftBy (job_run c job) c.old.depot h (HasNoOwnInput job.expr)) told (premise job accepted planned) (was entry told) in
+      absurd (both_ways (is_own_input job.expr) own left.1)
+
+  pub not_reopened : (status : Status) → IsNotReopened c status → WasResumed lack c status
+  not_reopened NoPlan (spared, (job, accepted, (planned, inl none))) = (spared, (job, accepted, (planned, none)))
+  not_reopened NoPlan (spared, (job, accepted, (planned, inr own))) = (spared, (job, accepted, (planned, no_own job accepted planned own)))
+  not_reopened (DepotFailed key) why = inl why
+  not_reopened NoMemory why = inl why
+  not_reopened Done why = absurd why
+  not_reopened WriteFault why = absurd why
+  not_reopened (TaskFailed op task) why = absurd why
+  not_reopened (BadChunk key got want) why = absurd why
+  not_reopened status why = why

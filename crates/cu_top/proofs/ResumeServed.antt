@@ -30,6 +30,7 @@ use Rattle.cu_command.specs.declared.status.Status.{Status}
 use Rattle.cu_command.specs.declared.status.Status.TheVariants.{Done, BadExpr, BadType, OverMemory, OverLimit, BadMeta, NoArray, TaskFailed, ReadFault, WriteFault, BadChunk, OtherPlan, NoPlan, DepotFailed, NoMemory}
 use Rattle.cu_top.proofs.CallLemmas.{same_text}
 use Rattle.cu_top.proofs.Completeness.{none_rose, none_or_some, length_before, lands_told}
+use Rattle.cu_lower.specs.declared.options.Options.{Options}
 use Rattle.cu_top.specs.Call.{CameToRun}
 use Rattle.cu_top.specs.Complete.{AreWhole, HasWholeInputs, IsLeftRecorded, IsResumable, IsResumeCause, IsServed}
 use Rattle.cu_top.specs.Held.{HoldsOther}
@@ -169,7 +170,7 @@ module _ (c : RunCase) (entry : Contents) (told : c.old.depot.held ≡ Some entr
   resume_cause lack NoMemory why = tt
   resume_cause lack (OtherPlan place) (spared, (job, accepted, (planned, other))) = never_other c job entry (rest job accepted) place spared other
   resume_cause lack NoPlan (spared, (job, accepted, (planned, none))) =
-      absent_or (entry (record_key_of job.expr.store_as)) (record_text c.options job) (none entry told (λ there. ((rest job accepted).left, (rest job accepted).own))) (rest job accepted).recorded
+      absent_or (entry (record_key_of job.expr.store_as)) (record_text c.options job) (none entry told) (rest job accepted).recorded
   resume_cause lack (BadExpr code node) why = never_unread (fault.Expression code node) why (λ e. cc) (λ key e. cc)
   resume_cause lack (BadType code node) why = never_unread (fault.Typing code node) why (λ e. cc) (λ key e. cc)
   resume_cause lack (BadMeta name code) why = never_unread (fault.BadMeta name code) why (λ e. cc) (λ key e. cc)
@@ -207,24 +208,24 @@ module _ (c : RunCase) (entry : Contents) (told : c.old.depot.held ≡ Some entr
 
 -- ---- the call
 
-module _ (words : List (List ℕ)) (left : List ℕ) (entry : Contents) (old new : Scene) (told_left : old.source.told ≡ Some left) (told : old.depot.held ≡ Some entry)
-    (premise : IsResumable words left entry old.depot) where
-  came : (fact : RunCase → Type 0) → CameToRun premise.options old new fact → fact (case premise.options left old new)
+module _ (options : Options) (left : List ℕ) (entry : Contents) (old new : Scene) (told_left : old.source.told ≡ Some left) (told : old.depot.held ≡ Some entry)
+    (premise : IsResumable options left entry old.depot) where
+  came : (fact : RunCase → Type 0) → CameToRun options old new fact → fact (case options left old new)
   came fact (text, read, ran) =
       let same : text ≡ left = same_text left text new.source.told premise.typable.expr (subst (λ (t : Option (List ℕ)). ReadsAll t new.source.told text) told_left read) premise.typable.said in
-      subst (λ (t : List ℕ). fact (case premise.options t old new)) same ran
+      subst (λ (t : List ℕ). fact (case options t old new)) same ran
 
   -- a run that goes on from its record fails by these causes alone
-  pub caused : (lack : Bool) (status : Status) → ResumeTells lack premise.options old new status → IsResumeCause status
+  pub caused : (lack : Bool) (status : Status) → ResumeTells lack options old new status → IsResumeCause status
   caused lack ReadFault tells = tt
   caused lack NoMemory tells = tt
-  caused lack status tells = resume_cause (case premise.options left old new) entry told premise.typable premise.rest lack status (came (λ c. WasResumed lack c status) tells)
+  caused lack status tells = resume_cause (case options left old new) entry told premise.typable premise.rest lack status (came (λ c. WasResumed lack c status) tells)
 
-  module _ (whole : HasWholeInputs premise.options left entry old.depot) (source : StoodStill old.source.faults new.source.faults) (sink : StoodStill old.sink.faults new.sink.faults)
+  module _ (whole : HasWholeInputs options left entry old.depot) (source : StoodStill old.source.faults new.source.faults) (sink : StoodStill old.sink.faults new.sink.faults)
       (depot : StoodStill old.depot.faults new.depot.faults) where
     -- where nothing fails, it is carried out, or memory is wanted
-    pub went_on : (lack : Bool) (status : Status) → ResumeTells lack premise.options old new status → IsServed status
+    pub went_on : (lack : Bool) (status : Status) → ResumeTells lack options old new status → IsServed status
     went_on lack ReadFault tells = none_rose 1 old.source.faults new.source.faults (omega arith) source tells.0
     went_on lack NoMemory tells = tt
     went_on lack status tells =
-        resume_served (case premise.options left old new) entry told premise.typable premise.rest whole depot sink lack status (came (λ c. WasResumed lack c status) tells)
+        resume_served (case options left old new) entry told premise.typable premise.rest whole depot sink lack status (came (λ c. WasResumed lack c status) tells)

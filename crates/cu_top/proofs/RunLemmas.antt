@@ -44,7 +44,7 @@ use Rattle.cu_top.specs.Quiet.{IsCalm, IsCalmFor}
 use Rattle.cu_top.specs.Run.{RunCase, job_run, plan_in, env_of, IsAccepted, IsStarted, IsCleared, WhereQuiet, WroteTo, IsCounted, IsStop, TextPut, Ran, Ended, PrintsOnly}
 use Rattle.cu_top.specs.Report.{report_line}
 use Rattle.cu_top.specs.declared.report.RunCounts.{RunCounts}
-use Rattle.cu_top.proofs.DriveLemmas.{HistoryLaws, PlanLaws, apart_run, open_start, left_start, rose_since, started_case, run_step, left_end, stored, history_of, few_failures, broken_task, broken_by, broken_rose}
+use Rattle.cu_top.proofs.DriveLemmas.{HistoryLaws, PlanLaws, apart_run, open_start, left_start, rose_since, started_case, run_step, left_end, stored, history_of, few_failures, few_starts, broken_task, broken_by, broken_rose}
 use Rattle.cu_top.proofs.PlanLemmas.{lent_within}
 use Rattle.cu_table.specs.Numbers.{task_count}
 
@@ -193,6 +193,7 @@ module _ (c : RunCase) (job : Job) (laws : PlanLaws c job) (start : Shown) (clea
             omega (arith, least, all, length_is),
             λ alone. (let exactly = ends.counts.1 alone in omega (arith, exactly, all, length_is)),
             few_failures c job laws start cleared.spared Neither none lack ended.Complete t ends ends.driven.decided.0,
+            few_starts c job laws start cleared.spared Neither none lack ended.Complete t ends,
           )
 
       -- what a run comes to whose tasks were run

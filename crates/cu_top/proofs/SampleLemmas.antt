@@ -37,12 +37,11 @@ use Rattle.cu_command.specs.Job.{IsJob, IsTypable}
 use Rattle.cu_command.specs.Stored.{StoresLayout}
 use Rattle.cu_command.specs.declared.job.Job.{Job}
 use Rattle.cu_lower.specs.Parts.{made_layout}
-use Rattle.cu_lower.specs.declared.options.Options.{Options}
 use Rattle.cu_state.specs.Pieces.{IsInputChunk}
 use Rattle.cu_work.specs.Order.{IsFree, plan_keys}
 use Rattle.cu_top.specs.Complete.{AreWhole, IsAtRest, IsPlannable, IsServable}
 use Rattle.cu_top.specs.Prepare.{asked_keys, is_own_input, job_plan}
-use Rattle.cu_top.specs.Sample.{sample_input, sample_layout, sample_metadata, sample_chunk, sample_held, sample_shown, sample_late, sample_text, sample_run, sample_plan}
+use Rattle.cu_top.specs.Sample.{sample_options, sample_input, sample_layout, sample_metadata, sample_chunk, sample_held, sample_shown, sample_late, sample_text, sample_run, sample_plan}
 use Rattle.cu_words.specs.Words.{line_given}
 use Rattle.cu_top.specs.Words.{command_of, plan, run}
 
@@ -55,9 +54,6 @@ infos = info_of Int16 (7 ∷ []) (5 ∷ []) ∷ info_of Int16 (7 ∷ []) (3 ∷ 
 abbrev inputs : List InputInfo
 inputs = sample_input ∷ []
 
-abbrev options : Options
-options = record { allowed = 64; reserved = 0; split_every = 4; retries = 2; workers = 1; backups = false }
-
 said : expression_of sample_text ≡ Ok copied
 unfolding expression_of sample_text serde_json_on_literals is_utf8 chars
 said = refl
@@ -65,14 +61,14 @@ said = refl
 has_types : typed inputs copied ≡ Ok infos
 has_types = refl
 
-has_plan : refusal_of options copied infos ≡ None
+has_plan : refusal_of sample_options copied infos ≡ None
 has_plan = refl
 
-run_given : command_of sample_run ≡ Ok (run options)
+pub run_given : command_of sample_run ≡ Ok (run sample_options)
 unfolding command_of line_given
 run_given = refl
 
-plan_given : command_of sample_plan ≡ Ok (plan options)
+pub plan_given : command_of sample_plan ≡ Ok (plan sample_options)
 unfolding command_of line_given
 plan_given = refl
 
@@ -126,7 +122,7 @@ typable = record {
 -- ---- the plan
 
 abbrev copy_plan : PlanView
-copy_plan = merged_plan_of copied infos inputs options
+copy_plan = merged_plan_of copied infos inputs sample_options
 
 keys_are : plan_keys copy_plan (length copy_plan.ops) ≡ codes "y/c/0" ∷ codes "y/c/1" ∷ codes "y/c/2" ∷ []
 unfolding merged_plan_of digits
@@ -239,26 +235,26 @@ module _ (job : Job) (is : IsJob sample_shown sample_text job) where
       same_types job.types infos
       (subst (λ (e : Expression). typed inputs e ≡ Ok job.types) expr_is (subst (λ (is : List InputInfo). typed is job.expr ≡ Ok job.types) inputs_are is.types)) has_types
 
-  plan_is : job_plan options job ≡ copy_plan
+  plan_is : job_plan sample_options job ≡ copy_plan
   plan_is =
-      ap (λ (e : Expression). merged_plan_of e job.types job.inputs.items options) expr_is ∙ ap (λ (ts : List NodeInfo). merged_plan_of copied ts job.inputs.items options) types_are
-      ∙ ap (λ (is : List InputInfo). merged_plan_of copied infos is options) inputs_are
+      ap (λ (e : Expression). merged_plan_of e job.types job.inputs.items sample_options) expr_is ∙ ap (λ (ts : List NodeInfo). merged_plan_of copied ts job.inputs.items sample_options) types_are
+      ∙ ap (λ (is : List InputInfo). merged_plan_of copied infos is sample_options) inputs_are
 
-  asked_are : asked_keys options job ≡ six_keys
+  asked_are : asked_keys sample_options job ≡ six_keys
   asked_are =
-      ap (λ (e : Expression). record_key_of e.store_as ∷ metadata_key_of e.store_as ∷ zarray_key_of e.store_as ∷ plan_keys (job_plan options job) (length (job_plan options job).ops)) expr_is
+      ap (λ (e : Expression). record_key_of e.store_as ∷ metadata_key_of e.store_as ∷ zarray_key_of e.store_as ∷ plan_keys (job_plan sample_options job) (length (job_plan sample_options job).ops)) expr_is
       ∙ ap (λ (p : PlanView). record_key_of (codes "y") ∷ metadata_key_of (codes "y") ∷ zarray_key_of (codes "y") ∷ plan_keys p (length p.ops)) plan_is
       ∙ ap (λ (ks : List (List ℕ)). record_key_of (codes "y") ∷ metadata_key_of (codes "y") ∷ zarray_key_of (codes "y") ∷ ks) keys_are
 
-  planned : refusal_of options job.expr job.types ≡ None
-  planned = subst (λ (e : Expression). refusal_of options e job.types ≡ None) (sym expr_is) (subst (λ (ts : List NodeInfo). refusal_of options copied ts ≡ None) (sym types_are) has_plan)
+  planned : refusal_of sample_options job.expr job.types ≡ None
+  planned = subst (λ (e : Expression). refusal_of sample_options e job.types ≡ None) (sym expr_is) (subst (λ (ts : List NodeInfo). refusal_of sample_options copied ts ≡ None) (sym types_are) has_plan)
 
-  whole_plan : AreWhole (job_plan options job) sample_held
+  whole_plan : AreWhole (job_plan sample_options job) sample_held
   whole_plan k bytes =
-      let arrays : (job_plan options job).arrays ≡ copy_arrays = ap (λ (p : PlanView). p.arrays) plan_is ∙ arrays_are in
+      let arrays : (job_plan sample_options job).arrays ≡ copy_arrays = ap (λ (p : PlanView). p.arrays) plan_is ∙ arrays_are in
       subst (λ (xs : List ArrayInfo). IsInputChunk xs k → sample_held (key_of xs k) ≡ Some bytes → length bytes ≡ chunk_room xs k.array) (sym arrays) (whole k bytes)
 
-  at_rest : IsAtRest options job sample_held sample_shown
+  at_rest : IsAtRest sample_options job sample_held sample_shown
   at_rest = record {
     planned = planned;
     own = subst (λ (e : Expression). is_own_input e ≡ false) (sym expr_is) refl;
@@ -268,8 +264,8 @@ module _ (job : Job) (is : IsJob sample_shown sample_text job) where
     whole = whole_plan;
   }
 
-pub servable : IsServable sample_run sample_text sample_held sample_shown
-servable = record { options = options; words_give = run_given; typable = typable; rest = at_rest }
+pub servable : IsServable sample_options sample_text sample_held sample_shown
+servable = record { typable = typable; rest = at_rest }
 
-pub plannable : IsPlannable sample_plan sample_text sample_shown
-plannable = record { options = options; words_give = plan_given; typable = typable; planned = planned }
+pub plannable : IsPlannable sample_options sample_text sample_shown
+plannable = record { typable = typable; planned = planned }

@@ -1,83 +1,286 @@
--- What the call answers, by the command that the words give. This project's own rules.
-use Rattle.std.specs.Prelude.{◌≡◌, ℕ, ◌+◌, Bool, List, Result, Ok, Err}
-use Rattle.cu_check.specs.Check.{Checked, ChecksWithin}
-use Rattle.cu_command.specs.Seen.{Seen, seen}
+-- What the call `top` answers: a record for each command, and in it a line for each answer, which
+-- says what is so where this answer comes. This project's own rules.
+use Rattle.std.specs.Prelude.{◌≡◌, ◌⊎◌, ℕ, ℤ, ◌+◌, Bool, List, Option, Some, Err}
+use Rattle.cu_check.specs.Check.{Checked, ChecksWithin, IsFoundEqual, IsUnequal, ReadsText}
+use Rattle.cu_command.specs.Job.{StoodStill}
+use Rattle.cu_command.specs.Seen.{stream}
+use Rattle.cu_command.specs.declared.job.JobFault.TheVariants as fault
 use Rattle.cu_command.specs.declared.status.Status.{Status}
-use Rattle.cu_command.specs.declared.status.Status.TheVariants.{BadWords}
+use Rattle.cu_command.specs.declared.status.Status.TheVariants.{Done, BadExpr, BadType, OverMemory}
+use Rattle.cu_command.specs.declared.status.Status.TheVariants.{OverLimit, BadMeta, NoArray, Exists}
+use Rattle.cu_command.specs.declared.status.Status.TheVariants.{TaskFailed, ReadFault, WriteFault}
+use Rattle.cu_command.specs.declared.status.Status.TheVariants.{BadChunk, OtherPlan, NoPlan}
+use Rattle.cu_command.specs.declared.status.Status.TheVariants.{DepotFailed, Unequal, NoMemory}
 use Rattle.cu_load.specs.Load.{Loaded, LoadsWithin}
 use Rattle.cu_lower.specs.declared.options.Options.{Options}
 use Rattle.cu_print.specs.Print.{Printed, PrintsWithin}
-use Rattle.cu_top.specs.Call.{DidNothing, IsWordsRefused, RunTells}
+use Rattle.cu_read.specs.Read.{expression_of}
+use Rattle.cu_read.specs.declared.faults.ReadFault.{ReadFault as ExpressionFault}
+use Rattle.cu_store.specs.Held.{Contents}
+use Rattle.cu_store.specs.Steps.{Shown}
+use Rattle.cu_top.specs.Call.{AreSpared, CameToRun, IsExpressionRefused, IsReadFault, IsShort}
+use Rattle.cu_top.specs.Call.{RunTells}
 use Rattle.cu_top.specs.Calls.{RunsWithin, ResumesWithin, DropsWithin, DemosWithin}
-use Rattle.cu_top.specs.Demo.{DemoTells, demo_case}
-use Rattle.cu_top.specs.Drop.{DropTells}
-use Rattle.cu_top.specs.Planned.{PlanTells, PlansWithin}
-use Rattle.cu_top.specs.Resume.{ResumeTells}
-use Rattle.cu_top.specs.Run.{Scene, PrintsOnly}
-use Rattle.cu_top.specs.Words.{Command, run, resume, drop, plan, load, check, print, demo}
+use Rattle.cu_top.specs.Complete.{FewFailed, HasWholeInputs, IsNotGivenUp, IsPlannable}
+use Rattle.cu_top.specs.Complete.{IsResumable, IsResumeCause, IsServable, IsServed}
+use Rattle.cu_top.specs.Demo.{DemoTells, IsDemoAsked, IsDemoAtRest, IsDemoBadChunk}
+use Rattle.cu_top.specs.Demo.{IsDemoDone, IsDemoKeyFailed, IsDemoShort, IsDemoTaskFailed}
+use Rattle.cu_top.specs.Demo.{IsDemoUnplanned, IsDemoUnprinted, demo_between}
+use Rattle.cu_top.specs.Drop.{DropTells, IsDropFailed, IsDropShort, IsDropped}
+use Rattle.cu_top.specs.Drop.{IsDroppedUnreported}
+use Rattle.cu_top.specs.Held.{HasNoRecord, IsOtherPlan}
+use Rattle.cu_top.specs.Planned.{IsPrinted, IsUnprinted, PlansWithin, PlanTells}
+use Rattle.cu_top.specs.Resume.{HadNoRecord, IsResumeFailed, IsResumeShort, IsResumedBad, IsResumedBroken}
+use Rattle.cu_top.specs.Resume.{IsResumedDone, IsResumedUnreported, ResumeTells}
+use Rattle.cu_top.specs.Run.{Scene, scene, IsRunDone, IsUnreported, IsTaskFailed, IsBadInput}
+use Rattle.cu_top.specs.Run.{IsDepotFailed, HasNoJob, HasNoPlan, IsBlocked, IsMissing, IsRefused}
+use Rattle.cu_top.specs.Run.{IsBadExpr, IsBadType, PrintsOnly, seen_in}
 
--- the sink and the depot
-abbrev pub seen_in : Scene → Seen
-seen_in s = seen s.sink s.depot
+-- what is seen at one moment of the source, with its count of faults, of the sink, with its, and of
+-- the depot
+abbrev pub moment : Option (List ℕ) → ℕ → Option (List ℕ) → ℕ → Shown → Scene
+moment left read_faults written write_faults shown =
+    scene (stream left read_faults) (stream written write_faults) shown
 
--- ---- what a command with these arguments answers, what is printed, what is left of the source, and how many calls are made
+-- no count of faults has risen
+pub record NothingFailed (old new : Scene) : Type 0 where
+  pub source : StoodStill old.source.faults new.source.faults
+  pub sink : StoodStill old.sink.faults new.sink.faults
+  pub depot : StoodStill old.depot.faults new.depot.faults
 
-pub record RunAnswered (lack : Bool) (options : Options) (old new : Scene) (status : Status) : Type 0 where
-  pub tells : RunTells lack options old new status
+-- ---- what refuses a text, by `run`, `resume`, `drop` and `plan`; nothing is stored then
+
+pub record TextAnswered (o : Options) (old new : Scene) (status : Status) : Type 0 where
+  -- 3: it is no expression
+  pub bad_expr : (code node : ℕ) → status ≡ BadExpr code node
+      → CameToRun o old new (λ c. IsBadExpr c code node)
+  -- 4: the expression has no types
+  pub bad_type : (code node : ℕ) → status ≡ BadType code node
+      → CameToRun o old new (λ c. IsBadType c code node)
+  -- 5: a live node needs more than is allowed
+  pub over_memory : (node need allowed : ℕ) → status ≡ OverMemory node need allowed
+      → CameToRun o old new (λ c. HasNoPlan c (OverMemory node need allowed))
+  -- 6: the plan exceeds a limit
+  pub over_limit : (which count : ℕ) → status ≡ OverLimit which count
+      → CameToRun o old new (λ c. HasNoPlan c (OverLimit which count))
+  -- 7: the metadata of an input is refused
+  pub bad_meta : (name : List ℕ) (code : ℕ) → status ≡ BadMeta name code
+      → CameToRun o old new (λ c. IsRefused c name code)
+  -- 8: an input has none
+  pub no_array : (name : List ℕ) → status ≡ NoArray name
+      → CameToRun o old new (λ c. IsMissing c name)
+  -- 11: the source failed
+  pub read_fault : status ≡ ReadFault → IsReadFault old new
+  -- a text that is no expression is answered so, with its first fault, unless it wasn't read
+  pub refused_text : (text : List ℕ) (f : ExpressionFault) → old.source.told ≡ Some text
+      → expression_of text ≡ Err f → IsExpressionRefused f status
+
+-- ---- `run`
+
+pub record RunAnswered (lack : Bool) (o : Options) (old new : Scene) (status : Status)
+    : Type 0 where
+  -- 0: the output is complete and means the expression, and the whole report was written
+  pub done : status ≡ Done → CameToRun o old new IsRunDone
+  -- 12: the same, but the sink failed
+  pub unreported : status ≡ WriteFault → CameToRun o old new IsUnreported
+  -- 10: this task failed as often as it is tried, and ended the run
+  pub task_failed : (op task : ℕ) → status ≡ TaskFailed op task
+      → CameToRun o old new (λ c. IsTaskFailed c op task)
+  -- 13: this chunk of an input has another length
+  pub bad_chunk : (key : List ℕ) (got want : ℕ) → status ≡ BadChunk key got want
+      → CameToRun o old new (λ c. IsBadInput c key got want)
+  -- 16: all calls for this key failed
+  pub depot_failed : (key : List ℕ) → status ≡ DepotFailed key
+      → CameToRun o old new (λ c. IsDepotFailed c key)
+  -- 9: this key is in the way
+  pub exists : (key : List ℕ) → status ≡ Exists key
+      → CameToRun o old new (λ c. IsBlocked c key)
+  -- 70: memory was wanted
+  pub no_memory : status ≡ NoMemory → IsShort lack o old new
+  -- 3 to 8, and 11
+  pub refused : TextAnswered o old new status
+  -- the table of all answers: no other comes
+  pub runs : RunTells lack o old new status
+  -- nothing but the report is printed
   pub prints : PrintsOnly status old.sink.told new.sink.told
-  pub calls : RunsWithin options old new status
+  -- where all is accepted and at rest and nothing fails, it is served: Done, or memory was wanted
+  pub complete : (text : List ℕ) (entry : Contents) → old.source.told ≡ Some text
+      → old.depot.held ≡ Some entry → IsServable o text entry old.depot → NothingFailed old new
+      → IsServed status
+  -- how many calls of the depot it makes at most
+  pub calls : RunsWithin o old new status
+  -- where few calls fail, neither a task nor a key is given up
+  pub few_failures : FewFailed o.retries old.depot new.depot → IsNotGivenUp status
 
-pub record ResumeAnswered (lack : Bool) (options : Options) (old new : Scene) (status : Status) : Type 0 where
-  pub tells : ResumeTells lack options old new status
-  pub prints : PrintsOnly status old.sink.told new.sink.told
-  pub calls : ResumesWithin options old new status
+-- ---- `resume`
 
-pub record DropAnswered (options : Options) (old new : Scene) (status : Status) : Type 0 where
-  pub tells : DropTells options old new status
+pub record ResumeAnswered (lack : Bool) (o : Options) (old new : Scene) (status : Status)
+    : Type 0 where
+  -- 0: the output is complete and means the expression, and the whole report was written
+  pub done : status ≡ Done → CameToRun o old new IsResumedDone
+  -- 12: the same, but the sink failed
+  pub unreported : status ≡ WriteFault → CameToRun o old new IsResumedUnreported
+  -- 10: this task failed as often as it is tried, and ended the run
+  pub task_failed : (op task : ℕ) → status ≡ TaskFailed op task
+      → CameToRun o old new (λ c. IsResumedBroken c op task)
+  -- 13: this chunk of an input has another length
+  pub bad_chunk : (key : List ℕ) (got want : ℕ) → status ≡ BadChunk key got want
+      → CameToRun o old new (λ c. IsResumedBad c key got want)
+  -- 14: the record is another plan's
+  pub other_plan : (place : ℕ) → status ≡ OtherPlan place
+      → CameToRun o old new (λ c. IsOtherPlan c place)
+  -- 15: there was no record
+  pub no_plan : status ≡ NoPlan → CameToRun o old new HadNoRecord
+  -- 16: all calls for this key failed
+  pub depot_failed : (key : List ℕ) → status ≡ DepotFailed key
+      → CameToRun o old new (λ c. IsResumeFailed c key)
+  -- 70: memory was wanted
+  pub no_memory : status ≡ NoMemory
+      → AreSpared old new ⊎ CameToRun o old new (IsResumeShort lack)
+  -- 3 to 8, and 11
+  pub refused : TextAnswered o old new status
+  -- the table of all answers: no other comes
+  pub resumes : ResumeTells lack o old new status
+  -- nothing but the report is printed
   pub prints : PrintsOnly status old.sink.told new.sink.told
-  pub calls : DropsWithin options old new status
+  -- from its record and what its plan left, it fails by few causes alone
+  pub causes : (text : List ℕ) (entry : Contents) → old.source.told ≡ Some text
+      → old.depot.held ≡ Some entry → IsResumable o text entry old.depot → IsResumeCause status
+  -- where, besides, each chunk of an input is absent or whole and nothing fails, it is served
+  pub complete : (text : List ℕ) (entry : Contents) → old.source.told ≡ Some text
+      → old.depot.held ≡ Some entry → IsResumable o text entry old.depot
+      → HasWholeInputs o text entry old.depot → NothingFailed old new → IsServed status
+  -- how many calls of the depot it makes at most
+  pub calls : ResumesWithin o old new status
+  -- where few calls fail, neither a task nor a key is given up
+  pub few_failures : FewFailed o.retries old.depot new.depot → IsNotGivenUp status
 
-pub record PlanAnswered (options : Options) (old new : Scene) (status : Status) : Type 0 where
-  pub tells : PlanTells options old new status
+-- ---- `drop`
+
+pub record DropAnswered (o : Options) (old new : Scene) (status : Status) : Type 0 where
+  -- 0: all keys of the plan are gone, and the whole report was written
+  pub done : status ≡ Done → CameToRun o old new IsDropped
+  -- 12: the same, but the sink failed
+  pub unreported : status ≡ WriteFault → CameToRun o old new IsDroppedUnreported
+  -- 14: the record is another plan's
+  pub other_plan : (place : ℕ) → status ≡ OtherPlan place
+      → CameToRun o old new (λ c. IsOtherPlan c place)
+  -- 15: there was no record, or a node reads the output
+  pub no_plan : status ≡ NoPlan → CameToRun o old new HasNoRecord
+  -- 16: all calls for this key failed
+  pub depot_failed : (key : List ℕ) → status ≡ DepotFailed key
+      → CameToRun o old new (λ c. IsDropFailed c key)
+  -- 70: memory was wanted
+  pub no_memory : status ≡ NoMemory → AreSpared old new ⊎ CameToRun o old new IsDropShort
+  -- 3 to 8, and 11
+  pub refused : TextAnswered o old new status
+  -- the table of all answers: no other comes
+  pub drops : DropTells o old new status
+  -- nothing but the report is printed
   pub prints : PrintsOnly status old.sink.told new.sink.told
-  pub calls : PlansWithin (options.retries + 1) old.source new.source old.depot new.depot
+  -- how many calls of the depot it makes at most
+  pub calls : DropsWithin o old new status
+  -- where few calls fail, no key is given up
+  pub few_failures : FewFailed o.retries old.depot new.depot → IsNotGivenUp status
+
+-- ---- `plan`
+
+pub record PlanAnswered (o : Options) (old new : Scene) (status : Status) : Type 0 where
+  -- 0: the whole text of the plan was written
+  pub planned : status ≡ Done → CameToRun o old new IsPrinted
+  -- 12: the same, but the sink failed
+  pub unprinted : status ≡ WriteFault → CameToRun o old new IsUnprinted
+  -- 16: all calls for the metadata of an input failed
+  pub depot_failed : (key : List ℕ) → status ≡ DepotFailed key
+      → CameToRun o old new (λ c. HasNoJob c (fault.DepotFailed key))
+  -- 3 to 8, and 11
+  pub refused : TextAnswered o old new status
+  -- the table of all answers: no other comes
+  pub plans : PlanTells o old new status
+  -- nothing is stored
+  pub spared : AreSpared old new
+  -- nothing but the plan is printed
+  pub prints : PrintsOnly status old.sink.told new.sink.told
+  -- where all is accepted and nothing fails, it is served
+  pub complete : (text : List ℕ) → old.source.told ≡ Some text → IsPlannable o text old.depot
+      → NothingFailed old new → IsServed status
+  -- how many calls of the depot it makes at most
+  pub calls : PlansWithin (o.retries + 1) old.source new.source old.depot new.depot
+  -- where few calls fail, no key is given up
+  pub few_failures : FewFailed o.retries old.depot new.depot → IsNotGivenUp status
+
+-- ---- `demo`
+
+pub record DemoAnswered (lack : Bool) (size : ℕ) (o : Options) (old new : Scene) (status : Status)
+    : Type 0 where
+  -- 0: the output is complete and means the expression, and both lines were written
+  pub demonstrated : status ≡ Done → IsDemoDone (demo_between size o old new)
+  -- 12: the same, but the sink failed
+  pub unprinted : status ≡ WriteFault → IsDemoUnprinted (demo_between size o old new)
+  -- 5: a live node needs more than is allowed
+  pub over_memory : (node need allowed : ℕ) → status ≡ OverMemory node need allowed
+      → IsDemoUnplanned (demo_between size o old new) (OverMemory node need allowed)
+  -- 6: the plan exceeds a limit
+  pub over_limit : (which count : ℕ) → status ≡ OverLimit which count
+      → IsDemoUnplanned (demo_between size o old new) (OverLimit which count)
+  -- 9: this key is in the way
+  pub exists : (key : List ℕ) → status ≡ Exists key
+      → IsDemoAsked (demo_between size o old new) (Exists key)
+  -- 10: this task failed as often as it is tried, and ended the run
+  pub task_failed : (op task : ℕ) → status ≡ TaskFailed op task
+      → IsDemoTaskFailed lack (demo_between size o old new) op task
+  -- 13: only where the depot tells no contents
+  pub bad_chunk : (key : List ℕ) (got want : ℕ) → status ≡ BadChunk key got want
+      → IsDemoBadChunk lack (demo_between size o old new) key got want
+  -- 16: all calls for this key failed
+  pub depot_failed : (key : List ℕ) → status ≡ DepotFailed key
+      → IsDemoKeyFailed lack (demo_between size o old new) key
+  -- 70: memory was wanted
+  pub no_memory : status ≡ NoMemory → IsDemoShort lack (demo_between size o old new)
+  -- the table of all answers: no other comes
+  pub demos : DemoTells lack (demo_between size o old new) status
+  -- nothing is read of the source
+  pub kept : new.source.told ≡ old.source.told
+  -- where its plan is accepted, nothing is in the way and nothing fails, it is served
+  pub complete : (entry : Contents) → old.depot.held ≡ Some entry
+      → IsDemoAtRest o size entry old.depot → StoodStill old.sink.faults new.sink.faults
+      → StoodStill old.depot.faults new.depot.faults → IsServed status
+  -- how many calls of the depot it makes at most
+  pub calls : DemosWithin (demo_between size o old new) status
+  -- where few calls fail, neither a task nor a key is given up
+  pub few_failures : FewFailed o.retries old.depot new.depot → IsNotGivenUp status
+
+-- ---- `load`, `check` and `print`, whose tables stand in crates of their own, a line an answer
 
 pub record LoadAnswered (retries : ℕ) (old new : Scene) (status : Status) : Type 0 where
-  pub tells : Loaded retries old.source new.source (seen_in old) (seen_in new) status
+  -- the table of all answers: no other comes
+  pub loads : Loaded retries old.source new.source (seen_in old) (seen_in new) status
+  -- how many calls of the depot it makes at most
   pub calls : LoadsWithin retries old.source.told new.source.told old.depot new.depot
+  -- where few calls fail, no key is given up
+  pub few_failures : FewFailed retries old.depot new.depot → IsNotGivenUp status
 
 pub record CheckAnswered (retries : ℕ) (old new : Scene) (status : Status) : Type 0 where
-  pub tells : Checked retries old.source new.source (seen_in old) (seen_in new) status
+  -- 0: each stored element is what the expression means
+  pub equal : status ≡ Done
+      → ReadsText old.source new.source (λ text. IsFoundEqual text (seen_in old) (seen_in new))
+  -- 17: the elements at this place differ, the first that do
+  pub unequal : (place : ℕ) (stored plain : ℤ) → status ≡ Unequal place stored plain
+      → ReadsText old.source new.source (λ text. IsUnequal text old.depot place stored plain)
+  -- the table of all answers: no other comes
+  pub checks : Checked retries old.source new.source (seen_in old) (seen_in new) status
+  -- how many calls of the depot it makes at most
   pub calls : ChecksWithin (retries + 1) old.source new.source old.depot new.depot
+  -- where few calls fail, no key is given up
+  pub few_failures : FewFailed retries old.depot new.depot → IsNotGivenUp status
 
-pub record PrintAnswered (name : List ℕ) (retries : ℕ) (old new : Scene) (status : Status) : Type 0 where
-  pub tells : Printed retries name (seen_in old) (seen_in new) status
+pub record PrintAnswered (name : List ℕ) (retries : ℕ) (old new : Scene) (status : Status)
+    : Type 0 where
+  -- the table of all answers: no other comes
+  pub prints_array : Printed retries name (seen_in old) (seen_in new) status
+  -- nothing is read of the source
   pub kept : new.source.told ≡ old.source.told
+  -- how many calls of the depot it makes at most
   pub calls : PrintsWithin (retries + 1) name old.depot new.depot
-
-pub record DemoAnswered (lack : Bool) (size : ℕ) (options : Options) (old new : Scene) (status : Status) : Type 0 where
-  pub tells : DemoTells lack (demo_case options size (seen_in old) (seen_in new)) status
-  pub kept : new.source.told ≡ old.source.told
-  pub calls : DemosWithin (demo_case options size (seen_in old) (seen_in new)) status
-
--- ---- any command
-
-abbrev pub IsAnswered : Bool → Command → Scene → Scene → Status → Type 0
-IsAnswered lack (run options) old new status = RunAnswered lack options old new status
-IsAnswered lack (resume options) old new status = ResumeAnswered lack options old new status
-IsAnswered lack (drop options) old new status = DropAnswered options old new status
-IsAnswered lack (plan options) old new status = PlanAnswered options old new status
-IsAnswered lack (load retries) old new status = LoadAnswered retries old new status
-IsAnswered lack (check retries) old new status = CheckAnswered retries old new status
-IsAnswered lack (print name retries) old new status = PrintAnswered name retries old new status
-IsAnswered lack (demo size options) old new status = DemoAnswered lack size options old new status
-
--- words that give a command, or are refused
-abbrev pub AreAnswered : Bool → Result Command ℕ → Scene → Scene → Status → Type 0
-AreAnswered lack (Ok command) old new status = IsAnswered lack command old new status
-AreAnswered lack (Err code) old new status = IsWordsRefused code status × DidNothing old new
-
--- What these words are answered; where the command is missing or unknown no memory is wanted. `lack` says that the depot's yards lack memory.
-pub record CallAnswered (lack : Bool) (asked : Result Command ℕ) (old new : Scene) (status : Status) : Type 0 where
-  pub is_so : AreAnswered lack asked old new status
-  pub unknown : asked ≡ Err 1 → status ≡ BadWords 1
+  -- where few calls fail, no key is given up
+  pub few_failures : FewFailed retries old.depot new.depot → IsNotGivenUp status

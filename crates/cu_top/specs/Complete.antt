@@ -1,5 +1,5 @@
 -- When a run and a plan are served: what their premises are, and what they then answer. What no command answers where few calls fail.
-use Rattle.std.specs.Prelude.{◌≡◌, ℕ, ◌+◌, ◌<◌, ◌≤◌, List, length, All, Some, None, Ok}
+use Rattle.std.specs.Prelude.{◌≡◌, ℕ, ◌+◌, ◌<◌, ◌≤◌, List, length, All, Some, None}
 use Rattle.cu_store.specs.Faults.{last_count}
 use Rattle.cu_store.specs.Held.{Contents, IsAmong}
 use Rattle.cu_store.specs.Steps.{Shown}
@@ -22,7 +22,6 @@ use Rattle.cu_plan.specs.Refusal.{refusal_of}
 use Rattle.cu_top.specs.Prepare.{job_plan, asked_keys, HasNoOwnInput}
 use Rattle.cu_top.specs.Quiet.{run_of_job}
 use Rattle.cu_top.specs.Record.{record_text}
-use Rattle.cu_top.specs.Words.{Command, command_of, check, demo, drop, load, plan, print, resume, run}
 
 -- each chunk of an input is absent or whole
 abbrev pub AreWhole : PlanView → Contents → Type 0
@@ -40,17 +39,14 @@ pub record IsAtRest (options : Options) (job : Job) (entry : Contents) (old : Sh
   pub calm : (key bytes : List ℕ) → IsAmong old.late key bytes → IsInputKey (job_plan options job) key → entry key ≡ Some bytes
   pub whole : AreWhole (job_plan options job) entry
 
--- The words are accepted, the text has a job, its inputs and types accepted, and all is at rest for the job. A text has at most one.
-pub record IsServable (words : List (List ℕ)) (text : List ℕ) (entry : Contents) (old : Shown) : Type 0 where
-  pub options : Options
-  pub words_give : command_of words ≡ Ok (run options)
+-- The text has a job, its inputs and types accepted, and all is at rest for the job. A text has at
+-- most one.
+pub record IsServable (options : Options) (text : List ℕ) (entry : Contents) (old : Shown) : Type 0 where
   pub typable : IsTypable old text
   pub rest : (job : Job) → IsJob old text job → IsAtRest options job entry old
 
--- The words are accepted, the text has a job, its inputs and types accepted, and the job has a plan.
-pub record IsPlannable (words : List (List ℕ)) (text : List ℕ) (old : Shown) : Type 0 where
-  pub options : Options
-  pub words_give : command_of words ≡ Ok (plan options)
+-- The text has a job, its inputs and types accepted, and the job has a plan.
+pub record IsPlannable (options : Options) (text : List ℕ) (old : Shown) : Type 0 where
   pub typable : IsTypable old text
   pub planned : (job : Job) → IsJob old text job → refusal_of options job.expr job.types ≡ None
 
@@ -70,11 +66,8 @@ pub record IsLeftRecorded (options : Options) (job : Job) (entry : Contents) (ol
   pub left : IsLeft (run_of_job options job) (stored_inputs (job_plan options job).arrays entry) old
   pub recorded : entry (record_key_of job.expr.store_as) ≡ Some (record_text options job)
 
--- The words are accepted, the text has a job, its inputs and types accepted, and a run of it goes on
--- from its record.
-pub record IsResumable (words : List (List ℕ)) (text : List ℕ) (entry : Contents) (old : Shown) : Type 0 where
-  pub options : Options
-  pub words_give : command_of words ≡ Ok (resume options)
+-- The text has a job, its inputs and types accepted, and a run of it goes on from its record.
+pub record IsResumable (options : Options) (text : List ℕ) (entry : Contents) (old : Shown) : Type 0 where
   pub typable : IsTypable old text
   pub rest : (job : Job) → IsJob old text job → IsLeftRecorded options job entry old
 
@@ -95,17 +88,6 @@ IsResumeCause NoMemory = Unit {0}
 IsResumeCause status = ⊥
 
 -- ---- where few calls fail
-
--- how often a command calls again for a key where the store failed
-abbrev pub retries_of : Command → ℕ
-retries_of (run options) = options.retries
-retries_of (resume options) = options.retries
-retries_of (drop options) = options.retries
-retries_of (plan options) = options.retries
-retries_of (load retries) = retries
-retries_of (check retries) = retries
-retries_of (print name retries) = retries
-retries_of (demo size options) = options.retries
 
 -- at most so many calls of the depot failed, and the count doesn't stand at its last value
 abbrev pub FewFailed : ℕ → Shown → Shown → Type 0

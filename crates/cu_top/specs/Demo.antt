@@ -34,7 +34,7 @@ use Rattle.cu_top.specs.Ask.{IsFirstOf}
 use Rattle.cu_top.specs.Prepare.{job_plan, asked_keys, HasPlan, IsUnplanned}
 use Rattle.cu_top.specs.Quiet.{run_of_job}
 use Rattle.cu_top.specs.Report.{report_line}
-use Rattle.cu_top.specs.Run.{RunCase, scene, case, plan_in, IsStarted, HoldsAll, IsCounted, Ran}
+use Rattle.cu_top.specs.Run.{Scene, RunCase, scene, case, plan_in, IsStarted, HoldsAll, IsCounted, Ran, seen_in}
 use Rattle.cu_top.specs.declared.report.RunCounts.{RunCounts}
 
 -- ---- the inputs
@@ -96,6 +96,10 @@ pub record DemoCase : Type 0 where
 
 abbrev pub demo_case : Options → ℕ → Seen → Seen → DemoCase
 demo_case options size old new = record { options = options; size = size; old = old; new = new }
+
+-- between these two moments
+abbrev pub demo_between : ℕ → Options → Scene → Scene → DemoCase
+demo_between size options old new = demo_case options size (seen_in old) (seen_in new)
 
 -- the job of the demonstration, with a fact of it
 abbrev pub OfDemo : DemoCase → (Job → Type 0) → Type 0
@@ -252,6 +256,21 @@ IsDemoUnread c status = IsSilent c × IsDemoComplete c (λ r job n. IsResultUnre
 abbrev pub IsDemoBadChunk : Bool → DemoCase → List ℕ → ℕ → ℕ → Type 0
 IsDemoBadChunk lack c key got want = (c.new.depot.held ≡ None) × (IsDemoStopped lack c (BadChunk key got want) ⊎ IsDemoUnread c (BadChunk key got want))
 
+-- 10: its run ended at this task, and each key of the inputs holds its value
+abbrev pub IsDemoTaskFailed : Bool → DemoCase → ℕ → ℕ → Type 0
+IsDemoTaskFailed lack c op task = KeepsInputs c × IsDemoStopped lack c (TaskFailed op task)
+
+-- 16: all calls for this key failed: where the keys were asked for, where the inputs were stored, in
+-- the run, or where the chunk of the output was read
+abbrev pub IsDemoKeyFailed : Bool → DemoCase → List ℕ → Type 0
+IsDemoKeyFailed lack c key = IsDemoAsked c (DepotFailed key) ⊎ IsDemoUnstored c (DepotFailed key)
+    ⊎ IsDemoStopped lack c (DepotFailed key) ⊎ IsDemoUnread c (DepotFailed key)
+
+-- 70: nothing was stored; or memory was wanted at one of these places
+abbrev pub IsDemoShort : Bool → DemoCase → Type 0
+IsDemoShort lack c = WroteNothing c.old c.new ⊎ IsDemoUnstored c NoMemory
+    ⊎ IsDemoStopped lack c NoMemory ⊎ IsDemoUnread c NoMemory
+
 -- what the command answers, of a depot whose yards lack memory or don't
 abbrev pub DemoTells : Bool → DemoCase → Status → Type 0
 DemoTells lack c Done = IsDemoDone c
@@ -259,11 +278,10 @@ DemoTells lack c WriteFault = IsDemoUnprinted c
 DemoTells lack c (OverMemory node need allowed) = IsDemoUnplanned c (OverMemory node need allowed)
 DemoTells lack c (OverLimit which count) = IsDemoUnplanned c (OverLimit which count)
 DemoTells lack c (Exists key) = IsDemoAsked c (Exists key)
-DemoTells lack c (TaskFailed op task) = KeepsInputs c × IsDemoStopped lack c (TaskFailed op task)
+DemoTells lack c (TaskFailed op task) = IsDemoTaskFailed lack c op task
 DemoTells lack c (BadChunk key got want) = IsDemoBadChunk lack c key got want
-DemoTells lack c (DepotFailed key) = IsDemoAsked c (DepotFailed key) ⊎ IsDemoUnstored c (DepotFailed key)
-    ⊎ IsDemoStopped lack c (DepotFailed key) ⊎ IsDemoUnread c (DepotFailed key)
-DemoTells lack c NoMemory = WroteNothing c.old c.new ⊎ IsDemoUnstored c NoMemory ⊎ IsDemoStopped lack c NoMemory ⊎ IsDemoUnread c NoMemory
+DemoTells lack c (DepotFailed key) = IsDemoKeyFailed lack c key
+DemoTells lack c NoMemory = IsDemoShort lack c
 DemoTells lack c status = ⊥
 
 -- ---- when a demonstration is served

@@ -49,12 +49,14 @@ Dropping c fact = (job : Job) × IsDropping c job × fact job
 abbrev pub AreGone : RunCase → Job → Type 0
 AreGone c job = All (IsGoneBut c.old.depot.late c.new.depot.held) (keys_of c.options job)
 
--- The keys before this one were removed, and it wasn't. The record wasn't removed either.
+-- The keys before this one were removed, and it wasn't: each of them is absent, or a put that was
+-- late when the command began landed there. The record wasn't removed either.
 pub record IsStoppedAt (c : RunCase) (job : Job) (key : List ℕ) : Type 0 where
   pub front : List (List ℕ)
   pub back : List (List ℕ)
   pub listed : dropped_keys c job ≡ front ++ key ∷ back
   pub removed : Stepped (RemovalIn front) c.old.depot c.new.depot
+  pub gone : All (IsGoneBut c.old.depot.late c.new.depot.held) front
   pub recorded : Stepped (RemovalIn (keys_first c job)) c.old.depot c.new.depot
 
 -- what is answered where removing the keys ended so

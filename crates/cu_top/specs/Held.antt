@@ -1,5 +1,5 @@
 -- The record that is held, beside that of a plan. This project's own rules.
-use Rattle.std.specs.Prelude.{◌≡◌, ◌≢◌, ◌⊎◌, ℕ, ◌+◌, List, slice_get, take, Option, Some, None, Result, Ok, Err}
+use Rattle.std.specs.Prelude.{◌≡◌, ◌≢◌, ◌⊎◌, ℕ, ◌+◌, List, slice_get, take, Option, Some, None, Result, Ok, Err, true}
 use Rattle.cu_store.specs.Faults.{Rose}
 use Rattle.cu_store.specs.Held.{Contents, Holds, IsGone, IsAmong}
 use Rattle.cu_store.specs.Steps.{Shown, NoChange}
@@ -16,7 +16,7 @@ use Rattle.cu_command.specs.declared.job.JobFault.TheVariants as fault
 use Rattle.cu_command.specs.declared.status.Status.{Status}
 use Rattle.cu_command.specs.declared.status.Status.TheVariants.{OtherPlan, NoPlan, DepotFailed, NoMemory}
 use Rattle.cu_lower.specs.declared.options.Options.{Options}
-use Rattle.cu_top.specs.Prepare.{HasPlan, HasNoOwnInput, IsLentWithin}
+use Rattle.cu_top.specs.Prepare.{HasPlan, HasNoOwnInput, IsLentWithin, is_own_input}
 use Rattle.cu_top.specs.Quiet.{run_of_job}
 use Rattle.cu_top.specs.Record.{record_text}
 use Rattle.cu_top.specs.Run.{RunCase, plan_in, job_run, env_of, IsAccepted, HasNoJob, IsSpared, OfPlanned, WasRefused}
@@ -43,13 +43,17 @@ IsRecordFault tries key text shown held.NoMemory = Unit {0}
 
 -- ---- the premise of the commands that go on from a held record
 
+-- the plan's record is held, or a put of it is late
+abbrev pub HasRecordOrLate : PlanRun → Shown → Contents → Type 0
+HasRecordOrLate r shown held =
+    (held (text_at r 0).0 ≡ Some (text_at r 0).1) ⊎ IsAmong shown.late (text_at r 0).0 (text_at r 0).1
+
 -- Where the contents are told and the plan's record is held, or a put of it is late, the store was
 -- left so by the plan, and no node of the expression reads the output.
 abbrev pub IsLeftBy : PlanRun → Shown → Option Contents → Type 0 → Type 0
 IsLeftBy r shown None own = Unit {0}
 IsLeftBy r shown (Some held) own =
-    (held (text_at r 0).0 ≡ Some (text_at r 0).1) ⊎ IsAmong shown.late (text_at r 0).0 (text_at r 0).1
-    → IsLeft r (stored_inputs r.plan.arrays held) shown × own
+    HasRecordOrLate r shown held → IsLeft r (stored_inputs r.plan.arrays held) shown × own
 
 -- the same for the job of a text, where it has a plan
 abbrev pub IsLeftEntry : Options → List ℕ → Shown → Type 0
@@ -63,11 +67,20 @@ abbrev pub IsOtherPlan : RunCase → ℕ → Type 0
 IsOtherPlan c place = IsSpared c × OfPlanned c (λ job.
     HoldsOther c.new.depot.held (record_key_of job.expr.store_as) (record_text c.options job) place)
 
--- 15: where the contents were told and the premise holds, the record's key was absent when the
--- command began
+-- where the contents were told, the record's key was absent when the command began
+abbrev pub WasUnrecorded : RunCase → Job → Type 0
+WasUnrecorded c job = (entry : Contents) → c.old.depot.held ≡ Some entry
+    → entry (record_key_of job.expr.store_as) ≡ None
+
+-- where they were, the record was held when the command began, or a put of it was late
+abbrev pub WasRecorded : RunCase → Job → Type 0
+WasRecorded c job = (entry : Contents) → c.old.depot.held ≡ Some entry
+    → HasRecordOrLate (job_run c job) c.old.depot entry
+
+-- 15: there was no record when the command began; or there was, and a node reads the output
 abbrev pub HasNoRecord : RunCase → Type 0
-HasNoRecord c = IsSpared c × OfPlanned c (λ job. (entry : Contents) → c.old.depot.held ≡ Some entry
-    → IsLeftBy (job_run c job) c.old.depot (Some entry) (HasNoOwnInput job.expr) → entry (record_key_of job.expr.store_as) ≡ None)
+HasNoRecord c = IsSpared c × OfPlanned c (λ job. WasUnrecorded c job
+    ⊎ ((is_own_input job.expr ≡ true) × WasRecorded c job))
 
 -- 16: all calls for the metadata of an input in its turn, or for the record, failed
 abbrev pub IsUnasked : RunCase → List ℕ → Type 0
@@ -95,7 +108,8 @@ record_answer key held.NoMemory = NoMemory
 abbrev pub WhereEntryTold : RunCase → Job → (Elements → Type 0) → Type 0
 WhereEntryTold c job fact = (entry : Contents) → c.old.depot.held ≡ Some entry → fact (env_of c job entry)
 
--- The job was accepted and has a plan, its output is no input, and its record was found.
+-- The job was accepted and has a plan, its output is no input, and its record was found: where the
+-- contents were told, it was held when the command began, or a put of it was late.
 pub record IsReopened (c : RunCase) (job : Job) : Type 0 where
   pub accepted : IsAccepted c job
   pub planned : HasPlan c.options job
@@ -103,6 +117,7 @@ pub record IsReopened (c : RunCase) (job : Job) : Type 0 where
   pub room : IsLentWithin (plan_in c job)
   pub own : HasNoOwnInput job.expr
   pub apart : KeysApart (job_run c job)
+  pub had_record : WasRecorded c job
 
 -- ---- what is seen of a record
 

@@ -1,3 +1,4 @@
+pub mod Absent
 pub mod Answered
 pub mod Ask
 pub mod Call
@@ -16,5 +17,6 @@ pub mod Report
 pub mod Resume
 pub mod Run
 pub mod Sample
+pub mod Told
 pub mod Versions
 pub mod Words

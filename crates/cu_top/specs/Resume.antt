@@ -1,12 +1,14 @@
 -- What the command `resume` answers, and what it leaves. This project's own rules.
 use Rattle.std.specs.Prelude.{◌≡◌, ◌⊎◌, Bool, false, IsTrue, ℕ, ◌+◌, ◌*◌, ◌<◌, ◌≤◌, List, Contains, length, Some, Result, Ok, Err}
 use Rattle.cu_store.specs.Faults.{Rose}
-use Rattle.cu_store.specs.Held.{Contents}
+use Rattle.cu_store.specs.Held.{Contents, IsAmong}
 use Rattle.cu_store.specs.Steps.{Shown, Changes, PutOf}
 use Rattle.cu_zarr.specs.Key.{metadata_key_of}
 use Rattle.cu_name.specs.Keys.{record_key_of}
 use Rattle.cu_op.specs.Cells.{tasks_of}
-use Rattle.cu_op.specs.Schedule.{op_of}
+use Rattle.cu_op.specs.Schedule.{op_of, key_of}
+use Rattle.cu_op.specs.Walks.{written_chunks}
+use Rattle.cu_op.specs.declared.cells.Cell.{Cell}
 use Rattle.cu_history.specs.History.{is_start, count_of_task}
 use Rattle.cu_history.specs.declared.entry.Entry.{Entry}
 use Rattle.cu_state.specs.Left.{IsLeft, RunChange}
@@ -16,7 +18,7 @@ use Rattle.cu_table.specs.Numbers.{IsTask, task_count}
 use Rattle.cu_table.specs.Table.{undone_among}
 use Rattle.cu_work.specs.Drive.{IsBadChunk, IsInputKey}
 use Rattle.cu_work.specs.Run.{HoldsTexts}
-use Rattle.cu_work.specs.Search.{NamesStored}
+use Rattle.cu_work.specs.Search.{NamesStored, NamesTask}
 use Rattle.cu_work.specs.World.{IsFound, IsStored}
 use Rattle.cu_work.specs.declared.find.FindFault.{FindFault}
 use Rattle.cu_work.specs.declared.find.FindFault.TheVariants as find
@@ -25,11 +27,12 @@ use Rattle.cu_work.specs.declared.run.HeldTexts.TheVariants.{Neither}
 use Rattle.cu_command.specs.Seen.{Stepped}
 use Rattle.cu_command.specs.declared.job.Job.{Job}
 use Rattle.cu_command.specs.declared.status.Status.{Status}
-use Rattle.cu_command.specs.declared.status.Status.TheVariants.{Done, TaskFailed, ReadFault, WriteFault, BadChunk, DepotFailed, NoMemory}
+use Rattle.cu_command.specs.declared.status.Status.TheVariants.{Done, TaskFailed, ReadFault, WriteFault, BadChunk, DepotFailed, NoPlan, NoMemory}
 use Rattle.cu_lower.specs.declared.options.Options.{Options}
+use Rattle.cu_top.specs.Absent.{absent_tasks}
 use Rattle.cu_top.specs.Call.{AreSpared, CameToRun, IsReadFault}
 use Rattle.cu_top.specs.Driven.{run_counts_in}
-use Rattle.cu_top.specs.Held.{IsNotReopened, IsReopened, IsUnasked, WhereEntryTold}
+use Rattle.cu_top.specs.Held.{IsNotReopened, IsReopened, IsUnasked, WasUnrecorded, WhereEntryTold}
 use Rattle.cu_top.specs.Prepare.{keys_of, out_metadata}
 use Rattle.cu_top.specs.Report.{report_line}
 use Rattle.cu_top.specs.Run.{Scene, RunCase, plan_in, job_run, HasBroken, HoldsAll, IsHistory, IsSpared, OfPlanned, WroteTo}
@@ -59,10 +62,25 @@ MetadataPut c job = PutOf (metadata_key_of job.expr.store_as) (out_metadata job)
 
 -- ---- the history
 
--- The tasks of this list were found done: all chunks of each are held, and each task whose chunks
--- were all held when the command began is among them.
+-- the key was held when the command began, or a put of it was late
+abbrev pub WasHeldOrLate : RunCase → Contents → List ℕ → Type 0
+WasHeldOrLate c entry key =
+    ((bytes : List ℕ) × (entry key ≡ Some bytes)) ⊎ ((bytes : List ℕ) × IsAmong c.old.depot.late key bytes)
+
+-- so was each chunk of this task
+abbrev pub WasStored : RunCase → Job → Contents → ℕ → ℕ → Type 0
+WasStored c job entry op task = (k : Cell)
+    → Contains (written_chunks (plan_in c job).arrays (op_of (plan_in c job) op) task) k
+    → WasHeldOrLate c entry (key_of (plan_in c job).arrays k)
+
+-- The tasks of this list were found done. Each chunk of such a task was held when the command began,
+-- or a put of it was late; and it is held now. Each task whose chunks were all held when the command
+-- began is among them.
 pub record AreFoundDone (c : RunCase) (job : Job) (done : List Bool) : Type 0 where
   pub found : (now : Contents) → c.new.depot.held ≡ Some now → IsFound (plan_in c job) now done
+  pub stored : (entry : Contents) (op task : ℕ) → c.old.depot.held ≡ Some entry
+      → IsTask (plan_in c job) op task → NamesTask (plan_in c job) done op task
+      → WasStored c job entry op task
   pub named : (entry : Contents) → c.old.depot.held ≡ Some entry → NamesStored (plan_in c job) entry done
 
 -- no task whose chunks were all held when the command began was started
@@ -86,12 +104,27 @@ WentOn c job fact = (done : List Bool) × (history : List Entry) × (m : Machine
 abbrev pub undone_in : List Bool → ℕ
 undone_in done = undone_among (opening done).tasks
 
+-- no put on a chunk of the plan was late when the command began
+abbrev pub NoChunkWasLate : RunCase → Job → Type 0
+NoChunkWasLate c job = (op task : ℕ) (k : Cell) (bytes : List ℕ) → IsTask (plan_in c job) op task
+    → Contains (written_chunks (plan_in c job).arrays (op_of (plan_in c job) op) task) k
+    → IsAmong c.old.depot.late (key_of (plan_in c job).arrays k) bytes → ⊥
+
+-- The starts that didn't fail, beside the tasks with a chunk that was absent when the command began.
+-- Without second copies they are at most so many; where no put on a chunk was late, at least so many.
+pub record AreOfAbsent (c : RunCase) (job : Job) (entry : Contents) (n : RunCounts) : Type 0 where
+  pub most : c.options.backups ≡ false → n.starts ≤ n.failures + absent_tasks (plan_in c job) entry
+  pub least : NoChunkWasLate c job → n.failures + absent_tasks (plan_in c job) entry ≤ n.starts
+
 -- All tasks are done. Each that wasn't found done was started once, and once more for each failure,
--- or with second copies at least so often.
+-- or with second copies at least so often. Where the contents were told, they are those of which a
+-- chunk was absent.
 abbrev pub IsCountedOn : RunCase → Job → RunCounts → Type 0
 IsCountedOn c job n = WentOn c job (λ done history m. AllDone (plan_in c job) m × (n ≡ run_counts_in history)
     × (n.failures + undone_in done ≤ n.starts) × (c.options.backups ≡ false → n.starts ≡ n.failures + undone_in done))
     × (n.failures ≤ c.options.retries * task_count (plan_in c job))
+    × (n.starts ≤ (c.options.retries + 2) * task_count (plan_in c job))
+    × ((entry : Contents) → c.old.depot.held ≡ Some entry → AreOfAbsent c job entry n)
 
 -- the same, with a fact of the line that reports it
 abbrev pub CountedOn : RunCase → Job → (List ℕ → Type 0) → Type 0
@@ -126,11 +159,16 @@ abbrev pub IsStoppedBefore : RunCase → Job → List ℕ → Type 0
 IsStoppedBefore c job key = Stepped (MetadataPut c job) c.old.depot c.new.depot
     × ((key ≡ metadata_key_of job.expr.store_as) ⊎ ((key ≡ record_key_of job.expr.store_as) × HoldsTextsNow c job))
 
+-- 15: there was no record when the command began
+abbrev pub HadNoRecord : RunCase → Type 0
+HadNoRecord c = IsSpared c × OfPlanned c (WasUnrecorded c)
+
 -- 16: all calls for this key failed. Nothing was changed, and the key is that of an input's metadata
--- in its turn or one of the plan's; or the run went on, and no chunk was put.
+-- in its turn or the record's; or the plan was found again, and it is one of the plan's; or the run
+-- went on, and no chunk was put.
 abbrev pub IsResumeFailed : RunCase → List ℕ → Type 0
 IsResumeFailed c key = IsUnasked c key ⊎ (Rose (c.options.retries + 1) c.old.depot.faults c.new.depot.faults
-    × ((IsSpared c × OfPlanned c (λ job. Contains (keys_of c.options job) key)) ⊎ Resumed c (λ job. IsStoppedBefore c job key)))
+    × ((IsSpared c × ((job : Job) × IsReopened c job × Contains (keys_of c.options job) key)) ⊎ Resumed c (λ job. IsStoppedBefore c job key)))
 
 -- 70: nothing was changed; or the run went on, and no chunk was put unless the depot's yards lack
 -- memory
@@ -145,6 +183,7 @@ WasResumed lack c (TaskFailed op task) = IsResumedBroken c op task
 WasResumed lack c (BadChunk key got want) = IsResumedBad c key got want
 WasResumed lack c (DepotFailed key) = IsResumeFailed c key
 WasResumed lack c NoMemory = IsResumeShort lack c
+WasResumed lack c NoPlan = HadNoRecord c
 WasResumed lack c status = IsNotReopened c status
 
 -- what the command `resume` answers

@@ -31,7 +31,7 @@ use Rattle.cu_work.specs.Order.{IsFree}
 use Rattle.cu_work.specs.Run.{HoldsTexts}
 use Rattle.cu_work.specs.Shared.{none_done, HoldsDone}
 use Rattle.cu_command.specs.Job.{IsJob, IsJobFault}
-use Rattle.cu_command.specs.Seen.{Stream, Stepped}
+use Rattle.cu_command.specs.Seen.{Seen, Stream, Stepped, seen}
 use Rattle.cu_command.specs.Streams.{WroteFront}
 use Rattle.cu_command.specs.declared.job.Job.{Job}
 use Rattle.cu_command.specs.declared.job.JobFault.{JobFault}
@@ -55,6 +55,10 @@ pub record Scene : Type 0 where
 
 abbrev pub scene : Stream → Stream → Shown → Scene
 scene source sink depot = record { source = source; sink = sink; depot = depot }
+
+-- the sink and the depot
+abbrev pub seen_in : Scene → Seen
+seen_in s = seen s.sink s.depot
 
 -- a run: its options, the text of its expression, and what is seen when it begins and when it ends
 pub record RunCase : Type 0 where
@@ -171,12 +175,13 @@ pub record IsHistory (c : RunCase) (job : Job) (done : List Bool) (history : Lis
 abbrev pub WasRun : RunCase → Job → (List Entry → Machine → Type 0) → Type 0
 WasRun c job fact = (history : List Entry) × (m : Machine) × IsHistory c job (none_done (plan_in c job)) history m × fact history m
 
--- All tasks are done: these are how often one was started and how often one failed. Each was started once, and once more for each failure,
--- or with second copies at least so often, and failed at most as often as it is tried again.
+-- All tasks are done: these are how often one was started and how often one failed. Each was started
+-- once, and once more for each failure, or with second copies at least so often; at most as often as
+-- it is tried, and once more; and it failed at most as often as it is tried again.
 abbrev pub IsCounted : RunCase → Job → RunCounts → Type 0
 IsCounted c job n = WasRun c job (λ history m. AllDone (plan_in c job) m × (n.starts ≡ count_kind is_start history) × (n.failures ≡ count_kind is_failed history))
     × (task_count (plan_in c job) + n.failures ≤ n.starts) × (c.options.backups ≡ false → n.starts ≡ task_count (plan_in c job) + n.failures)
-    × (n.failures ≤ c.options.retries * task_count (plan_in c job))
+    × (n.failures ≤ c.options.retries * task_count (plan_in c job)) × (n.starts ≤ (c.options.retries + 2) * task_count (plan_in c job))
 
 -- the same, with a fact of the line that reports it
 abbrev pub Counted : RunCase → Job → (List ℕ → Type 0) → Type 0

@@ -1,7 +1,9 @@
 -- A small store and the text of an expression over it, which meet the premises of the commands.
-use Rattle.std.specs.Prelude.{ℕ, false, List, [], ◌∷◌, codes, bytes_eq, Some, None, if◌then◌else◌}
+use Rattle.std.specs.Prelude.{ℕ, pos, false, List, [], ◌∷◌, codes, bytes_eq, Some, None, if◌then◌else◌}
 use Rattle.cu_expr.specs.declared.inputs.InputInfo.{InputInfo}
+use Rattle.cu_load.specs.LoadForm.{GivenArray}
 use Rattle.cu_lower.specs.Parts.{made_layout}
+use Rattle.cu_lower.specs.declared.options.Options.{Options}
 use Rattle.cu_node.specs.Info.{info_of}
 use Rattle.cu_node.specs.declared.info.NodeInfo.{NodeInfo}
 use Rattle.cu_num.specs.declared.types.Dtype.TheVariants.{Int16}
@@ -46,9 +48,38 @@ sample_shown = record { held = Some sample_held; late = sample_late; faults = 0;
 unfoldable pub sample_text : List ℕ
 sample_text = codes "{\"nodes\":[{\"id\":\"x\",\"op\":\"input\",\"name\":\"x\"},{\"id\":\"t\",\"op\":\"rechunk\",\"args\":[\"x\"],\"chunk\":[3]}],\"out\":\"t\",\"store_as\":\"y\"}"
 
+-- the options of its commands
+abbrev pub sample_options : Options
+sample_options = record {
+  allowed = 64;
+  reserved = 0;
+  split_every = 4;
+  retries = 2;
+  workers = 1;
+  backups = false;
+}
+
 -- the words of a run and of a plan
 abbrev pub sample_run : List (List ℕ)
 sample_run = codes "run" ∷ codes "--allowed-mem" ∷ codes "64" ∷ []
 
 abbrev pub sample_plan : List (List ℕ)
 sample_plan = codes "plan" ∷ codes "--allowed-mem" ∷ codes "64" ∷ []
+
+-- the array of 1 to 7, whose first chunk this is
+abbrev pub sample_array : GivenArray
+sample_array = record {
+  name = codes "x";
+  layout = layout_view sample_layout;
+  elements = pos 1 ∷ pos 2 ∷ pos 3 ∷ pos 4 ∷ pos 5 ∷ pos 6 ∷ pos 7 ∷ [];
+}
+
+-- an empty store, and options for a demonstration of size 2 over it
+abbrev pub empty_held : Contents
+empty_held key = None
+
+abbrev pub empty_shown : Shown
+empty_shown = record { held = Some empty_held; late = []; faults = 0; calls = 0; lacks = false }
+
+abbrev pub demo_options : Options
+demo_options = record sample_options { allowed = 65536 }

@@ -1,5 +1,7 @@
 -- What the words of the command line ask for. This project's own rules.
 use Rattle.std.specs.Prelude.{◌≤◌, ◌==◌, ℕ, List, [], ◌∷◌, Result, Ok, Err, if◌then◌else◌}
+use Rattle.std.specs.Global.{Global}
+use Rattle.std.specs.Prelude.{String, map, string_bytes}
 use Rattle.cu_name.specs.Name.{is_name}
 use Rattle.cu_lower.specs.Parts.{AreOptions}
 use Rattle.cu_lower.specs.declared.options.Options.{Options}
@@ -74,3 +76,7 @@ command_by (Err code) = Err code
 -- its size, or its count of positionals. Code 3: a name is none.
 unfoldable pub command_of : List (List ℕ) → Result Command ℕ
 command_of words = command_by (line_given words)
+
+-- the same of words as they are passed
+abbrev pub asked_by : List (String Global) → Result Command ℕ
+asked_by words = command_of (map string_bytes words)

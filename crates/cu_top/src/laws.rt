@@ -1,5 +1,5 @@
 //! Laws of the commands: calls that do nothing and whose clauses are the laws.
-ghost use Rattle.std.specs.Prelude.{◌∷◌, [], ℕ, Bool, List, All, Some, codes};
+ghost use Rattle.std.specs.Prelude.{◌≡◌, ◌∷◌, [], ℕ, Bool, List, All, Some, Ok, codes};
 ghost use Rattle.cu_store.specs.Steps.{Shown};
 ghost use Rattle.cu_op.specs.Elements.{Elements};
 ghost use Rattle.cu_state.specs.Left.{IsLeft};
@@ -9,13 +9,17 @@ ghost use Rattle.cu_command.specs.declared.job.Job.{Job};
 ghost use Rattle.cu_command.specs.declared.status.Status.{Status};
 ghost use Rattle.cu_region.specs.Steady.{IsSteady};
 ghost use Rattle.cu_check.specs.Arrays.{IsReadChunk};
+ghost use Rattle.cu_load.specs.Load.{IsArrayCalm};
 ghost use Rattle.cu_print.specs.Print.{IsArrayMetadata, IsChunkAt};
 ghost use Rattle.cu_top.specs.Complete.{IsPlannable, IsServable};
+ghost use Rattle.cu_top.specs.Demo.{IsDemoAtRest, IsDemoCalm};
 ghost use Rattle.cu_top.specs.Drop.{Dropped};
 ghost use Rattle.cu_top.specs.Laws.{IsOfPlan};
 ghost use Rattle.cu_top.specs.Resume.{WasResumed};
 ghost use Rattle.cu_top.specs.Run.{RunCase, job_run, IsSpared, Ran};
-ghost use Rattle.cu_top.specs.Sample.{sample_held, sample_input, sample_late, sample_layout, sample_plan, sample_run, sample_shown, sample_text};
+ghost use Rattle.cu_top.specs.Sample.{demo_options, empty_held, empty_shown, sample_array};
+ghost use Rattle.cu_top.specs.Sample.{sample_held, sample_input, sample_late, sample_layout, sample_options, sample_plan, sample_run, sample_shown, sample_text};
+ghost use Rattle.cu_top.specs.Words.{command_of, plan, run};
 
 use cu_work::commands_law;
 
@@ -36,8 +40,13 @@ pub fn list_law()
 /// The premises of the commands are met by a small store, which holds the metadata and one chunk of an array, and where a put of this
 /// chunk is late: `run` is served there, and so is `plan`; and what `print` and `check` say of keys that no late put changes holds.
 pub fn premises_law()
-    ensures run { IsServable sample_run sample_text sample_held sample_shown }
-    ensures plan { IsPlannable sample_plan sample_text sample_shown }
+    ensures run_words { command_of sample_run ≡ Ok (run sample_options) }
+    ensures run { IsServable sample_options sample_text sample_held sample_shown }
+    ensures plan_words { command_of sample_plan ≡ Ok (plan sample_options) }
+    ensures plan { IsPlannable sample_options sample_text sample_shown }
+    ensures load { IsArrayCalm sample_array sample_late }
+    ensures demo { IsDemoAtRest demo_options 2 empty_held empty_shown }
+    ensures demo_quiet { IsDemoCalm demo_options 2 empty_shown }
     ensures print_metadata { IsSteady (IsArrayMetadata (codes "x")) (Some sample_held) sample_late }
     ensures print_chunks { (place : ℕ) → IsSteady (IsChunkAt (codes "x") sample_layout place) (Some sample_held) sample_late }
     ensures check { IsSteady (IsReadChunk (sample_input ∷ [])) (Some sample_held) sample_late }

@@ -28,7 +28,7 @@ over_both W grows tries ks ls old between new first second =
 
 module _ (W : List (List ℕ) → Changes) (tries : ℕ) (key : List ℕ) (fault : DepotFault) where
   -- at the only key
-  pub ends_one : (old new : Shown) → Steps NoChange 1 tries old new → Caused {T = Unit {0}} tries old new (Err fault) → EndsAt W tries (key ∷ []) (old, new) key fault
+  unfoldable pub ends_one : (old new : Shown) → Steps NoChange 1 tries old new → Caused {T = Unit {0}} tries old new (Err fault) → EndsAt W tries (key ∷ []) (old, new) key fault
   ends_one old new step cause = record {
     front = [];
     back = [];
@@ -40,7 +40,7 @@ module _ (W : List (List ℕ) → Changes) (tries : ℕ) (key : List ℕ) (fault
   }
 
   -- where others come behind
-  pub ends_before : (ks ls : List (List ℕ)) (shown : Shown × Shown) → EndsAt W tries ks shown key fault → EndsAt W tries (ks ++ ls) shown key fault
+  unfoldable pub ends_before : (ks ls : List (List ℕ)) (shown : Shown × Shown) → EndsAt W tries ks shown key fault → EndsAt W tries (ks ++ ls) shown key fault
   ends_before ks ls shown e = record {
     front = e.front;
     back = e.back ++ ls;
@@ -52,7 +52,7 @@ module _ (W : List (List ℕ) → Changes) (tries : ℕ) (key : List ℕ) (fault
   }
 
   -- where others come first
-  pub ends_behind : Grows W → (ks ls : List (List ℕ)) (old between new : Shown) → Steps (W ks) (length ks) (tries * length ks) old between → EndsAt W tries ls (between, new) key fault
+  unfoldable pub ends_behind : Grows W → (ks ls : List (List ℕ)) (old between new : Shown) → Steps (W ks) (length ks) (tries * length ks) old between → EndsAt W tries ls (between, new) key fault
       → EndsAt W tries (ks ++ ls) (old, new) key fault
   ends_behind grows ks ls old between new step e = record {
     front = ks ++ e.front;

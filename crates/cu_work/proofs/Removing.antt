@@ -5,6 +5,7 @@ use Rattle.std.proofs.lemmas.List.{length-append, append_assoc, append-nil}
 use Rattle.std.proofs.lemmas.List.Elements.{All-append, All-nil, All-cons, All-weaker, All-head, All-tail, Contains-append_left, Contains-append_right}
 use Rattle.cu_store.specs.Held.{Contents, Write, IsAmong, IsGone}
 use Rattle.cu_store.specs.Steps.{Shown, NoChange, RemovalOf, OrLate, IsChangedBy, Lands, LandsLate, AllLateIn, Steps, Caused}
+use Rattle.cu_store.specs.declared.faults.DepotFault.{DepotFault}
 use Rattle.cu_store.specs.declared.faults.DepotFault.TheVariants as depot
 use Rattle.cu_store.proofs.Steps.{steps_same, steps_then, steps_wider, steps_none}
 use Rattle.cu_op.specs.declared.cells.Cell.{Cell}
@@ -15,7 +16,7 @@ use Rattle.cu_op.specs.Walks.{written_chunks}
 use Rattle.cu_work.specs.declared.removal.RemoveFault.{RemoveFault}
 use Rattle.cu_work.specs.declared.removal.RemoveFault.TheVariants.{Failed, NoMemory}
 use Rattle.cu_work.specs.Order.{task_keys, operation_keys, plan_keys}
-use Rattle.cu_work.specs.Removal.{RemovalIn, IsGoneBut, IsRemoveFault, AreRemoved, keys_before_record, removed_keys}
+use Rattle.cu_work.specs.Removal.{RemovalIn, IsGoneBut, StopsAt, IsRemoveFault, AreRemoved, keys_before_record, removed_keys}
 use Rattle.cu_work.proofs.Asking.{operation_rest, plan_rest}
 use Rattle.cu_work.proofs.EndedCalls.{Grows, all_calls, ends_one, ends_before, ends_behind}
 
@@ -80,33 +81,48 @@ module _ (tries : ℕ) (ks ls : List (List ℕ)) (old between new : Shown) (firs
       let b : Steps (RemovalIn (ks ++ ls)) 0 (tries * length ls) between new = steps_wider (removal_grows ks ls).1 (omega arith) (omega arith) second in
       steps_wider (λ key value change. change) (omega arith) (omega (arith, m)) (steps_then a b)
 
-  fault_behind : (f : RemoveFault) → IsRemoveFault tries ls (between, new) f → IsRemoveFault tries (ks ++ ls) (old, new) f
-  fault_behind (Failed key) e = ends_behind RemovalIn tries key depot.Failed removal_grows ks ls old between new (counted tries ks old between first) e
-  fault_behind NoMemory (key, e) = (key, ends_behind RemovalIn tries key depot.NoMemory removal_grows ks ls old between new (counted tries ks old between first) e)
+  -- the first are still gone, and so are these of the others
+  gone_both : (fs : List (List ℕ)) → Steps (RemovalIn ls) 0 (tries * length ls) between new → All (IsGoneBut between.late new.held) fs → All (IsGoneBut old.late new.held) (ks ++ fs)
+  gone_both fs second gone =
+      All-append (IsGoneBut old.late new.held) ks fs
+      (All-weaker (IsGoneBut old.late between.held) (IsGoneBut old.late new.held)
+      (λ key was. still_gone ls old.late between.late (was_late ks old.late between.late first.step.late) between.held new.held key second.lands was) ks first.gone)
+      (All-weaker (IsGoneBut between.late new.held) (IsGoneBut old.late new.held) (gone_before ks old.late between.late first.step.late new.held) fs gone)
+
+  stops_behind : (key : List ℕ) (fault : DepotFault) → Steps (RemovalIn ls) 0 (tries * length ls) between new → StopsAt tries ls (between, new) key fault → StopsAt tries (ks ++ ls) (old, new) key fault
+  unfolding ends_behind
+  stops_behind key fault second e = record {
+    ends = ends_behind RemovalIn tries key fault removal_grows ks ls old between new (counted tries ks old between first) e.ends;
+    gone = gone_both e.ends.front second e.gone;
+  }
+
+  fault_behind : (f : RemoveFault) → Steps (RemovalIn ls) 0 (tries * length ls) between new → IsRemoveFault tries ls (between, new) f → IsRemoveFault tries (ks ++ ls) (old, new) f
+  fault_behind (Failed key) second e = stops_behind key depot.Failed second e
+  fault_behind NoMemory second (key, e) = (key, stops_behind key depot.NoMemory second e)
 
   pub removed_then : (r : Result (Unit {0}) RemoveFault) → AreRemoved tries ls between new r → AreRemoved tries (ks ++ ls) old new r
   removed_then (Ok x) second = record {
     step = both_steps second.step;
     called = let n = length-append ks ls in let a = first.called in let b = second.called in omega (arith, n, a, b);
-    gone =
-        All-append (IsGoneBut old.late new.held) ks ls
-        (All-weaker (IsGoneBut old.late between.held) (IsGoneBut old.late new.held)
-        (λ key gone. still_gone ls old.late between.late (was_late ks old.late between.late first.step.late) between.held new.held key second.step.lands gone) ks first.gone)
-        (All-weaker (IsGoneBut between.late new.held) (IsGoneBut old.late new.held) (gone_before ks old.late between.late first.step.late new.held) ls second.gone);
+    gone = gone_both ls second.step second.gone;
     cause = tt;
   }
   removed_then (Err f) second = record {
     step = both_steps second.step;
     called = tt;
     gone = tt;
-    cause = fault_behind f second.cause;
+    cause = fault_behind f second.step second.cause;
   }
 
 -- keys of which one wasn't removed, and others that weren't called for
 module _ (tries : ℕ) (ks ls : List (List ℕ)) (old new : Shown) where
+  stops_before : (key : List ℕ) (fault : DepotFault) → StopsAt tries ks (old, new) key fault → StopsAt tries (ks ++ ls) (old, new) key fault
+  unfolding ends_before
+  stops_before key fault e = record { ends = ends_before RemovalIn tries key fault ks ls (old, new) e.ends; gone = e.gone }
+
   fault_before : (f : RemoveFault) → IsRemoveFault tries ks (old, new) f → IsRemoveFault tries (ks ++ ls) (old, new) f
-  fault_before (Failed key) e = ends_before RemovalIn tries key depot.Failed ks ls (old, new) e
-  fault_before NoMemory (key, e) = (key, ends_before RemovalIn tries key depot.NoMemory ks ls (old, new) e)
+  fault_before (Failed key) e = stops_before key depot.Failed e
+  fault_before NoMemory (key, e) = (key, stops_before key depot.NoMemory e)
 
   pub removed_ended : (f : RemoveFault) → AreRemoved tries ks old new (Err f) → AreRemoved tries (ks ++ ls) old new (Err f)
   removed_ended f removed = record {
@@ -160,11 +176,15 @@ module _ (tries : ℕ) (old new : Shown) (key : List ℕ) (step : Steps (Removal
       cause = cause;
     }
 
+    stops_one : (fault : DepotFault) → Caused {T = Unit {0}} tries old new (Err fault) → StopsAt tries (key ∷ []) (old, new) key fault
+    unfolding ends_one
+    stops_one fault cause = record { ends = ends_one RemovalIn tries key fault old new kept_key cause; gone = All-nil (IsGoneBut old.late new.held) }
+
     pub failed_key : Caused {T = Unit {0}} tries old new (Err depot.Failed) → AreRemoved tries (key ∷ []) old new (Err (Failed key))
-    failed_key cause = unremoved_key (Failed key) (ends_one RemovalIn tries key depot.Failed old new kept_key cause)
+    failed_key cause = unremoved_key (Failed key) (stops_one depot.Failed cause)
 
     pub lacked_key : Caused {T = Unit {0}} tries old new (Err depot.NoMemory) → AreRemoved tries (key ∷ []) old new (Err NoMemory)
-    lacked_key cause = unremoved_key NoMemory (key, ends_one RemovalIn tries key depot.NoMemory old new kept_key cause)
+    lacked_key cause = unremoved_key NoMemory (key, stops_one depot.NoMemory cause)
 
 -- ---- keys of a plan, up to one task and one operation more
 

@@ -3,6 +3,7 @@ use Rattle.std.specs.Prelude.{◌≡◌, ◌⊎◌, ℕ, ◌*◌, List, [], ◌�
 use Rattle.cu_store.specs.Faults.{Rose}
 use Rattle.cu_store.specs.Held.{Contents, Write, IsAmong}
 use Rattle.cu_store.specs.Steps.{Shown, Changes, Steps}
+use Rattle.cu_store.specs.declared.faults.DepotFault.{DepotFault}
 use Rattle.cu_store.specs.declared.faults.DepotFault.TheVariants as depot
 use Rattle.cu_op.specs.PlanView.{PlanView}
 use Rattle.cu_work.specs.Ends.{EndsAt}
@@ -27,10 +28,15 @@ abbrev pub IsGoneBut : List Write → Option Contents → List ℕ → Type 0
 IsGoneBut late None key = Unit {0}
 IsGoneBut late (Some held) key = (held key ≡ None) ⊎ ((bytes : List ℕ) × (held key ≡ Some bytes) × IsAmong late key bytes)
 
--- why removing ended: each of the calls for a key failed, or the store lacked memory at one; those before it were removed
+-- Removing ended at this key. Those before it were removed: each is absent, or a put that was late at first landed there.
+pub record StopsAt (tries : ℕ) (keys : List (List ℕ)) (shown : Shown × Shown) (key : List ℕ) (fault : DepotFault) : Type 0 where
+  pub ends : EndsAt RemovalIn tries keys shown key fault
+  pub gone : All (IsGoneBut shown.0.late shown.1.held) ends.front
+
+-- why removing ended: each of the calls for a key failed, or the store lacked memory at one
 abbrev pub IsRemoveFault : ℕ → List (List ℕ) → Shown × Shown → RemoveFault → Type 0
-IsRemoveFault tries keys shown (Failed key) = EndsAt RemovalIn tries keys shown key depot.Failed
-IsRemoveFault tries keys shown NoMemory = (key : List ℕ) × EndsAt RemovalIn tries keys shown key depot.NoMemory
+IsRemoveFault tries keys shown (Failed key) = StopsAt tries keys shown key depot.Failed
+IsRemoveFault tries keys shown NoMemory = (key : List ℕ) × StopsAt tries keys shown key depot.NoMemory
 
 -- Keys were removed, each by at most `tries` calls, and by one at least where all were.
 pub record AreRemoved (tries : ℕ) (keys : List (List ℕ)) (old new : Shown) (result : Result (Unit {0}) RemoveFault) : Type 0 where

@@ -1,6 +1,6 @@
 use Rattle.std.specs.Prelude.{List, ℕ, Ok, map, string_bytes}
 use Rattle.std.proofs.Common.{◌≡◌, refl, sym, subst}
-use Rattle.cu_top.proofs.AnsweredLemmas.{by_command, by_refusal, by_want}
+use Rattle.cu_top.proofs.ToldLemmas.{by_command, by_refusal, by_want}
 use Rattle.cu_top.specs.Words.{command_of, run, resume, drop, plan, load, check, print, demo}
 use Rattle.cu_top.proofs.call.carry.Goals as goal
 

@@ -1,6 +1,6 @@
 use Rattle.std.proofs.Common.{refl, inl, arith}
 use Rattle.cu_command.proofs.SeenLemmas.{stepped_same}
-use Rattle.cu_top.proofs.AnsweredLemmas.{plan_answered}
+use Rattle.cu_top.proofs.ToldLemmas.{plan_answered}
 use Rattle.cu_top.proofs.call.plan_command.Goals as goal
 
 pub returns-in-Ok : goal.returns-in-Ok

@@ -1,6 +1,6 @@
 use Rattle.std.proofs.Common.{List, ℕ, refl, sym, subst, inl, arith}
 use Rattle.cu_command.proofs.SeenLemmas.{stepped_same}
-use Rattle.cu_top.proofs.AnsweredLemmas.{resume_answered}
+use Rattle.cu_top.proofs.ToldLemmas.{resume_answered}
 use Rattle.cu_top.specs.Held.{IsLeftEntry}
 use Rattle.cu_top.proofs.call.resume_command.Goals as goal
 

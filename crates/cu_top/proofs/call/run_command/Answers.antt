@@ -1,6 +1,6 @@
 use Rattle.std.proofs.Common.{List, ℕ, refl, sym, subst, inl, arith}
 use Rattle.cu_command.proofs.SeenLemmas.{stepped_same}
-use Rattle.cu_top.proofs.AnsweredLemmas.{run_answered}
+use Rattle.cu_top.proofs.ToldLemmas.{run_answered}
 use Rattle.cu_top.specs.Quiet.{IsCalm}
 use Rattle.cu_top.proofs.call.run_command.Goals as goal
 

@@ -2,13 +2,19 @@ use Rattle.std.proofs.Common.{◌∷◌, [], codes}
 use Rattle.cu_check.specs.Arrays.{IsReadChunk}
 use Rattle.cu_print.specs.Print.{IsArrayMetadata, IsChunkAt}
 use Rattle.cu_top.specs.Sample.{sample_input, sample_layout}
-use Rattle.cu_top.proofs.SampleLemmas.{servable, plannable, steady}
+use Rattle.cu_top.proofs.SampleArrays.{array_calm, demo_at_rest, demo_calm}
+use Rattle.cu_top.proofs.SampleLemmas.{run_given, plan_given, servable, plannable, steady}
 use Rattle.cu_top.proofs.laws.premises_law.Goals as goal
 
 pub returns : goal.returns
 returns c = record {
+  run_words = run_given;
   run = servable;
+  plan_words = plan_given;
   plan = plannable;
+  load = array_calm;
+  demo = demo_at_rest;
+  demo_quiet = demo_calm;
   print_metadata = steady (IsArrayMetadata (codes "x"));
   print_chunks = λ place. steady (IsChunkAt (codes "x") sample_layout place);
   check = steady (IsReadChunk (sample_input ∷ []));

@@ -24,8 +24,21 @@ find_rest-requires-clause-known g c =
 pub returns-in-Err : goal.returns-in-Err
 returns-in-Err g c = record {
   ended = λ text old source next sink after found premise.
-      rest_refused (case c.args.options.now text (scene source sink old) (scene next after (g.D.Depot.shown c.find_rest.new.depot))) c.args.ready.now.job (g.D.Share.yards_lack c.find_rest.new.depot)
-      (g.D.Depot.shown c.args.depot.now) c.in-Err.status found.accepted found.planned found.spared c.find_rest.ensures.step c.in-Err.ensures.fault;
+      let options = c.args.options.now in
+      let run = case options text (scene source sink old) (scene next after (g.D.Depot.shown c.find_rest.new.depot)) in
+      let job = c.args.ready.now.job in
+      let laws : PlanLaws run job = record {
+        sound = c.merged_plan_law.ensures.sound job.expr job.types job.inputs.items options found.planned;
+        needs = λ j below.
+            let most = c.merged_plan_law.ensures.needs job.expr job.types job.inputs.items options j found.planned below in
+            let memory = c.merged_plan_law.ensures.memory job.expr job.types job.inputs.items options in
+            omega (arith, most, memory);
+        names = λ differ. c.merged_plan_law.ensures.names job.expr job.types job.inputs.items options (record_text options job) (out_metadata job) found.planned differ;
+        left = c.left_law.ensures;
+        meant = meant run job found.planned c.merged_plan_law.ensures.inputs c.merged_plan_law.ensures.output c.merged_plan_law.ensures.equal c.complete_law.ensures.elements;
+      } in
+      rest_refused run job (g.D.Share.yards_lack c.find_rest.new.depot) (g.D.Depot.shown c.args.depot.now) c.in-Err.status
+      (reopened run job (g.D.Depot.shown c.args.depot.now) found laws) found.spared c.find_rest.ensures.step c.in-Err.ensures.fault;
   calls = tt;
   stopped_calls = rest_stopped c.args.options.now c.args.ready.now.job c.args.ready.now.plan (keys_of c.args.options.now c.args.ready.now.job) (g.D.Depot.shown c.args.depot.now)
       (g.D.Depot.shown c.find_rest.new.depot) c.requires.ready.plan_is c.find_rest.ensures.calls c.in-Err.status c.in-Err.ensures.fault;

@@ -15,7 +15,8 @@ go_on-requires-clause-left g c κs within = (c.args.text.now, g.D.Depot.shown c.
 pub returns-in-Err-clause-answer : goal.returns-in-Err-clause-answer
 returns-in-Err-clause-answer g c = λ source next.
     let out = stream (g.W.Sink.written c.args.out.now) (g.W.Sink.faults c.args.out.now) in
-    not_reopened (g.D.Share.yards_lack c.reopen.new.depot) (case c.args.options.now c.args.text.now (scene source out (g.D.Depot.shown c.args.depot.now)) (scene next out (g.D.Depot.shown c.reopen.new.depot))) c.in-Err.status
+    not_reopened (g.D.Share.yards_lack c.reopen.new.depot) (case c.args.options.now c.args.text.now (scene source out (g.D.Depot.shown c.args.depot.now)) (scene next out (g.D.Depot.shown c.reopen.new.depot)))
+    c.requires.left c.in-Err.status
     (c.in-Err.ensures.refused source next out out)
 
 pub returns-in-Ok-report-clause-answer : goal.returns-in-Ok-report-clause-answer
