@@ -56,6 +56,8 @@ impl Cells {
         ensures own { IsHandOf self.new pass.new }
         ensures same { self.new ≡ self.old }
         ensures found { IsTrue (landed_of pass.old (spec_key (served_by self.old).specs at)) → IsPresent (Ok result) }
+        ensures absent { let key = spec_key (served_by self.old).specs at in
+            result ≡ Got.Absent → ((known_of pass.old).seen key ≡ false) × (landed_of pass.old key ≡ false) }
         ensures got { Gets (shown_by (known_of pass.new)).held (spec_key (served_by self.old).specs at) out.new (Ok result) }
         ensures later { IsLater (known_of pass.old) (known_of pass.new) }
         ensures others { (key : List ℕ) → bytes_eq (spec_key (served_by self.old).specs at) key ≡ false → (known_of pass.new).seen key ≡ (known_of pass.old).seen key }
