@@ -30,6 +30,7 @@ mod ResumeServed
 mod RunLemmas
 mod SampleArrays
 mod SampleLemmas
+mod SampleResume
 mod StartsFew
 mod ToldLemmas
 mod VersionLemmas
