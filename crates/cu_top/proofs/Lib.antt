@@ -33,5 +33,6 @@ mod SampleLemmas
 mod SampleResume
 mod StartsFew
 mod ToldLemmas
+mod TurnedBack
 mod VersionLemmas
 mod WordsExample

@@ -19,6 +19,7 @@ use Rattle.cu_command.specs.declared.status.Status.{Status}
 use Rattle.cu_command.specs.declared.status.Status.TheVariants.{Done, TaskFailed, ReadFault, WriteFault, BadChunk, DepotFailed, NoMemory}
 use Rattle.cu_lower.specs.declared.options.Options.{Options}
 use Rattle.cu_plan.specs.Refusal.{refusal_of}
+use Rattle.cu_top.specs.Held.{HasRecordOrLate}
 use Rattle.cu_top.specs.Prepare.{job_plan, asked_keys, HasNoOwnInput}
 use Rattle.cu_top.specs.Quiet.{run_of_job}
 use Rattle.cu_top.specs.Record.{record_text}
@@ -86,6 +87,21 @@ IsResumeCause (BadChunk key got want) = Unit {0}
 IsResumeCause (DepotFailed key) = Unit {0}
 IsResumeCause NoMemory = Unit {0}
 IsResumeCause status = ⊥
+
+-- ---- where the record isn't there
+
+-- the record of the text's job isn't held, and no put of it is late
+abbrev pub IsUnrecorded : Options → List ℕ → Contents → Shown → Type 0
+IsUnrecorded options text entry old = (job : Job) → IsJob old text job
+    → HasRecordOrLate (run_of_job options job) old entry → ⊥
+
+-- nothing was answered that comes behind the record
+abbrev pub IsTurnedBack : Status → Type 0
+IsTurnedBack Done = ⊥
+IsTurnedBack (TaskFailed op task) = ⊥
+IsTurnedBack WriteFault = ⊥
+IsTurnedBack (BadChunk key got want) = ⊥
+IsTurnedBack status = Unit {0}
 
 -- ---- where few calls fail
 
