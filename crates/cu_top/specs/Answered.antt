@@ -31,8 +31,8 @@ use Rattle.cu_top.specs.Drop.{DropTells, IsDropFailed, IsDropShort, IsDropped}
 use Rattle.cu_top.specs.Drop.{IsDroppedUnreported}
 use Rattle.cu_top.specs.Held.{HasNoRecord, IsOtherPlan}
 use Rattle.cu_top.specs.Planned.{IsPrinted, IsUnprinted, PlansWithin, PlanTells}
-use Rattle.cu_top.specs.Resume.{HadNoRecord, IsResumeFailed, IsResumeShort, IsResumedBad, IsResumedBroken}
-use Rattle.cu_top.specs.Resume.{IsResumedDone, IsResumedUnreported, ResumeTells}
+use Rattle.cu_top.specs.Resume.{HadNoRecord, IsResumeFailed, IsResumeShort, IsResumedBad}
+use Rattle.cu_top.specs.Resume.{IsResumedBroken, IsResumedDone, IsResumedUnreported, ResumeTells}
 use Rattle.cu_top.specs.Run.{Scene, scene, IsRunDone, IsUnreported, IsTaskFailed, IsBadInput}
 use Rattle.cu_top.specs.Run.{IsDepotFailed, HasNoJob, HasNoPlan, IsBlocked, IsMissing, IsRefused}
 use Rattle.cu_top.specs.Run.{IsBadExpr, IsBadType, PrintsOnly, seen_in}

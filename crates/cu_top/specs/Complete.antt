@@ -42,7 +42,8 @@ pub record IsAtRest (options : Options) (job : Job) (entry : Contents) (old : Sh
 
 -- The text has a job, its inputs and types accepted, and all is at rest for the job. A text has at
 -- most one.
-pub record IsServable (options : Options) (text : List ℕ) (entry : Contents) (old : Shown) : Type 0 where
+pub record IsServable (options : Options) (text : List ℕ) (entry : Contents) (old : Shown)
+    : Type 0 where
   pub typable : IsTypable old text
   pub rest : (job : Job) → IsJob old text job → IsAtRest options job entry old
 
@@ -68,7 +69,8 @@ pub record IsLeftRecorded (options : Options) (job : Job) (entry : Contents) (ol
   pub recorded : entry (record_key_of job.expr.store_as) ≡ Some (record_text options job)
 
 -- The text has a job, its inputs and types accepted, and a run of it goes on from its record.
-pub record IsResumable (options : Options) (text : List ℕ) (entry : Contents) (old : Shown) : Type 0 where
+pub record IsResumable (options : Options) (text : List ℕ) (entry : Contents) (old : Shown)
+    : Type 0 where
   pub typable : IsTypable old text
   pub rest : (job : Job) → IsJob old text job → IsLeftRecorded options job entry old
 
