@@ -9,6 +9,7 @@ use Rattle.cu_top.proofs.DemoServed.{demo_served}
 use Rattle.cu_top.proofs.FewFailures.{run_few, resume_few, drop_few, plan_few, load_few, check_few, print_few, demo_few}
 use Rattle.cu_top.proofs.PlannedLemmas.{plan_refused_text, plan_served, plan_spared}
 use Rattle.cu_top.proofs.ResumeServed.{caused, went_on}
+use Rattle.cu_top.proofs.TurnedBack.{drop_back, resume_back}
 use Rattle.cu_top.specs.Answered.{TextAnswered, RunAnswered, ResumeAnswered, DropAnswered, PlanAnswered, LoadAnswered, CheckAnswered, PrintAnswered, DemoAnswered}
 use Rattle.cu_top.specs.Call.{RunTells}
 use Rattle.cu_top.specs.Demo.{DemoTells, demo_between}
@@ -78,6 +79,7 @@ module _ {lack : Bool} {o : Options} {old new : Scene} {status : Status} (told :
     refused = resume_text;
     resumes = told.tells;
     prints = told.prints;
+    unrecorded = λ text entry left held none. resume_back o old new text entry left held none lack status told.tells;
     causes = λ text entry left held premise. caused o text entry old new left held premise lack status told.tells;
     complete = λ text entry left held premise whole still. went_on o text entry old new left held premise whole still.source still.sink still.depot lack status told.tells;
     calls = told.calls;
@@ -110,6 +112,7 @@ module _ {o : Options} {old new : Scene} {status : Status} (told : DropTold o ol
     refused = drop_text;
     drops = told.tells;
     prints = told.prints;
+    unrecorded = λ text entry left held none. drop_back o old new text entry left held none status told.tells;
     calls = told.calls;
     few_failures = λ few. drop_few old new o few status told.tells;
   }

@@ -30,7 +30,9 @@ mod ResumeServed
 mod RunLemmas
 mod SampleArrays
 mod SampleLemmas
+mod SampleResume
 mod StartsFew
 mod ToldLemmas
+mod TurnedBack
 mod VersionLemmas
 mod WordsExample

@@ -41,27 +41,27 @@ use Rattle.cu_state.specs.Pieces.{IsInputChunk}
 use Rattle.cu_work.specs.Order.{IsFree, plan_keys}
 use Rattle.cu_top.specs.Complete.{AreWhole, IsAtRest, IsPlannable, IsServable}
 use Rattle.cu_top.specs.Prepare.{asked_keys, is_own_input, job_plan}
-use Rattle.cu_top.specs.Sample.{sample_options, sample_input, sample_layout, sample_metadata, sample_chunk, sample_held, sample_shown, sample_late, sample_text, sample_run, sample_plan}
+use Rattle.cu_top.specs.Sample.{sample_options, sample_with, shown_with, sample_input, sample_layout, sample_metadata, sample_chunk, sample_held, sample_shown, sample_late, sample_text, sample_run, sample_plan}
 use Rattle.cu_words.specs.Words.{line_given}
 use Rattle.cu_top.specs.Words.{command_of, plan, run}
 
-abbrev copied : Expression
+abbrev pub copied : Expression
 copied = record { nodes = record { name = codes "x"; form = Form.Input (codes "x") } ∷ record { name = codes "t"; form = Form.Rechunk (Arg.Node 0 ∷ []) (3 ∷ []) } ∷ []; out = 1; store_as = codes "y" }
 
-abbrev infos : List NodeInfo
+abbrev pub infos : List NodeInfo
 infos = info_of Int16 (7 ∷ []) (5 ∷ []) ∷ info_of Int16 (7 ∷ []) (3 ∷ []) ∷ []
 
-abbrev inputs : List InputInfo
+abbrev pub inputs : List InputInfo
 inputs = sample_input ∷ []
 
-said : expression_of sample_text ≡ Ok copied
+pub said : expression_of sample_text ≡ Ok copied
 unfolding expression_of sample_text serde_json_on_literals is_utf8 chars
 said = refl
 
-has_types : typed inputs copied ≡ Ok infos
+pub has_types : typed inputs copied ≡ Ok infos
 has_types = refl
 
-has_plan : refusal_of sample_options copied infos ≡ None
+pub has_plan : refusal_of sample_options copied infos ≡ None
 has_plan = refl
 
 pub run_given : command_of sample_run ≡ Ok (run sample_options)
@@ -77,63 +77,64 @@ plan_given = refl
 storable : IsStorable (layout_view sample_layout)
 storable = record { axes = omega arith; grid = refl; fill = (le_z_yes tt, le_z_yes tt); endian = λ one. refl }
 
-holds : StoresLayout (Some sample_held) (codes "x") sample_layout
-holds = inl (
-  sample_metadata,
-  refl,
-  record {
-    grid = record { ranks = refl; short = omega arith; positive = All-cons (λ c. 0 < c) 5 [] (omega arith) (All-nil (λ c. 0 < c)); elements = omega arith; chunk_elements = omega arith };
-    reads = read_back (layout_view sample_layout) storable;
-  },
-)
-
 -- texts that differ where they are compared aren't one
-apart : (a b : List ℕ) → bytes_eq a b ≡ false → a ≡ b → ⊥
+pub apart : (a b : List ℕ) → bytes_eq a b ≡ false → a ≡ b → ⊥
 apart a b differ same = true≢false (sym ((bytes_eq-Decides a b).1 same) ∙ differ)
 
-calm_written : IsCalmAt sample_shown (codes "x/zarr.json")
-calm_written bytes (inl (key, same)) = absurd (apart (codes "x/zarr.json") (codes "x/c/0") refl key)
-calm_written bytes (inr none) = absurd none
+module _ (recorded : Option (List ℕ)) where
+  holds : StoresLayout (Some (sample_with recorded)) (codes "x") sample_layout
+  holds = inl (
+    sample_metadata,
+    refl,
+    record {
+      grid = record { ranks = refl; short = omega arith; positive = All-cons (λ c. 0 < c) 5 [] (omega arith) (All-nil (λ c. 0 < c)); elements = omega arith; chunk_elements = omega arith };
+      reads = read_back (layout_view sample_layout) storable;
+    },
+  )
 
-calm_zarray : IsCalmAt sample_shown (codes "x/.zarray")
-calm_zarray bytes (inl (key, same)) = absurd (apart (codes "x/.zarray") (codes "x/c/0") refl key)
-calm_zarray bytes (inr none) = absurd none
+  calm_written : IsCalmAt (shown_with recorded) (codes "x/zarr.json")
+  calm_written bytes (inl (key, same)) = absurd (apart (codes "x/zarr.json") (codes "x/c/0") refl key)
+  calm_written bytes (inr none) = absurd none
 
-held_all : All (λ (i : InputInfo). StoresLayout (Some sample_held) i.name i.layout) inputs
-held_all = All-cons (λ (i : InputInfo). StoresLayout (Some sample_held) i.name i.layout) sample_input [] holds (All-nil (λ (i : InputInfo). StoresLayout (Some sample_held) i.name i.layout))
+  calm_zarray : IsCalmAt (shown_with recorded) (codes "x/.zarray")
+  calm_zarray bytes (inl (key, same)) = absurd (apart (codes "x/.zarray") (codes "x/c/0") refl key)
+  calm_zarray bytes (inr none) = absurd none
 
-calm_all : All (λ (i : InputInfo). AreCalmAt sample_shown i.name) inputs
-calm_all = All-cons (λ (i : InputInfo). AreCalmAt sample_shown i.name) sample_input [] (calm_written, calm_zarray) (All-nil (λ (i : InputInfo). AreCalmAt sample_shown i.name))
+  held_all : All (λ (i : InputInfo). StoresLayout (Some (sample_with recorded)) i.name i.layout) inputs
+  held_all = All-cons (λ (i : InputInfo). StoresLayout (Some (sample_with recorded)) i.name i.layout) sample_input [] holds (All-nil (λ (i : InputInfo). StoresLayout (Some (sample_with recorded)) i.name i.layout))
 
-typable : IsTypable sample_shown sample_text
-typable = record {
-  contents = sample_held;
-  told = refl;
-  expr = copied;
-  said = said;
-  inputs = inputs;
-  names = refl;
-  held = held_all;
-  calm = calm_all;
-  types = infos;
-  accepted = has_types;
-}
+  calm_all : All (λ (i : InputInfo). AreCalmAt (shown_with recorded) i.name) inputs
+  calm_all = All-cons (λ (i : InputInfo). AreCalmAt (shown_with recorded) i.name) sample_input [] (calm_written, calm_zarray) (All-nil (λ (i : InputInfo). AreCalmAt (shown_with recorded) i.name))
+
+  pub typable : IsTypable (shown_with recorded) sample_text
+  typable = record {
+    contents = sample_with recorded;
+    told = refl;
+    expr = copied;
+    said = said;
+    inputs = inputs;
+    names = refl;
+    held = held_all;
+    calm = calm_all;
+    types = infos;
+    accepted = has_types;
+  }
 
 -- ---- the plan
 
-abbrev copy_plan : PlanView
+abbrev pub copy_plan : PlanView
 copy_plan = merged_plan_of copied infos inputs sample_options
 
 keys_are : plan_keys copy_plan (length copy_plan.ops) ≡ codes "y/c/0" ∷ codes "y/c/1" ∷ codes "y/c/2" ∷ []
 unfolding merged_plan_of digits
 keys_are = refl
 
-abbrev copy_arrays : List ArrayInfo
+abbrev pub copy_arrays : List ArrayInfo
 copy_arrays =
     record { prefix = codes "x"; layout = sample_layout; maker = None }
     ∷ record { prefix = codes "y"; layout = made_layout (info_of Int16 (7 ∷ []) (3 ∷ [])); maker = Some 0 } ∷ []
 
-arrays_are : copy_plan.arrays ≡ copy_arrays
+pub arrays_are : copy_plan.arrays ≡ copy_arrays
 unfolding merged_plan_of
 arrays_are = refl
 
@@ -143,16 +144,16 @@ not_late : (key : List ℕ) → (key ≡ codes "x/c/0" → ⊥) → (bytes : Lis
 not_late key other bytes (inl (is, same)) = other is
 not_late key other bytes (inr none) = absurd none
 
-abbrev IsSettled : List ℕ → Type 0
+abbrev pub IsSettled : List ℕ → Type 0
 IsSettled key = (bytes : List ℕ) → IsAmong sample_late key bytes → ⊥
 
 settled_at : (key : List ℕ) → bytes_eq key (codes "x/c/0") ≡ false → IsSettled key
 settled_at key differ = not_late key (apart key (codes "x/c/0") differ)
 
-abbrev six_keys : List (List ℕ)
+abbrev pub six_keys : List (List ℕ)
 six_keys = codes "_cubed/y/plan.json" ∷ codes "y/zarr.json" ∷ codes "y/.zarray" ∷ codes "y/c/0" ∷ codes "y/c/1" ∷ codes "y/c/2" ∷ []
 
-all_free : All (IsFree sample_held) six_keys
+pub all_free : All (IsFree sample_held) six_keys
 all_free =
     All-cons (IsFree sample_held) (codes "_cubed/y/plan.json") (codes "y/zarr.json" ∷ codes "y/.zarray" ∷ codes "y/c/0" ∷ codes "y/c/1" ∷ codes "y/c/2" ∷ []) refl
     (All-cons (IsFree sample_held) (codes "y/zarr.json") (codes "y/.zarray" ∷ codes "y/c/0" ∷ codes "y/c/1" ∷ codes "y/c/2" ∷ []) refl
@@ -162,7 +163,7 @@ all_free =
     (All-cons (IsFree sample_held) (codes "y/c/2") [] refl
     (All-nil (IsFree sample_held)))))))
 
-all_settled : All IsSettled six_keys
+pub all_settled : All IsSettled six_keys
 all_settled =
     All-cons IsSettled (codes "_cubed/y/plan.json") (codes "y/zarr.json" ∷ codes "y/.zarray" ∷ codes "y/c/0" ∷ codes "y/c/1" ∷ codes "y/c/2" ∷ []) (settled_at (codes "_cubed/y/plan.json") refl)
     (All-cons IsSettled (codes "y/zarr.json") (codes "y/.zarray" ∷ codes "y/c/0" ∷ codes "y/c/1" ∷ codes "y/c/2" ∷ []) (settled_at (codes "y/zarr.json") refl)
@@ -174,19 +175,21 @@ all_settled =
 
 -- ---- what is late carries what is held
 
-held_chunk : (key bytes : List ℕ) → IsAmong sample_late key bytes → sample_held key ≡ Some bytes
-held_chunk key bytes (inl (is, same)) = subst (λ (k : List ℕ). sample_held k ≡ Some bytes) (sym is) (ap (λ (b : List ℕ). Some b) (sym same))
-held_chunk key bytes (inr none) = absurd none
+pub held_chunk : (recorded : Option (List ℕ)) (key bytes : List ℕ) → IsAmong sample_late key bytes → sample_with recorded key ≡ Some bytes
+held_chunk recorded key bytes (inl (is, same)) = subst (λ (k : List ℕ). sample_with recorded k ≡ Some bytes) (sym is) (ap (λ (b : List ℕ). Some b) (sym same))
+held_chunk recorded key bytes (inr none) = absurd none
 
 pub steady : (K : List ℕ → Type 0) → IsSteady K (Some sample_held) sample_late
-steady K key bytes here among = held_chunk key bytes among
+steady K key bytes here among = held_chunk None key bytes among
 
 -- ---- each chunk of the input is absent or whole
 
-a_chunk : (first second : Bool) (bytes : List ℕ) → first ≡ false → (if first then Some sample_metadata else if second then Some sample_chunk else None) ≡ Some bytes → length bytes ≡ 10
-a_chunk true second bytes other is = cc
-a_chunk false true bytes other is = let same : sample_chunk ≡ bytes = cc in sym (ap length same)
-a_chunk false false bytes other is = cc
+a_chunk : (first second third : Bool) (recorded : Option (List ℕ)) (bytes : List ℕ) → first ≡ false → third ≡ false
+    → (if first then Some sample_metadata else if second then Some sample_chunk else if third then recorded else None) ≡ Some bytes → length bytes ≡ 10
+a_chunk true second third recorded bytes other last is = cc
+a_chunk false true third recorded bytes other last is = let same : sample_chunk ≡ bytes = cc in sym (ap length same)
+a_chunk false false true recorded bytes other last is = cc
+a_chunk false false false recorded bytes other last is = cc
 
 no_metadata : (key other : List ℕ) (test : Bool) → (key ≡ other → ⊥) → bytes_eq key other ≡ test → test ≡ false
 no_metadata key other true apart same = absurd (apart ((bytes_eq-Decides key other).0 same))
@@ -195,25 +198,27 @@ no_metadata key other false apart same = refl
 small : (i : ℕ) → i < 2 → All (λ j. j < 2 ^ 64) (i ∷ [])
 small i below = All-cons (λ j. j < 2 ^ 64) i [] (omega arith) (All-nil (λ j. j < 2 ^ 64))
 
-whole_at : (coord bytes : List ℕ) → IsCoordinate sample_layout.grid coord → sample_held (chunk_key_of (codes "x") sample_layout.encoding coord) ≡ Some bytes → length bytes ≡ 10
-whole_at [] bytes inside is = absurd inside
-whole_at (i ∷ []) bytes inside is =
-    let differ = chunk_not_metadata (codes "x") sample_layout.encoding (i ∷ []) (small i inside.0) in
-    a_chunk (bytes_eq (chunk_key_of (codes "x") sample_layout.encoding (i ∷ [])) (codes "x/zarr.json")) (bytes_eq (chunk_key_of (codes "x") sample_layout.encoding (i ∷ [])) (codes "x/c/0")) bytes
-    (no_metadata (chunk_key_of (codes "x") sample_layout.encoding (i ∷ [])) (codes "x/zarr.json") (bytes_eq (chunk_key_of (codes "x") sample_layout.encoding (i ∷ [])) (codes "x/zarr.json")) differ refl) is
-whole_at (i ∷ j ∷ rest) bytes inside is = absurd inside.1
-
 no_maker : ◌≡◌ {A = Option ℕ} (Some 0) None → ⊥
 no_maker e = cc
 
-whole_in : (a : ℕ) (coord bytes : List ℕ) → a < 2 → maker_at copy_arrays a ≡ None → IsCoordinate (grid_at copy_arrays a) coord
-    → sample_held (chunk_key_of (array_at copy_arrays a).prefix (array_at copy_arrays a).layout.encoding coord) ≡ Some bytes → length bytes ≡ chunk_room copy_arrays a
-whole_in zero coord bytes below given inside is = whole_at coord bytes inside is
-whole_in (suc zero) coord bytes below given inside is = absurd (no_maker given)
-whole_in (suc (suc n)) coord bytes below given inside is = absurd (omega (arith, below))
+module _ (recorded : Option (List ℕ)) where
+  whole_at : (coord bytes : List ℕ) → IsCoordinate sample_layout.grid coord → sample_with recorded (chunk_key_of (codes "x") sample_layout.encoding coord) ≡ Some bytes → length bytes ≡ 10
+  whole_at [] bytes inside is = absurd inside
+  whole_at (i ∷ []) bytes inside is =
+      let differ = chunk_not_metadata (codes "x") sample_layout.encoding (i ∷ []) (small i inside.0) in
+      a_chunk (bytes_eq (chunk_key_of (codes "x") sample_layout.encoding (i ∷ [])) (codes "x/zarr.json")) (bytes_eq (chunk_key_of (codes "x") sample_layout.encoding (i ∷ [])) (codes "x/c/0"))
+      (bytes_eq (chunk_key_of (codes "x") sample_layout.encoding (i ∷ [])) (codes "_cubed/y/plan.json")) recorded bytes
+      (no_metadata (chunk_key_of (codes "x") sample_layout.encoding (i ∷ [])) (codes "x/zarr.json") (bytes_eq (chunk_key_of (codes "x") sample_layout.encoding (i ∷ [])) (codes "x/zarr.json")) differ refl) refl is
+  whole_at (i ∷ j ∷ rest) bytes inside is = absurd inside.1
 
-whole : (k : Cell) (bytes : List ℕ) → IsInputChunk copy_arrays k → sample_held (key_of copy_arrays k) ≡ Some bytes → length bytes ≡ chunk_room copy_arrays k.array
-whole k bytes input is = whole_in k.array k.coord bytes input.within input.given input.coordinate is
+  whole_in : (a : ℕ) (coord bytes : List ℕ) → a < 2 → maker_at copy_arrays a ≡ None → IsCoordinate (grid_at copy_arrays a) coord
+      → sample_with recorded (chunk_key_of (array_at copy_arrays a).prefix (array_at copy_arrays a).layout.encoding coord) ≡ Some bytes → length bytes ≡ chunk_room copy_arrays a
+  whole_in zero coord bytes below given inside is = whole_at coord bytes inside is
+  whole_in (suc zero) coord bytes below given inside is = absurd (no_maker given)
+  whole_in (suc (suc n)) coord bytes below given inside is = absurd (omega (arith, below))
+
+  whole : (k : Cell) (bytes : List ℕ) → IsInputChunk copy_arrays k → sample_with recorded (key_of copy_arrays k) ≡ Some bytes → length bytes ≡ chunk_room copy_arrays k.array
+  whole k bytes input is = whole_in k.array k.coord bytes input.within input.given input.coordinate is
 
 -- ---- the job of the text
 
@@ -223,49 +228,50 @@ same_expression e f one other = cc
 same_types : (a b : List NodeInfo) → typed inputs copied ≡ Ok a → typed inputs copied ≡ Ok b → a ≡ b
 same_types a b one other = cc
 
-module _ (job : Job) (is : IsJob sample_shown sample_text job) where
-  expr_is : job.expr ≡ copied
+module _ (recorded : Option (List ℕ)) (job : Job) (is : IsJob (shown_with recorded) sample_text job) where
+  pub expr_is : job.expr ≡ copied
   expr_is = same_expression job.expr copied is.said said
 
-  inputs_are : job.inputs.items ≡ inputs
-  inputs_are = sym (inputs_read sample_shown sample_held inputs job.inputs.items refl (sym (is.names ∙ ap names_in expr_is)) held_all calm_all is.inputs)
+  pub inputs_are : job.inputs.items ≡ inputs
+  inputs_are = sym (inputs_read (shown_with recorded) (sample_with recorded) inputs job.inputs.items refl (sym (is.names ∙ ap names_in expr_is)) (held_all recorded) (calm_all recorded) is.inputs)
 
-  types_are : job.types ≡ infos
+  pub types_are : job.types ≡ infos
   types_are =
       same_types job.types infos
       (subst (λ (e : Expression). typed inputs e ≡ Ok job.types) expr_is (subst (λ (is : List InputInfo). typed is job.expr ≡ Ok job.types) inputs_are is.types)) has_types
 
-  plan_is : job_plan sample_options job ≡ copy_plan
+  pub plan_is : job_plan sample_options job ≡ copy_plan
   plan_is =
       ap (λ (e : Expression). merged_plan_of e job.types job.inputs.items sample_options) expr_is ∙ ap (λ (ts : List NodeInfo). merged_plan_of copied ts job.inputs.items sample_options) types_are
       ∙ ap (λ (is : List InputInfo). merged_plan_of copied infos is sample_options) inputs_are
 
-  asked_are : asked_keys sample_options job ≡ six_keys
+  pub asked_are : asked_keys sample_options job ≡ six_keys
   asked_are =
       ap (λ (e : Expression). record_key_of e.store_as ∷ metadata_key_of e.store_as ∷ zarray_key_of e.store_as ∷ plan_keys (job_plan sample_options job) (length (job_plan sample_options job).ops)) expr_is
       ∙ ap (λ (p : PlanView). record_key_of (codes "y") ∷ metadata_key_of (codes "y") ∷ zarray_key_of (codes "y") ∷ plan_keys p (length p.ops)) plan_is
       ∙ ap (λ (ks : List (List ℕ)). record_key_of (codes "y") ∷ metadata_key_of (codes "y") ∷ zarray_key_of (codes "y") ∷ ks) keys_are
 
-  planned : refusal_of sample_options job.expr job.types ≡ None
+  pub planned : refusal_of sample_options job.expr job.types ≡ None
   planned = subst (λ (e : Expression). refusal_of sample_options e job.types ≡ None) (sym expr_is) (subst (λ (ts : List NodeInfo). refusal_of sample_options copied ts ≡ None) (sym types_are) has_plan)
 
-  whole_plan : AreWhole (job_plan sample_options job) sample_held
+  pub whole_plan : AreWhole (job_plan sample_options job) (sample_with recorded)
   whole_plan k bytes =
       let arrays : (job_plan sample_options job).arrays ≡ copy_arrays = ap (λ (p : PlanView). p.arrays) plan_is ∙ arrays_are in
-      subst (λ (xs : List ArrayInfo). IsInputChunk xs k → sample_held (key_of xs k) ≡ Some bytes → length bytes ≡ chunk_room xs k.array) (sym arrays) (whole k bytes)
+      subst (λ (xs : List ArrayInfo). IsInputChunk xs k → sample_with recorded (key_of xs k) ≡ Some bytes → length bytes ≡ chunk_room xs k.array) (sym arrays) (whole recorded k bytes)
 
+module _ (job : Job) (is : IsJob sample_shown sample_text job) where
   at_rest : IsAtRest sample_options job sample_held sample_shown
   at_rest = record {
-    planned = planned;
-    own = subst (λ (e : Expression). is_own_input e ≡ false) (sym expr_is) refl;
-    free = subst (All (IsFree sample_held)) (sym asked_are) all_free;
-    settled = subst (All IsSettled) (sym asked_are) all_settled;
-    calm = λ key bytes among input. held_chunk key bytes among;
-    whole = whole_plan;
+    planned = planned None job is;
+    own = subst (λ (e : Expression). is_own_input e ≡ false) (sym (expr_is None job is)) refl;
+    free = subst (All (IsFree sample_held)) (sym (asked_are None job is)) all_free;
+    settled = subst (All IsSettled) (sym (asked_are None job is)) all_settled;
+    calm = λ key bytes among input. held_chunk None key bytes among;
+    whole = whole_plan None job is;
   }
 
 pub servable : IsServable sample_options sample_text sample_held sample_shown
-servable = record { typable = typable; rest = at_rest }
+servable = record { typable = typable None; rest = at_rest }
 
 pub plannable : IsPlannable sample_options sample_text sample_shown
-plannable = record { typable = typable; planned = planned }
+plannable = record { typable = typable None; planned = planned None }

@@ -23,6 +23,7 @@ use Rattle.cu_top.specs.Call.{RunTells}
 use Rattle.cu_top.specs.Calls.{RunsWithin, ResumesWithin, DropsWithin, DemosWithin}
 use Rattle.cu_top.specs.Complete.{FewFailed, HasWholeInputs, IsNotGivenUp, IsPlannable}
 use Rattle.cu_top.specs.Complete.{IsResumable, IsResumeCause, IsServable, IsServed}
+use Rattle.cu_top.specs.Complete.{IsTurnedBack, IsUnrecorded}
 use Rattle.cu_top.specs.Demo.{DemoTells, IsDemoAsked, IsDemoAtRest, IsDemoBadChunk}
 use Rattle.cu_top.specs.Demo.{IsDemoDone, IsDemoKeyFailed, IsDemoShort, IsDemoTaskFailed}
 use Rattle.cu_top.specs.Demo.{IsDemoUnplanned, IsDemoUnprinted, demo_between}
@@ -30,8 +31,8 @@ use Rattle.cu_top.specs.Drop.{DropTells, IsDropFailed, IsDropShort, IsDropped}
 use Rattle.cu_top.specs.Drop.{IsDroppedUnreported}
 use Rattle.cu_top.specs.Held.{HasNoRecord, IsOtherPlan}
 use Rattle.cu_top.specs.Planned.{IsPrinted, IsUnprinted, PlansWithin, PlanTells}
-use Rattle.cu_top.specs.Resume.{HadNoRecord, IsResumeFailed, IsResumeShort, IsResumedBad, IsResumedBroken}
-use Rattle.cu_top.specs.Resume.{IsResumedDone, IsResumedUnreported, ResumeTells}
+use Rattle.cu_top.specs.Resume.{HadNoRecord, IsResumeFailed, IsResumeShort, IsResumedBad}
+use Rattle.cu_top.specs.Resume.{IsResumedBroken, IsResumedDone, IsResumedUnreported, ResumeTells}
 use Rattle.cu_top.specs.Run.{Scene, scene, IsRunDone, IsUnreported, IsTaskFailed, IsBadInput}
 use Rattle.cu_top.specs.Run.{IsDepotFailed, HasNoJob, HasNoPlan, IsBlocked, IsMissing, IsRefused}
 use Rattle.cu_top.specs.Run.{IsBadExpr, IsBadType, PrintsOnly, seen_in}
@@ -143,6 +144,9 @@ pub record ResumeAnswered (lack : Bool) (o : Options) (old new : Scene) (status 
   pub resumes : ResumeTells lack o old new status
   -- nothing but the report is printed
   pub prints : PrintsOnly status old.sink.told new.sink.told
+  -- where the record of the text's job isn't held, nor a put of it late, nothing behind it comes
+  pub unrecorded : (text : List ℕ) (entry : Contents) → old.source.told ≡ Some text
+      → old.depot.held ≡ Some entry → IsUnrecorded o text entry old.depot → IsTurnedBack status
   -- from its record and what its plan left, it fails by few causes alone
   pub causes : (text : List ℕ) (entry : Contents) → old.source.told ≡ Some text
       → old.depot.held ≡ Some entry → IsResumable o text entry old.depot → IsResumeCause status
@@ -178,6 +182,9 @@ pub record DropAnswered (o : Options) (old new : Scene) (status : Status) : Type
   pub drops : DropTells o old new status
   -- nothing but the report is printed
   pub prints : PrintsOnly status old.sink.told new.sink.told
+  -- where the record of the text's job isn't held, nor a put of it late, nothing behind it comes
+  pub unrecorded : (text : List ℕ) (entry : Contents) → old.source.told ≡ Some text
+      → old.depot.held ≡ Some entry → IsUnrecorded o text entry old.depot → IsTurnedBack status
   -- how many calls of the depot it makes at most
   pub calls : DropsWithin o old new status
   -- where few calls fail, no key is given up

@@ -19,6 +19,7 @@ use Rattle.cu_command.specs.declared.status.Status.{Status}
 use Rattle.cu_command.specs.declared.status.Status.TheVariants.{Done, TaskFailed, ReadFault, WriteFault, BadChunk, DepotFailed, NoMemory}
 use Rattle.cu_lower.specs.declared.options.Options.{Options}
 use Rattle.cu_plan.specs.Refusal.{refusal_of}
+use Rattle.cu_top.specs.Held.{HasRecordOrLate}
 use Rattle.cu_top.specs.Prepare.{job_plan, asked_keys, HasNoOwnInput}
 use Rattle.cu_top.specs.Quiet.{run_of_job}
 use Rattle.cu_top.specs.Record.{record_text}
@@ -41,7 +42,8 @@ pub record IsAtRest (options : Options) (job : Job) (entry : Contents) (old : Sh
 
 -- The text has a job, its inputs and types accepted, and all is at rest for the job. A text has at
 -- most one.
-pub record IsServable (options : Options) (text : List ℕ) (entry : Contents) (old : Shown) : Type 0 where
+pub record IsServable (options : Options) (text : List ℕ) (entry : Contents) (old : Shown)
+    : Type 0 where
   pub typable : IsTypable old text
   pub rest : (job : Job) → IsJob old text job → IsAtRest options job entry old
 
@@ -67,7 +69,8 @@ pub record IsLeftRecorded (options : Options) (job : Job) (entry : Contents) (ol
   pub recorded : entry (record_key_of job.expr.store_as) ≡ Some (record_text options job)
 
 -- The text has a job, its inputs and types accepted, and a run of it goes on from its record.
-pub record IsResumable (options : Options) (text : List ℕ) (entry : Contents) (old : Shown) : Type 0 where
+pub record IsResumable (options : Options) (text : List ℕ) (entry : Contents) (old : Shown)
+    : Type 0 where
   pub typable : IsTypable old text
   pub rest : (job : Job) → IsJob old text job → IsLeftRecorded options job entry old
 
@@ -86,6 +89,21 @@ IsResumeCause (BadChunk key got want) = Unit {0}
 IsResumeCause (DepotFailed key) = Unit {0}
 IsResumeCause NoMemory = Unit {0}
 IsResumeCause status = ⊥
+
+-- ---- where the record isn't there
+
+-- the record of the text's job isn't held, and no put of it is late
+abbrev pub IsUnrecorded : Options → List ℕ → Contents → Shown → Type 0
+IsUnrecorded options text entry old = (job : Job) → IsJob old text job
+    → HasRecordOrLate (run_of_job options job) old entry → ⊥
+
+-- nothing was answered that comes behind the record
+abbrev pub IsTurnedBack : Status → Type 0
+IsTurnedBack Done = ⊥
+IsTurnedBack (TaskFailed op task) = ⊥
+IsTurnedBack WriteFault = ⊥
+IsTurnedBack (BadChunk key got want) = ⊥
+IsTurnedBack status = Unit {0}
 
 -- ---- where few calls fail
 

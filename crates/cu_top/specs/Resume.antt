@@ -65,7 +65,8 @@ MetadataPut c job = PutOf (metadata_key_of job.expr.store_as) (out_metadata job)
 -- the key was held when the command began, or a put of it was late
 abbrev pub WasHeldOrLate : RunCase → Contents → List ℕ → Type 0
 WasHeldOrLate c entry key =
-    ((bytes : List ℕ) × (entry key ≡ Some bytes)) ⊎ ((bytes : List ℕ) × IsAmong c.old.depot.late key bytes)
+    ((bytes : List ℕ) × (entry key ≡ Some bytes))
+    ⊎ ((bytes : List ℕ) × IsAmong c.old.depot.late key bytes)
 
 -- so was each chunk of this task
 abbrev pub WasStored : RunCase → Job → Contents → ℕ → ℕ → Type 0
@@ -168,7 +169,8 @@ HadNoRecord c = IsSpared c × OfPlanned c (WasUnrecorded c)
 -- went on, and no chunk was put.
 abbrev pub IsResumeFailed : RunCase → List ℕ → Type 0
 IsResumeFailed c key = IsUnasked c key ⊎ (Rose (c.options.retries + 1) c.old.depot.faults c.new.depot.faults
-    × ((IsSpared c × ((job : Job) × IsReopened c job × Contains (keys_of c.options job) key)) ⊎ Resumed c (λ job. IsStoppedBefore c job key)))
+    × ((IsSpared c × ((job : Job) × IsReopened c job × Contains (keys_of c.options job) key))
+    ⊎ Resumed c (λ job. IsStoppedBefore c job key)))
 
 -- 70: nothing was changed; or the run went on, and no chunk was put unless the depot's yards lack
 -- memory

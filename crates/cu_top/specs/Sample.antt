@@ -1,5 +1,6 @@
 -- A small store and the text of an expression over it, which meet the premises of the commands.
-use Rattle.std.specs.Prelude.{ℕ, pos, false, List, [], ◌∷◌, codes, bytes_eq, Some, None, if◌then◌else◌}
+use Rattle.std.specs.Prelude.{ℕ, pos, false, List, [], ◌∷◌, codes, bytes_eq, unwrap_or}
+use Rattle.std.specs.Prelude.{Option, Some, None, if◌then◌else◌}
 use Rattle.cu_expr.specs.declared.inputs.InputInfo.{InputInfo}
 use Rattle.cu_load.specs.LoadForm.{GivenArray}
 use Rattle.cu_lower.specs.Parts.{made_layout}
@@ -11,6 +12,8 @@ use Rattle.cu_op.specs.Layout.{layout_view}
 use Rattle.cu_op.specs.declared.layout.Layout.{Layout}
 use Rattle.cu_store.specs.Held.{Contents, Write}
 use Rattle.cu_store.specs.Steps.{Shown}
+use Rattle.cu_read.specs.Read.{compact_of}
+use Rattle.cu_top.specs.Record.{inputs_text, joined}
 use Rattle.cu_zarr.specs.Metadata.{metadata_text}
 
 -- 7 numbers of 2 bytes in chunks of 5
@@ -30,19 +33,34 @@ sample_metadata = metadata_text (layout_view sample_layout)
 abbrev pub sample_chunk : List ℕ
 sample_chunk = 1 ∷ 0 ∷ 2 ∷ 0 ∷ 3 ∷ 0 ∷ 4 ∷ 0 ∷ 5 ∷ 0 ∷ []
 
--- held are its metadata and its first chunk; the second is absent
-abbrev pub sample_held : Contents
-sample_held key =
+-- Held are its metadata and its first chunk, and this as the record of the plan below. The second
+-- chunk is absent.
+abbrev pub sample_with : Option (List ℕ) → Contents
+sample_with recorded key =
     if bytes_eq key (codes "x/zarr.json") then Some sample_metadata
     else if bytes_eq key (codes "x/c/0") then Some sample_chunk
+    else if bytes_eq key (codes "_cubed/y/plan.json") then recorded
     else None
+
+-- no record is held
+abbrev pub sample_held : Contents
+sample_held = sample_with None
 
 -- a put of that chunk is late
 abbrev pub sample_late : List Write
 sample_late = (codes "x/c/0", sample_chunk) ∷ []
 
+abbrev pub shown_with : Option (List ℕ) → Shown
+shown_with recorded = record {
+  held = Some (sample_with recorded);
+  late = sample_late;
+  faults = 0;
+  calls = 0;
+  lacks = false;
+}
+
 abbrev pub sample_shown : Shown
-sample_shown = record { held = Some sample_held; late = sample_late; faults = 0; calls = 0; lacks = false }
+sample_shown = shown_with None
 
 -- a copy of it in chunks of 3
 unfoldable pub sample_text : List ℕ
@@ -65,6 +83,21 @@ sample_run = codes "run" ∷ codes "--allowed-mem" ∷ codes "64" ∷ []
 
 abbrev pub sample_plan : List (List ℕ)
 sample_plan = codes "plan" ∷ codes "--allowed-mem" ∷ codes "64" ∷ []
+
+-- the record of that copy, and the words of a run that goes on from it
+abbrev pub sample_record : List ℕ
+sample_record =
+    joined sample_options (unwrap_or (compact_of sample_text) []) (inputs_text (sample_input ∷ []))
+
+abbrev pub sample_resume : List (List ℕ)
+sample_resume = codes "resume" ∷ codes "--allowed-mem" ∷ codes "64" ∷ []
+
+-- the store once it holds the record
+abbrev pub left_held : Contents
+left_held = sample_with (Some sample_record)
+
+abbrev pub left_shown : Shown
+left_shown = shown_with (Some sample_record)
 
 -- the array of 1 to 7, whose first chunk this is
 abbrev pub sample_array : GivenArray

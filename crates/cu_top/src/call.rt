@@ -32,8 +32,8 @@ use std::thread::Threads;
 
 /// Carries out the command that the words give. `run` reads an expression from the source, stores
 /// the array that it makes in the depot, and writes the report to the sink. `resume` goes on with a
-/// run that was stopped, and `drop` removes all keys of a plan. `plan` reads an expression and writes
-/// what its plan does; it stores nothing. `load` reads an array from the source and stores it.
+/// run that was stopped, and `drop` removes all keys of a plan. `plan` reads an expression and
+/// writes what its plan does; it stores nothing. `load` reads an array and stores it.
 /// `check` reads an expression from the source and compares its stored output with what it means.
 /// `print` writes a stored array to the sink. `demo` stores two inputs that it makes, computes an
 /// expression over them, and writes its one element and the report.
@@ -49,8 +49,8 @@ pub fn top<H: Threads + Wait + Sync, R: Source, W: Sink, D: Share, G: Gate>(
     gate: &G,
 ) -> Status
     // Where the depot tells its contents, no put that is late when a run begins carries another
-    // value of its plan, or another content of an input; for a demonstration, whose inputs are made,
-    // another value of an input.
+    // value of its plan, or another content of an input; for a demonstration, whose inputs are
+    // made, another value of an input.
     requires quiet { (o : Options) (text : List ℕ) (next : Option (List ℕ))
         → asked_by words.now ≡ Ok (run o) → ReadsAll (R.left src.old) next text
         → IsCalm o text (D.shown depot.old) }

@@ -11,16 +11,19 @@ ghost use Rattle.cu_region.specs.Steady.{IsSteady};
 ghost use Rattle.cu_check.specs.Arrays.{IsReadChunk};
 ghost use Rattle.cu_load.specs.Load.{IsArrayCalm};
 ghost use Rattle.cu_print.specs.Print.{IsArrayMetadata, IsChunkAt};
-ghost use Rattle.cu_top.specs.Complete.{IsPlannable, IsServable};
+ghost use Rattle.cu_top.specs.Complete.{HasWholeInputs, IsPlannable, IsResumable, IsServable};
 ghost use Rattle.cu_top.specs.Demo.{IsDemoAtRest, IsDemoCalm};
 ghost use Rattle.cu_top.specs.Drop.{Dropped};
 ghost use Rattle.cu_top.specs.Laws.{IsOfPlan};
 ghost use Rattle.cu_top.specs.Resume.{WasResumed};
 ghost use Rattle.cu_top.specs.Run.{RunCase, job_run, IsSpared, Ran};
-ghost use Rattle.cu_top.specs.Sample.{demo_options, empty_held, empty_shown, sample_array};
+ghost use Rattle.cu_top.specs.Sample.{demo_options, empty_held, empty_shown, left_held, left_shown};
+ghost use Rattle.cu_top.specs.Sample.{sample_array, sample_resume};
 ghost use Rattle.cu_top.specs.Sample.{sample_held, sample_input, sample_late, sample_layout, sample_options, sample_plan, sample_run, sample_shown, sample_text};
-ghost use Rattle.cu_top.specs.Words.{command_of, plan, run};
+ghost use Rattle.cu_top.specs.Words.{command_of, plan, resume, run};
 
+use cu_plan::merged_plan_law;
+use cu_state::left_law;
 use cu_work::commands_law;
 
 /// Whatever `run`, `resume` and `drop` answer, each is a command of the plan of the text's job, or it has
@@ -38,16 +41,23 @@ pub fn list_law()
 }
 
 /// The premises of the commands are met by a small store, which holds the metadata and one chunk of an array, and where a put of this
-/// chunk is late: `run` is served there, and so is `plan`; and what `print` and `check` say of keys that no late put changes holds.
+/// chunk is late: `run` is served there, and so are `plan` and, where the record is held too, `resume`; what is late carries what `load`
+/// stores; and what `print` and `check` say of keys that no late put changes holds. A demonstration is served over an empty store.
 pub fn premises_law()
     ensures run_words { command_of sample_run ≡ Ok (run sample_options) }
     ensures run { IsServable sample_options sample_text sample_held sample_shown }
     ensures plan_words { command_of sample_plan ≡ Ok (plan sample_options) }
     ensures plan { IsPlannable sample_options sample_text sample_shown }
+    ensures resume_words { command_of sample_resume ≡ Ok (resume sample_options) }
+    ensures resume { IsResumable sample_options sample_text left_held left_shown }
+    ensures resume_whole { HasWholeInputs sample_options sample_text left_held left_shown }
     ensures load { IsArrayCalm sample_array sample_late }
     ensures demo { IsDemoAtRest demo_options 2 empty_held empty_shown }
     ensures demo_quiet { IsDemoCalm demo_options 2 empty_shown }
     ensures print_metadata { IsSteady (IsArrayMetadata (codes "x")) (Some sample_held) sample_late }
     ensures print_chunks { (place : ℕ) → IsSteady (IsChunkAt (codes "x") sample_layout place) (Some sample_held) sample_late }
     ensures check { IsSteady (IsReadChunk (sample_input ∷ [])) (Some sample_held) sample_late }
-{}
+{
+    merged_plan_law();
+    left_law();
+}
