@@ -297,7 +297,7 @@ def refuse_removal(found, is_asked):
     if found.metadata and found.layout is None and not stored.has_record() and not found.is_link:
         raise Failed(f"{stored.name} isn't removed, since its chunks can't be told from other files: {found.unread}")
     if locks.is_held(stored.folder, stored.name):
-        holder = locks.who_holds(locks.path_of(stored.folder, stored.name))
+        holder = locks.who_holds(stored.folder, stored.name)
         raise Failed(f"{stored.name} is being computed or stored by {holder}: wait until it has ended")
 
 
