@@ -10,6 +10,7 @@ import sys
 import textwrap
 import unittest
 from typing import Any
+from unittest import mock
 
 from .support import PROGRAM, PYTHON, Case, WithProgram, cengmoat, np, xp
 
@@ -287,6 +288,77 @@ class Reading(Case):
         os.symlink(os.path.join(self.folder, "victim"), path)
         self.assertRaises(cengmoat.StoreFailed, self.here.save, "u", np.arange(3))
         self.assertFalse(os.path.exists(os.path.join(self.folder, "victim")))
+
+    def refused(self, key: str, why: str) -> None:
+        """Expect that nothing is stored or removed under a name, for what lies in the place of its lock."""
+        for call in (lambda: self.here.save("u", np.arange(3)), lambda: (self.t + 1).store("u"), lambda: self.here.remove("v", inputs=True)):
+            with self.assertRaises(cengmoat.StoreFailed) as found:
+                call()
+            self.assertIn(why, str(found.exception))
+            self.assertEqual(found.exception.key.replace("v", "u"), key)
+        self.assertEqual(self.here.names(), ["t", "v"])
+
+    def test_a_file_of_a_user_is_no_lock(self) -> None:
+        self.here.save("v", np.arange(3))
+        locks, far = os.path.join(self.here.folder, ".locks"), os.path.join(self.folder, "far")
+        os.rename(locks, os.path.join(self.folder, "before"))
+        os.mkdir(far)
+        for name in "uv":
+            with open(os.path.join(far, name), "w", encoding="utf-8") as file:
+                file.write("dear")
+        os.symlink(far, locks)
+        self.refused(".locks", "it is a link, or no folder")
+        self.here.status()
+        os.unlink(locks)
+        os.mkdir(locks)
+        for name in "uv":
+            os.link(os.path.join(far, name), os.path.join(locks, name))
+        self.refused(".locks/u", "it has another name beside this")
+        for name in "uv":
+            os.unlink(os.path.join(locks, name))
+            with open(os.path.join(far, name), encoding="utf-8") as file:
+                self.assertEqual(file.read(), "dear")
+        said = {"pid": 1, "host": "far", "since": "1999", "temporary": ["u"]}
+        for text in ("dear", "{}", "[]", "[" * 100000, '{"temporary": ["u"]}', json.dumps({**said, "more": 1}), json.dumps({**said, "temporary": [1]})[:-1]):
+            for name in "uv":
+                with open(os.path.join(locks, name), "w", encoding="utf-8") as file:
+                    file.write(text)
+            self.refused(".locks/u", "its content isn't that of a lock")
+            cengmoat._temporary.sweep(self.here.folder)
+            for name in "uv":
+                with open(os.path.join(locks, name), encoding="utf-8") as file:
+                    self.assertEqual(file.read(), text)
+
+    def test_a_full_disk_keeps_the_names_in_a_lock(self) -> None:
+        with cengmoat._locks.locked(self.here.folder, "u") as lock:
+            lock.write(["data-cengmoat-0123456789abcdef01"])
+        path = os.path.join(self.here.folder, ".locks", "u")
+        with open(path, encoding="utf-8") as file:
+            before = file.read()
+        write, left = os.pwrite, [10]
+
+        def short(descriptor: int, data: bytes, at: int) -> int:
+            return write(descriptor, data[:left.pop()] if left else data, at)
+
+        with mock.patch("os.pwrite", short), self.assertRaises(cengmoat.StoreFailed), cengmoat._locks.locked(self.here.folder, "u"):
+            pass
+        with open(path, encoding="utf-8") as file:
+            self.assertEqual(file.read(), before)
+        # (a stop between writing and cutting off leaves the end of the old text behind the new one)
+        with open(path, "a", encoding="utf-8") as file:
+            file.write('ary": ["other"]}\n')
+        with cengmoat._locks.locked(self.here.folder, "u") as lock:
+            self.assertEqual(lock.left, ["data-cengmoat-0123456789abcdef01"])
+
+    def test_who_holds_a_lock_is_said_on_one_line(self) -> None:
+        with cengmoat._locks.locked(self.here.folder, "u") as lock:
+            said = {"pid": 10**30, "host": "\x1b[31m\n" * 1000, "since": "\u202e" * 1000, "temporary": []}
+            os.ftruncate(lock.descriptor, os.pwrite(lock.descriptor, json.dumps(said).encode(), 0))
+            with self.assertRaises(cengmoat.Locked) as found:
+                self.here.save("u", np.arange(3))
+        told = str(found.exception)
+        self.assertTrue(told.isprintable(), told)
+        self.assertLess(len(told), 1000)
 
     def test_writing_follows_no_link(self) -> None:
         victim = os.path.join(self.folder, "victim")
