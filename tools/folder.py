@@ -41,6 +41,9 @@ class Found:
         self.stored, self.processes = stored, processes or {}
         self.layout = self.unread = None
         self.is_link, self.is_plan_link = os.path.islink(stored.path), os.path.islink(stored.plan)
+        # The folder of all plans may be a link too, and something of this one lie behind it.
+        self.is_far_plan = (os.path.islink(os.path.dirname(stored.plan))
+                            and os.path.lexists(stored.plan))
         self.has_array = os.path.isdir(stored.path)
         if self.has_array:
             try:
@@ -277,28 +280,51 @@ def remove(folder, words):
     names = [word for word in words if not word.startswith("-")]
     if len(names) != 1 or not flags <= {"--input", "--dry-run"}:
         raise Wrong("usage: cubed DIR remove NAME [--input] [--dry-run]")
-    found = named(folder, names[0])
-    refuse_removal(found, "--input" in flags)
-    print(going(found))
+    # The first look makes no lock for what is refused; the second one is that by which it goes.
+    found = removable(folder, names[0], "--input" in flags)
+    if "--dry-run" in flags:
+        refuse_locked(found.stored)
+        show_removal(found)
+        return 0
+    with locks.held(folder, found.stored.name):
+        found = removable(folder, names[0], "--input" in flags)
+        show_removal(found)
+        remove_all(found)
+    return 0
+
+
+def removable(folder, name, is_asked):
+    """What lies under a name, if it may go."""
+    found = named(folder, name, at_work_in(folder))
+    refuse_removal(found, is_asked)
+    return found
+
+
+def show_removal(found):
+    print(going(found), flush=True)
     for name in kept(found):
         print(f"stays, since it is no part of the array: {shown(name, 400)}")
-    if "--dry-run" not in flags:
-        with locks.held(folder, found.stored.name):
-            remove_all(found)
-    return 0
+
+
+def refuse_locked(stored):
+    if locks.is_held(stored.folder, stored.name):
+        holder = locks.who_holds(stored.folder, stored.name)
+        raise Failed(f"{stored.name} is being computed or stored by {holder}: wait until it has ended")
 
 
 def refuse_removal(found, is_asked):
     stored = found.stored
+    if stored.name in found.processes.values():
+        raise Failed(f"{stored.name} isn't removed: a run is at work that makes it; wait until it has ended, or end it")
+    if found.is_far_plan:
+        raise Failed(f"{stored.name} isn't removed: _cubed is a link, and nothing behind a link is removed; remove "
+                     f"{shown(stored.plan, 400)} by another program, and call again")
     if found.unread == GROUP or os.path.exists(os.path.join(stored.path, ".zgroup")):
         raise Failed(f"{stored.name} is a group; it isn't removed here")
     if found.has_array and not stored.has_record() and not found.is_left and not is_asked:
         raise Failed(f"{stored.name} has no record of a plan, so no run made it; say --input to remove it all the same")
     if found.metadata and found.layout is None and not stored.has_record() and not found.is_link:
         raise Failed(f"{stored.name} isn't removed, since its chunks can't be told from other files: {found.unread}")
-    if locks.is_held(stored.folder, stored.name):
-        holder = locks.who_holds(locks.path_of(stored.folder, stored.name))
-        raise Failed(f"{stored.name} is being computed or stored by {holder}: wait until it has ended")
 
 
 def going(found):
@@ -320,23 +346,20 @@ def kept(found):
 
 
 def remove_all(found):
-    stored = found.stored
-    if found.is_link:
-        os.unlink(stored.path)
-    else:
-        unlink_below(stored.path, found.metadata + found.chunks + found.stopped)
-        remove_folders(stored.path)
-    if found.is_plan_link:
-        os.unlink(stored.plan)
-        return
-    unlink_below(stored.plan, found.between + found.between_stopped
-                 + (["plan.json"] if found.has_own_record else []))
-    remove_folders(stored.plan)
+    stored, top = found.stored, found.stored.folder
+    own = found.metadata + found.chunks + found.stopped
+    unlink_below(top, [stored.name] if found.is_link else [f"{stored.name}/{it}" for it in own])
+    remove_folders(top, stored.name)
+    plan = f"_cubed/{stored.name}"
+    own = (found.between + found.between_stopped
+           + (["plan.json"] if found.has_own_record else []))
+    unlink_below(top, [plan] if found.is_plan_link else [f"{plan}/{it}" for it in own])
+    remove_folders(top, plan)
 
 
 def unlink_below(top, names):
-    """Removes these files below a folder, in their order. No link to a folder is followed, whenever
-    it was put there.
+    """Removes these files below a folder, in their order. No link below it is followed, whenever it
+    was put there.
     """
     at, here = None, None
     try:
@@ -355,12 +378,12 @@ def unlink_below(top, names):
 
 
 def folder_of(top, folder):
-    """The descriptor of a folder below another one."""
-    kind = os.O_RDONLY | os.O_DIRECTORY | os.O_NOFOLLOW | os.O_CLOEXEC
+    """The descriptor of a folder below another one, which alone may be a link."""
+    kind = os.O_RDONLY | os.O_DIRECTORY | os.O_CLOEXEC
     found = os.open(top, kind)
     for part in filter(None, folder.split("/")):
         try:
-            below = os.open(part, kind, dir_fd=found)
+            below = os.open(part, kind | os.O_NOFOLLOW, dir_fd=found)
         finally:
             os.close(found)
         found = below
@@ -371,11 +394,19 @@ def unlink(name, folder):
     os.unlink(name, dir_fd=folder)
 
 
-def remove_folders(path):
-    """Removes a folder and those below it where they are empty."""
-    for at, _, _ in os.walk(path, topdown=False) if not os.path.islink(path) else []:
-        with contextlib.suppress(OSError):
-            os.rmdir(at)
+def remove_folders(top, folder):
+    """Removes a folder below another one, and those below it, where they are empty."""
+    above, _, last = folder.rpartition("/")
+    with contextlib.suppress(OSError):
+        here = folder_of(top, above)
+        try:
+            for _, folders, _, at in os.fwalk(last, topdown=False, dir_fd=here):
+                for name in folders:
+                    with contextlib.suppress(OSError):
+                        os.rmdir(name, dir_fd=at)
+            os.rmdir(last, dir_fd=here)
+        finally:
+            os.close(here)
 
 
 def main(words):

@@ -11,6 +11,7 @@ import subprocess
 import threading
 import time
 import unittest
+from unittest import mock
 
 from test_base import ADDITION, TOP, InFolder, WithProgram, files_in, put, rules, run, signal, text_of, wait_until
 import word_cases
@@ -249,20 +250,82 @@ class Load(WithProgram):
         self.assertEqual(run(self.script, self.top, "load", text=LOADED).stdout, b"ok\n")
 
     def test_what_a_stop_leaves_of_a_lock_holds_nobody_up(self):
-        """Also where its file is another's; what the package noted there for itself stays."""
+        """What the package noted there for itself stays."""
         self.program("cat >/dev/null; echo ok")
-        put(f"{self.top}/.locks/c", b'{"pid": 1, "host": "far", "since": "1999", "temporary": ["data-1"]}\n')
-        self.assertEqual(run(self.script, self.top, "load", text=LOADED).stdout, b"ok\n")
-        with open(f"{self.top}/.locks/c", "rb") as file:
-            self.assertEqual(json.load(file)["temporary"], ["data-1"])
-        os.unlink(f"{self.top}/.locks/c")
-        os.symlink("/dev/null", f"{self.top}/.locks/c")
-        self.assertEqual(run(self.script, self.top, "load", text=LOADED).stdout, b"ok\n")
-        os.unlink(f"{self.top}/.locks/c")
-        os.mkfifo(f"{self.top}/.locks/c")
+        said = b'{"pid": 1, "host": "far", "since": "1999", "temporary": ["data-1"]}\n'
+        for rest in (b"", b'"temporary": ["data-1", "data-2"]}\n'):
+            put(f"{self.top}/.locks/c", said + rest)
+            self.assertEqual(run(self.script, self.top, "load", text=LOADED).stdout, b"ok\n")
+            with open(f"{self.top}/.locks/c", "rb") as file:
+                self.assertEqual(json.load(file)["temporary"], ["data-1"])
+
+    def refused(self, told):
+        """A `load` that is refused in one line, and stores nothing."""
         ended = run(self.script, self.top, "load", text=LOADED)
-        self.assertEqual((ended.returncode, ended.stdout), (1, b""))
-        self.assertIn(b".locks/c is no file", ended.stderr)
+        self.assertEqual((ended.returncode, ended.stdout, ended.stderr.count(b"\n")), (1, b"", 1))
+        self.assertIn(told, ended.stderr.decode())
+
+    def test_a_file_of_a_user_is_no_lock(self):
+        """Also where its name is that of a lock: nothing of it is written over, and it stays."""
+        self.program("cat >/dev/null; echo ok")
+        put(f"{self.room}/outside/c", b"mine")
+        os.symlink(f"{self.room}/outside", f"{self.top}/.locks")
+        self.refused(".locks is a link, or no folder")
+        os.unlink(f"{self.top}/.locks")
+        put(f"{self.top}/.locks", b"a file")
+        self.refused(".locks is a link, or no folder")
+        os.unlink(f"{self.top}/.locks")
+        os.mkdir(f"{self.top}/.locks")
+        os.link(f"{self.room}/outside/c", f"{self.top}/.locks/c")
+        self.refused("has another name")
+        with open(f"{self.room}/outside/c", "rb") as file:
+            self.assertEqual(file.read(), b"mine")
+        os.unlink(f"{self.top}/.locks/c")
+        for target in ("/dev/null", f"{self.room}/outside/c"):
+            os.symlink(target, f"{self.top}/.locks/c")
+            self.refused(".locks/c can't be locked: Too many levels of symbolic links")
+            os.unlink(f"{self.top}/.locks/c")
+        os.mkfifo(f"{self.top}/.locks/c")
+        self.refused(".locks/c is no file")
+        os.unlink(f"{self.top}/.locks/c")
+        said = {"pid": 1, "host": "far", "since": "1999", "temporary": []}
+        for text in (b"mine", b"{}", b"[]", b"\xff", b"[" * 100000, b'{"pid":1}', b" " * 70000,
+                     json.dumps({**said, "more": 1}).encode(),
+                     json.dumps({**said, "pid": "1"}).encode(),
+                     json.dumps({**said, "temporary": None}).encode()):
+            put(f"{self.top}/.locks/c", text)
+            self.refused("a content that isn't a lock's")
+            with open(f"{self.top}/.locks/c", "rb") as file:
+                self.assertEqual(file.read(), text)
+        self.assertEqual(files_in(self.top), [".locks/c"])
+
+    def test_only_a_folder_that_takes_no_locks_is_loaded_into_without_one(self):
+        import errno
+        import locks
+        import zarr_store
+        for number in (errno.EROFS, errno.EACCES, errno.EPERM, errno.ENOLCK, errno.ENOSYS):
+            with mock.patch("locks.taken", side_effect=OSError(number, "told")):
+                self.assertIsNone(locks.hold(self.top, "c"))
+        for number in (errno.ELOOP, errno.EMFILE, errno.ENOSPC, errno.ENOENT, errno.EIO):
+            with mock.patch("locks.taken", side_effect=OSError(number, "told")), \
+                    self.assertRaisesRegex(zarr_store.Failed, "told"):
+                locks.hold(self.top, "c")
+        put(f"{self.room}/plain", b"a file")
+        self.assertIsNone(locks.hold(f"{self.room}/plain", "c"))
+
+    def test_a_full_disk_keeps_what_a_lock_says(self):
+        import locks
+        said = b'{"pid": 1, "host": "far", "since": "1999", "temporary": ["data-1"]}\n'
+        put(f"{self.top}/.locks/c", said)
+        write, left = os.pwrite, [10]
+
+        def short(descriptor, data, at):
+            return write(descriptor, data[:left.pop()] if left else data, at)
+
+        with mock.patch("os.pwrite", short), locks.held(self.top, "c"):
+            self.assertEqual(left, [])
+        with open(f"{self.top}/.locks/c", "rb") as file:
+            self.assertEqual(file.read(), said)
 
     def test_the_package_sees_the_lock_of_a_load(self):
         try:

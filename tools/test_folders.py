@@ -245,17 +245,27 @@ class Syncing(InFolder):
 
     @unittest.skipUnless(shutil.which("strace"), "no strace")
     def test_files_are_synced_unless_0_is_given(self):
-        def syncs(*options):
+        def syncs(command, text, *options):
+            """How many files a call syncs, and how many get their names."""
             trace = f"{self.outside}.trace"
-            self.call("load", *options, text=array("x", [1, 2, 3], 2), front=("strace", "-f", "-o", trace, "-e", "trace=fdatasync,fsync,rename"))
-            shutil.rmtree(self.dir)
+            ended = self.call(command, *options, text=text, front=("strace", "-f", "-o", trace, "-e", "trace=fdatasync,fsync,rename"))
+            self.assertEqual(ended[0], 0, ended)
             with open(trace, encoding="utf-8") as file:
                 lines = file.read()
-            return lines.count("sync("), lines.count("rename(")
+            return len(re.findall(r"\bf(?:data)?sync\(", lines)), len(re.findall(r"\brename\(", lines))
 
-        self.assertEqual(syncs(), (3, 3))
-        self.assertEqual(syncs("--sync", "1"), (3, 3))
-        self.assertEqual(syncs("--sync", "0"), (0, 3))
+        # The metadata of an array, its chunks, and of a run the record too. Each worker stores chunks by itself.
+        loaded, ran = array("x", [1, 2, 3, 4, 5, 6, 7], 2), negated("x", "y")
+        for options, is_synced in (((), True), (("--sync", "1"), True), (("--sync", "0"), False)):
+            self.assertEqual(syncs("load", loaded, *options), (5 * is_synced, 5), options)
+            for workers in ("1", "2"):
+                self.assertEqual(syncs("run", ran, "--workers", workers, *options), (6 * is_synced, 6), options)
+                for name in ("0", "2"):
+                    os.remove(self.path(f"y/c/{name}"))
+                self.assertEqual(syncs("resume", ran, "--workers", workers, *options), (2 * is_synced, 2), options)
+                shutil.rmtree(self.path("y"))
+                shutil.rmtree(self.path("_cubed"))
+            shutil.rmtree(self.dir)
 
     def test_other_values_and_commands_are_refused(self):
         for words in (("load", "--sync", "2"), ("run", "--sync", "-1"), ("demo", "4", "--sync"), ("resume", "--sync=x"),

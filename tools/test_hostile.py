@@ -1,12 +1,15 @@
 """Tests `status`, `remove` and tools/zarr over folders and files in which not all is as the program
 makes it; tools/test_scripts.py runs all.
 """
+import contextlib
+import io
 import json
 import os
 import socket
 import struct
 import subprocess
 import sys
+from unittest import mock
 
 from test_base import TOP, InFolder, files_in, put, run, text_of, wait_until
 from zarr_store import Layout
@@ -192,9 +195,17 @@ class HowFar(InFolder):
         self.addCleanup(process.wait)
         self.addCleanup(process.kill)
         self.assertTrue(wait_until(lambda: "; a run is at work" in self.cubed("status")))
+        before = files_in(self.top)
+        for words in (["y"], ["y", "--dry-run"], ["y", "--input"]):
+            ended = run(f"{TOP}/cubed", self.top, "remove", *words)
+            self.assertEqual((ended.returncode, ended.stdout), (1, b""))
+            self.assertIn(b"y isn't removed: a run is at work that makes it", ended.stderr)
+        self.assertEqual(files_in(self.top), before)
         process.kill()
         process.wait()
         self.assertIn("a run was stopped, or is at work", self.cubed("status"))
+        self.cubed("remove", "y")
+        self.assertNotIn("_cubed/y/plan.json", files_in(self.top))
 
 
 class StrangeRemoval(InFolder):
@@ -219,14 +230,53 @@ class StrangeRemoval(InFolder):
 
     def test_a_link_that_comes_meanwhile_isn_t_followed(self):
         import folder
+        for key in ("0", "c/0", "0/c/0", "y/0/c/0", "y/plan.json", "plan.json", "zarr.json"):
+            put(f"{self.room}/outside/{key if key != '0' else 'c/c/0'}", b"1")
+        before = files_in(f"{self.room}/outside")
+        for at, far in (("y/c", "c"), ("y", ""), ("_cubed/y/0/c", "c"), ("_cubed/y/0", ""),
+                        ("_cubed/y", ""), ("_cubed", "")):
+            with self.subTest(at=at):
+                self.put_result()
+                found = folder.named(self.top, "y")
+                os.rename(f"{self.top}/{at}", f"{self.room}/kept")
+                os.symlink(f"{self.room}/outside/{far}", f"{self.top}/{at}")
+                with self.assertRaises(OSError):
+                    folder.remove_all(found)
+                self.assertEqual(files_in(f"{self.room}/outside"), before)
+                run("rm", "-rf", f"{self.room}/kept", self.top)
+
+    def test_a_folder_of_plans_that_is_a_link_isn_t_followed(self):
         self.put_result()
-        os.makedirs(f"{self.room}/outside")
-        put(f"{self.room}/outside/0", b"1")
-        os.rename(f"{self.top}/y/c", f"{self.room}/kept")
-        os.symlink(f"{self.room}/outside", f"{self.top}/y/c")
-        with self.assertRaises(OSError):
-            folder.unlink_below(f"{self.top}/y", ["c/0"])
-        self.assertEqual(files_in(f"{self.room}/outside"), ["0"])
+        os.rename(f"{self.top}/_cubed", f"{self.room}/outside")
+        os.symlink(f"{self.room}/outside", f"{self.top}/_cubed")
+        before = files_in(f"{self.room}/outside") + files_in(self.top)
+        ended = run(f"{TOP}/cubed", self.top, "remove", "y", "--input")
+        self.assertEqual((ended.returncode, ended.stdout), (1, b""))
+        self.assertIn(b"_cubed is a link, and nothing behind a link is removed", ended.stderr)
+        self.assertEqual(files_in(f"{self.room}/outside") + files_in(self.top), before)
+        run("rm", "-rf", f"{self.room}/outside/y")
+        self.cubed("remove", "y", "--input")
+        self.assertEqual(files_in(self.top), [])
+
+    def test_what_comes_before_the_lock_is_held_is_looked_at(self):
+        """A result goes, and an input of the same name is loaded, between the look and the lock."""
+        import folder
+        import locks
+        from zarr_store import Failed
+        self.put_result()
+        held, printed = locks.held, io.StringIO()
+
+        @contextlib.contextmanager
+        def late(*words):
+            with held(*words) as lock:
+                os.remove(f"{self.top}/_cubed/y/plan.json")
+                yield lock
+
+        with mock.patch("locks.held", late), contextlib.redirect_stdout(printed), \
+                self.assertRaisesRegex(Failed, "no record of a plan"):
+            folder.remove(self.top, ["y"])
+        self.assertEqual(printed.getvalue(), "")
+        self.assertEqual(len(files_in(f"{self.top}/y")), 4)
 
     def test_only_what_the_program_makes_goes(self):
         own = ["2024", "c/2024", "c/7", "c/00", "c/0/0", "draft.new", "draft.new2", "c/0.new",

@@ -1,11 +1,13 @@
 """Locks for the names of results. A lock ends with the process that holds it, and with the program that it started.
 
 The lock of a name is `flock` of the file `.locks/NAME` in the folder, which any process may take so. Its content is one JSON
-object that says who holds it: `pid`, `host`, `since`, and `temporary`, the names of what is stored for this run alone.
+object that says who holds it: `pid`, `host`, `since`, and `temporary`, the names of what is stored for this run alone. Nothing
+else is ever written to: no file behind a link, none that has a second name, and none that has another content.
 """
 from __future__ import annotations
 
 import contextlib
+import errno
 import fcntl
 import json
 import os
@@ -13,91 +15,150 @@ import socket
 import time
 from typing import Any, Iterator, Optional, Sequence
 
-from ._opening import check_regular, told
+from ._opening import check_regular, refused, told
 from .errors import Locked
 
 # Names of arrays have no dot in front, so no array is called so.
 FOLDER = ".locks"
 # The seconds for which a lock is waited for.
 MOMENT = 0.25
-MOST_CONTENT = 65_536
+MOST_CONTENT = 1_048_576
+# The most characters of a file's text that an error says.
+MOST_SAID = 80
 # How often a lock's file is made anew where its folder is removed meanwhile.
 TRIES = 100
 FLAGS = os.O_CLOEXEC | os.O_NOFOLLOW | os.O_NONBLOCK | os.O_NOCTTY
+MEMBERS = {"pid": int, "host": str, "since": str, "temporary": list}
 
 
-def _path(folder: str, name: str) -> str:
-    return os.path.join(folder, FOLDER, name)
+def _key(name: str) -> str:
+    return f"{FOLDER}/{name}"
 
 
-def _key(path: str) -> str:
-    return os.path.join(FOLDER, os.path.basename(path))
+def _place(folder: str) -> int:
+    """Return the descriptor of the folder of the locks. A link to one is followed by nothing here: it is an OSError."""
+    return os.open(os.path.join(folder, FOLDER), os.O_RDONLY | os.O_DIRECTORY | os.O_NOFOLLOW | os.O_CLOEXEC)
 
 
-def _made(path: str) -> int:
+def _made_place(folder: str) -> int:
+    """Return the descriptor of the folder of the locks, which is made where it isn't there."""
+    os.makedirs(folder, exist_ok=True)
+    path = os.path.join(folder, FOLDER)
+    with contextlib.suppress(FileExistsError):
+        os.mkdir(path)
+    try:
+        return _place(folder)
+    except NotADirectoryError:
+        raise refused(FOLDER, "it is a link, or no folder, and locks lie in a folder alone: move it away") from None
+
+
+def _made(name: str, place: int) -> int:
     """Return the descriptor of a lock's file, which is made where it isn't there."""
-    os.makedirs(os.path.dirname(path), exist_ok=True)
     try:
-        return os.open(path, os.O_RDWR | os.O_CREAT | FLAGS, 0o666)
-    except PermissionError:
-        if not os.path.lexists(path):
-            raise
+        return os.open(name, os.O_RDWR | os.O_CREAT | FLAGS, 0o666, dir_fd=place)
+    except PermissionError as error:
         # (the file of another user: a lock needs no right to write it)
-        return os.open(path, os.O_RDONLY | FLAGS)
+        with contextlib.suppress(FileNotFoundError):
+            return os.open(name, os.O_RDONLY | FLAGS, dir_fd=place)
+        raise error from None
 
 
-def _opened(path: str) -> int:
-    for left in reversed(range(TRIES)):
-        try:
-            descriptor = _made(path)
-            break
-        except OSError as error:
-            # (another process may just have removed the folder of the locks)
-            if not left or not isinstance(error, FileNotFoundError):
-                raise told(_key(path), error) from None
+def _read(descriptor: int) -> Optional[dict[str, Any]]:
+    """Return what a lock's file says, of an empty one nothing; None where the content isn't that of a lock."""
     try:
-        check_regular(_key(path), os.fstat(descriptor).st_mode)
-    except BaseException:
-        os.close(descriptor)
-        raise
-    return descriptor
-
-
-def _is_there(descriptor: int, path: str) -> bool:
-    """Return whether the file that is open still lies at its path."""
-    try:
-        return os.path.samestat(os.fstat(descriptor), os.lstat(path))
-    except FileNotFoundError:
-        return False
-
-
-def _taken(path: str) -> Optional[int]:
-    """Return the descriptor of a lock, or None where another holds it."""
-    while True:
-        descriptor = _opened(path)
-        try:
-            fcntl.flock(descriptor, fcntl.LOCK_EX | fcntl.LOCK_NB)
-        except BlockingIOError:
-            os.close(descriptor)
-            return None
-        except BaseException as error:
-            os.close(descriptor)
-            if isinstance(error, OSError):
-                raise told(_key(path), error) from None
-            raise
-        # (its file may have been removed between the two calls)
-        if _is_there(descriptor, path):
-            return descriptor
-        os.close(descriptor)
+        data = os.pread(descriptor, MOST_CONTENT, 0)
+        # (behind the first line may stand the end of what was there before, where a write of it was stopped)
+        found = json.loads(data.partition(b"\n")[0]) if data else {}
+    except (OSError, ValueError, RecursionError):
+        return None
+    if not data:
+        return {}
+    if not isinstance(found, dict) or set(found) != set(MEMBERS):
+        return None
+    return found if all(isinstance(found[member], kind) for member, kind in MEMBERS.items()) else None
 
 
 def _content(descriptor: int) -> dict[str, Any]:
     """Return what is written in a lock's file; nothing where it isn't such a content."""
+    return _read(descriptor) or {}
+
+
+class _File:
+    """A lock's file, open, and the folder in which it lies, open too, so that each later step goes to the same one."""
+
+    def __init__(self, folder: str, name: str) -> None:
+        self.folder, self.name = folder, name
+        self.place = _made_place(folder)
+        try:
+            self.descriptor = _made(name, self.place)
+        except BaseException:
+            os.close(self.place)
+            raise
+
+    def close(self) -> None:
+        os.close(self.descriptor)
+        os.close(self.place)
+
+    def is_there(self) -> bool:
+        """Return whether the file still lies at its path."""
+        try:
+            return (os.path.samestat(os.fstat(self.descriptor), os.stat(self.name, dir_fd=self.place, follow_symlinks=False))
+                    and os.path.samestat(os.fstat(self.place), os.lstat(os.path.join(self.folder, FOLDER))))
+        except FileNotFoundError:
+            return False
+
+    def check(self) -> None:
+        """Refuse a file that another program may have made, by StoreFailed."""
+        state = os.fstat(self.descriptor)
+        check_regular(_key(self.name), state.st_mode)
+        if state.st_nlink != 1:
+            raise refused(_key(self.name), "it has another name beside this, so it isn't written to: move it away")
+        if _read(self.descriptor) is None:
+            raise refused(_key(self.name), "its content isn't that of a lock, so it isn't written to: move it away")
+
+    def remove(self) -> None:
+        """Remove the file, if it is still the one that is open."""
+        with contextlib.suppress(OSError):
+            if self.is_there():
+                os.unlink(self.name, dir_fd=self.place)
+
+
+def _opened(folder: str, name: str) -> _File:
+    for left in reversed(range(TRIES)):
+        try:
+            file = _File(folder, name)
+            break
+        except OSError as error:
+            # (another process may just have removed the folder of the locks)
+            if not left or not isinstance(error, FileNotFoundError):
+                raise told(_key(name), error) from None
     try:
-        found = json.loads(os.pread(descriptor, MOST_CONTENT, 0))
-    except (OSError, ValueError, RecursionError):
-        return {}
-    return found if isinstance(found, dict) else {}
+        check_regular(_key(name), os.fstat(file.descriptor).st_mode)
+    except BaseException:
+        file.close()
+        raise
+    return file
+
+
+def _taken(folder: str, name: str) -> Optional[_File]:
+    """Return a lock's file that is locked, or None where another holds it."""
+    while True:
+        file = _opened(folder, name)
+        try:
+            fcntl.flock(file.descriptor, fcntl.LOCK_EX | fcntl.LOCK_NB)
+            # (it may have been removed between the two calls)
+            if file.is_there():
+                file.check()
+                return file
+        except BlockingIOError:
+            file.close()
+            return None
+        except BaseException as error:
+            file.close()
+            if isinstance(error, OSError):
+                raise told(_key(name), error) from None
+            raise
+        file.close()
 
 
 def _texts(value: Any) -> list[str]:
@@ -128,26 +189,51 @@ class Lock:
             Where names can't be said, as on a full disk.
         """
         said = {"pid": os.getpid(), "host": socket.gethostname(), "since": time.strftime("%Y-%m-%d %H:%M:%S"), "temporary": list(temporary)}
+        data, before = json.dumps(said).encode() + b"\n", b""
         try:
-            os.ftruncate(self.descriptor, 0)
-            os.pwrite(self.descriptor, json.dumps(said).encode() + b"\n", 0)
+            before = os.pread(self.descriptor, MOST_CONTENT, 0)
+            # (the names that stand there are lost at no moment: they are written over, and what is longer is cut off afterwards)
+            if os.pwrite(self.descriptor, data, 0) < len(data):
+                raise OSError(errno.ENOSPC, os.strerror(errno.ENOSPC))
+            os.ftruncate(self.descriptor, len(data))
         except OSError as error:
+            with contextlib.suppress(OSError):
+                os.ftruncate(self.descriptor, os.pwrite(self.descriptor, before, 0))
             if temporary:
                 raise told(FOLDER, error) from None
 
 
-def _refusal(path: str) -> Locked:
-    """Return the error that says who holds a lock."""
-    name, held = os.path.basename(path), {}
-    with contextlib.suppress(OSError):
-        descriptor = os.open(path, os.O_RDONLY | FLAGS)
-        held = _content(descriptor)
+@contextlib.contextmanager
+def _reading(folder: str, name: str) -> Iterator[int]:
+    """Open a lock's file for reading alone, where it is one; an OSError says why it isn't."""
+    place = _place(folder)
+    try:
+        descriptor = os.open(name, os.O_RDONLY | FLAGS, dir_fd=place)
+    finally:
+        os.close(place)
+    try:
+        yield descriptor
+    finally:
         os.close(descriptor)
-    pid, host, since = held.get("pid"), held.get("host"), held.get("since")
-    if pid is None:
+
+
+def _said(text: str) -> str:
+    """Return a text of a file as an error may say it: short, and on one line."""
+    text = text if len(text) <= MOST_SAID else f"{text[:MOST_SAID]}.."
+    return "".join(it if it.isprintable() else ascii(it)[1:-1] for it in text)
+
+
+def _refusal(folder: str, name: str) -> Locked:
+    """Return the error that says who holds a lock."""
+    held: dict[str, Any] = {}
+    with contextlib.suppress(OSError), _reading(folder, name) as descriptor:
+        held = _content(descriptor)
+    if not held:
         return Locked(f"{name} is being computed or stored by another process: wait until it has ended")
-    where = "this process, in another thread" if pid == os.getpid() else f"process {pid}" + ("" if host == socket.gethostname() else f" on {host}")
-    return Locked(f"{name} is being computed or stored by {where}, since {since}: wait until it has ended", pid=pid, host=host, since=since)
+    pid, host, since = held["pid"], held["host"], held["since"]
+    far = "" if host == socket.gethostname() else f" on {_said(host)}"
+    where = "this process, in another thread" if pid == os.getpid() else _said(f"process {pid}") + far
+    return Locked(f"{name} is being computed or stored by {where}, since {_said(since)}: wait until it has ended", pid=pid, host=host, since=since)
 
 
 @contextlib.contextmanager
@@ -168,41 +254,34 @@ def locked(folder: str, name: str, *, remove: bool = False, wait: float = MOMENT
     Locked
         Where another process holds it, or another thread.
     StoreFailed
-        Where the system refuses the lock's file, as in a folder that may only be read.
+        Where the system refuses the lock's file, as in a folder that may only be read, or another program's file lies there.
     """
-    path = _path(folder, name)
     end = time.monotonic() + wait
-    descriptor = _taken(path)
-    while descriptor is None:
+    file = _taken(folder, name)
+    while file is None:
         if time.monotonic() >= end:
-            raise _refusal(path)
+            raise _refusal(folder, name)
         time.sleep(0.01)
-        descriptor = _taken(path)
+        file = _taken(folder, name)
     try:
-        lock = Lock(descriptor)
+        lock = Lock(file.descriptor)
         lock.write(lock.left)
         yield lock
     finally:
         if remove:
-            with contextlib.suppress(OSError):
-                os.unlink(path)
-        os.close(descriptor)
+            file.remove()
+        file.close()
 
 
 def is_locked(folder: str, name: str) -> bool:
     """Return whether a name's lock is held. Nothing is made or written, so it needs no more than the right to read."""
     try:
-        descriptor = os.open(_path(folder, name), os.O_RDONLY | FLAGS)
-    except OSError:
-        return False
-    try:
-        fcntl.flock(descriptor, fcntl.LOCK_SH | fcntl.LOCK_NB)
+        with _reading(folder, name) as descriptor:
+            fcntl.flock(descriptor, fcntl.LOCK_SH | fcntl.LOCK_NB)
     except BlockingIOError:
         return True
     except OSError:
         return False
-    finally:
-        os.close(descriptor)
     return False
 
 
@@ -210,15 +289,15 @@ def temporaries(folder: str) -> list[str]:
     """Return the names of locks whose files name something temporary."""
     found = []
     try:
-        names = os.listdir(os.path.join(folder, FOLDER))
+        place = _place(folder)
     except OSError:
         return []
+    try:
+        names = os.listdir(place)
+    finally:
+        os.close(place)
     for name in names:
-        try:
-            descriptor = os.open(_path(folder, name), os.O_RDONLY | FLAGS)
-        except OSError:
-            continue
-        if _texts(_content(descriptor).get("temporary")):
-            found.append(name)
-        os.close(descriptor)
+        with contextlib.suppress(OSError), _reading(folder, name) as descriptor:
+            if _texts(_content(descriptor).get("temporary")):
+                found.append(name)
     return found

@@ -2,6 +2,7 @@
 from __future__ import annotations
 
 import json
+import re
 from dataclasses import dataclass, field, replace
 from typing import Any, Iterator, Mapping, Optional
 
@@ -12,6 +13,8 @@ from .errors import BadMetadata
 from ._shapes import MOST_AXES, MOST_CHUNK_BYTES, MOST_CHUNKS, MOST_ELEMENTS, Shape, numblocks, product
 
 MOST_TEXT = 1_048_576
+# The coordinate of a chunk as it is written.
+NUMBER = re.compile(r"(0|[1-9][0-9]{0,18})\Z")
 REQUIRED = ("zarr_format", "node_type", "shape", "data_type", "chunk_grid", "chunk_key_encoding", "fill_value", "codecs")
 OPTIONAL = ("attributes", "dimension_names", "storage_transformers")
 # Of version 2.
@@ -93,6 +96,17 @@ class Metadata:
         parts = [str(at) for at in coordinate]
         parts = ["c", *parts] if self.encoding == "default" else parts or ["0"]
         return f"{name}/{self.separator.join(parts)}"
+
+    def has_chunk(self, key: str) -> bool:
+        """Return whether this is the key of one of the chunks, below the array's folder."""
+        parts = key.split(self.separator)
+        if self.encoding == "default":
+            if parts.pop(0) != "c":
+                return False
+        elif not self.shape:
+            return key == "0"
+        return len(parts) == len(self.shape) and all(NUMBER.match(part) is not None and int(part) < count
+                                                     for part, count in zip(parts, self.numblocks))
 
     def text(self) -> str:
         """Return the metadata as the program writes it: compact JSON, its members in byte order."""

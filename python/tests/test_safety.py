@@ -4,12 +4,14 @@ from __future__ import annotations
 import json
 import os
 import pwd
+import shutil
 import socket
 import subprocess
 import sys
 import textwrap
 import unittest
 from typing import Any
+from unittest import mock
 
 from .support import PROGRAM, PYTHON, Case, WithProgram, cengmoat, np, xp
 
@@ -151,6 +153,120 @@ class Removing(Case):
                          ["_cubed/y/0/own", "_cubed/y/log", "y/c/readme", "y/notes.new1", "y/notes.txt"])
         self.assertTrue(os.path.islink(os.path.join(self.here.folder, "y", "c", "1")))
 
+    def test_only_what_the_program_makes_goes(self) -> None:
+        """Names that look like those of chunks, and are none of this array."""
+        own = ["2024", "2025/05/7", "c/2024", "c/7", "c/00", "c/1/0", "draft.new", "draft.new2", "c/0.new", "c/9.new1", "notes.txt", "0", "0.0", "c.0",
+               ".zattrs", ".zarray", "zarr.json.bak", "zarr.json.newest"]
+        plan = ["7", "0/c/0.new", "0/c/x", "0/1", "plan.json.new", "plan.json~", "00/c/0", "1234567/c/0", "0/c/00", "0/c/123456", "a/c/0"]
+        (self.t + 1).store("y", keep=True)
+        kept = [f"y/{name}" for name in own] + [f"_cubed/y/{name}" for name in plan]
+        for key in kept:
+            self.put(f"arrays/{key}", "mine")
+        for key in ("y/c/0.new17", "y/zarr.json.new3", "_cubed/y/plan.json.new1234567", "_cubed/y/0/c/1.new0"):
+            self.put(f"arrays/{key}", "left by a kill")
+        cengmoat._removing.remove_between(self.here.folder, "y")
+        self.assertEqual([key for key in self.keys(self.here.folder) if key.startswith("_cubed")],
+                         sorted(key for key in [*kept, "_cubed/y/plan.json", "_cubed/y/plan.json.new1234567"] if key.startswith("_cubed")))
+        self.assertEqual(sorted(self.here.remove("y")), sorted(kept))
+        self.assertEqual([key for key in self.keys(self.here.folder) if not key.startswith("t/")], sorted(kept))
+
+    def test_chunks_go_by_the_grid_and_the_key_encoding(self) -> None:
+        told = {"chunks": [2, 2], "compressor": None, "dtype": "|i1", "fill_value": 0, "filters": None, "order": "C", "shape": [3, 4],
+                "zarr_format": 2}
+        named = {"chunk_key_encoding": {"name": "default", "configuration": {"separator": "."}}}
+        plain = json.loads(cengmoat._metadata.Metadata(np.dtype("int8"), (3, 4), (2, 2)).text())
+        for key, members, ours, own in (
+            (".zarray", told, ("0.0", "1.1", "1.0.new3", ".zattrs"), ("0.2", "2.0", "0", "0.0.0", "c.0.0", "0.00", "zarr.json.new", "k/0/0")),
+            (".zarray", {**told, "dimension_separator": "/"}, ("0/0", "1/1", "1/0.new3"), ("0/2", "2/0", "0.0", "0/0.new", "c/0/0", "00/1")),
+            (".zarray", {**told, "shape": [], "chunks": []}, ("0", "0.new1"), ("1", "c", "00", "0.0")),
+            ("zarr.json", {**plain, **named}, ("c.0.0", "c.1.1"), ("c.2.0", "0.0", "c/0/0", "c.0", "c")),
+            ("zarr.json", plain, ("c/0/0", "c/1/1"), ("c/0/2", "c/2/0", "c.0.0", "0/0")),
+        ):
+            with self.subTest(members):
+                own = tuple(it for it in own if not any(other.startswith(f"{it}/") for other in own))
+                for name in (*ours, *own):
+                    self.put(f"arrays/v/{name}", "x")
+                self.put(f"arrays/v/{key}", json.dumps(members))
+                self.assertEqual(sorted(self.here.remove("v", inputs=True)), sorted(f"v/{name}" for name in own))
+                self.assertEqual([it for it in self.keys(self.here.folder) if it.startswith("v/")], sorted(f"v/{name}" for name in own))
+                shutil.rmtree(os.path.join(self.here.folder, "v"))
+
+    def test_an_array_that_is_not_read_stays(self) -> None:
+        members = {**json.loads(self.text()), "codecs": [{"name": "zstd"}]}
+        self.put("arrays/v/zarr.json", json.dumps(members))
+        self.put("arrays/v/c/0", "compressed")
+        before = self.keys(self.here.folder)
+        with self.assertRaises(cengmoat.NotRemoved) as found:
+            self.here.remove("v", inputs=True)
+        self.assertIn("its chunks can't be told from other files", str(found.exception))
+        self.assertEqual(self.keys(self.here.folder), before)
+
+    def outside(self) -> str:
+        """Return a folder of a user in which files are named as chunks and as a record."""
+        for key in ("0", "c/0", "0/c/0", "y/0/c/0", "plan.json", "y/plan.json"):
+            self.put(f"outside/{key}" if key != "0" else "outside/c/c/0", "dear")
+        return os.path.join(self.folder, "outside")
+
+    def test_a_link_that_comes_meanwhile_is_not_followed(self) -> None:
+        outside = self.outside()
+        before = self.keys(outside)
+        for at, far in (("y/c", "c"), ("y", ""), ("_cubed/y/0/c", "c"), ("_cubed/y/0", ""), ("_cubed/y", ""), ("_cubed", "")):
+            with self.subTest(at):
+                (self.t + 1).store("y", keep=True)
+                path, aside = os.path.join(self.here.folder, at), os.path.join(self.folder, "aside")
+
+                def swap() -> None:
+                    os.rename(path, aside)
+                    os.symlink(os.path.join(outside, far), path)
+
+                found = cengmoat._removing.Removal(self.here.folder, "y")
+                swap()
+                self.assertRaises(cengmoat.StoreFailed, found.remove)
+                self.assertEqual(self.keys(outside), before)
+                os.unlink(path)
+                os.rename(aside, path)
+                shutil.rmtree(os.path.join(self.here.folder, "y"), ignore_errors=True)
+                shutil.rmtree(os.path.join(self.here.folder, "_cubed"))
+        for at, far in (("_cubed/y/0/c", "c"), ("_cubed/y/0", ""), ("_cubed/y", ""), ("_cubed", "")):
+            with self.subTest(at):
+                (self.t + 1).store("y", keep=True)
+                path, aside = os.path.join(self.here.folder, at), os.path.join(self.folder, "aside")
+                under = cengmoat._removing._Under
+
+                def listed(*words: Any) -> Any:
+                    found = under(*words)
+                    os.rename(path, aside)
+                    os.symlink(os.path.join(outside, far), path)
+                    return found
+
+                with mock.patch("cengmoat._removing._Under", listed):
+                    cengmoat._removing.remove_between(self.here.folder, "y")
+                self.assertTrue(os.path.islink(path))
+                self.assertEqual(self.keys(outside), before)
+                shutil.rmtree(aside)
+                os.unlink(path)
+                shutil.rmtree(os.path.join(self.here.folder, "y"))
+                shutil.rmtree(os.path.join(self.here.folder, "_cubed"), ignore_errors=True)
+
+    def test_a_folder_of_plans_that_is_a_link_is_not_followed(self) -> None:
+        """But for names of the package's own, under which the program has stored through the link."""
+        plans, far = os.path.join(self.here.folder, "_cubed"), os.path.join(self.folder, "scratch")
+        os.mkdir(far)
+        os.symlink(far, plans)
+        (self.t + 1).store("y")
+        self.put("scratch/y/notes", "mine")
+        before, result = self.keys(far), self.keys(self.here.folder)
+        self.assertEqual(before, ["y/0/c/0", "y/notes", "y/plan.json"])
+        with self.assertRaises(cengmoat.NotRemoved) as found:
+            self.here.remove("y", inputs=True)
+        self.assertIn("_cubed is a link, and nothing behind a link is removed", str(found.exception))
+        self.same((self.t + 1).compute(), np.full(4, 7, "int32"))
+        self.assertEqual((self.keys(far), self.keys(self.here.folder)), (before, result))
+        self.assertEqual(os.listdir(far), ["y"])
+        shutil.rmtree(os.path.join(far, "y"))
+        self.here.remove("y", inputs=True)
+        self.assertEqual(self.here.names(), ["t"])
+
     def test_an_input_goes_only_where_it_is_said(self) -> None:
         before = self.keys(self.here.folder)
         with self.assertRaises(cengmoat.NotRemoved) as found:
@@ -187,9 +303,9 @@ class Removing(Case):
         gone: list[str] = []
         unlink = os.unlink
 
-        def seen(path: Any, **options: Any) -> None:
-            gone.append(os.path.relpath(path, self.here.folder))
-            unlink(path, **options)
+        def seen(path: Any, dir_fd: int) -> None:
+            gone.append(os.path.relpath(os.path.join(os.readlink(f"/proc/self/fd/{dir_fd}"), path), os.path.realpath(self.here.folder)))
+            unlink(path, dir_fd=dir_fd)
 
         os.unlink = seen  # type: ignore[assignment]
         try:
@@ -287,6 +403,77 @@ class Reading(Case):
         os.symlink(os.path.join(self.folder, "victim"), path)
         self.assertRaises(cengmoat.StoreFailed, self.here.save, "u", np.arange(3))
         self.assertFalse(os.path.exists(os.path.join(self.folder, "victim")))
+
+    def refused(self, key: str, why: str) -> None:
+        """Expect that nothing is stored or removed under a name, for what lies in the place of its lock."""
+        for call in (lambda: self.here.save("u", np.arange(3)), lambda: (self.t + 1).store("u"), lambda: self.here.remove("v", inputs=True)):
+            with self.assertRaises(cengmoat.StoreFailed) as found:
+                call()
+            self.assertIn(why, str(found.exception))
+            self.assertEqual(found.exception.key.replace("v", "u"), key)
+        self.assertEqual(self.here.names(), ["t", "v"])
+
+    def test_a_file_of_a_user_is_no_lock(self) -> None:
+        self.here.save("v", np.arange(3))
+        locks, far = os.path.join(self.here.folder, ".locks"), os.path.join(self.folder, "far")
+        os.rename(locks, os.path.join(self.folder, "before"))
+        os.mkdir(far)
+        for name in "uv":
+            with open(os.path.join(far, name), "w", encoding="utf-8") as file:
+                file.write("dear")
+        os.symlink(far, locks)
+        self.refused(".locks", "it is a link, or no folder")
+        self.here.status()
+        os.unlink(locks)
+        os.mkdir(locks)
+        for name in "uv":
+            os.link(os.path.join(far, name), os.path.join(locks, name))
+        self.refused(".locks/u", "it has another name beside this")
+        for name in "uv":
+            os.unlink(os.path.join(locks, name))
+            with open(os.path.join(far, name), encoding="utf-8") as file:
+                self.assertEqual(file.read(), "dear")
+        said = {"pid": 1, "host": "far", "since": "1999", "temporary": ["u"]}
+        for text in ("dear", "{}", "[]", "[" * 100000, '{"temporary": ["u"]}', json.dumps({**said, "more": 1}), json.dumps({**said, "temporary": [1]})[:-1]):
+            for name in "uv":
+                with open(os.path.join(locks, name), "w", encoding="utf-8") as file:
+                    file.write(text)
+            self.refused(".locks/u", "its content isn't that of a lock")
+            cengmoat._temporary.sweep(self.here.folder)
+            for name in "uv":
+                with open(os.path.join(locks, name), encoding="utf-8") as file:
+                    self.assertEqual(file.read(), text)
+
+    def test_a_full_disk_keeps_the_names_in_a_lock(self) -> None:
+        with cengmoat._locks.locked(self.here.folder, "u") as lock:
+            lock.write(["data-cengmoat-0123456789abcdef01"])
+        path = os.path.join(self.here.folder, ".locks", "u")
+        with open(path, encoding="utf-8") as file:
+            before = file.read()
+        write, left = os.pwrite, [10]
+
+        def short(descriptor: int, data: bytes, at: int) -> int:
+            return write(descriptor, data[:left.pop()] if left else data, at)
+
+        with mock.patch("os.pwrite", short), self.assertRaises(cengmoat.StoreFailed), cengmoat._locks.locked(self.here.folder, "u"):
+            pass
+        with open(path, encoding="utf-8") as file:
+            self.assertEqual(file.read(), before)
+        # (a stop between writing and cutting off leaves the end of the old text behind the new one)
+        with open(path, "a", encoding="utf-8") as file:
+            file.write('ary": ["other"]}\n')
+        with cengmoat._locks.locked(self.here.folder, "u") as lock:
+            self.assertEqual(lock.left, ["data-cengmoat-0123456789abcdef01"])
+
+    def test_who_holds_a_lock_is_said_on_one_line(self) -> None:
+        with cengmoat._locks.locked(self.here.folder, "u") as lock:
+            said = {"pid": 10**30, "host": "\x1b[31m\n" * 1000, "since": "\u202e" * 1000, "temporary": []}
+            os.ftruncate(lock.descriptor, os.pwrite(lock.descriptor, json.dumps(said).encode(), 0))
+            with self.assertRaises(cengmoat.Locked) as found:
+                self.here.save("u", np.arange(3))
+        told = str(found.exception)
+        self.assertTrue(told.isprintable(), told)
+        self.assertLess(len(told), 1000)
 
     def test_writing_follows_no_link(self) -> None:
         victim = os.path.join(self.folder, "victim")
