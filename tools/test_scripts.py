@@ -7,6 +7,7 @@ What needs the program runs over the one that the gate built, and is left out wh
 written by NumPy too where it can be imported. test_calls.py has the tests of calls, and test_hostile.py those of strange folders.
 """
 import array
+import concurrent.futures
 import contextlib
 import io
 import itertools
@@ -16,6 +17,7 @@ import os
 import random
 import re
 import sys
+import time
 import unittest
 
 sys.dont_write_bytecode = True
@@ -268,5 +270,30 @@ class Explain(unittest.TestCase):
             self.explain(*words, status=2)
 
 
+def run_apart(name):
+    """Runs the tests of one class in a process of its own, and returns how many there were, how many were left out, and what went wrong."""
+    ended = run(sys.executable, "-W", "ignore", os.path.realpath(__file__), name, seconds=600)
+    told = ended.stderr.decode()
+    count, skipped = re.search(r"^Ran (\d+) test", told, re.M), re.search(r"skipped=(\d+)", told)
+    return int(count[1]) if count else 0, int(skipped[1]) if skipped else 0, told if ended.returncode else ""
+
+
+def main():
+    """Runs all classes side by side, and prints one line, and all of what failed."""
+    began = time.monotonic()
+    names = [name for name, value in globals().items() if isinstance(value, type) and issubclass(value, unittest.TestCase)
+             and unittest.defaultTestLoader.getTestCaseNames(value)]
+    with concurrent.futures.ThreadPoolExecutor(len(os.sched_getaffinity(0))) as pool:
+        ended = list(pool.map(run_apart, names))
+    failed = [told for _, _, told in ended if told]
+    print("\n".join(failed), end="")
+    print(f"scripts: {sum(it[0] for it in ended)} tests, {sum(it[1] for it in ended)} of them left out, "
+          f"{len(failed)} of {len(names)} groups failed, in {time.monotonic() - began:.0f} s")
+    return 1 if failed or not names else 0
+
+
 if __name__ == "__main__":
-    unittest.main()
+    if sys.argv[1:]:
+        unittest.main()
+    else:
+        sys.exit(main())
