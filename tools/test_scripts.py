@@ -21,7 +21,7 @@ import time
 import unittest
 
 sys.dont_write_bytecode = True
-from test_base import TOP, InFolder, files_in, put, run
+from test_base import TOP, InFolder, files_in, put, rules, run
 from test_calls import *  # noqa: F403
 from test_hostile import *  # noqa: F403
 import folder as folder_commands
@@ -222,6 +222,32 @@ def stopped_after(count):
             yield
     finally:
         folder_commands.unlink = unlink
+
+
+class Months(InFolder):
+    def months(self, year, *calendar):
+        """The expression of a year's months, and the days that they have together."""
+        ended = run(sys.executable, f"{TOP}/examples/calendar/months.py", "days", str(year), "y", *calendar)
+        self.assertEqual(ended.returncode, 0, ended.stderr)
+        slices = [node["index"][0] for node in json.loads(ended.stdout)["nodes"] if node["op"] == "index"]
+        self.assertEqual([it["start"] for it in slices], [0] + [it["stop"] for it in slices[:-1]])
+        return ended.stdout, slices[-1]["stop"], [it["stop"] - it["start"] for it in slices]
+
+    def test_years_have_their_days_in_each_calendar(self):
+        """The days of years as the CF conventions and the calendars themselves have them."""
+        for year, calendar, days, february in (
+                (2001, "standard", 365, 28), (2000, "standard", 366, 29), (1900, "standard", 365, 28), (1500, "standard", 366, 29),
+                (1582, "gregorian", 355, 28), (1582, "proleptic_gregorian", 365, 28), (1500, "proleptic_gregorian", 365, 28),
+                (1900, "julian", 366, 29), (2000, "noleap", 365, 28), (2000, "365_day", 365, 28), (2001, "all_leap", 366, 29),
+                (2001, "366_day", 366, 29), (2001, "360_day", 360, 30)):
+            text, found, lengths = self.months(year, calendar)
+            self.assertEqual((len(lengths), found, lengths[1]), (12, days, february), calendar)
+            plan = rules.typed_plan(text, {"days/zarr.json": rules.compact(rules.Array("int16", [days], [days]).written()).encode()}.get)
+            self.assertEqual(plan.infos[plan.out][1], [12])
+        self.assertEqual(self.months(2001)[1:], self.months(2001, "standard")[1:])
+
+    def test_another_calendar_is_refused(self):
+        self.assertEqual(run(sys.executable, f"{TOP}/examples/calendar/months.py", "days", "2001", "y", "lunar").returncode, 1)
 
 
 class Help(unittest.TestCase):
