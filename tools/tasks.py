@@ -29,12 +29,13 @@ class Operation:
     """
 
     def __init__(self, number, step, folders):
-        self.number, self.kind, self.step, self.folders, self.tasks = number, step.kind, step, folders, step.tasks()
+        self.number, self.kind, self.tasks = number, step.kind, step.tasks()
+        self.step, self.folders = step, folders
 
     def done(self):
         """How many of its tasks have stored all of their chunks."""
-        held = [coordinates_in(folder, len(array[1])) for folder,
-                array in zip(self.folders, self.step.arrays)]
+        held = [coordinates_in(folder, len(array[1]))
+                for folder, array in zip(self.folders, self.step.arrays)]
         if not all(held):
             return 0
         if self.kind == "copy":
@@ -112,8 +113,8 @@ def of_record(stored):
     """
     try:
         record = json.loads(bytes_in(stored.record, RECORD_BYTES).decode("utf-8"))
-        metas = {f"{name}/zarr.json": json.dumps(value).encode() for name,
-                 value in record["inputs"].items()}
+        metas = {f"{name}/zarr.json": json.dumps(value).encode()
+                 for name, value in record["inputs"].items()}
         data = json.dumps(record["expr"], ensure_ascii=False, separators=(",", ":")).encode("utf-8")
         numbers = [record[name] for name in ("allowed", "reserved", "split_every")]
     except (OSError, Failed, ValueError, KeyError, TypeError, AttributeError, RecursionError):

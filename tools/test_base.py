@@ -22,7 +22,7 @@ import rules  # noqa: E402
 # one.
 OTHER = "CENGMOAT_TEST_PROGRAM"
 # The seconds in which a call of a script must have ended.
-LONGEST = 20
+LONGEST = 60
 ADDITION = {"nodes": [{"id": "a", "op": "input", "name": "a"},
                       {"id": "b", "op": "input", "name": "b"},
                       {"id": "s", "op": "add", "args": ["a", "b"]}], "out": "s", "store_as": "y"}
@@ -49,9 +49,9 @@ def proved_program():
 PROGRAM = proved_program()
 
 
-def run(*words, text=b"", **options):
+def run(*words, text=b"", seconds=LONGEST, **options):
     return subprocess.run(words, input=text, stdout=subprocess.PIPE, stderr=subprocess.PIPE,
-                          check=False, timeout=LONGEST, **options)
+                          check=False, timeout=seconds, **options)
 
 
 def put(path, data=b""):
@@ -166,7 +166,7 @@ class WithProgram(InFolder):
         return process.returncode, told.decode().replace("\r\n", "\n"), printed.decode()
 
 
-def wait_until(holds, seconds=LONGEST):
+def wait_until(holds, seconds=30):
     """Whether something comes to hold in time."""
     end = time.monotonic() + seconds
     while time.monotonic() < end:

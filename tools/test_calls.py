@@ -139,12 +139,10 @@ class Stops(WithProgram):
         self.assertIn("run begins anew", told)
 
     def test_the_end_of_the_script_ends_the_program(self):
-        self.program(f'cat >/dev/null; echo $$ >"$1/process.new"; mv "$1/process.new" "$1/process"; {HALF}; exec sleep 60')
-        self.on_terminal("run", text=text_of(ADDITION), send=signal.SIGKILL, until=self.stored)
-        with open(f"{self.top}/process", encoding="ascii") as file:
-            process = file.read().strip()
-        self.assertTrue(wait_until(lambda: not os.path.exists(f"/proc/{process}")
-                                   or is_ended(process), 10))
+        """What the program would print ends with it: it sleeps for longer than that is waited for."""
+        self.program(f'cat >/dev/null; {HALF}; exec sleep 90')
+        status, _, _ = self.on_terminal("run", text=text_of(ADDITION), send=signal.SIGKILL, until=self.stored)
+        self.assertEqual(status, -signal.SIGKILL)
 
     def test_a_limit_on_the_size_of_files_is_no_signal(self):
         """The program gets SIGXFSZ ignored, on a terminal too; nothing else is ignored that wasn't.
@@ -160,14 +158,6 @@ class Stops(WithProgram):
         limited = f'ulimit -f 0; exec "{self.script}" "$@"'
         ended = run("/bin/sh", "-c", limited, "sh", self.top, "load", text=LOADED)
         self.assertEqual((ended.returncode, ended.stderr), (16, b"error 16 key=c/c/0\n"))
-
-
-def is_ended(process):
-    try:
-        with open(f"/proc/{process}/stat", encoding="ascii") as file:
-            return file.read().rpartition(")")[2].split()[0] == "Z"
-    except OSError:
-        return True
 
 
 class Faults(WithProgram):

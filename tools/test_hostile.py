@@ -279,7 +279,7 @@ class StrangeRemoval(InFolder):
         self.assertEqual(len(files_in(f"{self.top}/y")), 4)
 
     def test_only_what_the_program_makes_goes(self):
-        own = ["2024", "c/2024", "c/7", "c/00", "c/0/0", "draft.new", "draft.new2", "c/0.new",
+        own = ["2024", "c/2024", "c/3", "c/7", "c/00", "c/0/0", "draft.new", "draft.new2", "c/0.new",
                "c/9.new1", "notes.txt", "0", "0.0", ".zattrs", "zarr.json.bak", "zarr.json.newest"]
         plan = ["7", "0/c/0.new", "0/c/x", "0/1", "plan.json.new", "plan.json~", "00/c/0",
                 "0/c/0/0/0/0/0/0/0", "a/c/0"]

@@ -7,6 +7,7 @@ What needs the program runs over the one that the gate built, and is left out wh
 written by NumPy too where it can be imported. test_calls.py has the tests of calls, and test_hostile.py those of strange folders.
 """
 import array
+import concurrent.futures
 import contextlib
 import io
 import itertools
@@ -16,10 +17,11 @@ import os
 import random
 import re
 import sys
+import time
 import unittest
 
 sys.dont_write_bytecode = True
-from test_base import TOP, InFolder, files_in, put, run
+from test_base import TOP, InFolder, files_in, put, rules, run
 from test_calls import *  # noqa: F403
 from test_hostile import *  # noqa: F403
 import folder as folder_commands
@@ -222,6 +224,32 @@ def stopped_after(count):
         folder_commands.unlink = unlink
 
 
+class Months(InFolder):
+    def months(self, year, *calendar):
+        """The expression of a year's months, and the days that they have together."""
+        ended = run(sys.executable, f"{TOP}/examples/calendar/months.py", "days", str(year), "y", *calendar)
+        self.assertEqual(ended.returncode, 0, ended.stderr)
+        slices = [node["index"][0] for node in json.loads(ended.stdout)["nodes"] if node["op"] == "index"]
+        self.assertEqual([it["start"] for it in slices], [0] + [it["stop"] for it in slices[:-1]])
+        return ended.stdout, slices[-1]["stop"], [it["stop"] - it["start"] for it in slices]
+
+    def test_years_have_their_days_in_each_calendar(self):
+        """The days of years as the CF conventions and the calendars themselves have them."""
+        for year, calendar, days, february in (
+                (2001, "standard", 365, 28), (2000, "standard", 366, 29), (1900, "standard", 365, 28), (1500, "standard", 366, 29),
+                (1582, "gregorian", 355, 28), (1582, "proleptic_gregorian", 365, 28), (1500, "proleptic_gregorian", 365, 28),
+                (1900, "julian", 366, 29), (2000, "noleap", 365, 28), (2000, "365_day", 365, 28), (2001, "all_leap", 366, 29),
+                (2001, "366_day", 366, 29), (2001, "360_day", 360, 30)):
+            text, found, lengths = self.months(year, calendar)
+            self.assertEqual((len(lengths), found, lengths[1]), (12, days, february), calendar)
+            plan = rules.typed_plan(text, {"days/zarr.json": rules.compact(rules.Array("int16", [days], [days]).written()).encode()}.get)
+            self.assertEqual(plan.infos[plan.out][1], [12])
+        self.assertEqual(self.months(2001)[1:], self.months(2001, "standard")[1:])
+
+    def test_another_calendar_is_refused(self):
+        self.assertEqual(run(sys.executable, f"{TOP}/examples/calendar/months.py", "days", "2001", "y", "lunar").returncode, 1)
+
+
 class Help(unittest.TestCase):
     ROW = re.compile(r"^  --(\S+) N +\S.*?  +(\d+) to (\d+) +(\d+) +(\S.*)$", re.MULTILINE)
 
@@ -268,5 +296,30 @@ class Explain(unittest.TestCase):
             self.explain(*words, status=2)
 
 
+def run_apart(name):
+    """Runs the tests of one class in a process of its own, and returns how many there were, how many were left out, and what went wrong."""
+    ended = run(sys.executable, "-W", "ignore", os.path.realpath(__file__), name, seconds=600)
+    told = ended.stderr.decode()
+    count, skipped = re.search(r"^Ran (\d+) test", told, re.M), re.search(r"skipped=(\d+)", told)
+    return int(count[1]) if count else 0, int(skipped[1]) if skipped else 0, told if ended.returncode else ""
+
+
+def main():
+    """Runs all classes side by side, and prints one line, and all of what failed."""
+    began = time.monotonic()
+    names = [name for name, value in globals().items() if isinstance(value, type) and issubclass(value, unittest.TestCase)
+             and unittest.defaultTestLoader.getTestCaseNames(value)]
+    with concurrent.futures.ThreadPoolExecutor(len(os.sched_getaffinity(0))) as pool:
+        ended = list(pool.map(run_apart, names))
+    failed = [told for _, _, told in ended if told]
+    print("\n".join(failed), end="")
+    print(f"scripts: {sum(it[0] for it in ended)} tests, {sum(it[1] for it in ended)} of them left out, "
+          f"{len(failed)} of {len(names)} groups failed, in {time.monotonic() - began:.0f} s")
+    return 1 if failed or not names else 0
+
+
 if __name__ == "__main__":
-    unittest.main()
+    if sys.argv[1:]:
+        unittest.main()
+    else:
+        sys.exit(main())
