@@ -124,7 +124,7 @@ def metadata_of(folder: str, name: str) -> Optional[Metadata]:
 
 def has_record(folder: str, name: str) -> bool:
     """Return whether there is the record of a plan that makes an array."""
-    return os.path.isfile(os.path.join(folder, record_key(name)))
+    return os.path.lexists(os.path.join(folder, record_key(name)))
 
 
 def status_of(folder: str, name: str) -> ArrayStatus:

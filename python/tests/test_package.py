@@ -4,6 +4,7 @@ from __future__ import annotations
 import os
 import shutil
 import subprocess
+import tempfile
 import textwrap
 import unittest
 
@@ -20,6 +21,14 @@ class Modules(Case):
 
 
 class Types(Case):
+    @classmethod
+    def setUpClass(cls) -> None:
+        # (what mypy knows of NumPy is kept from one test to the next)
+        cls.cache = tempfile.TemporaryDirectory()
+        cls.addClassCleanup(cls.cache.cleanup)
+
+    cache: tempfile.TemporaryDirectory[str]
+
     def test_a_script_of_a_user(self) -> None:
         """Operators with numbers and NumPy's arrays on either side are lazy arrays to mypy, and nothing in the package is wrong."""
         mypy = shutil.which("mypy")
@@ -58,7 +67,7 @@ class Types(Case):
 
     def checked(self, mypy: str, *words: str, **more: str) -> str:
         """Return what mypy says."""
-        return subprocess.run([mypy, "--cache-dir", self.folder, *words], env={**os.environ, **more}, cwd=self.folder,
+        return subprocess.run([mypy, "--cache-dir", self.cache.name, *words], env={**os.environ, **more}, cwd=self.folder,
                               capture_output=True, text=True).stdout
 
 
