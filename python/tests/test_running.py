@@ -210,13 +210,14 @@ class Words(Case):
 
     def test_temporary_results_are_stored_without_syncs(self) -> None:
         """Where the program knows the option, which it is asked once."""
-        for offers in (True, False):
-            path = os.path.join(self.folder, f"words-{offers}")
+        for status in (3, 2, 1):
+            offers = status == 3
+            path = os.path.join(self.folder, f"words-{status}")
             text = f"""
 words = words[1:]
 open({path!r}, 'a').write(' '.join(words) + chr(10))
 if not sys.stdin.read():
-    sys.exit({3 if offers else 2})
+    sys.exit({status})
 sys.stderr.write("error 70")
 sys.exit(70)
 """

@@ -80,6 +80,13 @@ class Temporary(Case):
         self.assertEqual(self.keys(self.here.folder), before)
         self.assertEqual([it for it in os.listdir(os.path.join(self.here.folder, ".locks")) if it.startswith("tmp-")], [])
 
+    def test_a_lock_that_names_an_array_of_a_user(self) -> None:
+        with cengmoat._locks.locked(self.here.folder, "other") as lock:
+            lock.write(["t", "../arrays/t", "tmp-cengmoat-0123456789"])
+        before = self.keys(self.here.folder)
+        (self.t + 1).compute()
+        self.assertEqual(self.keys(self.here.folder), before)
+
     def test_what_lies_between_goes_with_the_end(self) -> None:
         (self.t + 1).store("y")
         self.assertEqual([key for key in self.keys(self.here.folder) if "y" in key], ["_cubed/y/plan.json", "y/c/0", "y/zarr.json"])
@@ -373,10 +380,29 @@ class Reading(Case):
                     with self.assertRaises(wanted) as found:
                         call()
                     self.assertIn("t", str(found.exception))
+                    if kind == "sparse":
+                        # (longer than 1 MiB, which is known without reading it)
+                        self.assertEqual(found.exception.code, 10)
                 self.assertEqual(self.here.status()["t"].dtype, None)
                 (os.rmdir if kind == "folder" else os.unlink)(os.path.join(self.here.folder, "t", "zarr.json"))
                 with open(os.path.join(self.here.folder, "t", "zarr.json"), "wb"):
                     pass
+
+    def test_a_device_isn_t_even_opened(self) -> None:
+        self.put("t/c/1", "device")
+        opened: list[Any] = []
+        before = os.open
+
+        def seen(path: Any, *args: Any, **options: Any) -> int:
+            opened.append(path)
+            return before(path, *args, **options)
+
+        os.open = seen
+        try:
+            self.assertRaises(cengmoat.StoreFailed, self.here.read, "t", slice(2, 4))
+        finally:
+            os.open = before
+        self.assertEqual([path for path in opened if str(path).endswith("c/1")], [])
 
     def test_a_file_in_the_place_of_a_folder(self) -> None:
         for at in ("0", "1"):
@@ -534,6 +560,9 @@ class Rights(Case):
         store = cengmoat.Store(folder)
         store.read("t"), store["t"].compute(), store.status(), list(store.items())
         self.assertEqual(os.listdir(folder), ["t"])
+        os.mkdir(os.path.join(folder, ".locks"))
+        store.status(), store.read("t")
+        self.assertEqual(os.listdir(os.path.join(folder, ".locks")), [])
 
 
 class FullDisk(Case):
