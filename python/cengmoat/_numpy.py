@@ -125,6 +125,10 @@ def _diff(a: Any, n: int = 1, axis: int = -1) -> Array:
     return _array(node)
 
 
+def _clip(a: Any, a_min: Any = None, a_max: Any = None, *, min: Any = None, max: Any = None) -> Array:
+    return _namespace().clip(_array(_node(a)), min if a_min is None else a_min, max if a_max is None else a_max)
+
+
 def _moved(x: Any, source: Any, destination: Any) -> Array:
     node = _node(x)
     ndim = len(node.shape)
@@ -240,8 +244,8 @@ def _known() -> dict[Any, Callable[..., Any]]:
     found |= {
         np.where: _where, np.concatenate: _concatenate, np.stack: _stack, np.hstack: _hstack, np.diff: _diff, np.dot: _dot,
         np.vstack: lambda tup: _concatenate([_rows(x) for x in tup]), np.transpose: turned, np.moveaxis: _moved, np.swapaxes: lambda a, axis1, axis2: _array(_node(a)).swapaxes(axis1, axis2),
-        np.clip: lambda a, a_min=None, a_max=None: _namespace().clip(_array(_node(a)), a_min, a_max), np.around: _round, np.round: _round,
-        np.reshape: lambda a, newshape: _array(views.reshape(_node(a), newshape)), np.ravel: lambda a: _array(views.reshape(_node(a), (-1,))),
+        np.clip: _clip, np.around: _round, np.round: _round,
+        np.reshape: lambda a, shape=None, newshape=None: _array(views.reshape(_node(a), newshape if shape is None else shape)), np.ravel: lambda a: _array(views.reshape(_node(a), (-1,))),
         np.squeeze: lambda a, axis=None: _array(_node(a)).squeeze(axis), np.expand_dims: lambda a, axis: _array(_node(a)).expand_dims(axis),
         np.flip: lambda m, axis=None: _array(views.flip(_node(m), axis)), np.flipud: lambda m: _array(views.flip(_node(m), 0)),
         np.fliplr: lambda m: _array(views.flip(_node(m), 1)), np.roll: lambda a, shift, axis=None: _array(views.roll(_node(a), shift, axis)),

@@ -75,6 +75,8 @@ TEXTS: dict[tuple[int, Optional[int]], tuple[str, str]] = {
     (17, None): ("the stored element at place {place} is {stored}, and the expression means {plain} there (places are counted row by row)",
                  "see by store.status() whether the array is finished, and what else wrote it; store it again under another name"),
     (18, None): ("an array that is given as a text isn't one", "store.save(name, array) stores an array of NumPy"),
+    (20, None): ("a part isn't one of operation {op}, which has {tasks} tasks", _WRONG_BUILD),
+    (21, None): ("task {task} of operation {op} lacks a chunk that it reads", "x.store(.., resume=True) goes on"),
     (70, None): ("the system had no memory to give", "take smaller chunks, fewer workers (Store(.., workers=1)), or free memory"),
 }
 
