@@ -21,7 +21,8 @@ use Rattle.cu_node.specs.declared.info.NodeInfo.{NodeInfo}
 use Rattle.cu_num.specs.declared.types.Dtype.TheVariants.{Int16}
 use Rattle.cu_op.specs.Layout.{IsLayout}
 use Rattle.cu_op.specs.Sound.{Sound}
-use Rattle.cu_op.specs.Value.{Elements, stored_inputs}
+use Rattle.cu_op.specs.Elements.{Elements}
+use Rattle.cu_op.specs.Value.{stored_inputs}
 use Rattle.cu_plan.specs.Plan.{merged_plan_of}
 use Rattle.cu_read.specs.Read.{compact_of}
 use Rattle.cu_state.proofs.Keeping.{left_kept}
