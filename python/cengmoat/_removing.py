@@ -170,7 +170,7 @@ class Removal:
             try:
                 self.meta = metadata_of(self.folder, self.name)
             except CengmoatError as error:
-                self.unread = error.message or type(error).__name__
+                self.unread = str(error).partition("\n")[0].rstrip(".")
 
     def _is_chunk(self, key: str) -> bool:
         """Return whether a file of the array's folder has the name of one of its chunks, or of one that the program writes."""
@@ -231,7 +231,8 @@ class Removal:
             raise NotRemoved(f"{self.name} has no record of a run, so no run made it, and perhaps nothing else has its numbers:"
                              f" store.remove({self.name!r}, inputs=True) removes it all the same", name=self.name)
         if self.unread and not self.has_record:
-            raise NotRemoved(f"{self.name} isn't removed, since its chunks can't be told from other files: {self.unread}", name=self.name)
+            raise NotRemoved(f"{self.name} isn't removed, since its chunks can't be told from other files: {self.unread}."
+                             " Its folder may be removed by another program", name=self.name)
         for head in sorted({os.path.dirname(key) for key in self.keys}):
             if not os.access(os.path.join(self.folder, head), os.W_OK | os.X_OK):
                 raise refused(head or ".", "files in this folder can't be removed: no permission; nothing was removed")

@@ -5,6 +5,7 @@ import json
 import os
 import pickle
 import re
+import shutil
 import unittest
 
 from .support import TOP, Case, WithProgram, cengmoat, np, xp
@@ -158,7 +159,9 @@ class Answers(WithProgram):
         with self.assertRaises(cengmoat.BadMetadata) as meta:
             both.compute()
         self.assertEqual((meta.exception.name, meta.exception.code), ("y", 2))
-        self.here.remove("y", inputs=True)
+        # (which files are chunks isn't known without it)
+        self.assertRaises(cengmoat.NotRemoved, self.here.remove, "y", inputs=True)
+        shutil.rmtree(os.path.join(folder, "y"))
         self.assertRaises(cengmoat.NoArray, both.compute)
         self.assertEqual(self.here.names(), ["t"])
 
