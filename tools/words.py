@@ -21,6 +21,7 @@ OPTIONS = {
     "workers": (1, 64, 1, ("run", "resume", "demo")),
     "retries": (0, 8, 2, ("run", "resume", "drop", "load", "check", "print", "demo")),
     "backups": (0, 1, 0, ("run", "resume", "demo")),
+    "sync": (0, 1, 1, ("run", "resume", "load", "demo")),
     "progress": (0, 1, 0, ("run", "resume")),
 }
 COMMANDS = ("run", "resume", "drop", "plan", "load", "check", "print", "demo")
