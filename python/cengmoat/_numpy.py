@@ -243,9 +243,11 @@ def _known() -> dict[Any, Callable[..., Any]]:
     found |= {getattr(np, name): _like(name) for name in ("zeros_like", "ones_like", "empty_like", "full_like")}
     found |= {
         np.where: _where, np.concatenate: _concatenate, np.stack: _stack, np.hstack: _hstack, np.diff: _diff, np.dot: _dot,
-        np.vstack: lambda tup: _concatenate([_rows(x) for x in tup]), np.transpose: turned, np.moveaxis: _moved, np.swapaxes: lambda a, axis1, axis2: _array(_node(a)).swapaxes(axis1, axis2),
+        np.vstack: lambda tup: _concatenate([_rows(x) for x in tup]), np.transpose: turned, np.moveaxis: _moved,
+        np.swapaxes: lambda a, axis1, axis2: _array(_node(a)).swapaxes(axis1, axis2),
         np.clip: _clip, np.around: _round, np.round: _round,
-        np.reshape: lambda a, shape=None, newshape=None: _array(views.reshape(_node(a), newshape if shape is None else shape)), np.ravel: lambda a: _array(views.reshape(_node(a), (-1,))),
+        np.reshape: lambda a, shape=None, newshape=None: _array(views.reshape(_node(a), newshape if shape is None else shape)),
+        np.ravel: lambda a: _array(views.reshape(_node(a), (-1,))),
         np.squeeze: lambda a, axis=None: _array(_node(a)).squeeze(axis), np.expand_dims: lambda a, axis: _array(_node(a)).expand_dims(axis),
         np.flip: lambda m, axis=None: _array(views.flip(_node(m), axis)), np.flipud: lambda m: _array(views.flip(_node(m), 0)),
         np.fliplr: lambda m: _array(views.flip(_node(m), 1)), np.roll: lambda a, shift, axis=None: _array(views.roll(_node(a), shift, axis)),
@@ -258,7 +260,8 @@ def _known() -> dict[Any, Callable[..., Any]]:
         np.size: lambda a, axis=None: a.size if axis is None else a.shape[axis], np.iscomplexobj: lambda x: False, np.isrealobj: lambda x: True,
         np.result_type: lambda *them: np.result_type(*(_stand_in(it.node) if hasattr(it, "node") else it for it in them)),
         np.einsum: _einsum, np.pad: _pad,
-        np.can_cast: lambda from_, to, casting="safe": np.can_cast(from_.dtype, to, casting), np.isreal: lambda x: _namespace().ones_like(x, dtype="bool"),
+        np.can_cast: lambda from_, to, casting="safe": np.can_cast(from_.dtype, to, casting),
+        np.isreal: lambda x: _namespace().ones_like(x, dtype="bool"),
     }
     return found
 

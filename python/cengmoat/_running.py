@@ -109,7 +109,8 @@ def said_of(meta: Optional[Metadata]) -> str:
     if meta is None:
         return "unknown"
     order = ", big-endian" if meta.is_big else ""
-    return f"{meta.seen_dtype} of shape {meta.shape} in chunks {meta.chunks}, fill value {meta.fill}, keys {meta.encoding!r} {meta.separator!r}{order}"
+    return (f"{meta.seen_dtype} of shape {meta.shape} in chunks {meta.chunks}, fill value {meta.fill},"
+            f" keys {meta.encoding!r} {meta.separator!r}{order}")
 
 
 def _check_fresh(store: Store, graph: Graph) -> None:

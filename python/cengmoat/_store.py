@@ -173,7 +173,8 @@ class Store(Mapping[str, Array]):
         """Return the error that says that there is no array, and which names are near."""
         names = all_names(self.folder)
         near = difflib.get_close_matches(name, names, 3, 0.5) or [it for it in names if it.lower() == name.lower()]
-        said = f" Near names: {', '.join(near)}." if near else f" There are: {', '.join(names[:10])}{', ..' if len(names) > 10 else ''}." if names else ""
+        some = ", ".join(names[:10]) + (", .." if len(names) > 10 else "")
+        said = f" Near names: {', '.join(near)}." if near else f" There are: {some}." if names else ""
         where = "" if os.path.isdir(self.folder) else ", which is no folder"
         return NoArray(f"there is no array {name!r} in {self.folder}{where}.{said}", name=name)
 

@@ -1,7 +1,7 @@
 """The namespace of the Python array API standard 2022.12, over lazy arrays of integers and truth values.
 
-Functions have the standard's names and signatures, `maximum`, `minimum` and `clip` those of 2023.12; those that make an array also take `chunks`. What the standard has and
-the program lacks raises NotImplementedError at the call.
+Functions have the standard's names and signatures, `maximum`, `minimum` and `clip` those of 2023.12; those that make an array
+also take `chunks`. What the standard has and the program lacks raises NotImplementedError at the call.
 """
 from ._constants import (
     e, inf, nan, newaxis, pi,
