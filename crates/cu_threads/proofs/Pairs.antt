@@ -4,8 +4,8 @@ use Rattle.std.proofs.lemmas.List.Elements.{All-cons, All-nil}
 use Rattle.std.proofs.lemmas.Slice.Eq.{bytes_eq-Decides}
 use Rattle.std.specs.Prelude.{replicate}
 use Rattle.std.specs.Str.{bytes_eq}
-use Rattle.cu_store.specs.Held.{Contents, Write, IsAmong, Holds}
-use Rattle.cu_store.specs.Share.{Lent, KeysDiffer, IsPromiseOf, HoldsPromised, LatePromised, LateSteady, MayShare, ServesAs, IsShared, MayGiveBack, HoldsSeen}
+use Rattle.cu_store.specs.Held.{Contents, Holds}
+use Rattle.cu_store.specs.Share.{Lent, KeysDiffer, IsPromiseOf, HoldsPromised, LatePromised, LateSteady, MayShare, ServesAs, IsShared, HoldsSeen}
 use Rattle.cu_store.specs.Steps.{Shown}
 use Rattle.cu_store.specs.Yard.{bytes_under, is_made, is_served, Served, Known, MayPut}
 use Rattle.cu_store.specs.declared.yard.Spec.{Spec}

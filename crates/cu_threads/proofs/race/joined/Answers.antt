@@ -1,4 +1,4 @@
-use Rattle.std.proofs.Common.{Bool, true, false, IsTrue, ◌||◌, sym, subst}
+use Rattle.std.proofs.Common.{IsTrue, sym, subst}
 use Rattle.cu_threads.proofs.Pairs.{or_left, or_right}
 use Rattle.cu_threads.proofs.race.joined.Goals as goal
 

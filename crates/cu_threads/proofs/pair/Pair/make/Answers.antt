@@ -1,5 +1,3 @@
-use Rattle.std.proofs.Common.{◌≡◌, false, sym, ◌∙◌, subst}
-use Rattle.std.specs.Prelude.{length}
 use Rattle.cu_threads.proofs.Pairs.{filled_pair}
 use Rattle.cu_threads.proofs.pair.Pair.make.Goals as goal
 
