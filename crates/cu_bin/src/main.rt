@@ -1,5 +1,6 @@
 //! `cubed DIR COMMAND OPTIONS`: arrays in a folder, computed by plans of small tasks.
 #![tactic(auto)]
+
 ghost use Rattle.std.specs.Prelude.{◌≡◌, ◌↔◌, IfOk, IsTrue, OnErr};
 
 mod adapters;
