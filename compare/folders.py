@@ -444,13 +444,15 @@ def of_demo():
     yield demo("files lie at `demo_a/c/0/0` and `demo_b/c/0/0`", several(does("put", "demo_a/c/0/0"), does("put", "demo_b/c/0/0")))
     yield demo("a file lies at `demo_a`", does("put", "demo_a"), *error(16, key="demo_a/c/0/0"))
     yield demo("a file lies at `demo_a/c`", does("put", "demo_a/c"), *error(16, key="demo_a/c/0/0"))
-    yield demo("a file lies at `_cubed`", does("put", "_cubed"), *error(16, key="_cubed/demo_a/plan.json"))
-    yield demo("a file lies at `_cubed/demo_y/1`", does("put", "_cubed/demo_y/1"), *error(16, key="_cubed/demo_y/1/c/0/0"))
+    # A key below a file is absent, and a put of it is a fault.
+    inputs = {key for key in DEMO if key.startswith(("demo_a/", "demo_b/"))}
+    yield demo("a file lies at `_cubed`", does("put", "_cubed"), *error(16, key=DEMO_RECORD), inputs)
+    yield demo("a file lies at `_cubed/demo_y/1`", does("put", "_cubed/demo_y/1"), *error(10, op=1, task=0),
+               inputs | {DEMO_RECORD, "demo_y/zarr.json", "_cubed/demo_y/0/c/0/0"})
     yield demo("a folder lies at `demo_y/c`", does("folder", "demo_y/c"), *error(16, key="demo_y/c"))
     yield demo("a named pipe lies at `demo_b/c/0/0`", does("pipe", "demo_b/c/0/0"))
     yield demo("a link at `demo_b/c/0/0` leads to a file elsewhere", lambda room: room.link("demo_b/c/0/0", os.path.join(room.beside, "chunk")))
-    yield demo("folders lie at the names of the first thousand new files of `demo_y/c`", lambda room: [room.folder(f"demo_y/c.new{number}") for number in range(1000)],
-               *error(10, op=3, task=0), DEMO - {"demo_y/c"})
+    yield demo("folders lie at names of new files of `demo_y/c`", lambda room: [room.folder(f"demo_y/c.new{number}") for number in range(1000)])
     yield demo("standard output is full", lambda room: None, *error(12), DEMO, streams=(FULL,))
     yield demo("standard input is closed", lambda room: None, streams=(CLOSED,))
     yield demo("100 bytes are allowed", lambda room: None, 5, None, words=("demo", "4", "--allowed-mem", "100"))
