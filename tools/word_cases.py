@@ -4,25 +4,30 @@
 usage: tools/word_cases.py > crates/cu_cases/data/words.json
        tools/word_cases.py resume > crates/cu_cases/data/resume_words.json
 
-The words of `resume` are tried over a folder: a depot in memory tells its contents, and a table can't say that a plan left them.
+The words of `resume` and of `part` are tried over a folder: a depot in memory tells its contents, and a table can't say that a plan left them.
 Words that are accepted are shown by the next thing that the command finds wrong: an empty text, or an array that isn't there.
 """
 import json
 import re
 import sys
 
-# Each option: the least and the most number, the number where it isn't given, and the commands that take it.
+# Each option: the least and the most number, the number where it isn't given (None: it must be), and the commands that take it.
 OPTIONS = {
-    "allowed-mem": (0, 2**40, 200_000_000, ("plan", "run", "resume", "drop", "demo")),
-    "reserved-mem": (0, 2**40, 0, ("plan", "run", "resume", "drop", "demo")),
-    "split-every": (2, 64, 4, ("plan", "run", "resume", "drop", "demo")),
+    "allowed-mem": (0, 2**40, 200_000_000, ("plan", "run", "begin", "part", "resume", "drop", "demo")),
+    "reserved-mem": (0, 2**40, 0, ("plan", "run", "begin", "part", "resume", "drop", "demo")),
+    "split-every": (2, 64, 4, ("plan", "run", "begin", "part", "resume", "drop", "demo")),
     "workers": (1, 64, 1, ("run", "resume", "demo")),
-    "retries": (0, 8, 2, ("run", "resume", "drop", "load", "check", "print", "demo")),
+    "retries": (0, 8, 2, ("run", "begin", "part", "resume", "drop", "load", "check", "print", "demo")),
     "backups": (0, 1, 0, ("run", "resume", "demo")),
-    "sync": (0, 1, 1, ("run", "resume", "load", "demo")),
+    "sync": (0, 1, 1, ("run", "begin", "part", "resume", "load", "demo")),
+    "op": (0, 2**64 - 1, None, ("part",)),
+    "from": (0, 2**64 - 1, None, ("part",)),
+    "to": (0, 2**64 - 1, None, ("part",)),
 }
 ACCEPTED = {
     "run": "error 3 code=1 node=0",
+    "begin": "error 3 code=1 node=0",
+    "part": "error 3 code=1 node=0",
     "resume": "error 3 code=1 node=0",
     "drop": "error 3 code=1 node=0",
     "plan": "error 3 code=1 node=0",
@@ -61,7 +66,12 @@ def is_accepted(command, given):
         least, most = OPTIONS[name][:2]
         if value is None or not NUMBER.match(value) or not least <= int(value) <= most:
             return False
-    return True
+    return all(name in names for name, (_, _, default, takers) in OPTIONS.items() if default is None and command in takers)
+
+
+def required(command, but=()):
+    """Returns the options that a command must have, but for these."""
+    return [f"--{name}=1" for name, (_, _, default, takers) in OPTIONS.items() if default is None and command in takers and name not in but]
 
 
 def answer(words):
@@ -110,7 +120,7 @@ def ends():
     for name, (least, most, _, takers) in OPTIONS.items():
         rows = []
         for command in (*ACCEPTED, "print"):
-            front = [command, "y"] if command == "print" else [command]
+            front = [command, "y"] if command == "print" else [command, *required(command, (name,))]
             values = [least, most, most + 1, *([least - 1] if least else [])] if command in takers else [least]
             rows += [front + form for value in values for form in both(name, str(value))]
         yield f"the ends of {name}", rows
@@ -132,6 +142,12 @@ def forms():
     every = ["--allowed-mem", "9", "--reserved-mem=8", "--split-every", "7", "--workers=1", "--retries", "6", "--backups=0", "--sync", "0"]
     yield "all options, in any order", [["run", *every], ["run", *every[3:], *every[:3]], ["run", *every[2:3], *every[:2], *every[3:]],
         ["plan", *every[:5]], ["plan", *every[:6]], ["plan", *every], ["resume", *every], ["drop", *every[:5]], ["drop", *every[:5], *every[6:8]], ["drop", *every]]
+    yield "a part of which not all is said, or something twice", [
+        ["part", *more] for more in (["--op", "0", "--from", "0"], ["--op", "0", "--to", "0"], ["--from", "0", "--to", "0"], ["--op=0"], ["--from=0"], ["--to=0"],
+            ["--to=2", "--from=1", "--op=0"], ["--to=1", "--from=2", "--op=3"], ["--op", "0", "--from", "0", "--to"], ["--op=0", "--from=0", "--to="],
+            ["--op=0", "--from=0", "--to=1", "--op=0"], ["--op=0", "--from=0", "--to=1", "--to=1"], ["--op=+1", "--from=00", "--to=01"], ["--op=-1", "--from=0", "--to=1"],
+            ["--op=0", "--from=0", "--to=1", "--retries=8", "--split-every=64"], ["--op=0", "--from=0", "--to=1", "--retries=9"],
+            ["--op=0", "--from=0", "--to=1", "--workers=1"], ["--op=0", "--from=0", "--to=1", "--backups=0"], ["--op=0", "--from=0", "--to=1", "y"])]
     yield "options that are given twice", [
         [command, *first, *second]
         for command, name, value in (("run", "allowed-mem", "1"), ("run", "workers", "1"), ("plan", "split-every", "4"), ("load", "retries", "2"), ("check", "retries", "0"))
@@ -182,7 +198,7 @@ def main(over_folder):
     members = "steps" if over_folder else "rows"
     lines = []
     for name, rows in cases:
-        told = [json.dumps({"words": words, "line": answer(words)}, ensure_ascii=False) for words in rows if (words[:1] == ["resume"]) == over_folder]
+        told = [json.dumps({"words": words, "line": answer(words)}, ensure_ascii=False) for words in rows if (words[:1] in (["resume"], ["part"])) == over_folder]
         if told and over_folder:
             # The folder of a case is there once something is stored.
             told.insert(0, json.dumps({"words": ["load"], "input": {"name": "a", "data_type": "int8", "shape": [1], "chunk_shape": [1], "elements": [1]}, "output": "ok elements=1 chunks=1\n"}))

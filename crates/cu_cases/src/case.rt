@@ -1,6 +1,6 @@
 //! Calls of the program over a depot in memory, and what must come of them.
 ghost use Rattle.std.specs.Prelude.{◌≡◌, map, string_bytes};
-ghost use Rattle.cu_cases.specs.Late.{MayCall, is_resume};
+ghost use Rattle.cu_cases.specs.Late.{MayCall, is_going_on};
 
 use anyhow::{Result, bail};
 use cu_gates::{Awaited, Held, Meeting};
@@ -178,8 +178,8 @@ impl<'a> Case<'a> {
         if !depot.depot.none_late() {
             bail!("a put of an earlier call is late");
         }
-        if is_resume(&self.words) {
-            bail!("a run goes on over a folder alone");
+        if is_going_on(&self.words) {
+            bail!("a run goes on, and a part is run, over a folder alone");
         }
         depot.forget();
         self.answer(threads, depot, room, wanted, place, findings)?;
@@ -255,7 +255,7 @@ impl<'a> Case<'a> {
     }
 
     /// Makes the call.
-    #[tactic(auto, using(crate::proofs::Calm::may_run, crate::proofs::Calm::may_resume, crate::proofs::Calm::may_demo))]
+    #[tactic(auto, using(crate::proofs::Calm::may_run, crate::proofs::Calm::may_resume, crate::proofs::Calm::may_part, crate::proofs::Calm::may_demo))]
     fn ask<D: Share>(
         &self,
         threads: &(impl Threads + Wait + Sync),
@@ -345,13 +345,13 @@ impl<'a> Case<'a> {
     }
 }
 
-/// Whether the words are for a run that goes on. Where a depot tells its contents, such a run wants to know that they are what its plan
-/// left, which no table can say.
-fn is_resume(words: &[String]) -> bool
-    ensures { result ≡ is_resume (map string_bytes words.now) }
+/// Whether the words are for a run that goes on, or for a part of a plan. Where a depot tells its
+/// contents, both want to know that they are what the plan left, which no table can say.
+fn is_going_on(words: &[String]) -> bool
+    ensures { result ≡ is_going_on (map string_bytes words.now) }
 {
     match words {
-        [first, ..] => first.as_str() == "resume",
+        [first, ..] => first.as_str() == "resume" || first.as_str() == "part",
         [] => false,
     }
 }

@@ -2,7 +2,7 @@
 use Rattle.std.proofs.Common.{◌≡◌, [], codes, pos, negsuc, refl}
 use Rattle.std.specs.Fmt.{digits}
 use Rattle.cu_command.specs.Status.{line_of}
-use Rattle.cu_command.specs.declared.status.Status.TheVariants.{Done, BadWords, BadExpr, OverMemory, OverLimit, Exists, TaskFailed, BadChunk, Unequal, NoMemory}
+use Rattle.cu_command.specs.declared.status.Status.TheVariants.{Done, BadWords, BadExpr, OverMemory, OverLimit, Exists, TaskFailed, BadChunk, Unequal, NoTasks, NotReady, NoMemory}
 
 done : line_of Done ≡ []
 done = refl
@@ -37,6 +37,14 @@ short_chunk = refl
 other_element : line_of (Unequal 3 (negsuc 0) (pos 12)) ≡ codes "error 17 place=3 stored=-1 plain=12"
 unfolding digits
 other_element = refl
+
+past_the_last_task : line_of (NoTasks 2 4096) ≡ codes "error 20 op=2 tasks=4096"
+unfolding digits
+past_the_last_task = refl
+
+too_early : line_of (NotReady 1 63) ≡ codes "error 21 op=1 task=63"
+unfolding digits
+too_early = refl
 
 no_memory : line_of NoMemory ≡ codes "error 70"
 no_memory = refl

@@ -2,7 +2,7 @@
 use Rattle.std.specs.Prelude.{ℕ, List, [], ◌++◌, codes, decimal}
 use Rattle.std.specs.Fmt.{signed_decimal}
 use Rattle.cu_command.specs.declared.status.Status.{Status}
-use Rattle.cu_command.specs.declared.status.Status.TheVariants.{Done, BadWords, BadExpr, BadType, OverMemory, OverLimit, BadMeta, NoArray, Exists, TaskFailed, ReadFault, WriteFault, BadChunk, OtherPlan, NoPlan, DepotFailed, Unequal, BadLoad, NoMemory}
+use Rattle.cu_command.specs.declared.status.Status.TheVariants.{Done, BadWords, BadExpr, BadType, OverMemory, OverLimit, BadMeta, NoArray, Exists, TaskFailed, ReadFault, WriteFault, BadChunk, OtherPlan, NoPlan, DepotFailed, Unequal, BadLoad, NoTasks, NotReady, NoMemory}
 
 -- the answer's number, which is the exit status of the program
 abbrev pub exit_status : Status → ℕ
@@ -24,6 +24,8 @@ exit_status NoPlan = 15
 exit_status (DepotFailed key) = 16
 exit_status (Unequal place stored plain) = 17
 exit_status (BadLoad code) = 18
+exit_status (NoTasks op tasks) = 20
+exit_status (NotReady op task) = 21
 exit_status NoMemory = 70
 
 -- the line, with no line feed; Done has none
@@ -46,4 +48,6 @@ line_of NoPlan = codes "error 15"
 line_of (DepotFailed key) = codes "error 16 key=" ++ key
 line_of (Unequal place stored plain) = codes "error 17 place=" ++ decimal place ++ codes " stored=" ++ signed_decimal stored ++ codes " plain=" ++ signed_decimal plain
 line_of (BadLoad code) = codes "error 18 code=" ++ decimal code
+line_of (NoTasks op tasks) = codes "error 20 op=" ++ decimal op ++ codes " tasks=" ++ decimal tasks
+line_of (NotReady op task) = codes "error 21 op=" ++ decimal op ++ codes " task=" ++ decimal task
 line_of NoMemory = codes "error 70"

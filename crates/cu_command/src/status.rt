@@ -86,6 +86,16 @@ pub enum Status {
     BadLoad {
         code: u8,
     },
+    /// 20: the plan has no such tasks of this operation, which has so many; 0 where there is no such operation.
+    NoTasks {
+        op: u64,
+        tasks: u64,
+    },
+    /// 21: a chunk that this task of this operation reads, and an operation makes, isn't there.
+    NotReady {
+        op: u32,
+        task: u32,
+    },
     /// 70: memory was wanted and not had.
     NoMemory,
 }
@@ -116,6 +126,8 @@ pub fn number(status: &Status) -> u8
         Status::DepotFailed { .. } => 16,
         Status::Unequal { .. } => 17,
         Status::BadLoad { .. } => 18,
+        Status::NoTasks { .. } => 20,
+        Status::NotReady { .. } => 21,
         Status::NoMemory => 70,
     }
 }
@@ -179,6 +191,14 @@ pub fn status_line(status: &Status) -> LineText
             push_element(&mut line, " plain=", *plain);
         }
         Status::BadLoad { code } => push_field(&mut line, "error 18 code=", *code as u64),
+        Status::NoTasks { op, tasks } => {
+            push_field(&mut line, "error 20 op=", *op);
+            push_field(&mut line, " tasks=", *tasks);
+        }
+        Status::NotReady { op, task } => {
+            push_field(&mut line, "error 21 op=", *op as u64);
+            push_field(&mut line, " task=", *task as u64);
+        }
         Status::NoMemory => line.push_str("error 70"),
     }
     line

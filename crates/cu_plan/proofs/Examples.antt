@@ -16,7 +16,7 @@ use Rattle.cu_lower.specs.Plan.{plan_of}
 use Rattle.cu_lower.specs.declared.options.Options.{Options}
 use Rattle.cu_plan.specs.Plan.{merged_plan_of}
 use Rattle.cu_plan.specs.Refusal.{refusal_of}
-use Rattle.cu_plan.specs.Text.{operation_line, plan_line, plan_text}
+use Rattle.cu_plan.specs.Text.{operation_fields, plan_line, plan_text}
 use Rattle.cu_plan.specs.declared.fault.PlanFault.TheVariants.{OverMemory, OverLimit}
 
 abbrev with_memory : ℕ → Options
@@ -32,7 +32,7 @@ numbers = record { nodes = record { name = codes "s"; form = Form.Arange (pos 0)
 
 numbers_text : plan_text (plan_of numbers (info_of Int32 (6 ∷ []) (4 ∷ []) ∷ []) [] (with_memory 64))
     ≡ codes "op 0 pull node=0 tasks=2 cells=2 projected=32" ++ 10 ∷ codes "plan ops=1 tasks=2 cells=2 peak=32" ++ 10 ∷ []
-unfolding digits operation_line plan_line
+unfolding digits operation_fields plan_line
 numbers_text = refl
 
 -- ---- 7 elements of 2 bytes from chunks of 5 to 3
@@ -51,7 +51,7 @@ tight_inputs = record { name = codes "x"; layout = made_layout fives } ∷ []
 
 tight_text : plan_text (plan_of tight tight_infos tight_inputs (with_memory 20))
     ≡ codes "op 0 copy node=1 tasks=3 cells=3 projected=16" ++ 10 ∷ codes "plan ops=1 tasks=3 cells=3 peak=16" ++ 10 ∷ []
-unfolding digits operation_line plan_line
+unfolding digits operation_fields plan_line
 tight_text = refl
 
 least_memory : refusal_of (with_memory 20) tight tight_infos ≡ None
@@ -102,13 +102,13 @@ twice_inputs = record { name = codes "a"; layout = made_layout six } ∷ record 
 -- with enough memory the two maps are one, with a byte less they are two, and no memory is refused for it
 merged_text : plan_text (merged_plan_of twice_a_sum (six ∷ six ∷ six ∷ six ∷ []) twice_inputs (with_memory 2624))
     ≡ codes "op 0 map node=3 tasks=2 cells=2 projected=2624" ++ 10 ∷ codes "plan ops=1 tasks=2 cells=2 peak=2624" ++ 10 ∷ []
-unfolding digits operation_line plan_line merged_plan_of
+unfolding digits operation_fields plan_line merged_plan_of
 merged_text = refl
 
 unmerged_text : plan_text (merged_plan_of twice_a_sum (six ∷ six ∷ six ∷ six ∷ []) twice_inputs (with_memory 2623))
     ≡ codes "op 0 map node=2 tasks=2 cells=2 projected=1600" ++ 10 ∷ codes "op 1 map node=3 tasks=2 cells=2 projected=1584" ++ 10
     ∷ codes "plan ops=2 tasks=4 cells=4 peak=1600" ++ 10 ∷ []
-unfolding digits operation_line plan_line merged_plan_of
+unfolding digits operation_fields plan_line merged_plan_of
 unmerged_text = refl
 
 sum_alone : refusal_of (with_memory 1600) twice_a_sum (six ∷ six ∷ six ∷ six ∷ []) ≡ None

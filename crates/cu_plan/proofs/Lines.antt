@@ -1,19 +1,46 @@
 -- The line of an operation, piece by piece.
-use Rattle.std.proofs.Common.{◌≡◌, ℕ, List, [], ◌∷◌, ◌++◌, codes, ap, ◌∙◌}
-use Rattle.std.proofs.lemmas.List.{append_assoc}
+use Rattle.std.proofs.Common.{◌≡◌, ℕ, ◌+◌, Bool, List, [], ◌∷◌, ◌++◌, codes, cond, filter, map, Result, Ok, Err, true, false, refl, ap, sym, ◌∙◌, arith}
+use Rattle.std.specs.Prelude.{OnOk}
+use Rattle.std.specs.List.{range_with_len}
+use Rattle.std.proofs.lemmas.List.FromFn.{filter_of_map_range_with_len_more}
+use Rattle.std.proofs.lemmas.List.{append_assoc, append-nil}
 use Rattle.std.specs.Fmt.{decimal}
 use Rattle.cu_op.specs.Cells.{tasks_of}
 use Rattle.cu_op.specs.KindText.{kind_text}
 use Rattle.cu_op.specs.declared.layout.ArrayInfo.{ArrayInfo}
 use Rattle.cu_op.specs.declared.operation.Planned.{Planned}
-use Rattle.cu_plan.specs.Text.{cells_of, operation_line}
+use Rattle.cu_plan.specs.Text.{cells_of, operation_fields}
+
+-- what follows of a fact follows where the fact does
+pub on_ok : {T E : Type 0} (P Q : Type 0) (r : Result T E) → (P → Q) → OnOk r P → OnOk r Q
+on_ok P Q (Ok x) more fact = more fact
+on_ok P Q (Err e) more fact = tt
+
+map_same : (xs : List ℕ) → map (λ (x : ℕ). x) xs ≡ xs
+map_same [] = refl
+map_same (x ∷ xs) = ap (λ (ys : List ℕ). x ∷ ys) (map_same xs)
+
+-- the numbers below one more that pass a test
+pub filter_more : (p : ℕ → Bool) (n : ℕ) → filter p (range_with_len 0 (n + 1)) ≡ filter p (range_with_len 0 n) ++ cond (p n) (n ∷ []) []
+filter_more p n =
+    ap (filter p) (sym (map_same (range_with_len 0 (n + 1))))
+    ∙ filter_of_map_range_with_len_more p (λ (x : ℕ). x) 0 n n (omega arith)
+    ∙ ap (λ (xs : List ℕ). filter p xs ++ cond (p n) (n ∷ []) []) (map_same (range_with_len 0 n))
+
+pub passed_over : (p : ℕ → Bool) (n : ℕ) (xs : List ℕ) → xs ≡ filter p (range_with_len 0 n) → p n ≡ false → xs ≡ filter p (range_with_len 0 (n + 1))
+passed_over p n xs is fails =
+    is ∙ sym (filter_more p n ∙ ap (λ (b : Bool). filter p (range_with_len 0 n) ++ cond b (n ∷ []) []) fails ∙ append-nil (filter p (range_with_len 0 n)))
+
+pub taken_up : (p : ℕ → Bool) (n : ℕ) (xs ys : List ℕ) → xs ≡ filter p (range_with_len 0 n) → p n ≡ true → ys ≡ xs ++ n ∷ [] → ys ≡ filter p (range_with_len 0 (n + 1))
+taken_up p n xs ys is passes more =
+    more ∙ ap (λ (zs : List ℕ). zs ++ n ∷ []) is ∙ sym (filter_more p n ∙ ap (λ (b : Bool). filter p (range_with_len 0 n) ++ cond b (n ∷ []) []) passes)
 
 -- one more piece at the end
 more : (a b t c : List ℕ) → t ≡ a ++ b → t ++ c ≡ a ++ (b ++ c)
 more a b t c e = ap (λ (s : List ℕ). s ++ c) e ∙ append_assoc a b c
 
-whole : (a b0 c0 b1 c1 b2 c2 b3 c3 b4 c4 b5 c5 d : List ℕ) → a ++ b0 ++ c0 ++ b1 ++ c1 ++ b2 ++ c2 ++ b3 ++ c3 ++ b4 ++ c4 ++ b5 ++ c5 ++ d ≡ a ++ (b0 ++ c0 ++ b1 ++ c1 ++ b2 ++ c2 ++ b3 ++ c3 ++ b4 ++ c4 ++ b5 ++ c5 ++ d)
-whole a b0 c0 b1 c1 b2 c2 b3 c3 b4 c4 b5 c5 d =
+whole : (a b0 c0 b1 c1 b2 c2 b3 c3 b4 c4 b5 c5 : List ℕ) → a ++ b0 ++ c0 ++ b1 ++ c1 ++ b2 ++ c2 ++ b3 ++ c3 ++ b4 ++ c4 ++ b5 ++ c5 ≡ a ++ (b0 ++ c0 ++ b1 ++ c1 ++ b2 ++ c2 ++ b3 ++ c3 ++ b4 ++ c4 ++ b5 ++ c5)
+whole a b0 c0 b1 c1 b2 c2 b3 c3 b4 c4 b5 c5 =
     let h1 : a ++ b0 ++ c0 ≡ a ++ (b0 ++ c0) = append_assoc a b0 c0 in
     let h2 : a ++ b0 ++ c0 ++ b1 ≡ a ++ (b0 ++ c0 ++ b1) = more a (b0 ++ c0) (a ++ b0 ++ c0) b1 h1 in
     let h3 : a ++ b0 ++ c0 ++ b1 ++ c1 ≡ a ++ (b0 ++ c0 ++ b1 ++ c1) = more a (b0 ++ c0 ++ b1) (a ++ b0 ++ c0 ++ b1) c1 h2 in
@@ -25,15 +52,14 @@ whole a b0 c0 b1 c1 b2 c2 b3 c3 b4 c4 b5 c5 d =
     let h9 : a ++ b0 ++ c0 ++ b1 ++ c1 ++ b2 ++ c2 ++ b3 ++ c3 ++ b4 ++ c4 ≡ a ++ (b0 ++ c0 ++ b1 ++ c1 ++ b2 ++ c2 ++ b3 ++ c3 ++ b4 ++ c4) = more a (b0 ++ c0 ++ b1 ++ c1 ++ b2 ++ c2 ++ b3 ++ c3 ++ b4) (a ++ b0 ++ c0 ++ b1 ++ c1 ++ b2 ++ c2 ++ b3 ++ c3 ++ b4) c4 h8 in
     let h10 : a ++ b0 ++ c0 ++ b1 ++ c1 ++ b2 ++ c2 ++ b3 ++ c3 ++ b4 ++ c4 ++ b5 ≡ a ++ (b0 ++ c0 ++ b1 ++ c1 ++ b2 ++ c2 ++ b3 ++ c3 ++ b4 ++ c4 ++ b5) = more a (b0 ++ c0 ++ b1 ++ c1 ++ b2 ++ c2 ++ b3 ++ c3 ++ b4 ++ c4) (a ++ b0 ++ c0 ++ b1 ++ c1 ++ b2 ++ c2 ++ b3 ++ c3 ++ b4 ++ c4) b5 h9 in
     let h11 : a ++ b0 ++ c0 ++ b1 ++ c1 ++ b2 ++ c2 ++ b3 ++ c3 ++ b4 ++ c4 ++ b5 ++ c5 ≡ a ++ (b0 ++ c0 ++ b1 ++ c1 ++ b2 ++ c2 ++ b3 ++ c3 ++ b4 ++ c4 ++ b5 ++ c5) = more a (b0 ++ c0 ++ b1 ++ c1 ++ b2 ++ c2 ++ b3 ++ c3 ++ b4 ++ c4 ++ b5) (a ++ b0 ++ c0 ++ b1 ++ c1 ++ b2 ++ c2 ++ b3 ++ c3 ++ b4 ++ c4 ++ b5) c5 h10 in
-    let h12 : a ++ b0 ++ c0 ++ b1 ++ c1 ++ b2 ++ c2 ++ b3 ++ c3 ++ b4 ++ c4 ++ b5 ++ c5 ++ d ≡ a ++ (b0 ++ c0 ++ b1 ++ c1 ++ b2 ++ c2 ++ b3 ++ c3 ++ b4 ++ c4 ++ b5 ++ c5 ++ d) = more a (b0 ++ c0 ++ b1 ++ c1 ++ b2 ++ c2 ++ b3 ++ c3 ++ b4 ++ c4 ++ b5 ++ c5) (a ++ b0 ++ c0 ++ b1 ++ c1 ++ b2 ++ c2 ++ b3 ++ c3 ++ b4 ++ c4 ++ b5 ++ c5) d h11 in
-    h12
+    h11
 
-module _ (arrays among : List ArrayInfo) (op : ℕ) (o x : Planned) (old a b c d e f new : List ℕ) (number node tasks cells : ℕ) where
+module _ (arrays among : List ArrayInfo) (op : ℕ) (o x : Planned) (old a b c d e f : List ℕ) (number node tasks cells : ℕ) where
   pub pieces : among ≡ arrays → x ≡ o → a ≡ old ++ codes "op " ++ decimal number → number ≡ op → b ≡ a ++ codes " " ++ kind_text x.op
       → c ≡ b ++ codes " node=" ++ decimal node → node ≡ x.node → d ≡ c ++ codes " tasks=" ++ decimal tasks → tasks ≡ tasks_of arrays o.op
-      → e ≡ d ++ codes " cells=" ++ decimal cells → cells ≡ cells_of among x.op → f ≡ e ++ codes " projected=" ++ decimal x.projected → new ≡ f ++ 10 ∷ []
-      → new ≡ old ++ operation_line arrays op o
-  unfolding operation_line
-  pieces same is p0 n0 p1 p2 n2 p3 n3 p4 n4 p5 p6 = rw (p6, p5, p4, n4, p3, n3, p2, n2, p1, p0, n0, same, is)
+      → e ≡ d ++ codes " cells=" ++ decimal cells → cells ≡ cells_of among x.op → f ≡ e ++ codes " projected=" ++ decimal x.projected
+      → f ≡ old ++ operation_fields arrays op o
+  unfolding operation_fields
+  pieces same is p0 n0 p1 p2 n2 p3 n3 p4 n4 p5 = rw (p5, p4, n4, p3, n3, p2, n2, p1, p0, n0, same, is)
       (whole old (codes "op ") (decimal op) (codes " ") (kind_text o.op) (codes " node=") (decimal o.node) (codes " tasks=") (decimal (tasks_of arrays o.op))
-      (codes " cells=") (decimal (cells_of arrays o.op)) (codes " projected=") (decimal o.projected) (10 ∷ []))
+      (codes " cells=") (decimal (cells_of arrays o.op)) (codes " projected=") (decimal o.projected))

@@ -11,4 +11,4 @@ pub use fault::PlanFault;
 pub use laws::{merged_plan_law, refusal_law};
 pub use planning::plan;
 pub use sums::{cell_count, peak, task_count};
-pub use text::plan_text;
+pub use text::{begun_text, plan_text};

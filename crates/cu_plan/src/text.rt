@@ -4,7 +4,9 @@ ghost use Rattle.std.specs.Prelude.{◌≡◌, ◌<◌, ◌++◌, codes, length,
 ghost use Rattle.std.specs.Fmt.{decimal};
 ghost use Rattle.cu_op.specs.KindText.{kind_text};
 ghost use Rattle.cu_op.specs.PlanView.{operation_at};
-ghost use Rattle.cu_plan.specs.Text.{operation_line, plan_line, plan_text};
+ghost use Rattle.cu_plan.specs.Text.{begun_line, begun_text, comma_text, is_made_by};
+ghost use Rattle.cu_plan.specs.Text.{operation_fields, operation_line, plan_line, plan_text};
+ghost use Rattle.cu_plan.specs.Text.{reads_from, sources_of};
 
 use crate::sums::{cell_count, cells_of, peak, task_count};
 use cu_op::{Op, Plan, kind_name, tasks};
@@ -31,11 +33,105 @@ fn text_of(alloc: Global, plan: &Plan) -> Result<Vec<u8>, AllocError>
     Ok(text)
 }
 
+/// What a plan that has begun does: the lines of `plan_text`, where that of an operation ends in
+/// ` reads=J,..`, the numbers of the operations that make the arrays which it reads.
+pub fn begun_text(alloc: Global, plan: &Plan) -> Result<Vec<u8>, NoMemory>
+    ensures { IfOk result (λ text. text.items ≡ begun_text plan.now) }
+{
+    begun_lines(alloc, plan).map_err(|_| NoMemory)
+}
+
+fn begun_lines(alloc: Global, plan: &Plan) -> Result<Vec<u8>, AllocError>
+    ensures { IfOk result (λ text. text.items ≡ begun_text plan.now) }
+{
+    let mut text = Vec::new(alloc);
+    for op in 0..plan.ops().len() as u32 {
+        push_begun(alloc, &mut text, plan, op)?;
+    }
+    push_plan(&mut text, plan)?;
+    Ok(text)
+}
+
 /// Appends the line of an operation.
-#[tactic(auto, unfolding(crate::specs::Text::operation_line))]
 fn push_operation(text: &mut Vec<u8>, plan: &Plan, op: u32) -> Result<(), AllocError>
     requires { op < length plan.now.ops }
     ensures { OnOk result (text.new.items ≡ text.old.items ++ operation_line plan.now.arrays op (operation_at plan.now.ops op)) }
+{
+    push_fields(text, plan, op)?;
+    text.extend_from_slice(b"\n")
+}
+
+/// Appends the line of an operation that also says what it reads.
+fn push_begun(alloc: Global, text: &mut Vec<u8>, plan: &Plan, op: u32) -> Result<(), AllocError>
+    requires { op < length plan.now.ops }
+    ensures { OnOk result (text.new.items
+        ≡ text.old.items ++ begun_line plan.now.arrays op (operation_at plan.now.ops op)) }
+{
+    push_fields(text, plan, op)?;
+    text.extend_from_slice(b" reads=")?;
+    let sources = sources_of(alloc, plan, op)?;
+    push_numbers(text, &sources)?;
+    text.extend_from_slice(b"\n")
+}
+
+/// The operations that make the arrays which an operation reads, in their order.
+fn sources_of(alloc: Global, plan: &Plan, op: u32) -> Result<Vec<u32>, AllocError>
+    requires { op < length plan.now.ops }
+    ensures { IfOk result (λ sources. sources.items
+        ≡ sources_of plan.now.arrays op (operation_at plan.now.ops op).op) }
+{
+    let mut sources = Vec::new(alloc);
+    for other in 0..op {
+        if reads_from(plan, op, other) {
+            sources.push(other)?;
+        }
+    }
+    Ok(sources)
+}
+
+/// Whether an operation reads an array that the other makes.
+fn reads_from(plan: &Plan, op: u32, other: u32) -> bool
+    requires { op < length plan.now.ops }
+    ensures { result ≡ reads_from plan.now.arrays (operation_at plan.now.ops op).op other }
+{
+    let reads = plan.operation(op).op.reads();
+    for array in reads.as_slice() {
+        if is_made_by(plan.array(*array).maker, other) {
+            return true;
+        }
+    }
+    false
+}
+
+/// Whether the maker of an array is this operation.
+fn is_made_by(maker: Option<u32>, op: u32) -> bool
+    ensures { result ≡ is_made_by maker op }
+{
+    match maker {
+        None => false,
+        Some(made) => made == op,
+    }
+}
+
+/// Appends numbers, with a comma between each two.
+fn push_numbers(text: &mut Vec<u8>, numbers: &[u32]) -> Result<(), AllocError>
+    ensures { OnOk result (text.new.items ≡ text.old.items ++ comma_text numbers.now) }
+{
+    let [first, rest @ ..] = numbers else {
+        return Ok(());
+    };
+    push_field(text, "", u64::from(*first))?;
+    for number in rest {
+        push_field(text, ",", u64::from(*number))?;
+    }
+    Ok(())
+}
+
+/// Appends what a line says of an operation.
+#[tactic(auto, unfolding(crate::specs::Text::operation_fields))]
+fn push_fields(text: &mut Vec<u8>, plan: &Plan, op: u32) -> Result<(), AllocError>
+    requires { op < length plan.now.ops }
+    ensures { OnOk result (text.new.items ≡ text.old.items ++ operation_fields plan.now.arrays op (operation_at plan.now.ops op)) }
 {
     let planned = plan.operation(op);
     push_field(text, "op ", u64::from(op))?;
@@ -43,9 +139,7 @@ fn push_operation(text: &mut Vec<u8>, plan: &Plan, op: u32) -> Result<(), AllocE
     push_field(text, " node=", u64::from(planned.node))?;
     push_field(text, " tasks=", u64::from(tasks(plan, op)))?;
     push_field(text, " cells=", cells_of(plan.arrays(), &planned.op))?;
-    push_field(text, " projected=", planned.projected)?;
-    text.extend_from_slice(b"\n")?;
-    Ok(())
+    push_field(text, " projected=", planned.projected)
 }
 
 /// Appends the line of the whole plan.

@@ -3,21 +3,24 @@ use Rattle.std.proofs.Common.{ℕ, ◌+◌, Bool, List, subst}
 use Rattle.cu_check.specs.Check.{CheckEnds}
 use Rattle.cu_command.specs.declared.status.Status.{Status}
 use Rattle.cu_lower.specs.declared.options.Options.{Options}
-use Rattle.cu_top.proofs.CallLemmas.{refused_text, resume_refused_text, drop_refused_text}
+use Rattle.cu_top.proofs.CallLemmas.{refused_text, resume_refused_text, drop_refused_text, begin_refused_text, part_refused_text}
 use Rattle.cu_top.proofs.Completeness.{served}
 use Rattle.cu_top.proofs.DemoServed.{demo_served}
-use Rattle.cu_top.proofs.FewFailures.{run_few, resume_few, drop_few, plan_few, load_few, check_few, print_few, demo_few}
+use Rattle.cu_top.proofs.FewFailures.{run_few, resume_few, drop_few, begin_few, part_few, plan_few, load_few, check_few, print_few, demo_few}
 use Rattle.cu_top.proofs.PlannedLemmas.{plan_refused_text, plan_served, plan_spared}
 use Rattle.cu_top.proofs.ResumeServed.{caused, went_on}
 use Rattle.cu_top.proofs.TurnedBack.{drop_back, resume_back}
-use Rattle.cu_top.specs.Answered.{TextAnswered, RunAnswered, ResumeAnswered, DropAnswered, PlanAnswered, LoadAnswered, CheckAnswered, PrintAnswered, DemoAnswered}
+use Rattle.cu_top.specs.Answered.{TextAnswered, BeginAnswered, PartAnswered, RunAnswered, ResumeAnswered, DropAnswered, PlanAnswered, LoadAnswered, CheckAnswered, PrintAnswered, DemoAnswered}
+use Rattle.cu_part.specs.declared.part.Part.{Part}
+use Rattle.cu_top.specs.Begin.{BeginTells}
+use Rattle.cu_top.specs.Parts.{PartTells}
 use Rattle.cu_top.specs.Call.{RunTells}
 use Rattle.cu_top.specs.Demo.{DemoTells, demo_between}
 use Rattle.cu_top.specs.Drop.{DropTells}
 use Rattle.cu_top.specs.Planned.{PlanTells}
 use Rattle.cu_top.specs.Resume.{ResumeTells}
 use Rattle.cu_top.specs.Run.{Scene, seen_in}
-use Rattle.cu_top.specs.Told.{RunTold, ResumeTold, DropTold, PlanTold, LoadTold, CheckTold, PrintTold, DemoTold}
+use Rattle.cu_top.specs.Told.{BeginTold, PartTold, RunTold, ResumeTold, DropTold, PlanTold, LoadTold, CheckTold, PrintTold, DemoTold}
 
 -- ---- `run`
 
@@ -115,6 +118,69 @@ module _ {o : Options} {old new : Scene} {status : Status} (told : DropTold o ol
     unrecorded = λ text entry left held none. drop_back o old new text entry left held none status told.tells;
     calls = told.calls;
     few_failures = λ few. drop_few old new o few status told.tells;
+  }
+
+-- ---- `begin`
+
+module _ {o : Options} {old new : Scene} {status : Status} (told : BeginTold o old new status) where
+  begin_text : TextAnswered o old new status
+  begin_text = record {
+    bad_expr = λ code node is. subst (BeginTells o old new) is told.tells;
+    bad_type = λ code node is. subst (BeginTells o old new) is told.tells;
+    over_memory = λ node need allowed is. subst (BeginTells o old new) is told.tells;
+    over_limit = λ which count is. subst (BeginTells o old new) is told.tells;
+    bad_meta = λ name code is. subst (BeginTells o old new) is told.tells;
+    no_array = λ name is. subst (BeginTells o old new) is told.tells;
+    read_fault = λ is. subst (BeginTells o old new) is told.tells;
+    refused_text = λ text f left err. begin_refused_text o old new text f left err status told.tells;
+  }
+
+  pub begin_answers : BeginAnswered o old new status
+  begin_answers = record {
+    done = λ is. subst (BeginTells o old new) is told.tells;
+    unprinted = λ is. subst (BeginTells o old new) is told.tells;
+    depot_failed = λ key is. subst (BeginTells o old new) is told.tells;
+    exists = λ key is. subst (BeginTells o old new) is told.tells;
+    no_memory = λ is. subst (BeginTells o old new) is told.tells;
+    refused = begin_text;
+    begins = told.tells;
+    prints = told.prints;
+    calls = told.calls;
+    few_failures = λ few. begin_few old new o few status told.tells;
+  }
+
+-- ---- `part`
+
+module _ {o : Options} {q : Part} {old new : Scene} {status : Status} (told : PartTold o q old new status) where
+  part_text : TextAnswered o old new status
+  part_text = record {
+    bad_expr = λ code node is. subst (PartTells o q old new) is told.tells;
+    bad_type = λ code node is. subst (PartTells o q old new) is told.tells;
+    over_memory = λ node need allowed is. subst (PartTells o q old new) is told.tells;
+    over_limit = λ which count is. subst (PartTells o q old new) is told.tells;
+    bad_meta = λ name code is. subst (PartTells o q old new) is told.tells;
+    no_array = λ name is. subst (PartTells o q old new) is told.tells;
+    read_fault = λ is. subst (PartTells o q old new) is told.tells;
+    refused_text = λ text f left err. part_refused_text o old new text f left err q status told.tells;
+  }
+
+  pub part_answers : PartAnswered o q old new status
+  part_answers = record {
+    done = λ is. subst (PartTells o q old new) is told.tells;
+    unreported = λ is. subst (PartTells o q old new) is told.tells;
+    no_tasks = λ op tasks is. subst (PartTells o q old new) is told.tells;
+    not_ready = λ op task is. subst (PartTells o q old new) is told.tells;
+    task_failed = λ op task is. subst (PartTells o q old new) is told.tells;
+    bad_chunk = λ key got want is. subst (PartTells o q old new) is told.tells;
+    other_plan = λ place is. subst (PartTells o q old new) is told.tells;
+    no_plan = λ is. subst (PartTells o q old new) is told.tells;
+    depot_failed = λ key is. subst (PartTells o q old new) is told.tells;
+    no_memory = λ is. subst (PartTells o q old new) is told.tells;
+    refused = part_text;
+    parts = told.tells;
+    prints = told.prints;
+    calls = told.calls;
+    few_failures = λ few. part_few old new o few q status told.tells;
   }
 
 -- ---- `plan`

@@ -11,9 +11,12 @@ use Rattle.cu_command.specs.Job.{names_or_none, IsJob}
 use Rattle.cu_command.specs.Streams.{ReadsAll}
 use Rattle.cu_command.specs.declared.job.Job.{Job}
 use Rattle.cu_command.specs.declared.status.Status.{Status}
-use Rattle.cu_command.specs.declared.status.Status.TheVariants.{Done, BadExpr, BadType, OverMemory, OverLimit, BadMeta, NoArray, Exists, TaskFailed, ReadFault, WriteFault, BadChunk, OtherPlan, NoPlan, DepotFailed, NoMemory}
+use Rattle.cu_command.specs.declared.status.Status.TheVariants.{Done, BadExpr, BadType, OverMemory, OverLimit, BadMeta, NoArray, Exists, TaskFailed, ReadFault, WriteFault, BadChunk, OtherPlan, NoPlan, NoTasks, NotReady, DepotFailed, NoMemory}
 use Rattle.cu_lower.specs.declared.options.Options.{Options}
 use Rattle.cu_top.specs.Call.{RunTells, IsExpressionRefused}
+use Rattle.cu_part.specs.declared.part.Part.{Part}
+use Rattle.cu_top.specs.Begin.{BeginTells, WasBegun}
+use Rattle.cu_top.specs.Parts.{PartTells, WasParted}
 use Rattle.cu_top.specs.Drop.{Dropped, DropTells}
 use Rattle.cu_top.specs.Held.{IsUnasked}
 use Rattle.cu_top.specs.Resume.{WasResumed, ResumeTells}
@@ -123,6 +126,33 @@ module _ (c : RunCase) (f : ExpressionFault) (err : expression_of c.text ≡ Err
   refused_dropped (Exists key) why = absurd why
   refused_dropped status why = refused_run false status why
 
+  pub refused_begun : (status : Status) → WasBegun c status → IsExpressionRefused f status
+  refused_begun NoMemory why = tt
+  refused_begun Done (job, begun, why) = no_job job begun.started.accepted
+  refused_begun WriteFault (rose, (job, begun, why)) = no_job job begun.started.accepted
+  refused_begun (DepotFailed key) (rose, inl unread) = no_turn (expression_of c.text) f c.old.depot unread.1.0 err unread.1.2
+  refused_begun (DepotFailed key) (rose, inr (inl (spared, (job, accepted, first)))) = no_job job accepted
+  refused_begun (DepotFailed key) (rose, inr (inr (job, begun, unput))) = no_job job begun.started.accepted
+  refused_begun (Exists key) (spared, (job, accepted, why)) = no_job job accepted
+  refused_begun (TaskFailed op task) why = absurd why
+  refused_begun (BadChunk key got want) why = absurd why
+  refused_begun status why = refused_run false status why
+
+  pub refused_parted : (q : Part) (status : Status) → WasParted c q status → IsExpressionRefused f status
+  refused_parted q NoMemory why = tt
+  refused_parted q Done (job, parted, why) = no_job job parted.reopened.accepted
+  refused_parted q WriteFault (rose, (job, parted, why)) = no_job job parted.reopened.accepted
+  refused_parted q (NoTasks op tasks) (spared, (job, reopened, same, count, none)) = no_job job reopened.accepted
+  refused_parted q (NotReady op task) (spared, (job, parted, why)) = no_job job parted.reopened.accepted
+  refused_parted q (TaskFailed op task) (job, parted, why) = no_job job parted.reopened.accepted
+  refused_parted q (BadChunk key got want) (job, parted, why) = no_job job parted.reopened.accepted
+  refused_parted q (DepotFailed key) (inl why) = unasked key why
+  refused_parted q (DepotFailed key) (inr (spared, (job, parted, why))) = no_job job parted.reopened.accepted
+  refused_parted q (OtherPlan place) (spared, (job, accepted, why)) = no_job job accepted
+  refused_parted q NoPlan (spared, (job, accepted, why)) = no_job job accepted
+  refused_parted q (Exists key) why = absurd why
+  refused_parted q status why = refused_run false status why
+
 -- so is what each command answers
 module _ (options : Options) (old new : Scene) (left : List ℕ) (f : ExpressionFault) (told : old.source.told ≡ Some left) (err : expression_of left ≡ Err f) where
   same_refusal : (text : List ℕ) → ReadsAll old.source.told new.source.told text → expression_of text ≡ Err f
@@ -143,6 +173,16 @@ module _ (options : Options) (old new : Scene) (left : List ℕ) (f : Expression
   drop_refused_text NoMemory tells = tt
   drop_refused_text status (text, read, why) = refused_dropped (case options text old new) f (same_refusal text read) status why
 
+  pub begin_refused_text : (status : Status) → BeginTells options old new status → IsExpressionRefused f status
+  begin_refused_text ReadFault tells = tt
+  begin_refused_text NoMemory tells = tt
+  begin_refused_text status (text, read, why) = refused_begun (case options text old new) f (same_refusal text read) status why
+
+  pub part_refused_text : (q : Part) (status : Status) → PartTells options q old new status → IsExpressionRefused f status
+  part_refused_text q ReadFault tells = tt
+  part_refused_text q NoMemory tells = tt
+  part_refused_text q status (text, read, why) = refused_parted (case options text old new) f (same_refusal text read) q status why
+
 -- ---- the other commands
 
 module _ (lack : Bool) (options : Options) (old new : Scene) where
@@ -157,3 +197,15 @@ pub told_drop : (options : Options) (old new : Scene) (text : List ℕ) (status 
 told_drop options old new text ReadFault read why = absurd why
 told_drop options old new text NoMemory read why = inr (text, read, why)
 told_drop options old new text status read why = (text, read, why)
+
+-- what a run of it answers that is begun
+pub told_begin : (options : Options) (old new : Scene) (text : List ℕ) (status : Status) → ReadsAll old.source.told new.source.told text → WasBegun (case options text old new) status → BeginTells options old new status
+told_begin options old new text ReadFault read why = absurd why
+told_begin options old new text NoMemory read why = inr (text, read, why)
+told_begin options old new text status read why = (text, read, why)
+
+-- and a part of its plan
+pub told_part : (options : Options) (q : Part) (old new : Scene) (text : List ℕ) (status : Status) → ReadsAll old.source.told new.source.told text → WasParted (case options text old new) q status → PartTells options q old new status
+told_part options q old new text ReadFault read why = absurd why
+told_part options q old new text NoMemory read why = inr (text, read, why)
+told_part options q old new text status read why = (text, read, why)

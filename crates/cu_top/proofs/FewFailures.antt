@@ -11,6 +11,9 @@ use Rattle.cu_print.specs.Print.{Printed}
 use Rattle.cu_top.specs.Call.{RunTells}
 use Rattle.cu_top.specs.Complete.{FewFailed, IsNotGivenUp}
 use Rattle.cu_top.specs.Demo.{DemoTells, demo_case}
+use Rattle.cu_part.specs.declared.part.Part.{Part}
+use Rattle.cu_top.specs.Begin.{BeginTells}
+use Rattle.cu_top.specs.Parts.{PartTells}
 use Rattle.cu_top.specs.Drop.{DropTells}
 use Rattle.cu_top.specs.Planned.{PlanTells}
 use Rattle.cu_top.specs.Resume.{ResumeTells}
@@ -46,6 +49,17 @@ module _ (old new : Scene) where
     plan_few (TaskFailed op task) (text, read, why) = why
     plan_few (DepotFailed key) (text, read, (spared, (name, asked, turn, rose))) = none_so_often options.retries old.depot new.depot few rose
     plan_few status tells = tt
+
+    pub begin_few : (status : Status) → BeginTells options old new status → IsNotGivenUp status
+    begin_few (TaskFailed op task) (text, read, why) = why
+    begin_few (DepotFailed key) (text, read, (rose, rest)) = none_so_often options.retries old.depot new.depot few rose
+    begin_few status tells = tt
+
+    pub part_few : (q : Part) (status : Status) → PartTells options q old new status → IsNotGivenUp status
+    part_few q (TaskFailed op task) (text, read, (job, parted, (is, inside, lacks, rose))) = none_so_often options.retries old.depot new.depot few rose
+    part_few q (DepotFailed key) (text, read, inl (rose, rest)) = none_so_often options.retries old.depot new.depot few rose
+    part_few q (DepotFailed key) (text, read, inr (spared, (job, parted, (rose, rest)))) = none_so_often options.retries old.depot new.depot few rose
+    part_few q status tells = tt
 
     pub demo_few : (lack : Bool) (size : ℕ) (status : Status) → DemoTells lack (demo_case options size (seen_in old) (seen_in new)) status → IsNotGivenUp status
     demo_few lack size (TaskFailed op task) (kept, (silent, (job, found, started, (rose, rest)))) =

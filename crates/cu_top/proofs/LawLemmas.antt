@@ -1,19 +1,25 @@
 -- What each command of a plan is to the depot.
-use Rattle.std.proofs.Common.{inl, inr, Bool}
+use Rattle.std.proofs.Common.{inl, inr, Bool, ℕ, arith}
 use Rattle.cu_store.specs.Steps.{Shown}
+use Rattle.cu_store.proofs.Steps.{steps_wider}
 use Rattle.cu_state.specs.Left.{RunChange}
 use Rattle.cu_state.specs.Pieces.{PlanRun}
+use Rattle.cu_state.proofs.Keeping.{change_alone}
+use Rattle.cu_part.specs.declared.part.Part.{Part}
 use Rattle.cu_work.specs.Commands.{CommandChange, IsCommand}
 use Rattle.cu_command.specs.Seen.{Stepped}
-use Rattle.cu_command.proofs.SeenLemmas.{stepped_wider, stepped_none}
+use Rattle.cu_command.proofs.SeenLemmas.{stepped, stepped_wider, stepped_none}
 use Rattle.cu_command.specs.declared.job.Job.{Job}
 use Rattle.cu_command.specs.declared.status.Status.{Status}
 use Rattle.cu_command.specs.declared.status.Status.TheVariants.{Done, BadExpr, BadType, OverMemory, OverLimit, BadMeta, NoArray, Exists}
-use Rattle.cu_command.specs.declared.status.Status.TheVariants.{TaskFailed, WriteFault, BadChunk, OtherPlan, NoPlan, DepotFailed, NoMemory}
+use Rattle.cu_command.specs.declared.status.Status.TheVariants.{TaskFailed, WriteFault, BadChunk, OtherPlan, NoPlan, DepotFailed, NoTasks, NotReady, NoMemory}
 use Rattle.cu_top.proofs.DropLemmas.{removal_within}
+use Rattle.cu_top.proofs.PartsLemmas.{parts_run}
+use Rattle.cu_top.specs.Begin.{WasBegun}
 use Rattle.cu_top.specs.Drop.{IsDropping, Dropped}
 use Rattle.cu_top.specs.Held.{IsNotReopened}
 use Rattle.cu_top.specs.Laws.{IsOfPlan}
+use Rattle.cu_top.specs.Parts.{IsParted, WasParted}
 use Rattle.cu_top.specs.Resume.{IsResumed, WasResumed}
 use Rattle.cu_top.specs.Run.{RunCase, job_run, IsSpared, IsStarted, WasRefused, Ran}
 
@@ -88,3 +94,38 @@ module _ (c : RunCase) where
   drop_is_command NoMemory (inl spared) = inl spared
   drop_is_command NoMemory (inr (job, dropping, rest)) = dropped_command job dropping
   drop_is_command status why = unopened_command status why
+
+  pub begin_is_command : (status : Status) → WasBegun c status → IsOfPlan c
+  begin_is_command Done (job, begun, rest) = started_command job begun.started
+  begin_is_command WriteFault (rose, (job, begun, rest)) = started_command job begun.started
+  begin_is_command (DepotFailed key) (rose, inl unread) = inl unread.0
+  begin_is_command (DepotFailed key) (rose, inr (inl unasked)) = inl unasked.0
+  begin_is_command (DepotFailed key) (rose, inr (inr (job, begun, rest))) = started_command job begun.started
+  begin_is_command (Exists key) blocked = inl blocked.0
+  begin_is_command NoMemory (inl spared) = inl spared
+  begin_is_command NoMemory (inr (job, begun, rest)) = started_command job begun.started
+  begin_is_command status why = refused_command status why
+
+  module _ (q : Part) where
+    parted_command : (job : Job) → IsParted c job q → IsOfPlan c
+    parted_command job parted =
+        let step = parted.step in
+        inr (
+          job,
+          parted.reopened.accepted,
+          put_command job (stepped (change_alone (job_run c job) c.old.depot 0 step.calls c.old.depot c.new.depot
+              (steps_wider (parts_run (job_run c job).plan parted.reopened.sound q parted.part c.old.depot) (omega arith) (omega arith) step.step))),
+        )
+
+    pub part_is_command : (status : Status) → WasParted c q status → IsOfPlan c
+    part_is_command Done (job, parted, rest) = parted_command job parted
+    part_is_command WriteFault (rose, (job, parted, rest)) = parted_command job parted
+    part_is_command (NoTasks op tasks) (spared, rest) = inl spared
+    part_is_command (NotReady op task) (spared, rest) = inl spared
+    part_is_command (TaskFailed op task) (job, parted, rest) = parted_command job parted
+    part_is_command (BadChunk key got want) (job, parted, rest) = parted_command job parted
+    part_is_command (DepotFailed key) (inl unasked) = unopened_command (DepotFailed key) unasked
+    part_is_command (DepotFailed key) (inr (spared, rest)) = inl spared
+    part_is_command NoMemory (inl spared) = inl spared
+    part_is_command NoMemory (inr (job, parted, rest)) = parted_command job parted
+    part_is_command status why = unopened_command status why

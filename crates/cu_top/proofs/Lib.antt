@@ -1,6 +1,7 @@
 mod AbsentTasks
 mod AnsweredLemmas
 mod AskLemmas
+mod BeginLemmas
 mod CallLemmas
 mod CallLimits
 mod Completeness
@@ -20,6 +21,7 @@ mod DropLemmas
 mod FewFailures
 mod HeldLemmas
 mod LawLemmas
+mod PartsLemmas
 mod PlanLemmas
 mod PlannedLemmas
 mod PrepareLemmas

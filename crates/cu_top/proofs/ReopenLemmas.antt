@@ -176,7 +176,7 @@ pub record ResumeLaws : Type 0 where
       → IsDone s.plan m op task → ⊥
 
 -- a piece that is held holds its value
-text_held : (r : PlanRun) (env : Elements) (shown : Shown) → IsLeft r env shown → 0 < length r.texts → IsHeldIn shown.held (piece_key r (Text 0)) → HoldsPiece r env (Text 0) shown
+pub text_held : (r : PlanRun) (env : Elements) (shown : Shown) → IsLeft r env shown → 0 < length r.texts → IsHeldIn shown.held (piece_key r (Text 0)) → HoldsPiece r env (Text 0) shown
 text_held r env shown left some held =
     elim (left.pieces (Text 0) some) [
       | inl none ↦ absurd (let (bytes, is) = subst (λ (h : Option Contents). IsHeldIn h (piece_key r (Text 0))) left.told held in cc)

@@ -145,10 +145,10 @@ abbrev pub FreshLaw : Type 0
 FreshLaw = (done : List Bool) → All (λ d. d ≡ false) done → undone_among (opening done).tasks ≡ length done
 
 module _ (c : RunCase) (job : Job) (laws : PlanLaws c job) (start : Shown) (cleared : IsCleared c.options c.text c.old.depot start job) where
-  keys : KeysApart (job_run c job)
+  pub keys : KeysApart (job_run c job)
   keys = apart_run c job laws cleared.own
 
-  left_old : WhereQuiet c job (λ env. IsLeft (job_run c job) env c.old.depot)
+  pub left_old : WhereQuiet c job (λ env. IsLeft (job_run c job) env c.old.depot)
   left_old entry told calm =
       laws.left (job_run c job) c.old.depot entry laws.sound keys told
       (λ q piece. All-contains (IsFree entry) (asked_keys c.options job) (piece_key (job_run c job) q) (cleared.free entry told) (piece_listed c job q laws.sound piece)) calm

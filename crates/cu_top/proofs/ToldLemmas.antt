@@ -7,16 +7,19 @@ use Rattle.cu_command.specs.Streams.{ReadsAll}
 use Rattle.cu_command.specs.declared.status.Status.{Status}
 use Rattle.cu_command.specs.declared.status.Status.TheVariants.{BadWords, NoMemory}
 use Rattle.cu_lower.specs.declared.options.Options.{Options}
-use Rattle.cu_top.proofs.CallLemmas.{told_run, told_resume, told_drop}
+use Rattle.cu_top.proofs.CallLemmas.{told_run, told_resume, told_drop, told_begin, told_part}
 use Rattle.cu_top.proofs.PlannedLemmas.{told_plan}
-use Rattle.cu_top.specs.Told.{AreTold, CallTold, DropTold, IsTold, PlanTold, ResumeTold, RunTold}
+use Rattle.cu_top.specs.Told.{BeginTold, PartTold, AreTold, CallTold, DropTold, IsTold, PlanTold, ResumeTold, RunTold}
 use Rattle.cu_top.specs.Call.{CameToRun, DidNothing, IsWordsRefused}
 use Rattle.cu_top.specs.Calls.{DropWithin, ResumeWithin, RunWithin}
+use Rattle.cu_part.specs.declared.part.Part.{Part}
+use Rattle.cu_top.specs.Begin.{BeginWithin, WasBegun}
+use Rattle.cu_top.specs.Parts.{PartWithin, WasParted}
 use Rattle.cu_top.specs.Drop.{Dropped}
 use Rattle.cu_top.specs.Planned.{Plans, plan_calls}
 use Rattle.cu_top.specs.Resume.{WasResumed}
 use Rattle.cu_top.specs.Run.{PrintsOnly, Ran, RunCase, Scene, case, scene}
-use Rattle.cu_top.specs.Words.{Command, run, resume, drop, plan, load, check, print, demo}
+use Rattle.cu_top.specs.Words.{Command, run, resume, drop, plan, load, check, print, demo, begin, part}
 
 -- ---- the commands that read a text, from what its run or its plan answers; `given` is the text that was read
 
@@ -60,6 +63,22 @@ module _ (options : Options) (old new : Scene) (text given : List ℕ) (status :
     calls = inr (came (λ c. DropWithin c status) (calls old.source new.source old.sink new.sink));
   }
 
+  pub begin_answered : ((source next : Stream) → WasBegun (from_sink source next) status) → ((source next sink after : Stream) → BeginWithin (from_depot source next sink after) status)
+      → BeginTold options old new status
+  begin_answered begun calls = record {
+    tells = told_begin options old new text status read (of_text (λ c. WasBegun c status) (begun old.source new.source));
+    prints = prints;
+    calls = inr (came (λ c. BeginWithin c status) (calls old.source new.source old.sink new.sink));
+  }
+
+  pub part_answered : (q : Part) → ((source next : Stream) → WasParted (from_sink source next) q status) → ((source next sink after : Stream) → PartWithin (from_depot source next sink after) q status)
+      → PartTold options q old new status
+  part_answered q parted calls = record {
+    tells = told_part options q old new text status read (of_text (λ c. WasParted c q status) (parted old.source new.source));
+    prints = prints;
+    calls = inr (came (λ c. PartWithin c q status) (calls old.source new.source old.sink new.sink));
+  }
+
   pub plan_answered : ((source next : Stream) → Plans (from_sink source next) status) → WithinCalls (plan_calls (options.retries + 1) given) old.depot new.depot → PlanTold options old new status
   plan_answered plans calls = record {
     tells = told_plan options old new text status read (of_text (λ c. Plans c status) (plans old.source new.source));
@@ -100,6 +119,8 @@ module _ (lack : Bool) (asked : Result Command ℕ) (same : Scene) where
   wanted (Ok (check retries)) = record { tells = record { spared = spared; printed = refl; ends = tt }; calls = inl none }
   wanted (Ok (print name retries)) = record { tells = (spared, inl refl); kept = refl; calls = inl (omega arith) }
   wanted (Ok (demo size options)) = record { tells = inl (spared, refl); kept = refl; calls = inl none }
+  wanted (Ok (begin options)) = record { tells = inl spared; prints = refl; calls = inl none }
+  wanted (Ok (part options q)) = record { tells = inl spared; prints = refl; calls = inl none }
   wanted (Err code) = (tt, (spared, refl, refl))
 
   -- memory was wanted to read them, and nothing is done

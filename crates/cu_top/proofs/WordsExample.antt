@@ -1,7 +1,7 @@
 -- The words of some calls, and their options.
 use Rattle.std.proofs.Common.{◌≡◌, [], ◌∷◌, true, false, codes, Ok, Err, refl}
 use Rattle.cu_words.specs.Words.{line_given}
-use Rattle.cu_top.specs.Words.{command_of, run, resume, drop, plan, load, check, print}
+use Rattle.cu_top.specs.Words.{command_of, run, resume, drop, plan, load, check, print, begin, part}
 
 allowed : command_of (codes "run" ∷ codes "--allowed-mem" ∷ codes "1600" ∷ []) ≡ Ok (run (record { allowed = 1600; reserved = 0; split_every = 4; retries = 2; workers = 1; backups = false }))
 unfolding command_of line_given
@@ -162,3 +162,19 @@ synced_or_not = refl
 drops_with_no_sync : command_of (codes "drop" ∷ codes "--sync" ∷ codes "1" ∷ []) ≡ Err 2
 unfolding command_of line_given
 drops_with_no_sync = refl
+
+begun : command_of (codes "begin" ∷ codes "--retries" ∷ codes "0" ∷ codes "--sync=0" ∷ []) ≡ Ok (begin (record { allowed = 200000000; reserved = 0; split_every = 4; retries = 0; workers = 1; backups = false }))
+unfolding command_of line_given
+begun = refl
+
+a_part : command_of (codes "part" ∷ codes "--op" ∷ codes "1" ∷ codes "--from" ∷ codes "0" ∷ codes "--to=64" ∷ []) ≡ Ok (part (record { allowed = 200000000; reserved = 0; split_every = 4; retries = 2; workers = 1; backups = false }) (record { op = 1; from = 0; to = 64 }))
+unfolding command_of line_given
+a_part = refl
+
+no_last_task : command_of (codes "part" ∷ codes "--op" ∷ codes "1" ∷ codes "--from" ∷ codes "0" ∷ []) ≡ Err 2
+unfolding command_of line_given
+no_last_task = refl
+
+no_workers : command_of (codes "part" ∷ codes "--op" ∷ codes "1" ∷ codes "--from" ∷ codes "0" ∷ codes "--to" ∷ codes "1" ∷ codes "--workers" ∷ codes "1" ∷ []) ≡ Err 2
+unfolding command_of line_given
+no_workers = refl

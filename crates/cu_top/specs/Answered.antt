@@ -10,7 +10,7 @@ use Rattle.cu_command.specs.declared.status.Status.TheVariants.{Done, BadExpr, B
 use Rattle.cu_command.specs.declared.status.Status.TheVariants.{OverLimit, BadMeta, NoArray, Exists}
 use Rattle.cu_command.specs.declared.status.Status.TheVariants.{TaskFailed, ReadFault, WriteFault}
 use Rattle.cu_command.specs.declared.status.Status.TheVariants.{BadChunk, OtherPlan, NoPlan}
-use Rattle.cu_command.specs.declared.status.Status.TheVariants.{DepotFailed, Unequal, NoMemory}
+use Rattle.cu_command.specs.declared.status.Status.TheVariants.{DepotFailed, Unequal, NoTasks, NotReady, NoMemory}
 use Rattle.cu_load.specs.Load.{Loaded, LoadsWithin}
 use Rattle.cu_lower.specs.declared.options.Options.{Options}
 use Rattle.cu_print.specs.Print.{Printed, PrintsWithin}
@@ -18,6 +18,12 @@ use Rattle.cu_read.specs.Read.{expression_of}
 use Rattle.cu_read.specs.declared.faults.ReadFault.{ReadFault as ExpressionFault}
 use Rattle.cu_store.specs.Held.{Contents}
 use Rattle.cu_store.specs.Steps.{Shown}
+use Rattle.cu_part.specs.declared.part.Part.{Part}
+use Rattle.cu_top.specs.Begin.{BeginTells, BeginsWithin, IsBeginFailed, IsBeginShort}
+use Rattle.cu_top.specs.Begin.{IsBegunDone, IsBegunUnprinted}
+use Rattle.cu_top.specs.Parts.{HasNoTasks, IsPartFailed, IsPartShort, IsPartedBad}
+use Rattle.cu_top.specs.Parts.{IsPartedBroken, IsPartedDone, IsPartedUnreported, IsTooEarly}
+use Rattle.cu_top.specs.Parts.{PartTells, PartsWithin}
 use Rattle.cu_top.specs.Call.{AreSpared, CameToRun, IsExpressionRefused, IsReadFault, IsShort}
 use Rattle.cu_top.specs.Call.{RunTells}
 use Rattle.cu_top.specs.Calls.{RunsWithin, ResumesWithin, DropsWithin, DemosWithin}
@@ -156,6 +162,73 @@ pub record ResumeAnswered (lack : Bool) (o : Options) (old new : Scene) (status 
       → HasWholeInputs o text entry old.depot → NothingFailed old new → IsServed status
   -- how many calls of the depot it makes at most
   pub calls : ResumesWithin o old new status
+  -- where few calls fail, neither a task nor a key is given up
+  pub few_failures : FewFailed o.retries old.depot new.depot → IsNotGivenUp status
+
+-- ---- `begin`
+
+pub record BeginAnswered (o : Options) (old new : Scene) (status : Status) : Type 0 where
+  -- 0: both texts are held, and the whole text of the plan was written
+  pub done : status ≡ Done → CameToRun o old new IsBegunDone
+  -- 12: the same, but the sink failed
+  pub unprinted : status ≡ WriteFault → CameToRun o old new IsBegunUnprinted
+  -- 16: all calls for this key failed
+  pub depot_failed : (key : List ℕ) → status ≡ DepotFailed key
+      → CameToRun o old new (λ c. IsBeginFailed c key)
+  -- 9: this key is in the way
+  pub exists : (key : List ℕ) → status ≡ Exists key
+      → CameToRun o old new (λ c. IsBlocked c key)
+  -- 70: memory was wanted
+  pub no_memory : status ≡ NoMemory → AreSpared old new ⊎ CameToRun o old new IsBeginShort
+  -- 3 to 8, and 11
+  pub refused : TextAnswered o old new status
+  -- the table of all answers: no other comes
+  pub begins : BeginTells o old new status
+  -- nothing but the plan is printed
+  pub prints : PrintsOnly status old.sink.told new.sink.told
+  -- how many calls of the depot it makes at most
+  pub calls : BeginsWithin o old new status
+  -- where few calls fail, no key is given up
+  pub few_failures : FewFailed o.retries old.depot new.depot → IsNotGivenUp status
+
+-- ---- `part`
+
+pub record PartAnswered (o : Options) (q : Part) (old new : Scene) (status : Status) : Type 0 where
+  -- 0: each chunk of the part's tasks is held, and the whole report was written
+  pub done : status ≡ Done → CameToRun o old new (λ c. IsPartedDone c q)
+  -- 12: the same, but the sink failed
+  pub unreported : status ≡ WriteFault → CameToRun o old new (λ c. IsPartedUnreported c q)
+  -- 20: the plan hasn't these tasks
+  pub no_tasks : (op tasks : ℕ) → status ≡ NoTasks op tasks
+      → CameToRun o old new (λ c. HasNoTasks c q op tasks)
+  -- 21: this task was to start, and lacks a made chunk that it reads
+  pub not_ready : (op task : ℕ) → status ≡ NotReady op task
+      → CameToRun o old new (λ c. IsTooEarly c q op task)
+  -- 10: this task failed as often as it is tried
+  pub task_failed : (op task : ℕ) → status ≡ TaskFailed op task
+      → CameToRun o old new (λ c. IsPartedBroken c q op task)
+  -- 13: this chunk of an input has another length
+  pub bad_chunk : (key : List ℕ) (got want : ℕ) → status ≡ BadChunk key got want
+      → CameToRun o old new (λ c. IsPartedBad c q key got want)
+  -- 14: the record is another plan's
+  pub other_plan : (place : ℕ) → status ≡ OtherPlan place
+      → CameToRun o old new (λ c. IsOtherPlan c place)
+  -- 15: there is no record
+  pub no_plan : status ≡ NoPlan → CameToRun o old new HasNoRecord
+  -- 16: all calls for this key failed
+  pub depot_failed : (key : List ℕ) → status ≡ DepotFailed key
+      → CameToRun o old new (λ c. IsPartFailed c q key)
+  -- 70: memory was wanted
+  pub no_memory : status ≡ NoMemory
+      → AreSpared old new ⊎ CameToRun o old new (λ c. IsPartShort c q)
+  -- 3 to 8, and 11
+  pub refused : TextAnswered o old new status
+  -- the table of all answers: no other comes
+  pub parts : PartTells o q old new status
+  -- nothing but the report is printed
+  pub prints : PrintsOnly status old.sink.told new.sink.told
+  -- how many calls of the depot it makes at most
+  pub calls : PartsWithin o q old new status
   -- where few calls fail, neither a task nor a key is given up
   pub few_failures : FewFailed o.retries old.depot new.depot → IsNotGivenUp status
 

@@ -13,6 +13,7 @@ use Rattle.cu_command.specs.declared.status.Status.TheVariants.{BadWords, BadExp
 use Rattle.cu_lower.specs.declared.options.Options.{Options}
 use Rattle.cu_top.specs.Run.{Scene, RunCase, case, IsWanting, Ran}
 use Rattle.cu_top.specs.Words.{Command, IsInRange, run, resume, drop, load, check, print, plan, demo}
+use Rattle.cu_top.specs.Words.{begin, part, part_numbers}
 use Rattle.cu_top.specs.declared.words.Asked.{Asked}
 use Rattle.cu_top.specs.declared.words.Asked.TheVariants as asked
 use Rattle.cu_top.specs.declared.words.Reading.{Reading}
@@ -28,6 +29,8 @@ command_view (asked.Load retries) = load retries
 command_view (asked.Check retries) = check retries
 command_view (asked.Print name retries) = print name retries
 command_view (asked.Demo size options) = demo size options
+command_view (asked.Begin options) = begin options
+command_view (asked.Part options numbers) = part options (part_numbers numbers)
 
 -- the words were read, they are refused with this code, or memory was wanted
 abbrev pub AreWordsRead : Result Command ℕ → Result Asked LineFault → Type 0
@@ -43,6 +46,8 @@ AreSoundWords (asked.Drop options) = IsInRange options
 AreSoundWords (asked.Plan options) = IsInRange options
 AreSoundWords (asked.Print name retries) = is_name name ≡ true
 AreSoundWords (asked.Demo size options) = IsInRange options × (1 ≤ size) × (size ≤ 2048)
+AreSoundWords (asked.Begin options) = IsInRange options
+AreSoundWords (asked.Part options numbers) = IsInRange options
 AreSoundWords a = Unit {0}
 
 -- what came of reading words that ask for this command

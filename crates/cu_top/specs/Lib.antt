@@ -1,6 +1,7 @@
 pub mod Absent
 pub mod Answered
 pub mod Ask
+pub mod Begin
 pub mod Call
 pub mod Calls
 pub mod Complete
@@ -9,6 +10,7 @@ pub mod Driven
 pub mod Drop
 pub mod Held
 pub mod Laws
+pub mod Parts
 pub mod Planned
 pub mod Prepare
 pub mod Quiet

@@ -7,6 +7,9 @@ use Rattle.cu_command.specs.declared.status.Status.TheVariants.{BadWords}
 use Rattle.cu_load.specs.Load.{Loaded, LoadsWithin}
 use Rattle.cu_lower.specs.declared.options.Options.{Options}
 use Rattle.cu_print.specs.Print.{Printed, PrintsWithin}
+use Rattle.cu_part.specs.declared.part.Part.{Part}
+use Rattle.cu_top.specs.Begin.{BeginTells, BeginsWithin}
+use Rattle.cu_top.specs.Parts.{PartTells, PartsWithin}
 use Rattle.cu_top.specs.Call.{DidNothing, IsWordsRefused, RunTells}
 use Rattle.cu_top.specs.Calls.{RunsWithin, ResumesWithin, DropsWithin, DemosWithin}
 use Rattle.cu_top.specs.Demo.{DemoTells, demo_case}
@@ -14,7 +17,7 @@ use Rattle.cu_top.specs.Drop.{DropTells}
 use Rattle.cu_top.specs.Planned.{PlanTells, PlansWithin}
 use Rattle.cu_top.specs.Resume.{ResumeTells}
 use Rattle.cu_top.specs.Run.{Scene, PrintsOnly, seen_in}
-use Rattle.cu_top.specs.Words.{Command, run, resume, drop, plan, load, check, print, demo}
+use Rattle.cu_top.specs.Words.{Command, run, resume, drop, plan, load, check, print, demo, begin, part}
 
 -- ---- what a command with these arguments answers, what is printed, what is left of the source, and how many calls are made
 
@@ -37,6 +40,16 @@ pub record PlanTold (options : Options) (old new : Scene) (status : Status) : Ty
   pub tells : PlanTells options old new status
   pub prints : PrintsOnly status old.sink.told new.sink.told
   pub calls : PlansWithin (options.retries + 1) old.source new.source old.depot new.depot
+
+pub record BeginTold (options : Options) (old new : Scene) (status : Status) : Type 0 where
+  pub tells : BeginTells options old new status
+  pub prints : PrintsOnly status old.sink.told new.sink.told
+  pub calls : BeginsWithin options old new status
+
+pub record PartTold (options : Options) (tasks : Part) (old new : Scene) (status : Status) : Type 0 where
+  pub tells : PartTells options tasks old new status
+  pub prints : PrintsOnly status old.sink.told new.sink.told
+  pub calls : PartsWithin options tasks old new status
 
 pub record LoadTold (retries : ℕ) (old new : Scene) (status : Status) : Type 0 where
   pub tells : Loaded retries old.source new.source (seen_in old) (seen_in new) status
@@ -67,6 +80,8 @@ IsTold lack (load retries) old new status = LoadTold retries old new status
 IsTold lack (check retries) old new status = CheckTold retries old new status
 IsTold lack (print name retries) old new status = PrintTold name retries old new status
 IsTold lack (demo size options) old new status = DemoTold lack size options old new status
+IsTold lack (begin options) old new status = BeginTold options old new status
+IsTold lack (part options tasks) old new status = PartTold options tasks old new status
 
 -- words that give a command, or are refused
 abbrev pub AreTold : Bool → Result Command ℕ → Scene → Scene → Status → Type 0

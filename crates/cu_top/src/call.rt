@@ -4,21 +4,24 @@ ghost use Rattle.cu_command.specs.Streams.{ReadsAll};
 ghost use Rattle.cu_lower.specs.declared.options.Options.{Options};
 ghost use Rattle.cu_top.specs.Answered.{RunAnswered, ResumeAnswered, DropAnswered, PlanAnswered};
 ghost use Rattle.cu_top.specs.Answered.{LoadAnswered, CheckAnswered, PrintAnswered, DemoAnswered};
-ghost use Rattle.cu_top.specs.Answered.{moment};
+ghost use Rattle.cu_top.specs.Answered.{BeginAnswered, PartAnswered, moment};
 ghost use Rattle.cu_top.specs.Call.{DidNothing, IsWordsRefused};
 ghost use Rattle.cu_top.specs.Demo.{IsDemoCalm, WhereTold};
 ghost use Rattle.cu_top.specs.Held.{IsLeftEntry};
 ghost use Rattle.cu_top.specs.Quiet.{IsCalm};
-ghost use Rattle.cu_top.specs.Told.{CallTold, RunTold, ResumeTold, DropTold, PlanTold};
+ghost use Rattle.cu_part.specs.declared.part.Part.{Part};
+ghost use Rattle.cu_top.specs.Told.{BeginTold, PartTold, CallTold, RunTold, ResumeTold, DropTold, PlanTold};
 ghost use Rattle.cu_top.specs.Words.{run, resume, drop, plan, load, check, print, demo, asked_by};
-ghost use Rattle.cu_top.specs.Words.{IsInRange};
+ghost use Rattle.cu_top.specs.Words.{IsInRange, begin, part, part_numbers};
 
+use crate::begin::begin;
 use crate::demo::demo;
 use crate::drop::drop_plan;
+use crate::parts::store_part;
 use crate::planned::print_plan;
 use crate::resume::resume;
 use crate::run::run;
-use crate::words::{Asked, Reading, read_words};
+use crate::words::{Asked, PartNumbers, Reading, read_words};
 use cu_check::check;
 use cu_command::{Status, StreamRefused, read_all};
 use cu_load::load;
@@ -32,7 +35,8 @@ use std::thread::Threads;
 
 /// Carries out the command that the words give. `run` reads an expression from the source, stores
 /// the array that it makes in the depot, and writes the report to the sink. `resume` goes on with a
-/// run that was stopped, and `drop` removes all keys of a plan. `plan` reads an expression and
+/// run that was stopped, and `drop` removes all keys of a plan. `begin` does what `run` does before
+/// its first task, and `part` runs some tasks of a plan that was begun. `plan` reads an expression and
 /// writes what its plan does; it stores nothing. `load` reads an array and stores it.
 /// `check` reads an expression from the source and compares its stored output with what it means.
 /// `print` writes a stored array to the sink. `demo` stores two inputs that it makes, computes an
@@ -60,6 +64,9 @@ pub fn top<H: Threads + Wait + Sync, R: Source, W: Sink, D: Share, G: Gate>(
     // late, when a run goes on, the contents are what the plan left.
     requires left { (o : Options) (text : List ℕ) (next : Option (List ℕ))
         → asked_by words.now ≡ Ok (resume o) → ReadsAll (R.left src.old) next text
+        → IsLeftEntry o text (D.shown depot.old) }
+    requires part_left { (o : Options) (tasks : Part) (text : List ℕ) (next : Option (List ℕ))
+        → asked_by words.now ≡ Ok (part o tasks) → ReadsAll (R.left src.old) next text
         → IsLeftEntry o text (D.shown depot.old) }
     // The words that are refused, and by no other answer's cause; where the command is missing or
     // unknown no memory is wanted.
@@ -120,6 +127,20 @@ pub fn top<H: Threads + Wait + Sync, R: Source, W: Sink, D: Share, G: Gate>(
         (moment (R.left src.new) (R.faults src.new) (W.written out.new) (W.faults out.new)
         (D.shown depot.new))
         result }
+    ensures begin { (o : Options) → asked_by words.now ≡ Ok (begin o)
+        → BeginAnswered o
+        (moment (R.left src.old) (R.faults src.old) (W.written out.old) (W.faults out.old)
+        (D.shown depot.old))
+        (moment (R.left src.new) (R.faults src.new) (W.written out.new) (W.faults out.new)
+        (D.shown depot.new))
+        result }
+    ensures part { (o : Options) (tasks : Part) → asked_by words.now ≡ Ok (part o tasks)
+        → PartAnswered o tasks
+        (moment (R.left src.old) (R.faults src.old) (W.written out.old) (W.faults out.old)
+        (D.shown depot.old))
+        (moment (R.left src.new) (R.faults src.new) (W.written out.new) (W.faults out.new)
+        (D.shown depot.new))
+        result }
     ensures demo { (size : ℕ) (o : Options) → asked_by words.now ≡ Ok (demo size o)
         → DemoAnswered (D.yards_lack depot.new) size o
         (moment (R.left src.old) (R.faults src.old) (W.written out.old) (W.faults out.old)
@@ -149,6 +170,9 @@ fn carry<H: Threads + Wait + Sync, R: Source, W: Sink, D: Share, G: Gate>(
     requires left { (o : Options) (text : List ℕ) (next : Option (List ℕ))
         → asked_by words.now ≡ Ok (resume o) → ReadsAll (R.left src.old) next text
         → IsLeftEntry o text (D.shown depot.old) }
+    requires part_left { (o : Options) (tasks : Part) (text : List ℕ) (next : Option (List ℕ))
+        → asked_by words.now ≡ Ok (part o tasks) → ReadsAll (R.left src.old) next text
+        → IsLeftEntry o text (D.shown depot.old) }
     ensures { CallTold (D.yards_lack depot.new) (asked_by words.now)
         (moment (R.left src.old) (R.faults src.old) (W.written out.old) (W.faults out.old)
         (D.shown depot.old))
@@ -170,6 +194,10 @@ fn carry<H: Threads + Wait + Sync, R: Source, W: Sink, D: Share, G: Gate>(
         Asked::Check { retries } => check(alloc, *retries, src, out, depot),
         Asked::Print { name, retries } => { print(alloc, *retries, &key_of_name(name), out, depot) }
         Asked::Demo { size, options } => demo(rt, alloc, options, *size, out, depot, gate),
+        Asked::Begin(options) => begin_command(alloc, options, src, out, depot),
+        Asked::Part { options, numbers } => {
+            part_command(alloc, options, numbers, src, out, depot)
+        }
     }
 }
 
@@ -268,6 +296,55 @@ fn plan_command<R: Source, W: Sink, D: Depot>(
 {
     match read_all(alloc, src) {
         Ok(text) => print_plan(alloc, options, &text, out, depot),
+        Err(StreamRefused::Fault) => Status::ReadFault,
+        Err(StreamRefused::NoMemory) => Status::NoMemory,
+    }
+}
+
+/// Begins a run of the expression that the source has.
+fn begin_command<R: Source, W: Sink, D: Depot>(
+    alloc: Global,
+    options: &Options,
+    src: &mut R,
+    out: &mut W,
+    depot: &mut D,
+) -> Status
+    requires options { IsInRange options.now }
+    ensures { BeginTold options.now
+        (moment (R.left src.old) (R.faults src.old) (W.written out.old) (W.faults out.old)
+        (D.shown depot.old))
+        (moment (R.left src.new) (R.faults src.new) (W.written out.new) (W.faults out.new)
+        (D.shown depot.new))
+        result }
+{
+    match read_all(alloc, src) {
+        Ok(text) => begin(alloc, options, &text, out, depot),
+        Err(StreamRefused::Fault) => Status::ReadFault,
+        Err(StreamRefused::NoMemory) => Status::NoMemory,
+    }
+}
+
+/// Runs some tasks of the plan of the expression that the source has.
+fn part_command<R: Source, W: Sink, D: Depot>(
+    alloc: Global,
+    options: &Options,
+    numbers: &PartNumbers,
+    src: &mut R,
+    out: &mut W,
+    depot: &mut D,
+) -> Status
+    requires options { IsInRange options.now }
+    requires left { (text : List ℕ) (next : Option (List ℕ)) → ReadsAll (R.left src.old) next text
+        → IsLeftEntry options.now text (D.shown depot.old) }
+    ensures { PartTold options.now (part_numbers numbers.now)
+        (moment (R.left src.old) (R.faults src.old) (W.written out.old) (W.faults out.old)
+        (D.shown depot.old))
+        (moment (R.left src.new) (R.faults src.new) (W.written out.new) (W.faults out.new)
+        (D.shown depot.new))
+        result }
+{
+    match read_all(alloc, src) {
+        Ok(text) => store_part(alloc, options, numbers, &text, out, depot),
         Err(StreamRefused::Fault) => Status::ReadFault,
         Err(StreamRefused::NoMemory) => Status::NoMemory,
     }

@@ -11,10 +11,13 @@ ghost use Rattle.cu_region.specs.Steady.{IsSteady};
 ghost use Rattle.cu_check.specs.Arrays.{IsReadChunk};
 ghost use Rattle.cu_load.specs.Load.{IsArrayCalm};
 ghost use Rattle.cu_print.specs.Print.{IsArrayMetadata, IsChunkAt};
+ghost use Rattle.cu_part.specs.declared.part.Part.{Part};
+ghost use Rattle.cu_top.specs.Begin.{WasBegun};
 ghost use Rattle.cu_top.specs.Complete.{HasWholeInputs, IsPlannable, IsResumable, IsServable};
 ghost use Rattle.cu_top.specs.Demo.{IsDemoAtRest, IsDemoCalm};
 ghost use Rattle.cu_top.specs.Drop.{Dropped};
 ghost use Rattle.cu_top.specs.Laws.{IsOfPlan};
+ghost use Rattle.cu_top.specs.Parts.{WasParted};
 ghost use Rattle.cu_top.specs.Resume.{WasResumed};
 ghost use Rattle.cu_top.specs.Run.{RunCase, job_run, IsSpared, Ran};
 ghost use Rattle.cu_top.specs.Sample.{demo_options, empty_held, empty_shown, left_held, left_shown};
@@ -26,11 +29,14 @@ use cu_plan::merged_plan_law;
 use cu_state::left_law;
 use cu_work::commands_law;
 
-/// Whatever `run`, `resume` and `drop` answer, each is a command of the plan of the text's job, or it has
-/// changed nothing, which is a command of any plan. So after any list of them, wherever each ended and
-/// whenever late puts land, the contents are what the plan left, if they were so at first.
+/// Whatever `run`, `begin`, `part`, `resume` and `drop` answer, each is a command of the plan of the
+/// text's job, or it has changed nothing, which is a command of any plan. So after any list of them,
+/// wherever each ended and whenever late puts land, the contents are what the plan left, if they were
+/// so at first.
 pub fn list_law()
     ensures runs { (lack : Bool) (c : RunCase) (status : Status) → Ran lack c status → IsOfPlan c }
+    ensures begins { (c : RunCase) (status : Status) → WasBegun c status → IsOfPlan c }
+    ensures parts { (c : RunCase) (q : Part) (status : Status) → WasParted c q status → IsOfPlan c }
     ensures resumes { (lack : Bool) (c : RunCase) (status : Status) → WasResumed lack c status → IsOfPlan c }
     ensures drops { (c : RunCase) (status : Status) → Dropped c status → IsOfPlan c }
     ensures spares { (r : PlanRun) (c : RunCase) → IsSpared c → IsCommand r c.old.depot c.new.depot }

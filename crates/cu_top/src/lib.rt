@@ -4,12 +4,14 @@
 #![tactic(auto)]
 
 mod ask;
+mod begin;
 mod call;
 mod demo;
 mod drive;
 mod drop;
 mod held;
 mod laws;
+mod parts;
 mod planned;
 mod prepare;
 mod record;

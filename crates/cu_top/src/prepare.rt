@@ -4,6 +4,7 @@ ghost use Rattle.cu_op.specs.Sound.{Sound};
 ghost use Rattle.cu_store.specs.Steps.{NoChange};
 ghost use Rattle.cu_command.specs.Job.{IsJob};
 ghost use Rattle.cu_command.specs.Seen.{Stepped, Stream, WithinCalls};
+ghost use Rattle.cu_top.specs.Begin.{BeginWithin, WasBegun};
 ghost use Rattle.cu_top.specs.Calls.{RunWithin, run_limits};
 ghost use Rattle.cu_top.specs.Planned.{IsPlanRefused, plan_calls};
 ghost use Rattle.cu_top.specs.Prepare.{job_plan, unplanned_status, HasPlan};
@@ -104,6 +105,11 @@ pub fn prepare<D: Depot>(
     ensures calls { IfOk result (λ p. WithinCalls (run_limits options.now text.now p.job).asked (D.shown depot.old) (D.shown depot.new)) }
     ensures refused_calls { (source next sink after : Stream)
         → IfErr result (RunWithin (case options.now text.now (scene source sink (D.shown depot.old)) (scene next after (D.shown depot.new)))) }
+    // a run that is only begun is refused so too
+    ensures unbegun { (source next sink after : Stream)
+        → IfErr result (WasBegun (case options.now text.now (scene source sink (D.shown depot.old)) (scene next after (D.shown depot.new)))) }
+    ensures unbegun_calls { (source next sink after : Stream)
+        → IfErr result (BeginWithin (case options.now text.now (scene source sink (D.shown depot.old)) (scene next after (D.shown depot.new)))) }
 {
     let prepared = match plan_job(alloc, options, text, depot) {
         Ok(prepared) => prepared,

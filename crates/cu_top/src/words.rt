@@ -2,13 +2,24 @@
 ghost use Rattle.std.specs.Prelude.{◌≡◌, Err, IfOk, map, string_bytes};
 ghost use Rattle.cu_top.specs.Call.{AreWordsRead, IsReading, AreSoundWords};
 ghost use Rattle.cu_top.specs.Words.{command_by, command_of, demo_of, options_among, print_of};
-ghost use Rattle.cu_top.specs.Words.{IsInRange};
+ghost use Rattle.cu_top.specs.Words.{IsInRange, part_numbers, tasks_among};
 ghost use Rattle.cu_words.specs.Words.{AreInRange, line_view, positionals_held};
 
 use cu_lower::Options;
 use cu_name::{IdText, is_name};
 use cu_words::{CommandLine, CommandName, LineFault, Numbers, demo_size, read_line};
 use std::alloc::Global;
+
+/// The tasks that the words name, which the plan may not have.
+#[derive(Clone, Copy)]
+pub struct PartNumbers {
+    /// The number of the operation.
+    pub op: u64,
+    /// The number of the first task.
+    pub from: u64,
+    /// The number of the task behind the last one.
+    pub to: u64,
+}
 
 /// What the words ask for.
 #[derive(Clone, Copy)]
@@ -22,13 +33,30 @@ pub enum Asked {
     /// `plan`: what the plan of an expression does is printed.
     Plan(Options),
     /// `load`: an array that a text gives is stored.
-    Load { retries: u32 },
+    Load {
+        retries: u32,
+    },
     /// `check`: the stored output of an expression is compared with what it means.
-    Check { retries: u32 },
+    Check {
+        retries: u32,
+    },
     /// `print`: the array with this name is printed.
-    Print { name: IdText, retries: u32 },
+    Print {
+        name: IdText,
+        retries: u32,
+    },
     /// `demo`: an expression is computed over inputs of this size that are made first.
-    Demo { size: u64, options: Options },
+    Demo {
+        size: u64,
+        options: Options,
+    },
+    /// `begin`: a run is begun, and no task is started.
+    Begin(Options),
+    /// `part`: some tasks of a plan that was begun are run.
+    Part {
+        options: Options,
+        numbers: PartNumbers,
+    },
 }
 
 /// What came of reading the words.
@@ -94,6 +122,11 @@ fn asked_by(line: &CommandLine) -> Result<Asked, LineFault>
         }),
         CommandName::Print => print_asked(line.name, options.retries),
         CommandName::Demo => demo_asked(line.name, options),
+        CommandName::Begin => Ok(Asked::Begin(options)),
+        CommandName::Part => Ok(Asked::Part {
+            options,
+            numbers: numbers_among(&line.numbers),
+        }),
     }
 }
 
@@ -110,6 +143,17 @@ fn options_among(numbers: &Numbers) -> Options
         retries: numbers.retries as u32,
         workers: numbers.workers as u32,
         backups: numbers.backups == 1,
+    }
+}
+
+/// The tasks that the numbers of a line name.
+fn numbers_among(numbers: &Numbers) -> PartNumbers
+    ensures { part_numbers result ≡ tasks_among numbers.now }
+{
+    PartNumbers {
+        op: numbers.op,
+        from: numbers.from,
+        to: numbers.to,
     }
 }
 

@@ -22,9 +22,9 @@ use Rattle.cu_words.specs.declared.line.LineFault.{LineFault}
 use Rattle.cu_words.specs.declared.line.LineFault.TheVariants.{Refused, NoMemory}
 use Rattle.cu_words.specs.Reader.{IsFaultOf, IsMatched, IsParted, positional_name, told, values_found}
 use Rattle.cu_words.specs.declared.options.CommandName.{CommandName}
-use Rattle.cu_words.specs.declared.options.CommandName.TheVariants.{Run, Resume, Drop, Plan, Load, Check, Print, Demo}
+use Rattle.cu_words.specs.declared.options.CommandName.TheVariants.{Run, Resume, Drop, Plan, Load, Check, Print, Demo, Begin, Part}
 use Rattle.cu_words.specs.declared.options.OptionName.{OptionName}
-use Rattle.cu_words.specs.declared.options.OptionName.TheVariants.{AllowedMem, ReservedMem, SplitEvery, Workers, Retries, Backups, Sync}
+use Rattle.cu_words.specs.declared.options.OptionName.TheVariants.{AllowedMem, ReservedMem, SplitEvery, Workers, Retries, Backups, Sync, Op, From, To}
 use Rattle.cu_words.proofs.Walks.{Agrees, EndsWell, else_left, else_right, is_known_part, row_with, rows_with, rules, same_text, equal_text, shape, total, walk_agrees, walk_at}
 
 -- ---- the values of a name
@@ -110,6 +110,8 @@ built_is Load = refl
 built_is Check = refl
 built_is Print = refl
 built_is Demo = refl
+built_is Begin = refl
+built_is Part = refl
 
 pub told_simple : (command : CommandName) → is_simple_and_free (told (option_names command)) ≡ true
 told_simple Run = refl
@@ -120,6 +122,8 @@ told_simple Load = refl
 told_simple Check = refl
 told_simple Print = refl
 told_simple Demo = refl
+told_simple Begin = refl
+told_simple Part = refl
 
 no_positional_option : (command : CommandName) → is_option_name (option_names command) positional_name ≡ false
 no_positional_option Run = refl
@@ -130,6 +134,8 @@ no_positional_option Load = refl
 no_positional_option Check = refl
 no_positional_option Print = refl
 no_positional_option Demo = refl
+no_positional_option Begin = refl
+no_positional_option Part = refl
 
 option_apart : (o : OptionName) → bytes_eq positional_name (option_row o).name ≡ false
 option_apart AllowedMem = refl
@@ -139,6 +145,9 @@ option_apart Workers = refl
 option_apart Retries = refl
 option_apart Backups = refl
 option_apart Sync = refl
+option_apart Op = refl
+option_apart From = refl
+option_apart To = refl
 
 cond_same : {X : Type 0} (b : Bool) (x : X) → cond b x x ≡ x
 cond_same true x = refl

@@ -1,14 +1,14 @@
 -- The options of the command line: one table, with a row for each. The numbers are this project's
 -- own rules.
-use Rattle.std.specs.Prelude.{ℕ, ◌^◌, List, [], ◌∷◌, map, codes, bytes_eq, Option, Some, None}
+use Rattle.std.specs.Prelude.{ℕ, ◌^◌, ◌-◌, List, [], ◌∷◌, map, codes, bytes_eq, Option, Some, None}
 use Rattle.std.specs.Prelude.{if◌then◌else◌}
 use Rattle.cu_words.specs.declared.options.CommandName.{CommandName}
 use Rattle.cu_words.specs.declared.options.CommandName.TheVariants.{Run, Resume, Drop, Plan, Print}
-use Rattle.cu_words.specs.declared.options.CommandName.TheVariants.{Demo, Load, Check}
+use Rattle.cu_words.specs.declared.options.CommandName.TheVariants.{Demo, Load, Check, Begin, Part}
 use Rattle.cu_words.specs.declared.options.OptionName.{OptionName}
 use Rattle.cu_words.specs.declared.options.OptionName.TheVariants.{AllowedMem, ReservedMem}
 use Rattle.cu_words.specs.declared.options.OptionName.TheVariants.{SplitEvery, Workers, Retries}
-use Rattle.cu_words.specs.declared.options.OptionName.TheVariants.{Backups, Sync}
+use Rattle.cu_words.specs.declared.options.OptionName.TheVariants.{Backups, Sync, Op, From, To}
 use Rattle.cu_words.specs.declared.options.TableRow.{TableRow}
 
 -- an option's name, the least and the most number that it takes, and its number where it isn't
@@ -29,6 +29,9 @@ option_row Workers = record { name = codes "workers"; least = 1; most = 64; defa
 option_row Retries = record { name = codes "retries"; least = 0; most = 8; default = 2 }
 option_row Backups = record { name = codes "backups"; least = 0; most = 1; default = 0 }
 option_row Sync = record { name = codes "sync"; least = 0; most = 1; default = 1 }
+option_row Op = record { name = codes "op"; least = 0; most = 2 ^ 64 - 1; default = 0 }
+option_row From = record { name = codes "from"; least = 0; most = 2 ^ 64 - 1; default = 0 }
+option_row To = record { name = codes "to"; least = 0; most = 2 ^ 64 - 1; default = 0 }
 
 -- the options that a command takes
 abbrev pub options_of : CommandName → List OptionName
@@ -36,9 +39,16 @@ options_of Run = AllowedMem ∷ ReservedMem ∷ SplitEvery ∷ Workers ∷ Retri
 options_of Demo = AllowedMem ∷ ReservedMem ∷ SplitEvery ∷ Workers ∷ Retries ∷ Backups ∷ Sync ∷ []
 options_of Resume = AllowedMem ∷ ReservedMem ∷ SplitEvery ∷ Workers ∷ Retries ∷ Backups ∷ Sync ∷ []
 options_of Drop = AllowedMem ∷ ReservedMem ∷ SplitEvery ∷ Retries ∷ []
+options_of Begin = AllowedMem ∷ ReservedMem ∷ SplitEvery ∷ Retries ∷ Sync ∷ []
+options_of Part = AllowedMem ∷ ReservedMem ∷ SplitEvery ∷ Retries ∷ Sync ∷ Op ∷ From ∷ To ∷ []
 options_of Plan = AllowedMem ∷ ReservedMem ∷ SplitEvery ∷ []
 options_of Load = Retries ∷ Sync ∷ []
 options_of command = Retries ∷ []
+
+-- those without which it is refused: which tasks of which operation are a part
+abbrev pub required_of : CommandName → List OptionName
+required_of Part = Op ∷ From ∷ To ∷ []
+required_of command = []
 
 abbrev pub option_names : CommandName → List (List ℕ)
 option_names command = map (λ o. (option_row o).name) (options_of command)
@@ -60,6 +70,8 @@ command_named word =
     else if bytes_eq word (codes "check") then Some Check
     else if bytes_eq word (codes "print") then Some Print
     else if bytes_eq word (codes "demo") then Some Demo
+    else if bytes_eq word (codes "begin") then Some Begin
+    else if bytes_eq word (codes "part") then Some Part
     else None
 
 -- the row as the code holds it

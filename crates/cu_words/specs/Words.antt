@@ -1,6 +1,6 @@
 -- The words of the command line: a command, its options and its positionals. This project's own
 -- rules.
-use Rattle.std.specs.Prelude.{◌≡◌, ◌≤◌, ℕ, Bool, nat_eq, nat_lt, nat_le, ◌&&◌, List, [], ◌∷◌}
+use Rattle.std.specs.Prelude.{◌≡◌, ◌≤◌, ℕ, Bool, true, false, nat_eq, nat_lt, nat_le, ◌&&◌, List, [], ◌∷◌}
 use Rattle.std.specs.Prelude.{length, Option, Some, None, is_some, unwrap_or, Result, Ok, Err}
 use Rattle.std.specs.Prelude.{if◌then◌else◌}
 use Rattle.std.specs.List.{list_all}
@@ -8,7 +8,7 @@ use Rattle.std.specs.Str.{all_ascii_digits}
 use Rattle.std.specs.Str.Parse.{without_leading_plus, digits_value}
 use Rattle.cu_words.specs.Line.{LinePart, line_parts, positionals_given, values_given}
 use Rattle.cu_words.specs.Options.{OptionRow, command_named, option_names, option_row}
-use Rattle.cu_words.specs.Options.{positional_count}
+use Rattle.cu_words.specs.Options.{positional_count, required_of}
 use Rattle.std.specs.Borrow.{Bor}
 use Rattle.cu_words.specs.declared.line.CommandLine.{CommandLine}
 use Rattle.cu_words.specs.declared.line.LineFault.{LineFault}
@@ -18,7 +18,7 @@ use Rattle.cu_words.specs.declared.options.CommandName.{CommandName}
 use Rattle.cu_words.specs.declared.options.OptionName.{OptionName}
 use Rattle.cu_words.specs.declared.options.OptionName.TheVariants.{AllowedMem, ReservedMem}
 use Rattle.cu_words.specs.declared.options.OptionName.TheVariants.{SplitEvery, Workers, Retries}
-use Rattle.cu_words.specs.declared.options.OptionName.TheVariants.{Backups, Sync}
+use Rattle.cu_words.specs.declared.options.OptionName.TheVariants.{Backups, Sync, Op, From, To}
 
 -- ---- numbers
 
@@ -54,7 +54,7 @@ number_or_zero given o = unwrap_or (number_given given o) 0
 
 abbrev pub has_numbers : (OptionName → List (List ℕ)) → Bool
 has_numbers given = list_all (λ o. is_some (number_given given o))
-    (AllowedMem ∷ ReservedMem ∷ SplitEvery ∷ Workers ∷ Retries ∷ Backups ∷ Sync ∷ [])
+    (AllowedMem ∷ ReservedMem ∷ SplitEvery ∷ Workers ∷ Retries ∷ Backups ∷ Sync ∷ Op ∷ From ∷ To ∷ [])
 
 -- the values in the parts of a line
 abbrev pub option_values : List LinePart → OptionName → List (List ℕ)
@@ -70,7 +70,23 @@ numbers_given given = if has_numbers given then Some (record {
   retries = number_or_zero given Retries;
   backups = number_or_zero given Backups;
   sync = number_or_zero given Sync;
+  op = number_or_zero given Op;
+  from = number_or_zero given From;
+  to = number_or_zero given To;
 }) else None
+
+-- some value is given
+abbrev pub is_given : List (List ℕ) → Bool
+is_given [] = false
+is_given (value ∷ more) = true
+
+-- each option is given that the command must have
+abbrev pub has_required : CommandName → (OptionName → List (List ℕ)) → Bool
+has_required command given = list_all (λ o. is_given (given o)) (required_of command)
+
+-- the numbers of a command; None where such an option is missing, too
+abbrev pub numbers_of : CommandName → (OptionName → List (List ℕ)) → Option Numbers
+numbers_of command given = if has_required command given then numbers_given given else None
 
 -- a number of the option's range
 abbrev pub IsInRow : OptionName → ℕ → Type 0
@@ -85,6 +101,9 @@ pub record AreInRange (n : Numbers) : Type 0 where
   pub retries : IsInRow Retries n.retries
   pub backups : IsInRow Backups n.backups
   pub sync : IsInRow Sync n.sync
+  pub op : IsInRow Op n.op
+  pub from : IsInRow From n.from
+  pub to : IsInRow To n.to
 
 -- ---- the whole line
 
@@ -104,14 +123,14 @@ line_with command words (Some numbers) =
 abbrev pub line_in : CommandName → Option (List LinePart) → Result GivenLine ℕ
 line_in command None = Err 2
 line_in command (Some parts) =
-    line_with command (positionals_given parts) (numbers_given (option_values parts))
+    line_with command (positionals_given parts) (numbers_of command (option_values parts))
 
 abbrev pub line_after : Option CommandName → List (List ℕ) → Result GivenLine ℕ
 line_after None words = Err 1
 line_after (Some command) words = line_in command (line_parts (option_names command) None words)
 
 -- What the words give. Code 1: the command is missing or unknown. Code 2: an option, a number, its
--- range, or the count of positionals is wrong.
+-- range, or the count of positionals is wrong, or an option is missing.
 unfoldable pub line_given : List (List ℕ) → Result GivenLine ℕ
 line_given [] = Err 1
 line_given (word ∷ words) = line_after (command_named word) words

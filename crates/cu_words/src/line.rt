@@ -5,7 +5,8 @@ ghost use Rattle.cu_words.specs.Line.{has_stray, is_stray, line_parts};
 ghost use Rattle.cu_words.specs.Options.{option_names, option_row};
 ghost use Rattle.cu_words.specs.Reader.{IsFaultOf, IsParted, options_found, positional_name, told, values_found};
 ghost use Rattle.cu_words.specs.Words.{AreInRange, IsInRow, IsLineRead, line_given, line_with};
-ghost use Rattle.cu_words.specs.Words.{demo_size, number_between, number_by, numbers_given};
+ghost use Rattle.cu_words.specs.Words.{demo_size, has_required, is_given, number_between};
+ghost use Rattle.cu_words.specs.Words.{number_by, numbers_given, numbers_of};
 
 use crate::options::{CommandName, OptionName};
 use clap::error::ErrorKind;
@@ -28,6 +29,9 @@ pub struct Numbers {
     pub retries: u64,
     pub backups: u64,
     pub sync: u64,
+    pub op: u64,
+    pub from: u64,
+    pub to: u64,
 }
 
 /// The words of the command line, read.
@@ -43,8 +47,8 @@ pub struct CommandLine<'a> {
 #[derive(Clone, Copy, Debug, Drop)]
 pub enum LineFault {
     /// With code 1 the command is missing or unknown. With code 2 an option is unknown, has no
-    /// value or is given twice, a value is no number of its option's range, or there are too few or
-    /// too many positionals.
+    /// value, is given twice or is missing that must be given, a value is no number of its
+    /// option's range, or there are too few or too many positionals.
     Refused { code: u8 },
     /// Memory was wanted.
     NoMemory,
@@ -77,10 +81,10 @@ fn line_found<'a>(
     matches: &ArgMatches<'a>,
 ) -> Result<CommandLine<'a>, LineFault>
     ensures line { IsLineRead (line_with command (values_found matches.now positional_name)
-        (numbers_given (options_found matches.now))) result }
+        (numbers_of command (options_found matches.now))) result }
     ensures ranges { IfOk result (λ l. AreInRange l.numbers) }
 {
-    let Some(numbers) = numbers_found(matches) else {
+    let Some(numbers) = numbers_of(command, matches) else {
         return Err(LineFault::Refused { code: 2 });
     };
     let positionals = matches.get_strs(POSITIONAL).unwrap_or(&[]);
@@ -92,6 +96,43 @@ fn line_found<'a>(
         numbers,
         name: positionals.first().copied(),
     })
+}
+
+/// The numbers of all options, where those are given that the command must have.
+fn numbers_of(command: CommandName, matches: &ArgMatches) -> Option<Numbers>
+    ensures numbers { result ≡ numbers_of command (options_found matches.now) }
+    ensures ranges { IfSome result AreInRange }
+{
+    if has_required(command, matches) {
+        numbers_found(matches)
+    } else {
+        None
+    }
+}
+
+/// Whether the options are given that the command must have.
+fn has_required(command: CommandName, matches: &ArgMatches) -> bool
+    ensures { result ≡ has_required command (options_found matches.now) }
+{
+    let required = command.required();
+    for option in required {
+        if !is_given(matches, *option) {
+            return false;
+        }
+    }
+    true
+}
+
+/// Whether the option is given.
+fn is_given(matches: &ArgMatches, option: OptionName) -> bool
+    ensures { result ≡ is_given (options_found matches.now option) }
+{
+    let row = option.row();
+    match matches.get_strs(row.name) {
+        None => false,
+        Some([]) => false,
+        Some([_, ..]) => true,
+    }
 }
 
 /// The numbers of all options.
@@ -107,6 +148,9 @@ fn numbers_found(matches: &ArgMatches) -> Option<Numbers>
         retries: number_found(matches, OptionName::Retries)?,
         backups: number_found(matches, OptionName::Backups)?,
         sync: number_found(matches, OptionName::Sync)?,
+        op: number_found(matches, OptionName::Op)?,
+        from: number_found(matches, OptionName::From)?,
+        to: number_found(matches, OptionName::To)?,
     })
 }
 

@@ -1,7 +1,7 @@
 //! The table of the options.
 ghost use Rattle.std.specs.Prelude.{◌≡◌, ◌≤◌};
 ghost use Rattle.cu_words.specs.Options.{command_named, option_row, options_of, positional_count};
-ghost use Rattle.cu_words.specs.Options.{row_view};
+ghost use Rattle.cu_words.specs.Options.{required_of, row_view};
 
 /// A command, which the first word names.
 #[derive(Clone, Copy)]
@@ -14,6 +14,8 @@ pub enum CommandName {
     Check,
     Print,
     Demo,
+    Begin,
+    Part,
 }
 
 /// An option of the command line.
@@ -33,6 +35,12 @@ pub enum OptionName {
     Backups,
     /// Whether a file's data is synced before the file is put in place.
     Sync,
+    /// The number of the operation whose tasks are a part.
+    Op,
+    /// The number of the first task of the part.
+    From,
+    /// The number of the task behind its last one.
+    To,
 }
 
 /// A row of the table of the options: the name, without its `--`; the least and the most number
@@ -59,6 +67,9 @@ impl OptionName {
             OptionName::Retries => ("retries", 0, 8, 2),
             OptionName::Backups => ("backups", 0, 1, 0),
             OptionName::Sync => ("sync", 0, 1, 1),
+            OptionName::Op => ("op", 0, u64::MAX, 0),
+            OptionName::From => ("from", 0, u64::MAX, 0),
+            OptionName::To => ("to", 0, u64::MAX, 0),
         };
         TableRow {
             name,
@@ -92,7 +103,28 @@ static DROP: [OptionName; 4] = [
     OptionName::Retries,
 ];
 
+static BEGIN: [OptionName; 5] = [
+    OptionName::AllowedMem,
+    OptionName::ReservedMem,
+    OptionName::SplitEvery,
+    OptionName::Retries,
+    OptionName::Sync,
+];
+
 static LOAD: [OptionName; 2] = [OptionName::Retries, OptionName::Sync];
+
+static PART: [OptionName; 8] = [
+    OptionName::AllowedMem,
+    OptionName::ReservedMem,
+    OptionName::SplitEvery,
+    OptionName::Retries,
+    OptionName::Sync,
+    OptionName::Op,
+    OptionName::From,
+    OptionName::To,
+];
+
+static PART_REQUIRED: [OptionName; 3] = [OptionName::Op, OptionName::From, OptionName::To];
 
 static OTHERS: [OptionName; 1] = [OptionName::Retries];
 
@@ -110,6 +142,8 @@ impl CommandName {
             "check" => Some(CommandName::Check),
             "print" => Some(CommandName::Print),
             "demo" => Some(CommandName::Demo),
+            "begin" => Some(CommandName::Begin),
+            "part" => Some(CommandName::Part),
             _ => None,
         }
     }
@@ -131,9 +165,21 @@ impl CommandName {
         match self {
             CommandName::Run | CommandName::Resume | CommandName::Demo => RUN.as_slice(),
             CommandName::Drop => DROP.as_slice(),
+            CommandName::Begin => BEGIN.as_slice(),
+            CommandName::Part => PART.as_slice(),
             CommandName::Plan => PLAN.as_slice(),
             CommandName::Load => LOAD.as_slice(),
             CommandName::Check | CommandName::Print => OTHERS.as_slice(),
+        }
+    }
+
+    /// The options without which the command is refused.
+    pub fn required(self) -> &'static [OptionName]
+        ensures { result.now ≡ required_of self }
+    {
+        match self {
+            CommandName::Part => PART_REQUIRED.as_slice(),
+            _ => &[],
         }
     }
 }

@@ -36,8 +36,11 @@ fn find_key<D: Depot>(depot: &mut D, key: &Key, retries: u32) -> Result<bool, Fi
     }
 }
 
-/// Whether all chunks that a task writes are held. Each is asked for.
-fn find_task<D: Depot>(
+/// Whether all chunks that a task writes are held. Each is asked for, and again where the store failed,
+/// at most `retries` times.
+///
+/// `Failed`: all calls for this key failed. `NoMemory`: the depot lacked memory.
+pub fn find_task<D: Depot>(
     plan: &Plan,
     depot: &mut D,
     op: u32,

@@ -48,7 +48,7 @@ impl Rooms {
 }
 
 /// The bytes that a task of the operation is lent, besides its words.
-pub(crate) fn task_bytes(plan: &Plan, op: u32) -> usize
+pub fn task_bytes(plan: &Plan, op: u32) -> usize
     requires { op < length plan.now.ops }
     ensures { result ≡ task_bytes plan.now.arrays (op_of plan.now op) }
 {
@@ -57,7 +57,7 @@ pub(crate) fn task_bytes(plan: &Plan, op: u32) -> usize
 }
 
 /// The words that a task of the operation is lent.
-pub(crate) fn task_words(plan: &Plan, op: u32) -> usize
+pub fn task_words(plan: &Plan, op: u32) -> usize
     requires { op < length plan.now.ops }
     ensures { result ≡ task_words (op_of plan.now op) }
 {

@@ -72,8 +72,11 @@ fn put_text<D: Depot>(depot: &mut D, key: &Key, text: &[u8], retries: u32) -> Re
     }
 }
 
-/// Stores the texts of the plan, the record first.
-fn put_both<D: Depot>(
+/// Stores the texts of the plan, the record first. Each call is made again where the store failed, at
+/// most `retries` times.
+///
+/// `TextFailed`: all calls for this text failed. `NoMemory`: the depot lacked memory.
+pub fn store_texts<D: Depot>(
     plan: &Plan,
     depot: &mut D,
     texts: &Texts<'_>,
@@ -110,7 +113,7 @@ fn put_texts<D: Depot>(
     ensures cause { IfErr result (IsRunFault held (retries + 1) texts.now (D.shown depot.old) (D.shown depot.new)) }
 {
     match held {
-        HeldTexts::Neither => put_both(plan, depot, texts, retries),
+        HeldTexts::Neither => store_texts(plan, depot, texts, retries),
         HeldTexts::Record => put_text(depot, &texts.metadata_key, texts.metadata, retries),
         HeldTexts::Both => Ok(()),
     }

@@ -33,7 +33,7 @@ fn ask_key<D: Depot>(depot: &mut D, key: &Key, retries: u32) -> Result<(), WayFa
 }
 
 /// The key of a chunk.
-pub(crate) fn key_of(plan: &Plan, cell: &Cell) -> Key
+pub fn key_of(plan: &Plan, cell: &Cell) -> Key
     requires { IsChunk plan.now.arrays cell.now }
     ensures { result ≡ key_of plan.now.arrays cell.now }
 {

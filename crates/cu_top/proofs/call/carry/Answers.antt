@@ -1,7 +1,7 @@
 use Rattle.std.specs.Prelude.{List, ℕ, Ok, map, string_bytes}
 use Rattle.std.proofs.Common.{◌≡◌, refl, sym, subst}
 use Rattle.cu_top.proofs.ToldLemmas.{by_command, by_refusal, by_want}
-use Rattle.cu_top.specs.Words.{command_of, run, resume, drop, plan, load, check, print, demo}
+use Rattle.cu_top.specs.Words.{command_of, run, resume, drop, plan, load, check, print, demo, begin, part, part_numbers}
 use Rattle.cu_top.proofs.call.carry.Goals as goal
 
 pub run_command-requires-clause-options : goal.run_command-requires-clause-options
@@ -70,3 +70,20 @@ returns-in-Print g c =
 pub returns-in-Demo : goal.returns-in-Demo
 returns-in-Demo g c =
     by_command _ _ _ _ _ (demo c.in-Demo.size c.in-Demo.options) (rw c.in-Demo.is at c.in-Asked.ensures.answer.0) (record { tells = c.demo.ensures.answer; kept = refl; calls = c.demo.ensures.calls })
+
+pub begin_command-requires : goal.begin_command-requires
+begin_command-requires g c = record { options = rw c.in-Begin.is at c.in-Asked.ensures.answer.1 }
+
+pub part_command-requires-clause-options : goal.part_command-requires-clause-options
+part_command-requires-clause-options g c = rw c.in-Part.is at c.in-Asked.ensures.answer.1
+
+pub part_command-requires-clause-left : goal.part_command-requires-clause-left
+part_command-requires-clause-left g c = λ text next read.
+    c.requires.part_left c.in-Part.options (part_numbers c.in-Part.numbers) text next (rw c.in-Part.is at c.in-Asked.ensures.answer.0) read
+
+pub returns-in-Begin : goal.returns-in-Begin
+returns-in-Begin g c = by_command _ _ _ _ _ (begin c.in-Begin.options) (rw c.in-Begin.is at c.in-Asked.ensures.answer.0) c.begin_command.ensures
+
+pub returns-in-Part : goal.returns-in-Part
+returns-in-Part g c =
+    by_command _ _ _ _ _ (part c.in-Part.options (part_numbers c.in-Part.numbers)) (rw c.in-Part.is at c.in-Asked.ensures.answer.0) c.part_command.ensures

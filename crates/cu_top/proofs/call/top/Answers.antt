@@ -1,6 +1,6 @@
-use Rattle.cu_top.proofs.AnsweredLemmas.{run_answers, resume_answers, drop_answers, plan_answers, load_answers, check_answers, print_answers, demo_answers}
+use Rattle.cu_top.proofs.AnsweredLemmas.{begin_answers, part_answers, run_answers, resume_answers, drop_answers, plan_answers, load_answers, check_answers, print_answers, demo_answers}
 use Rattle.cu_top.proofs.ToldLemmas.{answer_to, words_refused}
-use Rattle.cu_top.specs.Words.{run, resume, drop, plan, load, check, print, demo}
+use Rattle.cu_top.specs.Words.{run, resume, drop, plan, load, check, print, demo, begin, part}
 use Rattle.cu_top.proofs.call.top.Goals as goal
 
 pub returns : goal.returns
@@ -14,5 +14,7 @@ returns g c = record {
   load = λ retries is. load_answers (answer_to c.carry.ensures (load retries) is);
   check = λ retries is. check_answers (answer_to c.carry.ensures (check retries) is);
   print = λ name retries is. print_answers (answer_to c.carry.ensures (print name retries) is);
+  begin = λ o is. begin_answers (answer_to c.carry.ensures (begin o) is);
+  part = λ o q is. part_answers (answer_to c.carry.ensures (part o q) is);
   demo = λ size o is. demo_answers (answer_to c.carry.ensures (demo size o) is);
 }

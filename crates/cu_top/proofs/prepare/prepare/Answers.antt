@@ -1,11 +1,13 @@
 use Rattle.std.proofs.Common.{inl, subst, sym, arith}
 use Rattle.cu_command.specs.declared.status.Status.{Status}
 use Rattle.cu_command.proofs.SeenLemmas.{stepped_then}
+use Rattle.cu_top.proofs.BeginLemmas.{ask_unbegun, begin_asked_within, refused_begins}
 use Rattle.cu_top.proofs.PlannedLemmas.{refused_ran}
 use Rattle.cu_top.proofs.RunLemmas.{ask_refused, all_free}
 use Rattle.cu_top.specs.Prepare.{asked_keys}
 use Rattle.cu_top.specs.Run.{scene, case, Ran}
 use Rattle.cu_top.proofs.CallLimits.{asked_within}
+use Rattle.cu_top.specs.Begin.{BeginWithin, WasBegun}
 use Rattle.cu_top.specs.Calls.{RunWithin}
 use Rattle.cu_top.proofs.prepare.prepare.Goals as goal
 
@@ -48,3 +50,26 @@ returns-in-Err-ask_plan-clause-refused_calls g c = λ source next sink after.
     let asked = c.ask_plan.ensures.calls c.args.options.now c.in-Ok.ensures.plan in
     subst (RunWithin run) (sym c.answer_of.ensures)
     (asked_within run c.in-Ok.prepared.job c.in-Ok.ensures.job c.in-Ok.ensures.planned c.in-Err-ask_plan.fault (omega (arith, planned, asked)))
+
+pub returns-in-Err-clause-unbegun : goal.returns-in-Err-clause-unbegun
+returns-in-Err-clause-unbegun g c = λ source next sink after.
+    refused_begins (case c.args.options.now c.args.text.now (scene source sink (g.D.Depot.shown c.args.depot.now)) (scene next after (g.D.Depot.shown c.plan_job.new.depot))) c.in-Err.status
+    (c.in-Err.ensures.refused source next sink after)
+
+pub returns-in-Err-clause-unbegun_calls : goal.returns-in-Err-clause-unbegun_calls
+returns-in-Err-clause-unbegun_calls g c = λ source next sink after. inl c.plan_job.ensures.calls
+
+pub returns-in-Err-ask_plan-clause-unbegun : goal.returns-in-Err-ask_plan-clause-unbegun
+returns-in-Err-ask_plan-clause-unbegun g c = λ source next sink after.
+    let run = case c.args.options.now c.args.text.now (scene source sink (g.D.Depot.shown c.args.depot.now)) (scene next after (g.D.Depot.shown c.ask_plan.new.depot)) in
+    subst (λ (status : Status). WasBegun run status) (sym c.answer_of.ensures)
+    (ask_unbegun run c.in-Ok.prepared.job (g.D.Depot.shown c.plan_job.new.depot) c.in-Err-ask_plan.fault c.in-Ok.ensures.job c.in-Ok.ensures.planned
+    c.plan_job.ensures.step c.ask_plan.ensures.step (c.in-Err-ask_plan.ensures.refused c.args.options.now c.in-Ok.ensures.plan))
+
+pub returns-in-Err-ask_plan-clause-unbegun_calls : goal.returns-in-Err-ask_plan-clause-unbegun_calls
+returns-in-Err-ask_plan-clause-unbegun_calls g c = λ source next sink after.
+    let run = case c.args.options.now c.args.text.now (scene source sink (g.D.Depot.shown c.args.depot.now)) (scene next after (g.D.Depot.shown c.ask_plan.new.depot)) in
+    let planned = c.plan_job.ensures.calls in
+    let asked = c.ask_plan.ensures.calls c.args.options.now c.in-Ok.ensures.plan in
+    subst (BeginWithin run) (sym c.answer_of.ensures)
+    (begin_asked_within run c.in-Ok.prepared.job c.in-Ok.ensures.job c.in-Ok.ensures.planned c.in-Err-ask_plan.fault (omega (arith, planned, asked)))

@@ -4,7 +4,7 @@ use denote.Exit.{no}
 use denote.Param.Send.{arg_send, param_send}
 use Rattle.cu_watch.proofs.Crossing.{watched_cells_sync, watched_pass_send}
 use Rattle.cu_cases.proofs.Calm.{goes_nowhere}
-use Rattle.cu_cases.specs.Late.{is_resume}
+use Rattle.cu_cases.specs.Late.{is_going_on}
 use Rattle.cu_cases.proofs.case.Case.run.Goals as goal
 
 pub answer-requires-send-D-Yard-Pass : goal.answer-requires-send-D-Yard-Pass
@@ -16,5 +16,5 @@ answer-requires-sync-D-Yard g c κs within = record { shared = watched_cells_syn
 pub answer-requires-after_bounds : goal.answer-requires-after_bounds
 answer-requires-after_bounds g c κs within = (
   search rules,
-  goes_nowhere (map string_bytes c.args.self.now.words.items) (ap (λ ws. is_resume (map string_bytes ws)) (sym c.deref.ensures.value) ∙ sym c.is_resume.ensures ∙ c.if-is_resume.false),
+  goes_nowhere (map string_bytes c.args.self.now.words.items) (ap (λ ws. is_going_on (map string_bytes ws)) (sym c.deref.ensures.value) ∙ sym c.is_going_on.ensures ∙ c.if-is_going_on.false),
 )

@@ -1,6 +1,6 @@
 use Rattle.std.proofs.Common.{◌+◌}
 use Rattle.cu_work.proofs.Running.{record_step, texts_step, texts_own, texts_stored, metadata_unstored}
-use Rattle.cu_work.proofs.run.put_both.Goals as goal
+use Rattle.cu_work.proofs.run.store_texts.Goals as goal
 
 pub returns-in-Err-clause-step : goal.returns-in-Err-clause-step
 returns-in-Err-clause-step g c = record_step c.args.plan.now c.args.texts.now (c.args.retries + 1) (g.D.Depot.shown c.args.depot.now) (g.D.Depot.shown c.put_text.new.depot) c.put_text.ensures.step

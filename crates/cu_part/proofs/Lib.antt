@@ -1,0 +1,4 @@
+pub mod AskedKeys
+pub mod AskedTasks
+pub mod TriedTasks
+pub mod PartEnds

@@ -1,0 +1,4 @@
+pub mod Part
+pub mod Asked
+pub mod Tried
+pub mod Ended

@@ -1,0 +1,20 @@
+use Rattle.std.proofs.Common.{List, ℕ, refl, sym, subst, inl, arith}
+use Rattle.cu_command.proofs.SeenLemmas.{stepped_same}
+use Rattle.cu_top.proofs.ToldLemmas.{part_answered}
+use Rattle.cu_top.specs.Held.{IsLeftEntry}
+use Rattle.cu_top.proofs.call.part_command.Goals as goal
+
+pub store_part-requires-clause-left : goal.store_part-requires-clause-left
+store_part-requires-clause-left g c =
+    subst (λ (text : List ℕ). IsLeftEntry c.args.options.now text (g.D.Depot.shown c.args.depot.now)) (sym c.deref.ensures.value)
+    (c.requires.left c.in-Ok.text.items (g.R.Source.left c.read_all.new.src) c.in-Ok.ensures.text)
+
+pub returns-in-Ok : goal.returns-in-Ok
+returns-in-Ok g c =
+    part_answered _ _ _ c.in-Ok.text.items _ _ c.deref.ensures.value c.in-Ok.ensures.text c.store_part.ensures.prints _ c.store_part.ensures.answer c.store_part.ensures.calls
+
+pub returns-in-Err-Fault : goal.returns-in-Err-Fault
+returns-in-Err-Fault g c = record { tells = (rw c.in-Err-Fault.field-0-is at c.in-Err-Fault.ensures.cause, stepped_same _ _); prints = refl; calls = inl (omega arith) }
+
+pub returns-in-Err-NoMemory : goal.returns-in-Err-NoMemory
+returns-in-Err-NoMemory g c = record { tells = inl (stepped_same _ _); prints = refl; calls = inl (omega arith) }

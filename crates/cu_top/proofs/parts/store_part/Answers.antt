@@ -1,0 +1,276 @@
+use Rattle.std.proofs.Common.{◌≡◌, ◌∙◌, ◌+◌, ◌≤◌, ℕ, Ok, Err, ap, refl, length, subst, sym, arith}
+use Rattle.cu_command.specs.Seen.{stream}
+use Rattle.cu_command.specs.Streams.{WroteFront}
+use Rattle.cu_command.specs.declared.status.Status.{Status}
+use Rattle.cu_command.specs.declared.status.Status.TheVariants.{NoTasks}
+use Rattle.cu_op.specs.PlanView.{PlanView}
+use Rattle.cu_part.specs.Part.{IsPartOf}
+use Rattle.cu_part.specs.declared.part.Part.{Part}
+use Rattle.cu_top.proofs.DriveLemmas.{PlanLaws}
+use Rattle.cu_top.proofs.PartsLemmas.{no_part, no_part_within, not_parted, not_parted_within, part_told, parted_done, parted_ended, parted_unreported, parted_within_done, parted_within_ended, parted_within_unreported}
+use Rattle.cu_top.proofs.PlanLemmas.{meant}
+use Rattle.cu_top.proofs.ReopenLemmas.{opens, record_in, reopened}
+use Rattle.cu_top.specs.Parts.{PartWithin, WasParted, part_fault_answer, part_line, tasks_at}
+use Rattle.cu_top.specs.Prepare.{out_metadata}
+use Rattle.cu_top.specs.Record.{record_text}
+use Rattle.cu_top.specs.Run.{scene, case, plan_in}
+use Rattle.cu_top.specs.Words.{part_numbers}
+use Rattle.cu_top.proofs.parts.store_part.Goals as goal
+
+pub returns-in-Err-clause-answer : goal.returns-in-Err-clause-answer
+returns-in-Err-clause-answer g c = λ source next.
+    let out = stream (g.W.Sink.written c.args.out.now) (g.W.Sink.faults c.args.out.now) in
+    not_parted (case c.args.options.now c.args.text.now (scene source out (g.D.Depot.shown c.args.depot.now)) (scene next out (g.D.Depot.shown c.reopen.new.depot)))
+    (part_numbers c.args.numbers.now) c.in-Err.status (c.in-Err.ensures.refused source next out out)
+
+pub returns-in-Err-clause-calls : goal.returns-in-Err-clause-calls
+returns-in-Err-clause-calls g c = λ source next sink after.
+    not_parted_within (case c.args.options.now c.args.text.now (scene source sink (g.D.Depot.shown c.args.depot.now)) (scene next after (g.D.Depot.shown c.reopen.new.depot)))
+    (part_numbers c.args.numbers.now) c.in-Err.status (c.in-Err.ensures.refused_calls source next sink after)
+
+pub returns-in_default-clause-answer : goal.returns-in_default-clause-answer
+returns-in_default-clause-answer g c = λ source next.
+    let begin = g.D.Depot.shown c.args.depot.now in
+    let start = g.D.Depot.shown c.reopen.new.depot in
+    let now = g.D.Depot.shown c.reopen.new.depot in
+    let options = c.args.options.now in
+    let out = stream (g.W.Sink.written c.args.out.now) (g.W.Sink.faults c.args.out.now) in
+    let after = out in
+    let run = case options c.args.text.now (scene source out begin) (scene next after now) in
+    let q = part_numbers c.args.numbers.now in
+    let ready = c.in-Ok.ready in
+    let job = ready.job in
+    let found = c.in-Ok.ensures.found in
+    let sound = c.merged_plan_law.ensures.sound job.expr job.types job.inputs.items options found.planned in
+    let laws : PlanLaws run job = record {
+      sound = sound;
+      needs = λ j below.
+          let most = c.merged_plan_law.ensures.needs job.expr job.types job.inputs.items options j found.planned below in
+          let memory = c.merged_plan_law.ensures.memory job.expr job.types job.inputs.items options in
+          omega (arith, most, memory);
+      names = λ differ. c.merged_plan_law.ensures.names job.expr job.types job.inputs.items options (record_text options job) (out_metadata job) found.planned differ;
+      left = c.left_law.ensures;
+      meant = meant run job found.planned c.merged_plan_law.ensures.inputs c.merged_plan_law.ensures.output c.merged_plan_law.ensures.equal c.complete_law.ensures.elements;
+    } in
+    let back = reopened run job start found laws in
+    let same = c.in-Ok.ensures.ready.plan_is in
+    subst (λ (n : ℕ). WasParted run q (NoTasks c.args.numbers.now.op n)) (sym (c.tasks_at-tasks.ensures ∙ ap (λ (p : PlanView). tasks_at p c.args.numbers.now.op) same))
+    (no_part run job q found.spared back (subst (λ (p : PlanView). IsPartOf p q → ⊥) same c.in_default.ensures))
+
+pub returns-in_default-clause-calls : goal.returns-in_default-clause-calls
+returns-in_default-clause-calls g c = λ source next sink after.
+    let begin = g.D.Depot.shown c.args.depot.now in
+    let start = g.D.Depot.shown c.reopen.new.depot in
+    let now = g.D.Depot.shown c.reopen.new.depot in
+    let options = c.args.options.now in
+    let run = case options c.args.text.now (scene source sink begin) (scene next after now) in
+    let q = part_numbers c.args.numbers.now in
+    let ready = c.in-Ok.ready in
+    let job = ready.job in
+    let found = c.in-Ok.ensures.found in
+    let sound = c.merged_plan_law.ensures.sound job.expr job.types job.inputs.items options found.planned in
+    let laws : PlanLaws run job = record {
+      sound = sound;
+      needs = λ j below.
+          let most = c.merged_plan_law.ensures.needs job.expr job.types job.inputs.items options j found.planned below in
+          let memory = c.merged_plan_law.ensures.memory job.expr job.types job.inputs.items options in
+          omega (arith, most, memory);
+      names = λ differ. c.merged_plan_law.ensures.names job.expr job.types job.inputs.items options (record_text options job) (out_metadata job) found.planned differ;
+      left = c.left_law.ensures;
+      meant = meant run job found.planned c.merged_plan_law.ensures.inputs c.merged_plan_law.ensures.output c.merged_plan_law.ensures.equal c.complete_law.ensures.elements;
+    } in
+    no_part_within run job q c.args.numbers.now.op c.tasks_at-tasks.result (reopened run job start found laws) c.reopen.ensures.calls
+
+pub returns-in-Ok-report_part-clause-answer : goal.returns-in-Ok-report_part-clause-answer
+returns-in-Ok-report_part-clause-answer g c = λ source next.
+    let begin = g.D.Depot.shown c.args.depot.now in
+    let start = g.D.Depot.shown c.reopen.new.depot in
+    let now = g.D.Depot.shown c.run_part.new.depot in
+    let options = c.args.options.now in
+    let out = stream (g.W.Sink.written c.args.out.now) (g.W.Sink.faults c.args.out.now) in
+    let after = stream (g.W.Sink.written c.report_part.new.out) (g.W.Sink.faults c.report_part.new.out) in
+    let run = case options c.args.text.now (scene source out begin) (scene next after now) in
+    let q = part_numbers c.args.numbers.now in
+    let ready = c.in-Ok.ready in
+    let job = ready.job in
+    let found = c.in-Ok.ensures.found in
+    let sound = c.merged_plan_law.ensures.sound job.expr job.types job.inputs.items options found.planned in
+    let laws : PlanLaws run job = record {
+      sound = sound;
+      needs = λ j below.
+          let most = c.merged_plan_law.ensures.needs job.expr job.types job.inputs.items options j found.planned below in
+          let memory = c.merged_plan_law.ensures.memory job.expr job.types job.inputs.items options in
+          omega (arith, most, memory);
+      names = λ differ. c.merged_plan_law.ensures.names job.expr job.types job.inputs.items options (record_text options job) (out_metadata job) found.planned differ;
+      left = c.left_law.ensures;
+      meant = meant run job found.planned c.merged_plan_law.ensures.inputs c.merged_plan_law.ensures.output c.merged_plan_law.ensures.equal c.complete_law.ensures.elements;
+    } in
+    let spared = found.spared in
+    let back = reopened run job start found laws in
+    let opened = opens run job start found c.requires.left in
+    let known = record_in run job start found c.requires.left in
+    let told = part_told ready.plan (plan_in run job) c.in-Some.part q (options.retries + 1) start now (Ok c.in-Ok-run_part.counts) c.in-Ok.ensures.ready.plan_is c.in-Some.ensures.0 c.in-Some.ensures.1
+    c.in-Ok-run_part.ensures.end c.run_part.ensures.step c.run_part.ensures.calls in
+    parted_done run job laws start spared back opened known q (Ok c.in-Ok-run_part.counts) told c.in-Ok-run_part.counts refl
+    (subst (λ (p : PlanView). WroteFront out.told after.told (part_line p q c.in-Ok-run_part.counts) (length (part_line p q c.in-Ok-run_part.counts))) c.in-Ok.ensures.ready.plan_is
+    (subst (λ (x : Part). WroteFront out.told after.told (part_line ready.plan x c.in-Ok-run_part.counts) (length (part_line ready.plan x c.in-Ok-run_part.counts))) c.in-Some.ensures.0
+    c.in-Ok-report_part.ensures.all))
+
+pub returns-in-Ok-run_part-clause-answer : goal.returns-in-Ok-run_part-clause-answer
+returns-in-Ok-run_part-clause-answer g c = λ source next.
+    let begin = g.D.Depot.shown c.args.depot.now in
+    let start = g.D.Depot.shown c.reopen.new.depot in
+    let now = g.D.Depot.shown c.run_part.new.depot in
+    let options = c.args.options.now in
+    let out = stream (g.W.Sink.written c.args.out.now) (g.W.Sink.faults c.args.out.now) in
+    let after = stream (g.W.Sink.written c.report_part.new.out) (g.W.Sink.faults c.report_part.new.out) in
+    let run = case options c.args.text.now (scene source out begin) (scene next after now) in
+    let q = part_numbers c.args.numbers.now in
+    let ready = c.in-Ok.ready in
+    let job = ready.job in
+    let found = c.in-Ok.ensures.found in
+    let sound = c.merged_plan_law.ensures.sound job.expr job.types job.inputs.items options found.planned in
+    let laws : PlanLaws run job = record {
+      sound = sound;
+      needs = λ j below.
+          let most = c.merged_plan_law.ensures.needs job.expr job.types job.inputs.items options j found.planned below in
+          let memory = c.merged_plan_law.ensures.memory job.expr job.types job.inputs.items options in
+          omega (arith, most, memory);
+      names = λ differ. c.merged_plan_law.ensures.names job.expr job.types job.inputs.items options (record_text options job) (out_metadata job) found.planned differ;
+      left = c.left_law.ensures;
+      meant = meant run job found.planned c.merged_plan_law.ensures.inputs c.merged_plan_law.ensures.output c.merged_plan_law.ensures.equal c.complete_law.ensures.elements;
+    } in
+    let spared = found.spared in
+    let back = reopened run job start found laws in
+    let opened = opens run job start found c.requires.left in
+    let known = record_in run job start found c.requires.left in
+    let told = part_told ready.plan (plan_in run job) c.in-Some.part q (options.retries + 1) start now (Ok c.in-Ok-run_part.counts) c.in-Ok.ensures.ready.plan_is c.in-Some.ensures.0 c.in-Some.ensures.1
+    c.in-Ok-run_part.ensures.end c.run_part.ensures.step c.run_part.ensures.calls in
+    parted_unreported run job laws start spared back opened known q (Ok c.in-Ok-run_part.counts) told c.in-Ok-run_part.counts refl c.in-Err-report_part.ensures.cause
+    (subst (λ (p : PlanView). (n : ℕ) × (n ≤ length (part_line p q c.in-Ok-run_part.counts)) × WroteFront out.told after.told (part_line p q c.in-Ok-run_part.counts) n) c.in-Ok.ensures.ready.plan_is
+    (subst (λ (x : Part). (n : ℕ) × (n ≤ length (part_line ready.plan x c.in-Ok-run_part.counts)) × WroteFront out.told after.told (part_line ready.plan x c.in-Ok-run_part.counts) n) c.in-Some.ensures.0
+    c.in-Err-report_part.ensures.front))
+
+pub returns-clause-answer : goal.returns-clause-answer
+returns-clause-answer g c = λ source next.
+    let begin = g.D.Depot.shown c.args.depot.now in
+    let start = g.D.Depot.shown c.reopen.new.depot in
+    let now = g.D.Depot.shown c.run_part.new.depot in
+    let options = c.args.options.now in
+    let out = stream (g.W.Sink.written c.args.out.now) (g.W.Sink.faults c.args.out.now) in
+    let after = out in
+    let run = case options c.args.text.now (scene source out begin) (scene next after now) in
+    let q = part_numbers c.args.numbers.now in
+    let ready = c.in-Ok.ready in
+    let job = ready.job in
+    let found = c.in-Ok.ensures.found in
+    let sound = c.merged_plan_law.ensures.sound job.expr job.types job.inputs.items options found.planned in
+    let laws : PlanLaws run job = record {
+      sound = sound;
+      needs = λ j below.
+          let most = c.merged_plan_law.ensures.needs job.expr job.types job.inputs.items options j found.planned below in
+          let memory = c.merged_plan_law.ensures.memory job.expr job.types job.inputs.items options in
+          omega (arith, most, memory);
+      names = λ differ. c.merged_plan_law.ensures.names job.expr job.types job.inputs.items options (record_text options job) (out_metadata job) found.planned differ;
+      left = c.left_law.ensures;
+      meant = meant run job found.planned c.merged_plan_law.ensures.inputs c.merged_plan_law.ensures.output c.merged_plan_law.ensures.equal c.complete_law.ensures.elements;
+    } in
+    let spared = found.spared in
+    let back = reopened run job start found laws in
+    let opened = opens run job start found c.requires.left in
+    let known = record_in run job start found c.requires.left in
+    let told = part_told ready.plan (plan_in run job) c.in-Some.part q (options.retries + 1) start now (Err c.in-Err-run_part.fault) c.in-Ok.ensures.ready.plan_is c.in-Some.ensures.0 c.in-Some.ensures.1
+    c.in-Err-run_part.ensures.end c.run_part.ensures.step c.run_part.ensures.calls in
+    subst (λ (s : Status). WasParted run q s) (sym (c.part_fault_answer.ensures ∙ ap (λ (x : Part). part_fault_answer x.op c.in-Err-run_part.fault) c.in-Some.ensures.0))
+    (parted_ended run job laws start spared back opened known q (Err c.in-Err-run_part.fault) told c.in-Err-run_part.fault refl)
+
+pub returns-in-Ok-report_part-clause-calls : goal.returns-in-Ok-report_part-clause-calls
+returns-in-Ok-report_part-clause-calls g c = λ source next sink after.
+    let begin = g.D.Depot.shown c.args.depot.now in
+    let start = g.D.Depot.shown c.reopen.new.depot in
+    let now = g.D.Depot.shown c.run_part.new.depot in
+    let options = c.args.options.now in
+    let run = case options c.args.text.now (scene source sink begin) (scene next after now) in
+    let q = part_numbers c.args.numbers.now in
+    let ready = c.in-Ok.ready in
+    let job = ready.job in
+    let found = c.in-Ok.ensures.found in
+    let sound = c.merged_plan_law.ensures.sound job.expr job.types job.inputs.items options found.planned in
+    let laws : PlanLaws run job = record {
+      sound = sound;
+      needs = λ j below.
+          let most = c.merged_plan_law.ensures.needs job.expr job.types job.inputs.items options j found.planned below in
+          let memory = c.merged_plan_law.ensures.memory job.expr job.types job.inputs.items options in
+          omega (arith, most, memory);
+      names = λ differ. c.merged_plan_law.ensures.names job.expr job.types job.inputs.items options (record_text options job) (out_metadata job) found.planned differ;
+      left = c.left_law.ensures;
+      meant = meant run job found.planned c.merged_plan_law.ensures.inputs c.merged_plan_law.ensures.output c.merged_plan_law.ensures.equal c.complete_law.ensures.elements;
+    } in
+    let spared = found.spared in
+    let back = reopened run job start found laws in
+    let opened = opens run job start found c.requires.left in
+    let known = record_in run job start found c.requires.left in
+    let told = part_told ready.plan (plan_in run job) c.in-Some.part q (options.retries + 1) start now (Ok c.in-Ok-run_part.counts) c.in-Ok.ensures.ready.plan_is c.in-Some.ensures.0 c.in-Some.ensures.1
+    c.in-Ok-run_part.ensures.end c.run_part.ensures.step c.run_part.ensures.calls in
+    parted_within_done run job laws start spared back opened known q (Ok c.in-Ok-run_part.counts) told c.reopen.ensures.calls
+
+pub returns-in-Ok-run_part-clause-calls : goal.returns-in-Ok-run_part-clause-calls
+returns-in-Ok-run_part-clause-calls g c = λ source next sink after.
+    let begin = g.D.Depot.shown c.args.depot.now in
+    let start = g.D.Depot.shown c.reopen.new.depot in
+    let now = g.D.Depot.shown c.run_part.new.depot in
+    let options = c.args.options.now in
+    let run = case options c.args.text.now (scene source sink begin) (scene next after now) in
+    let q = part_numbers c.args.numbers.now in
+    let ready = c.in-Ok.ready in
+    let job = ready.job in
+    let found = c.in-Ok.ensures.found in
+    let sound = c.merged_plan_law.ensures.sound job.expr job.types job.inputs.items options found.planned in
+    let laws : PlanLaws run job = record {
+      sound = sound;
+      needs = λ j below.
+          let most = c.merged_plan_law.ensures.needs job.expr job.types job.inputs.items options j found.planned below in
+          let memory = c.merged_plan_law.ensures.memory job.expr job.types job.inputs.items options in
+          omega (arith, most, memory);
+      names = λ differ. c.merged_plan_law.ensures.names job.expr job.types job.inputs.items options (record_text options job) (out_metadata job) found.planned differ;
+      left = c.left_law.ensures;
+      meant = meant run job found.planned c.merged_plan_law.ensures.inputs c.merged_plan_law.ensures.output c.merged_plan_law.ensures.equal c.complete_law.ensures.elements;
+    } in
+    let spared = found.spared in
+    let back = reopened run job start found laws in
+    let opened = opens run job start found c.requires.left in
+    let known = record_in run job start found c.requires.left in
+    let told = part_told ready.plan (plan_in run job) c.in-Some.part q (options.retries + 1) start now (Ok c.in-Ok-run_part.counts) c.in-Ok.ensures.ready.plan_is c.in-Some.ensures.0 c.in-Some.ensures.1
+    c.in-Ok-run_part.ensures.end c.run_part.ensures.step c.run_part.ensures.calls in
+    parted_within_unreported run job laws start spared back opened known q (Ok c.in-Ok-run_part.counts) told c.reopen.ensures.calls
+
+pub returns-clause-calls : goal.returns-clause-calls
+returns-clause-calls g c = λ source next sink after.
+    let begin = g.D.Depot.shown c.args.depot.now in
+    let start = g.D.Depot.shown c.reopen.new.depot in
+    let now = g.D.Depot.shown c.run_part.new.depot in
+    let options = c.args.options.now in
+    let run = case options c.args.text.now (scene source sink begin) (scene next after now) in
+    let q = part_numbers c.args.numbers.now in
+    let ready = c.in-Ok.ready in
+    let job = ready.job in
+    let found = c.in-Ok.ensures.found in
+    let sound = c.merged_plan_law.ensures.sound job.expr job.types job.inputs.items options found.planned in
+    let laws : PlanLaws run job = record {
+      sound = sound;
+      needs = λ j below.
+          let most = c.merged_plan_law.ensures.needs job.expr job.types job.inputs.items options j found.planned below in
+          let memory = c.merged_plan_law.ensures.memory job.expr job.types job.inputs.items options in
+          omega (arith, most, memory);
+      names = λ differ. c.merged_plan_law.ensures.names job.expr job.types job.inputs.items options (record_text options job) (out_metadata job) found.planned differ;
+      left = c.left_law.ensures;
+      meant = meant run job found.planned c.merged_plan_law.ensures.inputs c.merged_plan_law.ensures.output c.merged_plan_law.ensures.equal c.complete_law.ensures.elements;
+    } in
+    let spared = found.spared in
+    let back = reopened run job start found laws in
+    let opened = opens run job start found c.requires.left in
+    let known = record_in run job start found c.requires.left in
+    let told = part_told ready.plan (plan_in run job) c.in-Some.part q (options.retries + 1) start now (Err c.in-Err-run_part.fault) c.in-Ok.ensures.ready.plan_is c.in-Some.ensures.0 c.in-Some.ensures.1
+    c.in-Err-run_part.ensures.end c.run_part.ensures.step c.run_part.ensures.calls in
+    subst (λ (s : Status). PartWithin run q s) (sym (c.part_fault_answer.ensures ∙ ap (λ (x : Part). part_fault_answer x.op c.in-Err-run_part.fault) c.in-Some.ensures.0))
+    (parted_within_ended run job laws start spared back opened known q (Err c.in-Err-run_part.fault) told c.reopen.ensures.calls c.in-Err-run_part.fault)
