@@ -251,13 +251,13 @@ class Months(InFolder):
 
 
 class Help(unittest.TestCase):
-    ROW = re.compile(r"^  --(\S+) N +\S.*?  +(\d+) to (\d+) +(\d+) +(\S.*)$", re.MULTILINE)
+    ROW = re.compile(r"^  --(\S+) N +\S.*?  +(\d+) to (\d+) +(\d+|-) +(\S.*)$", re.MULTILINE)
 
     def test_options_are_those_of_the_table(self):
         """The help has each option with its range, its number where it isn't given, and its commands, as the cases have them."""
         told = {}
         for name, least, most, default, commands in self.ROW.findall(run(f"{TOP}/cubed", "help").stdout.decode()):
-            told[name] = (int(least), int(most), int(default), sorted(commands.split(", ")))
+            told[name] = (int(least), int(most), None if default == "-" else int(default), sorted(commands.split(", ")))
         table = {name: (*row[:3], sorted(row[3])) for name, row in word_cases.OPTIONS.items()}
         # That of the script itself.
         self.assertEqual(told.pop("progress"), (0, 1, 0, ["resume", "run"]))
@@ -277,7 +277,7 @@ class Explain(unittest.TestCase):
         self.assertEqual(len(re.findall(r"^error", self.explain("error 6 which=2 count=300000"), re.M)), 1)
 
     def test_each_answer_has_a_row_and_points_nowhere(self):
-        for number in (*range(19), 70, 130, 137, 143):
+        for number in (*range(19), 20, 21, 70, 130, 137, 143):
             text = self.explain(str(number))
             self.assertNotRegex(re.sub("above the k-th|above, or", "", text), r"\b(above|below)\b")
         self.assertRegex(self.explain("9"), r"cause: perhaps a run that was stopped")

@@ -12,25 +12,29 @@ import sys
 
 from zarr_store import NAME, shown
 
+PLANS = ("plan", "run", "begin", "part", "resume", "drop", "demo")
 # Each option: the least and the most number, the number where it isn't given, and the commands that
 # take it.
 OPTIONS = {
-    "allowed-mem": (0, 2**40, 200_000_000, ("plan", "run", "resume", "drop", "demo")),
-    "reserved-mem": (0, 2**40, 0, ("plan", "run", "resume", "drop", "demo")),
-    "split-every": (2, 64, 4, ("plan", "run", "resume", "drop", "demo")),
+    "allowed-mem": (0, 2**40, 200_000_000, PLANS),
+    "reserved-mem": (0, 2**40, 0, PLANS),
+    "split-every": (2, 64, 4, PLANS),
     "workers": (1, 64, 1, ("run", "resume", "demo")),
-    "retries": (0, 8, 2, ("run", "resume", "drop", "load", "check", "print", "demo")),
+    "retries": (0, 8, 2, ("run", "begin", "part", "resume", "drop", "load", "check", "print", "demo")),
     "backups": (0, 1, 0, ("run", "resume", "demo")),
-    "sync": (0, 1, 1, ("run", "resume", "load", "demo")),
+    "sync": (0, 1, 1, ("run", "begin", "part", "resume", "load", "demo")),
+    "op": (0, 2**64 - 1, None, ("part",)),
+    "from": (0, 2**64 - 1, None, ("part",)),
+    "to": (0, 2**64 - 1, None, ("part",)),
     "progress": (0, 1, 0, ("run", "resume")),
 }
-COMMANDS = ("run", "resume", "drop", "plan", "load", "check", "print", "demo")
+COMMANDS = ("run", "begin", "part", "resume", "drop", "plan", "load", "check", "print", "demo")
 # The script's own commands, which aren't the program's.
 OTHERS = ("status", "remove", "explain")
 # What stands behind an option's name alone.
 POSITIONAL = {"print": "the name of an array", "demo": "a size from 1 to 2048"}
-# Options that a command must have.
-REQUIRED = {}
+# Options that a command must have: they have no number where they aren't given.
+REQUIRED = {"part": [name for name, row in OPTIONS.items() if row[2] is None]}
 NUMBER = re.compile(r"\+?[0-9]+\Z", re.ASCII)
 UNITS = {"": 1, "k": 10**3, "m": 10**6, "g": 10**9, "t": 10**12, "ki": 2**10, "mi": 2**20,
          "gi": 2**30, "ti": 2**40}
