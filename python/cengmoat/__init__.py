@@ -11,14 +11,14 @@ array([ 1,  3,  5,  7,  9, 11], dtype=int32)
 from __future__ import annotations
 
 import os
-from typing import Any, Optional, Union
+from typing import Any, Mapping, Optional, Union
 
 from . import array_api
 from ._array import Array
 from ._dtypes import NDArray
 from .errors import (
-    BadChunk, BadExpression, BadLoad, BadMetadata, BadType, BadWords, CengmoatError, Exists, Locked, NoArray, NoMemory, NoPlan,
-    NoProgram, NotRemoved, OtherPlan, OverLimit, OverMemory, ReadFault, Stale, Stopped, StoreFailed, TaskFailed, Unequal, Unfinished, WriteFault,
+    BadChunk, BadExpression, BadLoad, BadMetadata, BadPart, BadType, BadWords, CengmoatError, Exists, Locked, NoArray, NoMemory, NoPlan,
+    NoProgram, NotReady, NotRemoved, OtherPlan, OverLimit, OverMemory, ReadFault, Stale, Stopped, StoreFailed, TaskFailed, Unequal, Unfinished, WriteFault,
 )
 from ._plans import Operation, Plan, Report
 from ._running import compute_node
@@ -28,8 +28,8 @@ from ._store import Store
 __version__ = "0.1.0"
 
 __all__ = [
-    "Array", "ArrayStatus", "BadChunk", "BadExpression", "BadLoad", "BadMetadata", "BadType", "BadWords", "CengmoatError", "Exists",
-    "Locked", "NoArray", "NoMemory", "NoPlan", "NoProgram", "NotRemoved", "Operation", "OtherPlan", "OverLimit", "OverMemory", "Plan", "ReadFault",
+    "Array", "ArrayStatus", "BadChunk", "BadExpression", "BadLoad", "BadMetadata", "BadPart", "BadType", "BadWords", "CengmoatError", "Exists",
+    "Locked", "NoArray", "NoMemory", "NoPlan", "NoProgram", "NotReady", "NotRemoved", "Operation", "OtherPlan", "OverLimit", "OverMemory", "Plan", "ReadFault",
     "Report", "Stale", "Status", "Stopped", "Store", "StoreFailed", "TaskFailed", "Unequal", "Unfinished", "WriteFault", "array_api", "compute",
     "from_zarr", "to_zarr",
 ]
@@ -58,7 +58,7 @@ def from_zarr(folder: Union[str, os.PathLike[str]], name: str, *, unfinished: bo
 
 
 def to_zarr(x: Array, name: str, into: Optional[Store] = None, *, progress: Optional[bool] = None, resume: bool = False,
-            keep: bool = False, explain: bool = False) -> Array:
+            keep: bool = False, explain: bool = False, executor: Any = None, paths: Optional[Mapping[str, str]] = None) -> Array:
     """Compute an array, store it under a name, and return it as a stored array.
 
     Parameters
@@ -77,6 +77,11 @@ def to_zarr(x: Array, name: str, into: Optional[Store] = None, *, progress: Opti
         Whether what was stored on the way to the result stays beside it. Else it is removed at the end, and the record stays.
     explain : bool
         Whether the plan is printed before: what is read, stored, and computed within the tasks of others, and the memory.
+    executor : object, optional
+        Has `submit(f, *args)`, whose futures have `result()`: a pool of `concurrent.futures`, a client of dask.distributed, and others.
+        Parts of the run are handed to it, each some tasks of one operation.
+    paths : mapping from str to str, optional
+        Heads of the paths of the folder and of the program here, and what they are on the executor's machines.
 
     Raises
     ------
@@ -93,7 +98,7 @@ def to_zarr(x: Array, name: str, into: Optional[Store] = None, *, progress: Opti
     """
     if not isinstance(x, Array):
         raise TypeError(f"to_zarr takes a lazy array, and not {type(x).__name__}: store.save stores an array in memory")
-    return x.store(name, into, progress=progress, resume=resume, keep=keep, explain=explain)
+    return x.store(name, into, progress=progress, resume=resume, keep=keep, explain=explain, executor=executor, paths=paths)
 
 
 def compute(*arrays: Array, store: Optional[Store] = None, progress: Optional[bool] = None, explain: bool = False) -> tuple[NDArray, ...]:

@@ -2,7 +2,7 @@
 from __future__ import annotations
 
 from types import ModuleType
-from typing import TYPE_CHECKING, Any, Iterator, Literal, Optional, Union, overload
+from typing import TYPE_CHECKING, Any, Iterator, Literal, Mapping, Optional, Union, overload
 
 from . import _build as build, _views as views
 from ._collection import Collection
@@ -276,10 +276,11 @@ class Array(Refused, Collection, Operators):
         return compute_node(self.node, store, progress, explain)
 
     def store(self, name: str, into: Optional[Store] = None, *, progress: Optional[bool] = None, resume: bool = False,
-              keep: bool = False, explain: bool = False) -> Array:
+              keep: bool = False, explain: bool = False, executor: Any = None, paths: Optional[Mapping[str, str]] = None) -> Array:
         """Compute the array, store it under a name, and return it as a stored array; see `cengmoat.to_zarr`."""
         from ._running import store_node
-        return Array(store_node(self.node, name, into, progress, resume, keep, explain))
+        return Array(store_node(self.node, name, into, progress, resume, keep, explain,
+                                executor, paths))
 
     def check(self, name: str, *, store: Optional[Store] = None) -> int:
         """Compare the stored array of a name with what this expression means, and return the count of its elements.

@@ -69,7 +69,13 @@ class Bar:
 
     def show(self, stored: int) -> None:
         """Show the bar for a count of stored chunks."""
-        tasks, nbytes = self._done(stored)
+        self._show(*self._done(stored))
+
+    def show_tasks(self, tasks: int) -> None:
+        """Show the bar for a count of tasks that are done, of whichever operations."""
+        self._show(tasks, self.plan.nbytes * tasks // max(1, self.plan.tasks))
+
+    def _show(self, tasks: int, nbytes: int) -> None:
         rate = nbytes / max(1e-9, time.monotonic() - self.began)
         said = f"{bytes_text(nbytes)} of {bytes_text(self.plan.nbytes)}, {bytes_text(int(rate))}/s"
         if self.bar is not None:

@@ -4,9 +4,10 @@ from __future__ import annotations
 import contextlib
 import json
 import os
+import re
 import tempfile
 from dataclasses import replace
-from typing import TYPE_CHECKING, Iterator, Optional
+from typing import TYPE_CHECKING, Any, Iterator, Mapping, Optional
 
 from ._dtypes import NDArray
 from .errors import BadExpression, NoArray, OtherPlan, OverMemory, Stale
@@ -19,7 +20,9 @@ from ._locks import locked
 from ._metadata import MOST_TEXT, Metadata
 from ._names import check_free_name, check_name, is_own, metadata_key, record_key
 from ._nodes import MOST_NODES, Graph, Node, expression
+from ._offers import offers_words
 from ._opening import at_most, read_regular
+from ._parts import Engine, read_steps
 from ._plans import Plan, Report, read_plan, read_report
 from ._program import call_program
 from ._progress import Bar, is_wanted
@@ -188,6 +191,30 @@ def _run(store: Store, graph: Graph, name: str, lock: int, progress: Optional[bo
     return store.report
 
 
+def _run_parts(store: Store, graph: Graph, name: str, progress: Optional[bool], goes_on: bool, executor: Any, paths: Mapping[str, str]) -> None:
+    """Begin a run, or go on with one, and hand its parts to an executor; what is missing then is for `resume`.
+
+    Raises
+    ------
+    NotImplementedError
+        Where the program has no parts.
+    """
+    if not offers_words(store.program, "begin"):
+        raise NotImplementedError("the program has no parts of runs, so executor= isn't for it: store(..) without it runs on this machine")
+    text = graph.text(name)
+    with _advised(store, graph, text), with_cause(store.folder, name, max(node.chunk_bytes for node in graph.nodes), graph.inputs):
+        said = call_program(store.words("plan" if goes_on else "begin"), text, expression_of=graph.expression)
+        bar, is_done = None, False
+        if is_wanted(progress):
+            bar = Bar(store.folder, name, read_plan(re.sub(r" reads=[\d,]*$", "", said, flags=re.M), graph, store.allowed_mem, store.reserved_mem), name)
+        try:
+            Engine(store, graph, name, executor, paths, (lambda tasks: None) if bar is None else bar.show_tasks).run(read_steps(said))
+            is_done = True
+        finally:
+            if bar is not None:
+                bar.close(is_done)
+
+
 def _check_record(store: Store, graph: Graph, name: str) -> None:
     """Refuse the record of another plan, by OtherPlan."""
     key = record_key(name)
@@ -207,7 +234,7 @@ def _check_record(store: Store, graph: Graph, name: str) -> None:
 
 
 def store_node(node: Node, name: str, store: Optional[Store], progress: Optional[bool], resume: bool, keep: bool,
-               explain: bool = False) -> Node:
+               explain: bool = False, executor: Any = None, paths: Optional[Mapping[str, str]] = None) -> Node:
     """Store an expression under a name, and return the stored array's node."""
     check_free_name(name)
     found = store_of(node, store)
@@ -221,6 +248,9 @@ def store_node(node: Node, name: str, store: Optional[Store], progress: Optional
             _check_record(found, graph, name)
         if not goes_on or not is_finished(found.folder, name):
             with memory_stored(found.folder, graph, lock):
+                if executor is not None:
+                    _run_parts(found, graph, name, progress, goes_on, executor, paths or {})
+                    goes_on = True
                 _run(found, graph, name, lock.descriptor, progress, "resume" if goes_on else "run")
         _label(found.folder, name, node)
         if not keep:

@@ -188,6 +188,22 @@ class BadLoad(CengmoatError):
     code: int
 
 
+class BadPart(CengmoatError):
+    """20: a part isn't one of the operation. Fields: op, tasks."""
+
+    status, fields = 20, ("op", "tasks")
+    op: int
+    tasks: int
+
+
+class NotReady(CengmoatError):
+    """21: a task of a part lacks a chunk that it reads. Fields: op, task."""
+
+    status, fields = 21, ("op", "task")
+    op: int
+    task: int
+
+
 class NoMemory(CengmoatError, MemoryError):
     """70: the system had no memory to give."""
 
@@ -231,7 +247,7 @@ class Locked(CengmoatError):
 
 BY_STATUS: dict[int, type[CengmoatError]] = {
     kind.status: kind for kind in (BadWords, BadExpression, BadType, OverMemory, OverLimit, BadMetadata, NoArray, Exists, TaskFailed,
-                                   ReadFault, WriteFault, BadChunk, OtherPlan, NoPlan, StoreFailed, Unequal, BadLoad, NoMemory)
+                                   ReadFault, WriteFault, BadChunk, OtherPlan, NoPlan, StoreFailed, Unequal, BadLoad, BadPart, NotReady, NoMemory)
     if kind.status is not None}
 # Fields that are texts; the others are numbers.
 TEXTS = ("name", "key")

@@ -20,7 +20,7 @@ LINES = {
     11: ("error 11", {}), 12: ("error 12", {}), 13: ("error 13 key=a/c/1 got=15 want=16", {"key": "a/c/1", "got": 15, "want": 16}),
     14: ("error 14 place=12", {"place": 12}), 15: ("error 15", {}), 16: ("error 16 key=y/zarr.json", {"key": "y/zarr.json"}),
     17: ("error 17 place=4 stored=56 plain=55", {"place": 4, "stored": 56, "plain": 55}), 18: ("error 18 code=5", {"code": 5}),
-    70: ("error 70", {}),
+    20: ("error 20 op=2 tasks=7", {"op": 2, "tasks": 7}), 21: ("error 21 op=1 task=3", {"op": 1, "task": 3}), 70: ("error 70", {}),
 }
 
 
