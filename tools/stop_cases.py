@@ -337,7 +337,7 @@ def text_of_case(case, dumped):
     for name in ("words", "input", "leaves"):
         found = [dumped(step[name]) for step in case["steps"] if name in step]
         if len(found) == len(case["steps"]):
-            said[name] = max(set(found), key=found.count)
+            said[name] = max(dict.fromkeys(found), key=found.count)
     steps = [{name: value for name, value in step.items() if said.get(name) != dumped(value)} for step in case["steps"]]
     shared = "".join(f' {dumped(name)}: {value},\n' for name, value in said.items())
     return f'{{"name": {dumped(case["name"])},\n{shared} "steps": {tables.joined(map(dumped, steps), "  ")}}}'
