@@ -30,7 +30,7 @@ EXPRESSIONS = {
     "turned": [{"id": "s", "op": "multiply", "args": ["a", "b"]}, {"id": "p", "op": "permute_dims", "args": ["s"], "axes": [1, 0]}],
 }
 SHAPE, CHUNK = [96, 96], [16, 96]
-WORDS = ["--allowed-mem", "20000", "--split-every", "2"]
+WORDS = ["--allowed-mem", "40000", "--split-every", "2"]
 TRIES, EARLY = 400, 21
 
 
