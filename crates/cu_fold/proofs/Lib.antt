@@ -1,4 +1,3 @@
-pub mod Buffers
 pub mod Chains
 pub mod Groups
 pub mod Merged
@@ -7,4 +6,3 @@ pub mod OneLevel
 pub mod Runs
 pub mod SetElements
 pub mod Totals
-pub mod Taking

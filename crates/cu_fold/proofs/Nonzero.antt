@@ -14,8 +14,8 @@ use Rattle.cu_num.proofs.Wrapped.{wrapped_in_range, InRange-wrapped}
 use Rattle.cu_num.proofs.ElementBytes.{written_at, bytes_at-written_at_same, length-element_bytes}
 use Rattle.cu_reduce.specs.Running.{running}
 use Rattle.cu_reduce.proofs.Combined.{test_of}
-use Rattle.cu_fold.specs.Taken.{HasTaken}
-use Rattle.cu_fold.proofs.Totals.{truth_wrapped}
+use Rattle.cu_take.specs.Taken.{HasTaken}
+use Rattle.cu_take.proofs.Truths.{truth_wrapped}
 
 pub or_none : (b : Test) → (b || false) ≡ b
 or_none true = refl

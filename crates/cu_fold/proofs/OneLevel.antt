@@ -9,9 +9,9 @@ use Rattle.cu_num.specs.declared.layout.Endian.TheVariants.{Little}
 use Rattle.cu_num.specs.declared.folds.FoldKind.{FoldKind}
 use Rattle.cu_fold.specs.declared.levels.Level.{Level}
 use Rattle.cu_fold.specs.Levels.{extent, results, chained, moved, sources}
-use Rattle.cu_fold.specs.Taken.{HasTaken, elements_at_places}
-use Rattle.cu_fold.proofs.Buffers.{element_at_drop, bytes_at_drop, part_inside}
-use Rattle.cu_fold.proofs.Taking.{takes_more, takes_same}
+use Rattle.cu_take.specs.Taken.{HasTaken, elements_at_places}
+use Rattle.cu_take.proofs.Buffers.{element_at_drop, bytes_at_drop, part_inside}
+use Rattle.cu_take.proofs.Taking.{takes_more, takes_same}
 
 -- ---- one level more
 

@@ -6,7 +6,7 @@ use Rattle.cu_num.specs.declared.types.Dtype.{Dtype}
 use Rattle.cu_num.specs.declared.folds.FoldKind.{FoldKind}
 use Rattle.cu_fold.specs.declared.levels.Level.{Level}
 use Rattle.cu_fold.specs.Levels.{chained, moved, results, sources}
-use Rattle.cu_fold.specs.Taken.{HasTaken, elements_at_places}
+use Rattle.cu_take.specs.Taken.{HasTaken, elements_at_places}
 use Rattle.cu_fold.proofs.Chains.{chained_single}
 
 pub run_results : (kind : FoldKind) (from acc : Dtype) (level : Level) (input old new : List ℕ) → level.is_reduced ≡ true → HasTaken kind acc old new 0 (elements_at_places from input (range_with_len 0 level.size))

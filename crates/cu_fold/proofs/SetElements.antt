@@ -20,7 +20,7 @@ use Rattle.cu_num.proofs.Wrapped.{by_class, is_wrapping, wrapped_in_range}
 use Rattle.cu_reduce.proofs.Folding.{zero_in_range}
 use Rattle.cu_reduce.proofs.Ranges.{range_append}
 use Rattle.cu_fold.specs.SetBytes.{is_set}
-use Rattle.cu_fold.specs.Taken.{elements_at_places}
+use Rattle.cu_take.specs.Taken.{elements_at_places}
 use Rattle.cu_fold.proofs.OneLevel.{elements_append}
 use Rattle.cu_fold.proofs.Nonzero.{or_none}
 

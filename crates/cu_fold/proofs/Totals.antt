@@ -1,10 +1,7 @@
 -- What a reduction makes of the elements of a group.
-use Rattle.std.proofs.Common.{◌≡◌, ℕ, ℤ, zero, suc, ◌<◌, List, [], ◌∷◌, map, length, refl, sym, ap, ◌∙◌, subst, arith, All, true, false}
+use Rattle.std.proofs.Common.{◌≡◌, ℕ, zero, suc, ◌<◌, List, [], ◌∷◌, map, length, refl, sym, ap, ◌∙◌, arith, All}
 use Rattle.std.specs.Prelude.{Bool as Test}
-use Rattle.cu_num.specs.Dtype.{InRange}
 use Rattle.cu_num.specs.Wrap.{wrapped}
-use Rattle.cu_num.specs.Scalar.{truth_number}
-use Rattle.cu_num.specs.declared.types.Dtype.TheVariants.{Bool}
 use Rattle.cu_num.specs.Element.{element_at}
 use Rattle.cu_num.specs.declared.types.Dtype.{Dtype}
 use Rattle.cu_num.specs.declared.layout.Endian.TheVariants.{Little}
@@ -20,14 +17,10 @@ use Rattle.cu_reduce.specs.Running.{running, IsEnough}
 use Rattle.cu_reduce.proofs.Folding.{running_unit, unit_in_range}
 use Rattle.cu_reduce.proofs.Ranges.{map-map}
 use Rattle.cu_fold.specs.Levels.{sources, levels_from}
-use Rattle.cu_fold.specs.Taken.{HasTaken, elements_at_places}
-use Rattle.cu_fold.proofs.Buffers.{bytes_wrapped}
+use Rattle.cu_take.specs.Taken.{HasTaken, elements_at_places}
+use Rattle.cu_take.proofs.Buffers.{bytes_wrapped}
+use Rattle.cu_take.proofs.Taking.{taken_element}
 use Rattle.cu_fold.proofs.Groups.{group_sources, some_sources}
-
-pub taken_element : (kind : FoldKind) (t acc : Dtype) (y : ℤ) → Accumulates kind t acc → InRange t y → IsTaken kind acc y
-taken_element k.Min t acc y a h = let P : Dtype → Type 0 = λ d. InRange d y in subst P (sym a) h
-taken_element k.Max t acc y a h = let P : Dtype → Type 0 = λ d. InRange d y in subst P (sym a) h
-taken_element kind t acc y a h = tt
 
 all_taken : (kind : FoldKind) (t acc : Dtype) (bytes ps : List ℕ) → Accumulates kind t acc → All (IsTaken kind acc) (elements_at_places t bytes ps)
 all_taken kind t acc bytes [] a zero d h = absurd (omega arith)
@@ -59,13 +52,3 @@ group_total kind t acc p ns idx input old new a enough inside has takes =
     let same : xs ≡ map (λ i. element_at Little t input (place_of ns i)) (group_indices (groups_from p 0 ns) ns idx) =
     ap (elements_at_places t input) (sym (group_sources p 0 ns idx inside)) ∙ map-map (λ p. element_at Little t input p) (place_of ns) (group_indices (groups_from p 0 ns) ns idx) in
     takes.number (unit_of kind acc) (unit_in_range kind acc) has ∙ bytes_wrapped acc (running kind acc (unit_of kind acc) xs) (fold_of kind xs) own ∙ ap (λ ys. Rattle.cu_num.specs.Element.element_bytes Little acc (fold_of kind ys)) same
-
--- ---- truth values
-
-truth_bool : (b : Test) → truth_number b ≡ wrapped Bool (truth_number b)
-unfolding wrapped
-truth_bool true = refl
-truth_bool false = refl
-
-pub truth_wrapped : (acc : Dtype) (b : Test) → acc ≡ Bool → truth_number b ≡ wrapped acc (truth_number b)
-truth_wrapped acc b e = truth_bool b ∙ ap (λ t. wrapped t (truth_number b)) (sym e)

@@ -3,12 +3,13 @@ ghost use Rattle.std.specs.Prelude.{◌≡◌, ◌*◌, ◌≤◌, ◌<◌, ℕ,
 ghost use Rattle.cu_num.specs.Dtype.{size_of};
 ghost use Rattle.cu_reduce.specs.Kinds.{Accumulates};
 ghost use Rattle.cu_fold.specs.Levels.{results};
-ghost use Rattle.cu_fold.specs.Taken.{HasTaken, TakesAll, elements_at_places};
+ghost use Rattle.cu_take.specs.Taken.{HasTaken, elements_at_places};
+ghost use Rattle.cu_fold.specs.Taken.{TakesAll};
 
 use crate::leaves::{take_row, take_run};
 use crate::levels::Level;
-use crate::steps::Fold;
 use crate::truths::take_any;
+use crate::types::Fold;
 use cu_num::{Dtype, FoldKind};
 
 /// Takes the elements of a region of one level into its results.

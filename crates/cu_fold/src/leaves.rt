@@ -3,10 +3,10 @@ ghost use Rattle.std.specs.Prelude.{◌≡◌, ◌*◌, ◌≤◌, ◌<◌, ℕ,
 ghost use Rattle.std.specs.List.{range_with_len};
 ghost use Rattle.cu_num.specs.Dtype.{size_of};
 ghost use Rattle.cu_reduce.specs.Kinds.{Accumulates};
-ghost use Rattle.cu_fold.specs.Taken.{HasTaken, elements_at_places};
+ghost use Rattle.cu_take.specs.Taken.{HasTaken, elements_at_places};
 
-use crate::steps::take_one;
 use cu_num::{Dtype, FoldKind, size};
+use cu_take::take_one;
 
 /// Takes the first elements of `input` into as many results, each into its own.
 #[inline(always)]

@@ -5,11 +5,10 @@ mod last;
 mod leaves;
 mod levels;
 mod regions;
-mod steps;
 mod truths;
+mod types;
 mod walks;
 
 pub use cu_pairs::{pair_fold, pair_merge};
 pub use cu_product::{MulDims, mul_block};
-pub use regions::{fill, fold_region, merge_region};
-pub use steps::take_one;
+pub use regions::{fold_region, merge_region};

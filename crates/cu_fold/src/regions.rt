@@ -1,4 +1,4 @@
-ghost use Rattle.std.specs.Prelude.{◌≡◌, ◌==◌, ◌+◌, ◌*◌, ◌≤◌, ◌<◌, ℕ, List, length, map};
+ghost use Rattle.std.specs.Prelude.{◌≡◌, ◌==◌, ◌*◌, ◌<◌, ℕ, List, length, map};
 ghost use Rattle.cu_num.specs.Dtype.{size_of};
 ghost use Rattle.cu_num.specs.Element.{element_at};
 ghost use Rattle.cu_num.specs.declared.layout.Endian.TheVariants.{Little};
@@ -6,45 +6,17 @@ ghost use Rattle.cu_shape.specs.Index.{product, place_of, IsInside};
 ghost use Rattle.cu_pull.specs.Pull.{has_axis};
 ghost use Rattle.cu_reduce.specs.Folds.{fold_of};
 ghost use Rattle.cu_reduce.specs.Groups.{groups_of, group_counts, group_indices};
-ghost use Rattle.cu_reduce.specs.Kinds.{Accumulates, HasEnough, unit_of};
+ghost use Rattle.cu_reduce.specs.Kinds.{Accumulates, HasEnough};
 ghost use Rattle.cu_reduce.specs.Numbers.{HasNumber};
 ghost use Rattle.cu_fold.specs.Reduced.{is_folded};
 
 use crate::levels::{Reduced, levels_of};
-use crate::steps::Fold;
+use crate::types::Fold;
 use crate::walks::take_in;
-use cu_num::{Dtype, FoldKind, save, size};
+use cu_num::{Dtype, FoldKind, size};
 use cu_pull::Axes;
-use cu_reduce::unit;
 use cu_shape::Dims;
-
-/// Writes a number as each element, of type `t`.
-#[inline(always)]
-fn fill_with(t: Dtype, x: i128, out: &mut [u8])
-    ensures { (q : ℕ) → q * size_of t + size_of t ≤ length out.old → HasNumber t out.new q x }
-{
-    for at in 0..out.len() / size(t) as usize {
-        save(t, x, out, at);
-    }
-}
-
-/// Writes the unit of a reduction as each result, with loops for each type.
-pub fn fill(kind: FoldKind, acc: Dtype, out: &mut [u8])
-    ensures { (q : ℕ) → q * size_of acc + size_of acc ≤ length out.old → HasNumber acc out.new q (unit_of kind acc) }
-{
-    let unit = unit(kind, acc);
-    match acc {
-        Dtype::Bool => fill_with(Dtype::Bool, unit, out),
-        Dtype::Int8 => fill_with(Dtype::Int8, unit, out),
-        Dtype::Int16 => fill_with(Dtype::Int16, unit, out),
-        Dtype::Int32 => fill_with(Dtype::Int32, unit, out),
-        Dtype::Int64 => fill_with(Dtype::Int64, unit, out),
-        Dtype::Uint8 => fill_with(Dtype::Uint8, unit, out),
-        Dtype::Uint16 => fill_with(Dtype::Uint16, unit, out),
-        Dtype::Uint32 => fill_with(Dtype::Uint32, unit, out),
-        Dtype::Uint64 => fill_with(Dtype::Uint64, unit, out),
-    }
-}
+use cu_take::fill;
 
 /// The reduction of a region along these axes.
 fn reduce(fold: Fold, reduced: Reduced, dims: &Dims, input: &[u8], out: &mut [u8])

@@ -3,7 +3,7 @@ ghost use Rattle.std.specs.Prelude.{◌≡◌, ◌*◌, ◌≤◌, length};
 ghost use Rattle.std.specs.List.{range_with_len, list_any};
 ghost use Rattle.cu_num.specs.Dtype.{size_of};
 ghost use Rattle.cu_fold.specs.SetBytes.{is_set};
-ghost use Rattle.cu_fold.specs.Taken.{HasTaken, elements_at_places};
+ghost use Rattle.cu_take.specs.Taken.{HasTaken, elements_at_places};
 
 use cu_num::{Dtype, FoldKind, save, size};
 

@@ -7,8 +7,9 @@ ghost use Rattle.cu_fold.specs.Taken.{TakesAll};
 
 use crate::last::take_last;
 use crate::levels::Level;
-use crate::steps::{Fold, take_one};
+use crate::types::Fold;
 use cu_num::size;
+use cu_take::take_one;
 
 /// The bytes after so many parts of this width.
 #[inline]

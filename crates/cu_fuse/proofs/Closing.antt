@@ -22,6 +22,7 @@ module _ (f : ℕ → ℕ) (old new : List ArrayInfo) (Kept : ℕ → Type 0) (k
     reads = All-weaker Kept (HasLayoutOf f old new) kept (reads_of op) reads;
     writes = All-weaker Kept (HasLayoutOf f old new) kept (writes_of op) writes;
     once = λ a b there here. once a b (All-contains Kept (writes_of op) a writes there) (All-contains Kept (writes_of op) b writes here);
+    read_once = λ a b there here. once a b (All-contains Kept (reads_of op) a reads there) (All-contains Kept (reads_of op) b reads here);
   }
 
   module _ (at other : Elements) (same : (a : ℕ) → Kept a → other (f a) ≡ at a) where

@@ -10,11 +10,11 @@ use Rattle.cu_reduce.specs.Kinds.{Accumulates, IsTaken, unit_of}
 use Rattle.cu_reduce.specs.Numbers.{HasNumber}
 use Rattle.cu_reduce.specs.Running.{running}
 use Rattle.cu_reduce.proofs.Folding.{unit_in_range}
-use Rattle.cu_fold.specs.Taken.{HasTaken, elements_at_places}
-use Rattle.cu_fold.proofs.Buffers.{bytes_wrapped}
-use Rattle.cu_fold.proofs.Totals.{taken_element}
+use Rattle.cu_take.specs.Taken.{HasTaken, elements_at_places}
+use Rattle.cu_take.proofs.Buffers.{bytes_wrapped}
+use Rattle.cu_take.proofs.Taking.{taken_element}
 use Rattle.cu_reduce.specs.Labels.{group_fold}
-use Rattle.cu_group.proofs.Members.{group_running}
+use Rattle.cu_along.proofs.Members.{group_running}
 
 all_taken : (kind : FoldKind) (t acc : Dtype) (bytes ps : List ℕ) → Accumulates kind t acc
     → All (IsTaken kind acc) (elements_at_places t bytes ps)

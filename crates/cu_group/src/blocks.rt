@@ -4,12 +4,12 @@ ghost use Rattle.cu_num.specs.Dtype.{size_of};
 ghost use Rattle.cu_num.specs.Element.{element_at};
 ghost use Rattle.cu_num.specs.declared.layout.Endian.TheVariants.{Little};
 ghost use Rattle.cu_reduce.specs.Kinds.{Accumulates};
-ghost use Rattle.cu_fold.specs.Taken.{HasTaken, elements_at_places};
+ghost use Rattle.cu_take.specs.Taken.{HasTaken, elements_at_places};
 ghost use Rattle.cu_group.specs.Regions.{label_in, row_sources, HasGroups};
 
 use crate::rows::{Sizes, take_rows};
-use cu_fold::fill;
 use cu_num::{Dtype, FoldKind};
+use cu_take::fill;
 
 /// Takes the rows of all blocks into the rows of their groups.
 #[inline(always)]

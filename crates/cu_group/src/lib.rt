@@ -1,4 +1,4 @@
-//! Grouped reductions by labels, and their laws.
+//! Grouped reductions by labels, and the law of their sums.
 #![tactic(auto)]
 
 mod blocks;
@@ -7,5 +7,5 @@ mod regions;
 mod rows;
 mod types;
 
-pub use laws::{group_law, group_merge_law};
+pub use laws::group_law;
 pub use regions::group_region;

@@ -4,11 +4,11 @@ ghost use Rattle.cu_num.specs.Dtype.{size_of};
 ghost use Rattle.cu_num.specs.Element.{bytes_at};
 ghost use Rattle.cu_reduce.specs.Kinds.{Accumulates};
 ghost use Rattle.cu_reduce.specs.Labels.{is_label};
-ghost use Rattle.cu_fold.specs.Taken.{HasTaken, elements_at_places};
+ghost use Rattle.cu_take.specs.Taken.{HasTaken, elements_at_places};
 ghost use Rattle.cu_group.specs.Regions.{IsOutside, label_in, row_sources};
 
-use cu_fold::take_one;
 use cu_num::{Dtype, FoldKind, load};
+use cu_take::take_one;
 
 /// How many blocks of rows a region has, how many rows a block has in the region and in the result,
 /// and how many elements each row has.

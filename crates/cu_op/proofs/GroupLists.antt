@@ -10,6 +10,7 @@ use Rattle.cu_shape.proofs.Rounded.{counts_below}
 use Rattle.cu_grid.specs.Grid.{RegularGrid, IsGrid}
 use Rattle.cu_grid.proofs.Regions.{inside-at}
 use Rattle.cu_reduce.specs.Groups.{Groups, groups_from, groups_of, group_counts, group_lo, group_hi}
+use Rattle.cu_op.specs.Grouping.{label_chunks}
 use Rattle.cu_op.specs.Matrix.{left_inner, inner_chunk_count}
 use Rattle.cu_op.specs.Partial.{AreGroupSizes, count_on, start_on, end_on}
 use Rattle.cu_op.proofs.Grouped.{begins_on}
@@ -177,13 +178,8 @@ pub record AreSmallParts (n c first end : ℕ) : Type 0 where
   pub starts : first * c < 2 ^ 64
   pub ends : end * c < 2 ^ 64
 
-pub small_parts : (g : RegularGrid) (first end : ℕ) → IsGrid g → 1 ≤ length g.shape → first < max 1 (inner_chunk_count g) → end ≤ max 1 (inner_chunk_count g) → AreSmallParts (left_inner g.shape) (left_inner g.chunk) first end
-small_parts g first end ok one p q =
-    let n = left_inner g.shape in
-    let c = left_inner g.chunk in
-    let n_small : n ≤ 2 ^ 56 = (let w = size_within g.shape (length g.shape - 1) (omega (arith, one)) in let few = ok.elements in omega (arith, w, few)) in
-    let c_small : c ≤ 2 ^ 40 = (let r = ok.ranks in (chunk_sizes g ok).small (length g.chunk - 1) 0 (omega (arith, one, r))) in
-    record { starts = (let b = begins_on n c first p in omega (arith, b, n_small)); ends = ends_small n c end q n_small c_small }
+parts_on : (n c first end : ℕ) → n ≤ 2 ^ 56 → c ≤ 2 ^ 40 → first < max 1 (div_ceil n c) → end ≤ max 1 (div_ceil n c) → AreSmallParts n c first end
+parts_on n c first end n_small c_small p q = record { starts = (let b = begins_on n c first p in omega (arith, b, n_small)); ends = ends_small n c end q n_small c_small }
   where
     ends_small : (n c h : ℕ) → h ≤ max 1 (div_ceil n c) → n ≤ 2 ^ 56 → c ≤ 2 ^ 40 → h * c < 2 ^ 64
     ends_small n c zero b p q = omega arith
@@ -191,3 +187,17 @@ small_parts g first end ok one p q =
         let e : h * c ≤ n = begins_on n c h b in
         let m : suc h * c ≡ h * c + c = omega arith in
         omega (arith, e, m, p, q)
+
+pub small_parts : (g : RegularGrid) (first end : ℕ) → IsGrid g → 1 ≤ length g.shape → first < max 1 (inner_chunk_count g) → end ≤ max 1 (inner_chunk_count g) → AreSmallParts (left_inner g.shape) (left_inner g.chunk) first end
+small_parts g first end ok one p q =
+    let n_small : left_inner g.shape ≤ 2 ^ 56 = (let w = size_within g.shape (length g.shape - 1) (omega (arith, one)) in let few = ok.elements in omega (arith, w, few)) in
+    let c_small : left_inner g.chunk ≤ 2 ^ 40 = (let r = ok.ranks in (chunk_sizes g ok).small (length g.chunk - 1) 0 (omega (arith, one, r))) in
+    parts_on (left_inner g.shape) (left_inner g.chunk) first end n_small c_small p q
+
+-- and the places of parts of any axis
+pub axis_parts : (g : RegularGrid) (axis first end : ℕ) → IsGrid g → axis < length g.shape → first < max 1 (label_chunks g axis) → end ≤ max 1 (label_chunks g axis)
+    → AreSmallParts (get_or g.shape axis 0) (get_or g.chunk axis 0) first end
+axis_parts g axis first end ok along p q =
+    let n_small : get_or g.shape axis 0 ≤ 2 ^ 56 = (let w = size_within g.shape axis along in let few = ok.elements in omega (arith, w, few)) in
+    let c_small : get_or g.chunk axis 0 ≤ 2 ^ 40 = (let r = ok.ranks in (chunk_sizes g ok).small axis 0 (omega (arith, along, r))) in
+    parts_on (get_or g.shape axis 0) (get_or g.chunk axis 0) first end n_small c_small p q

@@ -24,7 +24,7 @@ cons_same x y xs ys e f = cc
 -- ---- a region that is one chunk
 
 -- a box that has an index is the box of its quotients
-number_on : (n c w i : ℕ) → 0 < c → w * c ≤ i → i < min ((w + 1) * c) n → w ≡ i / c
+pub number_on : (n c w i : ℕ) → 0 < c → w * c ≤ i → i < min ((w + 1) * c) n → w ≡ i / c
 number_on n c w i positive lo hi =
     let a : i / c < w + 1 = div_below i c (w + 1) positive (omega arith) in
     let b : w ≤ i / c = le-div w i c positive lo in

@@ -7,6 +7,9 @@ pub mod Merge
 pub mod PairFold
 pub mod PairMerge
 pub mod Mul
+pub mod Carry
+pub mod Scan
+pub mod GroupFold
 use Rattle.cu_grid.specs.Counts.{chunk_lo, chunk_hi, IsWithin}
 use Rattle.cu_grid.specs.Grid.{IsGrid, IsCoordinate}
 use Rattle.cu_num.specs.Dtype.{InRange}
@@ -53,11 +56,12 @@ HasIndices k arrays lo hi = IsFilled (k.tasks arrays).shape lo hi
 abbrev pub IsTaskRegion : Kind → List ArrayInfo → List ℕ → List ℕ → Type 0
 IsTaskRegion k arrays lo hi = IsSpan (k.tasks arrays).shape (k.tasks arrays).chunk lo hi
 
--- its arrays have the same layouts under their new numbers, and no two that it writes get one number
+-- its arrays have the same layouts under their new numbers, and no two that it writes get one number, nor two that it reads
 pub record Keeps (f : ℕ → ℕ) (old new : List ArrayInfo) (k : Kind) : Type 0 where
   pub reads : All (HasLayoutOf f old new) k.reads
   pub writes : All (HasLayoutOf f old new) k.writes
   pub once : (a b : ℕ) → Contains k.writes a → Contains k.writes b → f a ≡ f b → a ≡ b
+  pub read_once : (a b : ℕ) → Contains k.reads a → Contains k.reads b → f a ≡ f b → a ≡ b
 
 -- over arrays with other numbers it reads and writes these, has the same value and as many tasks, fits, and needs as much
 pub record IsRenumbered (f : ℕ → ℕ) (k other : Kind) : Type 0 where

@@ -10,7 +10,7 @@ use Rattle.cu_num.specs.Wrap.{wrapped}
 use Rattle.cu_pull.specs.declared.axes.Axes.{Axes}
 use Rattle.cu_op.specs.declared.layout.ArrayInfo.{ArrayInfo}
 use Rattle.cu_op.specs.declared.operation.Op.{Op}
-use Rattle.cu_op.specs.declared.operation.Op.TheVariants.{Copy, Fold, Merge, PairFold, PairMerge, Mul, Map, Pull}
+use Rattle.cu_op.specs.declared.operation.Op.TheVariants.{Carry, Copy, Fold, Merge, PairFold, PairMerge, Mul, Map, Pull, Scan}
 use Rattle.cu_op.specs.Chunks.{cell, walk}
 use Rattle.cu_op.specs.Cells.{tasks_of}
 use Rattle.cu_op.specs.Nested.{IsNestedAlong}
@@ -365,3 +365,44 @@ squared = refl
 nothing_multiplied : input_cells (array Int32 (0 ∷ []) (3 ∷ []) ∷ array Int32 [] [] ∷ []) (Mul 0 0 1) 0 ≡ []
 unfolding array
 nothing_multiplied = refl
+
+-- ---- the prefix sums of 1, 2, 3, 4, 5 in chunks of one, with groups of two: the chunks' sums, merged twice, what is carried into each of
+-- these from the last to the first, and the scan
+unfoldable running : List ArrayInfo
+running =
+    array Int32 (5 ∷ []) (1 ∷ []) ∷ array Int64 (5 ∷ []) (1 ∷ []) ∷ array Int64 (3 ∷ []) (1 ∷ []) ∷ array Int64 (2 ∷ []) (1 ∷ [])
+    ∷ array Int64 (2 ∷ []) (1 ∷ []) ∷ array Int64 (3 ∷ []) (1 ∷ []) ∷ array Int64 (5 ∷ []) (1 ∷ []) ∷ array Int64 (5 ∷ []) (1 ∷ []) ∷ []
+
+unfoldable counted_up : Elements
+counted_up zero (i ∷ is) = Some (pos (suc i))
+counted_up a idx = None
+
+abbrev summing : List Op
+summing =
+    Fold Sum (axes_of 1) 0 1 ∷ Merge Sum 0 2 1 2 ∷ Merge Sum 0 2 2 3 ∷ Carry 0 2 3 None 4 ∷ Carry 0 2 2 (Some 4) 5 ∷ Carry 0 2 1 (Some 5) 6 ∷ Scan 0 0 (Some 6) 7 ∷ []
+
+running_rooms : map (projection running 0) summing ≡ 20 ∷ 32 ∷ 32 ∷ 40 ∷ 40 ∷ 40 ∷ 28 ∷ []
+unfolding running array
+running_rooms = refl
+
+running_sums : map (λ k. value_after summing running counted_up 7 (k ∷ [])) (0 ∷ 1 ∷ 2 ∷ 3 ∷ 4 ∷ []) ≡ Some (pos 1) ∷ Some (pos 3) ∷ Some (pos 6) ∷ Some (pos 10) ∷ Some (pos 15) ∷ []
+unfolding running array counted_up wrapped
+running_sums = refl
+
+-- the first place of a group has no sum before it there
+first_carried : input_cells running (Carry 0 2 1 (Some 5) 6) 2 ≡ cell 5 (1 ∷ []) ∷ []
+unfolding running array
+first_carried = refl
+
+next_carried : input_cells running (Carry 0 2 1 (Some 5) 6) 3 ≡ cell 1 (2 ∷ []) ∷ cell 5 (1 ∷ []) ∷ []
+unfolding running array
+next_carried = refl
+
+scanned : input_cells running (Scan 0 0 (Some 6) 7) 3 ≡ cell 0 (3 ∷ []) ∷ cell 6 (3 ∷ []) ∷ []
+unfolding running array
+scanned = refl
+
+-- what is read goes over the same chunks
+first_walked : read_chunks running (Carry 0 2 1 (Some 5) 6) 2 ≡ cell 5 (1 ∷ []) ∷ []
+unfolding running array
+first_walked = refl

@@ -1,16 +1,19 @@
 -- What is proved of the operations of a plan, each by its kind.
 use Rattle.cu_op.proofs.Kind.{Laws}
+use Rattle.cu_op.proofs.Kind.Carry.{carry_laws}
 use Rattle.cu_op.proofs.Kind.Copy.{copy_laws}
 use Rattle.cu_op.proofs.Kind.Fold.{fold_laws}
+use Rattle.cu_op.proofs.Kind.GroupFold.{group_fold_laws}
 use Rattle.cu_op.proofs.Kind.Map.{map_laws}
 use Rattle.cu_op.proofs.Kind.Merge.{merge_laws}
 use Rattle.cu_op.proofs.Kind.Mul.{mul_laws}
 use Rattle.cu_op.proofs.Kind.PairFold.{pair_fold_laws}
 use Rattle.cu_op.proofs.Kind.PairMerge.{pair_merge_laws}
 use Rattle.cu_op.proofs.Kind.Pull.{pull_laws}
+use Rattle.cu_op.proofs.Kind.Scan.{scan_laws}
 use Rattle.cu_op.specs.Kinds.{kind_of}
 use Rattle.cu_op.specs.declared.operation.Op.{Op}
-use Rattle.cu_op.specs.declared.operation.Op.TheVariants.{Copy, Fold, Map, Merge, Mul, PairFold, PairMerge, Pull}
+use Rattle.cu_op.specs.declared.operation.Op.TheVariants.{Carry, Copy, Fold, GroupFold, Map, Merge, Mul, PairFold, PairMerge, Pull, Scan}
 
 pub laws_of : (op : Op) → Laws (kind_of op)
 laws_of (Map kernel ins out) = map_laws kernel.code.items ins.items out
@@ -21,3 +24,6 @@ laws_of (Merge kind axis group source out) = merge_laws kind axis group source o
 laws_of (PairFold least axis source values out) = pair_fold_laws least axis source values out
 laws_of (PairMerge least axis group value_source place_source values out) = pair_merge_laws least axis group value_source place_source values out
 laws_of (Mul left right out) = mul_laws left right out
+laws_of (Carry axis group sums above out) = carry_laws axis group sums above out
+laws_of (Scan axis source carry out) = scan_laws axis source carry out
+laws_of (GroupFold kind axis groups source labels out) = group_fold_laws kind axis groups source labels out

@@ -1,4 +1,5 @@
 pub mod NewNumbers
+pub mod AlongAxis
 pub mod Alike
 pub mod Members
 pub mod KernelRanges
@@ -39,5 +40,7 @@ pub mod InputBoxes
 pub mod TaskInputs
 pub mod Makers
 pub mod Spellings
+pub mod ByLabels
 mod Examples
 mod KindExamples
+mod LabelExamples

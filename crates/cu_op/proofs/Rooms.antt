@@ -6,7 +6,7 @@ use Rattle.cu_op.specs.Layout.{IsArray}
 use Rattle.cu_op.specs.declared.layout.ArrayInfo.{ArrayInfo}
 use Rattle.cu_shape.specs.Counts.{largest}
 use Rattle.cu_shape.specs.Index.{product}
-use Rattle.std.proofs.Common.{ℕ, zero, suc, ◌<◌, List, [], ◌∷◌, length, map, All, arith, ◌≤◌, ◌*◌, ◌^◌}
+use Rattle.std.proofs.Common.{◌≡◌, ℕ, zero, suc, ◌+◌, ◌<◌, List, [], ◌∷◌, length, map, All, arith, ◌≤◌, ◌*◌, ◌^◌}
 use Rattle.std.proofs.Math.Nat.{mul-le-mul_right, mul-le-mul_left}
 use Rattle.std.proofs.lemmas.List.Elements.{All-head, All-tail}
 use Rattle.cu_num.specs.declared.types.Dtype.TheVariants as types
@@ -50,3 +50,11 @@ group_few group room g r =
     let a : group * room ≤ group * 2 ^ 44 = mul-le-mul_left group r in
     let b : group * 2 ^ 44 ≤ 65536 * 2 ^ 44 = mul-le-mul_right (2 ^ 44) g in
     omega (arith, a, b)
+
+-- and one more of them
+pub next_few : (group room : ℕ) → group ≤ 65536 → room ≤ 2 ^ 43 → (group + 1) * room ≤ 2 ^ 60
+next_few group room g r =
+    let a : group * room ≤ group * 2 ^ 43 = mul-le-mul_left group r in
+    let b : group * 2 ^ 43 ≤ 65536 * 2 ^ 43 = mul-le-mul_right (2 ^ 43) g in
+    let e : (group + 1) * room ≡ group * room + room = omega arith in
+    omega (arith, a, b, e)

@@ -42,7 +42,7 @@ HaveSame xs ys c = (Contains xs c) ↔ (Contains ys c)
 pub same_list : (xs ys : List Cell) (c : Cell) → xs ≡ ys → HaveSame xs ys c
 same_list xs ys c e = (λ h. subst (λ (zs : List Cell). Contains zs c) e h, λ h. subst (λ (zs : List Cell). Contains zs c) (sym e) h)
 
-same_more : (xs ys vs ws : List Cell) (c : Cell) → HaveSame xs ys c → HaveSame vs ws c → HaveSame (xs ++ vs) (ys ++ ws) c
+pub same_more : (xs ys vs ws : List Cell) (c : Cell) → HaveSame xs ys c → HaveSame vs ws c → HaveSame (xs ++ vs) (ys ++ ws) c
 same_more xs ys vs ws c a b = (
   λ h. elim (Contains-append_cases xs vs c h) [ inl x ↦ Contains-append_left ys ws c (a.0 x) | inr v ↦ Contains-append_right ys ws c (b.0 v) ],
   λ h. elim (Contains-append_cases ys ws c h) [ inl x ↦ Contains-append_left xs vs c (a.1 x) | inr v ↦ Contains-append_right xs vs c (b.1 v) ],

@@ -11,6 +11,6 @@ use Rattle.std.specs.Prelude.{ℕ, List}
 abbrev pub needed_chunks : List ArrayInfo → Op → List ℕ → List Cell
 needed_chunks arrays op c = (kind_of op).cells arrays c
 
--- the input cells of a task; an array that is an input twice counts once
+-- the input cells of a task; an array that is an input twice counts twice
 abbrev pub input_cells : List ArrayInfo → Op → ℕ → List Cell
 input_cells arrays op task = needed_chunks arrays op (task_coord arrays op task)

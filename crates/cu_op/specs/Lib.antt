@@ -28,3 +28,5 @@ pub mod Value
 pub mod Walks
 pub mod Numbers
 pub mod Form
+pub mod Along
+pub mod Grouping

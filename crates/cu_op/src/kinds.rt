@@ -2,6 +2,7 @@
 ghost use Rattle.std.specs.Prelude.{◌≡◌, ◌^◌, ◌<◌, ◌≤◌, ◌∷◌, [], All, length, map, pred};
 ghost use Rattle.cu_shape.specs.Index.{IsInside};
 ghost use Rattle.cu_grid.specs.Grid.{IsGrid};
+ghost use Rattle.cu_op.specs.Along.{carried_reads};
 ghost use Rattle.cu_op.specs.Cells.{task_grid};
 ghost use Rattle.cu_op.specs.KindText.{kind_text};
 ghost use Rattle.cu_op.specs.Kinds.{ReducesToValues, ReducesToPlaces};
@@ -10,10 +11,14 @@ ghost use Rattle.cu_op.specs.Operation.{Fits, reads_of, writes_of, target_of, re
 ghost use Rattle.cu_op.specs.Projection.{input_room, output_room, instruction_count};
 ghost use Rattle.cu_op.specs.Walks.{region_walks};
 
+mod along;
+mod group_fold;
 mod map;
 mod mul;
 mod pull;
 
+use self::along::{carried_room, carry_walks, scan_walks};
+use self::group_fold::{grouped_walk, labels_walk};
 use self::map::map_walks;
 use self::mul::{left_walk, right_walk};
 use self::pull::{same_pull, whole_walks};
@@ -22,7 +27,7 @@ use crate::groups::{GroupedAxes, chunk_walk, merge_walk};
 use crate::kernel::Kernel;
 use crate::layout::ArrayInfo;
 use crate::memory::{bytes_of, room_of, rooms, value_room};
-use crate::numbers::{new_number, new_values, renumber_both, renumber_inputs};
+use crate::numbers::{new_number, new_option, renumber_both, renumber_inputs};
 use crate::operation::Op;
 use crate::walks::Walk;
 use arrayvec::{ArrayString, ArrayVec};
@@ -46,6 +51,9 @@ impl Op {
                 ..
             } => list_of(&[*value_source, *place_source]),
             Op::Mul { left, right, .. } => list_of(&[*left, *right]),
+            Op::Carry { sums, above, .. } => with_carried(*sums, *above),
+            Op::Scan { source, carry, .. } => with_carried(*source, *carry),
+            Op::GroupFold { source, labels, .. } => list_of(&[*source, *labels]),
         }
     }
 
@@ -80,7 +88,10 @@ impl Op {
             | Op::Merge { out, .. }
             | Op::PairFold { out, .. }
             | Op::PairMerge { out, .. }
-            | Op::Mul { out, .. } => *out,
+            | Op::Mul { out, .. }
+            | Op::Carry { out, .. }
+            | Op::Scan { out, .. }
+            | Op::GroupFold { out, .. } => *out,
         }
     }
 
@@ -113,7 +124,7 @@ impl Op {
                 ..
             } => {
                 renumber_both(numbers, source, out);
-                *values = new_values(numbers, *values);
+                *values = new_option(numbers, *values);
             }
             Op::PairMerge {
                 value_source,
@@ -123,11 +134,38 @@ impl Op {
                 ..
             } => {
                 renumber_both(numbers, value_source, place_source);
-                *values = new_values(numbers, *values);
+                *values = new_option(numbers, *values);
                 *out = new_number(numbers, *out);
             }
             Op::Mul { left, right, out } => {
                 renumber_both(numbers, left, right);
+                *out = new_number(numbers, *out);
+            }
+            Op::Carry {
+                sums,
+                above,
+                out,
+                ..
+            } => {
+                renumber_both(numbers, sums, out);
+                *above = new_option(numbers, *above);
+            }
+            Op::Scan {
+                source,
+                carry,
+                out,
+                ..
+            } => {
+                renumber_both(numbers, source, out);
+                *carry = new_option(numbers, *carry);
+            }
+            Op::GroupFold {
+                source,
+                labels,
+                out,
+                ..
+            } => {
+                renumber_both(numbers, source, labels);
                 *out = new_number(numbers, *out);
             }
         }
@@ -167,6 +205,16 @@ fn list_of<const CAP: usize>(arrays: &[u32]) -> ArrayVec<u32, CAP>
     }
 }
 
+/// The list of an array and of what is carried in beside it.
+fn with_carried(array: u32, carry: Option<u32>) -> ArrayVec<u32, 8>
+    ensures { result.items ≡ array ∷ carried_reads carry }
+{
+    match carry {
+        None => list_of(&[array]),
+        Some(carry) => list_of(&[array, carry]),
+    }
+}
+
 /// The name of a kind of operation.
 pub type KindText = ArrayString<12>;
 
@@ -184,6 +232,9 @@ pub fn kind_name(op: &Op) -> KindText
         Op::PairFold { .. } => text.push_str("pairfold"),
         Op::PairMerge { .. } => text.push_str("pairmerge"),
         Op::Mul { .. } => text.push_str("mul"),
+        Op::Carry { .. } => text.push_str("carry"),
+        Op::Scan { .. } => text.push_str("scan"),
+        Op::GroupFold { .. } => text.push_str("groupfold"),
     }
     text
 }
@@ -253,11 +304,33 @@ pub(crate) fn read_walks(arrays: &[ArrayInfo], op: &Op, region: &Region) -> Arra
             left_walk(arrays, *left, *right, region),
             right_walk(arrays, *left, *right, region),
         ),
+        Op::Carry {
+            axis,
+            group,
+            sums,
+            above,
+            ..
+        } => carry_walks(*axis, *group, *sums, *above, region),
+        Op::Scan {
+            axis,
+            source,
+            carry,
+            ..
+        } => scan_walks(arrays, *axis, *source, *carry, region),
+        Op::GroupFold {
+            axis,
+            source,
+            labels,
+            ..
+        } => two_walks(
+            grouped_walk(arrays, *axis, *source, region),
+            labels_walk(arrays, *axis, *source, *labels, region),
+        ),
     }
 }
 
 /// A list of one walk.
-fn one_walk(walk: Walk) -> ArrayVec<Walk, 8>
+pub(crate) fn one_walk(walk: Walk) -> ArrayVec<Walk, 8>
     ensures { result.items ≡ walk ∷ [] }
 {
     let mut walks = ArrayVec::new();
@@ -266,7 +339,7 @@ fn one_walk(walk: Walk) -> ArrayVec<Walk, 8>
 }
 
 /// A list of two.
-fn two_walks(first: Walk, second: Walk) -> ArrayVec<Walk, 8>
+pub(crate) fn two_walks(first: Walk, second: Walk) -> ArrayVec<Walk, 8>
     ensures { result.items ≡ first ∷ second ∷ [] }
 {
     let mut walks = ArrayVec::new();
@@ -294,6 +367,9 @@ pub(crate) fn input_room(arrays: &[ArrayInfo], op: &Op) -> u64
             ..
         } => u64::from(*group) * (room_of(arrays, *value_source) + room_of(arrays, *place_source)),
         Op::Mul { left, right, .. } => room_of(arrays, *left) + room_of(arrays, *right),
+        Op::Carry { group, sums, .. } => (u64::from(*group) + 1) * room_of(arrays, *sums),
+        Op::Scan { source, carry, .. } => room_of(arrays, *source) + carried_room(arrays, *carry),
+        Op::GroupFold { source, labels, .. } => room_of(arrays, *source) + room_of(arrays, *labels),
     }
 }
 
@@ -343,6 +419,45 @@ pub(crate) fn same_op(op: &Op) -> Op
             out,
         },
         &Op::Mul { left, right, out } => Op::Mul { left, right, out },
+        &Op::Carry {
+            axis,
+            group,
+            sums,
+            above,
+            out,
+        } => Op::Carry {
+            axis,
+            group,
+            sums,
+            above,
+            out,
+        },
+        &Op::Scan {
+            axis,
+            source,
+            carry,
+            out,
+        } => Op::Scan {
+            axis,
+            source,
+            carry,
+            out,
+        },
+        &Op::GroupFold {
+            kind,
+            axis,
+            groups,
+            source,
+            labels,
+            out,
+        } => Op::GroupFold {
+            kind,
+            axis,
+            groups,
+            source,
+            labels,
+            out,
+        },
         Op::Fold { .. } | Op::Merge { .. } => same_fold(op),
         Op::PairFold { .. } | Op::PairMerge { .. } => same_search(op),
     }

@@ -27,12 +27,12 @@ pub fn new_number(numbers: &[u32], a: u32) -> u32
     number_in(numbers, a) as u32
 }
 
-/// The new number of the array of values, where it is stored.
-pub(crate) fn new_values(numbers: &[u32], values: Option<u32>) -> Option<u32>
+/// The new number of an array that may be absent.
+pub(crate) fn new_option(numbers: &[u32], array: Option<u32>) -> Option<u32>
     requires { length numbers.now < 2 ^ 32 }
-    ensures { result ≡ option_map (number_in numbers.now) values }
+    ensures { result ≡ option_map (number_in numbers.now) array }
 {
-    values.map(|a| new_number(numbers, a))
+    array.map(|a| new_number(numbers, a))
 }
 
 /// The new numbers of arrays.

@@ -101,6 +101,46 @@ pub enum Op {
         /// The array that is made.
         out: u32,
     },
+    /// Gives each of some sums that stand along an axis what comes before it.
+    Carry {
+        /// The axis.
+        axis: u32,
+        /// How many sums are in a group; the last may be shorter.
+        group: u32,
+        /// The array of the sums.
+        sums: u32,
+        /// The array of what is carried into each group, where something is.
+        above: Option<u32>,
+        /// The array that is made.
+        out: u32,
+    },
+    /// Sums along an axis up to each place, a chunk at a time.
+    Scan {
+        /// The axis.
+        axis: u32,
+        /// The array that is summed.
+        source: u32,
+        /// The array of what is carried into each chunk, where something is.
+        carry: Option<u32>,
+        /// The array that is made.
+        out: u32,
+    },
+    /// Reduces along an axis, in each chunk of its source, the elements of each label: the result has a last axis that numbers the chunks,
+    /// where there are several.
+    GroupFold {
+        /// What is made of the elements.
+        kind: FoldKind,
+        /// The axis.
+        axis: u32,
+        /// How many groups there are; an element whose label is no group's number is in none.
+        groups: u32,
+        /// The array that is reduced.
+        source: u32,
+        /// The array of the labels along the axis.
+        labels: u32,
+        /// The array that is made.
+        out: u32,
+    },
 }
 
 /// An operation as it stands in a plan.

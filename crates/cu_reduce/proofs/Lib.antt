@@ -6,6 +6,7 @@ pub mod Combined
 pub mod Combining
 pub mod Covered
 pub mod Folding
+pub mod Given
 pub mod Grouped
 pub mod Ranges
 pub mod Regions

@@ -139,7 +139,7 @@ carry_given acc ns axis width blocks count above h g some =
     omega arith
 
 -- the front of a line, whose place on the axis is 0
-set_twice : (xs : List ℕ) (axis a b : ℕ) → set (set xs axis a) axis b ≡ set xs axis b
+pub set_twice : (xs : List ℕ) (axis a b : ℕ) → set (set xs axis a) axis b ≡ set xs axis b
 set_twice [] zero a b = refl
 set_twice [] (suc axis) a b = refl
 set_twice (x ∷ xs) zero a b = refl

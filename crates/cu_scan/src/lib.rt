@@ -1,13 +1,11 @@
-//! Prefix sums of regions, and their laws.
+//! Prefix sums of regions.
 #![tactic(auto)]
 
 mod blocks;
 mod carries;
-mod laws;
 mod regions;
 mod rows;
 mod steps;
 mod types;
 
-pub use laws::{array_law, scan_law};
 pub use regions::{carry_region, scan_region};

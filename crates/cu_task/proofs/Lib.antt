@@ -3,6 +3,8 @@ pub mod ChunkRegions
 pub mod Counting
 pub mod InputReads
 pub mod JobViews
+pub mod LabelPlan
+pub mod LabelTask
 pub mod MapTask
 pub mod MatrixBlocks
 pub mod MatrixTask
@@ -13,8 +15,10 @@ pub mod PartialValues
 pub mod PullTask
 pub mod ReadRegions
 pub mod ReductionTask
+pub mod ScanTask
 pub mod SearchTask
 pub mod Serving
+pub mod SumTasks
 pub mod TaskKinds
 pub mod TaskRegions
 pub mod TaskRooms

@@ -1,5 +1,6 @@
 pub mod Asks
 pub mod Blocks
+pub mod ByLabels
 pub mod Inputs
 pub mod OfTask
 pub mod Serving

@@ -2,6 +2,7 @@
 #![tactic(auto)]
 
 mod copies;
+mod groups;
 mod inputs;
 mod laws;
 mod maps;
@@ -11,6 +12,7 @@ mod reductions;
 mod results;
 mod room;
 mod run;
+mod scans;
 mod searches;
 mod views;
 mod yards;

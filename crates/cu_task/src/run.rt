@@ -18,6 +18,7 @@ ghost use Rattle.cu_op.specs.Operation.{value_array};
 ghost use Rattle.cu_task.specs.TaskRoom.{IsRoomOf, HasMadeAll, AreAllOfTheirTypes};
 
 use crate::copies::copy_region;
+use crate::groups::reduce_groups;
 use crate::inputs::read_regions;
 use crate::maps::run_map;
 use crate::products::multiply;
@@ -25,6 +26,7 @@ use crate::pulls::pull_result;
 use crate::reductions::{fold, merge};
 use crate::results::write_results;
 use crate::room::TaskRoom;
+use crate::scans::{carry, scan};
 use crate::searches::{find_again, find_first};
 use crate::views::{ViewJob, shapes_of};
 use cu_op::{Op, Plan, PlanTask};
@@ -217,6 +219,7 @@ fn compute(
             ..
         } => merge(task, *kind, *axis, *out, inputs, output),
         Op::Mul { left, right, out } => multiply(task, *left, *right, *out, inputs, output),
+        Op::GroupFold { .. } => reduce_groups(task, inputs, output),
         Op::PairFold {
             least,
             axis,
@@ -229,6 +232,13 @@ fn compute(
             value_source,
             ..
         } => find_again(task, *least, *axis, *value_source, inputs, values, output),
+        Op::Carry { axis, out, .. } => carry(task, *axis, *out, inputs, output),
+        Op::Scan {
+            axis,
+            source,
+            out,
+            ..
+        } => scan(task, *axis, *source, *out, inputs, output),
         Op::Pull { .. } => unreachable!(),
         Op::Copy { .. } => unreachable!(),
     }

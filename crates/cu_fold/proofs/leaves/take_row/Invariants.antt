@@ -1,6 +1,6 @@
 use Rattle.std.proofs.Common.{◌≡◌, ◌<◌, ◌≤◌, ℕ, [], ◌∷◌, length}
 use Rattle.cu_num.specs.Element.{bytes_at}
-use Rattle.cu_fold.specs.Taken.{HasTaken, elements_at_places}
+use Rattle.cu_take.specs.Taken.{HasTaken, elements_at_places}
 use Rattle.cu_fold.proofs.leaves.take_row.Given as goal
 
 abbrev pub invariant-loop-at : goal.invariant-loop-at

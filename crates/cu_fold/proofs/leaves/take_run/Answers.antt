@@ -3,8 +3,8 @@ use Rattle.std.specs.List.{range_with_len}
 use Rattle.std.proofs.lemmas.List.FromFn.{map-range_with_len_more}
 use Rattle.cu_num.specs.Element.{element_at}
 use Rattle.cu_num.specs.declared.layout.Endian.TheVariants.{Little}
-use Rattle.cu_fold.specs.Taken.{HasTaken, elements_at_places}
-use Rattle.cu_fold.proofs.Taking.{takes_more}
+use Rattle.cu_take.specs.Taken.{HasTaken, elements_at_places}
+use Rattle.cu_take.proofs.Taking.{takes_more}
 use Rattle.cu_fold.proofs.leaves.take_run.Goals as goal
 
 pub loop-place-preserved : goal.loop-place-preserved

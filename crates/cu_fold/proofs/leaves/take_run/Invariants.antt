@@ -1,6 +1,6 @@
 use Rattle.std.proofs.Common.{◌≡◌, length}
 use Rattle.std.specs.List.{range_with_len}
-use Rattle.cu_fold.specs.Taken.{HasTaken, elements_at_places}
+use Rattle.cu_take.specs.Taken.{HasTaken, elements_at_places}
 use Rattle.cu_fold.proofs.leaves.take_run.Given as goal
 
 abbrev pub invariant-loop-place : goal.invariant-loop-place

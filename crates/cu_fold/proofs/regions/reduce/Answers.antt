@@ -6,8 +6,8 @@ use Rattle.cu_shape.proofs.Places.{place-below}
 use Rattle.cu_reduce.specs.Groups.{groups_of, group_counts}
 use Rattle.cu_fold.specs.Levels.{results, levels_from}
 use Rattle.cu_fold.specs.Reduced.{is_folded}
-use Rattle.cu_fold.specs.Taken.{HasTaken, elements_at_places}
-use Rattle.cu_fold.proofs.Buffers.{size_positive}
+use Rattle.cu_take.specs.Taken.{HasTaken, elements_at_places}
+use Rattle.cu_take.proofs.Buffers.{size_positive}
 use Rattle.cu_fold.proofs.Groups.{extent_is, results_is}
 use Rattle.cu_fold.proofs.Totals.{group_total}
 use Rattle.cu_fold.proofs.regions.reduce.Goals as goal

@@ -1,7 +1,7 @@
 use Rattle.std.proofs.Common.{◌<◌, ℕ, get_or, rules, ◌*◌, sym, ap, ◌∙◌, pos, refl, take}
 use Rattle.std.specs.List.{range_with_len, list_any}
 use Rattle.cu_fold.specs.SetBytes.{is_set}
-use Rattle.cu_fold.specs.Taken.{elements_at_places}
+use Rattle.cu_take.specs.Taken.{elements_at_places}
 use Rattle.cu_fold.proofs.Nonzero.{takes_found, takes_nothing}
 use Rattle.cu_fold.proofs.SetElements.{set_elements}
 use Rattle.cu_fold.proofs.truths.take_any.Goals as goal

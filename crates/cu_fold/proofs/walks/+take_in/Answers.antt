@@ -4,11 +4,12 @@ use borrow.Rule.Slice.PartMut.{put_mid}
 use Rattle.cu_num.specs.Dtype.{size_of}
 use Rattle.cu_fold.specs.declared.levels.Level.{Level}
 use Rattle.cu_fold.specs.Levels.{extent, results, chained, moved, sources}
-use Rattle.cu_fold.specs.Taken.{HasTaken, TakesAll, elements_at_places}
-use Rattle.cu_fold.proofs.Buffers.{bytes_below, bytes_inside, bytes_above, length-put_mid}
+use Rattle.cu_take.specs.Taken.{HasTaken, elements_at_places}
+use Rattle.cu_fold.specs.Taken.{TakesAll}
+use Rattle.cu_take.proofs.Buffers.{bytes_below, bytes_inside, bytes_above, length-put_mid}
 use Rattle.cu_fold.proofs.OneLevel.{last_level, extent_split, results_reduced, results_kept, sources_reduced, sources_kept, divided, reaches, next_reduced, at_kept, part_bytes, room_of, room_whole, part_ends}
 use Rattle.std.proofs.lemmas.List.Edits.{length-between}
-use Rattle.cu_fold.proofs.Taking.{takes_same}
+use Rattle.cu_take.proofs.Taking.{takes_same}
 use Rattle.cu_fold.proofs.walks.+take_in.Goals as goal
 
 abbrev none : Level

@@ -1,7 +1,7 @@
 use Rattle.std.proofs.Common.{◌≡◌, ◌+◌, ◌-◌, ◌*◌, ◌/◌, ◌%◌, ◌<◌, ◌≤◌, ℕ, drop, length}
 use Rattle.cu_num.specs.Element.{bytes_at}
 use Rattle.cu_fold.specs.Levels.{extent, results, chained, moved, sources}
-use Rattle.cu_fold.specs.Taken.{HasTaken, elements_at_places}
+use Rattle.cu_take.specs.Taken.{HasTaken, elements_at_places}
 use Rattle.cu_fold.proofs.walks.+take_in.Given as goal
 
 abbrev pub decreases-take_in : goal.decreases-take_in

@@ -1,6 +1,6 @@
 use Rattle.std.proofs.Common.{◌≡◌, ◌+◌, ◌*◌, ◌≤◌, suc, length, arith, mul-le-mul_right}
 use Rattle.cu_num.specs.Dtype.{size_of}
-use Rattle.cu_fold.proofs.Buffers.{size_positive}
+use Rattle.cu_take.proofs.Buffers.{size_positive}
 use Rattle.cu_group.specs.Regions.{label_in, row_sources}
 use Rattle.cu_group.proofs.RowPlaces.{block_bounds, row_bounds}
 use Rattle.cu_group.proofs.Totals.{taken_total}

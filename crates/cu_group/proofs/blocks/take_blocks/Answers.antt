@@ -1,9 +1,9 @@
 use Rattle.std.proofs.Common.{◌≡◌, ◌+◌, ◌*◌, length, inl, inr, refl, sym, subst, ap, ◌∙◌, arith, ⊎_elim}
 use Rattle.std.proofs.lemmas.Bool.{cases_lt}
 use Rattle.cu_num.specs.Dtype.{size_of}
-use Rattle.cu_fold.specs.Taken.{HasTaken, elements_at_places}
-use Rattle.cu_fold.proofs.Buffers.{size_positive}
-use Rattle.cu_fold.proofs.Taking.{takes_same}
+use Rattle.cu_take.specs.Taken.{HasTaken, elements_at_places}
+use Rattle.cu_take.proofs.Buffers.{size_positive}
+use Rattle.cu_take.proofs.Taking.{takes_same}
 use Rattle.cu_group.specs.Regions.{label_in, row_sources}
 use Rattle.cu_group.proofs.RowPlaces.{takes_kept, block_bounds, earlier_block, block_after, row_after}
 use Rattle.cu_group.proofs.blocks.take_blocks.Goals as goal

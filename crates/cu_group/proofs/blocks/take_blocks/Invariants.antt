@@ -1,6 +1,6 @@
 use Rattle.std.proofs.Common.{◌≡◌, ◌+◌, ◌*◌, ◌<◌, ◌≤◌, ℕ, length}
 use Rattle.cu_num.specs.Element.{bytes_at}
-use Rattle.cu_fold.specs.Taken.{HasTaken, elements_at_places}
+use Rattle.cu_take.specs.Taken.{HasTaken, elements_at_places}
 use Rattle.cu_group.specs.Regions.{label_in, row_sources}
 use Rattle.cu_group.proofs.blocks.take_blocks.Given as goal
 

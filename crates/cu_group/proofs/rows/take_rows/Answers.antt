@@ -2,8 +2,8 @@ use Rattle.std.proofs.Common.{◌≡◌, ◌+◌, ◌*◌, ◌<◌, ℕ, ◌∷�
 use Rattle.std.specs.Int.{w128}
 use Rattle.std.proofs.lemmas.Int.{to_z-of_z}
 use Rattle.cu_num.specs.Dtype.{size_of}
-use Rattle.cu_fold.specs.Taken.{HasTaken, elements_at_places}
-use Rattle.cu_fold.proofs.Buffers.{size_positive}
+use Rattle.cu_take.specs.Taken.{HasTaken, elements_at_places}
+use Rattle.cu_take.proofs.Buffers.{size_positive}
 use Rattle.cu_reduce.specs.Labels.{is_label}
 use Rattle.cu_group.specs.Regions.{label_in, row_sources}
 use Rattle.cu_group.proofs.RowPlaces.{takes_row, takes_no_row, other_row, outside_rows, same_test, apart_test, same_or_apart, row_bounds}

@@ -44,6 +44,18 @@ room_of-requires-in-Mul-2 c = let reads = rw c.in-Mul.is at c.requires.within in
 pub overflow_add-result-in-Mul : goal.overflow_add-result-in-Mul
 overflow_add-result-in-Mul c = let a = c.room_of-in-Mul.ensures.small in let b = c.room_of-in-Mul-2.ensures.small in omega (arith, a, b)
 
+pub room_of-requires-in-GroupFold : goal.room_of-requires-in-GroupFold
+room_of-requires-in-GroupFold c = let reads = rw c.in-GroupFold.is at c.requires.within in reads 0 0 (omega arith)
+
+pub room_of-requires-in-GroupFold-2 : goal.room_of-requires-in-GroupFold-2
+room_of-requires-in-GroupFold-2 c = let reads = rw c.in-GroupFold.is at c.requires.within in reads 1 0 (omega arith)
+
+pub overflow_add-result-in-GroupFold : goal.overflow_add-result-in-GroupFold
+overflow_add-result-in-GroupFold c = let a = c.room_of-in-GroupFold.ensures.small in let b = c.room_of-in-GroupFold-2.ensures.small in omega (arith, a, b)
+
+pub returns-in-GroupFold : goal.returns-in-GroupFold
+returns-in-GroupFold c = rw (c.in-GroupFold.is, c.room_of-in-GroupFold.ensures.room, c.room_of-in-GroupFold-2.ensures.room) refl
+
 pub returns-in-Map : goal.returns-in-Map
 returns-in-Map c = rw (c.in-Map.is, c.rooms.ensures, c.as_slice.ensures.value) refl
 

@@ -2,6 +2,8 @@ use Rattle.std.proofs.Common.{pred, map, sym, refl, ◌∙◌, arith}
 use Rattle.std.proofs.lemmas.List.{length-map}
 use Rattle.cu_shape.proofs.Places.{inside-length}
 use Rattle.cu_op.specs.Arrays.{grid_at}
+use Rattle.cu_op.proofs.AlongAxis.{axis_of_first, axis_of_last}
+use Rattle.cu_op.proofs.ByLabels.{part_region}
 use Rattle.cu_op.proofs.MapRegions.{no_longer}
 use Rattle.cu_op.proofs.Matrices.{product_region}
 use Rattle.cu_op.proofs.kinds.read_walks.Goals as goal
@@ -34,6 +36,29 @@ right_walk-requires-clause-region c =
     let first = rw c.in-Mul.is at c.requires.first in
     let last = rw c.in-Mul.is at c.requires.last in
     product_region c.args.arrays.now c.in-Mul.left c.in-Mul.right c.in-Mul.out fits c.args.region.now.lo c.args.region.now.hi first last
+
+pub grouped_walk-requires-clause-source : goal.grouped_walk-requires-clause-source
+grouped_walk-requires-clause-source c = let reads = rw c.in-GroupFold.is at c.requires.reads in reads 0 0 (omega arith)
+
+pub grouped_walk-requires-clause-region : goal.grouped_walk-requires-clause-region
+grouped_walk-requires-clause-region c =
+    let fits = rw c.in-GroupFold.is at c.requires.fits in
+    let first = rw c.in-GroupFold.is at c.requires.first in
+    let last = rw c.in-GroupFold.is at c.requires.last in
+    part_region c.args.arrays.now c.in-GroupFold.kind c.in-GroupFold.axis c.in-GroupFold.groups c.in-GroupFold.source c.in-GroupFold.labels c.in-GroupFold.out fits c.args.region.now.lo c.args.region.now.hi first last
+
+pub labels_walk-requires-clause-source : goal.labels_walk-requires-clause-source
+labels_walk-requires-clause-source c = let reads = rw c.in-GroupFold.is at c.requires.reads in reads 0 0 (omega arith)
+
+pub labels_walk-requires-clause-region : goal.labels_walk-requires-clause-region
+labels_walk-requires-clause-region c =
+    let fits = rw c.in-GroupFold.is at c.requires.fits in
+    let first = rw c.in-GroupFold.is at c.requires.first in
+    let last = rw c.in-GroupFold.is at c.requires.last in
+    part_region c.args.arrays.now c.in-GroupFold.kind c.in-GroupFold.axis c.in-GroupFold.groups c.in-GroupFold.source c.in-GroupFold.labels c.in-GroupFold.out fits c.args.region.now.lo c.args.region.now.hi first last
+
+pub returns-in-GroupFold-clause-walks : goal.returns-in-GroupFold-clause-walks
+returns-in-GroupFold-clause-walks c = rw (c.in-GroupFold.is, c.two_walks-in-GroupFold.ensures, c.grouped_walk.ensures, c.labels_walk.ensures) refl
 
 pub map_walks-requires-clause-few : goal.map_walks-requires-clause-few
 map_walks-requires-clause-few c = c.as_slice.ensures.fits
@@ -172,3 +197,42 @@ returns-in-PairMerge-clause-walks c = rw (c.in-PairMerge.is, c.two_walks.ensures
 
 pub returns-in-Mul-clause-walks : goal.returns-in-Mul-clause-walks
 returns-in-Mul-clause-walks c = rw (c.in-Mul.is, c.two_walks-in-Mul.ensures, c.left_walk.ensures, c.right_walk.ensures) refl
+
+pub carry_walks-requires-clause-some : goal.carry_walks-requires-clause-some
+carry_walks-requires-clause-some c = let fits = rw c.in-Carry.is at c.requires.fits in fits.some
+
+pub carry_walks-requires-clause-first : goal.carry_walks-requires-clause-first
+carry_walks-requires-clause-first c =
+    let fits = rw c.in-Carry.is at c.requires.fits in
+    let first = rw c.in-Carry.is at c.requires.first in
+    axis_of_first (grid_at c.args.arrays.now c.in-Carry.out) (grid_at c.args.arrays.now c.in-Carry.sums) c.in-Carry.axis c.args.region.now.lo fits.grid fits.along first
+
+pub carry_walks-requires-clause-last : goal.carry_walks-requires-clause-last
+carry_walks-requires-clause-last c =
+    let fits = rw c.in-Carry.is at c.requires.fits in
+    let last = rw c.in-Carry.is at c.requires.last in
+    axis_of_last (grid_at c.args.arrays.now c.in-Carry.out) (grid_at c.args.arrays.now c.in-Carry.sums) c.in-Carry.axis c.args.region.now.hi fits.grid fits.along last
+
+pub scan_walks-requires-clause-source : goal.scan_walks-requires-clause-source
+scan_walks-requires-clause-source c = let reads = rw c.in-Scan.is at c.requires.reads in reads 0 0 (omega arith)
+
+pub scan_walks-requires-clause-along : goal.scan_walks-requires-clause-along
+scan_walks-requires-clause-along c = let fits = rw c.in-Scan.is at c.requires.fits in fits.along
+
+pub scan_walks-requires-clause-first : goal.scan_walks-requires-clause-first
+scan_walks-requires-clause-first c =
+    let fits = rw c.in-Scan.is at c.requires.fits in
+    let first = rw c.in-Scan.is at c.requires.first in
+    axis_of_first (grid_at c.args.arrays.now c.in-Scan.out) (grid_at c.args.arrays.now c.in-Scan.source) c.in-Scan.axis c.args.region.now.lo fits.grid fits.along first
+
+pub scan_walks-requires-clause-last : goal.scan_walks-requires-clause-last
+scan_walks-requires-clause-last c =
+    let fits = rw c.in-Scan.is at c.requires.fits in
+    let last = rw c.in-Scan.is at c.requires.last in
+    axis_of_last (grid_at c.args.arrays.now c.in-Scan.out) (grid_at c.args.arrays.now c.in-Scan.source) c.in-Scan.axis c.args.region.now.hi fits.grid fits.along last
+
+pub returns-in-Carry-clause-walks : goal.returns-in-Carry-clause-walks
+returns-in-Carry-clause-walks c = rw (c.in-Carry.is, c.carry_walks.ensures) refl
+
+pub returns-in-Scan-clause-walks : goal.returns-in-Scan-clause-walks
+returns-in-Scan-clause-walks c = rw (c.in-Scan.is, c.scan_walks.ensures) refl
