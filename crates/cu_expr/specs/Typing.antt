@@ -2,7 +2,7 @@
 use Rattle.std.specs.Prelude.{ℕ, List, [], ◌∷◌, ◌++◌, length, map, Result, Ok, Err}
 use Rattle.cu_result.specs.Results.{◌>>=◌}
 use Rattle.cu_form.specs.Expression.{Expression}
-use Rattle.cu_form.specs.Form.{args_of}
+use Rattle.cu_form.specs.Form.{args_of, group_kind}
 use Rattle.cu_form.specs.declared.args.Arg.{Arg}
 use Rattle.cu_node.specs.declared.literal.Literal.TheVariants as written
 use Rattle.cu_form.specs.declared.expr.Node.{Node}
@@ -12,6 +12,7 @@ use Rattle.cu_node.specs.Info.{info_at}
 use Rattle.cu_node.specs.declared.faults.FaultCode.TheVariants.{Kind}
 use Rattle.cu_node.specs.declared.faults.NodeFault.{NodeFault}
 use Rattle.cu_node.specs.declared.info.NodeInfo.{NodeInfo}
+use Rattle.cu_typing.specs.Along.{typed_cumulative, typed_groups}
 use Rattle.cu_typing.specs.Elementwise.{typed_elementwise}
 use Rattle.cu_typing.specs.Joined.{arrays_of}
 use Rattle.cu_typing.specs.Matmul.{typed_matmul}
@@ -54,6 +55,9 @@ typed_form stored (Form.Stack args axis) told = typed_pieces (Form.Stack args ax
 typed_form stored (Form.Reduce kind args axes keepdims) told = typed_reduced (Form.Reduce kind args axes keepdims) (arrays_of told)
 typed_form stored (Form.ArgPlace least args axis keepdims) told = typed_reduced (Form.ArgPlace least args axis keepdims) (arrays_of told)
 typed_form stored (Form.Matmul args) told = typed_reduced (Form.Matmul args) (arrays_of told)
+typed_form stored (Form.CumulativeSum args axis) told = typed_cumulative axis (info_at (arrays_of told) 0)
+typed_form stored (Form.GroupBy least args axis groups) told =
+    typed_groups (group_kind least) axis groups (info_at (arrays_of told) 0) (info_at (arrays_of told) 1)
 typed_form stored form told = typed_view form (info_at (arrays_of told) 0)
 
 -- ---- the nodes of an expression

@@ -12,9 +12,12 @@ use crate::inputs::{InputInfo, by_name, stored_info};
 use crate::told::{arguments, arrays, known};
 use crate::types::{TypeFault, TypeRefused, Types};
 use crate::views::{type_made, type_pieces, type_view};
-use cu_form::{Expr, Form};
+use cu_form::{Expr, Form, group_kind};
 use cu_node::{FaultCode, NodeFault, NodeInfo, fault};
-use cu_typing::{Argument, type_arg_place, type_elementwise, type_matmul, type_reduction};
+use cu_typing::{
+    Argument, type_arg_place, type_cumulative, type_elementwise, type_groups, type_matmul,
+    type_reduction,
+};
 use std::alloc::{AllocError, Global};
 use std::collections::HashMap;
 
@@ -67,6 +70,19 @@ fn type_form(
         Form::Concat { .. } | Form::Stack { .. } => type_pieces(form, arrays),
         Form::Reduce { .. } | Form::ArgPlace { .. } | Form::Matmul { .. } => type_reduced(
             form, arrays,
+        ),
+        Form::CumulativeSum { axis, .. } => type_cumulative(*axis, &known(arrays, 0)),
+        Form::GroupBy {
+            least,
+            axis,
+            groups,
+            ..
+        } => type_groups(
+            group_kind(*least),
+            *axis,
+            *groups,
+            &known(arrays, 0),
+            &known(arrays, 1),
         ),
         Form::Triangle { .. }
         | Form::Index { .. }

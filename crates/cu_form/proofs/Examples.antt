@@ -84,3 +84,20 @@ below_written = refl
 
 above_written : in_ranges (Form.Full [] Int32 (Literal.Int (pos (2 ^ 64))) []) ≡ false
 above_written = refl
+
+-- the least and the greatest number of groups, and one past each
+one_group : in_ranges (Form.GroupBy true (Arg.Node 0 ∷ Arg.Node 1 ∷ []) (pos 0) 1) ≡ true
+one_group = refl
+
+most_groups : in_ranges (Form.GroupBy false (Arg.Node 0 ∷ Arg.Node 1 ∷ []) (pos 0) 65536) ≡ true
+most_groups = refl
+
+no_groups : in_ranges (Form.GroupBy true (Arg.Node 0 ∷ Arg.Node 1 ∷ []) (pos 0) 0) ≡ false
+no_groups = refl
+
+too_many_groups : in_ranges (Form.GroupBy true (Arg.Node 0 ∷ Arg.Node 1 ∷ []) (pos 0) 65537) ≡ false
+too_many_groups = refl
+
+-- labels that are missing
+no_labels : takes_args (Form.GroupBy true (Arg.Node 0 ∷ []) (pos 0) 3) ≡ false
+no_labels = refl

@@ -1,7 +1,9 @@
 -- The form of a node of an expression, apart from the text that it is read from (this project's own form).
-use Rattle.std.specs.Prelude.{ℕ, ◌<◌, ◌^◌, ◌-◌, ◌&&◌, ◌||◌, not, nat_lt, nat_le, ℤ, pos, neg_ℤ, int_lt, Bool, true, false, List, [], ◌∷◌, length, ◌≡◌}
+use Rattle.std.specs.Prelude.{ℕ, ◌<◌, ◌^◌, ◌-◌, ◌&&◌, ◌||◌, not, nat_lt, nat_le, ℤ, pos, neg_ℤ, int_lt, Bool, true, false, List, [], ◌∷◌, length, ◌≡◌, if◌then◌else◌}
 use Rattle.std.specs.List.{list_all}
 use Rattle.cu_name.specs.Name.{is_name}
+use Rattle.cu_num.specs.declared.folds.FoldKind.{FoldKind}
+use Rattle.cu_num.specs.declared.folds.FoldKind.TheVariants.{Sum, Min}
 use Rattle.cu_num.specs.declared.functions.Fn1.TheVariants as fn1
 use Rattle.cu_form.specs.declared.args.Arg.{Arg}
 use Rattle.cu_node.specs.declared.literal.Literal.{Literal}
@@ -27,6 +29,8 @@ args_of (Form.Rechunk args chunk) = args
 args_of (Form.Reduce kind args axes keepdims) = args
 args_of (Form.ArgPlace least args axis keepdims) = args
 args_of (Form.Matmul args) = args
+args_of (Form.CumulativeSum args axis) = args
+args_of (Form.GroupBy least args axis groups) = args
 args_of form = []
 
 -- the argument names a node before the one with this number; one that is written names none
@@ -68,6 +72,7 @@ takes_args (Form.Eye rows cols k dtype chunk) = true
 takes_args (Form.Concat args axis) = are_arrays 1 8 args
 takes_args (Form.Stack args axis) = are_arrays 1 8 args
 takes_args (Form.Matmul args) = are_arrays 2 2 args
+takes_args (Form.GroupBy least args axis groups) = are_arrays 2 2 args
 takes_args form = are_arrays 1 1 (args_of form)
 
 -- ---- members
@@ -94,6 +99,14 @@ is_function (ElementOp.One fn1.Astype) = false
 is_function (ElementOp.Clip min max) = is_written min && is_written max
 is_function op = true
 
+-- how many groups labels may name
+abbrev pub is_group_count : ℕ → Bool
+is_group_count n = nat_le 1 n && nat_le n 65536
+
+-- what is made of a group: the least of its elements or their sum
+abbrev pub group_kind : Bool → FoldKind
+group_kind least = if least then Min else Sum
+
 -- the members of the form lie in their ranges
 abbrev pub in_ranges : Form → Bool
 in_ranges (Form.Input name) = is_name name
@@ -104,6 +117,7 @@ in_ranges (Form.Eye rows cols k dtype chunk) = is_size rows && is_size cols && l
 in_ranges (Form.Reshape args shape) = is_new_shape shape
 in_ranges (Form.BroadcastTo args shape chunk) = list_all is_size shape && list_all is_chunk_size chunk
 in_ranges (Form.Rechunk args chunk) = list_all is_chunk_size chunk
+in_ranges (Form.GroupBy least args axis groups) = is_group_count groups
 in_ranges form = true
 
 -- an index has fewer than 2^32 entries

@@ -1,6 +1,6 @@
 ghost use Rattle.std.specs.Prelude.{◌≡◌};
 ghost use Rattle.std.specs.List.{list_all};
-ghost use Rattle.cu_form.specs.Form.{args_of, is_earlier, names_earlier, is_array, are_arrays, element_takes, takes_args};
+ghost use Rattle.cu_form.specs.Form.{args_of, is_earlier, names_earlier, is_array, are_arrays, element_takes, takes_args, group_kind};
 
 use crate::args::Arg;
 use cu_name::IdText;
@@ -107,6 +107,25 @@ pub enum Form {
     Matmul {
         args: Items<Arg>,
     },
+    /// the sums up to each place along the axis, or along the one axis there is
+    CumulativeSum {
+        args: Items<Arg>,
+        axis: Option<i64>,
+    },
+    /// `groupby_min` where `least` holds, else `groupby_sum`: along the axis, by labels below `groups`
+    GroupBy {
+        least: bool,
+        args: Items<Arg>,
+        axis: i64,
+        groups: u32,
+    },
+}
+
+/// What is made of a group: the least of its elements or their sum.
+pub fn group_kind(least: bool) -> FoldKind
+    ensures { result ≡ group_kind least }
+{
+    if least { FoldKind::Min } else { FoldKind::Sum }
 }
 
 /// The most arguments of `concat` and `stack`.
@@ -146,7 +165,9 @@ impl Form {
             | Form::Rechunk { args, .. }
             | Form::Reduce { args, .. }
             | Form::ArgPlace { args, .. }
-            | Form::Matmul { args } => args.as_slice(),
+            | Form::Matmul { args }
+            | Form::CumulativeSum { args, .. }
+            | Form::GroupBy { args, .. } => args.as_slice(),
         }
     }
 
@@ -161,6 +182,7 @@ impl Form {
                 are_arrays(1, MOST_JOINED, args.as_slice())
             }
             Form::Matmul { args } => are_arrays(2, 2, args.as_slice()),
+            Form::GroupBy { args, .. } => are_arrays(2, 2, args.as_slice()),
             other => are_arrays(1, 1, other.args()),
         }
     }

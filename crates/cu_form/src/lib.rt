@@ -8,4 +8,4 @@ mod form;
 pub use args::Arg;
 pub use cu_node::{ElementOp, IndexItem, Items, Literal, NewShape};
 pub use expr::{Expr, Node};
-pub use form::Form;
+pub use form::{Form, group_kind};

@@ -91,29 +91,47 @@ pub record IsInput (f : Form) : Type 0 where
   pub name : List ℕ
   pub is : f ≡ Form.Input name
 
--- a node is an elementwise function, a reduction, a search for places, a product, a rechunk, an input or a view
-pub form_kind : (f : Form) → IsFunction f ⊎ (IsReduce f ⊎ (IsArgPlace f ⊎ (IsMatmul f ⊎ (IsRechunked f ⊎ (IsInput f ⊎ (is_view f ≡ true))))))
+pub record IsPrefixSum (f : Form) : Type 0 where
+  pub args : List Arg
+  pub axis : Option ℤ
+  pub is : f ≡ Form.CumulativeSum args axis
+
+pub record IsGroupBy (f : Form) : Type 0 where
+  pub least : Bool
+  pub args : List Arg
+  pub axis : ℤ
+  pub groups : ℕ
+  pub is : f ≡ Form.GroupBy least args axis groups
+
+-- a node is an elementwise function, a reduction, a search for places, a product, a rechunk, an input, a prefix sum, groups by labels or a
+-- view
+pub form_kind : (f : Form) → IsFunction f ⊎ (IsReduce f ⊎ (IsArgPlace f ⊎ (IsMatmul f ⊎ (IsRechunked f ⊎ (IsInput f ⊎ (IsPrefixSum f ⊎ (IsGroupBy f ⊎ (is_view f ≡ true))))))))
 form_kind (Form.Elementwise op args) = inl (record { op = op; args = args; is = refl })
 form_kind (Form.Reduce kind args axes keepdims) = inr (inl (record { kind = kind; args = args; axes = axes; keepdims = keepdims; is = refl }))
 form_kind (Form.ArgPlace least args axis keepdims) = inr (inr (inl (record { least = least; args = args; axis = axis; keepdims = keepdims; is = refl })))
 form_kind (Form.Matmul args) = inr (inr (inr (inl (record { args = args; is = refl }))))
 form_kind (Form.Rechunk args chunk) = inr (inr (inr (inr (inl (record { args = args; chunk = chunk; is = refl })))))
 form_kind (Form.Input name) = inr (inr (inr (inr (inr (inl (record { name = name; is = refl }))))))
-form_kind f = inr (inr (inr (inr (inr (inr refl)))))
+form_kind (Form.CumulativeSum args axis) = inr (inr (inr (inr (inr (inr (inl (record { args = args; axis = axis; is = refl })))))))
+form_kind (Form.GroupBy least args axis groups) = inr (inr (inr (inr (inr (inr (inr (inl (record { least = least; args = args; axis = axis; groups = groups; is = refl }))))))))
+form_kind f = inr (inr (inr (inr (inr (inr (inr (inr refl)))))))
 
 -- ---- a view
 
 -- what is none of the others is a view
 pub other_view : (f : Form) → ((name : List ℕ) → f ≡ Form.Input name → ⊥) → ((op : ElementOp) (args : List Arg) → f ≡ Form.Elementwise op args → ⊥) → ((args : List Arg) (chunk : List ℕ) → f ≡ Form.Rechunk args chunk → ⊥)
     → ((kind : FoldKind) (args : List Arg) (axes : Option (List ℤ)) (keepdims : Bool) → f ≡ Form.Reduce kind args axes keepdims → ⊥)
-    → ((least : Bool) (args : List Arg) (axis : Option ℤ) (keepdims : Bool) → f ≡ Form.ArgPlace least args axis keepdims → ⊥) → ((args : List Arg) → f ≡ Form.Matmul args → ⊥) → is_view f ≡ true
-other_view (Form.Input name) a b c d e g = absurd (a name refl)
-other_view (Form.Elementwise op args) a b c d e g = absurd (b op args refl)
-other_view (Form.Rechunk args chunk) a b c d e g = absurd (c args chunk refl)
-other_view (Form.Reduce kind args axes keepdims) a b c d e g = absurd (d kind args axes keepdims refl)
-other_view (Form.ArgPlace least args axis keepdims) a b c d e g = absurd (e least args axis keepdims refl)
-other_view (Form.Matmul args) a b c d e g = absurd (g args refl)
-other_view f a b c d e g = refl
+    → ((least : Bool) (args : List Arg) (axis : Option ℤ) (keepdims : Bool) → f ≡ Form.ArgPlace least args axis keepdims → ⊥) → ((args : List Arg) → f ≡ Form.Matmul args → ⊥)
+    → ((args : List Arg) (axis : Option ℤ) → f ≡ Form.CumulativeSum args axis → ⊥) → ((least : Bool) (args : List Arg) (axis : ℤ) (groups : ℕ) → f ≡ Form.GroupBy least args axis groups → ⊥) → is_view f ≡ true
+other_view (Form.Input name) a b c d e g h i = absurd (a name refl)
+other_view (Form.Elementwise op args) a b c d e g h i = absurd (b op args refl)
+other_view (Form.Rechunk args chunk) a b c d e g h i = absurd (c args chunk refl)
+other_view (Form.Reduce kind args axes keepdims) a b c d e g h i = absurd (d kind args axes keepdims refl)
+other_view (Form.ArgPlace least args axis keepdims) a b c d e g h i = absurd (e least args axis keepdims refl)
+other_view (Form.Matmul args) a b c d e g h i = absurd (g args refl)
+other_view (Form.CumulativeSum args axis) a b c d e g h i = absurd (h args axis refl)
+other_view (Form.GroupBy least args axis groups) a b c d e g h i = absurd (i least args axis groups refl)
+other_view f a b c d e g h i = refl
 
 pub view_steps : (infos : List NodeInfo) (options : Options) (k : ℕ) (f : Form) (ins : List ℕ) (first : ℕ) → is_view f ≡ true
     → steps_of infos options k f ins first ≡ only_step infos k (view_op infos f ins first) (own_need options.reserved options.split_every infos k f)
@@ -121,6 +139,8 @@ view_steps infos options k (Form.Elementwise op args) ins first view = cc
 view_steps infos options k (Form.Reduce kind args axes keepdims) ins first view = cc
 view_steps infos options k (Form.ArgPlace least args axis keepdims) ins first view = cc
 view_steps infos options k (Form.Matmul args) ins first view = cc
+view_steps infos options k (Form.CumulativeSum args axis) ins first view = cc
+view_steps infos options k (Form.GroupBy least args axis groups) ins first view = cc
 view_steps infos options k (Form.Rechunk args chunk) ins first view = cc
 view_steps infos options k (Form.Input name) ins first view = cc
 view_steps infos options k f ins first view = refl
@@ -130,6 +150,8 @@ view_needs reserved split_every infos k (Form.Elementwise op args) view = cc
 view_needs reserved split_every infos k (Form.Reduce kind args axes keepdims) view = cc
 view_needs reserved split_every infos k (Form.ArgPlace least args axis keepdims) view = cc
 view_needs reserved split_every infos k (Form.Matmul args) view = cc
+view_needs reserved split_every infos k (Form.CumulativeSum args axis) view = cc
+view_needs reserved split_every infos k (Form.GroupBy least args axis groups) view = cc
 view_needs reserved split_every infos k f view = ap (λ (b : Bool). if b then view_need reserved (info_at infos k) (arrays_in infos (args_of f)) else reserved) view
 
 -- its sources are its arguments' arrays
@@ -145,6 +167,8 @@ view_typed stored (Form.Rechunk args chunk) infos view = cc
 view_typed stored (Form.Reduce kind args axes keepdims) infos view = cc
 view_typed stored (Form.ArgPlace least args axis keepdims) infos view = cc
 view_typed stored (Form.Matmul args) infos view = cc
+view_typed stored (Form.CumulativeSum args axis) infos view = cc
+view_typed stored (Form.GroupBy least args axis groups) infos view = cc
 view_typed stored f infos view = refl
 
 -- its arguments are arrays
@@ -157,6 +181,8 @@ view_arrays (Form.Eye rows cols d dtype chunk) view takes = refl
 view_arrays (Form.Concat args axis) view takes = all_arrays 1 8 args takes
 view_arrays (Form.Stack args axis) view takes = all_arrays 1 8 args takes
 view_arrays (Form.Matmul args) view takes = cc
+view_arrays (Form.CumulativeSum args axis) view takes = cc
+view_arrays (Form.GroupBy least args axis groups) view takes = cc
 view_arrays f view takes = all_arrays 1 1 (args_of f) takes
 
 pub sources_in : (infos : List NodeInfo) (args : List Arg) → arrays_in infos args ≡ sources_of infos args

@@ -1,11 +1,14 @@
 mod Examples
 mod ViewExamples
 mod ReducedExamples
+mod AlongExamples
 mod CopiedExamples
 mod BoundedTypes
 pub mod NoNode
 pub mod Collected
 pub mod Aligning
+pub mod AlongTypes
+pub mod AlongValues
 pub mod Behind
 pub mod OperandSteps
 pub mod CopiedSteps

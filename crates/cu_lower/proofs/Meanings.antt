@@ -33,9 +33,10 @@ use Rattle.cu_lower_reduce.specs.Steps.{all_made, SolveSteps, last_made}
 use Rattle.cu_lower_reduce.specs.declared.step.Step.{Step}
 use Rattle.cu_lower.specs.Plan.{array_of_node, as_plan}
 use Rattle.cu_lower.specs.Inputs.{input_place}
-use Rattle.cu_lower.specs.Parts.{Grown, array_places, source_places, steps_of, setting, reduction_of, search_of}
+use Rattle.cu_lower.specs.Parts.{Grown, array_places, source_places, steps_of, setting, cumulative_of, reduction_of, search_of}
 use Rattle.cu_lower.specs.Premises.{IsLowerable, IsLiveInput, AreOfInputs, AreThere}
 use Rattle.cu_lower.specs.declared.options.Options.{Options}
+use Rattle.cu_lower.proofs.AlongValues.{prefix_told}
 use Rattle.cu_lower.proofs.Applied.{Told}
 use Rattle.cu_lower.proofs.Arguments.{Each, each_so, IsEarlierNode}
 use Rattle.cu_lower.proofs.CopiedSteps as copied
@@ -183,7 +184,7 @@ module _ (e : Expression) (infos : List NodeInfo) (inputs : List InputInfo) (opt
       (arguments_carried types k f s earlier)
       (subst (λ (ins : List ℕ). SolveSteps grown.arrays at (steps_of infos options k f ins (length s.before.arrays))) (view_sources e grown.places f viewed) (steps_solved k f s)))
 
-  -- ---- reductions, searches for places and products
+  -- ---- reductions, searches for places, products, prefix sums and groups by labels
 
   reduce_carries : HasTypes grown.arrays env → (k m : ℕ) (kind : FoldKind) (axes : Option (List ℤ)) (keepdims : Bool) (s : Stands k (Form.Reduce kind (Arg.Node m ∷ []) axes keepdims))
       → ((n : ℕ) → n < k → is_live e n ≡ true → Carries n) → Carries k
@@ -221,6 +222,31 @@ module _ (e : Expression) (infos : List NodeInfo) (inputs : List InputInfo) (opt
       (operations.matmul_copies e infos inputs options ok laws closed k l m s) (operations.multiplies e infos inputs options ok laws closed k l m s) both.0.known both.1.0.known (placed.stood_infos e infos inputs options ok laws k f s)
       must elements meaning at (steps_solved k f s) both.0.carries both.1.0.carries)
 
+  prefix_carries : HasTypes grown.arrays env → (k m : ℕ) (axis : Option ℤ) (s : Stands k (Form.CumulativeSum (Arg.Node m ∷ []) axis)) → ((n : ℕ) → n < k → is_live e n ≡ true → Carries n) → Carries k
+  prefix_carries types k m axis s earlier =
+      let f = Form.CumulativeSum (Arg.Node m ∷ []) axis in
+      let first = length s.before.arrays in
+      let c = (arguments_carried types k f s earlier).0 in
+      let x = cumulative_of infos k (Arg.Node m ∷ []) axis (array_places grown.places (args_of f)) in
+      let value = laws.sums.value grown.arrays at (setting options first) x (operations.is_setting e infos inputs options ok laws closed k f s) (operations.sums_are e infos inputs options ok laws closed k m axis s)
+      c.known (placed.stood_infos e infos inputs options ok laws k f s) (steps_solved k f s) in
+      carries_rule k f s (last_made first (placed.steps_at e infos inputs options ok laws k f first)) (place_is k f s)
+      (λ idx inside. prefix_told must infos elements meaning k m axis (at (array_of_node grown m)) (at (last_made first (placed.steps_at e infos inputs options ok laws k f first)) idx) idx
+      (typed.known_kept e infos inputs options ok m) (typed.known_kept e infos inputs options ok k) (typed.prefix e infos inputs options ok k m s.node axis s.at s.is) inside (value idx inside) c.carries)
+
+  groups_carries : HasTypes grown.arrays env → (k l m : ℕ) (least : Bool) (axis : ℤ) (groups : ℕ) (s : Stands k (Form.GroupBy least (Arg.Node l ∷ Arg.Node m ∷ []) axis groups))
+      → ((n : ℕ) → n < k → is_live e n ≡ true → Carries n) → Carries k
+  groups_carries types k l m least axis groups s earlier =
+      let f = Form.GroupBy least (Arg.Node l ∷ Arg.Node m ∷ []) axis groups in
+      let first = length s.before.arrays in
+      let both = arguments_carried types k (Form.GroupBy least (Arg.Node l ∷ Arg.Node m ∷ []) axis groups) s earlier in
+      carries_rule k f s (last_made first (placed.steps_at e infos inputs options ok laws k f first)) (place_is k f s)
+      (copied.groups_told laws infos options grown.arrays k (length s.before.arrays) (operations.room e infos inputs options ok laws closed k f s) least axis groups l m (array_of_node grown l) (array_of_node grown m)
+      (operations.groups_copies e infos inputs options ok laws closed k l m least axis groups s) (operations.groups_are e infos inputs options ok laws closed k l m least axis groups s)
+      both.0.known both.1.0.known (placed.stood_infos e infos inputs options ok laws k f s)
+      must elements meaning at (typed.known_kept e infos inputs options ok l) (typed.known_kept e infos inputs options ok m) (typed.known_kept e infos inputs options ok k)
+      (typed.groups e infos inputs options ok k l m s.node least axis groups s.at s.is) (steps_solved k f s) both.0.ranged both.0.carries both.1.0.carries)
+
   -- ---- copies
 
   rechunk_carries : HasTypes grown.arrays env → (k m : ℕ) (chunk : List ℕ) (s : Stands k (Form.Rechunk (Arg.Node m ∷ []) chunk)) → ((n : ℕ) → n < k → is_live e n ≡ true → Carries n) → Carries k
@@ -252,7 +278,10 @@ module _ (e : Expression) (infos : List NodeInfo) (inputs : List InputInfo) (opt
           | inr (inr (inr (inl r))) ↦ let two = typed.matmul_form e infos inputs options ok k s.node f s.at s.is r in matmul_carries types k two.0 two.1.0 (subst (Stands k) two.1.1 s) earlier
           | inr (inr (inr (inr (inl r)))) ↦ let one = typed.rechunk_form e infos inputs options ok k s.node f s.at s.is r in rechunk_carries types k one.0 r.chunk (subst (Stands k) one.1 s) earlier
           | inr (inr (inr (inr (inr (inl i))))) ↦ stored_carries of_inputs there k i.name (subst (Stands k) i.is s)
-          | inr (inr (inr (inr (inr (inr viewed))))) ↦ view_carries types k f s viewed earlier
+          | inr (inr (inr (inr (inr (inr (inl r)))))) ↦ let one = typed.prefix_form e infos inputs options ok k s.node f s.at s.is r in prefix_carries types k one.0 r.axis (subst (Stands k) one.1 s) earlier
+          | inr (inr (inr (inr (inr (inr (inr (inl r))))))) ↦
+              let two = typed.groups_form e infos inputs options ok k s.node f s.at s.is r in groups_carries types k two.0 two.1.0 r.least r.axis r.groups (subst (Stands k) two.1.1 s) earlier
+          | inr (inr (inr (inr (inr (inr (inr (inr viewed))))))) ↦ view_carries types k f s viewed earlier
         ]
 
     node_carries : (k : ℕ) (n : Node) → slice_get e.nodes k ≡ Some n → is_live e k ≡ true → ((m : ℕ) → m < k → is_live e m ≡ true → Carries m) → Carries k

@@ -1,6 +1,6 @@
 -- The steps of each live node that isn't given make its array, by its form.
 use Rattle.std.proofs.Common.{◌≡◌, ℕ, suc, ◌<◌, ◌^◌, true, false, List, [], ◌∷◌, Some, length, refl, ap, sym, ◌∙◌, subst, inl, inr, arith}
-use Rattle.std.specs.Prelude.{slice_get}
+use Rattle.std.specs.Prelude.{slice_get, slice_index}
 use Rattle.std.proofs.lemmas.List.{length-map}
 use Rattle.cu_form.specs.Expression.{Expression}
 use Rattle.cu_form.specs.declared.args.Arg.{Arg}
@@ -16,10 +16,11 @@ use Rattle.cu_need.specs.Operands.{in_aligned, operands_of}
 use Rattle.cu_lower.specs.Parts.{array_places, is_given, source_places, steps_of}
 use Rattle.cu_lower.specs.Premises.{IsLowerable}
 use Rattle.cu_lower.specs.declared.options.Options.{Options}
-use Rattle.cu_lower.proofs.FormKinds.{IsInput, IsReduce, IsArgPlace, IsMatmul, IsRechunked, form_kind, input_stored}
+use Rattle.cu_lower.proofs.AlongTypes.{cumulative_typed, grouped_typed}
+use Rattle.cu_lower.proofs.FormKinds.{IsInput, IsReduce, IsArgPlace, IsMatmul, IsPrefixSum, IsGroupBy, IsRechunked, form_kind, input_stored}
 use Rattle.cu_lower.proofs.Growing as growing
 use Rattle.cu_lower.proofs.Names.{inputs_few}
-use Rattle.cu_lower.proofs.OperandSteps.{AreOwn, function_own, input_own, matmul_own, rechunk_own, reduction_own, search_own, viewed_own}
+use Rattle.cu_lower.proofs.OperandSteps.{AreOwn, cumulative_own, function_own, groups_own, input_own, matmul_own, rechunk_own, reduction_own, search_own, viewed_own}
 use Rattle.cu_lower.proofs.ReductionTypes.{reduction_typed, search_typed}
 use Rattle.cu_lower.proofs.Ready as ready
 use Rattle.cu_lower.proofs.StepLaws.{HaveLaws}
@@ -80,6 +81,27 @@ module _ (e : Expression) (infos : List NodeInfo) (inputs : List InputInfo) (opt
       (ready.matmul_copies e infos inputs options ok k n.node (Arg.Node l ∷ Arg.Node m ∷ []) n.at (n.is ∙ two) n.live first) refl
       (typed.known_kept e infos inputs options ok l) (typed.known_kept e infos inputs options ok m) (typed.known_kept e infos inputs options ok k) passed)
 
+  prefix_steps : (k : ℕ) (f : Form) → IsNode k f → (r : IsPrefixSum f) → (places : List ℕ) (first : ℕ) → first < 2 ^ 30 → OwnSteps k f places first
+  prefix_steps k f n r places first small =
+      let (m, one) = typed.prefix_form e infos inputs options ok k n.node f n.at n.is r in
+      let passed = typed.prefix e infos inputs options ok k m n.node r.axis n.at (n.is ∙ one) in
+      subst (λ (x : Form). OwnSteps k x places first) (sym one)
+      (cumulative_own laws infos options e.out k (Arg.Node m ∷ []) r.axis (array_places places (Arg.Node m ∷ [])) first (ready.has_room e infos inputs options ok k n.node first n.at n.live small)
+      (cumulative_typed r.axis (info_at infos m) (info_at infos k) _ (typed.known_kept e infos inputs options ok m) (typed.known_kept e infos inputs options ok k) passed))
+
+  groups_steps : (k : ℕ) (f : Form) → IsNode k f → (r : IsGroupBy f) → (places : List ℕ) (first : ℕ) → first < 2 ^ 30 → OwnSteps k f places first
+  groups_steps k f n r places first small =
+      let (l, (m, two)) = typed.groups_form e infos inputs options ok k n.node f n.at n.is r in
+      let args = Arg.Node l ∷ Arg.Node m ∷ [] in
+      let passed = typed.groups e infos inputs options ok k l m n.node r.least r.axis r.groups n.at (n.is ∙ two) in
+      let count = typed.group_count e infos inputs options ok k n.node r.least (Arg.Node l ∷ Arg.Node m ∷ []) r.axis r.groups n.at (n.is ∙ two) in
+      subst (λ (x : Form). OwnSteps k x places first) (sym two)
+      (groups_own laws infos options e.out k r.least (Arg.Node l ∷ Arg.Node m ∷ []) r.axis r.groups (array_places places args) first (ready.has_room e infos inputs options ok k n.node first n.at n.live small)
+      (ready.groups_copies e infos inputs options ok k n.node r.least (Arg.Node l ∷ Arg.Node m ∷ []) r.axis r.groups n.at (n.is ∙ two) n.live first) refl
+      (λ read.
+      grouped_typed r.least r.axis r.groups (info_at infos l) (info_at infos m) (info_at infos k) (slice_index read 0) (slice_index read 1)
+      (typed.known_kept e infos inputs options ok l) (typed.known_kept e infos inputs options ok m) (typed.known_kept e infos inputs options ok k) count passed))
+
   rechunk_steps : (k : ℕ) (f : Form) → IsNode k f → (r : IsRechunked f) → (places : List ℕ) (first : ℕ) → OwnSteps k f places first
   rechunk_steps k f n r places first =
       let (m, one) = typed.rechunk_form e infos inputs options ok k n.node f n.at n.is r in
@@ -106,7 +128,9 @@ module _ (e : Expression) (infos : List NodeInfo) (inputs : List InputInfo) (opt
         | inr (inr (inr (inl r))) ↦ matmul_steps k f own r places first small
         | inr (inr (inr (inr (inl r)))) ↦ rechunk_steps k f own r places first
         | inr (inr (inr (inr (inr (inl i))))) ↦ input_steps k f own i made places first
-        | inr (inr (inr (inr (inr (inr viewed))))) ↦ viewed_own infos options e.out k f (source_places e places f) first viewed (typed.known_kept e infos inputs options ok k)
+        | inr (inr (inr (inr (inr (inr (inl p)))))) ↦ prefix_steps k f own p places first small
+        | inr (inr (inr (inr (inr (inr (inr (inl r))))))) ↦ groups_steps k f own r places first small
+        | inr (inr (inr (inr (inr (inr (inr (inr viewed))))))) ↦ viewed_own infos options e.out k f (source_places e places f) first viewed (typed.known_kept e infos inputs options ok k)
       ]
 
   pub all_steps : growing.AllHaveSteps e infos options

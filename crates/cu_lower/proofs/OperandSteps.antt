@@ -1,6 +1,6 @@
 -- What the steps of a node come to whatever arrays its arguments have, and those of a node with copies.
 use Rattle.std.proofs.Common.{◌≡◌, ◌≢◌, ◌⊎◌, ℕ, ◌<◌, ◌≤◌, ◌+◌, ◌*◌, ◌^◌, ◌==◌, Bool, true, false, List, [], ◌∷◌, ◌++◌, All, filter, length, max, Option, None, Some, Ok, sum_by, ℤ, refl, ap, sym, ◌∙◌, subst, inl, inr, arith, if◌then◌else◌}
-use Rattle.std.specs.Prelude.{slice_index}
+use Rattle.std.specs.Prelude.{nat_lt, slice_index}
 use Rattle.std.proofs.lemmas.Bool.{cases_lt}
 use Rattle.std.proofs.lemmas.List.{append_assoc, length-append}
 use Rattle.std.proofs.lemmas.List.Elements.{All-append, All-cons, All-nil, All-weaker}
@@ -10,6 +10,7 @@ use Rattle.cu_copy.specs.Copies.{in_chunks, is_misaligned, max_mem, rechunk_cell
 use Rattle.cu_copy.specs.declared.copies.Rechunk.{Rechunk}
 use Rattle.cu_grid.specs.Grid.{IsGrid}
 use Rattle.cu_op.specs.declared.operation.Op.{Op}
+use Rattle.cu_form.specs.Form.{group_kind}
 use Rattle.cu_form.specs.declared.args.Arg.{Arg}
 use Rattle.cu_form.specs.declared.form.Form.{Form}
 use Rattle.cu_node.specs.Info.{IsInfo, info_at}
@@ -26,21 +27,26 @@ use Rattle.cu_num.specs.declared.types.Dtype.TheVariants.{Int64}
 use Rattle.cu_tree.specs.Marks.{sought_axes}
 use Rattle.cu_tree.specs.Needs.{fold_need, merge_need, pair_fold_need, pair_merge_need, product_need}
 use Rattle.cu_tree.specs.Partials.{chunks_written, first_partial, merged, product_partial, product_rounds, reduction_rounds, IsMiddle}
+use Rattle.cu_tree.specs.Sums.{carry_need, cumulative_need, cumulative_rounds, sums_array, sums_count}
 use Rattle.cu_tree.specs.declared.round.Round.{Round}
 use Rattle.cu_typing.specs.Matmul.{typed_matmul}
 use Rattle.cu_lower_reduce.specs.Copies.{aligned_places, aligned_steps, copy_steps, is_copy, AreCopies, IsCopyStep, IsStaged}
+use Rattle.cu_lower_reduce.specs.Cumulative.{cumulative_steps, carried_step, first_carry, last_scan, scanned_step, sum_carries, sum_merges, summed_step, summed_steps, IsCumulative}
+use Rattle.cu_lower_reduce.specs.Grouped.{grouped_steps, labels_folded, IsGrouped}
 use Rattle.cu_lower_reduce.specs.Partials.{IsSetting}
 use Rattle.cu_lower_reduce.specs.Products.{multiplied, product_steps}
 use Rattle.cu_lower_reduce.specs.Reductions.{folded, merges, reduction_steps, IsReduction}
 use Rattle.cu_lower_reduce.specs.Searches.{pair_merges, pairs_found, search_steps, value_chunk_bytes, IsSearch}
 use Rattle.cu_lower_reduce.specs.Steps.{all_made, grid_of, info_bytes, made_infos, step_tasks, with_merges, with_values, ComeTo}
+use Rattle.cu_lower_reduce.specs.declared.cumulative.Cumulative.{Cumulative}
+use Rattle.cu_lower_reduce.specs.declared.grouped.Grouped.{Grouped}
 use Rattle.cu_lower_reduce.specs.declared.product.Product.{Product}
 use Rattle.cu_lower_reduce.specs.declared.reduction.Reduction.{Reduction}
 use Rattle.cu_lower_reduce.specs.declared.search.Search.{Search}
 use Rattle.cu_lower_reduce.specs.declared.step.Setting.{Setting}
 use Rattle.cu_lower_reduce.specs.declared.step.Step.{Step}
 use Rattle.cu_lower_reduce.proofs.Operands.{made_append}
-use Rattle.cu_lower.specs.Parts.{copying, map_of, only_step, product_of, reduction_of, search_of, setting, steps_of, view_op, CanCopy, Make}
+use Rattle.cu_lower.specs.Parts.{copying, cumulative_of, grouped_of, grouped_over, map_of, only_step, product_of, reduction_of, search_of, setting, steps_of, view_op, CanCopy, Make}
 use Rattle.cu_lower.specs.Premises.{is_computed}
 use Rattle.cu_lower.specs.declared.options.Options.{Options}
 use Rattle.cu_lower.proofs.Grids.{info_grid}
@@ -87,7 +93,7 @@ pub record AreOwn (infos : List NodeInfo) (options : Options) (out k : ℕ) (f :
 pub record AreComputed (need tasks cells : ℕ) (made : NodeInfo) (ss : List Step) : Type 0 where
   pub ends : (rest : List NodeInfo) × (all_made ss ≡ rest ++ made ∷ [])
   pub grids : All (λ m. IsGrid (grid_of m)) (all_made ss)
-  pub few : length ss ≤ 25
+  pub few : length ss ≤ 33
   pub others : All (λ s. is_copy s.op ≡ false) ss
   pub needs : All (λ s. s.need ≤ need) ss
   pub tasks_are : sum_by step_tasks ss ≡ tasks
@@ -108,7 +114,7 @@ only_computed infos k op need kept other tasks = record {
   attained = inl (other, refl);
 }
 
--- those of a reduction, a search for places or a product
+-- those of a reduction, a search for places, a product or groups by labels
 pub come_computed : (need tasks cells : ℕ) (made : NodeInfo) (ss : List Step) → ComeTo need tasks cells made ss → All (λ s. is_copy s.op ≡ false) ss → Attain need ss → AreComputed need tasks cells made ss
 come_computed need tasks cells made ss come others attained = record {
   ends = come.ends;
@@ -206,7 +212,7 @@ module _ (infos : List NodeInfo) (options : Options) (out k : ℕ) (f : Form) wh
         attained = λ computed. not_both (is_computed f) _ computed alone;
       }
 
--- ---- reductions, searches for places and products
+-- ---- reductions, searches for places, products and groups by labels
 
 merges_other : (s : Setting) (kind : FoldKind) (made : NodeInfo) (source : ℕ) (partial : NodeInfo) (rs : List Round) → All (λ s. is_copy s.op ≡ false) (merges s kind made source partial rs)
 merges_other s kind made source partial [] = All-nil (λ s. is_copy s.op ≡ false)
@@ -327,6 +333,120 @@ matmul_own laws infos options out k args ins first room can long hl hr hm typed 
     (chunks_written (product_partial i (info_at infos k)) (product_rounds options.split_every i (info_at infos k)) (info_at infos k))
     (chunks_written (product_partial i (info_at infos k)) (product_rounds options.split_every i (info_at infos k)) (info_at infos k)) (info_at infos k) (product_steps s x)) kept own)
 
+-- ---- prefix sums
+
+sum_merges_other : (s : Setting) (source : ℕ) (sums : NodeInfo) (rs : List Round) → All (λ s. is_copy s.op ≡ false) (sum_merges s source sums rs)
+sum_merges_other s source sums [] = All-nil (λ s. is_copy s.op ≡ false)
+sum_merges_other s source sums (r ∷ rs) = All-cons (λ s. is_copy s.op ≡ false) _ (sum_merges s (source + 1) (merged r sums) rs) refl (sum_merges_other s (source + 1) (merged r sums) rs)
+
+sum_carries_other : (s : Setting) (axis source : ℕ) (sums : NodeInfo) (rs : List Round) (next : ℕ) → All (λ s. is_copy s.op ≡ false) (sum_carries s axis source sums rs next)
+sum_carries_other s axis source sums [] next = All-cons (λ s. is_copy s.op ≡ false) _ [] refl (All-nil (λ s. is_copy s.op ≡ false))
+sum_carries_other s axis source sums (r ∷ rs) next =
+    All-append (λ s. is_copy s.op ≡ false) (sum_carries s axis (source + 1) (merged r sums) rs next) (carried_step s axis source sums (Some (next + length rs)) (next + length rs + 1) ∷ [])
+    (sum_carries_other s axis (source + 1) (merged r sums) rs next) (All-cons (λ s. is_copy s.op ≡ false) _ [] refl (All-nil (λ s. is_copy s.op ≡ false)))
+
+either_all : {A : Type 0} (P : A → Type 0) (b : Bool) (xs ys : List A) → All P xs → All P ys → All P (if b then xs else ys)
+either_all P true xs ys h k = h
+either_all P false xs ys h k = k
+
+cumulative_other : (s : Setting) (x : Cumulative) → All (λ s. is_copy s.op ≡ false) (cumulative_steps s x)
+cumulative_other s x =
+    let sums = sums_array x.made x.from x.axis in
+    let rs = cumulative_rounds s.split_every x.made x.from x.axis in
+    let alone = scanned_step x None s.first (fold_need s.reserved (info_bytes x.from) (info_bytes x.made)) in
+    let one = All-cons (λ s. is_copy s.op ≡ false) (last_scan s x sums rs) [] refl (All-nil (λ s. is_copy s.op ≡ false)) in
+    let merges = sum_merges s s.first sums rs in
+    let carries = sum_carries s x.axis s.first sums rs (first_carry s rs) in
+    let rest = All-append (λ s. is_copy s.op ≡ false) merges (carries ++ last_scan s x sums rs ∷ []) (sum_merges_other s s.first sums rs)
+    (All-append (λ s. is_copy s.op ≡ false) carries (last_scan s x sums rs ∷ []) (sum_carries_other s x.axis s.first sums rs (first_carry s rs)) one) in
+    either_all (λ s. is_copy s.op ≡ false) (nat_lt 1 (sums_count x.made x.from x.axis)) (summed_steps s x sums rs) (alone ∷ [])
+    (All-cons (λ s. is_copy s.op ≡ false) (summed_step s x sums) (merges ++ (carries ++ last_scan s x sums rs ∷ [])) refl rest)
+    (All-cons (λ s. is_copy s.op ≡ false) alone [] refl (All-nil (λ s. is_copy s.op ≡ false)))
+
+attain_front : (need : ℕ) (xs ys : List Step) → Attain need xs → Attain need (xs ++ ys)
+attain_front need [] ys h = absurd h
+attain_front need (x ∷ xs) ys (inl here) = inl here
+attain_front need (x ∷ xs) ys (inr more) = inr (attain_front need xs ys more)
+
+-- each carry needs as much
+carries_attain : (s : Setting) (axis source : ℕ) (sums : NodeInfo) (rs : List Round) (next : ℕ) → Attain (carry_need s.reserved s.split_every (info_bytes sums)) (sum_carries s axis source sums rs next)
+carries_attain s axis source sums [] next = inl (refl, refl)
+carries_attain s axis source sums (r ∷ rs) next =
+    attain_front (carry_need s.reserved s.split_every (info_bytes sums)) (sum_carries s axis (source + 1) (merged r sums) rs next) _ (carries_attain s axis (source + 1) (merged r sums) rs next)
+
+either_attain : (b : Bool) (many one : ℕ) (ms os : List Step) → Attain many ms → Attain one os → Attain (if b then many else one) (if b then ms else os)
+either_attain true many one ms os h k = h
+either_attain false many one ms os h k = k
+
+-- of three needs one is the greatest
+summed_attain : (s : Setting) (x : Cumulative) (sums : NodeInfo) (rs : List Round)
+    → Attain (max (fold_need s.reserved (info_bytes x.from) (info_bytes sums)) (max (carry_need s.reserved s.split_every (info_bytes sums)) (product_need s.reserved (info_bytes x.from) (info_bytes sums) (info_bytes x.made)))) (summed_steps s x sums rs)
+summed_attain s x sums rs =
+    let fold = fold_need s.reserved (info_bytes x.from) (info_bytes sums) in
+    let carry = carry_need s.reserved s.split_every (info_bytes sums) in
+    let scan = product_need s.reserved (info_bytes x.from) (info_bytes sums) (info_bytes x.made) in
+    let merges = sum_merges s s.first sums rs in
+    let carries = sum_carries s x.axis s.first sums rs (first_carry s rs) in
+    let last = last_scan s x sums rs in
+    elim (cases_lt fold (max carry scan)) [
+      | inr most ↦ inl (refl, omega (arith, most))
+      | inl less ↦
+          elim (cases_lt carry scan) [
+            | inr more ↦
+                let is : carry ≡ max fold (max carry scan) = omega (arith, less, more) in
+                inr (subst (λ (n : ℕ). Attain n (merges ++ (carries ++ last ∷ []))) is
+                (attain_back carry merges (carries ++ last ∷ []) (attain_front carry carries (last ∷ []) (carries_attain s x.axis s.first sums rs (first_carry s rs)))))
+            | inl under ↦
+                let is : scan ≡ max fold (max carry scan) = omega (arith, less, under) in
+                inr (subst (λ (n : ℕ). Attain n (merges ++ (carries ++ last ∷ []))) is (attain_back scan merges (carries ++ last ∷ []) (attain_back scan carries (last ∷ []) (inl (refl, refl)))))
+          ]
+    ]
+
+cumulative_attain : (s : Setting) (x : Cumulative) → Attain (cumulative_need s.reserved s.split_every x.made x.from x.axis) (cumulative_steps s x)
+cumulative_attain s x =
+    either_attain (nat_lt 1 (sums_count x.made x.from x.axis)) _ (fold_need s.reserved (info_bytes x.from) (info_bytes x.made)) _ _
+    (summed_attain s x (sums_array x.made x.from x.axis) (cumulative_rounds s.split_every x.made x.from x.axis)) (inl (refl, refl))
+
+pub cumulative_own : (laws : HaveLaws) (infos : List NodeInfo) (options : Options) (out k : ℕ) (args : List Arg) (axis : Option ℤ) (ins : List ℕ) (first : ℕ) → HasRoom options first
+    → IsCumulative (cumulative_of infos k args axis ins) → AreOwn infos options out k (Form.CumulativeSum args axis) (steps_of infos options k (Form.CumulativeSum args axis) ins first)
+cumulative_own laws infos options out k args axis ins first room summed =
+    let s = setting options first in
+    let x = cumulative_of infos k args axis ins in
+    computed_own infos options out k (Form.CumulativeSum args axis) (cumulative_steps (setting options first) (cumulative_of infos k args axis ins)) refl
+    (come_computed _ _ _ (info_at infos k) (cumulative_steps (setting options first) (cumulative_of infos k args axis ins)) (laws.sums.sizes s x (own_setting options first first room (omega arith)) summed)
+    (cumulative_other s x) (cumulative_attain s x))
+
+-- ---- groups by labels
+
+folded_labels_attain : (s : Setting) (x : Grouped) (partial : NodeInfo) (rs : List Round)
+    → Attain (with_merges rs (product_need s.reserved (info_bytes x.source_info) (info_bytes x.labels_info) (info_bytes x.made)) (merge_need s.reserved s.split_every (info_bytes x.made))) (labels_folded s x partial rs)
+folded_labels_attain s x partial [] = inl (refl, refl)
+folded_labels_attain s x partial (r ∷ rs) =
+    greater (product_need s.reserved (info_bytes x.source_info) (info_bytes x.labels_info) (info_bytes x.made)) (merge_need s.reserved s.split_every (info_bytes x.made)) _
+
+-- those of groups by labels, which the form of node k tells of
+pub groups_own : (laws : HaveLaws) (infos : List NodeInfo) (options : Options) (out k : ℕ) (least : Bool) (args : List Arg) (axis : ℤ) (groups : ℕ) (ins : List ℕ) (first : ℕ) → HasRoom options first
+    → CanCopy infos options k (Form.GroupBy least args axis groups) first → length ins ≡ 2 → ((read : List ℕ) → IsGrouped (grouped_over (grouped_of infos k least args axis groups) read))
+    → AreOwn infos options out k (Form.GroupBy least args axis groups) (steps_of infos options k (Form.GroupBy least args axis groups) ins first)
+groups_own laws infos options out k least args axis groups ins first room can long grouped =
+    let rs = operands_of infos k (Form.GroupBy least args axis groups) in
+    let copies = aligned_steps (copying options first) ins (operands_of infos k (Form.GroupBy least args axis groups)) in
+    let read = aligned_places (copying options first) ins (operands_of infos k (Form.GroupBy least args axis groups)) in
+    let next = first + length (all_made copies) in
+    let c = laws.operands.sizes (copying options first) ins rs can.operands long in
+    let two = misaligned_few rs in
+    let few = made_few copies in
+    let most = c.few in
+    let s = setting options next in
+    let x = grouped_over (grouped_of infos k least args axis groups) read in
+    let partial = product_partial x.labels_info x.made in
+    let rounds = product_rounds options.split_every x.labels_info x.made in
+    let room_next : next ≤ first + 16 = omega (arith, two, few, most) in
+    behind_own infos options out k (Form.GroupBy least args axis groups) first copies (grouped_steps s x) (omega (arith, two)) c
+    (come_computed _ _ _ (info_at infos k) (grouped_steps s x) (laws.groups.sizes s x (own_setting options first next room room_next) (grouped read))
+    (All-cons (λ s. is_copy s.op ≡ false) _ (merges s (group_kind least) (info_at infos k) next partial rounds) refl (merges_other s (group_kind least) (info_at infos k) next partial rounds))
+    (folded_labels_attain s x partial rounds))
+
 pub viewed_own : (infos : List NodeInfo) (options : Options) (out k : ℕ) (f : Form) (ins : List ℕ) (first : ℕ) → is_view f ≡ true → IsInfo (info_at infos k) → AreOwn infos options out k f (steps_of infos options k f ins first)
 viewed_own infos options out k (Form.Input name) ins first view kept = cc
 viewed_own infos options out k (Form.Elementwise op args) ins first view kept = cc
@@ -334,6 +454,8 @@ viewed_own infos options out k (Form.Rechunk args chunk) ins first view kept = c
 viewed_own infos options out k (Form.Reduce kind args axes keepdims) ins first view kept = cc
 viewed_own infos options out k (Form.ArgPlace least args axis keepdims) ins first view kept = cc
 viewed_own infos options out k (Form.Matmul args) ins first view kept = cc
+viewed_own infos options out k (Form.CumulativeSum args axis) ins first view kept = cc
+viewed_own infos options out k (Form.GroupBy least args axis groups) ins first view kept = cc
 viewed_own infos options out k f ins first view kept =
     let need = own_need options.reserved options.split_every infos k f in
     computed_own infos options out k f (only_step infos k (view_op infos f ins first) need) refl

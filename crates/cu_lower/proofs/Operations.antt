@@ -29,11 +29,13 @@ use Rattle.cu_lower_reduce.specs.Steps.{made_infos, all_made, HasInfo, HaveInfos
 use Rattle.cu_lower_reduce.specs.Partials.{IsSetting}
 use Rattle.cu_lower_reduce.specs.Products.{IsProduct}
 use Rattle.cu_lower_reduce.specs.Reductions.{IsReduction}
+use Rattle.cu_lower_reduce.specs.Cumulative.{IsCumulative}
+use Rattle.cu_lower_reduce.specs.Grouped.{IsGrouped}
 use Rattle.cu_lower_reduce.specs.Searches.{IsSearch}
 use Rattle.cu_lower_reduce.specs.declared.step.Step.{Step}
 use Rattle.cu_num.specs.declared.folds.FoldKind.{FoldKind}
 use Rattle.cu_lower.specs.Inputs.{input_names, input_place}
-use Rattle.cu_lower.specs.Parts.{Grown, CanCopy, array_places, source_places, steps_of, pull_in, setting, reduction_of, search_of, product_of, with_step}
+use Rattle.cu_lower.specs.Parts.{Grown, CanCopy, array_places, source_places, steps_of, pull_in, setting, cumulative_of, grouped_of, grouped_over, reduction_of, search_of, product_of, with_step}
 use Rattle.cu_lower.specs.Plan.{array_of_node}
 use Rattle.cu_lower.specs.Premises.{IsLowerable}
 use Rattle.cu_lower.specs.declared.options.Options.{Options}
@@ -48,6 +50,7 @@ use Rattle.cu_lower.proofs.Ready as ready
 use Rattle.cu_lower.proofs.Growing.{front_then, front_step, step_long, step_ops}
 use Rattle.cu_lower.proofs.NodeSteps.{all_steps, node_own}
 use Rattle.cu_lower.proofs.ProductTypes.{product_typed}
+use Rattle.cu_lower.proofs.AlongTypes.{cumulative_typed, grouped_typed}
 use Rattle.cu_lower.proofs.ReductionTypes.{reduction_typed, search_typed}
 use Rattle.cu_lower.proofs.Placed as placed
 use Rattle.cu_lower.proofs.Standing as standing
@@ -132,12 +135,28 @@ module _ (e : Expression) (infos : List NodeInfo) (inputs : List InputInfo) (opt
       product_typed (info_at infos l) (info_at infos m) (info_at infos k) (slice_index ins 0) (slice_index ins 1) (typed.known_kept e infos inputs options ok l) (typed.known_kept e infos inputs options ok m) (typed.known_kept e infos inputs options ok k)
       (typed.matmul e infos inputs options ok k l m s.node s.at s.is)
 
+  pub sums_are : (k m : ℕ) (axis : Option ℤ) → Stands k (Form.CumulativeSum (Arg.Node m ∷ []) axis) → IsCumulative (cumulative_of infos k (Arg.Node m ∷ []) axis (ins_of (Form.CumulativeSum (Arg.Node m ∷ []) axis)))
+  sums_are k m axis s =
+      cumulative_typed axis (info_at infos m) (info_at infos k) (array_of_node grown m) (typed.known_kept e infos inputs options ok m) (typed.known_kept e infos inputs options ok k)
+      (typed.prefix e infos inputs options ok k m s.node axis s.at s.is)
+
+  pub groups_are : (k l m : ℕ) (least : Bool) (axis : ℤ) (groups : ℕ) → Stands k (Form.GroupBy least (Arg.Node l ∷ Arg.Node m ∷ []) axis groups)
+      → (ins : List ℕ) → IsGrouped (grouped_over (grouped_of infos k least (Arg.Node l ∷ Arg.Node m ∷ []) axis groups) ins)
+  groups_are k l m least axis groups s ins =
+      grouped_typed least axis groups (info_at infos l) (info_at infos m) (info_at infos k) (slice_index ins 0) (slice_index ins 1)
+      (typed.known_kept e infos inputs options ok l) (typed.known_kept e infos inputs options ok m) (typed.known_kept e infos inputs options ok k)
+      (typed.group_count e infos inputs options ok k s.node least (Arg.Node l ∷ Arg.Node m ∷ []) axis groups s.at s.is) (typed.groups e infos inputs options ok k l m s.node least axis groups s.at s.is)
+
   -- the copies of each form
   pub function_copies : (k : ℕ) (op : ElementOp) (args : List Arg) (s : Stands k (Form.Elementwise op args)) → CanCopy infos options k (Form.Elementwise op args) (length s.before.arrays)
   function_copies k op args s = ready.function_copies e infos inputs options ok k s.node op args s.at s.is s.live (length s.before.arrays)
 
   pub matmul_copies : (k l m : ℕ) (s : Stands k (Form.Matmul (Arg.Node l ∷ Arg.Node m ∷ []))) → CanCopy infos options k (Form.Matmul (Arg.Node l ∷ Arg.Node m ∷ [])) (length s.before.arrays)
   matmul_copies k l m s = ready.matmul_copies e infos inputs options ok k s.node (Arg.Node l ∷ Arg.Node m ∷ []) s.at s.is s.live (length s.before.arrays)
+
+  pub groups_copies : (k l m : ℕ) (least : Bool) (axis : ℤ) (groups : ℕ) (s : Stands k (Form.GroupBy least (Arg.Node l ∷ Arg.Node m ∷ []) axis groups))
+      → CanCopy infos options k (Form.GroupBy least (Arg.Node l ∷ Arg.Node m ∷ []) axis groups) (length s.before.arrays)
+  groups_copies k l m least axis groups s = ready.groups_copies e infos inputs options ok k s.node least (Arg.Node l ∷ Arg.Node m ∷ []) axis groups s.at s.is s.live (length s.before.arrays)
 
   -- they are steps over the arrays of the plan
   abbrev AreNodeSteps : (k : ℕ) (f : Form) → Stands k f → Type 0
@@ -168,6 +187,25 @@ module _ (e : Expression) (infos : List NodeInfo) (inputs : List InputInfo) (opt
       copied.multiply_steps laws infos options grown.arrays k (length s.before.arrays) (room k f s) l m (array_of_node grown l) (array_of_node grown m) (matmul_copies k l m s) (multiplies k l m s)
       known.0 known.1.0 (placed.stood_infos e infos inputs options ok laws k f s)
 
+  -- the array that is summed stands before the node's own
+  argument_before : (k m : ℕ) (f : Form) (args : List Arg) (s : Stands k f) → args_of f ≡ Arg.Node m ∷ args → array_of_node grown m < length s.before.arrays
+  argument_before k m f args s is =
+      (subst (Each (λ n. array_of_node grown n < length s.before.arrays)) is
+      (each_so (IsEarlierNode e k) (λ n. array_of_node grown n < length s.before.arrays) (λ n a. s.earlier n a.below a.live) (args_of f) (placed.arguments e infos inputs options ok laws closed k f s))).0
+
+  prefix_steps : (k m : ℕ) (axis : Option ℤ) (s : Stands k (Form.CumulativeSum (Arg.Node m ∷ []) axis)) → AreNodeSteps k (Form.CumulativeSum (Arg.Node m ∷ []) axis) s
+  prefix_steps k m axis s =
+      let f = Form.CumulativeSum (Arg.Node m ∷ []) axis in
+      laws.sums.steps grown.arrays (setting options (length s.before.arrays)) (cumulative_of infos k (Arg.Node m ∷ []) axis (ins_of f)) (is_setting k f s) (sums_are k m axis s) (argument_before k m f [] s refl)
+      (argument_known k m f [] s refl) (placed.stood_infos e infos inputs options ok laws k f s)
+
+  groups_steps : (k l m : ℕ) (least : Bool) (axis : ℤ) (groups : ℕ) (s : Stands k (Form.GroupBy least (Arg.Node l ∷ Arg.Node m ∷ []) axis groups)) → AreNodeSteps k (Form.GroupBy least (Arg.Node l ∷ Arg.Node m ∷ []) axis groups) s
+  groups_steps k l m least axis groups s =
+      let f = Form.GroupBy least (Arg.Node l ∷ Arg.Node m ∷ []) axis groups in
+      let known = placed.arguments_known e infos inputs options ok laws closed k (Form.GroupBy least (Arg.Node l ∷ Arg.Node m ∷ []) axis groups) s in
+      copied.groups_steps laws infos options grown.arrays k (length s.before.arrays) (room k f s) least axis groups l m (array_of_node grown l) (array_of_node grown m) (groups_copies k l m least axis groups s)
+      (groups_are k l m least axis groups s) known.0 known.1.0 (placed.stood_infos e infos inputs options ok laws k f s)
+
   rechunk_steps : (k m : ℕ) (chunk : List ℕ) (s : Stands k (Form.Rechunk (Arg.Node m ∷ []) chunk)) → AreNodeSteps k (Form.Rechunk (Arg.Node m ∷ []) chunk) s
   rechunk_steps k m chunk s =
       let f = Form.Rechunk (Arg.Node m ∷ []) chunk in
@@ -195,7 +233,11 @@ module _ (e : Expression) (infos : List NodeInfo) (inputs : List InputInfo) (opt
         | inr (inr (inr (inl r))) ↦ let two = typed.matmul_form e infos inputs options ok k s.node f s.at s.is r in by_form (Form.Matmul (Arg.Node two.0 ∷ Arg.Node two.1.0 ∷ [])) two.1.1 (λ t. matmul_steps k two.0 two.1.0 t) s
         | inr (inr (inr (inr (inl r)))) ↦ let one = typed.rechunk_form e infos inputs options ok k s.node f s.at s.is r in by_form (Form.Rechunk (Arg.Node one.0 ∷ []) r.chunk) one.1 (λ t. rechunk_steps k one.0 r.chunk t) s
         | inr (inr (inr (inr (inr (inl i))))) ↦ by_form (Form.Input i.name) i.is (λ t. input_steps k i.name t) s
-        | inr (inr (inr (inr (inr (inr viewed))))) ↦ view_steps_are k f s viewed
+        | inr (inr (inr (inr (inr (inr (inl r)))))) ↦ let one = typed.prefix_form e infos inputs options ok k s.node f s.at s.is r in by_form (Form.CumulativeSum (Arg.Node one.0 ∷ []) r.axis) one.1 (λ t. prefix_steps k one.0 r.axis t) s
+        | inr (inr (inr (inr (inr (inr (inr (inl r))))))) ↦
+            let two = typed.groups_form e infos inputs options ok k s.node f s.at s.is r in
+            by_form (Form.GroupBy r.least (Arg.Node two.0 ∷ Arg.Node two.1.0 ∷ []) r.axis r.groups) two.1.1 (λ t. groups_steps k two.0 two.1.0 r.least r.axis r.groups t) s
+        | inr (inr (inr (inr (inr (inr (inr (inr viewed))))))) ↦ view_steps_are k f s viewed
       ]
     where
       by_form : {k : ℕ} {f : Form} (g : Form) → f ≡ g → ((t : Stands k g) → AreNodeSteps k g t) → (s : Stands k f) → AreNodeSteps k f s

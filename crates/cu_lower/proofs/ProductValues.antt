@@ -28,7 +28,7 @@ factors_told must o p x y (inl a) (inr none) = inr (none.0, ap (λ (v : Option �
 factors_told must o p x y (inr none) b = inr (none.0, ap (λ (v : Option ℤ). product_at v p) none.1)
 
 -- what holds of the numbers of a range
-over_range : (P : ℕ → Type 0) (first count : ℕ) → ((k : ℕ) → first ≤ k → k < first + count → P k) → All P (range_with_len first count)
+pub over_range : (P : ℕ → Type 0) (first count : ℕ) → ((k : ℕ) → first ≤ k → k < first + count → P k) → All P (range_with_len first count)
 over_range P first zero h = All-nil P
 over_range P first (suc count) h = All-cons P first (range_with_len (first + 1) count) (h first (omega arith) (omega arith)) (over_range P (first + 1) count (λ k low high. h k (omega (arith, low)) (omega (arith, high))))
 

@@ -26,13 +26,16 @@ use Rattle.cu_need.specs.Reduction.{array_of}
 use Rattle.cu_need.proofs.Staged.{all_staged}
 use Rattle.cu_need.proofs.TypedNodes.{typed_within}
 use Rattle.cu_lower_reduce.specs.Copies.{IsStaged}
+use Rattle.cu_lower_reduce.specs.Cumulative.{IsCumulative}
+use Rattle.cu_lower_reduce.specs.Grouped.{IsGrouped}
 use Rattle.cu_lower_reduce.specs.Products.{IsProduct}
 use Rattle.cu_lower_reduce.specs.Reductions.{IsReduction}
 use Rattle.cu_lower_reduce.specs.Searches.{IsSearch}
 use Rattle.cu_lower.specs.Inputs.{input_names}
-use Rattle.cu_lower.specs.Parts.{AreOptions, IsWritten, IsFitting, CanCopy, CanGrow, copying, is_given, reduction_of, search_of, product_of}
+use Rattle.cu_lower.specs.Parts.{AreOptions, IsWritten, IsFitting, CanCopy, CanGrow, copying, is_given, cumulative_of, grouped_of, grouped_over, reduction_of, search_of, product_of}
 use Rattle.cu_lower.specs.Premises.{IsLowerable}
 use Rattle.cu_lower.specs.declared.options.Options.{Options}
+use Rattle.cu_lower.proofs.AlongTypes.{cumulative_typed, grouped_typed}
 use Rattle.cu_lower.proofs.FormKinds.{input_stored}
 use Rattle.cu_lower.proofs.Names.{input_used, used_is_name}
 use Rattle.cu_lower.proofs.Needs.{node_need}
@@ -105,6 +108,24 @@ module _ (e : Expression) (infos : List NodeInfo) (inputs : List InputInfo) (opt
       (product_typed (info_at infos l) (info_at infos m) (info_at infos k) (slice_index ins 0) (slice_index ins 1) (typed.known_kept e infos inputs options ok l) (typed.known_kept e infos inputs options ok m) (typed.known_kept e infos inputs options ok k)
       (typed.matmul e infos inputs options ok k l m n at (is ∙ two)))
 
+  sums_are : (k : ℕ) (n : Node) (args : List Arg) (axis : Option ℤ) → slice_get e.nodes k ≡ Some n → n.form ≡ Form.CumulativeSum args axis → (ins : List ℕ) → IsCumulative (cumulative_of infos k args axis ins)
+  sums_are k n args axis at is ins =
+      let (m, one) = typed.prefix_form e infos inputs options ok k n (Form.CumulativeSum args axis) at is (record { args = args; axis = axis; is = refl }) in
+      let same : args ≡ Arg.Node m ∷ [] = cc in
+      subst (λ (xs : List Arg). IsCumulative (cumulative_of infos k xs axis ins)) (sym same)
+      (cumulative_typed axis (info_at infos m) (info_at infos k) (slice_index ins 0) (typed.known_kept e infos inputs options ok m) (typed.known_kept e infos inputs options ok k)
+      (typed.prefix e infos inputs options ok k m n axis at (is ∙ one)))
+
+  groups_are : (k : ℕ) (n : Node) (least : Bool) (args : List Arg) (axis : ℤ) (groups : ℕ) → slice_get e.nodes k ≡ Some n → n.form ≡ Form.GroupBy least args axis groups
+      → (ins : List ℕ) → IsGrouped (grouped_over (grouped_of infos k least args axis groups) ins)
+  groups_are k n least args axis groups at is ins =
+      let (l, (m, two)) = typed.groups_form e infos inputs options ok k n (Form.GroupBy least args axis groups) at is (record { least = least; args = args; axis = axis; groups = groups; is = refl }) in
+      let same : args ≡ Arg.Node l ∷ Arg.Node m ∷ [] = cc in
+      subst (λ (xs : List Arg). IsGrouped (grouped_over (grouped_of infos k least xs axis groups) ins)) (sym same)
+      (grouped_typed least axis groups (info_at infos l) (info_at infos m) (info_at infos k) (slice_index ins 0) (slice_index ins 1)
+      (typed.known_kept e infos inputs options ok l) (typed.known_kept e infos inputs options ok m) (typed.known_kept e infos inputs options ok k)
+      (typed.group_count e infos inputs options ok k n least args axis groups at is) (typed.groups e infos inputs options ok k l m n least axis groups at (is ∙ two)))
+
   -- ---- copies
 
   -- each copy of a live node can be made
@@ -144,6 +165,14 @@ module _ (e : Expression) (infos : List NodeInfo) (inputs : List InputInfo) (opt
     few = omega arith;
   }
 
+  pub groups_copies : (k : ℕ) (n : Node) (least : Bool) (args : List Arg) (axis : ℤ) (groups : ℕ) → slice_get e.nodes k ≡ Some n → n.form ≡ Form.GroupBy least args axis groups → is_live e k ≡ true → (first : ℕ)
+      → CanCopy infos options k (Form.GroupBy least args axis groups) first
+  groups_copies k n least args axis groups at is live first = record {
+    rechunks = operands k n (Form.GroupBy least args axis groups) at is;
+    operands = record { staged = staged k n (Form.GroupBy least args axis groups) at is live first };
+    few = omega arith;
+  }
+
   pub rechunk_staged : (k : ℕ) (n : Node) (args : List Arg) (chunk : List ℕ) → slice_get e.nodes k ≡ Some n → n.form ≡ Form.Rechunk args chunk → is_live e k ≡ true → (first : ℕ)
       → IsStaged (copying options first) (in_chunks (array_of infos args 0) (info_at infos k).chunk)
   rechunk_staged k n args chunk at is live first = All-head (IsStaged (copying options first)) (in_chunks (array_of infos args 0) (info_at infos k).chunk) [] (staged k n (Form.Rechunk args chunk) at is live first)
@@ -164,6 +193,8 @@ module _ (e : Expression) (infos : List NodeInfo) (inputs : List InputInfo) (opt
   form_ready k n (Form.Reduce kind args axes keepdims) at is live made = reduces k n kind args axes keepdims at is
   form_ready k n (Form.ArgPlace least args axis keepdims) at is live made = searches k n least args axis keepdims at is
   form_ready k n (Form.Matmul args) at is live made = (multiplies k n args at is, matmul_copies k n args at is live)
+  form_ready k n (Form.CumulativeSum args axis) at is live made = sums_are k n args axis at is
+  form_ready k n (Form.GroupBy least args axis groups) at is live made = (groups_are k n least args axis groups at is, groups_copies k n least args axis groups at is live)
   form_ready k n (Form.Rechunk args chunk) at is live made = rechunk_staged k n args chunk at is live
   form_ready k n (Form.Input name) at is live made = input_staged k n name at is live (input_stored e k name made)
   form_ready k n f at is live made = tt

@@ -99,7 +99,7 @@ module _ (e : Expression) (infos : List NodeInfo) (inputs : List InputInfo) (opt
   pub given_few : given ≤ 256
   given_few = let a = inputs_few e in let b = ok.form.few in omega (arith, a, b)
 
-  pub ops_few : length grown.ops ≤ 8192
+  pub ops_few : length grown.ops ≤ 10240
   ops_few =
       let k = standing.known e infos inputs options ok.form (all_steps e infos inputs options ok laws) in
       let few = k.few in
@@ -107,7 +107,7 @@ module _ (e : Expression) (infos : List NodeInfo) (inputs : List InputInfo) (opt
       let nodes = ok.form.few in
       omega (arith, few, all, nodes)
 
-  pub arrays_few : length grown.arrays ≤ 256 + 2 * 8192
+  pub arrays_few : length grown.arrays ≤ 256 + 2 * 10240
   arrays_few =
       let k = (standing.known e infos inputs options ok.form (all_steps e infos inputs options ok laws)).growing.few in
       let ops = ops_few in

@@ -1,4 +1,4 @@
--- The laws of the steps of a node: those of views, reductions, searches for places and products.
+-- The laws of the steps of a node: those of views, reductions, searches for places, products, prefix sums and groups by labels.
 use Rattle.std.specs.Prelude.{◌≡◌, ◌<◌, ◌+◌, ◌∷◌, ◌++◌, [], ℕ, ℤ, true, List, All, Some, filter, length, map, slice_index, sum_by}
 use Rattle.cu_copy.specs.Copies.{is_misaligned, rechunk_cells, rechunk_tasks, rechunked}
 use Rattle.cu_copy.specs.declared.copies.Rechunk.{Rechunk}
@@ -7,7 +7,9 @@ use Rattle.cu_num.specs.declared.folds.FoldKind.TheVariants.{Sum}
 use Rattle.cu_num.specs.declared.types.Dtype.TheVariants.{Int64}
 use Rattle.cu_shape.specs.Index.{IsInside}
 use Rattle.cu_reduce.specs.Folds.{reduced_to}
+use Rattle.cu_reduce.specs.Labels.{grouped_to}
 use Rattle.cu_reduce.specs.Places.{best_in}
+use Rattle.cu_reduce.specs.Prefix.{cumulative, line_through}
 use Rattle.cu_node.specs.declared.info.NodeInfo.{NodeInfo}
 use Rattle.cu_op.specs.Elements.{Elements}
 use Rattle.cu_op.specs.Places.{counted_at, pair_part}
@@ -17,6 +19,9 @@ use Rattle.cu_pull.specs.declared.pull.Pull.{Pull as View}
 use Rattle.cu_tree.specs.Marks.{sought_axes}
 use Rattle.cu_tree.specs.Needs.{fold_need, merge_need, pair_fold_need, pair_merge_need, product_need}
 use Rattle.cu_tree.specs.Partials.{first_partial, reduction_rounds, product_partial, product_rounds, chunks_written, chunks_before}
+use Rattle.cu_tree.specs.Sums.{cumulative_need, cumulative_chunks}
+use Rattle.cu_lower_reduce.specs.Cumulative.{cumulative_steps, IsCumulative}
+use Rattle.cu_lower_reduce.specs.Grouped.{grouped_steps, labelled_line, IsGrouped}
 use Rattle.cu_lower_reduce.specs.Partials.{IsSetting}
 use Rattle.cu_lower_reduce.specs.Products.{product_steps, inner_products, IsProduct}
 use Rattle.cu_lower_reduce.specs.Reductions.{reduction_steps, reduced_indices, IsReduction}
@@ -24,6 +29,8 @@ use Rattle.cu_lower_reduce.specs.Searches.{search_steps, value_chunk_bytes, IsSe
 use Rattle.cu_lower_reduce.specs.Steps.{HasInfo, HaveEach, HaveInfos, IsGiven, all_made, AreSteps, SolveSteps, last_made, with_merges, info_bytes, ComeTo}
 use Rattle.cu_lower_reduce.specs.Copies.{aligned_places, aligned_steps, copy_steps, AreCopies, AreOperands, IsStaged}
 use Rattle.cu_lower_reduce.specs.declared.copy.CopySetting.{CopySetting}
+use Rattle.cu_lower_reduce.specs.declared.cumulative.Cumulative.{Cumulative}
+use Rattle.cu_lower_reduce.specs.declared.grouped.Grouped.{Grouped}
 use Rattle.cu_lower_reduce.specs.declared.product.Product.{Product}
 use Rattle.cu_lower_reduce.specs.declared.reduction.Reduction.{Reduction}
 use Rattle.cu_lower_reduce.specs.declared.search.Search.{Search}
@@ -67,6 +74,28 @@ pub record ProductLaw : Type 0 where
       → (idx : List ℕ) → IsInside x.made.dims idx
       → at (last_made s.first (product_steps s x)) idx ≡ reduced_to Sum x.made.dtype (inner_products x (at x.left) (at x.right) idx)
 
+pub record CumulativeLaw : Type 0 where
+  pub steps : (arrays : List ArrayInfo) (s : Setting) (x : Cumulative) → IsSetting s → IsCumulative x → x.source < s.first → HasInfo arrays x.source x.from → HaveInfos arrays s.first (all_made (cumulative_steps s x))
+      → AreSteps arrays s.reserved (x.source ∷ []) s.first s.first (cumulative_steps s x)
+  pub sizes : (s : Setting) (x : Cumulative) → IsSetting s → IsCumulative x
+      → ComeTo (cumulative_need s.reserved s.split_every x.made x.from x.axis) (cumulative_chunks s.split_every x.made x.from x.axis) (cumulative_chunks s.split_every x.made x.from x.axis) x.made (cumulative_steps s x)
+  pub value : (arrays : List ArrayInfo) (at : Elements) (s : Setting) (x : Cumulative) → IsSetting s → IsCumulative x → HasInfo arrays x.source x.from → HaveInfos arrays s.first (all_made (cumulative_steps s x))
+      → SolveSteps arrays at (cumulative_steps s x) → (idx : List ℕ) → IsInside x.made.dims idx
+      → at (last_made s.first (cumulative_steps s x)) idx ≡ cumulative x.made.dtype (line_through (at x.source) x.axis idx) (slice_index idx x.axis)
+
+pub record GroupedLaw : Type 0 where
+  pub steps : (arrays : List ArrayInfo) (s : Setting) (x : Grouped) → IsSetting s → IsGrouped x → HasInfo arrays x.source x.source_info → HasInfo arrays x.labels x.labels_info
+      → HaveInfos arrays s.first (all_made (grouped_steps s x)) → AreSteps arrays s.reserved (x.source ∷ x.labels ∷ []) s.first s.first (grouped_steps s x)
+  pub sizes : (s : Setting) (x : Grouped) → IsSetting s → IsGrouped x
+      → ComeTo (with_merges (product_rounds s.split_every x.labels_info x.made) (product_need s.reserved (info_bytes x.source_info) (info_bytes x.labels_info) (info_bytes x.made)) (merge_need s.reserved s.split_every (info_bytes x.made)))
+      (chunks_written (product_partial x.labels_info x.made) (product_rounds s.split_every x.labels_info x.made) x.made)
+      (chunks_written (product_partial x.labels_info x.made) (product_rounds s.split_every x.labels_info x.made) x.made) x.made (grouped_steps s x)
+  pub value : (arrays : List ArrayInfo) (at : Elements) (s : Setting) (x : Grouped) → IsSetting s → IsGrouped x → HasInfo arrays x.source x.source_info → HasInfo arrays x.labels x.labels_info
+      → HaveInfos arrays s.first (all_made (grouped_steps s x)) → SolveSteps arrays at (grouped_steps s x)
+      → ((i : List ℕ) (y : ℤ) → IsInside x.source_info.dims i → at x.source i ≡ Some y → InRange x.source_info.dtype y)
+      → (idx : List ℕ) → IsInside x.made.dims idx
+      → at (last_made s.first (grouped_steps s x)) idx ≡ grouped_to x.kind x.made.dtype (slice_index idx x.axis) (labelled_line x (at x.source) (at x.labels) idx)
+
 pub record RechunkLaw : Type 0 where
   pub steps : (arrays : List ArrayInfo) (s : CopySetting) (source : ℕ) (r : Rechunk) → IsStaged s r → HasInfo arrays source r.source → HaveInfos arrays s.first (all_made (copy_steps s source r))
       → AreSteps arrays s.reserved (source ∷ []) s.first s.first (copy_steps s source r)
@@ -94,5 +123,7 @@ pub record HaveLaws : Type 0 where
   pub reductions : ReductionLaw
   pub searches : SearchLaw
   pub products : ProductLaw
+  pub sums : CumulativeLaw
+  pub groups : GroupedLaw
   pub rechunks : RechunkLaw
   pub operands : OperandsLaw

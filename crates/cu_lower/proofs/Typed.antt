@@ -2,7 +2,7 @@
 use Rattle.std.proofs.Common.{◌≡◌, ℕ, ◌≤◌, Bool, true, ℤ, List, [], ◌∷◌, Option, Some, Ok, Result, map, ap, sym, ◌∙◌, subst}
 use Rattle.std.specs.Prelude.{slice_get, unwrap_or}
 use Rattle.cu_form.specs.Expression.{Expression}
-use Rattle.cu_form.specs.Form.{args_of, takes_args, in_ranges}
+use Rattle.cu_form.specs.Form.{args_of, group_kind, is_group_count, takes_args, in_ranges}
 use Rattle.cu_form.specs.declared.args.Arg.{Arg}
 use Rattle.cu_form.specs.declared.expr.Node.{Node}
 use Rattle.cu_node.specs.declared.element_op.ElementOp.{ElementOp}
@@ -27,9 +27,10 @@ use Rattle.cu_lower.specs.declared.options.Options.{Options}
 use Rattle.cu_lower.proofs.Arguments.{arrays_told}
 use Rattle.cu_lower.proofs.InputNames.{named_layout}
 use Rattle.cu_num.specs.declared.folds.FoldKind.{FoldKind}
+use Rattle.cu_typing.specs.Along.{typed_cumulative, typed_groups}
 use Rattle.cu_typing.specs.Matmul.{typed_matmul}
 use Rattle.cu_typing.specs.Reduction.{typed_reduction, typed_arg_place}
-use Rattle.cu_lower.proofs.FormKinds.{IsReduce, IsArgPlace, IsMatmul, IsRechunked, view_typed, sources_in}
+use Rattle.cu_lower.proofs.FormKinds.{IsReduce, IsArgPlace, IsMatmul, IsPrefixSum, IsGroupBy, IsRechunked, view_typed, sources_in}
 use Rattle.cu_lower.proofs.ReductionTypes.{one_array, two_arrays}
 use Rattle.cu_need.proofs.FirstLive.{over_none}
 use Rattle.cu_lower.proofs.TypedForms.{form_typed}
@@ -62,7 +63,7 @@ module _ (e : Expression) (infos : List NodeInfo) (inputs : List InputInfo) (opt
         typed = sym (view_typed (stored_of (named_input inputs) f) f infos viewed ∙ ap (typed_as_view f) (arrays_told infos (args_of f) ∙ sources_in infos (args_of f))) ∙ told;
       }
 
-  -- a reduction, a search for places and a rechunk have one argument, and a product two
+  -- a reduction, a search for places, a prefix sum and a rechunk have one argument, a product and groups by labels two
   takes : (k : ℕ) (n : Node) (f : Form) → slice_get e.nodes k ≡ Some n → n.form ≡ f → takes_args f ≡ true
   takes k n f at is = subst (λ (x : Form). takes_args x ≡ true) is (ok.form.nodes k n at).form.args
 
@@ -81,6 +82,17 @@ module _ (e : Expression) (infos : List NodeInfo) (inputs : List InputInfo) (opt
       let two = two_arrays r.args (takes k n (Form.Matmul r.args) at (is ∙ r.is)) in
       (two.0, (two.1.0, r.is ∙ ap Form.Matmul two.1.1))
 
+  pub prefix_form : (k : ℕ) (n : Node) (f : Form) → slice_get e.nodes k ≡ Some n → n.form ≡ f → (r : IsPrefixSum f) → (m : ℕ) × (f ≡ Form.CumulativeSum (Arg.Node m ∷ []) r.axis)
+  prefix_form k n f at is r =
+      let one = one_array r.args (takes k n (Form.CumulativeSum r.args r.axis) at (is ∙ r.is)) in
+      (one.0, r.is ∙ ap (λ args. Form.CumulativeSum args r.axis) one.1)
+
+  pub groups_form : (k : ℕ) (n : Node) (f : Form) → slice_get e.nodes k ≡ Some n → n.form ≡ f → (r : IsGroupBy f)
+      → (l : ℕ) × ((m : ℕ) × (f ≡ Form.GroupBy r.least (Arg.Node l ∷ Arg.Node m ∷ []) r.axis r.groups))
+  groups_form k n f at is r =
+      let two = two_arrays r.args (takes k n (Form.GroupBy r.least r.args r.axis r.groups) at (is ∙ r.is)) in
+      (two.0, (two.1.0, r.is ∙ ap (λ args. Form.GroupBy r.least args r.axis r.groups) two.1.1))
+
   pub rechunk_form : (k : ℕ) (n : Node) (f : Form) → slice_get e.nodes k ≡ Some n → n.form ≡ f → (r : IsRechunked f) → (m : ℕ) × (f ≡ Form.Rechunk (Arg.Node m ∷ []) r.chunk)
   rechunk_form k n f at is r =
       let one = one_array r.args (takes k n (Form.Rechunk r.args r.chunk) at (is ∙ r.is)) in
@@ -97,6 +109,17 @@ module _ (e : Expression) (infos : List NodeInfo) (inputs : List InputInfo) (opt
 
   pub matmul : (k l m : ℕ) (n : Node) → slice_get e.nodes k ≡ Some n → n.form ≡ Form.Matmul (Arg.Node l ∷ Arg.Node m ∷ []) → typed_matmul (info_at infos l) (info_at infos m) ≡ Ok (info_at infos k)
   matmul k l m n at is = ap (typed_node inputs infos) (sym is) ∙ typed_whole k n at
+
+  pub prefix : (k m : ℕ) (n : Node) (axis : Option ℤ) → slice_get e.nodes k ≡ Some n → n.form ≡ Form.CumulativeSum (Arg.Node m ∷ []) axis → typed_cumulative axis (info_at infos m) ≡ Ok (info_at infos k)
+  prefix k m n axis at is = ap (typed_node inputs infos) (sym is) ∙ typed_whole k n at
+
+  pub groups : (k l m : ℕ) (n : Node) (least : Bool) (axis : ℤ) (size : ℕ) → slice_get e.nodes k ≡ Some n → n.form ≡ Form.GroupBy least (Arg.Node l ∷ Arg.Node m ∷ []) axis size
+      → typed_groups (group_kind least) axis size (info_at infos l) (info_at infos m) ≡ Ok (info_at infos k)
+  groups k l m n least axis size at is = ap (typed_node inputs infos) (sym is) ∙ typed_whole k n at
+
+  -- the number of groups is in its range
+  pub group_count : (k : ℕ) (n : Node) (least : Bool) (args : List Arg) (axis : ℤ) (size : ℕ) → slice_get e.nodes k ≡ Some n → n.form ≡ Form.GroupBy least args axis size → is_group_count size ≡ true
+  group_count k n least args axis size at is = subst (λ (f : Form). in_ranges f ≡ true) is (ok.form.nodes k n at).form.ranges
 
   pub rechunk : (k m : ℕ) (n : Node) (chunk : List ℕ) → slice_get e.nodes k ≡ Some n → n.form ≡ Form.Rechunk (Arg.Node m ∷ []) chunk → IsTyped infos k (Form.Rechunk (Arg.Node m ∷ []) chunk)
   rechunk k m n chunk at is = subst (IsTyped infos k) is (node_typed k n at)

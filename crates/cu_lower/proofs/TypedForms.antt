@@ -33,6 +33,12 @@ form_typed inputs infos k (Form.ArgPlace least args axis keepdims) takes is =
 form_typed inputs infos k (Form.Matmul args) takes is =
     let (m, (n, both)) = two_arrays args takes in
     subst (λ (given : List Arg). typed_node inputs infos (Form.Matmul given) ≡ Ok (info_at infos k) → IsTyped infos k (Form.Matmul given)) (sym both) (λ typed. typed) is
+form_typed inputs infos k (Form.CumulativeSum args axis) takes is =
+    let (n, one) = one_array args takes in
+    subst (λ (given : List Arg). typed_node inputs infos (Form.CumulativeSum given axis) ≡ Ok (info_at infos k) → IsTyped infos k (Form.CumulativeSum given axis)) (sym one) (λ typed. typed) is
+form_typed inputs infos k (Form.GroupBy least args axis groups) takes is =
+    let (m, (n, both)) = two_arrays args takes in
+    subst (λ (given : List Arg). typed_node inputs infos (Form.GroupBy least given axis groups) ≡ Ok (info_at infos k) → IsTyped infos k (Form.GroupBy least given axis groups)) (sym both) (λ typed. typed) is
 form_typed inputs infos k (Form.Rechunk args chunk) takes is =
     let (n, one) = one_array args takes in
     subst (λ (given : List Arg). typed_node inputs infos (Form.Rechunk given chunk) ≡ Ok (info_at infos k) → IsTyped infos k (Form.Rechunk given chunk)) (sym one)

@@ -16,7 +16,7 @@ use Rattle.cu_op.specs.declared.operation.Op.{Op}
 use Rattle.cu_op.specs.declared.operation.Op.TheVariants.{Map, Pull}
 use Rattle.cu_op.specs.declared.operation.Planned.{Planned}
 use Rattle.cu_form.specs.Expression.{Expression}
-use Rattle.cu_form.specs.Form.{args_of, names_earlier, takes_args, HasShortIndex}
+use Rattle.cu_form.specs.Form.{args_of, group_kind, names_earlier, takes_args, HasShortIndex}
 use Rattle.cu_form.specs.declared.args.Arg.{Arg}
 use Rattle.cu_node.specs.declared.element_op.ElementOp.{ElementOp}
 use Rattle.cu_form.specs.declared.form.Form.{Form}
@@ -27,6 +27,7 @@ use Rattle.cu_expr.specs.Kernel.{kernel_of}
 use Rattle.cu_typing.specs.Types.{shared_type}
 use Rattle.cu_typing.specs.declared.argument.Argument.{Argument}
 use Rattle.cu_expr.specs.Typing.{argument_of}
+use Rattle.cu_need.specs.Along.{group_axis, labels_wanted, sum_axis}
 use Rattle.cu_need.specs.Live.{is_live}
 use Rattle.cu_need.specs.Need.{own_need}
 use Rattle.cu_need.specs.Operands.{left_wanted, operands_of, right_wanted}
@@ -39,9 +40,13 @@ use Rattle.cu_copy.specs.declared.copies.Rechunk.{Rechunk}
 use Rattle.cu_lower_reduce.specs.Copies.{aligned_places, aligned_steps, copy_steps, AreOperands, IsStaged}
 use Rattle.cu_lower_reduce.specs.Steps.{all_made, grid_of}
 use Rattle.cu_lower_reduce.specs.declared.copy.CopySetting.{CopySetting}
+use Rattle.cu_lower_reduce.specs.Cumulative.{cumulative_steps, IsCumulative}
+use Rattle.cu_lower_reduce.specs.Grouped.{grouped_steps, IsGrouped}
 use Rattle.cu_lower_reduce.specs.Products.{product_steps, IsProduct}
 use Rattle.cu_lower_reduce.specs.Reductions.{reduction_steps, IsReduction}
 use Rattle.cu_lower_reduce.specs.Searches.{search_steps, IsSearch}
+use Rattle.cu_lower_reduce.specs.declared.cumulative.Cumulative.{Cumulative}
+use Rattle.cu_lower_reduce.specs.declared.grouped.Grouped.{Grouped}
 use Rattle.cu_lower_reduce.specs.declared.product.Product.{Product}
 use Rattle.cu_lower_reduce.specs.declared.reduction.Reduction.{Reduction}
 use Rattle.cu_lower_reduce.specs.declared.search.Search.{Search}
@@ -150,14 +155,49 @@ product_of infos k args ins = record {
   made = info_at infos k;
 }
 
+-- prefix sums along an axis
+abbrev pub cumulative_of : List NodeInfo → ℕ → List Arg → Option ℤ → List ℕ → Cumulative
+cumulative_of infos k args axis ins = record {
+  source = slice_index ins 0;
+  from = array_of infos args 0;
+  made = info_at infos k;
+  axis = sum_axis (array_of infos args 0) axis;
+}
+
+-- groups of an array by labels in its chunks on the axis, whatever arrays these are, and over the array and the labels that are read
+abbrev pub grouped_of : List NodeInfo → ℕ → Test → List Arg → ℤ → ℕ → Grouped
+grouped_of infos k least args axis groups = record {
+  kind = group_kind least;
+  axis = group_axis (array_of infos args 0) axis;
+  groups = groups;
+  source = 0;
+  labels = 0;
+  source_info = array_of infos args 0;
+  labels_info = rechunked (labels_wanted (array_of infos args 0) axis (array_of infos args 1));
+  made = info_at infos k;
+}
+
+abbrev pub grouped_over : Grouped → List ℕ → Grouped
+grouped_over x ins = record {
+  kind = x.kind;
+  axis = x.axis;
+  groups = x.groups;
+  source = slice_index ins 0;
+  labels = slice_index ins 1;
+  source_info = x.source_info;
+  labels_info = x.labels_info;
+  made = x.made;
+}
+
 -- The copies of operands that have other chunks than are wanted, and then steps that read the operands in these chunks; `own` takes their
 -- arrays, and the number of the next one.
 abbrev pub behind_copies : CopySetting → List ℕ → List Rechunk → (List ℕ → ℕ → List Step) → List Step
 behind_copies s ins wanted own = aligned_steps s ins wanted ++ own (aligned_places s ins wanted) (s.first + length (all_made (aligned_steps s ins wanted)))
 
 -- The steps of node k, whose arguments have the arrays `ins`; the first array that they write has number `first`. An elementwise function
--- and a view have one step; a reduction, a search for places and a product have one over chunks and one for each round of merges. Operands
--- of a function and of a product that have other chunks than are wanted are copied before. A rechunk is a copy of its argument, and an
+-- and a view have one step; a reduction, a search for places, a product and groups by labels have one over chunks and one for each round of
+-- merges, and prefix sums further ones that carry these sums on. Operands of a function and of a product, and labels, that have other chunks
+-- than are wanted are copied before. A rechunk is a copy of its argument, and an
 -- input one of the array with its name, which `with_next_node` asks for where the node is the one that is stored alone.
 abbrev pub steps_of : List NodeInfo → Options → ℕ → Form → List ℕ → ℕ → List Step
 steps_of infos options k (Form.Elementwise op args) ins first =
@@ -167,6 +207,10 @@ steps_of infos options k (Form.Reduce kind args axes keepdims) ins first = reduc
 steps_of infos options k (Form.ArgPlace least args axis keepdims) ins first = search_steps (setting options first) (search_of infos k least args axis ins)
 steps_of infos options k (Form.Matmul args) ins first =
     behind_copies (copying options first) ins (operands_of infos k (Form.Matmul args)) (λ read next. product_steps (setting options next) (product_of infos k args read))
+steps_of infos options k (Form.CumulativeSum args axis) ins first = cumulative_steps (setting options first) (cumulative_of infos k args axis ins)
+steps_of infos options k (Form.GroupBy least args axis groups) ins first =
+    behind_copies (copying options first) ins (operands_of infos k (Form.GroupBy least args axis groups))
+    (λ read next. grouped_steps (setting options next) (grouped_over (grouped_of infos k least args axis groups) read))
 steps_of infos options k (Form.Rechunk args chunk) ins first = copy_steps (copying options first) (slice_index ins 0) (in_chunks (array_of infos args 0) (info_at infos k).chunk)
 steps_of infos options k (Form.Input name) ins first = copy_steps (copying options first) (slice_index ins 0) (in_chunks (info_at infos k) (info_at infos k).chunk)
 steps_of infos options k form ins first = only_step infos k (view_op infos form ins first) (own_need options.reserved options.split_every infos k form)
@@ -175,7 +219,7 @@ steps_of infos options k form ins first = only_step infos k (view_op infos form 
 pub record Make (i : NodeInfo) (ss : List Step) : Type 0 where
   pub ends : (rest : List NodeInfo) × (all_made ss ≡ rest ++ i ∷ [])
   pub grids : All (λ m. IsGrid (grid_of m)) (all_made ss)
-  pub few : length ss ≤ 32
+  pub few : length ss ≤ 40
 
 -- ---- a plan that grows
 
@@ -239,10 +283,10 @@ pub record IsGrowing (e : Expression) (g : Grown) : Type 0 where
   pub makers : (a : ℕ) → a < length g.arrays → IsBefore (maker_at g.arrays a) (length g.ops)
   pub placed : (n : ℕ) → n < length g.places → is_live e n ≡ true → slice_index g.places n < length g.arrays
 
--- and behind a node: each node has at most 32 operations
+-- and behind a node: each node has at most 40 operations
 pub record IsGrown (e : Expression) (g : Grown) : Type 0 where
   pub growing : IsGrowing e g
-  pub few : length g.ops ≤ 32 * length g.places
+  pub few : length g.ops ≤ 40 * length g.places
 
 -- the options lie in their ranges
 pub record AreOptions (options : Options) : Type 0 where
@@ -264,7 +308,7 @@ pub record CanCopy (infos : List NodeInfo) (options : Options) (k : ℕ) (form :
   pub operands : AreOperands (copying options first) (operands_of infos k form)
   pub few : length (operands_of infos k form) ≤ 3
 
--- and beside it, by the form: a function's arguments have a type together; and what is reduced, sought or multiplied is
+-- and beside it, by the form: a function's arguments have a type together; and what is reduced, sought, multiplied, summed or grouped is
 abbrev pub IsFitting : List NodeInfo → Options → ℕ → Form → Type 0
 IsFitting infos options k (Form.Elementwise op args) =
     IsOk (shared_type op (map (argument_of infos) args)) × ((first : ℕ) → CanCopy infos options k (Form.Elementwise op args) first)
@@ -272,6 +316,9 @@ IsFitting infos options k (Form.Reduce kind args axes keepdims) = (ins : List �
 IsFitting infos options k (Form.ArgPlace least args axis keepdims) = (ins : List ℕ) → IsSearch (search_of infos k least args axis ins)
 IsFitting infos options k (Form.Matmul args) =
     ((ins : List ℕ) → IsProduct (product_of infos k args ins)) × ((first : ℕ) → CanCopy infos options k (Form.Matmul args) first)
+IsFitting infos options k (Form.CumulativeSum args axis) = (ins : List ℕ) → IsCumulative (cumulative_of infos k args axis ins)
+IsFitting infos options k (Form.GroupBy least args axis groups) =
+    ((ins : List ℕ) → IsGrouped (grouped_over (grouped_of infos k least args axis groups) ins)) × ((first : ℕ) → CanCopy infos options k (Form.GroupBy least args axis groups) first)
 IsFitting infos options k (Form.Rechunk args chunk) = (first : ℕ) → IsStaged (copying options first) (in_chunks (array_of infos args 0) (info_at infos k).chunk)
 IsFitting infos options k (Form.Input name) = (first : ℕ) → IsStaged (copying options first) (in_chunks (info_at infos k) (info_at infos k).chunk)
 IsFitting infos options k form = Unit {0}

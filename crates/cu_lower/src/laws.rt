@@ -22,7 +22,9 @@ ghost use Rattle.cu_lower.specs.Plan.{lowered, array_of_node, plan_of};
 ghost use Rattle.cu_lower.specs.Premises.{IsLowerable, IsLiveInput, OutputDiffers, AreThere, HasArraysInOrder, HaveElements, HasCounts, IsComputedNode, IsOfNode, IsOutput, NeedsAsMuch, expression_run};
 ghost use Rattle.cu_lower.specs.declared.options.Options.{Options};
 
-use cu_lower_reduce::{operands_law, product_law, rechunk_law, reduction_law, search_law};
+use cu_lower_reduce::{
+    cumulative_law, grouped_law, operands_law, product_law, rechunk_law, reduction_law, search_law,
+};
 use cu_lower_view::pull_law;
 use cu_need::live_law;
 use cu_op::range_law;
@@ -49,6 +51,8 @@ pub fn plan_law()
     reduction_law();
     search_law();
     product_law();
+    cumulative_law();
+    grouped_law();
     rechunk_law();
     operands_law();
 }
@@ -76,6 +80,8 @@ pub fn array_law()
     reduction_law();
     search_law();
     product_law();
+    cumulative_law();
+    grouped_law();
     rechunk_law();
     operands_law();
 }
@@ -98,6 +104,8 @@ pub fn value_law()
     reduction_law();
     search_law();
     product_law();
+    cumulative_law();
+    grouped_law();
     rechunk_law();
     operands_law();
     range_law();

@@ -20,7 +20,10 @@ use crate::parts::{made_array, source_places};
 use crate::steps::steps_of;
 use cu_expr::InputInfo;
 use cu_form::{Expr, Form};
-use cu_lower_reduce::{Step, operands_law, product_law, rechunk_law, reduction_law, search_law};
+use cu_lower_reduce::{
+    Step, cumulative_law, grouped_law, operands_law, product_law, rechunk_law, reduction_law,
+    search_law,
+};
 use cu_lower_view::pull_law;
 use cu_name::IdText;
 use cu_need::{live_law, live_marks};
@@ -274,6 +277,8 @@ fn grow(
     reduction_law();
     search_law();
     product_law();
+    cumulative_law();
+    grouped_law();
     rechunk_law();
     operands_law();
     let marks = live_marks(expr);
@@ -317,6 +322,8 @@ pub fn lower(
     reduction_law();
     search_law();
     product_law();
+    cumulative_law();
+    grouped_law();
     rechunk_law();
     operands_law();
     match grow(alloc, expr, infos, inputs, options) {

@@ -1,20 +1,26 @@
-//! The steps of reductions, searches for places and products.
+//! The steps of reductions, searches for places, products, prefix sums and groups by labels.
 
 ghost use Rattle.std.specs.Prelude.{◌≡◌, ◌<◌, ◌^◌, ◌++◌, IfOk, OnOk, length, slice_index};
+ghost use Rattle.cu_lower_reduce.specs.Cumulative.{cumulative_steps, IsCumulative};
+ghost use Rattle.cu_lower_reduce.specs.Grouped.{grouped_steps, IsGrouped};
 ghost use Rattle.cu_lower_reduce.specs.Partials.{IsSetting};
 ghost use Rattle.cu_lower_reduce.specs.Products.{product_steps, IsProduct};
 ghost use Rattle.cu_lower_reduce.specs.Reductions.{reduction_steps, IsReduction};
 ghost use Rattle.cu_lower_reduce.specs.Searches.{search_steps, IsSearch};
-ghost use Rattle.cu_lower.specs.Parts.{AreOptions, setting, reduction_of, search_of, product_of};
+ghost use Rattle.cu_lower.specs.Parts.{AreOptions, setting, reduction_of, search_of, product_of, cumulative_of, grouped_of, grouped_over};
 
 use crate::options::Options;
 use cu_copy::rechunked;
-use cu_form::{Arg, Items};
+use cu_form::{Arg, Items, group_kind};
 use cu_lower_reduce::{
-    Product, Reduction, Search, Setting, Step, product_step, product_step_count, reduction_step,
-    reduction_step_count, search_step, search_step_count,
+    Cumulative, Grouped, Product, Reduction, Search, Setting, Step, cumulative_step,
+    cumulative_step_count, grouped_step, grouped_step_count, product_step, product_step_count,
+    reduction_step, reduction_step_count, search_step, search_step_count,
 };
-use cu_need::{array_of, axes_reduced, left_wanted, right_wanted, sought_axis};
+use cu_need::{
+    array_of, axes_reduced, group_axis, labels_wanted, left_wanted, right_wanted, sought_axis,
+    sum_axis,
+};
 use cu_node::{NodeInfo, info_at};
 use cu_num::FoldKind;
 use std::alloc::{AllocError, Global};
@@ -102,6 +108,60 @@ pub(crate) fn product_of(infos: &[NodeInfo], node: u32, args: &[Arg], ins: &[u32
     }
 }
 
+/// Node number `node` as prefix sums of an argument, whose array is the first of `ins`.
+pub(crate) fn cumulative_of(
+    infos: &[NodeInfo],
+    node: u32,
+    args: &[Arg],
+    axis: Option<i64>,
+    ins: &[u32],
+) -> Cumulative
+    ensures { result ≡ cumulative_of infos.now node args.now axis ins.now }
+{
+    let from = array_of(infos, args, 0);
+    Cumulative {
+        source: source_of(ins, 0),
+        from,
+        made: info_at(infos, node),
+        axis: sum_axis(&from, axis),
+    }
+}
+
+/// Node number `node` as groups of an array by labels in its chunks on the axis, whatever arrays these are.
+pub(crate) fn grouped_of(
+    infos: &[NodeInfo],
+    node: u32,
+    least: bool,
+    args: &[Arg],
+    axis: i64,
+    groups: u32,
+) -> Grouped
+    ensures { result ≡ grouped_of infos.now node least args.now axis groups }
+{
+    let source_info = array_of(infos, args, 0);
+    let labels = array_of(infos, args, 1);
+    Grouped {
+        kind: group_kind(least),
+        axis: group_axis(&source_info, axis),
+        groups,
+        source: 0,
+        labels: 0,
+        source_info,
+        labels_info: rechunked(&labels_wanted(&source_info, axis, &labels)),
+        made: info_at(infos, node),
+    }
+}
+
+/// The same over the array and the labels that are read.
+pub(crate) fn grouped_over(x: &Grouped, ins: &[u32]) -> Grouped
+    ensures { result ≡ grouped_over x.now ins.now }
+{
+    let mut over = *x;
+    over.source = source_of(ins, 0);
+    over.labels = source_of(ins, 1);
+    over
+}
+
 /// The steps of a reduction.
 pub(crate) fn reduction_steps(
     alloc: Global,
@@ -144,6 +204,35 @@ pub(crate) fn push_product(
 {
     for at in 0..product_step_count(s, x) {
         steps.push(product_step(s, x, at))?;
+    }
+    Ok(())
+}
+
+/// The steps of prefix sums.
+pub(crate) fn cumulative_steps(
+    alloc: Global,
+    s: &Setting,
+    x: &Cumulative,
+) -> Result<Vec<Step>, AllocError>
+    requires setting { IsSetting s.now }
+    requires cumulative { IsCumulative x.now }
+    ensures { IfOk result (λ steps. steps.items ≡ cumulative_steps s.now x.now) }
+{
+    let mut steps = Vec::new(alloc);
+    for at in 0..cumulative_step_count(s, x) {
+        steps.push(cumulative_step(s, x, at))?;
+    }
+    Ok(steps)
+}
+
+/// Adds the steps of groups by labels.
+pub(crate) fn push_groups(steps: &mut Vec<Step>, s: &Setting, x: &Grouped) -> Result<(), AllocError>
+    requires setting { IsSetting s.now }
+    requires grouped { IsGrouped x.now }
+    ensures { OnOk result (steps.new.items ≡ steps.old.items ++ grouped_steps s.now x.now) }
+{
+    for at in 0..grouped_step_count(s, x) {
+        steps.push(grouped_step(s, x, at))?;
     }
     Ok(())
 }

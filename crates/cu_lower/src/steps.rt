@@ -5,6 +5,7 @@ ghost use Rattle.cu_copy.specs.Copies.{in_chunks};
 ghost use Rattle.cu_expr.specs.Typing.{argument_of};
 ghost use Rattle.cu_form.specs.Form.{element_takes, takes_args};
 ghost use Rattle.cu_lower_reduce.specs.Copies.{aligned_places, aligned_steps, copy_steps, AreOperands, IsCopySetting, IsStaged};
+ghost use Rattle.cu_lower_reduce.specs.Grouped.{grouped_steps, IsGrouped};
 ghost use Rattle.cu_lower_reduce.specs.Products.{product_steps, IsProduct};
 ghost use Rattle.cu_lower_reduce.specs.Steps.{all_made};
 ghost use Rattle.cu_need.specs.Operands.{operands_of};
@@ -12,19 +13,19 @@ ghost use Rattle.cu_typing.specs.Types.{shared_type};
 ghost use Rattle.cu_node.specs.Info.{IsInfo, info_at};
 ghost use Rattle.cu_need.specs.Need.{own_need};
 ghost use Rattle.cu_need.specs.View.{is_view};
-ghost use Rattle.cu_lower.specs.Parts.{AreOptions, CanGrow, only_step, setting, map_of, product_of, view_op, steps_of};
+ghost use Rattle.cu_lower.specs.Parts.{AreOptions, CanGrow, only_step, setting, map_of, product_of, grouped_over, view_op, steps_of};
 
 use crate::aligned::{Aligned, align, copy_steps, copying};
 use crate::options::Options;
 use crate::parts::{map_of, view_op};
 use crate::reduced::{
-    product_of, push_product, reduction_of, reduction_steps, search_of, search_steps, setting,
-    source_of,
+    cumulative_of, cumulative_steps, grouped_of, grouped_over, product_of, push_groups,
+    push_product, reduction_of, reduction_steps, search_of, search_steps, setting, source_of,
 };
 use arrayvec::ArrayVec;
 use cu_copy::Rechunk;
 use cu_form::{Arg, ElementOp, Form};
-use cu_lower_reduce::{CopySetting, Step};
+use cu_lower_reduce::{CopySetting, Grouped, Step};
 use cu_need::{array_of, is_view, operands_of, own_need};
 use cu_node::{NodeInfo, info_at};
 use cu_op::Op;
@@ -131,6 +132,23 @@ fn matmul_steps(
     Ok(steps)
 }
 
+/// The steps of groups of an array by labels that are aligned.
+fn group_steps(aligned: Aligned, options: &Options, x: &Grouped) -> Result<Vec<Step>, AllocError>
+    requires options { AreOptions options.now }
+    requires next { aligned.next < 2 ^ 31 }
+    requires grouped { IsGrouped (grouped_over x.now aligned.places.items) }
+    ensures { IfOk result (λ steps. steps.items ≡ aligned.steps.items ++ grouped_steps (setting options.now aligned.next) (grouped_over x.now aligned.places.items)) }
+{
+    let Aligned {
+        mut steps,
+        places,
+        next,
+    } = aligned;
+    let over = grouped_over(x, places.as_slice());
+    push_groups(&mut steps, &setting(options, next), &over)?;
+    Ok(steps)
+}
+
 /// The copies of an array, the first of `ins`, into the chunks of node number `node`.
 fn rechunk_steps(
     alloc: Global,
@@ -196,6 +214,20 @@ pub(crate) fn steps_of(
         Form::Matmul { args } => {
             let aligned = align_operands(alloc, infos, &copies, node, form, ins)?;
             matmul_steps(aligned, infos, options, node, args.as_slice())
+        }
+        Form::CumulativeSum { args, axis } => {
+            let x = cumulative_of(infos, node, args.as_slice(), *axis, ins);
+            cumulative_steps(alloc, &setting(options, first), &x)
+        }
+        Form::GroupBy {
+            least,
+            args,
+            axis,
+            groups,
+        } => {
+            let x = grouped_of(infos, node, *least, args.as_slice(), *axis, *groups);
+            let aligned = align_operands(alloc, infos, &copies, node, form, ins)?;
+            group_steps(aligned, options, &x)
         }
         Form::Rechunk { args, .. } => {
             let array = array_of(infos, args.as_slice(), 0);

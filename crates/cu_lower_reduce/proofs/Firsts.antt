@@ -64,7 +64,7 @@ merges_product g left made h = record { axes = record { 0 = 2 ^ length made.dims
 
 -- ---- the steps behind the first
 
-behind : (y : Step) (ys : List Step) (at : ℕ) → 0 < at → slice_get (y ∷ ys) at ≡ slice_get ys (at - 1)
+pub behind : (y : Step) (ys : List Step) (at : ℕ) → 0 < at → slice_get (y ∷ ys) at ≡ slice_get ys (at - 1)
 behind y ys zero h = absurd (omega arith)
 behind y ys (suc k) h = let e : suc k - 1 ≡ k = omega arith in rw e refl
 

@@ -6,6 +6,8 @@ pub mod Copying
 mod Examples
 pub mod Firsts
 pub mod Folds
+pub mod GroupSteps
+pub mod GroupValues
 pub mod KindValues
 pub mod LastAxis
 pub mod Lasts
@@ -18,3 +20,8 @@ pub mod SearchValues
 pub mod Squeezed
 pub mod Standing
 pub mod Stepping
+pub mod SumChains
+pub mod SumComings
+pub mod SumTurns
+pub mod SumValues
+pub mod Summing

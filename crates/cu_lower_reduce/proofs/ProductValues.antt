@@ -79,7 +79,7 @@ mul_value arrays at x out o idx h l r k t =
 
 -- ---- the products of a part
 
-parts_of : (is : List ℕ) (x r : ℕ) → length is ≡ r → (take r (is ++ x ∷ []) ≡ is) × (get_or (is ++ x ∷ []) r 0 ≡ x)
+pub parts_of : (is : List ℕ) (x r : ℕ) → length is ≡ r → (take r (is ++ x ∷ []) ≡ is) × (get_or (is ++ x ∷ []) r 0 ≡ x)
 parts_of [] x zero e = (refl, refl)
 parts_of [] x (suc r) e = absurd (omega arith)
 parts_of (i ∷ is) x zero e = absurd (omega arith)

@@ -62,6 +62,12 @@ chunk_one axes first (c ∷ cs) (suc k) l t =
     let s : first + suc k ≡ first + 1 + k = omega arith in
     chunk_one axes (first + 1) cs k (omega arith) (subst (λ (d : ℕ). IsTrue (has_axis axes d)) s t)
 
+-- so is that of partial results
+pub one_along : (axes : Axes) (base i : NodeInfo) (d : ℕ) → IsPartial axes base i → d < length base.dims → IsTrue (has_axis axes d) → get_or i.chunk d 0 ≡ 1
+one_along axes base i d p h t =
+    let b = p.base_ranks in
+    ap (λ (cs : List ℕ). get_or cs d 0) p.chunk ∙ chunk_one axes 0 base.chunk d (omega arith) (let z : d ≡ 0 + d = omega arith in subst (λ (k : ℕ). IsTrue (has_axis axes k)) z t)
+
 abbrev grid_with : List ℕ → List ℕ → RegularGrid
 grid_with ns cs = record { shape = ns; chunk = cs }
 

@@ -1,4 +1,6 @@
 pub mod Copies
+pub mod Cumulative
+pub mod Grouped
 pub mod Partials
 pub mod Products
 pub mod Reductions

@@ -95,12 +95,12 @@ last_made first steps = first + length (all_made steps) - 1
 
 -- ---- what a node's steps come to
 
--- Steps that make an array of which `made` is known, the last of those that they make. There are at most 25 steps, none needs more than
+-- Steps that make an array of which `made` is known, the last of those that they make. There are at most 33 steps, none needs more than
 -- `need` bytes, they have so many tasks, and their arrays, each of which keeps the limits of an array inside a plan, so many chunks.
 pub record ComeTo (need tasks cells : ℕ) (made : NodeInfo) (steps : List Step) : Type 0 where
   pub ends : (rest : List NodeInfo) × (all_made steps ≡ rest ++ made ∷ [])
   pub grids : All IsMiddle (all_made steps)
-  pub few : length steps ≤ 25
+  pub few : length steps ≤ 33
   pub needs : All (λ s. s.need ≤ need) steps
   pub tasks_are : sum_by step_tasks steps ≡ tasks
   pub cells_are : sum_by chunks_of (all_made steps) ≡ cells

@@ -9,24 +9,33 @@ ghost use Rattle.cu_num.specs.declared.types.Dtype.TheVariants.{Int64};
 ghost use Rattle.cu_num.specs.declared.folds.FoldKind.TheVariants.{Sum};
 ghost use Rattle.cu_shape.specs.Index.{IsInside};
 ghost use Rattle.cu_reduce.specs.Folds.{reduced_to};
+ghost use Rattle.cu_reduce.specs.Labels.{grouped_to};
 ghost use Rattle.cu_reduce.specs.Places.{best_in};
+ghost use Rattle.cu_reduce.specs.Prefix.{cumulative, line_through};
 ghost use Rattle.cu_op.specs.Elements.{Elements};
 ghost use Rattle.cu_op.specs.Places.{counted_at, pair_part};
 ghost use Rattle.cu_op.specs.declared.layout.ArrayInfo.{ArrayInfo};
 ghost use Rattle.cu_tree.specs.Marks.{sought_axes};
 ghost use Rattle.cu_tree.specs.Needs.{fold_need, merge_need, pair_fold_need, pair_merge_need, product_need};
 ghost use Rattle.cu_tree.specs.Partials.{first_partial, reduction_rounds, product_partial, product_rounds, chunks_written, chunks_before};
+ghost use Rattle.cu_tree.specs.Sums.{cumulative_need, cumulative_chunks};
 ghost use Rattle.cu_lower_reduce.specs.Copies.{aligned_places, aligned_steps, copy_steps, AreCopies, AreOperands, IsStaged};
+ghost use Rattle.cu_lower_reduce.specs.Cumulative.{cumulative_steps, IsCumulative};
+ghost use Rattle.cu_lower_reduce.specs.Grouped.{grouped_steps, labelled_line, IsGrouped};
 ghost use Rattle.cu_lower_reduce.specs.Partials.{IsSetting};
 ghost use Rattle.cu_lower_reduce.specs.Products.{product_steps, inner_products, IsProduct};
 ghost use Rattle.cu_lower_reduce.specs.Reductions.{reduction_steps, reduced_indices, IsReduction};
 ghost use Rattle.cu_lower_reduce.specs.Searches.{value_chunk_bytes, search_steps, IsSearch};
 ghost use Rattle.cu_lower_reduce.specs.Steps.{HasInfo, HaveEach, HaveInfos, IsGiven, all_made, AreSteps, SolveSteps, last_made, with_merges, info_bytes, ComeTo};
 ghost use Rattle.cu_lower_reduce.specs.declared.copy.CopySetting.{CopySetting};
+ghost use Rattle.cu_lower_reduce.specs.declared.cumulative.Cumulative.{Cumulative};
+ghost use Rattle.cu_lower_reduce.specs.declared.grouped.Grouped.{Grouped};
 ghost use Rattle.cu_lower_reduce.specs.declared.product.Product.{Product};
 ghost use Rattle.cu_lower_reduce.specs.declared.reduction.Reduction.{Reduction};
 ghost use Rattle.cu_lower_reduce.specs.declared.search.Search.{Search};
 ghost use Rattle.cu_lower_reduce.specs.declared.step.Setting.{Setting};
+
+use cu_along::array_law;
 
 /// Over any arrays of a plan in which the source and the arrays of its steps stand, the steps of a reduction keep what steps keep. Their
 /// last array is the node's own, and each of its elements is what is made of all elements of the source along the reduced axes, where
@@ -60,6 +69,23 @@ pub fn product_law()
         → at (last_made s.first (product_steps s x)) idx ≡ reduced_to Sum x.made.dtype (inner_products x (at x.left) (at x.right) idx) }
 {}
 
+/// The same of a fold by labels, whose arguments are the source and the labels: each element is what is made of the elements of its label
+/// along the whole axis, where the source's lie in the range of its type.
+pub fn grouped_law()
+    ensures steps { (arrays : List ArrayInfo) (s : Setting) (x : Grouped) → IsSetting s → IsGrouped x → HasInfo arrays x.source x.source_info → HasInfo arrays x.labels x.labels_info
+        → HaveInfos arrays s.first (all_made (grouped_steps s x)) → AreSteps arrays s.reserved (x.source ∷ x.labels ∷ []) s.first s.first (grouped_steps s x) }
+    ensures last { (arrays : List ArrayInfo) (s : Setting) (x : Grouped) → HaveInfos arrays s.first (all_made (grouped_steps s x)) → HasInfo arrays (last_made s.first (grouped_steps s x)) x.made }
+    ensures sizes { (s : Setting) (x : Grouped) → IsSetting s → IsGrouped x
+        → ComeTo (with_merges (product_rounds s.split_every x.labels_info x.made) (product_need s.reserved (info_bytes x.source_info) (info_bytes x.labels_info) (info_bytes x.made)) (merge_need s.reserved s.split_every (info_bytes x.made)))
+        (chunks_written (product_partial x.labels_info x.made) (product_rounds s.split_every x.labels_info x.made) x.made)
+        (chunks_written (product_partial x.labels_info x.made) (product_rounds s.split_every x.labels_info x.made) x.made) x.made (grouped_steps s x) }
+    ensures value { (arrays : List ArrayInfo) (at : Elements) (s : Setting) (x : Grouped) → IsSetting s → IsGrouped x → HasInfo arrays x.source x.source_info → HasInfo arrays x.labels x.labels_info
+        → HaveInfos arrays s.first (all_made (grouped_steps s x)) → SolveSteps arrays at (grouped_steps s x)
+        → ((i : List ℕ) (y : ℤ) → IsInside x.source_info.dims i → at x.source i ≡ Some y → InRange x.source_info.dtype y)
+        → (idx : List ℕ) → IsInside x.made.dims idx
+        → at (last_made s.first (grouped_steps s x)) idx ≡ grouped_to x.kind x.made.dtype (slice_index idx x.axis) (labelled_line x (at x.source) (at x.labels) idx) }
+{}
+
 /// The same of a search for places, whose last array is that of the places: each element is the first place of the least or the greatest
 /// element of the source along the axes that are sought. The chunks that are stored are those of the values too.
 pub fn search_law()
@@ -76,6 +102,21 @@ pub fn search_law()
         → at (last_made s.first (search_steps s x)) idx
         ≡ pair_part true (best_in x.least (map (counted_at x.from.dims x.axis (at x.source)) (reduced_indices (sought_axes x.axis) x.from.dims x.made.dims idx))) }
 {}
+
+/// The same of prefix sums along an axis, whose source has a lower number than the arrays of the steps: each element of the last array is the
+/// sum of all elements of the source up to its place on the axis, wrapped once, whatever the chunks and the size of groups.
+pub fn cumulative_law()
+    ensures steps { (arrays : List ArrayInfo) (s : Setting) (x : Cumulative) → IsSetting s → IsCumulative x → x.source < s.first → HasInfo arrays x.source x.from → HaveInfos arrays s.first (all_made (cumulative_steps s x))
+        → AreSteps arrays s.reserved (x.source ∷ []) s.first s.first (cumulative_steps s x) }
+    ensures last { (arrays : List ArrayInfo) (s : Setting) (x : Cumulative) → HaveInfos arrays s.first (all_made (cumulative_steps s x)) → HasInfo arrays (last_made s.first (cumulative_steps s x)) x.made }
+    ensures sizes { (s : Setting) (x : Cumulative) → IsSetting s → IsCumulative x
+        → ComeTo (cumulative_need s.reserved s.split_every x.made x.from x.axis) (cumulative_chunks s.split_every x.made x.from x.axis) (cumulative_chunks s.split_every x.made x.from x.axis) x.made (cumulative_steps s x) }
+    ensures value { (arrays : List ArrayInfo) (at : Elements) (s : Setting) (x : Cumulative) → IsSetting s → IsCumulative x → HasInfo arrays x.source x.from → HaveInfos arrays s.first (all_made (cumulative_steps s x))
+        → SolveSteps arrays at (cumulative_steps s x) → (idx : List ℕ) → IsInside x.made.dims idx
+        → at (last_made s.first (cumulative_steps s x)) idx ≡ cumulative x.made.dtype (line_through (at x.source) x.axis idx) (slice_index idx x.axis) }
+{
+    array_law();
+}
 
 /// Over any arrays of a plan in which the source and the arrays of the copies stand, the copies of a rechunk keep what steps keep. Each
 /// needs at most a chunk and a region of the greatest size, they have as many tasks and chunks as are counted, and their last array has the

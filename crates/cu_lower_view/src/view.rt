@@ -96,7 +96,9 @@ fn view_of(form: &Form, source: &Dims) -> Option<Pull>
         | Form::Rechunk { .. }
         | Form::Reduce { .. }
         | Form::ArgPlace { .. }
-        | Form::Matmul { .. } => None,
+        | Form::Matmul { .. }
+        | Form::CumulativeSum { .. }
+        | Form::GroupBy { .. } => None,
     }
 }
 
@@ -113,7 +115,7 @@ fn first_source(infos: &[NodeInfo], args: &[Arg]) -> NodeInfo
 }
 
 /// The view that a node is, by its form and what is known of the nodes before it; none where it is no view, that is, for an
-/// input, an elementwise function, `rechunk`, a reduction and `matmul`. Its sources are the arrays that its arguments name, in
+/// input, an elementwise function, `rechunk`, a reduction, `matmul`, prefix sums and groups by labels. Its sources are the arrays that its arguments name, in
 /// order. An integer entry of an index is a run of one index whose axis is taken out; a new axis, `expand_dims` and `squeeze` change
 /// no row-major place. The axis of `concat` and `stack` is counted from the start, of `stack` in the result; `flip` of no list turns
 /// each axis; `roll` has a shift for each axis, 0 for one that isn't named.

@@ -74,6 +74,8 @@ form_keeps infos env k stored (Form.Stack args axis) takes kept fits h = stack_f
 form_keeps infos env k stored (Form.Reduce kind args axes keepdims) takes kept fits h = tt
 form_keeps infos env k stored (Form.ArgPlace least args axis keepdims) takes kept fits h = (place_type axis keepdims (source infos args) (info_at infos k) h, place_fits infos args axis takes kept)
 form_keeps infos env k stored (Form.Matmul args) takes kept fits h = tt
+form_keeps infos env k stored (Form.CumulativeSum args axis) takes kept fits h = tt
+form_keeps infos env k stored (Form.GroupBy least args axis groups) takes kept fits h = tt
 form_keeps infos env k stored form takes kept fits h = one_fits infos (args_of form) (info_at infos k) takes (view_type form (source infos (args_of form)) (info_at infos k) h)
 
 pub node_keeps : (inputs : List InputInfo) (e : Expression) (infos : List NodeInfo) (env : NodeElements) (k : ℕ) (node : Node) → IsExpression e → typed inputs e ≡ Ok infos → All IsInfo infos

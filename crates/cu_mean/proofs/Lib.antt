@@ -1,4 +1,5 @@
 pub mod Along
+pub mod AlongTypes
 pub mod Arities
 pub mod BestPlaces
 pub mod Elements
@@ -18,8 +19,10 @@ pub mod KeptElements
 pub mod KeptNumbers
 pub mod KeptPieces
 pub mod KeptViews
+pub mod LabelledPlaces
 pub mod NodeTypes
 pub mod OperandTypes
+pub mod PrefixSums
 pub mod ReadyNodes
 pub mod ReducedBoxes
 pub mod Sources

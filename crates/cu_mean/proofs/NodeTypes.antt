@@ -68,7 +68,7 @@ go_back infos (Arg.Truth b ∷ args) shape idx e h = All-cons (GoesBack infos id
 
 -- ---- reductions
 
-sum_type : (d : Dtype) → IsInteger (fold_type fold.Sum d)
+pub sum_type : (d : Dtype) → IsInteger (fold_type fold.Sum d)
 sum_type t.Bool = tt
 sum_type d = tt
 

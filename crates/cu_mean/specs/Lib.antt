@@ -2,6 +2,7 @@ pub mod Axes
 pub mod Elementwise
 pub mod Evenly
 pub mod Going
+pub mod Grouped
 pub mod Indexing
 pub mod Laws
 pub mod Node

@@ -4,9 +4,9 @@ ghost use Rattle.cu_mean.specs.Node.{is_input, IsReadyAt, IsElementAt};
 
 use crate::creation::{arange_at, eye_at, literal_number};
 use crate::node::{
-    arg_place_at, concat_node, elementwise_at, flipped_node, indexed_node, permuted_node,
-    product_at, rechunked_node, reduced_at, reshaped_node, rolled_node, stack_node, stretched_node,
-    triangle_node,
+    arg_place_at, concat_node, cumulative_node, elementwise_at, flipped_node, grouped_node,
+    indexed_node, permuted_node, product_at, rechunked_node, reduced_at, reshaped_node,
+    rolled_node, stack_node, stretched_node, triangle_node,
 };
 use crate::scope::Scope;
 use cu_form::Form;
@@ -52,5 +52,12 @@ pub(crate) fn element_at(form: &Form, scope: &Scope<'_>) -> i128
             keepdims,
         } => arg_place_at(*least, args, *axis, *keepdims, scope),
         Form::Matmul { args } => product_at(args, scope),
+        Form::CumulativeSum { args, axis } => cumulative_node(args, *axis, scope),
+        Form::GroupBy {
+            least,
+            args,
+            axis,
+            groups,
+        } => grouped_node(*least, args, *axis, *groups, scope),
     }
 }

@@ -7,6 +7,7 @@ mod digits;
 mod element;
 mod elementwise;
 mod expression;
+mod grouped;
 mod indexing;
 mod laws;
 mod lines;
@@ -18,6 +19,7 @@ mod products;
 mod reading;
 mod reductions;
 mod scope;
+mod summed;
 mod views;
 
 pub use expression::whole;

@@ -16,6 +16,7 @@ ghost use Rattle.cu_mean.specs.Reading.{elements_in};
 
 use crate::axes::{NamedAxes, axes_listed, axis_in};
 use crate::elementwise::function_at;
+use crate::grouped::group_at;
 use crate::indexing::indexed;
 use crate::pieces::{concat_at, stack_at};
 use crate::places::best_place;
@@ -23,9 +24,10 @@ use crate::products::matmul_at;
 use crate::reading::{NamedArrays, source, source_dims};
 use crate::reductions::{reduced, reduced_box, reduced_start};
 use crate::scope::Scope;
+use crate::summed::{line_axis, sum_up_to};
 use crate::views::{flipped, is_in_triangle, permuted, rolled, same_place};
-use cu_form::{Arg, ElementOp, IndexItem, Items};
-use cu_node::NewShape;
+use cu_form::{Arg, ElementOp, IndexItem, Items, group_kind};
+use cu_node::{NewShape, size_at};
 use cu_num::FoldKind;
 use cu_shape::back;
 
@@ -74,6 +76,49 @@ pub(crate) fn product_at(args: &Items<Arg>, scope: &Scope<'_>) -> i128
         args,
     };
     matmul_at(scope.info.dtype, &arrays, &a, &b, scope.idx)
+}
+
+/// A prefix sum.
+pub(crate) fn cumulative_node(args: &Items<Arg>, axis: Option<i64>, scope: &Scope<'_>) -> i128
+    requires { IsReadyAt (Form.CumulativeSum args.now axis) scope.now }
+    ensures { IsElementAt (Form.CumulativeSum args.now axis) scope.now result }
+{
+    let args = args.as_slice();
+    let arrays = NamedArrays {
+        plains: scope.plains,
+        args,
+    };
+    let along = line_axis(scope.idx.rank(), axis);
+    sum_up_to(scope.info.dtype, &arrays, along, scope.idx)
+}
+
+/// A reduction by labels.
+pub(crate) fn grouped_node(
+    least: bool,
+    args: &Items<Arg>,
+    axis: i64,
+    groups: u32,
+    scope: &Scope<'_>,
+) -> i128
+    requires { IsReadyAt (Form.GroupBy least args.now axis groups) scope.now }
+    ensures { IsElementAt (Form.GroupBy least args.now axis groups) scope.now result }
+{
+    let args = args.as_slice();
+    let shape = source_dims(scope.infos, args, 0);
+    let arrays = NamedArrays {
+        plains: scope.plains,
+        args,
+    };
+    let along = axis_in(scope.idx.rank(), axis);
+    let count = size_at(&shape, along);
+    group_at(
+        group_kind(least),
+        scope.info.dtype,
+        &arrays,
+        along,
+        count,
+        scope.idx,
+    )
 }
 
 /// The place of a least or of a greatest element.

@@ -105,7 +105,7 @@ fn sum_of(start: &Dims, step: &Dims) -> Dims
 }
 
 /// What is kept of no elements.
-fn kept_of_none(kind: FoldKind, t: Dtype) -> i128
+pub(crate) fn kept_of_none(kind: FoldKind, t: Dtype) -> i128
     ensures { result ≡ kept_of kind t [] }
 {
     match kind {
@@ -136,7 +136,7 @@ fn product_with(t: Dtype, x: i128, kept: i128) -> i128
 }
 
 /// What is kept with one element more in front of those of which `kept` is kept; `last` says that there are none.
-fn kept_with(kind: FoldKind, t: Dtype, x: i128, kept: i128, last: bool) -> i128
+pub(crate) fn kept_with(kind: FoldKind, t: Dtype, x: i128, kept: i128, last: bool) -> i128
     requires { kind ≡ FoldKind.Sum → IsInteger t }
     ensures { (xs : List ℤ) → kept ≡ kept_of kind t xs → IsNone xs last → result ≡ kept_of kind t (x ∷ xs) }
 {

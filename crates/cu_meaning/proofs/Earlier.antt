@@ -7,17 +7,19 @@ use Rattle.std.proofs.lemmas.Bool.{ltb-true}
 use Rattle.cu_num.specs.Scalar.{truth_number}
 use Rattle.cu_num.specs.Wrap.{wrapped}
 use Rattle.cu_shape.specs.Index.{back, is_inside}
-use Rattle.cu_form.specs.Form.{args_of, is_earlier, names_earlier}
+use Rattle.cu_form.specs.Form.{args_of, is_earlier, names_earlier, group_kind}
 use Rattle.cu_form.specs.declared.args.Arg.{Arg}
 use Rattle.cu_form.specs.declared.form.Form.{Form}
 use Rattle.cu_node.specs.Info.{info_at}
 use Rattle.cu_node.specs.declared.info.NodeInfo.{NodeInfo}
+use Rattle.cu_meaning.specs.Along.{line_axis, along, sum_up_to, places_on}
 use Rattle.cu_meaning.specs.Argument.{NodeElements, shape_of_node, argument_at, element_from, shape_from, source_at, source_shape}
 use Rattle.cu_meaning.specs.Index.{axis_in}
 use Rattle.cu_meaning.specs.Matmul.{matmul_at}
 use Rattle.cu_meaning.specs.Meaning.{AgreeBelow}
 use Rattle.cu_meaning.specs.Reduction.{reduced_elements}
 use Rattle.cu_reduce.specs.Folds.{fold_of}
+use Rattle.cu_reduce.specs.Labels.{grouped_at}
 use Rattle.cu_reduce.specs.Places.{best_place}
 use Rattle.cu_meaning.specs.Rule.{function_value, place_axes, rule_of, node_element}
 use Rattle.cu_pull.specs.Pull.{is_in_triangle}
@@ -90,6 +92,16 @@ rule_agrees infos env at other k (Form.ArgPlace least args axis keepdims) idx ea
 rule_agrees infos env at other k (Form.Matmul args) idx earlier agree =
     ap (λ (f : List ℕ → ℤ). wrapped (info_at infos k).dtype (matmul_at f (source_shape infos args 0) (source_at at args 1) (source_shape infos args 1) idx)) (source_same at other k args 0 agree earlier)
     ∙ ap (λ (f : List ℕ → ℤ). wrapped (info_at infos k).dtype (matmul_at (source_at other args 0) (source_shape infos args 0) f (source_shape infos args 1) idx)) (source_same at other k args 1 agree earlier)
+rule_agrees infos env at other k (Form.CumulativeSum args axis) idx earlier agree =
+    ap (λ (f : List ℕ → ℤ). wrapped (info_at infos k).dtype (sum_up_to f (line_axis (length idx) axis) idx))
+    (source_same at other k args 0 agree earlier)
+rule_agrees infos env at other k (Form.GroupBy least args axis groups) idx earlier agree =
+    let t = (info_at infos k).dtype in
+    let a = axis_in (length idx) axis in
+    let made : (List ℕ → ℤ) → (List ℕ → ℤ) → ℤ =
+    λ label element. wrapped t (grouped_at (group_kind least) t (λ p. label (p ∷ [])) (along element a idx) (slice_index idx a) (places_on (source_shape infos args 0) a)) in
+    ap (made (source_at at args 1)) (source_same at other k args 0 agree earlier)
+    ∙ ap (λ (f : List ℕ → ℤ). made f (source_at other args 0)) (source_same at other k args 1 agree earlier)
 rule_agrees infos env at other k form idx earlier agree = source_agrees at other k (args_of form) 0 _ agree earlier
 
 pub node_agrees : (infos : List NodeInfo) (env at other : NodeElements) (k : ℕ) (form : Form) (idx : List ℕ) → names_earlier k form ≡ true → AgreeBelow k at other

@@ -1,5 +1,5 @@
 -- The meaning on small arrays, with the numbers of the worked examples.
-use Rattle.std.proofs.Common.{◌≡◌, ℕ, ℤ, pos, negsuc, Bool, true, false, List, [], ◌∷◌, refl, None, Some, codes, get_or, map}
+use Rattle.std.proofs.Common.{◌≡◌, ℕ, ℤ, pos, negsuc, Bool, true, false, List, [], ◌∷◌, refl, None, Some, codes, get_or, map, length}
 use Rattle.cu_num.specs.declared.folds.FoldKind.TheVariants.{Sum, Prod, Max}
 use Rattle.cu_num.specs.declared.functions.Fn2.TheVariants.{Add, FloorDivide}
 use Rattle.cu_num.specs.declared.types.Dtype.{Dtype}
@@ -178,3 +178,46 @@ by_the_transpose : all_of (x ∷ Form.PermuteDims one (pos 1 ∷ pos 0 ∷ []) �
     ≡ pos 14 ∷ pos 32 ∷ pos 32 ∷ pos 77 ∷ []
 unfolding wrapped
 by_the_transpose = refl
+
+-- ---- along an axis
+
+up_to_each : over (Form.CumulativeSum one None) Int32 (5 ∷ []) (pos 1 ∷ pos 2 ∷ pos 3 ∷ pos 4 ∷ pos 5 ∷ []) Int64 (5 ∷ [])
+    ≡ pos 1 ∷ pos 3 ∷ pos 6 ∷ pos 10 ∷ pos 15 ∷ []
+unfolding wrapped
+up_to_each = refl
+
+down_the_columns : over (Form.CumulativeSum one (Some (pos 0))) Int32 (2 ∷ 3 ∷ []) six Int64 (2 ∷ 3 ∷ [])
+    ≡ pos 1 ∷ pos 2 ∷ pos 3 ∷ pos 5 ∷ pos 7 ∷ pos 9 ∷ []
+unfolding wrapped
+down_the_columns = refl
+
+along_the_rows : over (Form.CumulativeSum one (Some (negsuc 0))) Int32 (2 ∷ 3 ∷ []) six Int64 (2 ∷ 3 ∷ [])
+    ≡ pos 1 ∷ pos 3 ∷ pos 6 ∷ pos 4 ∷ pos 9 ∷ pos 15 ∷ []
+unfolding wrapped
+along_the_rows = refl
+
+-- an array and labels, of these shapes and elements, and the one node of a form over both
+abbrev by_labels : Form → List ℕ → List ℤ → List ℤ → Dtype → List ℕ → List ℤ
+by_labels form shape elements labels result results =
+    all_of (x ∷ x ∷ form ∷ []) (info_of Int32 shape [] ∷ info_of Int32 (length labels ∷ []) [] ∷ info_of result results [] ∷ [])
+    (shape ∷ (length labels ∷ []) ∷ []) (elements ∷ labels ∷ []) 2 results
+
+abbrev two : List Arg
+two = Arg.Node 0 ∷ Arg.Node 1 ∷ []
+
+-- a label of 3 is in none of three groups, and a group of none sums to 0
+summed_by_labels : by_labels (Form.GroupBy false two (pos 0) 3) (5 ∷ []) (pos 1 ∷ pos 2 ∷ pos 3 ∷ pos 4 ∷ pos 5 ∷ [])
+    (pos 0 ∷ pos 1 ∷ pos 0 ∷ pos 3 ∷ pos 1 ∷ []) Int64 (3 ∷ []) ≡ pos 4 ∷ pos 7 ∷ pos 0 ∷ []
+unfolding wrapped
+summed_by_labels = refl
+
+least_by_labels : by_labels (Form.GroupBy true two (pos 0) 3) (5 ∷ []) (pos 1 ∷ pos 2 ∷ pos 3 ∷ pos 4 ∷ pos 5 ∷ [])
+    (pos 0 ∷ pos 1 ∷ pos 0 ∷ pos 3 ∷ pos 1 ∷ []) Int32 (3 ∷ []) ≡ pos 1 ∷ pos 2 ∷ pos 2147483647 ∷ []
+unfolding wrapped
+least_by_labels = refl
+
+-- a label below 0 is in no group
+by_labels_in_rows : by_labels (Form.GroupBy false two (negsuc 0) 2) (2 ∷ 3 ∷ []) six (pos 1 ∷ negsuc 0 ∷ pos 0 ∷ []) Int64 (2 ∷ 2 ∷ [])
+    ≡ pos 3 ∷ pos 1 ∷ pos 6 ∷ pos 4 ∷ []
+unfolding wrapped
+by_labels_in_rows = refl

@@ -185,6 +185,8 @@ rule_fits infos env at k (Form.ArgPlace least args axis keepdims) idx inside bel
     subst (λ (r : Dtype). InRange r (rule_of infos env at k (Form.ArgPlace least args axis keepdims) idx)) (sym keeps.0)
     (place_fits least (source_at at args 0) (place_axes axis) keepdims (source_shape infos args 0) idx keeps.1)
 rule_fits infos env at k (Form.Matmul args) idx inside below earlier keeps = InRange-wrapped (type_of_node infos k) _
+rule_fits infos env at k (Form.CumulativeSum args axis) idx inside below earlier keeps = InRange-wrapped (type_of_node infos k) _
+rule_fits infos env at k (Form.GroupBy least args axis groups) idx inside below earlier keeps = InRange-wrapped (type_of_node infos k) _
 rule_fits infos env at k form idx inside below earlier keeps = source_fits infos at k (type_of_node infos k) (args_of form) 0 _ below earlier keeps
 
 node_fits_by : (infos : List NodeInfo) (env at : NodeElements) (k : ℕ) (form : Form) (idx : List ℕ) (b : Bool) → is_inside (shape_of_node infos k) idx ≡ b → FitBelow infos at k → names_earlier k form ≡ true

@@ -1,3 +1,4 @@
+pub mod Along
 pub mod Argument
 pub mod Index
 pub mod Matmul

@@ -1,5 +1,5 @@
 -- The element of a node by its operator, over the elements of its arguments (Python array API). Nothing here speaks of chunks.
-use Rattle.std.specs.Prelude.{ℕ, ℤ, pos, List, [], ◌∷◌, length, map, Option, option_map, if◌then◌else◌}
+use Rattle.std.specs.Prelude.{ℕ, ℤ, pos, List, [], ◌∷◌, length, map, Option, option_map, if◌then◌else◌, slice_index}
 use Rattle.std.specs.Int.{int_min, int_max}
 use Rattle.cu_num.specs.Scalar.{op1, op2, is_nonzero}
 use Rattle.cu_num.specs.Wrap.{wrapped}
@@ -8,15 +8,18 @@ use Rattle.cu_num.specs.declared.types.Dtype.{Dtype}
 use Rattle.cu_shape.specs.Index.{back, is_inside}
 use Rattle.cu_pull.specs.Pull.{is_in_triangle}
 use Rattle.cu_node.specs.declared.element_op.ElementOp.{ElementOp}
+use Rattle.cu_form.specs.Form.{group_kind}
 use Rattle.cu_form.specs.declared.form.Form.{Form}
 use Rattle.cu_node.specs.Info.{info_at}
 use Rattle.cu_node.specs.Literal.{literal_number}
 use Rattle.cu_node.specs.declared.info.NodeInfo.{NodeInfo}
+use Rattle.cu_meaning.specs.Along.{line_axis, along, sum_up_to, places_on}
 use Rattle.cu_meaning.specs.Argument.{NodeElements, shape_of_node, argument_at, source_at, source_shape}
 use Rattle.cu_meaning.specs.Index.{axis_in}
 use Rattle.cu_meaning.specs.Matmul.{matmul_at}
 use Rattle.cu_meaning.specs.Reduction.{reduced_elements}
 use Rattle.cu_reduce.specs.Folds.{fold_of}
+use Rattle.cu_reduce.specs.Labels.{grouped_at}
 use Rattle.cu_reduce.specs.Places.{best_place}
 use Rattle.cu_meaning.specs.View.{arange_at, eye_at, indexed, permuted_index, same_place, flipped_index, rolled_index, concat_at, stack_at}
 
@@ -58,6 +61,13 @@ rule_of infos env at k (Form.ArgPlace least args axis keepdims) idx =
     pos (best_place least (reduced_elements (source_at at args 0) (place_axes axis) keepdims (source_shape infos args 0) idx))
 rule_of infos env at k (Form.Matmul args) idx =
     wrapped (info_at infos k).dtype (matmul_at (source_at at args 0) (source_shape infos args 0) (source_at at args 1) (source_shape infos args 1) idx)
+rule_of infos env at k (Form.CumulativeSum args axis) idx =
+    wrapped (info_at infos k).dtype (sum_up_to (source_at at args 0) (line_axis (length idx) axis) idx)
+rule_of infos env at k (Form.GroupBy least args axis groups) idx =
+    wrapped (info_at infos k).dtype
+    (grouped_at (group_kind least) (info_at infos k).dtype (λ p. source_at at args 1 (p ∷ []))
+    (along (source_at at args 0) (axis_in (length idx) axis) idx) (slice_index idx (axis_in (length idx) axis))
+    (places_on (source_shape infos args 0) (axis_in (length idx) axis)))
 
 -- outside the node's shape the element is 0
 abbrev pub node_element : List NodeInfo → NodeElements → NodeElements → ℕ → Form → List ℕ → ℤ

@@ -47,4 +47,6 @@ KeepsType infos env k (Form.Eye rows cols d dtype chunk) = Unit {0}
 KeepsType infos env k (Form.Reduce kind args axes keepdims) = Unit {0}
 KeepsType infos env k (Form.ArgPlace least args axis keepdims) = (type_of_node infos k ≡ Int64) × (product (reduced_box (place_axes axis) (source_shape infos args 0)) ≤ 2 ^ 40)
 KeepsType infos env k (Form.Matmul args) = Unit {0}
+KeepsType infos env k (Form.CumulativeSum args axis) = Unit {0}
+KeepsType infos env k (Form.GroupBy least args axis groups) = Unit {0}
 KeepsType infos env k form = All (FitsType infos (type_of_node infos k)) (args_of form)

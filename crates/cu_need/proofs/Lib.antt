@@ -1,4 +1,6 @@
 pub mod AlignedNeed
+mod AlongExamples
+pub mod AlongTypes
 mod CopyExamples
 mod Examples
 pub mod FirstLive

@@ -1,16 +1,16 @@
 -- What a node's form says of the operands that it reads, whose chunks keep the limits.
-use Rattle.std.proofs.Common.{◌≡◌, true, List, [], ◌∷◌, ℕ, All, map, refl, subst, arith}
+use Rattle.std.proofs.Common.{◌≡◌, Bool, true, ℤ, List, [], ◌∷◌, ℕ, All, map, refl, subst, arith}
 use Rattle.std.proofs.lemmas.Bool.{and_from}
 use Rattle.std.proofs.lemmas.List.Elements.{All-head, All-tail}
 use Rattle.cu_form.specs.declared.args.Arg.{Arg}
 use Rattle.cu_form.specs.declared.form.Form.{Form}
-use Rattle.cu_node.specs.Info.{info_at}
+use Rattle.cu_node.specs.Info.{IsInfo, info_at}
 use Rattle.cu_node.specs.Limited.{is_chunk_within}
 use Rattle.cu_node.specs.declared.element_op.ElementOp.{ElementOp}
 use Rattle.cu_node.specs.declared.info.NodeInfo.{NodeInfo}
 use Rattle.cu_typing.specs.Joined.{aligned_chunk, aligned_within}
 use Rattle.cu_need.specs.Chunks.{arrays_in}
-use Rattle.cu_copy.specs.Copies.{IsRechunk}
+use Rattle.cu_copy.specs.Copies.{IsRechunk, in_chunks}
 use Rattle.cu_need.specs.Operands.{in_aligned, left_wanted, right_wanted, operands_of}
 use Rattle.cu_need.specs.Reduction.{array_of}
 use Rattle.cu_copy.specs.declared.copies.Rechunk.{Rechunk}
@@ -40,3 +40,11 @@ module _ (infos : List NodeInfo) (k : ℕ) (form : Form) (args : List Arg) (is :
       → r ≡ right_wanted made left right → IsRechunk r
   right_within made left right first second r m a b l o e =
       rw (e, m, l, o, a, b) (both 1 (right_wanted (info_at infos k) (array_of infos args 0) (array_of infos args 1)) (omega arith))
+
+-- the array of groups is one that keeps the limits
+pub grouped_kept : (infos : List NodeInfo) (k : ℕ) (form : Form) (least : Bool) (args slice : List Arg) (axis : ℤ) (groups : ℕ) (source : NodeInfo) → form ≡ Form.GroupBy least args axis groups → slice ≡ args
+    → source ≡ array_of infos slice 0 → All IsRechunk (operands_of infos k form) → IsInfo source
+grouped_kept infos k form least args slice axis groups source is same array h =
+    let both : All IsRechunk (operands_of infos k (Form.GroupBy least args axis groups)) = subst (λ (f : Form). All IsRechunk (operands_of infos k f)) is h in
+    let own = (both 0 (in_chunks (array_of infos args 0) (array_of infos args 0).chunk) (omega arith)).source in
+    rw (array, same) own

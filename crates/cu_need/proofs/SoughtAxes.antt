@@ -12,11 +12,11 @@ use Rattle.cu_tree.specs.Marks.{sought_axes}
 use Rattle.cu_tree.proofs.Bits.{along, sought}
 use Rattle.cu_need.specs.Reduction.{sought_axis}
 
-some_when : (b : Bool) (d k : ℕ) → (if b then Some d else None) ≡ Some k → (b ≡ true) × (d ≡ k)
+pub some_when : (b : Bool) (d k : ℕ) → (if b then Some d else None) ≡ Some k → (b ≡ true) × (d ≡ k)
 some_when true d k h = (refl, cc)
 some_when false d k h = cc
 
-axis_below : (d : ℤ) (rank axis : ℕ) → axis_of d rank ≡ Some axis → axis < rank
+pub axis_below : (d : ℤ) (rank axis : ℕ) → axis_of d rank ≡ Some axis → axis < rank
 axis_below (pos d) rank axis h = let s = some_when (nat_lt d rank) d axis h in let l = ltb-true d rank s.0 in let e = s.1 in omega arith
 axis_below (negsuc d) rank axis h = let s = some_when (nat_lt d rank) (rank - 1 - d) axis h in let l = ltb-true d rank s.0 in let e = s.1 in omega arith
 

@@ -10,6 +10,7 @@ use Rattle.cu_num.specs.declared.types.Dtype.{Dtype}
 use Rattle.cu_shape.specs.Index.{product}
 use Rattle.cu_pull.specs.Pull.{has_axis}
 use Rattle.cu_pull.specs.declared.axes.Axes.{Axes}
+use Rattle.cu_form.specs.Form.{group_kind}
 use Rattle.cu_form.specs.declared.args.Arg.{Arg}
 use Rattle.cu_form.specs.declared.form.Form.{Form}
 use Rattle.cu_node.specs.Info.{IsInfo, info_at, info_of, no_info}
@@ -31,6 +32,8 @@ use Rattle.cu_need.specs.Need.{IsTyped, IsNodeWithin, IsSearchWithin, ArePartial
 use Rattle.cu_need.specs.Operands.{copies_of, in_aligned, left_wanted, operands_of, right_wanted}
 use Rattle.cu_need.specs.Reduction.{array_from, array_of, axes_reduced, axes_sought}
 use Rattle.cu_copy.specs.declared.copies.Rechunk.{Rechunk}
+use Rattle.cu_need.specs.Along.{labels_wanted}
+use Rattle.cu_need.proofs.AlongTypes.{groups_within, labels_rechunk, own_rechunk, sums_within}
 use Rattle.cu_need.proofs.PartialChunks.{partial_within}
 use Rattle.cu_need.proofs.SoughtAxes.{sought_marked}
 use Rattle.cu_need.proofs.WantedChunks.{aligned_wanted, left_is_wanted, right_is_wanted}
@@ -95,6 +98,9 @@ module _ (infos : List NodeInfo) (kept : (k : ℕ) → IsInfo (info_at infos k))
   partials_within k (Form.Reduce kind args axes keepdims) typed = reduction_within (fold_rule kind (array_of infos args 0).dtype) axes keepdims (array_of infos args 0) k typed
   partials_within k (Form.ArgPlace least args axis keepdims) typed = search_within axis keepdims (array_of infos args 0) k (array_kept args 0) typed
   partials_within k (Form.Matmul args) typed = product_within (array_of infos args 0) (array_of infos args 1) k typed
+  partials_within k (Form.CumulativeSum args axis) typed = sums_within axis (array_of infos args 0) (info_at infos k) (array_kept args 0) (kept k) typed
+  partials_within k (Form.GroupBy least args axis groups) typed =
+      groups_within (group_kind least) axis groups (array_of infos args 0) (array_of infos args 1) (info_at infos k) (array_kept args 0) (array_kept args 1) (kept k) typed
   partials_within k form typed = tt
 
   -- ---- operands
@@ -119,6 +125,12 @@ module _ (infos : List NodeInfo) (kept : (k : ℕ) → IsInfo (info_at infos k))
   operands_within : (k : ℕ) (form : Form) → IsTyped infos k form → All IsRechunk (operands_of infos k form)
   operands_within k (Form.Elementwise op args) typed = function_within op args k typed
   operands_within k (Form.Matmul args) typed = matrices_within (array_of infos args 0) (array_of infos args 1) k (array_kept args 0) (array_kept args 1) typed
+  operands_within k (Form.GroupBy least args axis groups) typed =
+      let source = array_of infos args 0 in
+      let labels = array_of infos args 1 in
+      All-cons IsRechunk (in_chunks (array_of infos args 0) (array_of infos args 0).chunk) (labels_wanted (array_of infos args 0) axis (array_of infos args 1) ∷ []) (own_rechunk source (array_kept args 0))
+      (All-cons IsRechunk (labels_wanted (array_of infos args 0) axis (array_of infos args 1)) []
+      (labels_rechunk (group_kind least) axis groups source labels (info_at infos k) (array_kept args 0) (array_kept args 1) (kept k) typed) (All-nil IsRechunk))
   operands_within k form typed = All-nil IsRechunk
 
   -- ---- copies

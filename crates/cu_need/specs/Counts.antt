@@ -4,6 +4,7 @@ use Rattle.cu_form.specs.Expression.{Expression}
 use Rattle.cu_form.specs.declared.form.Form.{Form}
 use Rattle.cu_node.specs.Info.{info_at}
 use Rattle.cu_node.specs.declared.info.NodeInfo.{NodeInfo}
+use Rattle.cu_need.specs.Along.{sum_axis, cumulative_chunks, labels_wanted, group_chunks}
 use Rattle.cu_need.specs.Chunks.{chunk_count}
 use Rattle.cu_copy.specs.Copies.{rechunk_tasks, rechunk_cells}
 use Rattle.cu_need.specs.Live.{live_nodes}
@@ -20,6 +21,8 @@ own_tasks split_every infos k (Form.Elementwise op args) = chunk_count (info_at 
 own_tasks split_every infos k (Form.Reduce kind args axes keepdims) = reduction_chunks split_every (info_at infos k) (array_of infos args 0) (axes_reduced (array_of infos args 0) axes)
 own_tasks split_every infos k (Form.ArgPlace least args axis keepdims) = place_chunks split_every (info_at infos k) (array_of infos args 0) (axes_sought (array_of infos args 0) axis)
 own_tasks split_every infos k (Form.Matmul args) = matmul_chunks split_every (info_at infos k) (array_of infos args 0)
+own_tasks split_every infos k (Form.CumulativeSum args axis) = cumulative_chunks split_every (info_at infos k) (array_of infos args 0) (sum_axis (array_of infos args 0) axis)
+own_tasks split_every infos k (Form.GroupBy least args axis groups) = group_chunks split_every (info_at infos k) (labels_wanted (array_of infos args 0) axis (array_of infos args 1))
 own_tasks split_every infos k form = if is_view form then chunk_count (info_at infos k) else 0
 
 -- The chunks that they store: each task one, and of a search for places all but those of the last operation one of the values too.

@@ -1,3 +1,4 @@
+pub mod Along
 pub mod Chunks
 pub mod Counts
 pub mod Elementwise

@@ -5,6 +5,7 @@ use Rattle.cu_node.specs.Info.{info_at}
 use Rattle.cu_node.specs.declared.info.NodeInfo.{NodeInfo}
 use Rattle.cu_typing.specs.Joined.{aligned_chunk}
 use Rattle.cu_typing.specs.Matmul.{rows, columns, left_summed}
+use Rattle.cu_need.specs.Along.{labels_wanted}
 use Rattle.cu_need.specs.Chunks.{arrays_in}
 use Rattle.cu_copy.specs.Copies.{in_chunks, is_misaligned}
 use Rattle.cu_need.specs.Reduction.{array_of, leading_count, leading_aligned}
@@ -24,12 +25,14 @@ right_wanted made left right = in_chunks right (leading_aligned made (leading_co
 
 -- ---- by the form
 
--- The arrays that the operations of node k read in chunks that they tell, in order; one that is an argument twice stands twice. A view, a
--- reduction and a search read any chunks.
+-- The arrays that the operations of node k read in chunks that they tell, in order; one that is an argument twice stands twice. An array of
+-- groups is read in its own chunks, and its labels in these. A view, a reduction, a search and a prefix sum read any chunks.
 abbrev pub operands_of : List NodeInfo → ℕ → Form → List Rechunk
 operands_of infos k (Form.Elementwise op args) = map (in_aligned (info_at infos k)) (arrays_in infos args)
 operands_of infos k (Form.Matmul args) =
     left_wanted (info_at infos k) (array_of infos args 0) (array_of infos args 1) ∷ right_wanted (info_at infos k) (array_of infos args 0) (array_of infos args 1) ∷ []
+operands_of infos k (Form.GroupBy least args axis groups) =
+    in_chunks (array_of infos args 0) (array_of infos args 0).chunk ∷ labels_wanted (array_of infos args 0) axis (array_of infos args 1) ∷ []
 operands_of infos k form = []
 
 -- The arrays that are copied for node k, in order, where node `out` is stored: those of the operands that have other chunks. A rechunk is a

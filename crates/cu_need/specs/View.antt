@@ -15,6 +15,8 @@ is_view (Form.Rechunk args chunk) = false
 is_view (Form.Reduce kind args axes keepdims) = false
 is_view (Form.ArgPlace least args axis keepdims) = false
 is_view (Form.Matmul args) = false
+is_view (Form.CumulativeSum args axis) = false
+is_view (Form.GroupBy least args axis groups) = false
 is_view form = true
 
 -- the greatest chunk as scratch, and a chunk of the result

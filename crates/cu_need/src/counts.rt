@@ -6,6 +6,7 @@ ghost use Rattle.cu_node.specs.Info.{IsInfo};
 ghost use Rattle.cu_need.specs.Counts.{own_tasks, own_cells, node_tasks, node_cells, plan_counts, over_limit};
 ghost use Rattle.cu_need.specs.Need.{ArePartialsWithin, IsNodeWithin, AreWithinLimits};
 
+use crate::along::{group_chunks, labels_wanted, sum_axis};
 use crate::copies::copies_counts;
 use crate::live::live_marks;
 use crate::operands::copies_of;
@@ -17,6 +18,7 @@ use crate::view::is_view;
 use cu_copy::chunk_count;
 use cu_form::{Expr, Form};
 use cu_node::{NodeInfo, info_at, info_law};
+use cu_tree::cumulative_chunks;
 
 /// The most tasks of a plan.
 const MOST_TASKS: u64 = 65_536;
@@ -65,6 +67,17 @@ fn own_tasks(split_every: u32, infos: &[NodeInfo], number: u32, form: &Form) -> 
         Form::Matmul { args } => {
             let left = array_of(infos, args.as_slice(), 0);
             matmul_chunks(split_every, &info_at(infos, number), &left)
+        }
+        Form::CumulativeSum { args, axis } => {
+            let source = array_of(infos, args.as_slice(), 0);
+            let axis = sum_axis(&source, *axis);
+            cumulative_chunks(split_every, &info_at(infos, number), &source, axis)
+        }
+        Form::GroupBy { args, axis, .. } => {
+            let source = array_of(infos, args.as_slice(), 0);
+            let labels = array_of(infos, args.as_slice(), 1);
+            let labels = labels_wanted(&source, *axis, &labels);
+            group_chunks(split_every, &info_at(infos, number), &labels)
         }
         other if is_view(other) => chunk_count(&info_at(infos, number)),
         _ => 0,

@@ -2,6 +2,7 @@
 //! of its nodes alone.
 #![tactic(auto)]
 
+mod along;
 mod chunks;
 mod copies;
 mod counts;
@@ -13,6 +14,7 @@ mod operands;
 mod reduction;
 mod view;
 
+pub use along::{group_axis, labels_wanted, sum_axis};
 pub use counts::{OverLimit, PlanCounts, plan_counts};
 pub use cu_copy::{Rechunk, max_mem};
 pub use laws::{aligned_law, copies_law, counts_law, live_law, over_law, typed_law};

@@ -7,6 +7,7 @@ ghost use Rattle.cu_copy.specs.Copies.{IsRechunk};
 ghost use Rattle.cu_need.specs.Need.{own_need, need_of, first_over, ArePartialsWithin, IsNodeWithin, AreWithinLimits};
 ghost use Rattle.cu_need.specs.Operands.{operands_of};
 
+use crate::along::{group_need, labels_wanted, sum_axis};
 use crate::copies::copies_need;
 use crate::elementwise::function_need;
 use crate::live::live_marks;
@@ -18,6 +19,7 @@ use crate::reduction::{
 use crate::view::{is_view, view_need};
 use cu_form::{Expr, Form};
 use cu_node::{NodeInfo, info_at, info_law};
+use cu_tree::cumulative_need;
 
 /// A node, and the bytes that it needs.
 #[derive(Clone, Copy, Debug, PartialEq, Eq)]
@@ -72,6 +74,17 @@ pub fn own_need(
                 &left_wanted(&made, &left, &right),
                 &right_wanted(&made, &left, &right),
             )
+        }
+        Form::CumulativeSum { args, axis } => {
+            let source = array_of(infos, args.as_slice(), 0);
+            let axis = sum_axis(&source, *axis);
+            cumulative_need(reserved, split_every, &made, &source, axis)
+        }
+        Form::GroupBy { args, axis, .. } => {
+            let source = array_of(infos, args.as_slice(), 0);
+            let labels = array_of(infos, args.as_slice(), 1);
+            let labels = labels_wanted(&source, *axis, &labels);
+            group_need(reserved, split_every, &made, &source, &labels)
         }
         other if is_view(other) => view_need(reserved, infos, &made, other.args()),
         _ => reserved,

@@ -5,12 +5,23 @@ ghost use Rattle.cu_form.specs.Form.{takes_args};
 ghost use Rattle.cu_copy.specs.Copies.{in_chunks, is_misaligned};
 ghost use Rattle.cu_need.specs.Operands.{operands_of, copies_of};
 
+use crate::along::labels_wanted;
 use crate::elementwise::push_aligned;
 use crate::reduction::{array_of, left_wanted, right_wanted};
 use arrayvec::ArrayVec;
 use cu_copy::Rechunk;
 use cu_form::Form;
 use cu_node::{NodeInfo, info_at};
+
+/// An array in its own chunks.
+fn in_own_chunks(source: NodeInfo) -> Rechunk
+    ensures { result ≡ in_chunks source source.chunk }
+{
+    Rechunk {
+        source,
+        chunk: source.chunk,
+    }
+}
 
 /// The arrays that the operations of the node with this number read in chunks that they tell, in order.
 pub fn operands_of(infos: &[NodeInfo], number: u32, form: &Form) -> ArrayVec<Rechunk, 3>
@@ -32,6 +43,12 @@ pub fn operands_of(infos: &[NodeInfo], number: u32, form: &Form) -> ArrayVec<Rec
             let right = array_of(infos, args.as_slice(), 1);
             operands.push(left_wanted(&made, &left, &right));
             operands.push(right_wanted(&made, &left, &right));
+        }
+        Form::GroupBy { args, axis, .. } => {
+            let source = array_of(infos, args.as_slice(), 0);
+            let labels = array_of(infos, args.as_slice(), 1);
+            operands.push(in_own_chunks(source));
+            operands.push(labels_wanted(&source, *axis, &labels));
         }
         _ => {}
     }

@@ -76,7 +76,7 @@ pub(crate) fn axes_sought(source: &NodeInfo, axis: Option<i64>) -> Axes
 }
 
 /// The bytes of a first operation, or of a merge where rounds follow that need more.
-fn with_merges(rounds: &[Round], first: u64, merge: u64) -> u64
+pub(crate) fn with_merges(rounds: &[Round], first: u64, merge: u64) -> u64
     ensures { result ≡ with_merges rounds.now first merge }
 {
     if rounds.is_empty() {

@@ -19,7 +19,9 @@ pub fn is_view(form: &Form) -> bool
         | Form::Rechunk { .. }
         | Form::Reduce { .. }
         | Form::ArgPlace { .. }
-        | Form::Matmul { .. } => false,
+        | Form::Matmul { .. }
+        | Form::CumulativeSum { .. }
+        | Form::GroupBy { .. } => false,
         _ => true,
     }
 }

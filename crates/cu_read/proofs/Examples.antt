@@ -51,3 +51,12 @@ number_first = refl
 axis_of_a_kind : expression_of (codes "{\"nodes\":[{\"id\":\"n\",\"op\":\"concat\",\"args\":[1],\"axis\":-0}],\"out\":\"n\",\"store_as\":\"z\"}") ≡ Err (record { code = 3; node = 0 })
 unfolding expression_of serde_json_on_literals is_utf8 chars
 axis_of_a_kind = refl
+
+-- no groups, and a number in place of the labels
+no_groups : expression_of (codes "{\"nodes\":[{\"id\":\"n\",\"op\":\"groupby_min\",\"args\":[1],\"axis\":0,\"groups\":0}],\"out\":\"n\",\"store_as\":\"z\"}") ≡ Err (record { code = 3; node = 0 })
+unfolding expression_of serde_json_on_literals is_utf8 chars
+no_groups = refl
+
+number_for_labels : expression_of (codes "{\"nodes\":[{\"id\":\"n\",\"op\":\"groupby_sum\",\"args\":[\"q\",1],\"axis\":0,\"groups\":65536}],\"out\":\"n\",\"store_as\":\"z\"}") ≡ Err (record { code = 5; node = 0 })
+unfolding expression_of serde_json_on_literals is_utf8 chars
+number_for_labels = refl

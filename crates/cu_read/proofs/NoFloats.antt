@@ -5,7 +5,7 @@ use Rattle.serde_json.specs.Find.{get, as_str, as_array}
 use Rattle.serde_json.specs.Read.{read}
 use Rattle.serde_json.specs.Written.{has_float, items_have_float}
 use Rattle.cu_form.specs.Expression.{Expression}
-use Rattle.cu_form.specs.Form.{is_chunk_size}
+use Rattle.cu_form.specs.Form.{is_chunk_size, is_group_count}
 use Rattle.cu_form.specs.declared.args.Arg.{Arg}
 use Rattle.cu_form.specs.declared.expr.Node.{Node}
 use Rattle.cu_form.specs.declared.form.Form.{Form}
@@ -77,6 +77,14 @@ row_plain ids op d (Form.Rechunk args chunk) t h = one_plain chunk_sizes_of (cod
 row_plain ids op d (Form.Reduce kind args axes keepdims) t h = folded_plain integers_of (codes "axes") ids d axes keepdims args integers_plain refl t h.1 h.2 h.3 h.4
 row_plain ids op d (Form.ArgPlace least args axis keepdims) t h = folded_plain integer_of (codes "axis") ids d axis keepdims args integer_plain refl t h.1 h.2 h.3 h.4
 row_plain ids op d (Form.Matmul args) t h = bare_plain ids d args t h.1 h.2
+row_plain ids op d (Form.CumulativeSum args axis) t h =
+    node_of (codes "axis" ∷ codes "args" ∷ []) (present (codes "axis") d + 1)
+    (3 + present (codes "axis") d) d t refl h.1 (one_more (present (codes "axis") d))
+    (and_may None (or_null integer_of) (codes "axis") (codes "args" ∷ []) 1 d axis
+    (or_null_plain integer_of integer_plain) h.2 (args_hold ids d args h.3))
+row_plain ids op d (Form.GroupBy least args axis groups) t h =
+    two_plain integer_of (codes "axis") (natural_of is_group_count) (codes "groups") ids d axis groups
+    args integer_plain (natural_plain is_group_count) refl t h.1 h.2 h.3 h.4
 
 node_plain : (ids : List (List ℕ)) (d : Data) (node : Node) → SaysNode ids d node → has_float d ≡ false
 node_plain ids d node s = row_plain ids s.op d node.form (record { op = s.op; operator = s.operator; name = node.name; id = s.id }) s.row

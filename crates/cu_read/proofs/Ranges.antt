@@ -8,7 +8,7 @@ use Rattle.serde_json.specs.Data.{Data, Items, no_items, item}
 use Rattle.serde_json.specs.Find.{get, as_array, as_bool, as_str, as_number, as_u64, as_integer}
 use Rattle.cu_num.specs.declared.functions.Fn1.{Fn1}
 use Rattle.cu_num.specs.declared.functions.Fn2.{Fn2}
-use Rattle.cu_form.specs.Form.{is_chunk_size, is_written, is_written_arg, is_written_value, is_function, in_ranges}
+use Rattle.cu_form.specs.Form.{is_chunk_size, is_group_count, is_written, is_written_arg, is_written_value, is_function, in_ranges}
 use Rattle.cu_form.specs.declared.args.Arg.{Arg}
 use Rattle.cu_node.specs.NewShape.{is_size}
 use Rattle.cu_node.specs.declared.literal.Literal.{Literal}
@@ -128,4 +128,7 @@ row_in_ranges ids op d (Form.Reshape args shape) h = shape_in_ranges op d shape 
 row_in_ranges ids op d (Form.BroadcastTo args shape chunk) h =
     both (list_all is_size shape) _ (sizes_pass d (codes "shape") shape h.2) (chunk_sizes_pass d (codes "chunk") chunk h.3)
 row_in_ranges ids op d (Form.Rechunk args chunk) h = chunk_sizes_pass d (codes "chunk") chunk h.2
+row_in_ranges ids op d (Form.GroupBy least args axis groups) h =
+    member_passes (natural_of is_group_count) is_group_count (natural_passes is_group_count)
+    (get (codes "groups") d) groups h.3
 row_in_ranges ids op d form h = refl

@@ -5,6 +5,7 @@ use Rattle.std.specs.Option.{option_or}
 use Rattle.serde_json.specs.Data.{Data}
 use Rattle.serde_json.specs.Find.{as_bool}
 use Rattle.cu_json.specs.Form.{is_object_of}
+use Rattle.cu_form.specs.Form.{is_group_count}
 use Rattle.cu_form.specs.declared.args.Arg.{Arg}
 use Rattle.cu_node.specs.NewShape.{is_size}
 use Rattle.cu_node.specs.declared.element_op.ElementOp.{ElementOp}
@@ -17,13 +18,13 @@ use Rattle.cu_num.specs.declared.types.Dtype.{Dtype}
 use Rattle.cu_result.specs.Results.{◌>>=◌}
 use Rattle.cu_read.specs.Creation.{input_in, full_in, arange_in, eye_in, creation_row}
 use Rattle.cu_read.specs.Elementwise.{unary_named, binary_named, extreme_named, function_named, function_in, function_row, astype_in, clip_in, elementwise_row}
-use Rattle.cu_read.specs.Form.{IsRow, IsFunction, triangle_name, place_name}
+use Rattle.cu_read.specs.Form.{IsRow, IsFunction, triangle_name, place_name, group_name}
 use Rattle.cu_read.specs.IndexItem.{index_item_of}
 use Rattle.cu_read.specs.Lists.{entries_of}
 use Rattle.cu_read.specs.Members.{integer_of, written_of, literal_of, natural_of, dtype_of, name_of, integers_of, sizes_of, chunk_sizes_of, member_of, member_or, or_null, present}
 use Rattle.cu_read.specs.NewShape.{IsNewShape, new_shape_in, new_shape_row}
 use Rattle.cu_read.specs.Node.{or_row, row_of}
-use Rattle.cu_read.specs.Reduction.{fold_named, reduce_in, search_in, matmul_in, reduce_row, reduction_row}
+use Rattle.cu_read.specs.Reduction.{fold_named, reduce_in, search_in, matmul_in, cumulative_in, group_in, reduce_row, reduction_row}
 use Rattle.cu_read.specs.View.{triangle_in, index_in, concat_in, stack_in, permute_dims_in, flip_in, roll_in, broadcast_to_in, rechunk_in, view_row}
 use Rattle.cu_read.specs.declared.faults.NodeCode.{NodeCode}
 use Rattle.cu_read.specs.Args.{args_in}
@@ -164,6 +165,21 @@ place_says least ids op d is = two_members (is_object_of (3 + present (codes "ax
 matmul_says : (ids : List (List ℕ)) (op : List ℕ) (d : Data) → op ≡ codes "matmul" → IfOk (matmul_in ids d) (IsRow ids op d)
 matmul_says ids op d is = no_member (is_object_of 3 d) (args_in ids d) Form.Matmul (IsRow ids op d) (λ m xs r. (is, m, args_are ids d xs r))
 
+cumulative_says : (ids : List (List ℕ)) (op : List ℕ) (d : Data) → op ≡ codes "cumulative_sum"
+    → IfOk (cumulative_in ids d) (IsRow ids op d)
+cumulative_says ids op d is =
+    one_member (is_object_of (3 + present (codes "axis") d) d)
+    (member_or None (or_null integer_of) (codes "axis") d) (args_in ids d)
+    (λ x xs. Form.CumulativeSum xs x) (IsRow ids op d) (λ m x a xs r. (is, m, a, args_are ids d xs r))
+
+group_says : (least : Bool) (ids : List (List ℕ)) (op : List ℕ) (d : Data) → op ≡ group_name least
+    → IfOk (group_in least ids d) (IsRow ids op d)
+group_says least ids op d is =
+    two_members (is_object_of 5 d) (member_of integer_of (codes "axis") d)
+    (member_of (natural_of is_group_count) (codes "groups") d) (args_in ids d)
+    (λ x y xs. Form.GroupBy least xs x y) (IsRow ids op d)
+    (λ m x a y b xs r. (is, m, a, b, args_are ids d xs r))
+
 reduce_row_says : (ids : List (List ℕ)) (op : List ℕ) (d : Data) (found : Option FoldKind) → fold_named op ≡ found → IfOk (reduce_row found ids d) (IsRow ids op d)
 reduce_row_says ids op d (Some kind) h = reduce_says kind ids op d h
 reduce_row_says ids op d None h = tt
@@ -173,7 +189,10 @@ reduction_says ids op d =
     by_name op (codes "argmin") _ _ (λ r. IfOk r (IsRow ids op d)) (place_says true ids op d)
     (by_name op (codes "argmax") _ _ (λ r. IfOk r (IsRow ids op d)) (place_says false ids op d)
     (by_name op (codes "matmul") _ _ (λ r. IfOk r (IsRow ids op d)) (matmul_says ids op d)
-    (reduce_row_says ids op d (fold_named op) refl)))
+    (by_name op (codes "cumulative_sum") _ _ (λ r. IfOk r (IsRow ids op d)) (cumulative_says ids op d)
+    (by_name op (codes "groupby_sum") _ _ (λ r. IfOk r (IsRow ids op d)) (group_says false ids op d)
+    (by_name op (codes "groupby_min") _ _ (λ r. IfOk r (IsRow ids op d)) (group_says true ids op d)
+    (reduce_row_says ids op d (fold_named op) refl))))))
 
 -- ---- new shapes
 

@@ -8,6 +8,7 @@ use Rattle.cu_json.specs.Form.{is_object_of}
 use Rattle.cu_num.specs.declared.folds.FoldKind.{FoldKind}
 use Rattle.cu_num.specs.declared.folds.FoldKind.TheVariants.{Sum, Prod, Min, Max, Any, All}
 use Rattle.cu_node.specs.NewShape.{is_size}
+use Rattle.cu_form.specs.Form.{is_group_count}
 use Rattle.cu_form.specs.declared.args.Arg.{Arg}
 use Rattle.cu_node.specs.declared.element_op.ElementOp.{ElementOp}
 use Rattle.cu_node.specs.declared.new_shape.NewShape.{NewShape}
@@ -223,3 +224,21 @@ row_read ids op d (Form.ArgPlace false args axis keepdims) h = named_row op (cod
     (reduced (codes "argmax") ids d (Form.ArgPlace false args axis keepdims) refl refl refl (two_read (is_object_of (3 + present (codes "axis") d + present (codes "keepdims") d) d) (member_or None (or_null integer_of) (codes "axis") d) (member_or false as_bool (codes "keepdims") d) (args_in ids d) (λ x y xs. Form.ArgPlace false xs x y) axis keepdims args h.1 h.2 h.3 (args_read ids d args h.4)))
 row_read ids op d (Form.Matmul args) h = named_row op (codes "matmul") ids d (Form.Matmul args) h.0
     (reduced (codes "matmul") ids d (Form.Matmul args) refl refl refl (none_read (is_object_of 3 d) (args_in ids d) Form.Matmul args h.1 (args_read ids d args h.2)))
+row_read ids op d (Form.CumulativeSum args axis) h =
+    named_row op (codes "cumulative_sum") ids d (Form.CumulativeSum args axis) h.0
+    (reduced (codes "cumulative_sum") ids d (Form.CumulativeSum args axis) refl refl refl
+    (one_read (is_object_of (3 + present (codes "axis") d) d)
+    (member_or None (or_null integer_of) (codes "axis") d) (args_in ids d)
+    (λ x xs. Form.CumulativeSum xs x) axis args h.1 h.2 (args_read ids d args h.3)))
+row_read ids op d (Form.GroupBy true args axis groups) h =
+    named_row op (codes "groupby_min") ids d (Form.GroupBy true args axis groups) h.0
+    (reduced (codes "groupby_min") ids d (Form.GroupBy true args axis groups) refl refl refl
+    (two_read (is_object_of 5 d) (member_of integer_of (codes "axis") d)
+    (member_of (natural_of is_group_count) (codes "groups") d) (args_in ids d)
+    (λ x y xs. Form.GroupBy true xs x y) axis groups args h.1 h.2 h.3 (args_read ids d args h.4)))
+row_read ids op d (Form.GroupBy false args axis groups) h =
+    named_row op (codes "groupby_sum") ids d (Form.GroupBy false args axis groups) h.0
+    (reduced (codes "groupby_sum") ids d (Form.GroupBy false args axis groups) refl refl refl
+    (two_read (is_object_of 5 d) (member_of integer_of (codes "axis") d)
+    (member_of (natural_of is_group_count) (codes "groups") d) (args_in ids d)
+    (λ x y xs. Form.GroupBy false xs x y) axis groups args h.1 h.2 h.3 (args_read ids d args h.4)))

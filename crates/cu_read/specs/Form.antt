@@ -6,6 +6,7 @@ use Rattle.serde_json.specs.Data.{Data, Items, no_items, item}
 use Rattle.serde_json.specs.Find.{as_bool, as_str, as_array}
 use Rattle.serde_json.specs.Read.{read}
 use Rattle.cu_form.specs.Expression.{Expression, IsExpression}
+use Rattle.cu_form.specs.Form.{is_group_count}
 use Rattle.cu_form.specs.declared.args.Arg.{Arg}
 use Rattle.cu_form.specs.declared.expr.Node.{Node}
 use Rattle.cu_node.specs.NewShape.{is_size}
@@ -35,6 +36,9 @@ triangle_name lower = if lower then codes "tril" else codes "triu"
 abbrev pub place_name : Bool → List ℕ
 place_name least = if least then codes "argmin" else codes "argmax"
 
+abbrev pub group_name : Bool → List ℕ
+group_name least = if least then codes "groupby_min" else codes "groupby_sum"
+
 -- A node with this operator says this form: it has exactly the members of the operator's row, and these are the form's.
 abbrev pub IsRow : List (List ℕ) → List ℕ → Data → Form → Type 0
 IsRow ids op d (Form.Input name) = (op ≡ codes "input") × IsObjectOf 3 d × Has name_of (codes "name") d name
@@ -63,6 +67,12 @@ IsRow ids op d (Form.Reduce kind args axes keepdims) = (fold_named op ≡ Some k
 IsRow ids op d (Form.ArgPlace least args axis keepdims) = (op ≡ place_name least) × IsObjectOf (3 + present (codes "axis") d + present (codes "keepdims") d) d
     × MayHave None (or_null integer_of) (codes "axis") d axis × MayHave false as_bool (codes "keepdims") d keepdims × HasArgs ids d args
 IsRow ids op d (Form.Matmul args) = (op ≡ codes "matmul") × IsObjectOf 3 d × HasArgs ids d args
+IsRow ids op d (Form.CumulativeSum args axis) =
+    (op ≡ codes "cumulative_sum") × IsObjectOf (3 + present (codes "axis") d) d
+    × MayHave None (or_null integer_of) (codes "axis") d axis × HasArgs ids d args
+IsRow ids op d (Form.GroupBy least args axis groups) =
+    (op ≡ group_name least) × IsObjectOf 5 d × Has integer_of (codes "axis") d axis
+    × Has (natural_of is_group_count) (codes "groups") d groups × HasArgs ids d args
 
 -- the value says the node that comes after those with these ids
 pub record SaysNode (ids : List (List ℕ)) (d : Data) (node : Node) : Type 0 where

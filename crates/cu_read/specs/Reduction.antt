@@ -1,15 +1,16 @@
--- The rows of reductions, of places and of products (Python array API, "Statistical Functions", "Utility Functions",
--- "Searching Functions", "Linear Algebra Functions").
+-- The rows of reductions, of places, of products, of prefix sums (Python array API, "Statistical Functions", "Utility Functions",
+-- "Searching Functions", "Linear Algebra Functions") and of groups by labels (this project's own operators).
 use Rattle.std.specs.Prelude.{ℕ, ◌+◌, Bool, true, false, List, codes, bytes_eq, Option, Some, None, Result, Ok, Err, if◌then◌else◌}
 use Rattle.serde_json.specs.Data.{Data}
 use Rattle.serde_json.specs.Find.{as_bool}
 use Rattle.cu_num.specs.declared.folds.FoldKind.{FoldKind}
 use Rattle.cu_num.specs.declared.folds.FoldKind.TheVariants.{Sum, Prod, Min, Max, Any, All}
+use Rattle.cu_form.specs.Form.{is_group_count}
 use Rattle.cu_form.specs.declared.form.Form.{Form}
 use Rattle.cu_result.specs.Results.{◌>>=◌}
 use Rattle.cu_read.specs.Args.{args_in}
-use Rattle.cu_read.specs.Members.{integer_of, integers_of, or_null, present}
-use Rattle.cu_read.specs.Rows.{has_members, optional}
+use Rattle.cu_read.specs.Members.{integer_of, integers_of, natural_of, or_null, present}
+use Rattle.cu_read.specs.Rows.{has_members, required, optional}
 use Rattle.cu_read.specs.declared.faults.NodeCode.{NodeCode}
 
 abbrev pub fold_named : List ℕ → Option FoldKind
@@ -44,6 +45,21 @@ matmul_in ids d = do
   args ← args_in ids d
   Ok (Form.Matmul args)
 
+abbrev pub cumulative_in : List (List ℕ) → Data → Result Form NodeCode
+cumulative_in ids d = do
+  _ ← has_members (3 + present (codes "axis") d) d
+  axis ← optional None (or_null integer_of) (codes "axis") d
+  args ← args_in ids d
+  Ok (Form.CumulativeSum args axis)
+
+abbrev pub group_in : Bool → List (List ℕ) → Data → Result Form NodeCode
+group_in least ids d = do
+  _ ← has_members 5 d
+  axis ← required integer_of (codes "axis") d
+  groups ← required (natural_of is_group_count) (codes "groups") d
+  args ← args_in ids d
+  Ok (Form.GroupBy least args axis groups)
+
 abbrev pub reduce_row : Option FoldKind → List (List ℕ) → Data → Result Form NodeCode
 reduce_row None ids d = Err NodeCode.Unknown
 reduce_row (Some kind) ids d = reduce_in kind ids d
@@ -54,4 +70,7 @@ reduction_row op ids d =
     if bytes_eq op (codes "argmin") then search_in true ids d
     else if bytes_eq op (codes "argmax") then search_in false ids d
     else if bytes_eq op (codes "matmul") then matmul_in ids d
+    else if bytes_eq op (codes "cumulative_sum") then cumulative_in ids d
+    else if bytes_eq op (codes "groupby_sum") then group_in false ids d
+    else if bytes_eq op (codes "groupby_min") then group_in true ids d
     else reduce_row (fold_named op) ids d

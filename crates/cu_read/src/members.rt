@@ -4,7 +4,7 @@ ghost use Rattle.serde_json.specs.Find.{get};
 ghost use Rattle.serde_json.specs.View.{view};
 ghost use Rattle.cu_name.specs.Name.{is_name};
 ghost use Rattle.cu_node.specs.NewShape.{is_size};
-ghost use Rattle.cu_form.specs.Form.{is_written, is_chunk_size};
+ghost use Rattle.cu_form.specs.Form.{is_written, is_chunk_size, is_group_count};
 ghost use Rattle.cu_read.specs.Members.{passing, integer_of, written_of, literal_of, natural_of, dtype_of, name_of, present};
 
 use cu_form::Literal;
@@ -14,6 +14,9 @@ use serde_json::Value;
 
 /// The most elements on an axis.
 const MOST_ELEMENTS: u64 = 0x100_0000_0000;
+
+/// The most groups that labels may name.
+const MOST_GROUPS: u64 = 65_536;
 
 fn is_written(x: i128) -> bool
     ensures { result ≡ is_written x }
@@ -64,6 +67,24 @@ pub(crate) fn chunk_size_of(value: &Value) -> Option<u64>
     let size = value.as_u64()?;
     if is_chunk_size(size) {
         Some(size)
+    } else {
+        None
+    }
+}
+
+fn is_group_count(count: u64) -> bool
+    ensures { result ≡ is_group_count count }
+{
+    1 <= count && count <= MOST_GROUPS
+}
+
+/// How many groups labels may name.
+pub(crate) fn group_count_of(value: &Value) -> Option<u32>
+    ensures { result ≡ natural_of is_group_count (view value.now) }
+{
+    let count = value.as_u64()?;
+    if is_group_count(count) {
+        Some(count as u32)
     } else {
         None
     }

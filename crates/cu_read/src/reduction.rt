@@ -1,15 +1,15 @@
-//! The rows of reductions, of places and of products.
+//! The rows of reductions, of places, of products, of prefix sums and of groups by labels.
 ghost use Rattle.std.specs.Prelude.{◌≡◌};
 ghost use Rattle.serde_json.specs.View.{view};
 ghost use Rattle.cu_read.specs.Faults.{Gives};
-ghost use Rattle.cu_read.specs.Reduction.{fold_named, reduce_in, search_in, matmul_in, reduction_row};
+ghost use Rattle.cu_read.specs.Reduction.{fold_named, reduce_in, search_in, matmul_in, cumulative_in, group_in, reduction_row};
 
 use crate::args::args_in;
 use crate::faults::{NodeCode, NodeRefused};
 use crate::ids::Ids;
 use crate::lists::integers_or_null;
 use crate::members::present;
-use crate::rows::{has_members, integer_or_null, truth_or_false};
+use crate::rows::{group_count, has_members, integer, integer_or_null, truth_or_false};
 use cu_form::Form;
 use cu_num::FoldKind;
 use serde_json::Value;
@@ -73,6 +73,30 @@ fn matmul_in(alloc: Global, ids: &Ids, value: &Value) -> Result<Form, NodeRefuse
     Ok(Form::Matmul { args })
 }
 
+fn cumulative_in(alloc: Global, ids: &Ids, value: &Value) -> Result<Form, NodeRefused>
+    ensures { Gives result (cumulative_in ids.now (view value.now)) }
+{
+    has_members(value, 3 + present(value, "axis"))?;
+    let axis = integer_or_null(value, "axis")?;
+    let args = args_in(alloc, ids, value)?;
+    Ok(Form::CumulativeSum { args, axis })
+}
+
+fn group_in(alloc: Global, least: bool, ids: &Ids, value: &Value) -> Result<Form, NodeRefused>
+    ensures { Gives result (group_in least ids.now (view value.now)) }
+{
+    has_members(value, 5)?;
+    let axis = integer(value, "axis")?;
+    let groups = group_count(value, "groups")?;
+    let args = args_in(alloc, ids, value)?;
+    Ok(Form::GroupBy {
+        least,
+        args,
+        axis,
+        groups,
+    })
+}
+
 /// The row of an operator of this family.
 pub(crate) fn reduction_row(
     alloc: Global,
@@ -86,6 +110,9 @@ pub(crate) fn reduction_row(
         "argmin" => return place_in(alloc, true, ids, value),
         "argmax" => return place_in(alloc, false, ids, value),
         "matmul" => return matmul_in(alloc, ids, value),
+        "cumulative_sum" => return cumulative_in(alloc, ids, value),
+        "groupby_sum" => return group_in(alloc, false, ids, value),
+        "groupby_min" => return group_in(alloc, true, ids, value),
         _ => {}
     }
     match fold_named(op) {

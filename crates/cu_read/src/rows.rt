@@ -3,12 +3,13 @@ ghost use Rattle.std.specs.Prelude.{◌≡◌, None, false, Ok, option_map};
 ghost use Rattle.std.specs.Result.{result_map_both};
 ghost use Rattle.serde_json.specs.Find.{as_bool, as_array, as_str};
 ghost use Rattle.serde_json.specs.View.{view, items_view};
+ghost use Rattle.cu_form.specs.Form.{is_group_count};
 ghost use Rattle.cu_node.specs.NewShape.{is_size};
 ghost use Rattle.cu_read.specs.Members.{integer_of, written_of, literal_of, natural_of, dtype_of, name_of, or_null};
 ghost use Rattle.cu_read.specs.Rows.{has_members, required, optional};
 
 use crate::faults::NodeCode;
-use crate::members::{dtype_of, literal_of, name_of, size_of, written_of};
+use crate::members::{dtype_of, group_count_of, literal_of, name_of, size_of, written_of};
 use cu_form::Literal;
 use cu_json::is_object_of;
 use cu_name::IdText;
@@ -72,6 +73,16 @@ pub(crate) fn written(value: &Value, name: &str) -> Result<i128, NodeCode>
 {
     match value.get(name) {
         Some(found) => written_of(found).ok_or(NodeCode::Form),
+        None => Err(NodeCode::Form),
+    }
+}
+
+/// How many groups labels may name, at a member.
+pub(crate) fn group_count(value: &Value, name: &str) -> Result<u32, NodeCode>
+    ensures { result ≡ required (natural_of is_group_count) name.now (view value.now) }
+{
+    match value.get(name) {
+        Some(found) => group_count_of(found).ok_or(NodeCode::Form),
         None => Err(NodeCode::Form),
     }
 }

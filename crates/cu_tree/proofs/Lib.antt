@@ -3,5 +3,7 @@ pub mod Falls
 pub mod Middles
 pub mod Orders
 pub mod Sizes
+pub mod SumArrays
+pub mod SumRounds
 pub mod Totals
 mod Examples

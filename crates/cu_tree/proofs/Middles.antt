@@ -97,6 +97,25 @@ set_within ns axis to h le k b =
       | inr p ↦ rw (get_or-set_other ns axis k to 0 p.1) (omega arith)
     ]
 
+-- it has no more chunks than before
+pub merged_chunks : (r : Round) (i : NodeInfo) → r.axis < length i.dims → r.to ≤ get_or i.dims r.axis 0 → IsMiddle i
+    → product (at_least_one (counts_of (merged r i).dims (merged r i).chunk)) ≤ product (at_least_one (counts_of i.dims i.chunk))
+merged_chunks r i inside le h =
+    let g = h.grid in
+    let ranks = g.ranks in
+    let l = length-set i.dims r.axis r.to in
+    let a = length-axis_by_axis div_ceil (set i.dims r.axis r.to) i.chunk (omega arith) in
+    let b = length-axis_by_axis div_ceil i.dims i.chunk (omega arith) in
+    product_most (counts_of (set i.dims r.axis r.to) i.chunk) (counts_of i.dims i.chunk) (omega arith) (λ k m. fewer k (omega arith))
+  where
+    fewer : (k : ℕ) → k < length i.dims → get_or (counts_of (set i.dims r.axis r.to) i.chunk) k 0 ≤ get_or (counts_of i.dims i.chunk) k 0
+    fewer k m =
+        let ranks = h.grid.ranks in
+        let l = length-set i.dims r.axis r.to in
+        rw (get_or-axis_by_axis div_ceil (set i.dims r.axis r.to) i.chunk k (omega arith) (omega arith), get_or-axis_by_axis div_ceil i.dims i.chunk k m (omega arith))
+        (div_ceil_least (get_or (set i.dims r.axis r.to) k 0) (get_or i.dims k 0) (get_or i.chunk k 0) (All-get_or (λ (n : ℕ). 0 < n) i.chunk k 0 (omega arith) h.grid.positive)
+        (set_within i.dims r.axis r.to inside le k (omega arith)))
+
 pub of_merged : (r : Round) (i : NodeInfo) → r.axis < length i.dims → r.to ≤ get_or i.dims r.axis 0 → IsMiddle i → IsMiddle (merged r i)
 of_merged r i inside le h =
     let g = h.grid in
@@ -106,22 +125,12 @@ of_merged r i inside le h =
     let n = g.elements in
     let c = h.chunks in
     let s = g.short in
-    let a = length-axis_by_axis div_ceil (set i.dims r.axis r.to) i.chunk (omega arith) in
-    let b = length-axis_by_axis div_ceil i.dims i.chunk (omega arith) in
-    let v = product_most (counts_of (set i.dims r.axis r.to) i.chunk) (counts_of i.dims i.chunk) (omega arith) (λ k m. fewer k (omega arith)) in
+    let v = merged_chunks r i inside le h in
     record {
       grid = record { ranks = omega arith; short = omega arith; positive = g.positive; elements = omega arith; chunk_elements = g.chunk_elements };
       chunks = omega arith;
       bytes = h.bytes;
     }
-  where
-    fewer : (k : ℕ) → k < length i.dims → get_or (counts_of (set i.dims r.axis r.to) i.chunk) k 0 ≤ get_or (counts_of i.dims i.chunk) k 0
-    fewer k m =
-        let ranks = h.grid.ranks in
-        let l = length-set i.dims r.axis r.to in
-        rw (get_or-axis_by_axis div_ceil (set i.dims r.axis r.to) i.chunk k (omega arith) (omega arith), get_or-axis_by_axis div_ceil i.dims i.chunk k m (omega arith))
-        (div_ceil_least (get_or (set i.dims r.axis r.to) k 0) (get_or i.dims k 0) (get_or i.chunk k 0) (All-get_or (λ (n : ℕ). 0 < n) i.chunk k 0 (omega arith) h.grid.positive)
-        (set_within i.dims r.axis r.to inside le k (omega arith)))
 
 -- all of them
 pub all_before : (axes : Axes) (g : ℕ) (partial : NodeInfo) (rounds : List Round) → 2 ≤ g → AreRounds axes g partial.dims rounds → IsMiddle partial → All IsMiddle (partials_before partial rounds)

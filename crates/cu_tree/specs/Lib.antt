@@ -2,3 +2,4 @@ pub mod Marks
 pub mod Needs
 pub mod Partials
 pub mod Rounds
+pub mod Sums

@@ -16,7 +16,7 @@ pub fn fold_need(reserved: u64, source: u64, partial: u64) -> u64
 /// The bytes of a merge of groups of `group` chunks of partial results.
 pub fn merge_need(reserved: u64, group: u32, partial: u64) -> u64
     requires reserved { reserved ≤ 2 ^ 40 }
-    requires group { group ≤ 64 }
+    requires group { group ≤ 65 }
     requires partial { partial ≤ 2 ^ 28 }
     ensures { result ≡ merge_need reserved group partial }
 {

@@ -165,7 +165,7 @@ pub fn chunks_before(partial: &NodeInfo, rounds: &[Round]) -> u64
 }
 
 /// How many chunks an array has.
-fn chunks_of(info: &NodeInfo) -> u64
+pub(crate) fn chunks_of(info: &NodeInfo) -> u64
     requires { IsMiddle info.now }
     ensures count { result ≡ chunks_of info.now }
     ensures few { result ≤ 2 ^ 32 }

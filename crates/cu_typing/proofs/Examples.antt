@@ -6,6 +6,7 @@ use Rattle.cu_num.specs.declared.types.Dtype.TheVariants.{Bool, Int8, Int16, Int
 use Rattle.cu_num.specs.declared.functions.Fn2.TheVariants.{Add, Equal}
 use Rattle.cu_node.specs.declared.literal.Literal.TheVariants.{Int, Truth}
 use Rattle.cu_node.specs.declared.element_op.ElementOp.TheVariants.{Two, Where, Astype, Extreme, Clip}
+use Rattle.cu_num.specs.declared.folds.FoldKind.{FoldKind}
 use Rattle.cu_num.specs.declared.folds.FoldKind.TheVariants as fold
 use Rattle.cu_node.specs.Fault.{fault, fault_at}
 use Rattle.cu_node.specs.Info.{info_of}
@@ -13,6 +14,7 @@ use Rattle.cu_node.specs.Limited.{limit}
 use Rattle.cu_node.specs.declared.faults.FaultCode.TheVariants.{Kind, Scalar, Promote, Axis, Shape, EmptyReduce}
 use Rattle.cu_node.specs.declared.faults.NodeFault.{NodeFault}
 use Rattle.cu_node.specs.declared.info.NodeInfo.{NodeInfo}
+use Rattle.cu_typing.specs.Along.{typed_cumulative, typed_groups}
 use Rattle.cu_typing.specs.Elementwise.{typed_elementwise}
 use Rattle.cu_typing.specs.Matmul.{typed_matmul}
 use Rattle.cu_typing.specs.Reduction.{typed_reduction, typed_arg_place}
@@ -245,3 +247,79 @@ product_of_bools = refl
 product_without_type : typed_matmul (info_of Int64 [] []) (info_of Uint64 (4 ∷ []) (4 ∷ [])) ≡ Err (fault Promote)
 unfolding promotion
 product_without_type = refl
+
+-- ---- prefix sums
+
+five : Dtype → NodeInfo
+five t = info_of t (5 ∷ []) (2 ∷ [])
+
+summed : typed_cumulative None (five Int32) ≡ Ok (info_of Int64 (5 ∷ []) (2 ∷ []))
+unfolding five
+summed = refl
+
+summed_unsigned : typed_cumulative (Some (negsuc 0)) (info_of Uint8 (2 ∷ 3 ∷ []) (1 ∷ 3 ∷ []))
+    ≡ Ok (info_of Uint64 (2 ∷ 3 ∷ []) (1 ∷ 3 ∷ []))
+summed_unsigned = refl
+
+no_truths_summed : typed_cumulative None (five Bool) ≡ Err (fault Kind)
+unfolding five
+no_truths_summed = refl
+
+axis_wanted : typed_cumulative None (info_of Int32 (2 ∷ 3 ∷ []) (1 ∷ 3 ∷ [])) ≡ Err (fault Axis)
+axis_wanted = refl
+
+no_axis : typed_cumulative None (info_of Int32 [] []) ≡ Err (fault Axis)
+no_axis = refl
+
+past_the_axes : typed_cumulative (Some (pos 1)) (five Int32) ≡ Err (fault Axis)
+unfolding five
+past_the_axes = refl
+
+-- a chunk of sums is larger than that of the elements
+sums_too_large : typed_cumulative None (info_of Int8 (2 ^ 28 ∷ []) (2 ^ 28 ∷ [])) ≡ Err (limit 3)
+sums_too_large = refl
+
+-- ---- groups by labels
+
+in_three : FoldKind → NodeInfo → NodeInfo → Result NodeInfo NodeFault
+in_three kind i labels = typed_groups kind (pos 0) 3 i labels
+
+groups_of_sums : in_three fold.Sum (five Int32) (five Int32) ≡ Ok (info_of Int64 (3 ∷ []) (3 ∷ []))
+unfolding five in_three
+groups_of_sums = refl
+
+groups_of_least : in_three fold.Min (five Int32) (five Uint8) ≡ Ok (info_of Int32 (3 ∷ []) (3 ∷ []))
+unfolding five in_three
+groups_of_least = refl
+
+along_the_last : typed_groups fold.Min (negsuc 0) 4 (info_of Int8 (2 ∷ 5 ∷ []) (1 ∷ 2 ∷ [])) (five Int32)
+    ≡ Ok (info_of Int8 (2 ∷ 4 ∷ []) (1 ∷ 4 ∷ []))
+unfolding five
+along_the_last = refl
+
+truths_as_labels : in_three fold.Min (five Int32) (five Bool) ≡ Err (fault Kind)
+unfolding five in_three
+truths_as_labels = refl
+
+-- a type comes before an axis, an axis before the labels' shape
+no_such_axis : typed_groups fold.Sum (pos 1) 3 (five Int32) (info_of Int32 (4 ∷ []) (2 ∷ [])) ≡ Err (fault Axis)
+unfolding five
+no_such_axis = refl
+
+label_missing : typed_groups fold.Sum (pos 1) 3 (info_of Int32 (2 ∷ 5 ∷ []) (1 ∷ 2 ∷ [])) (info_of Int32 (4 ∷ []) (2 ∷ []))
+    ≡ Err (fault_at Shape 1)
+label_missing = refl
+
+labels_of_two_axes : in_three fold.Sum (five Int32) (info_of Int32 (5 ∷ 1 ∷ []) (2 ∷ 1 ∷ [])) ≡ Err (fault_at Shape 0)
+unfolding five in_three
+labels_of_two_axes = refl
+
+six_axes_grouped : in_three fold.Sum (info_of Int32 (1 ∷ 1 ∷ 1 ∷ 1 ∷ 1 ∷ 1 ∷ []) (1 ∷ 1 ∷ 1 ∷ 1 ∷ 1 ∷ 1 ∷ [])) (info_of Int32 (1 ∷ []) (1 ∷ []))
+    ≡ Err (limit 1)
+unfolding in_three
+six_axes_grouped = refl
+
+-- the labels in the chunks of the array
+labels_too_large : in_three fold.Sum (info_of Int8 (2 ^ 28 ∷ []) (2 ^ 28 ∷ [])) (info_of Int64 (2 ^ 28 ∷ []) (1 ∷ [])) ≡ Err (limit 3)
+unfolding in_three
+labels_too_large = refl

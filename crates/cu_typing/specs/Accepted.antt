@@ -1,13 +1,17 @@
 -- What an accepted node's arguments have passed.
-use Rattle.std.specs.Prelude.{◌≡◌, ℕ, ◌+◌, ◌-◌, ◌<◌, ◌≤◌, ◌==◌, ◌&&◌, ◌⊎◌, Bool, true, false, ℤ, List, length, slice_index, All, Option, Some, Ok}
+use Rattle.std.specs.Prelude.{◌≡◌, ℕ, ◌+◌, ◌-◌, ◌<◌, ◌≤◌, ◌==◌, ◌&&◌, ◌⊎◌, Bool, true, false, ℤ, List, length, slice_index, slice_set, All, Option, Some, Ok}
 use Rattle.cu_num.specs.Dtype.{is_integer}
+use Rattle.cu_num.specs.Fold.{fold_type}
 use Rattle.cu_num.specs.Promotion.{promotion}
+use Rattle.cu_num.specs.declared.folds.FoldKind.{FoldKind}
+use Rattle.cu_num.specs.declared.folds.FoldKind.TheVariants.{Sum}
 use Rattle.cu_num.specs.declared.types.Dtype.{Dtype}
 use Rattle.cu_shape.specs.Index.{product}
 use Rattle.cu_node.specs.declared.element_op.ElementOp.{ElementOp}
 use Rattle.cu_node.specs.Info.{info_of}
 use Rattle.cu_node.specs.Limited.{is_chunk_within}
 use Rattle.cu_node.specs.declared.info.NodeInfo.{NodeInfo}
+use Rattle.cu_typing.specs.Along.{summed_axis, are_labels, labels_aligned}
 use Rattle.cu_typing.specs.Joined.{arrays_of, joined_shape, joined_chunk, aligned_chunk}
 use Rattle.cu_typing.specs.Matmul.{left_summed, right_summed, leading_arrays, left_aligned, right_aligned, product_shape, product_chunk}
 use Rattle.cu_typing.specs.Reduction.{ReductionRule, marks_of, reduced_sizes, kept_sizes}
@@ -50,3 +54,18 @@ pub record IsAcceptedProduct (l r : NodeInfo) (t : Dtype) (lead : List ℕ) (res
   pub left_within : is_chunk_within l.dtype (left_aligned lead l r) ≡ true
   pub right_within : is_chunk_within r.dtype (right_aligned lead l r) ≡ true
   pub array : result ≡ info_of t (product_shape lead l r) (product_chunk lead l r)
+
+-- what the argument of a prefix sum has passed, whose axis is this
+pub record IsAcceptedCumulative (axis : Option ℤ) (i : NodeInfo) (place : ℕ) (result : NodeInfo) : Type 0 where
+  pub accepted : is_integer i.dtype ≡ true
+  pub named : summed_axis (length i.dims) axis ≡ Some place
+  pub array : result ≡ info_of (fold_type Sum i.dtype) i.dims i.chunk
+
+-- what an array and its labels have passed that are reduced to so many groups along an axis
+pub record IsAcceptedGroups (kind : FoldKind) (groups axis : ℕ) (i labels result : NodeInfo) : Type 0 where
+  pub accepted : is_integer i.dtype ≡ true
+  pub labels_type : is_integer labels.dtype ≡ true
+  pub labelled : are_labels i axis labels ≡ true
+  pub short : length i.dims ≤ 5
+  pub within : is_chunk_within labels.dtype (labels_aligned i axis) ≡ true
+  pub array : result ≡ info_of (fold_type kind i.dtype) (slice_set i.dims axis groups) (slice_set i.chunk axis groups)

@@ -1,4 +1,5 @@
 pub mod Accepted
+pub mod Along
 pub mod Elementwise
 pub mod Joined
 pub mod Matmul

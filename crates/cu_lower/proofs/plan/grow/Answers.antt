@@ -39,7 +39,7 @@ add_node-requires-clause-steps c = λ mark.
     let at = ap (λ nodes. slice_get nodes c.loop-k.k) (sym c.nodes-nodes.ensures.nodes) ∙ slice_get-get_or c.nodes-nodes.result.now c.loop-k.k c.index-nodes-k.result c.loop-k-test.true in
     let live = sym (c.live_marks-marks.ensures c.loop-k.k) ∙ mark in
     subst (λ (k : ℕ). HasSteps c.args.expr.now c.args.infos.now c.args.options.now k (get_or c.nodes-nodes.result.now c.loop-k.k c.index-nodes-k.result).form) (sym c.loop-k.invariant.number)
-    ((all_steps c.args.expr.now c.args.infos.now c.args.inputs.now c.args.options.now c.requires (record { pulls = c.pull_law.ensures; reductions = record { steps = c.reduction_law.ensures.steps; sizes = c.reduction_law.ensures.sizes; value = c.reduction_law.ensures.value }; searches = record { steps = c.search_law.ensures.steps; sizes = c.search_law.ensures.sizes; value = c.search_law.ensures.value }; products = record { steps = c.product_law.ensures.steps; sizes = c.product_law.ensures.sizes; value = c.product_law.ensures.value }; rechunks = record { steps = c.rechunk_law.ensures.steps; last = c.rechunk_law.ensures.last; ends = c.rechunk_law.ensures.ends; sizes = c.rechunk_law.ensures.sizes; value = c.rechunk_law.ensures.value }; operands = record { steps = c.operands_law.ensures.steps; places = c.operands_law.ensures.places; given = c.operands_law.ensures.given; sizes = c.operands_law.ensures.sizes; value = c.operands_law.ensures.value } })).steps c.loop-k.k (get_or c.nodes-nodes.result.now c.loop-k.k c.index-nodes-k.result) at live)
+    ((all_steps c.args.expr.now c.args.infos.now c.args.inputs.now c.args.options.now c.requires (record { pulls = c.pull_law.ensures; reductions = record { steps = c.reduction_law.ensures.steps; sizes = c.reduction_law.ensures.sizes; value = c.reduction_law.ensures.value }; searches = record { steps = c.search_law.ensures.steps; sizes = c.search_law.ensures.sizes; value = c.search_law.ensures.value }; products = record { steps = c.product_law.ensures.steps; sizes = c.product_law.ensures.sizes; value = c.product_law.ensures.value }; sums = record { steps = c.cumulative_law.ensures.steps; sizes = c.cumulative_law.ensures.sizes; value = c.cumulative_law.ensures.value }; groups = record { steps = c.grouped_law.ensures.steps; sizes = c.grouped_law.ensures.sizes; value = c.grouped_law.ensures.value }; rechunks = record { steps = c.rechunk_law.ensures.steps; last = c.rechunk_law.ensures.last; ends = c.rechunk_law.ensures.ends; sizes = c.rechunk_law.ensures.sizes; value = c.rechunk_law.ensures.value }; operands = record { steps = c.operands_law.ensures.steps; places = c.operands_law.ensures.places; given = c.operands_law.ensures.given; sizes = c.operands_law.ensures.sizes; value = c.operands_law.ensures.value } })).steps c.loop-k.k (get_or c.nodes-nodes.result.now c.loop-k.k c.index-nodes-k.result) at live)
 
 pub add_node-requires-clause-options : goal.add_node-requires-clause-options
 add_node-requires-clause-options c =
@@ -48,7 +48,7 @@ add_node-requires-clause-options c =
 pub loop-k-init : goal.loop-k-init
 loop-k-init c =
     let e = c.args.expr.now in
-    let steps = all_steps c.args.expr.now c.args.infos.now c.args.inputs.now c.args.options.now c.requires (record { pulls = c.pull_law.ensures; reductions = record { steps = c.reduction_law.ensures.steps; sizes = c.reduction_law.ensures.sizes; value = c.reduction_law.ensures.value }; searches = record { steps = c.search_law.ensures.steps; sizes = c.search_law.ensures.sizes; value = c.search_law.ensures.value }; products = record { steps = c.product_law.ensures.steps; sizes = c.product_law.ensures.sizes; value = c.product_law.ensures.value }; rechunks = record { steps = c.rechunk_law.ensures.steps; last = c.rechunk_law.ensures.last; ends = c.rechunk_law.ensures.ends; sizes = c.rechunk_law.ensures.sizes; value = c.rechunk_law.ensures.value }; operands = record { steps = c.operands_law.ensures.steps; places = c.operands_law.ensures.places; given = c.operands_law.ensures.given; sizes = c.operands_law.ensures.sizes; value = c.operands_law.ensures.value } }) in
+    let steps = all_steps c.args.expr.now c.args.infos.now c.args.inputs.now c.args.options.now c.requires (record { pulls = c.pull_law.ensures; reductions = record { steps = c.reduction_law.ensures.steps; sizes = c.reduction_law.ensures.sizes; value = c.reduction_law.ensures.value }; searches = record { steps = c.search_law.ensures.steps; sizes = c.search_law.ensures.sizes; value = c.search_law.ensures.value }; products = record { steps = c.product_law.ensures.steps; sizes = c.product_law.ensures.sizes; value = c.product_law.ensures.value }; sums = record { steps = c.cumulative_law.ensures.steps; sizes = c.cumulative_law.ensures.sizes; value = c.cumulative_law.ensures.value }; groups = record { steps = c.grouped_law.ensures.steps; sizes = c.grouped_law.ensures.sizes; value = c.grouped_law.ensures.value }; rechunks = record { steps = c.rechunk_law.ensures.steps; last = c.rechunk_law.ensures.last; ends = c.rechunk_law.ensures.ends; sizes = c.rechunk_law.ensures.sizes; value = c.rechunk_law.ensures.value }; operands = record { steps = c.operands_law.ensures.steps; places = c.operands_law.ensures.places; given = c.operands_law.ensures.given; sizes = c.operands_law.ensures.sizes; value = c.operands_law.ensures.value } }) in
     let arrays : c.in_ok-arrays.arrays.items ≡ map (input_array c.args.inputs.now) (c.deref.result.now) = c.in_ok-arrays.ensures in
     let first : c.first-grown.result ≡ first_grown c.args.expr.now c.args.inputs.now =
     c.first-grown.ensures ∙ ap (λ (xs : List ArrayInfo). record { arrays = xs; ops = []; places = [] }) (arrays ∙ ap (map (input_array c.args.inputs.now)) (c.deref.ensures.value ∙ c.in_ok-names.ensures)) in
@@ -64,7 +64,7 @@ loop-k-preserved c =
     let e = c.args.expr.now in
     let infos = c.args.infos.now in
     let options = c.args.options.now in
-    let steps = all_steps c.args.expr.now c.args.infos.now c.args.inputs.now c.args.options.now c.requires (record { pulls = c.pull_law.ensures; reductions = record { steps = c.reduction_law.ensures.steps; sizes = c.reduction_law.ensures.sizes; value = c.reduction_law.ensures.value }; searches = record { steps = c.search_law.ensures.steps; sizes = c.search_law.ensures.sizes; value = c.search_law.ensures.value }; products = record { steps = c.product_law.ensures.steps; sizes = c.product_law.ensures.sizes; value = c.product_law.ensures.value }; rechunks = record { steps = c.rechunk_law.ensures.steps; last = c.rechunk_law.ensures.last; ends = c.rechunk_law.ensures.ends; sizes = c.rechunk_law.ensures.sizes; value = c.rechunk_law.ensures.value }; operands = record { steps = c.operands_law.ensures.steps; places = c.operands_law.ensures.places; given = c.operands_law.ensures.given; sizes = c.operands_law.ensures.sizes; value = c.operands_law.ensures.value } }) in
+    let steps = all_steps c.args.expr.now c.args.infos.now c.args.inputs.now c.args.options.now c.requires (record { pulls = c.pull_law.ensures; reductions = record { steps = c.reduction_law.ensures.steps; sizes = c.reduction_law.ensures.sizes; value = c.reduction_law.ensures.value }; searches = record { steps = c.search_law.ensures.steps; sizes = c.search_law.ensures.sizes; value = c.search_law.ensures.value }; products = record { steps = c.product_law.ensures.steps; sizes = c.product_law.ensures.sizes; value = c.product_law.ensures.value }; sums = record { steps = c.cumulative_law.ensures.steps; sizes = c.cumulative_law.ensures.sizes; value = c.cumulative_law.ensures.value }; groups = record { steps = c.grouped_law.ensures.steps; sizes = c.grouped_law.ensures.sizes; value = c.grouped_law.ensures.value }; rechunks = record { steps = c.rechunk_law.ensures.steps; last = c.rechunk_law.ensures.last; ends = c.rechunk_law.ensures.ends; sizes = c.rechunk_law.ensures.sizes; value = c.rechunk_law.ensures.value }; operands = record { steps = c.operands_law.ensures.steps; places = c.operands_law.ensures.places; given = c.operands_law.ensures.given; sizes = c.operands_law.ensures.sizes; value = c.operands_law.ensures.value } }) in
     let nodes : List Node = c.nodes-nodes.result.now in
     let k = c.loop-k.k in
     let n : Node = get_or c.nodes-nodes.result.now c.loop-k.k c.index-nodes-k.result in

@@ -1,4 +1,5 @@
-use Rattle.std.proofs.Common.{◌≡◌, All, List, ℕ, ap, sym, subst, ◌∙◌}
+use Rattle.std.proofs.Common.{rules, ◌≡◌, All, List, ℕ, ℤ, ap, sym, subst, ◌∙◌, of_z, to_z, w64}
+use Rattle.std.proofs.lemmas.Int.{to_z-of_z}
 use Rattle.std.specs.Prelude.{IfOk}
 use Rattle.cu_copy.specs.Copies.{in_chunks, IsRechunk}
 use Rattle.cu_form.specs.declared.args.Arg.{Arg}
@@ -8,11 +9,14 @@ use Rattle.cu_node.specs.declared.info.NodeInfo.{NodeInfo}
 use Rattle.cu_need.specs.Operands.{operands_of}
 use Rattle.cu_need.specs.Reduction.{array_of}
 use Rattle.cu_lower_reduce.specs.Copies.{AreOperands, IsStaged}
+use Rattle.cu_lower_reduce.specs.Cumulative.{IsCumulative}
+use Rattle.cu_lower_reduce.specs.Grouped.{IsGrouped}
 use Rattle.cu_lower_reduce.specs.Reductions.{IsReduction}
 use Rattle.cu_lower_reduce.specs.Searches.{IsSearch}
 use Rattle.cu_lower_reduce.specs.declared.copy.CopySetting.{CopySetting}
+use Rattle.cu_lower_reduce.specs.declared.grouped.Grouped.{Grouped}
 use Rattle.cu_lower_reduce.specs.declared.step.Step.{Step}
-use Rattle.cu_lower.specs.Parts.{CanCopy, CanGrow, copying, reduction_of, search_of}
+use Rattle.cu_lower.specs.Parts.{CanCopy, CanGrow, copying, cumulative_of, grouped_of, grouped_over, reduction_of, search_of}
 use Rattle.cu_lower.specs.declared.options.Options.{Options}
 use Rattle.cu_lower.proofs.FormKinds.{view_steps, other_view}
 use Rattle.cu_lower.proofs.steps.steps_of.Goals as goal
@@ -58,7 +62,7 @@ pub returns-in_default : goal.returns-in_default
 returns-in_default c =
     subst (λ (ss : List Step). IfOk c.view_steps.result (λ steps. steps.items ≡ ss))
     (sym (view_steps c.args.infos.now c.args.options.now c.args.node c.args.form.now c.args.sources.items c.args.first
-    (other_view c.args.form.now c.in_default.not-Input c.in_default.not-Elementwise c.in_default.not-Rechunk c.in_default.not-Reduce c.in_default.not-ArgPlace c.in_default.not-Matmul)))
+    (other_view c.args.form.now c.in_default.not-Input c.in_default.not-Elementwise c.in_default.not-Rechunk c.in_default.not-Reduce c.in_default.not-ArgPlace c.in_default.not-Matmul c.in_default.not-CumulativeSum c.in_default.not-GroupBy)))
     c.view_steps.ensures
 
 pub reduction_steps-requires-clause-reduction : goal.reduction_steps-requires-clause-reduction
@@ -74,3 +78,29 @@ search_steps-requires-clause-search c =
     subst IsSearch
     (sym (c.search_of-x.ensures ∙ ap (λ args. search_of c.args.infos.now c.args.node c.in-ArgPlace.least args c.in-ArgPlace.axis c.as_slice-ins.result.now) c.as_slice-in-ArgPlace.ensures))
     (grow.fitting c.as_slice-ins.result.now)
+
+pub align_operands-requires-in-GroupBy-clause-operands : goal.align_operands-requires-in-GroupBy-clause-operands
+align_operands-requires-in-GroupBy-clause-operands c =
+    let f : Form = Form.GroupBy c.in-GroupBy.least c.in-GroupBy.args c.in-GroupBy.axis c.in-GroupBy.groups in
+    let grow : CanGrow c.args.infos.now c.args.options.now c.args.node f = subst (CanGrow c.args.infos.now c.args.options.now c.args.node) c.in-GroupBy.is c.requires.form in
+    can_align c.args.infos.now c.args.options.now c.args.node c.args.form.now f c.args.first c.copying-copies.result
+    c.copying-copies.ensures.setting c.in-GroupBy.is (grow.fitting.1 c.args.first)
+
+pub cumulative_steps-requires-clause-cumulative : goal.cumulative_steps-requires-clause-cumulative
+cumulative_steps-requires-clause-cumulative c =
+    let grow : CanGrow c.args.infos.now c.args.options.now c.args.node (Form.CumulativeSum c.in-CumulativeSum.args c.in-CumulativeSum.axis) = subst (CanGrow c.args.infos.now c.args.options.now c.args.node) c.in-CumulativeSum.is c.requires.form in
+    subst IsCumulative
+    (sym (c.cumulative_of-x.ensures ∙ ap (λ args. cumulative_of c.args.infos.now c.args.node args c.in-CumulativeSum.axis c.as_slice-ins.result.now) c.as_slice-in-CumulativeSum.ensures))
+    (grow.fitting c.as_slice-ins.result.now)
+
+pub group_steps-requires-clause-grouped : goal.group_steps-requires-clause-grouped
+group_steps-requires-clause-grouped c =
+    let f : Form = Form.GroupBy c.in-GroupBy.least c.in-GroupBy.args c.in-GroupBy.axis c.in-GroupBy.groups in
+    let grow : CanGrow c.args.infos.now c.args.options.now c.args.node f = subst (CanGrow c.args.infos.now c.args.options.now c.args.node) c.in-GroupBy.is c.requires.form in
+    let read = c.in_ok-aligned-in-GroupBy.aligned.places.items in
+    let axis : to_z w64 (of_z w64 c.in-GroupBy.axis) ≡ c.in-GroupBy.axis = to_z-of_z w64 c.in-GroupBy.axis (search rules) in
+    subst (λ (x : Grouped). IsGrouped (grouped_over x read))
+    (sym (c.grouped_of-x.ensures
+    ∙ ap (λ (a : ℤ). grouped_of c.args.infos.now c.args.node c.in-GroupBy.least c.as_slice-in-GroupBy.result.now a c.in-GroupBy.groups) axis
+    ∙ ap (λ args. grouped_of c.args.infos.now c.args.node c.in-GroupBy.least args c.in-GroupBy.axis c.in-GroupBy.groups) c.as_slice-in-GroupBy.ensures))
+    (grow.fitting.0 read)

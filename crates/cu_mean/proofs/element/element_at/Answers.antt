@@ -96,3 +96,17 @@ returns-in-Matmul c env k e =
     to_z-of_z w128 c.product_at.result (record { sfits = c.product_at.type_inv })
     ∙ c.product_at.ensures env k e
     ∙ ap (λ (form : Form). rule_of c.args.scope.now.infos.now env (elements_in c.args.scope.now.plains.now) k form c.args.scope.now.idx.now) (sym c.in-Matmul.is)
+
+pub returns-in-CumulativeSum : goal.returns-in-CumulativeSum
+returns-in-CumulativeSum c env k e =
+    to_z-of_z w128 c.cumulative_node.result (record { sfits = c.cumulative_node.type_inv })
+    ∙ c.cumulative_node.ensures env k e
+    ∙ ap (λ (form : Form). rule_of c.args.scope.now.infos.now env (elements_in c.args.scope.now.plains.now) k form c.args.scope.now.idx.now) (sym c.in-CumulativeSum.is)
+
+pub returns-in-GroupBy : goal.returns-in-GroupBy
+returns-in-GroupBy c env k e =
+    let fits : SFits w64 c.in-GroupBy.axis = search rules in
+    let form = ap (λ (z : ℤ). Form.GroupBy c.in-GroupBy.least c.in-GroupBy.args z c.in-GroupBy.groups) (to_z-of_z w64 c.in-GroupBy.axis fits) ∙ sym c.in-GroupBy.is in
+    to_z-of_z w128 c.grouped_node.result (record { sfits = c.grouped_node.type_inv })
+    ∙ c.grouped_node.ensures env k e
+    ∙ ap (λ (form : Form). rule_of c.args.scope.now.infos.now env (elements_in c.args.scope.now.plains.now) k form c.args.scope.now.idx.now) form
