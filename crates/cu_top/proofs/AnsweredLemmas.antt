@@ -11,7 +11,7 @@ use Rattle.cu_top.proofs.PlannedLemmas.{plan_refused_text, plan_served, plan_spa
 use Rattle.cu_top.proofs.ResumeServed.{caused, went_on}
 use Rattle.cu_top.proofs.TurnedBack.{drop_back, resume_back}
 use Rattle.cu_top.specs.Answered.{TextAnswered, BeginAnswered, PartAnswered, RunAnswered, ResumeAnswered, DropAnswered, PlanAnswered, LoadAnswered, CheckAnswered, PrintAnswered, DemoAnswered}
-use Rattle.cu_part.specs.declared.part.Part.{Part}
+use Rattle.cu_work.specs.declared.part.Part.{Part}
 use Rattle.cu_top.specs.Begin.{BeginTells}
 use Rattle.cu_top.specs.Parts.{PartTells}
 use Rattle.cu_top.specs.Call.{RunTells}

@@ -14,7 +14,7 @@ use Rattle.cu_command.specs.declared.status.Status.{Status}
 use Rattle.cu_command.specs.declared.status.Status.TheVariants.{Done, BadExpr, BadType, OverMemory, OverLimit, BadMeta, NoArray, Exists, TaskFailed, ReadFault, WriteFault, BadChunk, OtherPlan, NoPlan, NoTasks, NotReady, DepotFailed, NoMemory}
 use Rattle.cu_lower.specs.declared.options.Options.{Options}
 use Rattle.cu_top.specs.Call.{RunTells, IsExpressionRefused}
-use Rattle.cu_part.specs.declared.part.Part.{Part}
+use Rattle.cu_work.specs.declared.part.Part.{Part}
 use Rattle.cu_top.specs.Begin.{BeginTells, WasBegun}
 use Rattle.cu_top.specs.Parts.{PartTells, WasParted}
 use Rattle.cu_top.specs.Drop.{Dropped, DropTells}

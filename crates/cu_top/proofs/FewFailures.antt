@@ -11,7 +11,7 @@ use Rattle.cu_print.specs.Print.{Printed}
 use Rattle.cu_top.specs.Call.{RunTells}
 use Rattle.cu_top.specs.Complete.{FewFailed, IsNotGivenUp}
 use Rattle.cu_top.specs.Demo.{DemoTells, demo_case}
-use Rattle.cu_part.specs.declared.part.Part.{Part}
+use Rattle.cu_work.specs.declared.part.Part.{Part}
 use Rattle.cu_top.specs.Begin.{BeginTells}
 use Rattle.cu_top.specs.Parts.{PartTells}
 use Rattle.cu_top.specs.Drop.{DropTells}

@@ -5,7 +5,7 @@ use Rattle.cu_store.proofs.Steps.{steps_wider}
 use Rattle.cu_state.specs.Left.{RunChange}
 use Rattle.cu_state.specs.Pieces.{PlanRun}
 use Rattle.cu_state.proofs.Keeping.{change_alone}
-use Rattle.cu_part.specs.declared.part.Part.{Part}
+use Rattle.cu_work.specs.declared.part.Part.{Part}
 use Rattle.cu_work.specs.Commands.{CommandChange, IsCommand}
 use Rattle.cu_command.specs.Seen.{Stepped}
 use Rattle.cu_command.proofs.SeenLemmas.{stepped, stepped_wider, stepped_none}

@@ -12,16 +12,16 @@ use Rattle.cu_op.specs.Elements.{Elements}
 use Rattle.cu_state.specs.Left.{IsLeft, RunChange}
 use Rattle.cu_state.specs.Pieces.{Text, HoldsPiece, chunks_alone}
 use Rattle.cu_state.proofs.Keeping.{begun_since, change_alone, left_kept, piece_stays}
-use Rattle.cu_part.specs.Asked.{Search, search_of, AreChosen, IsSoughtInput, IsUnstarted, own_chunks}
-use Rattle.cu_part.specs.Ended.{HasCalled, IsPartDone, IsPartEnd, IsPartFault, count_of}
-use Rattle.cu_part.specs.Part.{IsPartOf, LacksChunk, PartPut}
-use Rattle.cu_part.specs.Tried.{chosen_calls}
-use Rattle.cu_part.specs.declared.part.Part.{Part}
-use Rattle.cu_part.specs.declared.part.PartCounts.{PartCounts}
-use Rattle.cu_part.specs.declared.part.PartFault.{PartFault}
-use Rattle.cu_part.specs.declared.part.PartFault.TheVariants as fault
-use Rattle.cu_part.proofs.AskedKeys.{lacks_chunk_before, lacks_input_before, steps_ever}
-use Rattle.cu_part.proofs.TriedTasks.{put_runs}
+use Rattle.cu_work.specs.Asked.{Search, search_of, AreChosen, IsSoughtInput, IsUnstarted, own_chunks}
+use Rattle.cu_work.specs.Ended.{HasCalled, IsPartDone, IsPartEnd, IsPartFault, count_of}
+use Rattle.cu_work.specs.Part.{IsPartOf, LacksChunk, PartPut}
+use Rattle.cu_work.specs.Tried.{chosen_calls}
+use Rattle.cu_work.specs.declared.part.Part.{Part}
+use Rattle.cu_work.specs.declared.part.PartCounts.{PartCounts}
+use Rattle.cu_work.specs.declared.part.PartFault.{PartFault}
+use Rattle.cu_work.specs.declared.part.PartFault.TheVariants as fault
+use Rattle.cu_work.proofs.AskedKeys.{lacks_chunk_before, lacks_input_before, steps_ever}
+use Rattle.cu_work.proofs.TriedTasks.{put_runs}
 use Rattle.cu_command.specs.Seen.{Stepped, WithinCalls}
 use Rattle.cu_command.proofs.SeenLemmas.{stepped, stepped_then, stepped_wider, stepped_none}
 use Rattle.cu_command.specs.declared.job.Job.{Job}

@@ -12,7 +12,7 @@ use Rattle.cu_top.proofs.PlannedLemmas.{told_plan}
 use Rattle.cu_top.specs.Told.{BeginTold, PartTold, AreTold, CallTold, DropTold, IsTold, PlanTold, ResumeTold, RunTold}
 use Rattle.cu_top.specs.Call.{CameToRun, DidNothing, IsWordsRefused}
 use Rattle.cu_top.specs.Calls.{DropWithin, ResumeWithin, RunWithin}
-use Rattle.cu_part.specs.declared.part.Part.{Part}
+use Rattle.cu_work.specs.declared.part.Part.{Part}
 use Rattle.cu_top.specs.Begin.{BeginWithin, WasBegun}
 use Rattle.cu_top.specs.Parts.{PartWithin, WasParted}
 use Rattle.cu_top.specs.Drop.{Dropped}

@@ -18,7 +18,7 @@ use Rattle.cu_read.specs.Read.{expression_of}
 use Rattle.cu_read.specs.declared.faults.ReadFault.{ReadFault as ExpressionFault}
 use Rattle.cu_store.specs.Held.{Contents}
 use Rattle.cu_store.specs.Steps.{Shown}
-use Rattle.cu_part.specs.declared.part.Part.{Part}
+use Rattle.cu_work.specs.declared.part.Part.{Part}
 use Rattle.cu_top.specs.Begin.{BeginTells, BeginsWithin, IsBeginFailed, IsBeginShort}
 use Rattle.cu_top.specs.Begin.{IsBegunDone, IsBegunUnprinted}
 use Rattle.cu_top.specs.Parts.{HasNoTasks, IsPartFailed, IsPartShort, IsPartedBad}

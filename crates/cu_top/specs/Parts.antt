@@ -8,14 +8,14 @@ use Rattle.cu_op.specs.PlanView.{PlanView, operation_at}
 use Rattle.cu_op.specs.Schedule.{op_of}
 use Rattle.cu_state.specs.Left.{IsLeft}
 use Rattle.cu_state.specs.Pieces.{Text, HoldsPiece}
-use Rattle.cu_part.specs.Asked.{Search, search_of, AllDiffer, IsChosenAt, IsSoughtInput, IsUnstarted, own_chunks}
-use Rattle.cu_part.specs.Ended.{IsPartDone, IsPartFault, count_of}
-use Rattle.cu_part.specs.Part.{IsPartOf, LacksChunk, PartPut}
-use Rattle.cu_part.specs.Tried.{chosen_calls}
-use Rattle.cu_part.specs.declared.part.Part.{Part}
-use Rattle.cu_part.specs.declared.part.PartCounts.{PartCounts}
-use Rattle.cu_part.specs.declared.part.PartFault.{PartFault}
-use Rattle.cu_part.specs.declared.part.PartFault.TheVariants as fault
+use Rattle.cu_work.specs.Asked.{Search, search_of, AllDiffer, IsChosenAt, IsSoughtInput, IsUnstarted, own_chunks}
+use Rattle.cu_work.specs.Ended.{IsPartDone, IsPartFault, count_of}
+use Rattle.cu_work.specs.Part.{IsPartOf, LacksChunk, PartPut}
+use Rattle.cu_work.specs.Tried.{chosen_calls}
+use Rattle.cu_work.specs.declared.part.Part.{Part}
+use Rattle.cu_work.specs.declared.part.PartCounts.{PartCounts}
+use Rattle.cu_work.specs.declared.part.PartFault.{PartFault}
+use Rattle.cu_work.specs.declared.part.PartFault.TheVariants as fault
 use Rattle.cu_command.specs.Seen.{Stepped, WithinCalls}
 use Rattle.cu_command.specs.declared.job.Job.{Job}
 use Rattle.cu_command.specs.declared.status.Status.{Status}

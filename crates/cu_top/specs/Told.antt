@@ -7,7 +7,7 @@ use Rattle.cu_command.specs.declared.status.Status.TheVariants.{BadWords}
 use Rattle.cu_load.specs.Load.{Loaded, LoadsWithin}
 use Rattle.cu_lower.specs.declared.options.Options.{Options}
 use Rattle.cu_print.specs.Print.{Printed, PrintsWithin}
-use Rattle.cu_part.specs.declared.part.Part.{Part}
+use Rattle.cu_work.specs.declared.part.Part.{Part}
 use Rattle.cu_top.specs.Begin.{BeginTells, BeginsWithin}
 use Rattle.cu_top.specs.Parts.{PartTells, PartsWithin}
 use Rattle.cu_top.specs.Call.{DidNothing, IsWordsRefused, RunTells}

@@ -7,7 +7,7 @@ use Rattle.cu_lower.specs.Parts.{AreOptions}
 use Rattle.cu_lower.specs.declared.options.Options.{Options}
 use Rattle.std.specs.Prelude.{Option, Some, None}
 use Rattle.cu_words.specs.Words.{GivenLine, demo_size, line_given}
-use Rattle.cu_part.specs.declared.part.Part.{Part as Tasks}
+use Rattle.cu_work.specs.declared.part.Part.{Part as Tasks}
 use Rattle.cu_words.specs.declared.line.Numbers.{Numbers}
 use Rattle.cu_top.specs.declared.words.PartNumbers.{PartNumbers}
 use Rattle.cu_words.specs.declared.options.CommandName.{CommandName}

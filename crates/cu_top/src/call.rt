@@ -9,7 +9,7 @@ ghost use Rattle.cu_top.specs.Call.{DidNothing, IsWordsRefused};
 ghost use Rattle.cu_top.specs.Demo.{IsDemoCalm, WhereTold};
 ghost use Rattle.cu_top.specs.Held.{IsLeftEntry};
 ghost use Rattle.cu_top.specs.Quiet.{IsCalm};
-ghost use Rattle.cu_part.specs.declared.part.Part.{Part};
+ghost use Rattle.cu_work.specs.declared.part.Part.{Part};
 ghost use Rattle.cu_top.specs.Told.{BeginTold, PartTold, CallTold, RunTold, ResumeTold, DropTold, PlanTold};
 ghost use Rattle.cu_top.specs.Words.{run, resume, drop, plan, load, check, print, demo, asked_by};
 ghost use Rattle.cu_top.specs.Words.{IsInRange, begin, part, part_numbers};

@@ -11,7 +11,7 @@ ghost use Rattle.cu_region.specs.Steady.{IsSteady};
 ghost use Rattle.cu_check.specs.Arrays.{IsReadChunk};
 ghost use Rattle.cu_load.specs.Load.{IsArrayCalm};
 ghost use Rattle.cu_print.specs.Print.{IsArrayMetadata, IsChunkAt};
-ghost use Rattle.cu_part.specs.declared.part.Part.{Part};
+ghost use Rattle.cu_work.specs.declared.part.Part.{Part};
 ghost use Rattle.cu_top.specs.Begin.{WasBegun};
 ghost use Rattle.cu_top.specs.Complete.{HasWholeInputs, IsPlannable, IsResumable, IsServable};
 ghost use Rattle.cu_top.specs.Demo.{IsDemoAtRest, IsDemoCalm};

@@ -3,7 +3,7 @@ ghost use Rattle.std.specs.Prelude.{◌≡◌, ℕ, ◌≤◌, length, MatchOpti
 ghost use Rattle.cu_store.specs.Faults.{Rose};
 ghost use Rattle.cu_command.specs.Seen.{Stream, stream};
 ghost use Rattle.cu_command.specs.Streams.{WroteFront};
-ghost use Rattle.cu_part.specs.Part.{IsPartOf};
+ghost use Rattle.cu_work.specs.Part.{IsPartOf};
 ghost use Rattle.cu_top.specs.Held.{IsLeftEntry};
 ghost use Rattle.cu_top.specs.Parts.{PartWithin, WasParted, part_fault_answer, part_line, tasks_at};
 ghost use Rattle.cu_top.specs.Run.{scene, case, PrintsOnly};
@@ -14,10 +14,10 @@ use crate::words::PartNumbers;
 use cu_command::{LineText, Status, push_field, write_all};
 use cu_lower::Options;
 use cu_op::{Plan, tasks};
-use cu_part::{Part, PartCounts, PartFault, run_part};
 use cu_plan::merged_plan_law;
 use cu_state::{complete_law, left_law};
 use cu_store::{Depot, Failed, Sink};
+use cu_work::{Part, PartCounts, PartFault, run_part};
 use std::alloc::Global;
 
 /// How many tasks the operation of this number has: none where there is no such operation.

@@ -22,3 +22,7 @@ pub mod FewFailures
 pub mod Turning
 pub mod Crews
 pub mod Endings
+pub mod AskedKeys
+pub mod AskedTasks
+pub mod TriedTasks
+pub mod PartEnds

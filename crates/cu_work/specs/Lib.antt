@@ -11,3 +11,7 @@ pub mod Removal
 pub mod Commands
 pub mod Shared
 pub mod Workers
+pub mod Part
+pub mod Asked
+pub mod Tried
+pub mod Ended

@@ -4,8 +4,8 @@ use Rattle.cu_command.specs.Streams.{WroteFront}
 use Rattle.cu_command.specs.declared.status.Status.{Status}
 use Rattle.cu_command.specs.declared.status.Status.TheVariants.{NoTasks}
 use Rattle.cu_op.specs.PlanView.{PlanView}
-use Rattle.cu_part.specs.Part.{IsPartOf}
-use Rattle.cu_part.specs.declared.part.Part.{Part}
+use Rattle.cu_work.specs.Part.{IsPartOf}
+use Rattle.cu_work.specs.declared.part.Part.{Part}
 use Rattle.cu_top.proofs.DriveLemmas.{PlanLaws}
 use Rattle.cu_top.proofs.PartsLemmas.{no_part, no_part_within, not_parted, not_parted_within, part_told, parted_done, parted_ended, parted_unreported, parted_within_done, parted_within_ended, parted_within_unreported}
 use Rattle.cu_top.proofs.PlanLemmas.{meant}

@@ -1,4 +1,0 @@
-pub mod AskedKeys
-pub mod AskedTasks
-pub mod TriedTasks
-pub mod PartEnds

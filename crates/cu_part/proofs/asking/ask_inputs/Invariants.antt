@@ -1,8 +1,0 @@
-use Rattle.std.proofs.Common.{◌+◌}
-use Rattle.std.specs.HashSet.{contains_text}
-use Rattle.cu_part.proofs.AskedTasks.{InputsSoFar}
-use Rattle.cu_part.proofs.asking.ask_inputs.Given as goal
-
-abbrev pub invariant-loop-cell : goal.invariant-loop-cell
-invariant-loop-cell g l =
-    InputsSoFar l.plan l.part (l.retries + 1) l.task (contains_text l.fn.known, contains_text l.known) (g.D.Depot.shown l.fn.depot, g.D.Depot.shown l.depot) l.cell-iterator

@@ -1,5 +1,0 @@
-use Rattle.cu_part.proofs.TriedTasks.{TriesSoFar}
-use Rattle.cu_part.proofs.trying.run_tries.Given as goal
-
-abbrev pub invariant-loop-failures : goal.invariant-loop-failures
-invariant-loop-failures g l = TriesSoFar l.plan l.op l.task l.failures (g.D.Depot.shown l.fn.depot, g.D.Depot.shown l.depot) l.memory

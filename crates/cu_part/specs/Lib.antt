@@ -1,4 +1,0 @@
-pub mod Part
-pub mod Asked
-pub mod Tried
-pub mod Ended

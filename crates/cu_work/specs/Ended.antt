@@ -1,0 +1,52 @@
+-- What a part comes to. This project's own rules.
+use Rattle.std.specs.Prelude.{◌≡◌, ◌⊎◌, ℕ, ◌+◌, ◌*◌, ◌-◌, ◌≤◌, Bool, IsTrue, List, length, All, Result, Ok, Err}
+use Rattle.cu_store.specs.Faults.{Rose, last_count}
+use Rattle.cu_store.specs.Steps.{Shown, NoChange, Steps}
+use Rattle.cu_op.specs.Elements.{Elements}
+use Rattle.cu_state.specs.Left.{IsLeft}
+use Rattle.cu_state.specs.Pieces.{chunks_alone, HoldsTask}
+use Rattle.cu_work.specs.Part.{IsInPart, LacksChunk}
+use Rattle.cu_work.specs.Asked.{Search, AllDiffer, AreChosen, IsChosenAt, IsSoughtInput, IsUnstarted, own_chunks}
+use Rattle.cu_work.specs.Tried.{AreStarts, IsBadOf, chosen_calls}
+use Rattle.cu_work.specs.declared.part.Part.{Part}
+use Rattle.cu_work.specs.declared.part.PartCounts.{PartCounts}
+use Rattle.cu_work.specs.declared.part.PartFault.{PartFault}
+use Rattle.cu_work.specs.declared.part.PartFault.TheVariants.{Broken, BadChunk, NoMemory}
+
+abbrev pub count_of : Part → ℕ
+count_of q = q.to - q.from
+
+-- The tasks of a part were chosen when no task was started yet. Those that were chosen were run, each
+-- once and once more for each failure, and each task of the part holds its chunks.
+pub record IsPartDone (s : Search) (now : Shown) (c : PartCounts) : Type 0 where
+  pub asked : Shown
+  pub chosen : List Bool
+  pub whole : length chosen ≡ count_of s.part
+  pub tasks : AreChosen s.plan s.part (s.start, asked) chosen
+  pub starts : AreStarts (s.tries - 1) chosen (count_of s.part) (s.start.faults, now.faults) c
+  pub held : (env : Elements) (task : ℕ) → IsLeft (chunks_alone s.plan) env s.start → IsInPart s.part task
+      → HoldsTask (chunks_alone s.plan) env s.part.op task now
+
+-- Why a part isn't done. A task whose tries all failed lacked a chunk at first. Where no task was
+-- started nothing was put.
+abbrev pub IsPartFault : Search → Shown → PartFault → Type 0
+IsPartFault s now (Broken task) = IsInPart s.part task × LacksChunk s.plan s.part.op task s.start × Rose s.tries s.start.faults now.faults
+IsPartFault s now (BadChunk key got want) = IsBadOf s.plan (s.start, now) key got want
+IsPartFault s now NoMemory = Steps NoChange 0 last_count s.start now ⊎ IsTrue now.lacks
+IsPartFault s now fault = IsUnstarted s now fault × Steps NoChange 0 last_count s.start now
+
+abbrev pub IsPartEnd : Search → Shown → Result PartCounts PartFault → Type 0
+IsPartEnd s now (Ok c) = IsPartDone s now c
+IsPartEnd s now (Err fault) = IsPartFault s now fault
+
+-- At most so many calls were made for each of these: the keys of the chunks that the tasks write; those
+-- of made inputs of tasks that lacked a chunk, each key once; and each chunk that a task reads or
+-- writes which was chosen, since it lacked a chunk.
+pub record HasCalled (s : Search) (now : Shown) : Type 0 where
+  pub inputs : List (List ℕ)
+  pub chosen : List Bool
+  pub differ : AllDiffer inputs
+  pub sought : All (IsSoughtInput s) inputs
+  pub lacking : (i : ℕ) → IsChosenAt chosen i → LacksChunk s.plan s.part.op (s.part.from + i) s.start
+  pub calls : now.calls ≤ s.start.calls + s.tries * (own_chunks s.plan s.part (count_of s.part) + length inputs
+      + chosen_calls s.plan s.part chosen (count_of s.part))

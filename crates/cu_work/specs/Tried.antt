@@ -1,0 +1,94 @@
+-- What comes of a task of a part, which is tried again where the store failed, and of the chosen tasks
+-- one after another. This project's own rules.
+use Rattle.std.specs.Prelude.{◌≡◌, ℕ, ◌+◌, ◌*◌, ◌<◌, ◌≤◌, Bool, IsTrue, true, false, List, length, slice_index_or, Result, Ok, Err, if◌then◌else◌}
+use Rattle.cu_store.specs.Faults.{Rose}
+use Rattle.cu_store.specs.Steps.{Shown, Changes, Steps}
+use Rattle.cu_store.specs.declared.faults.TaskFault.{TaskFault}
+use Rattle.cu_store.specs.declared.faults.TaskFault.TheVariants as task
+use Rattle.cu_op.specs.PlanView.{PlanView}
+use Rattle.cu_op.specs.Schedule.{op_of}
+use Rattle.cu_op.specs.Elements.{Elements}
+use Rattle.cu_state.specs.Left.{IsLeft}
+use Rattle.cu_state.specs.Pieces.{chunks_alone, HoldsTask}
+use Rattle.cu_task.specs.Task.{calls_of}
+use Rattle.cu_work.specs.Calls.{sum_below}
+use Rattle.cu_work.specs.Drive.{IsBadChunk, IsInputKey}
+use Rattle.cu_work.specs.Asked.{IsChosenAt}
+use Rattle.cu_work.specs.Part.{TaskPut}
+use Rattle.cu_work.specs.Rooms.{task_bytes, task_words}
+use Rattle.cu_work.specs.declared.trying.TaskMemory.{TaskMemory}
+use Rattle.cu_work.specs.declared.part.Part.{Part}
+use Rattle.cu_work.specs.declared.part.PartCounts.{PartCounts}
+use Rattle.cu_work.specs.declared.part.PartFault.{PartFault}
+use Rattle.cu_work.specs.declared.part.PartFault.TheVariants.{Broken, BadChunk, NoMemory}
+
+-- the memory is just what a task of the operation is lent
+pub record IsMemoryOf (p : PlanView) (op : ℕ) (m : TaskMemory) : Type 0 where
+  pub bytes : length m.bytes.items ≡ task_bytes p.arrays (op_of p op)
+  pub words : length m.words.items ≡ task_words (op_of p op)
+
+-- ---- one task
+
+-- A chunk that ends a run of tasks: one that a task of the plan reads holds `got` bytes, which aren't those of a
+-- chunk; where the chunks were left so at first it is an input's.
+abbrev pub IsBadOf : PlanView → Shown × Shown → List ℕ → ℕ → ℕ → Type 0
+IsBadOf p shown key got want = IsBadChunk p shown.1 key got want
+    × ((env : Elements) → IsLeft (chunks_alone p) env shown.0 → IsInputKey p key)
+
+-- Why a task failed: each of so many tries, the count risen in each; a bad chunk; or the store lacks memory.
+abbrev pub IsTaskEnd : PlanView → ℕ → Shown × Shown → TaskFault → Type 0
+IsTaskEnd p tries shown task.Store = Rose tries shown.0.faults shown.1.faults
+IsTaskEnd p tries shown (task.BadChunk key got want) = IsBadOf p shown key got want
+IsTaskEnd p tries shown task.NoMemory = IsTrue shown.1.lacks
+
+-- how often a task failed before it was done, the count of faults risen in each; or why it failed for good
+abbrev pub IsTried : PlanView → ℕ → Shown × Shown → Result ℕ TaskFault → Type 0
+IsTried p retries shown (Ok n) = (n ≤ retries) × Rose n shown.0.faults shown.1.faults
+IsTried p retries shown (Err e) = IsTaskEnd p (retries + 1) shown e
+
+-- a task that ended so isn't tried again
+abbrev pub ends_tries : TaskFault → Bool
+ends_tries task.Store = false
+ends_tries fault = true
+
+-- what is answered where a task of a part ended so
+abbrev pub task_fault : ℕ → TaskFault → PartFault
+task_fault number task.Store = Broken number
+task_fault number (task.BadChunk key got want) = BadChunk key got want
+task_fault number task.NoMemory = NoMemory
+
+-- ---- the chosen tasks
+
+-- such a put for a chosen task
+abbrev pub ChosenPut : PlanView → Part → List Bool → Shown → Changes
+ChosenPut p q chosen first key value = (i : ℕ) × IsChosenAt chosen i × TaskPut p q.op (q.from + i) first key value
+
+-- how many of the first n tasks are chosen, and the calls of each made once
+abbrev pub chosen_below : List Bool → ℕ → ℕ
+chosen_below chosen n = sum_below (λ i. if slice_index_or chosen i false then 1 else 0) n
+
+abbrev pub chosen_calls : PlanView → Part → List Bool → ℕ → ℕ
+chosen_calls p q chosen n = sum_below (λ i. if slice_index_or chosen i false then calls_of p q.op (q.from + i) else 0) n
+
+-- the chunks of the chosen ones among the first n tasks hold their values
+abbrev pub HoldsChosen : PlanView → Part → List Bool → ℕ → Elements → Shown → Type 0
+HoldsChosen p q chosen n env shown = (i : ℕ) → i < n → IsChosenAt chosen i → HoldsTask (chunks_alone p) env q.op (q.from + i) shown
+
+-- Each chosen one was started once, and once more for each failure; each failed at most as often as it
+-- is tried again, and the count of faults rose by each failure.
+abbrev pub AreStarts : ℕ → List Bool → ℕ → ℕ × ℕ → PartCounts → Type 0
+AreStarts retries chosen n faults c = (c.starts ≡ c.failures + chosen_below chosen n)
+    × (c.failures ≤ retries * chosen_below chosen n) × Rose c.failures faults.0 faults.1
+
+-- The chosen ones among the first n tasks were run, from a first moment on.
+pub record HaveRun (p : PlanView) (q : Part) (chosen : List Bool) (retries n : ℕ) (shown : Shown × Shown) : Type 0 where
+  pub step : Steps (ChosenPut p q chosen shown.0) 0 ((retries + 1) * chosen_calls p q chosen n) shown.0 shown.1
+  pub done : (env : Elements) → IsLeft (chunks_alone p) env shown.0 → HoldsChosen p q chosen n env shown.1
+
+-- why running them ended: all tries of one failed, a chunk was bad, or the store lacks memory
+abbrev pub IsStoppedBy : PlanView → Part → List Bool → ℕ → Shown × Shown → PartFault → Type 0
+IsStoppedBy p q chosen tries shown (Broken number) = (i : ℕ) × (number ≡ q.from + i) × IsChosenAt chosen i
+    × Rose tries shown.0.faults shown.1.faults
+IsStoppedBy p q chosen tries shown (BadChunk key got want) = IsBadOf p shown key got want
+IsStoppedBy p q chosen tries shown NoMemory = IsTrue shown.1.lacks
+IsStoppedBy p q chosen tries shown fault = ⊥
