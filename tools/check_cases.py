@@ -248,6 +248,19 @@ def families():
     p, q = np.arange(12, dtype="int8").reshape(2, 3, 2) * 11, np.arange(8, dtype="uint8").reshape(1, 2, 4) * 31
     yield same("products of matrices wrap", {"a": Array("int8", p, [1, 3, 1]), "b": Array("uint8", q, [1, 2, 3])}, [node("s", "matmul", ["a", "b"])],
                Array("int16", (p.astype(object) @ q.astype(object)).astype("int64").astype("int16"), [1, 3, 3]))
+    ones = Array("int32", [1, 2, 3, 4, 5], [1])
+    yield same("sums up to each place", {"a": ones}, [node("s", "cumulative_sum", ["a"])], Array("int64", [1, 3, 6, 10, 15], [1]))
+    steep = np.array([[2**63 - 1, 1, -2], [5, -(2**63), -1]], "int64")
+    yield same("sums along an axis wrap", {"a": Array("int64", steep, [1, 2], "big")}, [node("s", "cumulative_sum", ["a"], axis=-1)],
+               Array("int64", np.cumsum(steep, axis=1), [1, 2]))
+    line, marks = Array("int32", [1, 2, 3, 4, 5], [2]), Array("int32", [0, 1, 0, 3, 1], [2])
+    yield same("the sum of each label's elements", {"a": line, "b": marks}, [node("s", "groupby_sum", ["a", "b"], axis=0, groups=3)], Array("int64", [4, 7, 0], [3]))
+    yield same("the least of each label's elements", {"a": line, "b": marks}, [node("s", "groupby_min", ["a", "b"], axis=0, groups=3)], Array("int32", [1, 2, 2**31 - 1], [3]))
+    large = Array("uint64", [0, 2**63, 1, 2**64 - 1, 0], [3], absent=[(1,)])
+    large.values[3:] = 0
+    table = np.arange(15, dtype="int8").reshape(3, 5)
+    yield same("groups along the last axis by labels that are in none, or absent", {"a": Array("int8", table, [2, 2]), "b": large}, [node("s", "groupby_sum", ["a", "b"], axis=-1, groups=2)],
+               Array("int64", np.stack([table[:, [0, 3, 4]].sum(axis=1), table[:, 2]], axis=1), [2, 2]))
     count = Array("int32", [0, 1, 2, 3, 4], [2])
     yield same("a slice in reverse", {"a": count}, [node("s", "index", ["a"], index=[{"step": -2}])], Array("int32", count.values[::-2], [2]))
     grid = Array("int16", np.arange(24).reshape(2, 3, 4), [1, 2, 3])

@@ -201,11 +201,23 @@ def truth_byte():
     return row
 
 
-def big_endian():
+def big_endian_rows():
+    """Big-endian numbers and a chunk that is absent, negated; and added to themselves by two nodes of one input."""
     array = stored("int16", [4], [2], [258, -2, 0, 0], absent={(1,)}, endian="big", fill=-1, raw={(0,): {"hex": "0102 fffe"}})
-    row = ran({"x": array}, expression([*inputs_of("x"), node("n", "negative", "x")]))
-    assert row["leaves"][-2:] == [["y/c/0", {"hex": "fefe 0200"}], ["y/c/1", {"hex": "0100 0100"}]]
-    return row
+    negated = ran({"x": array}, expression([*inputs_of("x"), node("n", "negative", "x")]))
+    assert negated["leaves"][-2:] == [["y/c/0", {"hex": "fefe 0200"}], ["y/c/1", {"hex": "0100 0100"}]]
+    twice = [node("a", "input", name="x"), node("b", "input", name="x"), node("s", "add", "a", "b")]
+    doubled = ran({"x": array}, expression(twice))
+    assert doubled["leaves"][-2:] == [["y/c/0", {"hex": "0402 fcff"}], ["y/c/1", {"hex": "feff feff"}]]
+    return [negated, doubled]
+
+
+def whole_row_rows():
+    """A matrix and a row, of one chunk each: each row of the matrix gets the other array; and a row that is too short."""
+    matrix = stored("int32", [2, 3], [2, 3], [1, 2, 3, 4, 5, 6])
+    added = ran({"a": matrix, "b": stored("int32", [3], [3], [10, 20, 30])}, expression(ADDED))
+    assert added["leaves"][-1] == ["y/c/0/0", {"hex": "0b000000 16000000 21000000 0e000000 19000000 24000000"}]
+    return [added, refused({"a": matrix, "b": stored("int32", [2], [2], [10, 20])}, expression(ADDED), "error 4 code=2 node=2")]
 
 
 def broadcast_rows():
@@ -216,7 +228,8 @@ def broadcast_rows():
             ran({"a": row, "b": matrix}, expression(ADDED)),
             ran({"a": stored("int32", [2, 3], [1, 2], [1, 2, 3, 4, 5, 6]), "b": column}, expression(ADDED)),
             ran({"a": column, "b": stored("int32", [3], [2], [1, 2, 3])}, expression(ADDED)),
-            refused({"a": matrix, "b": stored("int32", [2], [2], [1, 2])}, expression(ADDED), "error 4 code=2 node=2")]
+            refused({"a": matrix, "b": stored("int32", [2], [2], [1, 2])}, expression(ADDED), "error 4 code=2 node=2"),
+            *whole_row_rows()]
 
 
 def promoted_rows():
@@ -591,7 +604,7 @@ def elementwise_cases():
         {"name": "types are promoted, and sums wrap once", "rows": promoted_rows()},
         {"name": "quotients are rounded down, and by zero all is zero", "rows": divided_rows()},
         {"name": "a truth value that is stored as 7", **truth_byte()},
-        {"name": "big-endian numbers, and a chunk that is absent", **big_endian()},
+        {"name": "big-endian numbers, and a chunk that is absent", "rows": big_endian_rows()},
         {"name": "shapes broadcast", "rows": broadcast_rows()},
         {"name": "three operations, whichever call fails", **three_operations()},
         {"name": "faults in the tasks of later operations", "rows": broken_rows()},

@@ -249,6 +249,9 @@ def shape_fault(node, arrays):
     if node["op"] == "matmul" and arrays[0][1] and arrays[1][1]:
         left, right = arrays[0][1][-1], arrays[1][1][-2:][0]
         return f"the inner sizes are {left} and {right}" if left != right else "the axes before the matrices don't broadcast"
+    if node["op"] in rules.GROUPS:
+        axis = node["axis"] % len(arrays[0][1])
+        return f"the labels have the shape {sizes_text(arrays[1][1])}, and [{arrays[0][1][axis]}] is wanted: one for each place of axis {axis}"
     if node["op"] in ("concat", "stack"):
         return f"the shapes {' and '.join(sizes_text(shape) for shape in shapes)} differ" + (" off the axis" if node["op"] == "concat" else "")
     return f"chunk has {len(node['chunk'])} sizes" if "chunk" in node else ""
@@ -261,6 +264,8 @@ def axis_fault(node, arrays):
         return f"axis is {node['axis']}, and a new axis is from {-rank - 1} to {rank}"
     if node["op"] in ("tril", "triu"):
         return f"{node['op']} takes two axes or more, and the argument has {rank}"
+    if node["op"] == "cumulative_sum" and node.get("axis") is None and rank:
+        return f"the argument has {rank} axes, and with more than one, axis is named"
     said = {name: text_of(node[name]) for name in ("axis", "axes", "shifts") if name in node}
     allowed = "the argument has no axis"
     if rank:

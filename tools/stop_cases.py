@@ -267,6 +267,19 @@ def other_commands(job):
     return steps
 
 
+def dropped_and_resumed(job):
+    """All tries to remove the last chunk fail, so the record stays; a run that goes on makes what was removed."""
+    last = job.chunks[-1]
+    before = len(job.names) + 1 + [job.metadata, *job.chunks].index(last)
+    kept = [job.record, last]
+    made = job.report(len(job.tasks) - 1)
+    assert made == "ok ops=1 tasks=2 starts=1 failed=0 peak=1600\n"
+    return {"name": "a plan is dropped but for a chunk, and the run goes on", "steps": [
+        {"holds": job.inputs, **job.called("run"), "output": job.report(len(job.tasks)), "leaves": job.kept(job.keys)},
+        {**job.called("drop"), "fail_from": before, "fail_times": 3, "line": f"error 16 key={last}", "leaves": job.kept(kept)},
+        {**job.called("resume"), "output": made, "leaves": job.kept(job.keys)}]}
+
+
 def place_of(text, other):
     """Returns the first byte at which two texts differ, or at which one of them ends."""
     return next((at for at, pair in enumerate(zip(text, other)) if pair[0] != pair[1]), min(len(text), len(other)))
@@ -364,7 +377,7 @@ def of_the_gate(add, copy, search):
     stops = [other_records(add), *stop_cases(add, "an addition"), *stop_cases(copy, "two copies", 4, 11), *stop_cases(search, "a search in rounds", 5, 13),
              *four_cases(add, "an addition", 1, 9), *four_cases(copy, "two copies", 7, 17), *four_cases(search, "a search in rounds", 10, 19)]
     calls = [named_once(add, "an addition", 1), named_once(add, "an addition", 4), named_once(copy, "two copies", 4, 5), named_once(search, "a search in rounds", 4, 7),
-             streams(add), demonstrated(4, 3), {"name": "the other commands, each call failing once and for good", "steps": other_commands(add)}]
+             streams(add), demonstrated(4, 3), {"name": "the other commands, each call failing once and for good", "steps": other_commands(add)}, dropped_and_resumed(add)]
     return stops, calls
 
 
@@ -373,7 +386,8 @@ def of_all(add, copy, search):
     stops = [other_records(add)] + [case for job, name in jobs for case in stop_cases(job, name)]
     stops += [case for (job, name), second in zip(jobs, (1, 5, 5)) for case in four_cases(job, name, 1, second)]
     calls = [named_once(job, name, workers) for job, name in jobs for workers in (1, 2, 4)]
-    return stops, [*calls, streams(add), demonstrated(1), demonstrated(4), {"name": "the other commands, each call failing once and for good", "steps": other_commands(add)}]
+    return stops, [*calls, streams(add), demonstrated(1), demonstrated(4), {"name": "the other commands, each call failing once and for good", "steps": other_commands(add)},
+                   dropped_and_resumed(add)]
 
 
 def main():

@@ -86,8 +86,9 @@ class InFolder(unittest.TestCase):
 
 
 def new_names(key, process, count):
-    """The first names of new files beside a key's: those of this process, and those of one that was told no id."""
-    return [f"{key}.new{first + number}" for first in (process * NAMES_OF_A_PROCESS, 0) for number in range(count)]
+    """The first names that this process has for new files beside a key's."""
+    first = process * NAMES_OF_A_PROCESS
+    return [f"{key}.new{number}" for number in range(first, first + count)]
 
 
 class NewFiles(InFolder):
@@ -134,6 +135,21 @@ class NewFiles(InFolder):
     def test_a_folder_at_a_new_name_is_passed_over(self):
         self.at_new_names(os.mkdir)
 
+    def test_a_run_tries_a_further_name(self):
+        """Of the hundred names that a worker tries for a chunk only the last is free. A worker's first name is the first of the process."""
+        made = []
+
+        def prepare(process):
+            for name in new_names("y/c/0", process, TRIED - 1):
+                os.makedirs(self.path(name))
+                made.append(name)
+
+        self.assertEqual(self.call("load", text=array("x", [1, 2, 3], 2))[0], 0)
+        status, said = self.call_after(prepare, "run", "--retries", "0", text=negated("x", "y"))
+        self.assertEqual((status, said.split(" ")[0]), (0, "ok"))
+        self.assertEqual((self.read("y/c/0"), self.read("y/c/1")[:1]), (b"\xff\xfe", b"\xfd"))
+        self.assertEqual(sorted(os.listdir(self.path("y/c"))), sorted(["0", "1", *map(os.path.basename, made)]))
+
     def test_names_that_are_all_taken_are_a_fault(self):
         def prepare(process):
             os.makedirs(self.path("x/c"))
@@ -141,7 +157,7 @@ class NewFiles(InFolder):
                 self.put(name, b"left")
 
         self.assertEqual(self.call_after(prepare, "load", "--retries", "0", text=array("x", [1, 2], 2)), (16, "error 16 key=x/c/0"))
-        self.assertEqual(len(self.files()), 2 * (TRIED + 20))
+        self.assertEqual(len(self.files()), TRIED + 20)
         self.assertEqual({self.read(key) for key in self.files()}, {b"left"})
 
     def test_a_leftover_is_never_read(self):

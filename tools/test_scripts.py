@@ -246,8 +246,15 @@ class Months(InFolder):
             self.assertEqual(plan.infos[plan.out][1], [12])
         self.assertEqual(self.months(2001)[1:], self.months(2001, "standard")[1:])
 
+    def test_labels_name_the_same_months(self):
+        for words, days in ((["2001"], 365), (["2000", "2003"], 1461), (["2000", "2003", "noleap"], 1460), (["1582", "gregorian"], 355)):
+            labels = [int(it) for it in run(sys.executable, f"{TOP}/examples/calendar/month_labels.py", *words).stdout.split()]
+            self.assertEqual((len(labels), labels[:32], labels[-1]), (days, [0] * 31 + [1], 11), words)
+
     def test_another_calendar_is_refused(self):
         self.assertEqual(run(sys.executable, f"{TOP}/examples/calendar/months.py", "days", "2001", "y", "lunar").returncode, 1)
+        for words in ([], ["2001", "lunar"], ["2001", "2002", "2003"]):
+            self.assertEqual(run(sys.executable, f"{TOP}/examples/calendar/month_labels.py", *words).returncode, 1)
 
 
 class Help(unittest.TestCase):

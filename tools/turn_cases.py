@@ -151,6 +151,12 @@ class Case:
                 found += [("none", state)] if runs else list(self.claimed(state, worker))
             self.add(["claim", worker], found)
 
+    def start(self, worker, op, task):
+        """Adds a claim that must start this task, one of those that can be started."""
+        found = [(text, left) for state in self.states for text, left in self.claimed(state, worker) if (worker, (op, task)) in left.running]
+        assert found, f"{self.said['name']}: {worker} can't start {op} {task}"
+        self.add(["claim", worker], found)
+
     def end(self, word, op, *tasks, copy=0):
         for task in tasks:
             found = []
@@ -181,6 +187,16 @@ def next_operation_starts():
     case.claim(3, 4)
     case.end("ok", 1, 1, 0)
     case.claim(0, 1, 2)
+    return case
+
+
+def own_next_operation():
+    """The worker that ended the first task starts the task that reads its chunk, while another runs the second."""
+    case = Case("a worker starts the next operation while another runs the first", [*ADDED, node("t", "multiply", "s", 2)], 1600, inputs=SIX)
+    case.start(0, 0, 0)
+    case.start(1, 0, 1)
+    case.end("ok", 0, 0)
+    case.start(0, 1, 0)
     return case
 
 
@@ -414,7 +430,7 @@ def without_tasks():
 
 def written():
     """Returns all cases."""
-    made = [next_operation_starts(), chain(), one_worker(), places_in_rounds(), sum_in_rounds(), copied(), two_copies(), turned_over()]
+    made = [next_operation_starts(), own_next_operation(), chain(), one_worker(), places_in_rounds(), sum_in_rounds(), copied(), two_copies(), turned_over()]
     made += [both_copies(True), both_copies(False), failures_of_copies(), late_faults(), failures_apart()]
     made += [broken(retries) for retries in (0, 1, 2)]
     made += [halted("memory"), halted("bad"), opened(), opened_whole(), without_tasks()]

@@ -318,6 +318,66 @@ def places():
         case("%s of bool" % op, [("x", "bool", [2], [1])], [node("p", op, args=["x"])], "p", fault=[6, 1, 0])
 
 
+# ---- prefix sums and groups by labels
+
+def prefix_sums():
+    x, c = [4, 0, 3], [3, 2, 2]
+    for axis in (0, 1, -1, -3):
+        case("cumulative_sum along %d" % axis, [("x", "int16", x, c)], [node("s", "cumulative_sum", args=["x"], axis=axis)], "s",
+             ("int64", np.cumsum(zeros(x), axis=axis).shape, c))
+    for axis in (3, -4, 2 ** 63 - 1, -2 ** 63):
+        case("cumulative_sum along %d" % axis, [("x", "int16", x, c)], [node("s", "cumulative_sum", args=["x"], axis=axis)], "s", fault=[3, 1, 0])
+    for t in SIGNED + UNSIGNED:
+        case("cumulative_sum of %s" % t, [("x", t, [4], [3])], [node("s", "cumulative_sum", args=["x"])], "s", (wide(t), np.cumsum(zeros([4])).shape, [3]))
+    case("cumulative_sum of a null axis", [("x", "int8", [0], [3])], [node("s", "cumulative_sum", args=["x"], axis=None)], "s", ("int64", [0], [3]))
+    for members in ({}, {"axis": None}):
+        case("cumulative_sum of two axes by %s" % members, [("x", "int8", [2, 3], [1, 3])], [node("s", "cumulative_sum", args=["x"], **members)], "s", fault=[3, 1, 0])
+        case("cumulative_sum of rank 0 by %s" % members, [("x", "int8", [], [])], [node("s", "cumulative_sum", args=["x"], **members)], "s", fault=[3, 1, 0])
+    case("cumulative_sum of rank 0 along 0", [("x", "int8", [], [])], [node("s", "cumulative_sum", args=["x"], axis=0)], "s", fault=[3, 1, 0])
+    case("cumulative_sum of six axes", [("x", "uint8", [1, 2, 3, 4, 5, 6], [1, 2, 3, 4, 5, 6])], [node("s", "cumulative_sum", args=["x"], axis=-2)], "s",
+         ("uint64", [1, 2, 3, 4, 5, 6], [1, 2, 3, 4, 5, 6]))
+    case("cumulative_sum of bool, with a bad axis", [("x", "bool", [4], [3])], [node("s", "cumulative_sum", args=["x"], axis=9)], "s", fault=[6, 1, 0])
+    case("cumulative_sum's chunk is too large", [("x", "int8", [2 ** 26], [2 ** 26])], [node("s", "cumulative_sum", args=["x"])], "s", fault=[7, 1, 3])
+    case("cumulative_sum's chunk is just small enough", [("x", "int8", [2 ** 25], [2 ** 25])], [node("s", "cumulative_sum", args=["x"])], "s", ("int64", [2 ** 25], [2 ** 25]))
+
+
+def groups():
+    def by(name, x, labels, op, axis, count, typed=None, fault=None):
+        case(name, [("x", *x), ("l", *labels)], [node("g", op, args=["x", "l"], axis=axis, groups=count)], "g", typed, fault)
+
+    x, c = [4, 5, 3], [3, 2, 2]
+    for op in ("groupby_sum", "groupby_min"):
+        for axis in (0, 1, -1, -3):
+            shape, chunk = list(x), list(c)
+            shape[axis] = chunk[axis] = 7
+            by("%s along %d" % (op, axis), ("int16", x, c), ("uint8", [x[axis]], [c[axis]]), op, axis, 7, ("int64" if op == "groupby_sum" else "int16", shape, chunk))
+        for axis in (3, -4):
+            by("%s along %d" % (op, axis), ("int16", x, c), ("int8", [4], [3]), op, axis, 7, fault=[3, 2, 0])
+        for t in SIGNED + UNSIGNED:
+            by("%s of %s" % (op, t), (t, [4], [3]), ("int8", [4], [3]), op, 0, 2, (wide(t) if op == "groupby_sum" else t, [2], [2]))
+            by("%s by labels of %s" % (op, t), ("int8", [4], [3]), (t, [4], [3]), op, 0, 1, ("int64" if op == "groupby_sum" else "int8", [1], [1]))
+        by("%s of bool, with a bad axis" % op, ("bool", [4], [3]), ("int8", [3], [1]), op, 9, 2, fault=[6, 2, 0])
+        by("%s by labels of bool, with a bad axis" % op, ("int8", [4], [3]), ("bool", [3, 3], [1, 1]), op, 9, 2, fault=[6, 2, 0])
+        by("%s of nothing" % op, ("int8", [0, 3], [2, 2]), ("int8", [0], [2]), op, 0, 4, ("int64" if op == "groupby_sum" else "int8", [4, 3], [4, 2]))
+        by("%s of rank 0" % op, ("int8", [], []), ("int8", [1], [1]), op, 0, 4, fault=[3, 2, 0])
+        by("%s with a bad axis and other labels" % op, ("int8", [4], [3]), ("int8", [5, 5], [2, 2]), op, -2, 4, fault=[3, 2, 0])
+        by("%s of six axes" % op, ("int8", [1, 1, 1, 1, 1, 4], [1, 1, 1, 1, 1, 2]), ("int8", [4], [2]), op, 5, 4, fault=[7, 2, 1])
+        by("%s of six axes by other labels" % op, ("int8", [1, 1, 1, 1, 1, 4], [1, 1, 1, 1, 1, 2]), ("int8", [3], [2]), op, -1, 4, fault=[2, 2, 5])
+    for labels, chunk in (([3], [1]), ([5], [5]), ([], []), ([4, 1], [2, 1]), ([1, 5], [1, 2])):
+        by("labels of shape %s" % labels, ("int8", x, c), ("int8", labels, chunk), "groupby_sum", -3, 2, fault=[2, 2, 0])
+        by("labels of shape %s on the last axis but one" % labels, ("int8", [2, 4, 3], c), ("int8", labels, chunk), "groupby_min", -2, 2, fault=[2, 2, 1])
+    by("labels in other chunks", ("int8", x, c), ("int64", [5], [4]), "groupby_min", 1, 2, ("int8", [4, 2, 3], [3, 2, 2]))
+    by("labels of five axes", ("uint8", [1, 2, 3, 4, 5], [1, 1, 2, 2, 2]), ("int64", [5], [4]), "groupby_sum", 4, 65536, ("uint64", [1, 2, 3, 4, 65536], [1, 1, 2, 2, 65536]))
+    by("the chunk of groups is too large", ("int8", [4, 2 ** 10], [2, 2 ** 10]), ("int8", [4], [2]), "groupby_sum", 0, 65536, fault=[7, 2, 3])
+    by("the chunk of groups is just small enough", ("int8", [4, 2 ** 9], [2, 2 ** 9]), ("int8", [4], [2]), "groupby_sum", 0, 65536, ("int64", [65536, 2 ** 9], [65536, 2 ** 9]))
+    by("there are too many groups", ("int8", [4, 2 ** 25], [2, 2 ** 10]), ("int8", [4], [2]), "groupby_min", 0, 65536, fault=[7, 2, 2])
+    by("the labels' aligned chunk is too large", ("int8", [4], [2 ** 27]), ("int32", [4], [2]), "groupby_min", 0, 2, fault=[7, 2, 3])
+    by("the labels' aligned chunk is just small enough", ("int8", [4], [2 ** 26]), ("int32", [4], [2]), "groupby_min", 0, 2, ("int8", [2], [2]))
+    case("an array by itself", [("x", "int16", [4], [3])], [node("g", "groupby_sum", args=["x", "x"], axis=0, groups=9)], "g", ("int64", [9], [9]))
+    case("the sums up to each place of groups", [("x", "uint16", [4, 5], [3, 2]), ("l", "int16", [5], [5])],
+         [node("g", "groupby_min", args=["x", "l"], axis=1, groups=6), node("s", "cumulative_sum", args=["g"], axis=-1)], "s", [("uint16", [4, 6], [3, 6]), ("uint64", [4, 6], [3, 6])])
+
+
 # ---- matrix products
 
 def products():
@@ -597,7 +657,7 @@ def orders():
 
 
 def main():
-    parts = (broadcasts, types, kinds_of_one, kinds_of_two, extremes, bounds, literals, limits, reductions, places, products, views, reshapes, stretched, indices, pieces, made, chains, orders)
+    parts = (broadcasts, types, kinds_of_one, kinds_of_two, extremes, bounds, literals, limits, reductions, places, prefix_sums, groups, products, views, reshapes, stretched, indices, pieces, made, chains, orders)
     for part in parts:
         part()
     names = [c["name"] for c in CASES]

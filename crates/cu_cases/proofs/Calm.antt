@@ -17,7 +17,7 @@ use Rattle.cu_words.specs.Words.{GivenLine, demo_size, line_after, line_given, l
 use Rattle.cu_words.specs.declared.line.Numbers.{Numbers}
 use Rattle.cu_words.specs.declared.options.CommandName.{CommandName}
 use Rattle.cu_words.specs.declared.options.CommandName.TheVariants as name
-use Rattle.cu_part.specs.declared.part.Part.{Part}
+use Rattle.cu_work.specs.declared.part.Part.{Part}
 use Rattle.cu_top.specs.Words.{Command, command_by, command_of, command_with, options_among, tasks_among, print, print_of, demo_of, demo_sized, resume, part}
 use Rattle.cu_cases.specs.Late.{GoesOnNowhere, MayCall, goes_on, is_going_on}
 
