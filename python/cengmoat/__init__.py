@@ -20,6 +20,7 @@ from .errors import (
     BadChunk, BadExpression, BadLoad, BadMetadata, BadPart, BadType, BadWords, CengmoatError, Exists, Locked, NoArray, NoMemory, NoPlan,
     NoProgram, NotReady, NotRemoved, OtherPlan, OverLimit, OverMemory, ReadFault, Stale, Stopped, StoreFailed, TaskFailed, Unequal, Unfinished, WriteFault,
 )
+from ._groups import groupby_count, groupby_max, groupby_min, groupby_sum
 from ._plans import Operation, Plan, Report
 from ._running import compute_node
 from ._status import ArrayStatus, Status
@@ -31,7 +32,7 @@ __all__ = [
     "Array", "ArrayStatus", "BadChunk", "BadExpression", "BadLoad", "BadMetadata", "BadPart", "BadType", "BadWords", "CengmoatError", "Exists",
     "Locked", "NoArray", "NoMemory", "NoPlan", "NoProgram", "NotReady", "NotRemoved", "Operation", "OtherPlan", "OverLimit", "OverMemory", "Plan", "ReadFault",
     "Report", "Stale", "Status", "Stopped", "Store", "StoreFailed", "TaskFailed", "Unequal", "Unfinished", "WriteFault", "array_api", "compute",
-    "from_zarr", "to_zarr",
+    "from_zarr", "groupby_count", "groupby_max", "groupby_min", "groupby_sum", "to_zarr",
 ]
 
 

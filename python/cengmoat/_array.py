@@ -210,6 +210,13 @@ class Array(Refused, Collection, Operators):
         from .array_api import clip
         return clip(self, min, max)
 
+    def cumsum(self, axis: Optional[int] = None, dtype: Any = None, out: None = None) -> Array:
+        """Return the sums from the first element to each, along an axis, or row by row where none is given."""
+        if out is not None:
+            raise TypeError("cumsum: an array isn't changed, so out is None")
+        from .array_api import cumulative_sum
+        return cumulative_sum(self if axis is not None else self.ravel(), axis=0 if axis is None else axis, dtype=dtype)
+
     def copy(self) -> Array:
         """Return the array: it is never changed."""
         return self

@@ -7,6 +7,8 @@ from . import _build as build
 from ._dtypes import Literal, check_literal
 from ._nodes import Node
 from ._offers import offers_op
+from ._program import find_program
+from .errors import NoProgram
 
 Argument = Union[Node, Literal]
 
@@ -16,11 +18,12 @@ def _program_of(nodes: Sequence[Node]) -> Optional[str]:
     return None if store is None else store.program
 
 
-def _has(op: str, nodes: Sequence[Node]) -> bool:
-    """Return whether the program of some nodes has a function."""
+def has(op: str, nodes: Sequence[Node], members: dict[str, object], unknown: bool = False) -> bool:
+    """Return whether the program of some nodes has a function, or `unknown` where there is no program; `members` are such that it takes."""
     try:
-        members: dict[str, object] = {"args": ["x"], "min": 0, "max": 1} if op == "clip" else {"args": ["x", "x"]}
-        return offers_op(op, _program_of(nodes), **members)
+        return offers_op(op, _program_of(nodes) or find_program(), **members)
+    except NoProgram:
+        return unknown
     except LookupError:
         return False
 
@@ -33,7 +36,7 @@ def extreme(op: str, args: Sequence[Argument]) -> Node:
     TypeError, ValueError
         As ``elementwise``.
     """
-    if _has(op, [arg for arg in args if isinstance(arg, Node)]):
+    if has(op, [arg for arg in args if isinstance(arg, Node)], {"args": ["x", "x"]}):
         return build.elementwise(op, args)
     holds = build.elementwise("greater_equal" if op == "maximum" else "less_equal", args)
     return build.where(holds, args[0], args[1])
@@ -49,7 +52,7 @@ def clip(x: Node, low: Any, high: Any) -> Node:
     """
     bounds = [bound for bound in (low, high) if bound is not None]
     build.check_integers("clip", x)
-    if len(bounds) == 2 and not any(isinstance(bound, Node) for bound in bounds) and _has("clip", [x]):
+    if len(bounds) == 2 and not any(isinstance(bound, Node) for bound in bounds) and has("clip", [x], {"args": ["x"], "min": 0, "max": 1}):
         for bound in bounds:
             check_literal(bound, x.dtype, "clip")
         return build.make_node("clip", (x,), x.dtype, x.shape, x.chunks, {"min": low, "max": high})

@@ -11,7 +11,7 @@ Attributes = dict[str, Any]
 
 # Views have the elements of their argument, so all that is said of these stands.
 _VIEWS = ("rechunk", "index", "permute_dims", "reshape", "expand_dims", "squeeze", "flip", "roll", "broadcast_to", "concat", "stack", "tril", "triu")
-_KEPT = ("astype", "rechunk", "flip", "roll", "tril", "triu")
+_KEPT = ("astype", "cumulative_sum", "rechunk", "flip", "roll", "tril", "triu")
 # What says how numbers are packed or which of them stand for nothing: of other numbers it would be wrong.
 _PACKING = ("_FillValue", "missing_value", "scale_factor", "add_offset", "_Unsigned", "valid_min", "valid_max", "valid_range", "actual_range",
             "flag_values", "flag_masks", "flag_meanings")
@@ -87,12 +87,13 @@ def _names(node: Node, args: Sequence[tuple[Shape, Names]]) -> Names:
     if not args:
         return (None,) * len(node.shape)
     names = args[0][1]
-    at = node.members.get("axis")
+    at: Any = node.members.get("axis")
     special: dict[str, Callable[[], Names]] = {
         "index": lambda: _indexed(node, names), "permute_dims": lambda: tuple(names[axis] for axis in node.members["axes"]),
         "expand_dims": lambda: (*names[:at], None, *names[at:]), "squeeze": lambda: _squeezed(node, names),
         "reshape": lambda: _reshaped(node, node.arrays[0], names), "matmul": lambda: _multiplied(node, args),
         "concat": lambda: tuple(_agreed([its[axis] for _, its in args]) for axis in range(len(names))),
+        "groupby_sum": lambda: (*names[:at], None, *names[at + 1:]), "groupby_min": lambda: (*names[:at], None, *names[at + 1:]),
         "stack": lambda: (*(both := _broadcast(node.arrays[0].shape, args))[:at], None, *both[at:]),
     }
     if node.op in _KEPT:

@@ -21,7 +21,7 @@ PREFIX = {"negative": "-", "positive": "+", "bitwise_invert": "~"}
 # The members that a node's Python expression shows, by the names that they have in Python.
 SHOWN = {"axes": "axis", "axis": "axis", "keepdims": "keepdims", "dtype": "dtype", "shape": "shape", "chunk": "chunks", "k": "k",
          "shifts": "shift", "start": "start", "stop": "stop", "step": "step", "value": "fill_value", "rows": "n_rows", "cols": "n_cols",
-         "min": "min", "max": "max"}
+         "min": "min", "max": "max", "groups": "groups"}
 
 
 class Node:

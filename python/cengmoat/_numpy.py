@@ -256,7 +256,7 @@ def _known() -> dict[Any, Callable[..., Any]]:
         np.tril: lambda m, k=0: _array(views.triangle("tril", _node(m), k)), np.triu: lambda m, k=0: _array(views.triangle("triu", _node(m), k)),
         np.tensordot: lambda a, b, axes=2: _namespace().tensordot(_array(_node(a)), _array(_node(b)), axes=axes),
         np.count_nonzero: lambda a, axis=None, *, keepdims=False: _truth(a).sum(axis, keepdims=keepdims),
-        np.copy: lambda a: _array(_node(a)), np.shape: lambda a: a.shape, np.ndim: lambda a: a.ndim,
+        np.cumsum: lambda a, axis=None, dtype=None: _array(_node(a)).cumsum(axis, dtype), np.copy: lambda a: _array(_node(a)), np.shape: lambda a: a.shape, np.ndim: lambda a: a.ndim,
         np.size: lambda a, axis=None: a.size if axis is None else a.shape[axis], np.iscomplexobj: lambda x: False, np.isrealobj: lambda x: True,
         np.result_type: lambda *them: np.result_type(*(_stand_in(it.node) if hasattr(it, "node") else it for it in them)),
         np.einsum: _einsum, np.pad: _pad,

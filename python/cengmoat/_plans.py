@@ -39,7 +39,7 @@ class Operation:
     number : int
         Its place, from 0.
     kind : str
-        map, pull, copy, fold, merge, pairfold, pairmerge or mul.
+        map, pull, copy, fold, merge, pairfold, pairmerge, mul, groupfold, carry or scan.
     expression : str
         The Python expression of the node for which it is done.
     dtype, shape, chunks
@@ -132,6 +132,9 @@ def _chunk_bytes(kind: str, node: Node, tasks: int, cells: int) -> int:
         # A task stores values of the argument's type beside their places.
         elements = node.chunk_bytes // node.dtype.itemsize
         return tasks * (node.chunk_bytes + elements * node.arrays[0].dtype.itemsize)
+    if node.op == "cumulative_sum" and kind != "scan":
+        # The sums of chunks, and what is carried into each, have one number for each chunk on the axis.
+        return cells * (node.chunk_bytes // node.chunks[node.members["axis"]])
     return cells * node.chunk_bytes
 
 
@@ -150,7 +153,7 @@ class _Reads:
         self.graph, self.most = graph, most
         # The last operation for each node that is behind, and those for the node at which the plan is.
         self.made: dict[int, int] = {}
-        self.at, self.own = -1, list[int]()
+        self.at, self.own, self.sums = -1, list[int](), 0
         self.copies: list[tuple[Node, bool]] = []
         self.copied: dict[int, int] = {}
 
@@ -160,7 +163,7 @@ class _Reads:
         if at != self.at:
             if self.own:
                 self.made[self.at] = self.own[-1]
-            self.at, self.own, self.copied = at, [], {}
+            self.at, self.own, self.copied, self.sums = at, [], {}, 0
             self.copies = copied_args(node, self.most) if kind == "copy" else []
         if kind == "copy" and self.copies:
             arg, is_second = self.copies.pop(0)
@@ -168,10 +171,18 @@ class _Reads:
             self.copied[id(arg)] = number
         elif kind in ("merge", "pairmerge") and self.own:
             found = [f"op {self.own[-1]}"]
+        elif kind == "carry":
+            found = self.carried()
         else:
-            found = self.sources(node.arrays or (node,))
+            found = self.sources(node.arrays or (node,)) + [f"op {it}" for it in self.own[-1:] if kind == "scan"]
         self.own.append(number)
         return tuple(found)
+
+    def carried(self) -> list[str]:
+        """Return what the next of the operations reads that go back from the last sums to the first: its sums, and what was carried before."""
+        self.sums = self.sums or len(self.own)
+        count = len(self.own) - self.sums
+        return [f"op {it}" for it in (self.own[self.sums - 1 - count], *self.own[-1:][:count])]
 
     def sources(self, nodes: Sequence[Node]) -> list[str]:
         """Return the stored arrays and results that are read for some nodes, through what is computed within the task."""

@@ -31,7 +31,7 @@ WAYS = {
     "ptp": ("the program has no ptp", "x.max(axis) - x.min(axis)"),
 }
 # Those of them that are methods of NumPy's arrays, or of what users of xarray and pandas look for.
-METHODS = ("mean", "std", "var", "median", "quantile", "sort", "argsort", "cumsum", "cumprod", "take", "repeat", "nonzero", "compress",
+METHODS = ("mean", "std", "var", "median", "quantile", "sort", "argsort", "cumprod", "take", "repeat", "nonzero", "compress",
            "searchsorted", "diagonal", "trace", "ptp")
 
 
@@ -68,5 +68,5 @@ class Refused:
 
     __slots__ = ()
 
-    mean, std, var, median, quantile, sort, argsort, cumsum, cumprod = (_method(name) for name in METHODS[:9])
-    take, repeat, nonzero, compress, searchsorted, diagonal, trace, ptp = (_method(name) for name in METHODS[9:])
+    mean, std, var, median, quantile, sort, argsort, cumprod = (_method(name) for name in METHODS[:8])
+    take, repeat, nonzero, compress, searchsorted, diagonal, trace, ptp = (_method(name) for name in METHODS[8:])

@@ -70,7 +70,11 @@ def wanted_chunks(node: Node) -> list[tuple[Node, Shape]]:
         return [(node.arrays[0], node.chunks)]
     if node.op in ("input", "data"):
         return [(node, node.chunks)]
-    pairs = _matrices(node) if node.op == "matmul" else [(arg, _aligned(node, arg)) for arg in node.arrays]
+    if node.op in ("groupby_sum", "groupby_min"):
+        source, labels = node.arrays
+        pairs = [(source, source.chunks), (labels, (source.chunks[node.members["axis"]],))]
+    else:
+        pairs = _matrices(node) if node.op == "matmul" else [(arg, _aligned(node, arg)) for arg in node.arrays]
     return [(arg, chunks) for arg, chunks in pairs if chunks != arg.chunks]
 
 

@@ -16,7 +16,7 @@ PACKAGE = os.path.dirname(cengmoat.__file__)
 class Modules(Case):
     def test_only_what_a_user_imports_has_a_public_name(self) -> None:
         found = {entry.split(".")[0] for entry in os.listdir(PACKAGE) if entry.endswith(".py") or os.path.isdir(os.path.join(PACKAGE, entry))}
-        self.assertEqual({name for name in found if not name.startswith("_")}, {"array_api", "errors"})
+        self.assertEqual({name for name in found if not name.startswith("_")}, {"array_api", "errors", "xarray"})
         self.assertEqual([name for name in cengmoat.__all__ if not hasattr(cengmoat, name)], [])
 
 

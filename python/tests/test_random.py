@@ -209,6 +209,30 @@ def places(draw: Draw, pair: Pair) -> Any:
     return Pair(getattr(xp, name)(pair.lazy, axis=axis), np.asarray(getattr(np, name)(pair.exact, axis=axis)))
 
 
+def sums_up_to_each(draw: Draw, pair: Pair) -> Any:
+    if not pair.exact.ndim:
+        return None
+    axis = draw.pick.randrange(-pair.exact.ndim, pair.exact.ndim)
+    dtype = "uint64" if pair.exact.dtype.kind == "u" else "int64"
+    return Pair(pair.lazy.cumsum(axis), np.cumsum(pair.exact, axis=axis, dtype=dtype))
+
+
+def groups(draw: Draw, pair: Pair) -> Any:
+    if pair.exact.dtype == bool or not pair.exact.ndim:
+        return None
+    axis, count = draw.pick.randrange(-pair.exact.ndim, pair.exact.ndim), draw.pick.randint(1, 5)
+    labels = draw.array((pair.exact.shape[axis],), draw.pick.choice(INTEGERS))
+    name = draw.pick.choice(["sum", "min", "max", "count"])
+    ends, total = np.iinfo(pair.exact.dtype), "uint64" if pair.exact.dtype.kind == "u" else "int64"
+    ufunc, start, dtype = {"sum": (np.add, 0, total), "min": (np.minimum, ends.max, pair.exact.dtype), "max": (np.maximum, ends.min, pair.exact.dtype),
+                           "count": (np.add, 0, "int64")}[name]
+    known = np.flatnonzero((labels.exact >= 0) & (labels.exact < count))
+    moved = np.moveaxis(np.ones_like(pair.exact) if name == "count" else pair.exact, axis, 0).astype(dtype)
+    found = np.full((count, *moved.shape[1:]), start, dtype)
+    ufunc.at(found, labels.exact[known].astype("int64"), moved[known])
+    return Pair(getattr(cengmoat, f"groupby_{name}")(pair.lazy, labels.lazy, axis, count), np.moveaxis(found, 0, axis))
+
+
 def product(draw: Draw, pair: Pair) -> Any:
     if pair.exact.dtype == bool or not 1 <= pair.exact.ndim <= 4:
         return None
@@ -221,7 +245,7 @@ def product(draw: Draw, pair: Pair) -> Any:
 
 
 STEPS: list[Callable[[Draw, Pair], Any]] = [binary, binary, binary, unary, convert, choose, take_index, take_index, order, shape, join,
-                                            stretch, other_chunks, triangles, reduce, places, product]
+                                            stretch, other_chunks, triangles, reduce, places, product, sums_up_to_each, groups]
 
 
 class Random(WithProgram):

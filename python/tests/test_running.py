@@ -442,7 +442,8 @@ class Running(WithProgram):
         for lazy, reads, inlined in (
                 ((t + o).sum(axis=0), [("o",), ("t", "op 0"), ("op 1",), ("op 2",)], ()), ((t * 2 + 1).rechunk((5, 6)), [("t",), ("op 0",)], ("t * 2",)),
                 (t.argmax(axis=0), [("t",), ("op 0",)], ()), (t @ t.T, [("t",), ("t", "op 0"), ("op 1",)], ()), (xp.flip(t) + 1, [("t",), ("op 0",)], ()),
-                (((t + 1) * (t + 1)).max(), [("t",), ("op 0",), ("op 1",), ("op 2",), ("op 3",)], ()), (t - lines, [("t", "op 0")], ())):
+                (((t + 1) * (t + 1)).max(), [("t",), ("op 0",), ("op 1",), ("op 2",), ("op 3",)], ()), (t - lines, [("t", "op 0")], ()),
+                (t.cumsum(0), [("t",), ("op 0",), ("t", "op 1")], ()), (cengmoat.groupby_sum(t, lines, 1, 3), [("t", "op 0"), ("op 1",)], ())):
             plan = lazy.plan()
             wanted = {(it.kind, it.number): it.reads for it in plan}
             if plan.operations[0].kind == "copy" and len(plan) == len(reads) + 1:
@@ -472,12 +473,16 @@ class Running(WithProgram):
     def test_bytes_of_plans(self) -> None:
         wide = self.here.save("wide", np.arange(96, dtype="int32").reshape(8, 12), (8, 1))
         for number, lazy in enumerate((wide.rechunk((1, 12)), wide.argmax(axis=1), wide.argmin(), wide[:, ::2], wide.any(),
-                                       wide @ wide.T, xp.matmul(wide[:, 0], wide), wide.astype("int8").astype("int64"), wide.sum(axis=0))):
+                                       wide @ wide.T, xp.matmul(wide[:, 0], wide), wide.astype("int8").astype("int64"), wide.sum(axis=0),
+                                       wide.cumsum(1), wide.cumsum(0), cengmoat.groupby_min(wide, np.arange(12), 1, 5), cengmoat.groupby_sum(wide, np.arange(8), 0, 3))):
             here = self.store(allowed_mem=300 if number == 0 else 10**5)
             plan = lazy.plan(store=here)
             lazy.store(f"r{number}", here, keep=True)
             self.assertEqual(self.stored_bytes(f"r{number}"), plan.nbytes, plan)
         self.assertEqual([it.kind for it in wide.rechunk((1, 12)).plan(store=self.store(allowed_mem=300))], ["copy", "copy"])
+        levels = wide.cumsum(1).plan(store=self.store(split_every=3))
+        self.assertEqual([it.kind for it in levels], ["fold", "merge", "merge", "carry", "carry", "carry", "scan"])
+        self.assertEqual([it.reads for it in levels][3:], [("op 2",), ("op 1", "op 3"), ("op 0", "op 4"), ("wide", "op 5")])
 
     def test_progress(self) -> None:
         plan = (self.t * 2 + 1).plan()

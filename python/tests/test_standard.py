@@ -12,7 +12,7 @@ DATA_TYPES = {"bool", "int8", "int16", "int32", "int64", "uint8", "uint16", "uin
               "complex128"}
 # What a function has beside the standard's parameters.
 # Functions of the standard 2023.12.
-LATER = {"maximum", "minimum", "clip"}
+LATER = {"maximum", "minimum", "clip", "cumulative_sum"}
 OWN = {"chunks", "options"}
 FLOATS_ONE = "acos acosh asin asinh atan atanh conj cos cosh exp expm1 imag log log1p log2 log10 real sin sinh sqrt tan tanh mean std var"
 METHODS = """__abs__ __add__ __and__ __array_namespace__ __bool__ __complex__ __eq__ __float__ __floordiv__ __ge__ __getitem__ __gt__ __index__

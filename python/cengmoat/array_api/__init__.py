@@ -1,7 +1,7 @@
 """The namespace of the Python array API standard 2022.12, over lazy arrays of integers and truth values.
 
-Functions have the standard's names and signatures, `maximum`, `minimum` and `clip` those of 2023.12; those that make an array
-also take `chunks`. What the standard has and the program lacks raises NotImplementedError at the call.
+Functions have the standard's names and signatures, `maximum`, `minimum`, `clip` and `cumulative_sum` those of 2023.12; those
+that make an array also take `chunks`. What the standard has and the program lacks raises NotImplementedError at the call.
 """
 from ._constants import (
     e, inf, nan, newaxis, pi,
@@ -31,7 +31,7 @@ from ._searching import (
     argmax, argmin, argsort, nonzero, sort, take, unique_all, unique_counts, unique_inverse, unique_values, where,
 )
 from ._statistical import (
-    max, mean, min, prod, std, sum, var,
+    cumulative_sum, max, mean, min, prod, std, sum, var,
 )
 from ._utility import (
     all, any,
@@ -43,7 +43,7 @@ __all__ = [
     "abs", "acos", "acosh", "add", "all", "any", "arange", "argmax", "argmin", "argsort", "asarray", "asin", "asinh",
     "astype", "atan", "atan2", "atanh", "bitwise_and", "bitwise_invert", "bitwise_left_shift", "bitwise_or",
     "bitwise_right_shift", "bitwise_xor", "bool", "broadcast_arrays", "broadcast_to", "can_cast", "ceil", "clip", "complex128",
-    "complex64", "concat", "conj", "cos", "cosh", "divide", "e", "empty", "empty_like", "equal", "exp", "expand_dims",
+    "complex64", "concat", "conj", "cos", "cosh", "cumulative_sum", "divide", "e", "empty", "empty_like", "equal", "exp", "expand_dims",
     "expm1", "eye", "finfo", "flip", "float32", "float64", "floor", "floor_divide", "from_dlpack", "full", "full_like",
     "greater", "greater_equal", "iinfo", "imag", "inf", "int16", "int32", "int64", "int8", "isdtype", "isfinite",
     "isinf", "isnan", "less", "less_equal", "linspace", "log", "log10", "log1p", "log2", "logaddexp", "logical_and",
@@ -60,6 +60,8 @@ def __getattr__(name: str) -> object:
     """Return, of a function of NumPy that the standard hasn't, one that says what to write in its place (xarray asks for them)."""
     from .._refused import function
 
+    if name == "cumsum":
+        return lambda x, axis=None, dtype=None: x.cumsum(axis, dtype)
     found = function(name)
     if found is None:
         raise AttributeError(f"module {__name__!r} has no attribute {name!r}")

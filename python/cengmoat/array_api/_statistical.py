@@ -1,10 +1,35 @@
 """Reductions over axes, exact and wrapped once, at whichever chunks."""
 from __future__ import annotations
 
-from typing import Any, Union
+from typing import Any, Optional, Union
 
+from .. import _groups as groups
 from .._array import Array
 from ._common import FLOATS, Axes, lacks, node_of
+
+
+def cumulative_sum(x: Array, /, *, axis: Optional[int] = None, dtype: Any = None, include_initial: bool = False) -> Array:
+    """Return the sums from the first element to each, along an axis. (Of the standard 2023.12.)
+
+    Parameters
+    ----------
+    x : Array
+        Of integers, or of truth values, which are counted.
+    axis : int, optional
+        The axis; needn't be said where there is one.
+    dtype : dtype, optional
+        The type to which each sum is wrapped; else int64, and uint64 of unsigned types.
+    include_initial : bool
+        Whether the first element is 0, and the axis has one element more.
+
+    Raises
+    ------
+    NotImplementedError
+        Where the program has no such function.
+    IndexError, ValueError
+        Where the array hasn't the axis, or none is said and there are several.
+    """
+    return Array(groups.cumulative_sum(node_of(x), axis, dtype, include_initial))
 
 
 def max(x: Array, /, *, axis: Axes = None, keepdims: bool = False) -> Array:
