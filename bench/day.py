@@ -5,8 +5,9 @@
 
 The data are days by latitudes by longitudes, [2920,180,360] in chunks of [365,180,90], with a base of [180,360]. The works: how often
 each place exceeds its base, counted by int32 and by int8; a sum over the days without what is missing; all of it scaled and rounded
-down; and what is left without the base. The program syncs each file before its rename, Dask writes as zarr does, without a sync. Which
-comes first changes at each round, and what both store is compared byte by byte.
+down; what is left without the base; and the sums of the twelve months, by xarray's groupby over Dask's arrays. The program syncs each file
+before its rename, Dask writes as zarr does, without a sync. Which comes first changes at each round, and what both store is compared byte
+by byte.
 
 It prints the least times and the greatest resident memory of both, the ratio of the times (Dask's is without Python's start), and last
 which of the aims were missed. Beside them stands the least time of a loop over the same files that computes nothing: it reads the days,
@@ -27,19 +28,20 @@ from stored import GNU_TIME, PROGRAM, can_import, folders, link_as_version_2, me
 from workers import Told, node
 
 DAYS_A_CHUNK, PLACES, PLACES_A_CHUNK = 365, [180, 360], [180, 90]
-MISSING = -32768
+MISSING, MONTHS = -32768, 12
 CUBED, DASK = "cubed", "Dask, one thread"
 
 
 class Work:
-    """What is computed of `t` and `base`: the nodes, the same by Dask's arrays, and the aim: of how much of Dask's time."""
+    """What is computed of `t` and the other inputs: the nodes, the same by Dask's arrays of these names, and the aim: of how much of
+    Dask's time."""
 
-    def __init__(self, nodes, by_dask, aim):
-        self.nodes, self.by_dask, self.aim = nodes, by_dask, aim
+    def __init__(self, nodes, by_dask, aim, names=("t", "base")):
+        self.nodes, self.by_dask, self.aim, self.names = nodes, by_dask, aim, names
 
     def expression(self):
         named = {argument for one in self.nodes for argument in one["args"]}
-        given = [{"id": name, "op": "input", "name": name} for name in ("t", "base") if name in named]
+        given = [{"id": name, "op": "input", "name": name} for name in self.names if name in named]
         return json.dumps({"nodes": given + self.nodes, "out": self.nodes[-1]["id"], "store_as": "y"})
 
 
@@ -53,6 +55,13 @@ def masked_sum(t, base):
     return dask.array.where(t != MISSING, t, 0).sum(axis=0)
 
 
+def monthly_sums(t, month):
+    import numpy
+    import xarray
+    days = xarray.DataArray(t, dims=("day", "latitude", "longitude"), coords={"month": ("day", numpy.asarray(month))})
+    return days.groupby("month").sum().transpose("month", ...).data.rechunk((MONTHS, *PLACES_A_CHUNK))
+
+
 WORKS = {
     "exceedances as int32": exceedances("int32", 1.0),
     "exceedances as int8": exceedances("int8", 0.7),
@@ -60,22 +69,25 @@ WORKS = {
     "scaled and rounded down": Work(
         [node("i", "astype", "t", dtype="int32"), node("m", "multiply", "i", 9), node("d", "floor_divide", "m", 5), node("y", "add", "d", 320)],
         lambda t, base: (t.astype("int32") * 9) // 5 + 320, 0.6),
-    "anomalies": Work([node("y", "subtract", "t", "base")], lambda t, base: t - base, 0.7)}
+    "anomalies": Work([node("y", "subtract", "t", "base")], lambda t, base: t - base, 0.7),
+    "monthly sums": Work([node("s", "groupby_sum", "t", "month", axis=0, groups=MONTHS)], monthly_sums, 1.0, ("t", "month"))}
 
 
 def make_inputs(folder, days):
-    """Stores the days and the base, some of the days' numbers missing, and links them for a zarr that reads version 2 alone."""
+    """Stores the days, some of whose numbers are missing, the base, and the month of each day, and links them for a zarr that reads
+    version 2 alone."""
     import numpy
     rng = numpy.random.default_rng(1)
     cells = rng.integers(-4000, 4000, [DAYS_A_CHUNK, *PLACES_A_CHUNK], dtype="int16")
     cells[rng.random(cells.shape) < 0.01] = MISSING
     arrays = {"t": ([days, *PLACES], [DAYS_A_CHUNK, *PLACES_A_CHUNK], cells),
-              "base": (PLACES, PLACES_A_CHUNK, rng.integers(-500, 500, PLACES_A_CHUNK, dtype="int16"))}
+              "base": (PLACES, PLACES_A_CHUNK, rng.integers(-500, 500, PLACES_A_CHUNK, dtype="int16")),
+              "month": ([days], [DAYS_A_CHUNK], (numpy.arange(DAYS_A_CHUNK) * MONTHS // DAYS_A_CHUNK).astype("int16"))}
     for name, (shape, chunk, numbers) in arrays.items():
         put(os.path.join(folder, name, "zarr.json"), metadata("int16", shape, chunk).encode())
         counts = [-(-length // part) for length, part in zip(shape, chunk)]
         for turn, place in enumerate(itertools.product(*map(range, counts))):
-            put(os.path.join(folder, name, "c", *map(str, place)), numpy.roll(numbers, 4099 * turn).tobytes())
+            put(os.path.join(folder, name, "c", *map(str, place)), numpy.roll(numbers, 0 if name == "month" else 4099 * turn).tobytes())
         link_as_version_2(folder, name, "<i2", shape, chunk)
 
 
@@ -85,8 +97,7 @@ def by_dask(folder, work):
     import dask.array
     import zarr
     start = time.perf_counter()
-    t, base = (dask.array.from_zarr(zarr.open(os.path.join(folder, f"{name}_v2"), mode="r")) for name in ("t", "base"))
-    result = work.by_dask(t, base)
+    result = work.by_dask(*(dask.array.from_zarr(zarr.open(os.path.join(folder, f"{name}_v2"), mode="r")) for name in work.names))
     target = zarr.open(os.path.join(folder, "dask"), mode="w", shape=result.shape, chunks=result.chunksize, dtype=result.dtype, compressor=None)
     with dask.config.set(scheduler="synchronous"):
         dask.array.store(result, target, lock=False)
@@ -169,7 +180,7 @@ def main():
     words.add_argument("--dir", action="append", help="a folder to measure in, as often as wanted")
     words.add_argument("--runs", type=int, default=5, help="how many rounds")
     words.add_argument("--workers", type=int, default=1, help="how many workers the program has; Dask has one thread")
-    words.add_argument("--python", default=sys.executable, help="the Python that has NumPy, Dask and zarr")
+    words.add_argument("--python", default=sys.executable, help="the Python that has NumPy, Dask, zarr and xarray")
     words.add_argument("--days", type=int, default=2920, help="how many days there are")
     words.add_argument("--only", nargs="*", help="the works whose names have one of these words")
     words.add_argument("--peer", nargs=2, help=argparse.SUPPRESS)
@@ -180,9 +191,9 @@ def main():
         return
     given.program = os.path.abspath(given.program)
     see_that_it_is_built(given.program)
-    given.has_dask = can_import(given.python, "dask.array", "zarr")
+    given.has_dask = can_import(given.python, "dask.array", "zarr", "xarray")
     if not given.has_dask:
-        print(f"{given.python} has no Dask and zarr, so the program is measured alone")
+        print(f"{given.python} has no Dask, zarr and xarray, so the program is measured alone")
     if not os.access(GNU_TIME, os.X_OK):
         print(f"without {GNU_TIME} no memory is told")
     print(f"int16 {[given.days, *PLACES]} in chunks of {[DAYS_A_CHUNK, *PLACES_A_CHUNK]}, the least of {given.runs} runs")

@@ -3,8 +3,8 @@
 
   workers.py [--program FILE] [--dir FOLDER].. [--runs N] [--workers N] [--python FILE] [--mebibytes N] [--only WORD..]
 
-The works: an addition in chunks of 1 MiB, `(a*2 + b) > c` in chunks of 4 MiB, a sum over an axis, a change from columns to rows in
-64 MiB, and a product of matrices. Then additions in 16,384 chunks of 1 KiB with the program alone. The program syncs each file before its
+The works: an addition in chunks of 1 MiB, `(a*2 + b) > c` in chunks of 4 MiB, a sum over an axis, the sums up to each place along the
+first axis and along the last, a change from columns to rows in 64 MiB, and a product of matrices. Then additions in 16,384 chunks of 1 KiB with the program alone. The program syncs each file before its
 rename, Dask writes as zarr does, without a sync. Which comes first changes at each round, and what all store is compared byte by byte.
 
 It prints the least times and the greatest resident memory of each, how many times as fast several workers are as one and as Dask (whose
@@ -59,6 +59,8 @@ def works(mebibytes):
         "(a*2 + b) > c": Work("abc", [elements], [MIB], [node("d", "multiply", "a", 2), node("s", "add", "d", "b"), node("g", "greater", "s", "c")],
                               lambda a, b, c: (a * 2 + b) > c),
         "sum over the first axis": Work("a", [side, side], [side // 8] * 2, [node("s", "sum", "a", axes=[0])], lambda a: a.sum(axis=0)),
+        "sums up to each place, first axis": Work("a", [side, side], [side // 8] * 2, [node("s", "cumulative_sum", "a", axis=0)], lambda a: a.cumsum(axis=0)),
+        "sums up to each place, last axis": Work("a", [side, side], [side // 8] * 2, [node("s", "cumulative_sum", "a", axis=1)], lambda a: a.cumsum(axis=1)),
         "columns to rows": Work("a", [side, side], [side, strip], [node("r", "rechunk", "a", chunk=[strip, side])],
                                 lambda a: a.rechunk((strip, side)), ["--allowed-mem", str(side * side)]),
         "product of matrices": Work("ab", [4 * block] * 2, [block] * 2, [node("p", "matmul", "a", "b")], lambda a, b: a @ b, dtype="int64")}

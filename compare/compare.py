@@ -338,7 +338,14 @@ def part_elements(plan, part, info, elements):
         return elements[k]
     args = [elements[arg] for arg in plan.arrays(k)]
     dtype, shape, _ = info
+    if step.kind == "carry":
+        return carried(args[0], step.bounds, dtype)
     found = numpy.empty(shape, dtype)
+    if node["op"] in operators.GROUPS:
+        cuts, axis = step.bounds["labels"], node["axis"] % args[0].ndim
+        for number, (low, high) in enumerate(zip(cuts, cuts[1:])):
+            found[..., number] = values.grouped(node, args[0].take(range(low, high), axis), args[1][low:high], dtype)
+        return found
     if node["op"] == "matmul":
         cuts = step.bounds["inner"]
         for number, (low, high) in enumerate(zip(cuts, cuts[1:])):
@@ -351,11 +358,17 @@ def part_elements(plan, part, info, elements):
     return found
 
 
+def carried(source, bounds, dtype):
+    """Returns what is carried into each part: the sum of all that stands before it on the axis."""
+    [(axis, cuts)] = bounds.items()
+    return numpy.stack([source.take(range(low), axis).sum(axis=axis, dtype=dtype) for low in cuts[:-1]], axis)
+
+
 def part_element(node, source, place, is_last, dtype):
     """Returns what is made of one part of a source: for a search for places the place, or the value where `is_last` doesn't hold."""
     block = source[tuple(slice(low, high) for low, high in place)]
     if node["op"] not in reductions.PLACES:
-        return values.reduced({"op": node["op"]}, block, dtype)
+        return values.reduced({"op": "sum" if node["op"] == "cumulative_sum" else node["op"]}, block, dtype)
     if not is_last:
         return block.min() if node["op"] == "argmin" else block.max()
     own = numpy.unravel_index(getattr(numpy, node["op"])(block), block.shape)

@@ -252,10 +252,24 @@ def random_other(pick, ident, told):
         inner = told[arg][1][-1:]
         fit = [other for other, (_, shape, _) in told.items() if shape[-2:][:1] == inner] or list(told)
         return {"id": ident, "op": op, "args": [arg, pick.choice(fit)]}
-    if op in ("argmin", "argmax"):
+    if op in operators.GROUPS:
+        return random_groups(pick, ident, told, op)
+    if op in ("argmin", "argmax", "cumulative_sum"):
         axis = pick.choice([{}, {"axis": None}, {"axis": pick.randint(-rank, max(0, rank - 1))}])
-        return {"id": ident, "op": op, "args": [arg], **axis, **keeps}
+        if op == "cumulative_sum" and rank != 1 and pick.random() < 0.9:
+            axis = {"axis": pick.randint(-rank, max(0, rank - 1))}
+        return {"id": ident, "op": op, "args": [arg], **axis, **(keeps if op in reductions.PLACES else {})}
     return {"id": ident, "op": op, "args": [arg], **pick.choice([{}, {"axes": None}, {"axes": random_axes(pick, rank)}]), **keeps}
+
+
+def random_groups(pick, ident, told, op):
+    """Returns groups of a node by another of one axis, of which most fit."""
+    lines = [name for name, (_, shape, _) in told.items() if len(shape) == 1] or list(told)
+    labels = pick.choice(lines)
+    fit = [(name, axis) for name, (_, shape, _) in told.items() for axis, size in enumerate(shape) if [size] == told[labels][1]]
+    arg, axis = pick.choice(fit) if fit and pick.random() < 0.97 else (pick.choice(list(told)), 0)
+    groups = pick.choices([pick.randint(1, 12), pick.choice([1, 127, 300])], [9, 1])[0]
+    return {"id": ident, "op": op, "args": [arg, labels], "axis": axis - pick.choice([0, len(told[arg][1])]), "groups": groups}
 
 
 def random_rechunk(pick, ident, told):
@@ -301,6 +315,8 @@ def is_aligned(node, info, told):
     args = [told[arg] for arg in node.get("args", []) if type(arg) is str]
     if node["op"] == "matmul":
         return [list(sides) for sides in reductions.aligned_operands(info, args)] == [list(arg[2]) for arg in args]
+    if node["op"] in operators.GROUPS:
+        return reductions.aligned_labels(node, args)[1] == list(args[1][2])
     return node["op"] not in FUNCTIONS or all(rules.aligned(info[1], info[2], arg) == arg[2] for arg in args)
 
 

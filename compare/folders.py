@@ -260,7 +260,6 @@ def of_links():
     yield runs("8 GiB without blocks lie at `a/zarr.json`", does("sparse", "a/zarr.json"), *error(7, name="a", code=10))
     yield runs("`Y/zarr.json`, `Y/c/0` and `_cubed/Y/plan.json` are there", several(*[does("put", key) for key in ("Y/zarr.json", "Y/c/0", "_cubed/Y/plan.json")]))
     yield runs("files of killed writes lie at `y/c/0.new17` and `_cubed/y/plan.json.new3`", several(does("put", "y/c/0.new17"), does("put", "_cubed/y/plan.json.new3")))
-    yield runs("folders lie at names of new files of `y/c/0`", lambda room: [room.folder(f"y/c/0.new{number}") for number in range(1000)])
 
 
 def of_load():
@@ -388,7 +387,6 @@ def of_resume_over_others():
     yield after("`y/c/1` and the chunk in between are missing, and `a/c/1` is one byte short", ran(does("remove", last), does("remove", made), does("cut", "a/c/1", 15)), *error(13, key="a/c/1", got=15, want=16))
     yield after("`y/c/1` is missing, and the chunk in between is empty", ran(does("remove", last), does("put", made, b"")), *error(13, key=made, got=0, want=16))
     yield after("`y/c/1` is missing, and killed writes left files", ran(does("remove", last), does("put", "y/c/1.new17"), does("put", f"{RECORD}.new3"), does("put", "y/zarr.json.new0")), *report(1), {last})
-    yield after("`y/c/1` is missing, and folders lie at names of its new files", ran(does("remove", last), lambda room: [room.folder(f"y/c/1.new{number}") for number in range(1000)]), *report(1), {last})
     yield after("`Y/c/1`, `Y/zarr.json` and `_cubed/Y/plan.json` are there, and `y/c/1` is missing", ran(does("remove", last), *[does("put", key) for key in ("Y/c/1", "Y/zarr.json", "_cubed/Y/plan.json")]), *report(1), {last})
     yield after("a file lies at `y/c`", ran(does("remove", "y/c"), does("put", "y/c")), *error(10, op=1, task=0))
     yield after("a file lies at `_cubed/y/0`", ran(does("remove", "_cubed/y/0"), does("put", "_cubed/y/0")), *error(10, op=0, task=0))
@@ -452,7 +450,6 @@ def of_demo():
     yield demo("a folder lies at `demo_y/c`", does("folder", "demo_y/c"), *error(16, key="demo_y/c"))
     yield demo("a named pipe lies at `demo_b/c/0/0`", does("pipe", "demo_b/c/0/0"))
     yield demo("a link at `demo_b/c/0/0` leads to a file elsewhere", lambda room: room.link("demo_b/c/0/0", os.path.join(room.beside, "chunk")))
-    yield demo("folders lie at names of new files of `demo_y/c`", lambda room: [room.folder(f"demo_y/c.new{number}") for number in range(1000)])
     yield demo("standard output is full", lambda room: None, *error(12), DEMO, streams=(FULL,))
     yield demo("standard input is closed", lambda room: None, streams=(CLOSED,))
     yield demo("100 bytes are allowed", lambda room: None, 5, None, words=("demo", "4", "--allowed-mem", "100"))

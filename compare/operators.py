@@ -1,12 +1,13 @@
 """Types, shapes and chunk shapes of the operators that aren't elementwise, read anew from the Python array API standard and this
-project's rules: arrays that are made, views, reductions and matrix products. Each function takes a node and what is known of its
-arguments (a type, a shape and a chunk shape), and returns the same of the result, or the code of the node's first fault.
+project's rules: arrays that are made, views, reductions, prefix sums, groups by labels and matrix products. Each function takes a node
+and what is known of its arguments (a type, a shape and a chunk shape), and returns the same of the result, or the code of the node's first
+fault.
 
 Nothing here comes from the program. compare/rules.py uses it.
 """
 import math
 
-from limits import SIZES, broadcast, chunk_for, is_value, limit_place, limits, promoted, whole
+from limits import MOST_CHUNK_BYTES, SIZES, broadcast, chunk_for, is_value, limit_place, limits, promoted, whole
 
 WIDE = {False: "int64", True: "uint64"}
 
@@ -227,6 +228,35 @@ def arg_place(node, args):
     return limited("int64", *without(axes, node.get("keepdims", False), shape, chunk))
 
 
+def summed_axis(node, rank):
+    """Returns the axis of a prefix sum, or nothing: without one the array has just one."""
+    axis = node.get("axis")
+    return axis_in(axis, rank) if axis is not None else 0 if rank == 1 else None
+
+
+def cumulative_sum(node, args):
+    dtype, shape, chunk = args[0]
+    if dtype == "bool":
+        return 6
+    return 3 if summed_axis(node, len(shape)) is None else limited(WIDE[dtype.startswith("u")], shape, chunk)
+
+
+def groupby(node, args):
+    """Sums and least numbers of the elements of each label."""
+    (dtype, shape, chunk), (label_type, labels, _) = args
+    if "bool" in (dtype, label_type):
+        return 6
+    axis = axis_in(node["axis"], len(shape))
+    if axis is None:
+        return 3
+    if labels != [shape[axis]]:
+        return 2
+    if len(shape) > 5 or SIZES[label_type] * chunk[axis] > MOST_CHUNK_BYTES:
+        return 7
+    shape, chunk = [[*sides[:axis], node["groups"], *sides[axis + 1:]] for sides in (shape, chunk)]
+    return limited(dtype if node["op"] == "groupby_min" else WIDE[dtype.startswith("u")], shape, chunk)
+
+
 def matmul(node, args):
     if "bool" in (args[0][0], args[1][0]):
         return 6
@@ -261,5 +291,7 @@ CREATION = {"full": full, "arange": arange, "eye": eye}
 VIEWS = {"tril": triangle, "triu": triangle, "index": index, "concat": concat, "stack": stack, "permute_dims": permute_dims,
          "reshape": reshape, "expand_dims": expand_dims, "squeeze": squeeze, "flip": flip, "roll": roll, "broadcast_to": broadcast_to}
 REDUCTIONS = {op: reduce for op in ("sum", "prod", "min", "max", "any", "all")}
-OTHERS = {**CREATION, **VIEWS, "rechunk": rechunk, **REDUCTIONS, "argmin": arg_place, "argmax": arg_place, "matmul": matmul}
+GROUPS = {"groupby_sum": groupby, "groupby_min": groupby}
+OTHERS = {**CREATION, **VIEWS, "rechunk": rechunk, **REDUCTIONS, "argmin": arg_place, "argmax": arg_place, "cumulative_sum": cumulative_sum,
+          **GROUPS, "matmul": matmul}
 PULLS = {**CREATION, **VIEWS}

@@ -1,6 +1,6 @@
 """Operations, read anew from this project's rules: of each its kind, the arrays that it writes, the chunks that each task writes, and the
-bytes that a task needs beside those that are reserved; and those by which reductions, searches for places and products of matrices
-are computed in parts, with what part of the source each element is made of.
+bytes that a task needs beside those that are reserved; and those by which reductions, searches for places, prefix sums, groups by labels
+and products of matrices are computed in parts, with what part of the source each element is made of.
 
 Nothing here comes from the program. compare/rules.py uses it, and compare/compare.py, which takes the elements from NumPy.
 """
@@ -8,7 +8,7 @@ import itertools
 import math
 
 from limits import SIZES, grid_of
-from operators import axes_in, batch_of
+from operators import axes_in, axis_in, batch_of, summed_axis
 
 PLACES = ("argmin", "argmax")
 FOLDS = ("sum", "prod", "min", "max", "any", "all")
@@ -16,8 +16,8 @@ FOLDS = ("sum", "prod", "min", "max", "any", "all")
 
 class Step:
     """One operation: its kind; the type, sizes and chunk sizes of the arrays that it writes; and the bytes that a task needs beside those
-    that are reserved. Of a reduction also the bounds of the parts along each axis that is reduced, by its number; of a copy the sizes
-    of the regions, the chunk sizes of what it reads, the node whose array is copied, and whether it goes on from another copy."""
+    that are reserved. Of a reduction also the bounds of the parts along each axis that is reduced, by its number, and of what is carried
+    into these parts the same bounds; of a copy the sizes of the regions, the chunk sizes of what it reads, the node whose array is copied, and whether it goes on from another copy."""
 
     def __init__(self, kind, arrays, room, bounds=None, region=None, source=None, arg=None, is_second=False):
         self.kind, self.arrays, self.room = kind, arrays, room
@@ -111,6 +111,49 @@ def place_steps(node, source, made, split_every):
     return [Step(kind, arrays, room, cuts) for kind, arrays, cuts, room in zip(kinds("pairfold", "pairmerge", stages), pairs, stages, rooms)]
 
 
+def merged_to(cuts, split_every, most):
+    """Returns the bounds of the parts and those after each merging, until there are at most so many parts."""
+    found = [cuts]
+    while len(found[-1]) > most + 1:
+        found.append(merged(found[-1], split_every))
+    return found
+
+
+def sum_steps(node, source, made, split_every):
+    """Returns the operations of a prefix sum: sums of the chunks and of groups of them, what is carried into each of these from the last
+    sums to the first, and the sums up to each place."""
+    dtype, shape, chunk = source
+    axis = summed_axis(node, len(shape))
+    whole, own = bytes_of(dtype, chunk), bytes_of(*made[::2])
+    cuts = parts_of(shape[axis], chunk[axis])
+    if len(cuts) <= 2:
+        return [Step("scan", [made], max(whole, own) + whole + own)]
+    stages = [{axis: found} for found in merged_to(cuts, split_every, split_every)]
+    sums = [partial(made[0], source, stage) for stage in stages]
+    part = bytes_of(*sums[0][::2])
+    rooms = {"fold": max(whole, part) + whole + part, "merge": part + (split_every + 1) * part, "carry": part + (split_every + 2) * part}
+    up = [Step(kind, [array], rooms[kind], stage) for kind, array, stage in zip(kinds("fold", "merge", stages), sums, stages)]
+    down = [Step("carry", [array], rooms["carry"], stage) for array, stage in zip(sums[::-1], stages[::-1])]
+    return [*up, *down, Step("scan", [made], max(whole, part, own) + whole + part + own)]
+
+
+def aligned_labels(node, args):
+    """Returns the chunk shapes of an array and of its labels, which go along an axis in the array's own chunks."""
+    (_, shape, chunk), _ = args
+    return list(chunk), [chunk[axis_in(node["axis"], len(shape))]]
+
+
+def group_steps(node, made, args, split_every):
+    """Returns the operations of groups by labels: the parts of the axis have the bounds under `labels`."""
+    dtype, shape, chunk = made
+    operands = [bytes_of(arg[0], sides) for arg, sides in zip(args, aligned_labels(node, args))]
+    part, axis = bytes_of(dtype, chunk), axis_in(node["axis"], len(shape))
+    stages = [{"labels": cuts} for cuts in merged_to(parts_of(args[0][1][axis], args[0][2][axis]), split_every, 1)]
+    rooms = [max(*operands, part) + sum(operands) + part] + [part + (split_every + 1) * part] * (len(stages) - 1)
+    arrays = [(dtype, [*shape, len(stage["labels"]) - 1], [*chunk, 1]) for stage in stages[:-1]] + [made]
+    return [Step(kind, [array], room, stage) for kind, array, stage, room in zip(kinds("groupfold", "merge", stages), arrays, stages, rooms)]
+
+
 def aligned_operands(made, args):
     """Returns the aligned chunk shapes of the operands of a product of matrices."""
     (_, left, left_chunk), (_, right, right_chunk) = args
@@ -127,10 +170,7 @@ def product_steps(made, args, split_every):
     dtype, shape, chunk = made
     operands = [bytes_of(arg[0], sides) for arg, sides in zip(args, aligned_operands(made, args))]
     part = bytes_of(dtype, chunk)
-    cuts = parts_of(args[0][1][-1], args[0][2][-1])
-    stages = [{"inner": cuts}]
-    while len(stages[-1]["inner"]) > 2:
-        stages.append({"inner": merged(stages[-1]["inner"], split_every)})
+    stages = [{"inner": cuts} for cuts in merged_to(parts_of(args[0][1][-1], args[0][2][-1]), split_every, 1)]
     rooms = [max(*operands, part) + sum(operands) + part] + [part + (split_every + 1) * part] * (len(stages) - 1)
     arrays = [(dtype, [*shape, len(stage["inner"]) - 1], [*chunk, 1]) for stage in stages[:-1]] + [made]
     return [Step(kind, [array], room, stage) for kind, array, stage, room in zip(kinds("mul", "merge", stages), arrays, stages, rooms)]

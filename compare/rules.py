@@ -13,12 +13,12 @@ import re
 
 from copies import copy_need, copy_steps, max_mem
 from limits import MOST_CHUNK_BYTES, SIZES, aligned, broadcast, chunk_for, grid_of, is_value, limit_place, limits, promoted, size_of, whole, wrapped
-from operators import OTHERS, PULLS
-from reductions import FOLDS, PLACES, Step, aligned_operands, bytes_of, fold_steps, place_steps, product_steps
+from operators import GROUPS, OTHERS, PULLS
+from reductions import FOLDS, PLACES, Step, aligned_labels, aligned_operands, bytes_of, fold_steps, group_steps, place_steps, product_steps, sum_steps
 
 NAME = re.compile(r"[A-Za-z0-9][A-Za-z0-9_.-]{0,31}\Z")
 MOST_TEXT, MOST_NODES, MOST_TASKS, MOST_CELLS = 1 << 20, 256, 1 << 16, 1 << 18
-MOST_INPUTS, MOST_INSTRUCTIONS = 8, 32
+MOST_INPUTS, MOST_INSTRUCTIONS, MOST_GROUPS = 8, 32, 1 << 16
 SPLIT_EVERY, DEFAULT = 4, 200000000
 
 
@@ -138,6 +138,8 @@ ROWS = {
     "broadcast_to": (ONE, {"shape": SIZES_LIST, "chunk": CHUNK}, {}), "rechunk": (ONE, {"chunk": CHUNK}, {}),
     **{op: (ONE, {}, {"axes": is_null_or(AXES), "keepdims": FLAG}) for op in ("sum", "prod", "min", "max", "any", "all")},
     **{op: (ONE, {}, {"axis": is_null_or(INT64), "keepdims": FLAG}) for op in ("argmin", "argmax")},
+    "cumulative_sum": (ONE, {}, {"axis": is_null_or(INT64)}),
+    **{op: ((2, 2), {"axis": INT64, "groups": whole(1, MOST_GROUPS)}, {}) for op in GROUPS},
     "matmul": ((2, 2), {}, {})}
 
 
@@ -528,6 +530,10 @@ class Plan:
             return fold_steps(node, args[0], made, self.split_every)
         if node["op"] in PLACES:
             return place_steps(node, args[0], made, self.split_every)
+        if node["op"] == "cumulative_sum":
+            return sum_steps(node, args[0], made, self.split_every)
+        if node["op"] in GROUPS:
+            return group_steps(node, made, args, self.split_every)
         if node["op"] == "matmul":
             return product_steps(made, args, self.split_every)
         if node["op"] in ("input", "rechunk"):
@@ -535,11 +541,13 @@ class Plan:
         return [Step("pull" if node["op"] in PULLS else "map", [made], self.room(k))]
 
     def aligned_args(self, k):
-        """Returns the aligned chunk shape of each argument of a function or a product, of any other node its own."""
+        """Returns the aligned chunk shape of each argument of a function, of a product or of groups, of any other node its own."""
         args = [self.infos[arg] for arg in self.arrays(k)]
         op = self.expr["nodes"][k]["op"]
         if op == "matmul":
             return [list(sides) for sides in aligned_operands(self.infos[k], args)]
+        if op in GROUPS:
+            return list(aligned_labels(self.expr["nodes"][k], args))
         return [list(aligned(*self.infos[k][1:], arg) if op in FUNCTIONS else arg[2]) for arg in args]
 
     def copied(self, k):

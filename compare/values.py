@@ -84,6 +84,18 @@ def reduced(node, array, dtype):
     return getattr(numpy, op)(array, axis=axes, keepdims=keeps)
 
 
+def grouped(node, array, labels, dtype):
+    """Returns the sums or the least numbers of the elements of each label, each label by itself."""
+    least = node["op"] == "groupby_min"
+    axis = node["axis"] % array.ndim
+    moved, numbers = numpy.moveaxis(array.astype(dtype), axis, 0), labels.astype(object)
+    found = numpy.full((node["groups"], *moved.shape[1:]), numpy.iinfo(dtype).max if least else 0, dtype)
+    for label in {number for number in numbers.tolist() if 0 <= number < node["groups"]}:
+        own = moved[numbers == label]
+        found[label] = own.min(axis=0) if least else own.sum(axis=0, dtype=dtype)
+    return numpy.moveaxis(found, 0, axis)
+
+
 def value(node, args, dtype):
     """Returns the elements of a node over those of its arguments, of which literals are numbers."""
     op = node["op"]
@@ -93,6 +105,10 @@ def value(node, args, dtype):
         result = made(node)
     elif op in operators.VIEWS or op == "rechunk":
         result = viewed(node, [arg.astype(dtype) for arg in args] if op in ("concat", "stack") else args)
+    elif op == "cumulative_sum":
+        result = numpy.cumsum(args[0], axis=node.get("axis"), dtype=dtype)
+    elif op in operators.GROUPS:
+        result = grouped(node, *args, dtype)
     elif op == "matmul":
         result = numpy.matmul(args[0].astype(dtype), args[1].astype(dtype))
     else:
