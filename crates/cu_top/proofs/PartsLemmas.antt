@@ -78,6 +78,8 @@ module _ (p : PlanView) (q : Part) (tries : ℕ) (old mid : Shown) (spared : Ste
     done_old : (n : PartCounts) → IsPartDone (search_of p q tries mid) new n → IsPartDone (search_of p q tries old) new n
     done_old n d = record {
       asked = d.asked;
+      first = steps_ever NoChange 0 (spared.calls + last_count) old d.asked (steps_then spared.step d.first);
+      later = steps_wider put_old (omega arith) (omega arith) d.later;
       chosen = d.chosen;
       whole = d.whole;
       tasks = record { lacking = λ i named. lacks_old q.op (q.from + i) (d.tasks.lacking i named); ready = d.tasks.ready; stored = d.tasks.stored };

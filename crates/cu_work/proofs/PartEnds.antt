@@ -99,11 +99,13 @@ module _ (ranges : HaveRanges) (p : PlanView) (sound : Sound p) (q : Part) (part
       (c, bytes, listed, at, is, λ env left. valued env (left_mid env left)),
     )
 
+    run_step : Steps (PartPut p q old) 0 ((retries + 1) * chosen_calls p q chosen (count_of q)) mid new
+    run_step = steps_wider chosen_put (omega arith) (omega arith) step
+
     pub part_step : Steps (PartPut p q old) 0 last_count old new
     part_step =
         let before : Steps (PartPut p q old) 0 last_count old mid = steps_none first_step in
-        let second : Steps (PartPut p q old) 0 ((retries + 1) * chosen_calls p q chosen (count_of q)) mid new = steps_wider chosen_put (omega arith) (omega arith) step in
-        steps_ever (PartPut p q old) 0 (last_count + (retries + 1) * chosen_calls p q chosen (count_of q)) old new (steps_then before second)
+        steps_ever (PartPut p q old) 0 (last_count + (retries + 1) * chosen_calls p q chosen (count_of q)) old new (steps_then before run_step)
 
     pub part_calls : HasCalled s new
     part_calls = record {
@@ -148,6 +150,8 @@ module _ (ranges : HaveRanges) (p : PlanView) (sound : Sound p) (q : Part) (part
     pub part_done : (n : PartCounts) → HaveRun p q chosen retries (count_of q) (mid, new) → AreStarts retries chosen (count_of q) (mid.faults, new.faults) n → IsPartDone s new n
     part_done n run starts = record {
       asked = mid;
+      first = first_step;
+      later = steps_ever (PartPut p q old) 0 ((retries + 1) * chosen_calls p q chosen (count_of q)) mid new run_step;
       chosen = chosen;
       whole = whole;
       tasks = tasks;

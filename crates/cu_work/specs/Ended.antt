@@ -5,7 +5,7 @@ use Rattle.cu_store.specs.Steps.{Shown, NoChange, Steps}
 use Rattle.cu_op.specs.Elements.{Elements}
 use Rattle.cu_state.specs.Left.{IsLeft}
 use Rattle.cu_state.specs.Pieces.{chunks_alone, HoldsTask}
-use Rattle.cu_work.specs.Part.{IsInPart, LacksChunk}
+use Rattle.cu_work.specs.Part.{IsInPart, LacksChunk, PartPut}
 use Rattle.cu_work.specs.Asked.{Search, AllDiffer, AreChosen, IsChosenAt, IsSoughtInput, IsUnstarted, own_chunks}
 use Rattle.cu_work.specs.Tried.{AreStarts, IsBadOf, chosen_calls}
 use Rattle.cu_work.specs.declared.part.Part.{Part}
@@ -16,10 +16,13 @@ use Rattle.cu_work.specs.declared.part.PartFault.TheVariants.{Broken, BadChunk, 
 abbrev pub count_of : Part → ℕ
 count_of q = q.to - q.from
 
--- The tasks of a part were chosen when no task was started yet. Those that were chosen were run, each
--- once and once more for each failure, and each task of the part holds its chunks.
+-- The tasks of a part were chosen at a moment when all had been asked for and nothing was put yet. From
+-- then on those that were chosen were run, each once and once more for each failure, and each task of the
+-- part holds its chunks.
 pub record IsPartDone (s : Search) (now : Shown) (c : PartCounts) : Type 0 where
   pub asked : Shown
+  pub first : Steps NoChange 0 last_count s.start asked
+  pub later : Steps (PartPut s.plan s.part s.start) 0 last_count asked now
   pub chosen : List Bool
   pub whole : length chosen ≡ count_of s.part
   pub tasks : AreChosen s.plan s.part (s.start, asked) chosen
